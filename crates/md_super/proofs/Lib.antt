@@ -1,0 +1,3 @@
+pub mod RoleLists
+pub mod Sums
+pub mod Order

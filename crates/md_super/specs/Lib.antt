@@ -1,0 +1,6 @@
+pub mod Checksum
+pub mod Faults
+pub mod Format
+pub mod Profile
+pub use Rattle.md_format.specs.Fields
+pub use Rattle.md_format.specs.FirstFault

@@ -1,0 +1,17 @@
+//! The version 1.2 superblock of an md RAID-1 array.
+#![tactic(auto)]
+
+mod decoding;
+mod fault;
+mod roles;
+mod summing;
+mod superblock;
+
+pub use decoding::decode;
+pub use fault::SuperFault;
+pub use roles::{FAULTY, MAX_ROLES, Roles, SPARE};
+pub use summing::checksum;
+pub use superblock::{LEVEL, MAGIC, MAJOR_VERSION, MAX_RAID_DISKS, SUPER_SECTOR, Superblock};
+
+#[cfg(test)]
+mod tests;

@@ -1,0 +1,52 @@
+// The roles of an array's devices.
+ghost use Rattle.std.specs.Prelude.{◌≡◌, ◌≤◌, List, ℕ, length, slice_index_or};
+
+use std::marker::Model;
+
+/// The roles for which a superblock of 4096 bytes has room.
+pub const MAX_ROLES: u32 = 1920;
+
+/// The role of a device that has none in the array (`MD_DISK_ROLE_SPARE` of `md_p.h`).
+pub const SPARE: u16 = 0xffff;
+
+/// The role of a device that has failed (`MD_DISK_ROLE_FAULTY` of `md_p.h`).
+pub const FAULTY: u16 = 0xfffe;
+
+/// The roles by device number: `dev_roles` of `md_p.h`, whose length is `max_dev`. Contracts see
+/// the list.
+#[derive(Debug, Drop)]
+pub struct Roles {
+    list: Vec<u16>,
+}
+
+impl Model for Roles {
+    ghost Value = { List ℕ };
+
+    ghost view = { λ s. s.list.items };
+
+    ghost invariant = { λ s. length s.list.items ≤ 1920 };
+}
+
+impl Roles {
+    /// The roles of the list. It takes no memory.
+    pub fn from_vec(list: Vec<u16>) -> Roles
+        requires { length list.items ≤ 1920 }
+        ensures { result ≡ list.items }
+    {
+        Roles { list }
+    }
+
+    /// The list of the roles, by device number.
+    pub fn as_slice(&self) -> &[u16]
+        ensures { result.now ≡ self.now }
+    {
+        self.list.as_slice()
+    }
+
+    /// The role of the device with this number: `SPARE` where the list has none for it.
+    pub fn role_of(&self, dev_number: u32) -> u16
+        ensures { result ≡ slice_index_or self.now dev_number 0xffff }
+    {
+        self.list.get(dev_number as usize).copied().unwrap_or(SPARE)
+    }
+}
