@@ -62,10 +62,19 @@ pub struct Superblock {
 }
 
 impl Superblock {
+    ghost use Rattle.md_super.specs.Log.{has_log};
+
     /// The role of the device with this number: `SPARE` where `dev_roles` has none for it.
     pub fn role_of(&self, dev_number: u32) -> u16
         ensures { result ≡ slice_index_or self.now.dev_roles dev_number 0xffff }
     {
         self.dev_roles.role_of(dev_number)
+    }
+
+    /// Whether the member has a bad block log: its size and its offset are not 0.
+    pub fn has_bad_block_log(&self) -> bool
+        ensures { result ≡ has_log self.now }
+    {
+        self.bblog_size != 0 && self.bblog_offset != 0
     }
 }

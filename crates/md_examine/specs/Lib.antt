@@ -1,0 +1,4 @@
+pub mod Sink
+pub mod Output
+pub mod Lines
+pub mod SuperblockReport

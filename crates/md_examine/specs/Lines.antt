@@ -1,0 +1,32 @@
+-- Labelled lines and the values in them.
+use Rattle.std.specs.Prelude.{ℕ, ◌-◌, ◌==◌, not, ◌&&◌, nat_le, if◌then◌else◌, List, [], ◌∷◌, ◌++◌, length, map, drop, take, replicate, codes, decimal}
+use Rattle.std.specs.List.{take_while}
+use Rattle.std.specs.Int.{w32, to_be_bytes}
+use Rattle.hex.specs.Hex.{encode_lower}
+
+-- a label, filled with spaces to 15 columns
+abbrev pub column : List ℕ → List ℕ
+column label = label ++ replicate (15 - length label) 32
+
+-- a labelled line
+unfoldable pub line_text : List ℕ → List ℕ → List ℕ
+line_text label value = label ++ codes " : " ++ value ++ 10 ∷ []
+
+-- eight hex digits
+unfoldable pub hex8_text : ℕ → List ℕ
+hex8_text n = encode_lower (to_be_bytes w32 n)
+
+-- the hex digits without the zeros in front, but for the last
+unfoldable pub hex_text : ℕ → List ℕ
+hex_text n = drop (length (take_while (λ d. d == 48) (take 7 (hex8_text n)))) (hex8_text n)
+
+abbrev pub sectors_text : ℕ → List ℕ
+sectors_text n = decimal n ++ codes " sectors"
+
+-- a byte of a name, `?` where it can't be shown
+abbrev pub shown : ℕ → ℕ
+shown b = if nat_le 0x20 b && nat_le b 0x7e then b else 63
+
+-- a name, up to its first zero byte
+unfoldable pub name_text : List ℕ → List ℕ
+name_text name = map shown (take_while (λ b. not (b == 0)) name)
