@@ -1,13 +1,13 @@
 // A device in a file or a block device.
-ghost use Rattle.std.specs.Prelude.{◌≡◌, ◌*◌, ◌^◌, ◌≤◌, ℕ, false, replicate, IfOk};
+ghost use Rattle.std.specs.Prelude.{◌≡◌, ◌*◌, ◌^◌, ◌≤◌, ◌↔◌, ◌⊎◌, ℕ, false, replicate, IfOk, IsOk, IsErrOf, IsTrue};
+ghost use Rattle.std.specs.Fs.{file_type, IsDir, IsFile};
 
 use crate::device::{Device, ReadFault, WriteFault};
-use std::fs;
 use std::fs::{File, Files, Metadata, OpenOptions, TryLockError};
-use std::io;
 use std::io::{ErrorKind, Seek, SeekFrom};
 use std::marker::Model;
 use std::os::unix::fs::{FileExt, FileTypeExt};
+use std::{fs, io};
 use thiserror::Error;
 
 /// Why an image can't be opened.
@@ -102,8 +102,7 @@ impl Device for FileDevice {
             return Ok(());
         }
         let file = &self.file;
-        file.read_exact_at(buf, 512 * sector)
-            .map_err(|_| ReadFault)
+        file.read_exact_at(buf, 512 * sector).map_err(|_| ReadFault)
     }
 
     fn write(&mut self, sector: u64, bytes: &[u8]) -> Result<(), WriteFault> {
@@ -120,10 +119,19 @@ impl Device for FileDevice {
 }
 
 // Refuses what is neither a regular file nor a block device.
-fn check_kind(metadata: &Metadata) -> Result<(), ImageFault> {
+fn check_kind(metadata: &Metadata) -> Result<(), ImageFault>
+    ensures file { IsFile (file_type metadata.now) → IsOk result }
+    ensures directory { IsErrOf result ImageFault.Directory ↔ IsDir (file_type metadata.now) }
+{
     let kind = metadata.file_type();
+    if kind.is_file() {
+        return Ok(());
+    }
     if kind.is_dir() {
         return Err(ImageFault::Directory);
+    }
+    if kind.is_block_device() {
+        return Ok(());
     }
     if kind.is_fifo() {
         return Err(ImageFault::Fifo);
@@ -134,7 +142,8 @@ fn check_kind(metadata: &Metadata) -> Result<(), ImageFault> {
     if kind.is_char_device() {
         return Err(ImageFault::CharacterDevice);
     }
-    Ok(())
+    let message = "neither a file nor a block device";
+    Err(ImageFault::Io(io::Error::new(ErrorKind::InvalidInput, message)))
 }
 
 // Opens and locks a file: for writing and against all others, or else for reading and against writers.
@@ -154,12 +163,12 @@ fn open_locked<R: Files<File = File>>(rt: &R, path: &str) -> Result<File, ImageF
 }
 
 // Whether a file that can't be opened for writing may still be read.
-fn is_write_refused(kind: ErrorKind) -> bool {
+fn is_write_refused(kind: ErrorKind) -> bool
+    ensures { IsTrue result ↔ ((kind ≡ ErrorKind.PermissionDenied) ⊎ (kind ≡ ErrorKind.ReadOnlyFilesystem) ⊎ (kind ≡ ErrorKind.ExecutableFileBusy)) }
+{
     matches!(
         kind,
-        ErrorKind::PermissionDenied
-            | ErrorKind::ReadOnlyFilesystem
-            | ErrorKind::ExecutableFileBusy
+        ErrorKind::PermissionDenied | ErrorKind::ReadOnlyFilesystem | ErrorKind::ExecutableFileBusy
     )
 }
 
@@ -171,7 +180,9 @@ fn fault_of(error: io::Error) -> ImageFault {
     }
 }
 
-fn lock_fault(error: TryLockError) -> ImageFault {
+fn lock_fault(error: TryLockError) -> ImageFault
+    ensures { (result ≡ ImageFault.Locked) ↔ (error ≡ TryLockError.WouldBlock) }
+{
     match error {
         TryLockError::WouldBlock => ImageFault::Locked,
         TryLockError::Error(error) => ImageFault::Io(error),

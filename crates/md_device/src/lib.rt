@@ -7,6 +7,8 @@
 mod device;
 mod file;
 mod memory;
+#[cfg(test)]
+mod tests;
 
 pub use device::{Device, ReadFault, WriteFault};
 pub use file::{FileDevice, ImageFault};

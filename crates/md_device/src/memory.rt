@@ -29,8 +29,8 @@ impl MemDevice {
         requires { sectors ≤ 2 ^ 54 }
         ensures { IfOk result (λ device. device ≡ replicate (512 * sectors) 0) }
     {
-        let bytes = vec![in alloc; 0; 512 * sectors as usize]?;
-        Ok(MemDevice { bytes })
+        let zeros = vec![in alloc; 0; 512 * sectors as usize]?;
+        Ok(MemDevice::from_bytes(zeros))
     }
 
     /// The device on which these bytes stand, which are whole sectors. Takes no memory.
@@ -63,9 +63,9 @@ impl Device for MemDevice {
     #[tactic(auto, unfolding(crate::specs::Splice::part))]
     fn read(&mut self, sector: u64, buf: &mut [u8]) -> Result<(), ReadFault> {
         // The field first: its length bounds the product below.
-        let bytes = self.bytes.as_slice();
+        let all = &self.bytes;
         let start = 512 * sector as usize;
-        buf.copy_from_slice(&bytes[start..start + buf.len()]);
+        buf.copy_from_slice(&all[start..start + buf.len()]);
         Ok(())
     }
 
