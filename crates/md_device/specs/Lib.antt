@@ -1,0 +1,2 @@
+pub mod Splice
+pub mod Device

@@ -1,0 +1,134 @@
+use crate::{Device, FileDevice, ImageFault, MemDevice};
+use std::alloc::Global;
+use std::os::unix::fs::PermissionsExt;
+use std::test::Fail;
+use std::{env, fs, process};
+
+#[test]
+fn memory_starts_as_zeros_and_keeps_what_is_written(rt: HostRuntime) -> Result<(), Fail> {
+    let mut device = MemDevice::new(rt.alloc(), 3)?;
+    assert_eq!(rt; device.sectors(), 3);
+    assert_eq!(rt; device.bytes(), [0; 1536].as_slice());
+
+    device.write(1, &[7; 512])?;
+    assert_eq!(rt; &device.bytes()[..512], [0; 512].as_slice());
+    assert_eq!(rt; &device.bytes()[512..1024], [7; 512].as_slice());
+    assert_eq!(rt; &device.bytes()[1024..], [0; 512].as_slice());
+
+    let mut back = [1; 512];
+    device.read(1, &mut back)?;
+    assert_eq!(rt; back, [7; 512]);
+    device.read(2, &mut back)?;
+    assert_eq!(rt; back, [0; 512]);
+    device.read(3, &mut [])?;
+    device.write(3, &[])?;
+    Ok(())
+}
+
+#[test]
+fn memory_takes_over_bytes(rt: HostRuntime) -> Result<(), Fail> {
+    let bytes = vec![in rt.alloc(); 9; 1024]?;
+    let device = MemDevice::from_bytes(bytes);
+    assert_eq!(rt; device.sectors(), 2);
+    assert_eq!(rt; device.bytes(), [9; 1024].as_slice());
+    Ok(())
+}
+
+// A path of this process alone.
+fn path_of(rt: &HostRuntime, name: &str) -> Result<String, Fail> {
+    let folder = env::temp_dir(rt)?;
+    let id = process::id(rt.process());
+    Ok(format!(in rt.alloc(); "{}/md_device_{id}_{name}", folder.as_str())?)
+}
+
+#[test]
+fn file_keeps_what_is_written(rt: HostRuntime) -> Result<(), Fail> {
+    let path = path_of(&rt, "written")?;
+    fs::write(&rt, path.as_str(), [0; 2048].as_slice())?;
+
+    let mut device = FileDevice::open(&rt, path.as_str())?;
+    assert_eq!(rt; device.sectors(), 4);
+    device.write(2, &[7; 512])?;
+    drop(device);
+
+    let mut device = FileDevice::open(&rt, path.as_str())?;
+    assert_eq!(rt; device.sectors(), 4);
+    let mut back = [1; 512];
+    device.read(1, &mut back)?;
+    assert_eq!(rt; back, [0; 512]);
+    device.read(2, &mut back)?;
+    assert_eq!(rt; back, [7; 512]);
+    device.read(3, &mut back)?;
+    assert_eq!(rt; back, [0; 512]);
+    drop(device);
+    fs::remove_file(&rt, path.as_str())?;
+    Ok(())
+}
+
+#[test]
+fn file_counts_whole_sectors(rt: HostRuntime) -> Result<(), Fail> {
+    let path = path_of(&rt, "sizes")?;
+    for (len, sectors) in [(0, 0), (511, 0), (512, 1), (1000, 1), (1024, 2)] {
+        fs::write(&rt, path.as_str(), b"".as_slice())?;
+        fs::OpenOptions::new()
+            .write(true)
+            .open(&rt, path.as_str())?
+            .set_len(len)?;
+        let device = FileDevice::open(&rt, path.as_str())?;
+        assert_eq!(rt; device.sectors(), sectors, "of {len} bytes");
+    }
+    fs::remove_file(&rt, path.as_str())?;
+    Ok(())
+}
+
+#[test]
+fn file_is_locked_while_open(rt: HostRuntime) -> Result<(), Fail> {
+    let path = path_of(&rt, "locked")?;
+    fs::write(&rt, path.as_str(), [0; 512].as_slice())?;
+
+    let first = FileDevice::open(&rt, path.as_str())?;
+    let second = FileDevice::open(&rt, path.as_str());
+    assert!(rt; matches!(second, Err(ImageFault::Locked)));
+    drop(first);
+    assert!(rt; FileDevice::open(&rt, path.as_str()).is_ok());
+    fs::remove_file(&rt, path.as_str())?;
+    Ok(())
+}
+
+// A user who may write every file opens it for writing, so only its size is looked at.
+#[test]
+fn file_without_leave_to_write_is_opened(rt: HostRuntime) -> Result<(), Fail> {
+    let path = path_of(&rt, "read_only")?;
+    fs::write(&rt, path.as_str(), [5; 512].as_slice())?;
+    fs::set_permissions(&rt, path.as_str(), fs::Permissions::from_mode(0o444))?;
+
+    let mut device = FileDevice::open(&rt, path.as_str())?;
+    assert_eq!(rt; device.sectors(), 1);
+    let mut back = [0; 512];
+    device.read(0, &mut back)?;
+    assert_eq!(rt; back, [5; 512]);
+    drop(device);
+    fs::remove_file(&rt, path.as_str())?;
+    Ok(())
+}
+
+#[test]
+fn what_is_no_image_is_refused_by_name(rt: HostRuntime) -> Result<(), Fail> {
+    let folder = env::temp_dir(&rt)?;
+    let opened = FileDevice::open(&rt, folder.as_str());
+    assert!(rt; matches!(opened, Err(ImageFault::Directory)));
+    let opened = FileDevice::open(&rt, "/dev/null");
+    assert!(rt; matches!(opened, Err(ImageFault::CharacterDevice)));
+    let path = path_of(&rt, "missing")?;
+    let opened = FileDevice::open(&rt, path.as_str());
+    assert!(rt; matches!(opened, Err(ImageFault::Missing)));
+    Ok(())
+}
+
+#[test]
+fn faults_say_what_to_do(rt: HostRuntime) -> Result<(), Fail> {
+    let text = format!(in rt.alloc(); "{}", ImageFault::Missing)?;
+    let wanted = "no such file: check the path, or create the image first";
+    assert_eq!(rt; text.as_str(), wanted);
+    Ok(())
+}
