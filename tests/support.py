@@ -1,0 +1,55 @@
+"""What the parts of tests/ share: the program, and the count of what passed."""
+
+import subprocess
+import sys
+from pathlib import Path
+
+TOP = Path(__file__).resolve().parent.parent
+# The launcher at the top, and the program that it runs.
+LAUNCHER = TOP / "mdcli"
+PROGRAM = TOP / "crates" / "mdcli" / "out" / "mdcli"
+
+
+class Tally:
+    """Prints a line for each check, and at the end the line that `./test` adds up."""
+
+    def __init__(self):
+        self.passed_count = 0
+        self.failed_count = 0
+        self.skipped_count = 0
+
+    def passed(self, name):
+        self.passed_count += 1
+        print("ok " + name, flush=True)
+
+    def failed(self, name, *reasons):
+        self.failed_count += 1
+        print("FAILED " + name, flush=True)
+        for reason in reasons:
+            print("    " + reason, flush=True)
+
+    def skipped(self, name, reason):
+        self.skipped_count += 1
+        print("skipped %s: %s" % (name, reason), flush=True)
+
+    def judge(self, name, reasons):
+        """Passed where there is no reason against it."""
+        if reasons:
+            self.failed(name, *reasons)
+        else:
+            self.passed(name)
+
+    def close(self):
+        line = "%d passed, %d failed" % (self.passed_count, self.failed_count)
+        if self.skipped_count:
+            line += ", %d skipped" % self.skipped_count
+        print(line, flush=True)
+        return 1 if self.failed_count else 0
+
+
+def require_program():
+    """Builds the program where it is not there, so that no check takes the build's time for the program's own."""
+    build = subprocess.run([str(TOP / "tools" / "build_mdcli"), "--if-missing"], stdin=subprocess.DEVNULL)
+    if build.returncode != 0:
+        print("FAILED there is no program to test\n0 passed, 1 failed")
+        sys.exit(1)
