@@ -1,0 +1,31 @@
+-- The command line, and what its words ask for.
+use Rattle.std.specs.Prelude.{true, List, [], Option, Some, None, codes, unwrap_or, if◌then◌else◌}
+use Rattle.std.specs.Str.{bytes_eq}
+use Rattle.clap.specs.Lexer.{usize_max}
+use Rattle.clap.specs.Words.{App, Row, Rule, Text, all_of, new_app, new_rule, with_rule, with_subcommand, subcommand_of}
+
+-- any number of images, listed last
+abbrev pub image_rule : Rule
+image_rule = record (new_rule (codes "image")) { range = Some (record { start_inclusive = 1; end_inclusive = usize_max }); value_names = 1 }
+
+abbrev pub examine_app : App
+examine_app = with_rule (new_app (codes "examine")) image_rule
+
+-- the program itself has a version, and asks for a command
+abbrev pub with_version : App → App
+with_version a = record a { top = record a.top { has_version = true } }
+
+abbrev pub required_command : App → App
+required_command a = record a { top = record a.top { subcommand_required = true } }
+
+-- the whole command line
+unfoldable pub mdcli : App
+mdcli = with_subcommand (required_command (with_version (new_app (codes "mdcli")))) examine_app.top
+
+abbrev pub images_in : Option (Text × List Row) → List Text
+images_in None = []
+images_in (Some p) = if bytes_eq p.0 (codes "examine") then unwrap_or (all_of (codes "image") p.1) [] else []
+
+-- the image words
+unfoldable pub image_words : List Text → List Text
+image_words words = images_in (subcommand_of mdcli words)
