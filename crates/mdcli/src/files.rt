@@ -1,0 +1,31 @@
+// Images in files.
+ghost use Rattle.std.specs.Prelude.{false, None};
+
+use md_cli::Images;
+use md_device::{FileDevice, ImageFault};
+
+/// Images under their paths. A device that is put back is closed.
+#[derive(Drop)]
+pub struct FileImages<'a> {
+    rt: &'a HostRuntime,
+}
+
+impl<'a> FileImages<'a> {
+    pub fn new(rt: &'a HostRuntime) -> FileImages<'a> {
+        FileImages { rt }
+    }
+}
+
+impl<'a> Images for FileImages<'a> {
+    type Dev = FileDevice;
+
+    ghost known = { λ _. false };
+
+    ghost device_at = { λ _ _. None };
+
+    fn get(&mut self, name: &str) -> Result<FileDevice, ImageFault> {
+        FileDevice::open(self.rt, name)
+    }
+
+    fn put(&mut self, _name: &str, _device: FileDevice) {}
+}
