@@ -1,7 +1,9 @@
--- What reading the superblock of an honest device gives.
-use Rattle.std.specs.Prelude.{◌≢◌, ℕ, ◌<◌, ◌≤◌, ◌*◌, List, length, Result, MatchResult}
+-- What reading the superblock of a device gives. An honest device gives its content; of another one it is only known that
+-- some bytes were read.
+use Rattle.std.specs.Prelude.{◌≡◌, ◌≢◌, ℕ, ◌<◌, ◌≤◌, ◌*◌, Bool, true, List, length, Result, MatchResult}
 use Rattle.md_device.specs.Device.{held}
 use Rattle.md_super.specs.declared.superblock.Superblock.{Superblock}
+use Rattle.md_super.specs.declared.fault.SuperFault.{SuperFault}
 use Rattle.md_super.specs.declared.fault.SuperFault.TheVariants as super_fault
 use Rattle.md_super.specs.Format.{IsSuper}
 use Rattle.md_super.specs.Faults.{NoFault, IsFirstFault}
@@ -16,18 +18,30 @@ super_bytes content = held content 8 4096
 abbrev pub IsLong : List ℕ → Type 0
 IsLong content = 512 * 16 ≤ length content
 
--- why a device of this content is refused, where `Failed` says that a call on it failed
-abbrev pub Refuses : List ℕ → Type 0 → MemberFault → Type 0
-Refuses content Failed TooShort = length content < 512 * 16
-Refuses content Failed ReadFault = IsLong content × Failed
-Refuses content Failed (Super f) = IsLong content × IsFirstFault (super_bytes content) f × (f ≢ super_fault.NoMemory)
-Refuses content Failed NoMemory = IsLong content × NoFault (super_bytes content)
-
--- the content's superblock, in which no fault stands
-pub record HasSuper (content : List ℕ) (v : Superblock) : Type 0 where
+-- bytes that were read where the superblock stands
+pub record IsRead (content : List ℕ) (honest : Bool) (bytes : List ℕ) : Type 0 where
   pub long : IsLong content
-  pub fields : IsSuper (super_bytes content) v
-  pub sound : NoFault (super_bytes content)
+  pub from_device : honest ≡ true → bytes ≡ super_bytes content
 
-abbrev pub ReadsSuper : List ℕ → Type 0 → Result Superblock MemberFault → Type 0
-ReadsSuper content Failed result = MatchResult result (HasSuper content) (Refuses content Failed)
+-- the superblock in bytes that were read, in which no fault stands
+pub record ReadsAs (content : List ℕ) (honest : Bool) (v : Superblock) : Type 0 where
+  pub bytes : List ℕ
+  pub read : IsRead content honest bytes
+  pub fields : IsSuper bytes v
+  pub sound : NoFault bytes
+
+-- the first fault in bytes that were read
+pub record ReadsFault (content : List ℕ) (honest : Bool) (fault : SuperFault) : Type 0 where
+  pub bytes : List ℕ
+  pub read : IsRead content honest bytes
+  pub first : IsFirstFault bytes fault
+
+-- why a device is refused, where `Failed` says that a call on it failed
+abbrev pub Refuses : List ℕ → Bool → Type 0 → MemberFault → Type 0
+Refuses content honest Failed TooShort = length content < 512 * 16
+Refuses content honest Failed ReadFault = IsLong content × (honest ≡ true → Failed)
+Refuses content honest Failed (Super f) = ReadsFault content honest f × (f ≢ super_fault.NoMemory)
+Refuses content honest Failed NoMemory = ReadsFault content honest super_fault.NoMemory
+
+abbrev pub ReadsSuper : List ℕ → Bool → Type 0 → Result Superblock MemberFault → Type 0
+ReadsSuper content honest Failed result = MatchResult result (ReadsAs content honest) (Refuses content honest Failed)

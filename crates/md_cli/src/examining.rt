@@ -1,6 +1,6 @@
 // The command `examine`.
-ghost use Rattle.std.specs.Prelude.{◌≡◌, ◌<◌, true, map};
-ghost use Rattle.md_cli.specs.Examining.{Examines, ExaminesImages};
+ghost use Rattle.std.specs.Prelude.{◌≡◌, ◌≢◌, ◌<◌, ℕ, Err, List, [], ◌∷◌, length, map};
+ghost use Rattle.md_cli.specs.Examining.{Examines, ExaminesOne};
 
 use crate::fault::CommandFault;
 use crate::images::Images;
@@ -17,7 +17,7 @@ fn examine_device<D: Device, S: Sink>(
 ) -> Result<(), CommandFault>
     ensures kept { D.content device.new ≡ D.content device.old }
     ensures honest { D.honest device.new ≡ D.honest device.old }
-    ensures gives { D.honest device.old ≡ true → Examines S.contents S.failed out.old out.new (D.content device.old) (D.failures device.old < D.failures device.new) result }
+    ensures gives { Examines S.contents S.failed out.old out.new (D.content device.old) (D.honest device.old) (D.failures device.old < D.failures device.new) result }
 {
     match read_super(alloc, device) {
         Err(fault) => Err(CommandFault::Member(fault)),
@@ -35,7 +35,8 @@ pub(crate) fn examine_images<I: Images, S: Sink>(
     names: &[&str],
     out: &mut S,
 ) -> Result<(), CommandFault>
-    ensures { I.known images.old ≡ true → ExaminesImages I.Dev.content I.Dev.honest I.Dev.failures S.contents S.failed (I.device_at images.old) (I.device_at images.new) (map (λ s. s.now) names.now) out.old out.new result }
+    ensures count { length names.now ≢ 1 → (result ≡ Err CommandFault.BadCount) × (images.new ≡ images.old) × (out.new ≡ out.old) }
+    ensures one { (name : List ℕ) → map (λ s. s.now) names.now ≡ name ∷ [] → ExaminesOne I.Dev.content I.Dev.honest I.Dev.failures S.contents S.failed (I.known images.old) (I.device_at images.old) (I.device_at images.new) name out.old out.new result }
 {
     if names.len() != 1 {
         return Err(CommandFault::BadCount);

@@ -1,5 +1,5 @@
 // The superblock of a device.
-ghost use Rattle.std.specs.Prelude.{◌≡◌, ◌<◌, ◌≤◌, true};
+ghost use Rattle.std.specs.Prelude.{◌≡◌, ◌<◌, ◌≤◌};
 ghost use Rattle.md_cli.specs.Reading.{ReadsSuper};
 
 use crate::fault::MemberFault;
@@ -18,7 +18,7 @@ pub(crate) fn read_super<D: Device>(
     ensures kept { D.content device.new ≡ D.content device.old }
     ensures honest { D.honest device.new ≡ D.honest device.old }
     ensures counted { D.failures device.old ≤ D.failures device.new }
-    ensures reads { D.honest device.old ≡ true → ReadsSuper (D.content device.old) (D.failures device.old < D.failures device.new) result }
+    ensures reads { ReadsSuper (D.content device.old) (D.honest device.old) (D.failures device.old < D.failures device.new) result }
 {
     if device.sectors() < LEAST_SECTORS {
         return Err(MemberFault::TooShort);
@@ -29,7 +29,9 @@ pub(crate) fn read_super<D: Device>(
     }
     match decode(alloc, &block) {
         Ok(v) => Ok(v),
-        Err(SuperFault::NoMemory) => Err(MemberFault::NoMemory),
-        Err(fault) => Err(MemberFault::Super(fault)),
+        Err(fault) => match fault {
+            SuperFault::NoMemory => Err(MemberFault::NoMemory),
+            _ => Err(MemberFault::Super(fault)),
+        },
     }
 }

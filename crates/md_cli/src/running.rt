@@ -1,6 +1,8 @@
 // One command.
-ghost use Rattle.std.specs.Prelude.{◌≡◌, true, map};
-ghost use Rattle.md_cli.specs.Running.{Runs};
+ghost use Rattle.std.specs.Prelude.{◌≡◌, ◌≢◌, ◌⊎◌, ℕ, List, [], ◌∷◌, length, map};
+ghost use Rattle.clap.specs.Words.{fault_of};
+ghost use Rattle.md_cli.specs.Words.{mdcli, image_words};
+ghost use Rattle.md_cli.specs.Running.{DoesCommand};
 
 use crate::examining::examine_images;
 use crate::images::Images;
@@ -12,6 +14,8 @@ use std::io::Write;
 /// Does what the words ask for; the first is the program's name. The status is 0 where it is done,
 /// 1 where it is refused and 2 where the words are not taken, or ask for help.
 ///
+/// Words that the parser takes are done, but for want of memory in the parse: that is status 2 too.
+///
 /// A refusal's line goes to `err`, as `mdcli: BadImage 0`; the parser's text goes there too. No
 /// clause speaks of what is written to `err`, nor of whether that can be written.
 pub fn run<'a, I: Images, S: Sink, E: Write>(
@@ -21,7 +25,10 @@ pub fn run<'a, I: Images, S: Sink, E: Write>(
     out: &mut S,
     err: &mut E,
 ) -> u8
-    ensures { I.known images.old ≡ true → Runs I.Dev.content I.Dev.honest I.Dev.failures S.contents S.failed (I.device_at images.old) (I.device_at images.new) (map (λ s. s.now) words.entry.now) out.old out.new result }
+    ensures refused { fault_of mdcli (map (λ s. s.now) words.entry.now) ≢ [] → (result ≡ 2) × (images.new ≡ images.old) × (out.new ≡ out.old) }
+    ensures taken { fault_of mdcli (map (λ s. s.now) words.entry.now) ≡ [] →
+        ((result ≡ 2) × (images.new ≡ images.old) × (out.new ≡ out.old)) ⊎ DoesCommand I.Dev.content I.Dev.honest I.Dev.failures S.contents S.failed (I.known images.old) (I.device_at images.old) (I.device_at images.new) (image_words (map (λ s. s.now) words.entry.now)) out.old out.new result }
+    ensures count { length (image_words (map (λ s. s.now) words.entry.now)) ≢ 1 → (images.new ≡ images.old) × (out.new ≡ out.old) }
 {
     let names = match parse(alloc, words) {
         Ok(names) => names,

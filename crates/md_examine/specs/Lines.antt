@@ -1,4 +1,4 @@
--- Labelled lines and the values in them.
+-- Labelled lines and the values in them: the form of the reports is this project's own.
 use Rattle.std.specs.Prelude.{ℕ, ◌-◌, ◌==◌, not, ◌&&◌, nat_le, if◌then◌else◌, List, [], ◌∷◌, ◌++◌, length, map, drop, take, replicate, codes, decimal}
 use Rattle.std.specs.List.{take_while}
 use Rattle.std.specs.Int.{w32, to_be_bytes}
@@ -12,11 +12,11 @@ column label = label ++ replicate (15 - length label) 32
 unfoldable pub line_text : List ℕ → List ℕ → List ℕ
 line_text label value = label ++ codes " : " ++ value ++ 10 ∷ []
 
--- eight hex digits
+-- eight hex digits, of a number below 2 ^ 32
 unfoldable pub hex8_text : ℕ → List ℕ
 hex8_text n = encode_lower (to_be_bytes w32 n)
 
--- the hex digits without the zeros in front, but for the last
+-- its hex digits without the zeros in front, but for the last
 unfoldable pub hex_text : ℕ → List ℕ
 hex_text n = drop (length (take_while (λ d. d == 48) (take 7 (hex8_text n)))) (hex8_text n)
 

@@ -1,10 +1,11 @@
--- The report of a superblock, as text.
+-- The report of a superblock, as text: 24 lines of the field's terms, as `mdadm --examine` has them, in a form of this
+-- project's own.
 use Rattle.std.specs.Prelude.{ℕ, ◌*◌, ◌-◌, ◌%◌, ◌^◌, ◌==◌, nat_lt, if◌then◌else◌, List, ◌++◌, map, codes, decimal, slice_index_or, bit_and}
 use Rattle.std.specs.List.{range_with_len, list_any}
 use Rattle.std.specs.Fmt.{signed_decimal}
 use Rattle.uuid.specs.Text.{hyphenated_text, lower}
 use Rattle.md_super.specs.declared.superblock.Superblock.{Superblock}
-use Rattle.md_super.specs.Log.{has_log}
+use Rattle.md_super.specs.Log.{has_bad_block_log}
 use Rattle.md_examine.specs.Lines.{column, line_text, hex_text, hex8_text, sectors_text, name_text}
 
 -- the seconds of a time, its low 40 bits
@@ -17,7 +18,7 @@ role_text role raid_disks =
     if role == 0xfffe then codes "faulty" else (if nat_lt role raid_disks then codes "active " ++ decimal role else codes "spare")
 
 abbrev pub own_role_text : Superblock → List ℕ
-own_role_text v = role_text (slice_index_or v.dev_roles v.dev_number 0xffff) v.raid_disks
+own_role_text v = role_text (slice_index_or v.roles v.dev_number 0xffff) v.raid_disks
 
 -- whether some device has the role
 abbrev pub state_letter : List ℕ → ℕ → ℕ
@@ -34,7 +35,7 @@ abbrev pub recovery_text : Superblock → List ℕ
 recovery_text v = if bit_and v.feature_map 2 == 0 then codes "none" else sectors_text v.recovery_offset
 
 abbrev pub log_text : Superblock → List ℕ
-log_text v = if has_log v then decimal (64 * v.bblog_size) ++ codes " entries at " ++ signed_decimal v.bblog_offset ++ codes " sectors" else codes "none"
+log_text v = if has_bad_block_log v then decimal (64 * v.bblog_size) ++ codes " entries at " ++ signed_decimal v.bblog_offset ++ codes " sectors" else codes "none"
 
 abbrev pub state_text : Superblock → List ℕ
 state_text v = if v.resync_offset == 2 ^ 64 - 1 then codes "clean" else codes "active"
@@ -73,7 +74,7 @@ state_lines v =
     ++ line_text (column (codes "Events")) (decimal v.events)
     ++ line_text (column (codes "State")) (state_text v)
     ++ line_text (column (codes "Checksum")) (hex8_text v.sb_csum)
-    ++ line_text (column (codes "Array State")) (array_state v.dev_roles v.raid_disks)
+    ++ line_text (column (codes "Array State")) (array_state v.roles v.raid_disks)
 
 -- the whole report
 unfoldable pub examine_text : Superblock → List ℕ

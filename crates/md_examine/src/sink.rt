@@ -13,18 +13,19 @@ pub struct SinkFault;
 /// A destination of bytes that says whether it has failed. A writer of std says nothing of its
 /// errors, so a body that gives up for no reason would meet any contract over one.
 pub trait Sink {
-    // The bytes that it holds, where they are known.
+    /// The bytes that it holds, where they are known.
     ghost contents: { Self → Option (List ℕ) };
 
-    // Whether a call has failed.
+    /// Whether a call has failed.
     ghost failed: { Self → Bool };
 
-    /// Takes all the bytes, or fails.
+    /// Takes all the bytes, or fails. Which of them a failed call has taken is left open.
     fn put(&mut self, bytes: &[u8]) -> Result<(), SinkFault>
         ensures { PutsOrFails contents failed self.old self.new bytes.now result };
 }
 
-/// A writer of std as a sink.
+/// A writer of std as a sink. It has failed where the writer answered an error once; that it does
+/// so only then is tested, since no clause of std speaks of a writer's errors.
 #[derive(Drop)]
 pub struct Output<W> {
     writer: W,

@@ -10,15 +10,10 @@ use crate::lines::{
 };
 use crate::sink::{Sink, SinkFault};
 use itoa::Buffer;
-use md_super::{FAULTY, Roles, Superblock};
+use md_super::{FAULTY, FEATURE_BITMAP_OFFSET, FEATURE_RECOVERY_OFFSET, Roles, Superblock};
 
 // The low 40 bits of a time.
 const SECONDS: u64 = 1 << 40;
-
-// Feature bits of `md_p.h`: `MD_FEATURE_BITMAP_OFFSET` and `MD_FEATURE_RECOVERY_OFFSET`.
-const BITMAP_OFFSET: u32 = 1;
-
-const RECOVERY_OFFSET: u32 = 2;
 
 /// Writes the report of a superblock, 24 labelled lines. It takes no memory, and fails only where
 /// the sink has failed.
@@ -83,7 +78,7 @@ fn state<S: Sink>(out: &mut S, v: &Superblock) -> Result<(), SinkFault>
 fn recovery<S: Sink>(out: &mut S, v: &Superblock) -> Result<(), SinkFault>
     ensures { PutsOrFails S.contents S.failed out.old out.new (line_text (column (codes "Recovery Offset")) (recovery_text v.now)) result }
 {
-    if v.feature_map & RECOVERY_OFFSET == 0 {
+    if v.feature_map & FEATURE_RECOVERY_OFFSET == 0 {
         line(out, "Recovery Offset", b"none")
     } else {
         sectors_line(out, "Recovery Offset", v.recovery_offset)
@@ -108,7 +103,7 @@ fn own_role<S: Sink>(out: &mut S, v: &Superblock) -> Result<(), SinkFault>
 fn bitmap<S: Sink>(out: &mut S, v: &Superblock) -> Result<(), SinkFault>
     ensures { PutsOrFails S.contents S.failed out.old out.new (line_text (column (codes "Internal Bitmap")) (bitmap_text v.now)) result }
 {
-    if v.feature_map & BITMAP_OFFSET == 0 {
+    if v.feature_map & FEATURE_BITMAP_OFFSET == 0 {
         line(out, "Internal Bitmap", b"none")
     } else {
         offset_line(out, "Internal Bitmap", v.bitmap_offset)
@@ -137,9 +132,9 @@ fn cleanness<S: Sink>(out: &mut S, v: &Superblock) -> Result<(), SinkFault>
 }
 
 fn roles<S: Sink>(out: &mut S, v: &Superblock) -> Result<(), SinkFault>
-    ensures { PutsOrFails S.contents S.failed out.old out.new (line_text (column (codes "Array State")) (array_state v.now.dev_roles v.now.raid_disks)) result }
+    ensures { PutsOrFails S.contents S.failed out.old out.new (line_text (column (codes "Array State")) (array_state v.now.roles v.now.raid_disks)) result }
 {
-    let letters = state_letters(&v.dev_roles);
+    let letters = state_letters(&v.roles);
     line(out, "Array State    ", &letters[..v.raid_disks as usize])
 }
 

@@ -7,7 +7,7 @@ use Rattle.md_format.proofs.Order.{Decides, AllDecide, decide_none, decide_more,
 use Rattle.md_super.specs.declared.fault.SuperFault.{SuperFault}
 use Rattle.md_super.specs.declared.fault.SuperFault.TheVariants.{Magic, Major, MaxDev, Checksum, SuperOffset, Feature, Level, RaidDisks, NoMemory}
 use Rattle.md_super.specs.Checksum.{checksum_of}
-use Rattle.md_super.specs.Profile.{strange_features}
+use Rattle.md_super.specs.Profile.{unsupported_features}
 use Rattle.md_super.specs.Faults.{Stands, place, NoFault, IsFirstFault, checks, fault_of, IsSound}
 
 placed : (f : SuperFault) → 0 < place f
@@ -42,7 +42,7 @@ only_super_offset : (bytes : List ℕ) (f : SuperFault) → place f ≡ 5 → St
 only_super_offset bytes SuperOffset e s = s
 only_super_offset bytes _ e s = absurd (omega arith)
 
-only_feature : (bytes : List ℕ) (f : SuperFault) → place f ≡ 6 → Stands bytes f → strange_features (number_at 4 8 bytes) ≢ 0
+only_feature : (bytes : List ℕ) (f : SuperFault) → place f ≡ 6 → Stands bytes f → unsupported_features (number_at 4 8 bytes) ≢ 0
 only_feature bytes (Feature bits) e s = λ none. absurd (omega (arith, s.0, s.1, none))
 only_feature bytes _ e s = absurd (omega arith)
 
@@ -91,7 +91,7 @@ all_decide bytes =
     (decide_more _ _ 3 _ _ (max_dev_decides bytes)
     (decide_more _ _ 4 _ _ (by_equation bytes 4 _ _ Checksum refl (λ n. n) (only_checksum bytes))
     (decide_more _ _ 5 _ _ (by_equation bytes 5 _ _ SuperOffset refl (λ n. n) (only_super_offset bytes))
-    (decide_more _ _ 6 _ _ (by_equation bytes 6 _ _ (Feature (strange_features (number_at 4 8 bytes))) refl (λ n. (refl, omega (arith, n))) (only_feature bytes))
+    (decide_more _ _ 6 _ _ (by_equation bytes 6 _ _ (Feature (unsupported_features (number_at 4 8 bytes))) refl (λ n. (refl, omega (arith, n))) (only_feature bytes))
     (decide_more _ _ 7 _ _ (by_equation bytes 7 _ _ Level refl (λ n. n) (only_level bytes))
     (decide_more _ _ 8 _ _ (raid_disks_decides bytes) (decide_none _ _ 9))))))))
 
@@ -118,7 +118,7 @@ sound_without_fault bytes none = record {
   magic = same_unless_other _ _ (none Magic (omega arith));
   major_version = same_unless_other _ _ (none Major (omega arith));
   profile = record {
-    features = same_unless_other _ _ (λ n. none (Feature (strange_features (number_at 4 8 bytes))) (omega arith) (refl, omega (arith, n)));
+    features = same_unless_other _ _ (λ n. none (Feature (unsupported_features (number_at 4 8 bytes))) (omega arith) (refl, omega (arith, n)));
     level_is = same_unless_other _ _ (none Level (omega arith));
     some_disks = not_below 0 (number_at 4 92 bytes) (λ few. none RaidDisks (omega arith) (inl (omega arith)));
     few_disks = not_above 32 (number_at 4 92 bytes) (λ many. none RaidDisks (omega arith) (inr many));

@@ -1,5 +1,5 @@
 -- The sum of the words, one word at a time.
-use Rattle.std.proofs.Common.{◌≡◌, ℕ, ◌+◌, ◌*◌, ◌^◌, ◌%◌, ◌<◌, ◌≤◌, List, sum, map, refl, ap, ◌∙◌, arith}
+use Rattle.std.proofs.Common.{◌≡◌, ℕ, ◌+◌, ◌*◌, ◌^◌, ◌<◌, ◌≤◌, List, sum, map, refl, ap, ◌∙◌, arith}
 use Rattle.std.specs.List.{range_with_len}
 use Rattle.std.proofs.lemmas.List.Sums.{sum_by_push}
 use Rattle.std.proofs.lemmas.List.FromFn.{map-range_with_len_more}
@@ -42,9 +42,3 @@ SummedTo-own bytes k total s own = record {
 pub folded_total : (bytes : List ℕ) (max_dev total : ℕ) → total ≡ word_sum bytes (word_count max_dev) + half_word bytes max_dev → folded total ≡ checksum_of bytes max_dev
 unfolding checksum_of
 folded_total bytes max_dev total e = ap folded e
-
-pub half_word-odd : (bytes : List ℕ) (max_dev : ℕ) → max_dev % 2 ≡ 1 → half_word bytes max_dev ≡ number_at 2 (4 * word_count max_dev) bytes
-half_word-odd bytes max_dev h = rw (eq-eqb (max_dev % 2) 1 h) refl
-
-pub half_word-even : (bytes : List ℕ) (max_dev : ℕ) → (max_dev % 2 ≡ 1 → ⊥) → half_word bytes max_dev ≡ 0
-half_word-even bytes max_dev h = rw (ne_eqb (max_dev % 2) 1 h) refl

@@ -1,5 +1,5 @@
 -- The checksum of a version 1 superblock (`calc_sb_1_csum` of the kernel's md driver).
-use Rattle.std.specs.Prelude.{ℕ, ◌+◌, ◌*◌, ◌/◌, ◌%◌, ◌^◌, ◌==◌, if◌then◌else◌, List, map, sum}
+use Rattle.std.specs.Prelude.{ℕ, ◌+◌, ◌-◌, ◌*◌, ◌/◌, ◌%◌, ◌^◌, ◌==◌, if◌then◌else◌, List, map, sum}
 use Rattle.std.specs.List.{range_with_len}
 use Rattle.md_format.specs.Fields.{number_at}
 
@@ -17,7 +17,7 @@ word_sum bytes count = sum (map (word_at bytes) (range_with_len 0 count))
 
 -- the last role, where the superblock ends in half a word
 abbrev pub half_word : List ℕ → ℕ → ℕ
-half_word bytes max_dev = if max_dev % 2 == 1 then number_at 2 (4 * word_count max_dev) bytes else 0
+half_word bytes max_dev = if max_dev % 2 == 1 then number_at 2 (256 + 2 * (max_dev - 1)) bytes else 0
 
 -- the carries of a sum, added into its low 32 bits
 abbrev pub folded : ℕ → ℕ

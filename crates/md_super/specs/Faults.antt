@@ -1,8 +1,9 @@
--- Why bytes are no superblock of this profile, and in which order that is found.
+-- Why bytes are no superblock of this profile (`super_1_load` of the kernel's md driver, and this project's limits), and
+-- in which order that is found, which is this project's own.
 use Rattle.std.specs.Prelude.{◌≡◌, ◌≢◌, ℕ, ◌<◌, ◌==◌, ◌&&◌, nat_lt, nat_le, List, [], ◌∷◌, Option, ◌⊎◌, ◌≤◌}
 use Rattle.md_format.specs.Fields.{number_at}
 use Rattle.md_format.specs.FirstFault.{NoneBefore, IsFirst, Check, check, first_fault}
-use Rattle.md_super.specs.Profile.{IsProfile, strange_features}
+use Rattle.md_super.specs.Profile.{IsProfile, unsupported_features}
 use Rattle.md_super.specs.Checksum.{checksum_of}
 use Rattle.md_super.specs.declared.fault.SuperFault.{SuperFault}
 use Rattle.md_super.specs.declared.fault.SuperFault.TheVariants.{Magic, Major, MaxDev, Checksum, SuperOffset, Feature, Level, RaidDisks, NoMemory}
@@ -14,7 +15,7 @@ Stands bytes Major = number_at 4 4 bytes ≢ 1
 Stands bytes MaxDev = 1920 < number_at 4 220 bytes
 Stands bytes Checksum = number_at 4 216 bytes ≢ checksum_of bytes (number_at 4 220 bytes)
 Stands bytes SuperOffset = number_at 8 144 bytes ≢ 8
-Stands bytes (Feature bits) = (bits ≡ strange_features (number_at 4 8 bytes)) × (0 < bits)
+Stands bytes (Feature bits) = (bits ≡ unsupported_features (number_at 4 8 bytes)) × (0 < bits)
 Stands bytes Level = number_at 4 72 bytes ≢ 1
 Stands bytes RaidDisks = (number_at 4 92 bytes ≡ 0) ⊎ (32 < number_at 4 92 bytes)
 Stands bytes NoMemory = Unit {0}
@@ -39,7 +40,7 @@ NoFault bytes = NoneBefore (Stands bytes) place 9
 abbrev pub IsFirstFault : List ℕ → SuperFault → Type 0
 IsFirstFault bytes f = IsFirst (Stands bytes) place f
 
--- the tests, in their order
+-- the tests that the code makes, in their order: each finds whether its fault stands
 abbrev pub checks : List ℕ → List (Check SuperFault)
 checks bytes =
     check (number_at 4 0 bytes == 0xa92b4efc) Magic
@@ -47,7 +48,7 @@ checks bytes =
     ∷ check (nat_le (number_at 4 220 bytes) 1920) MaxDev
     ∷ check (number_at 4 216 bytes == checksum_of bytes (number_at 4 220 bytes)) Checksum
     ∷ check (number_at 8 144 bytes == 8) SuperOffset
-    ∷ check (strange_features (number_at 4 8 bytes) == 0) (Feature (strange_features (number_at 4 8 bytes)))
+    ∷ check (unsupported_features (number_at 4 8 bytes) == 0) (Feature (unsupported_features (number_at 4 8 bytes)))
     ∷ check (number_at 4 72 bytes == 1) Level
     ∷ check (nat_lt 0 (number_at 4 92 bytes) && nat_le (number_at 4 92 bytes) 32) RaidDisks
     ∷ []

@@ -44,4 +44,4 @@ pub record IsSuper (bytes : List ℕ) (v : Superblock) : Type 0 where
   pub events : v.events ≡ number_at 8 200 bytes
   pub resync_offset : v.resync_offset ≡ number_at 8 208 bytes
   pub sb_csum : v.sb_csum ≡ number_at 4 216 bytes
-  pub dev_roles : v.dev_roles ≡ roles_in (number_at 4 220 bytes) bytes
+  pub roles : v.roles ≡ roles_in (number_at 4 220 bytes) bytes

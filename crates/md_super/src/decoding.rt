@@ -6,14 +6,19 @@ ghost use Rattle.md_super.specs.Faults.{IsSound, IsFirstFault, NoFault, fault_of
 use crate::fault::SuperFault;
 use crate::roles::{MAX_ROLES, Roles};
 use crate::summing::checksum;
-use crate::superblock::{LEVEL, MAGIC, MAJOR_VERSION, MAX_RAID_DISKS, SUPER_SECTOR, Superblock};
+use crate::superblock::{
+    FEATURE_BAD_BLOCKS, FEATURE_BITMAP_OFFSET, FEATURE_RECOVERY_OFFSET, LEVEL, MAGIC,
+    MAJOR_VERSION, MAX_RAID_DISKS, SUPER_SECTOR, Superblock,
+};
 use md_format::{array_at, u8_at, u16_at, u32_at, u64_at, uuid_at};
 use std::alloc::{AllocError, Global};
 
-// All but a write-intent bitmap, a recovery that goes on, and bad blocks.
-const STRANGE_FEATURES: u32 = 0xffff_fff4;
+const UNSUPPORTED_FEATURES: u32 = !(FEATURE_BITMAP_OFFSET
+    | FEATURE_RECOVERY_OFFSET
+    | FEATURE_BAD_BLOCKS);
 
-/// The superblock that the bytes spell, or the first fault in them.
+/// The superblock that the bytes spell, or the first fault in them, in the order of `SuperFault`.
+/// Want of memory comes last: only where no other fault stands.
 pub fn decode(alloc: Global, bytes: &[u8; 4096]) -> Result<Superblock, SuperFault>
     ensures ok { IfOk result (λ v. IsSuper bytes.now v) }
     ensures sound { IfOk result (λ _. NoFault bytes.now) }
@@ -46,9 +51,9 @@ fn first_fault(bytes: &[u8; 4096]) -> Option<SuperFault>
     if u64_at(bytes, 144) != SUPER_SECTOR {
         return Some(SuperFault::SuperOffset);
     }
-    let strange = u32_at(bytes, 8) & STRANGE_FEATURES;
-    if strange != 0 {
-        return Some(SuperFault::Feature(strange));
+    let unsupported = u32_at(bytes, 8) & UNSUPPORTED_FEATURES;
+    if unsupported != 0 {
+        return Some(SuperFault::Feature(unsupported));
     }
     if u32_at(bytes, 72) != LEVEL {
         return Some(SuperFault::Level);
@@ -97,7 +102,7 @@ fn read_fields(alloc: Global, bytes: &[u8; 4096]) -> Result<Superblock, AllocErr
         events: u64_at(bytes, 200),
         resync_offset: u64_at(bytes, 208),
         sb_csum: u32_at(bytes, 216),
-        dev_roles: Roles::from_vec(list),
+        roles: Roles::from_vec(list),
     })
 }
 

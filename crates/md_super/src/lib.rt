@@ -11,7 +11,10 @@ pub use decoding::decode;
 pub use fault::SuperFault;
 pub use roles::{FAULTY, MAX_ROLES, Roles, SPARE};
 pub use summing::checksum;
-pub use superblock::{LEVEL, MAGIC, MAJOR_VERSION, MAX_RAID_DISKS, SUPER_SECTOR, Superblock};
+pub use superblock::{
+    FEATURE_BAD_BLOCKS, FEATURE_BITMAP_OFFSET, FEATURE_RECOVERY_OFFSET, LEVEL, MAGIC,
+    MAJOR_VERSION, MAX_RAID_DISKS, SUPER_SECTOR, Superblock,
+};
 
 #[cfg(test)]
 mod tests;

@@ -1,5 +1,5 @@
 // The roles of an array's devices.
-ghost use Rattle.std.specs.Prelude.{◌≡◌, ◌≤◌, List, ℕ, length, slice_index_or};
+ghost use Rattle.std.specs.Prelude.{◌≡◌, ◌≤◌, List, ℕ, length};
 
 use std::marker::Model;
 
@@ -12,8 +12,8 @@ pub const SPARE: u16 = 0xffff;
 /// The role of a device that has failed (`MD_DISK_ROLE_FAULTY` of `md_p.h`).
 pub const FAULTY: u16 = 0xfffe;
 
-/// The roles by device number: `dev_roles` of `md_p.h`, whose length is `max_dev`. Contracts see
-/// the list.
+/// The roles by device number, at most 1920 of them: `dev_roles` of `md_p.h`, whose length is
+/// `max_dev`. Contracts see the list.
 #[derive(Debug, Drop)]
 pub struct Roles {
     list: Vec<u16>,
@@ -28,7 +28,7 @@ impl Model for Roles {
 }
 
 impl Roles {
-    /// The roles of the list. It takes no memory.
+    /// The roles of a list for which a superblock has room. It takes no memory.
     pub fn from_vec(list: Vec<u16>) -> Roles
         requires { length list.items ≤ 1920 }
         ensures { result ≡ list.items }
@@ -43,10 +43,11 @@ impl Roles {
         self.list.as_slice()
     }
 
-    /// The role of the device with this number: `SPARE` where the list has none for it.
-    pub fn role_of(&self, dev_number: u32) -> u16
-        ensures { result ≡ slice_index_or self.now dev_number 0xffff }
+    /// The list itself. It takes no memory.
+    pub fn into_vec(self) -> Vec<u16>
+        ensures { result.items ≡ self }
     {
-        self.list.get(dev_number as usize).copied().unwrap_or(SPARE)
+        let Roles { list: roles } = self;
+        roles
     }
 }

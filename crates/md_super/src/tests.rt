@@ -62,7 +62,7 @@ fn reads_a_member(rt: HostRuntime) -> Result<(), Fail> {
     let v = decode(rt.alloc(), &vault())?;
     assert_eq!(rt; v.events, 10);
     assert_eq!(rt; v.bblog_offset, 2024);
-    assert_eq!(rt; v.dev_roles.as_slice(), [0u16, 1].as_slice());
+    assert_eq!(rt; v.roles.as_slice(), [0u16, 1].as_slice());
     assert_eq!(rt; v.role_of(1), 1);
     assert_eq!(rt; v.role_of(2), 0xffff);
     Ok(())

@@ -21,6 +21,8 @@ impl<'a> Images for FileImages<'a> {
 
     ghost known = { λ _. false };
 
+    ghost holds = { λ _ _. false };
+
     ghost device_at = { λ _ _. None };
 
     fn get(&mut self, name: &str) -> Result<FileDevice, ImageFault> {

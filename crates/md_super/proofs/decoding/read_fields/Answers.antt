@@ -1,5 +1,5 @@
 use Rattle.std.proofs.Common.{◌≡◌, ◌∙◌, ap, length}
-use Rattle.md_super.specs.Profile.{strange_features}
+use Rattle.md_super.specs.Profile.{unsupported_features}
 use Rattle.md_super.proofs.RoleLists.{length-roles_in}
 use Rattle.md_super.proofs.decoding.read_fields.Goals as goal
 
@@ -13,7 +13,7 @@ invariant_of-result c =
     let p = c.requires.profile in
     record {
       in_profile = record {
-        features = ap strange_features c.u32_at-2.ensures ∙ p.features;
+        features = ap unsupported_features c.u32_at-2.ensures ∙ p.features;
         level_is = c.u32_at-3.ensures ∙ p.level_is;
         some_disks = rw c.u32_at-6.ensures p.some_disks;
         few_disks = rw c.u32_at-6.ensures p.few_disks;
