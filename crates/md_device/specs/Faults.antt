@@ -27,7 +27,7 @@ faulty_code {D} code =
 
 -- the n bytes from a sector on have a byte of one of these sectors
 abbrev pub touches : List ℕ → ℕ → ℕ → Bool
-touches bad sector n = list_any (λ b. nat_le sector b && nat_lt (b - sector) (n / 512)) bad
+touches bad sector n = list_any (λ b. nat_le sector b && nat_lt b (sector + n / 512)) bad
 
 -- the first half of the sectors of what is written, rounded down
 abbrev pub first_half : List ℕ → List ℕ

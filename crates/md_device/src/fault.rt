@@ -106,12 +106,13 @@ impl<D: Device> Device for FaultDevice<D> {
         ensures bad { fails_write self.old ≡ true → IsErr result × (self.new ≡ record self.old { inner = self.new.inner; writes = next_write self.old; failed = self.old.failed + 1 }) }
         ensures good { fails_write self.old ≡ false → self.new ≡ record self.old { inner = self.new.inner; writes = next_write self.old } }
 
-        // What it leaves: nothing new, or, where it is torn, its first half.
+        // What it leaves: nothing new, or, where it is torn, its first half or a part of that.
         ensures untorn { fails_write self.old ≡ true → self.old.torn ≡ false → self.new.inner ≡ self.old.inner }
+        ensures torn_outside { fails_write self.old ≡ true → SameOutside (512 * sector) (length (first_half bytes.now)) (D.content self.old.inner) (D.content self.new.inner) }
         ensures torn { fails_write self.old ≡ true → self.old.torn ≡ true → D.honest self.old.inner ≡ true → D.failures self.new.inner ≡ D.failures self.old.inner → D.content self.new.inner ≡ written (D.content self.old.inner) sector (first_half bytes.now) }
     {
         self.writes = self.writes.saturating_add(1);
-        if self.failed < u64::MAX && self.first <= self.writes && self.writes <= self.last {
+        if self.failed < u64::MAX && (self.first..=self.last).contains(&self.writes) {
             self.failed += 1;
             if self.torn {
                 write_half(&mut self.inner, sector, bytes);
@@ -132,11 +133,13 @@ fn is_bad(bad: &[u64], sector: u64, len: usize) -> bool
 }
 
 // Writes the first half of the sectors, rounded down, as far as the device takes it.
+#[tactic(auto, using(crate::proofs::Splices::outsides))]
 fn write_half<D: Device>(device: &mut D, sector: u64, bytes: &[u8])
     requires whole { length bytes.now % 512 ≡ 0 }
     requires within { 512 * sector + length bytes.now ≤ length (D.content device.old) }
 
     ensures outside { SameOutside (512 * sector) (length bytes.now) (D.content device.old) (D.content device.new) }
+    ensures half_outside { SameOutside (512 * sector) (length (first_half bytes.now)) (D.content device.old) (D.content device.new) }
     ensures honest { D.honest device.new ≡ D.honest device.old }
     ensures counted { D.failures device.old ≤ D.failures device.new }
     ensures half { D.honest device.old ≡ true → D.failures device.new ≡ D.failures device.old → D.content device.new ≡ written (D.content device.old) sector (first_half bytes.now) }
