@@ -82,7 +82,7 @@ impl<D: Device> Device for FaultDevice<D> {
         ensures counted { self.old.failed + D.failures self.old.inner ≤ self.new.failed + D.failures self.new.inner }
 
         // A read that is made to fail changes the count alone; no other fails but by the device below.
-        ensures bad { fails_read self.old sector (length buf.old) ≡ true → IsErr result × (self.new ≡ record self.old { failed = self.old.failed + 1 }) }
+        ensures bad { fails_read self.old sector (length buf.old) ≡ true → IsErr result × (buf.new ≡ buf.old) × (self.new ≡ record self.old { failed = self.old.failed + 1 }) }
         ensures good { fails_read self.old sector (length buf.old) ≡ false → self.new ≡ record self.old { inner = self.new.inner } }
     {
         if self.failed < u64::MAX && is_bad(self.bad.as_slice(), sector, buf.len()) {
