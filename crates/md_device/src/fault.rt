@@ -12,8 +12,9 @@ use std::marker::Model;
 ///
 /// A read that touches a bad sector fails and changes nothing. So does a write whose number lies in
 /// a range; where it is torn, the first half of its sectors, rounded down, is written before it
-/// fails. Writes are numbered from 1, each call alike, also one that fails or has no bytes. After
-/// u64::MAX failures of its own it fails no more; the device below may still fail.
+/// fails. Writes are numbered from 1, each call alike, also one that fails or has no bytes; from
+/// u64::MAX on the number stays. After u64::MAX failures of its own it fails no more; the device
+/// below may still fail.
 #[derive(Drop)]
 pub struct FaultDevice<D> {
     inner: D,
