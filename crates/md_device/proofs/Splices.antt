@@ -72,5 +72,8 @@ outside_more {at = at} {n = n} {xs = xs} {ys = ys} same m more =
     let cut : (zs : List _) → drop (m - n) (drop (at + n) zs) ≡ drop (at + m) zs = λ zs. drop-drop (m - n) (at + n) zs ∙ ap (λ k. drop k zs) whole in
     record { size = same.size; before = same.before; after = sym (cut ys) ∙ ap (drop (m - n)) same.after ∙ cut xs }
 
+-- the lemmas for a call that writes a part of what it was given
+pub ruleset outsides = (outside_more, length-take)
+
 -- the lemmas for a caller that writes and then reads, to pass to `using`
 pub ruleset splices = (length-spliced, length-part, part-spliced, part-spliced_before, part-spliced_after, part_before, part_after, spliced_outside)

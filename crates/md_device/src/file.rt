@@ -34,9 +34,10 @@ pub enum ImageFault {
 /// A device whose sectors are those of a regular file or of a block device. Contracts see it as its
 /// number of sectors.
 ///
-/// Nothing is known of a file: no clause says which bytes a read gives, nor what a write leaves, so
-/// it is a device that is not honest, and zeros stand for its content. That `read` and `write` move
-/// the bytes asked for is only tested.
+/// Nothing is known of a file: no clause says which bytes a read gives, what a write leaves, or when
+/// either fails. So it is a device that is not honest, and zeros stand for its content. What `open`,
+/// `read` and `write` do to the file is tested, and that a write waits for stable storage is neither
+/// proved nor tested: it asks the system for that before it answers `Ok`.
 ///
 /// While it is open the file is locked against other openings, and dropping it ends the lock.
 #[derive(Drop)]
@@ -55,18 +56,19 @@ impl Model for FileDevice {
 
 impl FileDevice {
     /// Opens an image for reading and writing, or for reading alone where writing is not permitted,
-    /// its file system is read-only, or it is a program that runs. Each write of one sector or more
-    /// then answers `WriteFault`.
+    /// its file system is read-only, or it is a program that is running. Each write of one sector or
+    /// more then answers `WriteFault`.
     ///
-    /// Only whole sectors are counted, and at most 2^54 of them. The size is that of the moment.
+    /// Only whole sectors are counted, and at most 2^54 of them. The size is the file's at this
+    /// call: what it gains later is not seen, and where it loses sectors their reads fail.
     ///
     /// An advisory lock is held as long as the device: an exclusive one where it can be written, a
-    /// shared one where not. So no two programs change one image at once, nor does one change it
-    /// under two names. Two nodes of one block device have a lock each. A file system that can't
-    /// lock answers `Io`: without the lock nothing would stop two writers.
+    /// shared one where not. So no two of these devices change one image at once, be it in two
+    /// programs or in one under two names. Two nodes of one block device have a lock each. Where the
+    /// file system can't lock it answers `Io`: without the lock nothing would stop two writers.
     ///
-    /// It waits for nobody: what kind of file a path names is asked before it is opened, since
-    /// opening a pipe waits for a writer, and again of what was opened.
+    /// It doesn't wait for the other end of a pipe: what kind of file a path names is asked before
+    /// it is opened, and again of what was opened.
     ///
     /// Each variant of `ImageFault` but the last comes where its message says. `Io` has the system's
     /// words for what else went wrong.

@@ -1,4 +1,4 @@
-use crate::{Device, FileDevice, ImageFault, MemDevice};
+use crate::{Device, FaultDevice, FileDevice, ImageFault, MemDevice, ReadFault, WriteFault};
 use std::alloc::Global;
 use std::os::unix::fs::PermissionsExt;
 use std::test::Fail;
@@ -130,5 +130,50 @@ fn faults_say_what_to_do(rt: HostRuntime) -> Result<(), Fail> {
     let text = format!(in rt.alloc(); "{}", ImageFault::Missing)?;
     let wanted = "no such file: check the path, or create the image first";
     assert_eq!(rt; text.as_str(), wanted);
+    Ok(())
+}
+
+#[test]
+fn reads_fail_at_bad_sectors(rt: HostRuntime) -> Result<(), Fail> {
+    let inner = MemDevice::new(rt.alloc(), 4)?;
+    let bad = vec![in rt.alloc(); 2; 1]?;
+    let mut device = FaultDevice::new(inner, bad, 1, 0, false);
+    assert_eq!(rt; device.sectors(), 4);
+
+    let mut two = [1; 1024];
+    assert_eq!(rt; device.read(0, &mut two), Ok(()));
+    assert_eq!(rt; two, [0; 1024]);
+    assert_eq!(rt; device.read(1, &mut two), Err(ReadFault));
+    assert_eq!(rt; device.read(2, &mut two), Err(ReadFault));
+    let mut one = [1; 512];
+    assert_eq!(rt; device.read(3, &mut one), Ok(()));
+    assert_eq!(rt; device.read(2, &mut []), Ok(()));
+
+    assert_eq!(rt; device.write(2, &[7; 512]), Ok(()));
+    let inner = device.into_inner();
+    assert_eq!(rt; inner.bytes().len(), 2048);
+    assert_eq!(rt; &inner.bytes()[1024..1536], [7; 512].as_slice());
+    Ok(())
+}
+
+#[test]
+fn writes_fail_by_their_number(rt: HostRuntime) -> Result<(), Fail> {
+    for (torn, half) in [(false, 1), (true, 2)] {
+        let inner = MemDevice::new(rt.alloc(), 3)?;
+        let none = Vec::new(rt.alloc());
+        let mut device = FaultDevice::new(inner, none, 2, 3, torn);
+        assert_eq!(rt; device.write(0, &[1; 1536]), Ok(()));
+        assert_eq!(rt; device.write(0, &[2; 1536]), Err(WriteFault));
+        assert_eq!(rt; device.write(2, &[3; 512]), Err(WriteFault));
+        assert_eq!(rt; device.write(1, &[4; 512]), Ok(()));
+
+        let mut back = [0; 512];
+        assert_eq!(rt; device.read(0, &mut back), Ok(()));
+        assert_eq!(rt; back, [half; 512], "torn: {torn}");
+        assert_eq!(rt; device.read(1, &mut back), Ok(()));
+        assert_eq!(rt; back, [4; 512]);
+        assert_eq!(rt; device.read(2, &mut back), Ok(()));
+        assert_eq!(rt; back, [1; 512]);
+    }
     Ok(())
 }

@@ -1,0 +1,150 @@
+// A device that fails on demand, for tests.
+ghost use Rattle.std.specs.Prelude.{◌≡◌, ◌+◌, ◌*◌, ◌%◌, ◌<◌, ◌≤◌, length, true, false, OnOk, OnErr, IsErr};
+ghost use Rattle.md_device.specs.Splice.{SameOutside};
+ghost use Rattle.md_device.specs.Device.{held, written};
+ghost use Rattle.md_device.specs.Faults.{touches, first_half, fails_read, fails_write, next_write};
+
+use crate::device::{Device, ReadFault, WriteFault};
+use std::marker::Model;
+
+/// A device over another one that fails where it was told to, for tests. Contracts see it as the
+/// device below, what it was told, and two counts.
+///
+/// A read that touches a bad sector fails and changes nothing. So does a write whose number lies in
+/// a range; where it is torn, the first half of its sectors, rounded down, is written before it
+/// fails. Writes are numbered from 1, each call alike, also one that fails or has no bytes; from
+/// u64::MAX on the number stays. After u64::MAX failures of its own it fails no more; the device
+/// below may still fail.
+#[derive(Drop)]
+pub struct FaultDevice<D> {
+    inner: D,
+    bad: Vec<u64>,
+    first: u64,
+    last: u64,
+    torn: bool,
+    writes: u64,
+    failed: u64,
+}
+
+impl<D> Model for FaultDevice<D> {
+    ghost use Rattle.md_device.specs.Faults.{Faulty, faulty_code};
+
+    ghost Value = { Faulty D };
+
+    ghost coded = { faulty_code D.code };
+
+    ghost view = { λ d. record { inner = d.inner; bad = d.bad.items; first = d.first; last = d.last; torn = d.torn; writes = d.writes; failed = d.failed } };
+}
+
+impl<D> FaultDevice<D> {
+    /// A device whose reads fail at the sectors of `bad`, and whose writes fail from the one
+    /// numbered `first` to the one numbered `last`. Takes no memory.
+    pub fn new(inner: D, bad: Vec<u64>, first: u64, last: u64, torn: bool) -> FaultDevice<D>
+        ensures { result ≡ record { inner = inner; bad = bad.items; first = first; last = last; torn = torn; writes = 0; failed = 0 } }
+    {
+        FaultDevice {
+            inner,
+            bad,
+            first,
+            last,
+            torn,
+            writes: 0,
+            failed: 0,
+        }
+    }
+
+    /// The device below. Takes no memory.
+    pub fn into_inner(self) -> D
+        ensures { result ≡ self.inner }
+    {
+        self.inner
+    }
+}
+
+impl<D: Device> Device for FaultDevice<D> {
+    ghost content = { λ d. D.content d.inner };
+
+    ghost honest = { λ d. D.honest d.inner };
+
+    ghost failures = { λ d. d.failed + D.failures d.inner };
+
+    fn sectors(&self) -> u64 {
+        self.inner.sectors()
+    }
+
+    fn read(&mut self, sector: u64, buf: &mut [u8]) -> Result<(), ReadFault>
+        requires whole { length buf.old % 512 ≡ 0 }
+        requires within { 512 * sector + length buf.old ≤ length (D.content self.old.inner) }
+
+        ensures kept { D.content self.new.inner ≡ D.content self.old.inner }
+        ensures honest { D.honest self.new.inner ≡ D.honest self.old.inner }
+        ensures ok { OnOk result (D.honest self.old.inner ≡ true → buf.new ≡ held (D.content self.old.inner) sector (length buf.old)) }
+        ensures err { OnErr result (D.honest self.old.inner ≡ true → self.old.failed + D.failures self.old.inner < self.new.failed + D.failures self.new.inner) }
+        ensures counted { self.old.failed + D.failures self.old.inner ≤ self.new.failed + D.failures self.new.inner }
+
+        // A read that is made to fail changes the count alone; no other fails but by the device below.
+        ensures bad { fails_read self.old sector (length buf.old) ≡ true → IsErr result × (buf.new ≡ buf.old) × (self.new ≡ record self.old { failed = self.old.failed + 1 }) }
+        ensures good { fails_read self.old sector (length buf.old) ≡ false → self.new ≡ record self.old { inner = self.new.inner } }
+    {
+        if self.failed < u64::MAX && is_bad(self.bad.as_slice(), sector, buf.len()) {
+            self.failed += 1;
+            return Err(ReadFault);
+        }
+        self.inner.read(sector, buf)
+    }
+
+    fn write(&mut self, sector: u64, bytes: &[u8]) -> Result<(), WriteFault>
+        requires whole { length bytes.now % 512 ≡ 0 }
+        requires within { 512 * sector + length bytes.now ≤ length (D.content self.old.inner) }
+
+        ensures outside { SameOutside (512 * sector) (length bytes.now) (D.content self.old.inner) (D.content self.new.inner) }
+        ensures honest { D.honest self.new.inner ≡ D.honest self.old.inner }
+        ensures ok { OnOk result (D.honest self.old.inner ≡ true → D.content self.new.inner ≡ written (D.content self.old.inner) sector bytes.now) }
+        ensures err { OnErr result (D.honest self.old.inner ≡ true → self.old.failed + D.failures self.old.inner < self.new.failed + D.failures self.new.inner) }
+        ensures counted { self.old.failed + D.failures self.old.inner ≤ self.new.failed + D.failures self.new.inner }
+
+        // A write that is made to fail is counted; no other fails but by the device below.
+        ensures bad { fails_write self.old ≡ true → IsErr result × (self.new ≡ record self.old { inner = self.new.inner; writes = next_write self.old; failed = self.old.failed + 1 }) }
+        ensures good { fails_write self.old ≡ false → self.new ≡ record self.old { inner = self.new.inner; writes = next_write self.old } }
+
+        // What it leaves: nothing new, or, where it is torn, its first half or a part of that.
+        ensures untorn { fails_write self.old ≡ true → self.old.torn ≡ false → self.new.inner ≡ self.old.inner }
+        ensures torn_outside { fails_write self.old ≡ true → SameOutside (512 * sector) (length (first_half bytes.now)) (D.content self.old.inner) (D.content self.new.inner) }
+        ensures torn { fails_write self.old ≡ true → self.old.torn ≡ true → D.honest self.old.inner ≡ true → D.failures self.new.inner ≡ D.failures self.old.inner → D.content self.new.inner ≡ written (D.content self.old.inner) sector (first_half bytes.now) }
+    {
+        self.writes = self.writes.saturating_add(1);
+        if self.failed < u64::MAX && (self.first..=self.last).contains(&self.writes) {
+            self.failed += 1;
+            if self.torn {
+                write_half(&mut self.inner, sector, bytes);
+            }
+            return Err(WriteFault);
+        }
+        self.inner.write(sector, bytes)
+    }
+}
+
+// Whether a read of so many bytes touches a bad sector.
+fn is_bad(bad: &[u64], sector: u64, len: usize) -> bool
+    ensures { result ≡ touches bad.now sector len }
+{
+    let count = len as u64 / 512;
+    bad.iter()
+        .any(|bad| sector <= *bad && *bad - sector < count)
+}
+
+// Writes the first half of the sectors, rounded down, as far as the device takes it.
+#[tactic(auto, using(crate::proofs::Splices::outsides))]
+fn write_half<D: Device>(device: &mut D, sector: u64, bytes: &[u8])
+    requires whole { length bytes.now % 512 ≡ 0 }
+    requires within { 512 * sector + length bytes.now ≤ length (D.content device.old) }
+
+    ensures outside { SameOutside (512 * sector) (length bytes.now) (D.content device.old) (D.content device.new) }
+    ensures half_outside { SameOutside (512 * sector) (length (first_half bytes.now)) (D.content device.old) (D.content device.new) }
+    ensures honest { D.honest device.new ≡ D.honest device.old }
+    ensures counted { D.failures device.old ≤ D.failures device.new }
+    ensures half { D.honest device.old ≡ true → D.failures device.new ≡ D.failures device.old → D.content device.new ≡ written (D.content device.old) sector (first_half bytes.now) }
+{
+    let half = bytes.len() / 1024 * 512;
+    let _ = device.write(sector, &bytes[..half]);
+}
