@@ -1,8 +1,9 @@
 -- How many chunks cover so many sectors.
 use Rattle.std.proofs.Common.{◌≡◌, ℕ, ◌+◌, ◌*◌, ◌/◌, ◌<◌, ◌≤◌, Bool, true, false, leb, refl, sym, arith}
-use Rattle.std.proofs.Math.Nat.{add-mul, lt_of_mul-lt-mul_right, mul-le-mul_right}
+use Rattle.std.proofs.Math.Nat.{add-mul, div-lt_iff_lt-mul, lt_of_mul-lt-mul_right, mul-le-mul_right}
 use Rattle.std.proofs.lemmas.Bool.{leb-true, le-leb}
 use Rattle.std.proofs.lemmas.Grind.{div_ceil_times}
+use Rattle.std.specs.Int.{div_ceil}
 use Rattle.md_bitmap.specs.Sound.{chunk_count}
 
 -- two tests that pass together are one
@@ -31,3 +32,10 @@ leb-few_chunks s c positive =
     same_tests (leb s (1048576 * c / 512)) (leb (chunk_count s c) 1048576)
     (λ e. le-leb (chunk_count s c) 1048576 (few_from_size s c positive (leb-true s (1048576 * c / 512) e)))
     (λ e. le-leb s (1048576 * c / 512) (size_from_few s c positive (leb-true (chunk_count s c) 1048576 e)))
+
+-- a sector of the array lies in one of its chunks
+pub div-lt-div_ceil : (size width sector : ℕ) → 0 < width → sector < size → sector / width < div_ceil size width
+div-lt-div_ceil size width sector positive h =
+    let bounds = div_ceil_times size width positive in
+    let below : sector < div_ceil size width * width = omega (arith, bounds.0) in
+    (div-lt_iff_lt-mul positive).1 below
