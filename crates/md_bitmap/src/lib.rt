@@ -11,3 +11,6 @@ pub use chunks::Chunks;
 pub use fault::BitmapFault;
 pub use header::{BitmapHeader, HEADER_BYTES, MAX_CHUNKS};
 pub use marks::Marks;
+
+#[cfg(test)]
+mod tests;
