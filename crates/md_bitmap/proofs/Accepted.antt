@@ -14,10 +14,10 @@ both : (a b : Bool) → (a && b) ≡ true → (a ≡ true) × (b ≡ true)
 both true b e = (refl, e)
 both false b e = absurd cc
 
-both_hold : (a b : Bool) → a ≡ true → b ≡ true → (a && b) ≡ true
+pub both_hold : (a b : Bool) → a ≡ true → b ≡ true → (a && b) ≡ true
 both_hold a b x y = rw (x, y) refl
 
-chunk_size_passes : (n : ℕ) → (is_power_of_two n && leb 512 n) ≡ true → IsChunkSize n
+pub chunk_size_passes : (n : ℕ) → (is_power_of_two n && leb 512 n) ≡ true → IsChunkSize n
 chunk_size_passes n e =
     let p = both (is_power_of_two n) (leb 512 n) e in
     record { power = p.0; least = leb-true 512 n p.1 }

@@ -1,7 +1,10 @@
 // The chunks of an array.
 ghost use Rattle.std.specs.Prelude.{◌≡◌, ◌+◌, ◌*◌, ◌/◌, ◌<◌, ◌≤◌, ◌↔◌, min, ℕ};
 ghost use Rattle.std.specs.Int.{div_ceil};
+ghost use Rattle.md_bitmap.specs.Sound.{IsSound, chunk_count};
 ghost use Rattle.md_bitmap.specs.Chunks.{IsChunking, InChunk};
+
+use crate::header::SECTOR_BYTES;
 
 /// An array of `size` sectors, cut into chunks of `sectors` sectors. The last may be shorter.
 #[derive(Clone, Copy, Debug, PartialEq, Eq)]
@@ -12,6 +15,19 @@ pub struct Chunks {
 }
 
 impl Chunks {
+    /// The chunks of an array of `size` sectors, where the bitmap's chunks have `chunksize` bytes.
+    pub fn new(size: u64, chunksize: u32) -> Chunks
+        requires { IsSound size chunksize }
+        ensures sectors { result.sectors ≡ chunksize / 512 }
+        ensures size { result.size ≡ size }
+        ensures count { div_ceil result.size result.sectors ≡ chunk_count size chunksize }
+    {
+        Chunks {
+            sectors: chunksize / SECTOR_BYTES as u32,
+            size,
+        }
+    }
+
     /// How many chunks there are.
     pub fn count(&self) -> u32
         ensures count { result ≡ div_ceil self.now.size self.now.sectors }

@@ -1,8 +1,8 @@
 // The header of a bitmap.
-ghost use Rattle.std.specs.Prelude.{◌≡◌, ◌<◌, ◌&&◌, ◌++◌, take, nat_le, IfOk, OnOk, IfErr};
+ghost use Rattle.std.specs.Prelude.{◌≡◌, ◌<◌, ◌&&◌, ◌++◌, take, nat_le, IsTrue, ◌↔◌, IfOk, OnOk, IfErr};
 ghost use Rattle.md_format.specs.FirstFault.{IsFirst};
 ghost use Rattle.std.specs.Int.{is_power_of_two};
-ghost use Rattle.md_bitmap.specs.Sound.{IsSound, chunk_count};
+ghost use Rattle.md_bitmap.specs.Sound.{IsChunkSize, IsSound, chunk_count};
 ghost use Rattle.md_bitmap.specs.Faults.{Stands, place, NoneStands, fault_of};
 
 use crate::fault::BitmapFault;
@@ -19,7 +19,7 @@ const MAGIC: u32 = 0x6d74_6962;
 
 const VERSION: u32 = 4;
 
-const SECTOR_BYTES: u64 = 512;
+pub(crate) const SECTOR_BYTES: u64 = 512;
 
 /// The header of a version 4 bitmap. The fields have the names of `md-bitmap.h`; `sync_size` is in
 /// sectors and `chunksize` in bytes.
@@ -151,14 +151,16 @@ fn first_fault(bytes: &[u8; 256]) -> Option<BitmapFault>
     None
 }
 
-fn is_chunk_size(bytes: u32) -> bool
-    ensures { result ≡ is_power_of_two bytes && nat_le 512 bytes }
+/// Whether a bitmap may have chunks of so many bytes.
+pub fn is_chunk_size(bytes: u32) -> bool
+    ensures value { result ≡ is_power_of_two bytes && nat_le 512 bytes }
+    ensures meaning { IsTrue result ↔ IsChunkSize bytes }
 {
     bytes.is_power_of_two() && u64::from(bytes) >= SECTOR_BYTES
 }
 
-// Whether chunks of so many bytes cover so many sectors in at most `MAX_CHUNKS`.
-fn has_few_chunks(sync_size: u64, chunksize: u32) -> bool
+/// Whether chunks of so many bytes cover so many sectors in at most `MAX_CHUNKS`.
+pub fn has_few_chunks(sync_size: u64, chunksize: u32) -> bool
     requires { 0 < chunksize }
     ensures { result ≡ nat_le (chunk_count sync_size chunksize) 1048576 }
 {

@@ -9,8 +9,8 @@ mod words;
 
 pub use chunks::Chunks;
 pub use fault::BitmapFault;
-pub use header::{BitmapHeader, HEADER_BYTES, MAX_CHUNKS};
-pub use marks::Marks;
+pub use header::{BitmapHeader, HEADER_BYTES, MAX_CHUNKS, has_few_chunks, is_chunk_size};
+pub use marks::{BLOCK_BYTES, Marks};
 
 #[cfg(test)]
 mod tests;

@@ -34,7 +34,8 @@ impl Marks {
     /// The marks in a bitmap's bytes, those behind its header.
     pub fn from_bytes(alloc: Global, chunks: u32, bytes: &[u8]) -> Result<Marks, AllocError>
         requires { chunks ≤ 8 * length bytes.now }
-        ensures { IfOk result (λ m. (m.chunks ≡ chunks) × (m.bytes ≡ bytes.now)) }
+        ensures chunks { IfOk result (λ m. m.chunks ≡ chunks) }
+        ensures bytes { IfOk result (λ m. m.bytes ≡ bytes.now) }
     {
         Ok(Marks {
             chunks,
