@@ -1,0 +1,22 @@
+-- Sets of sectors as lists of runs. A sector is 512 bytes.
+use Rattle.std.specs.Prelude.{ℕ, ◌+◌, ◌^◌, ◌<◌, ◌≤◌, ◌⊎◌, ⊤, List, [], ◌∷◌}
+use Rattle.md_badblocks.specs.declared.run.Run.{Run}
+
+-- the sector is one of the run's
+abbrev pub LiesIn : ℕ → Run → Type 0
+LiesIn sector run = (run.start ≤ sector) × (sector < run.start + run.len)
+
+-- the set that a list of runs stands for: the sector lies in one of them
+abbrev pub IsBad : List Run → ℕ → Type 0
+IsBad [] sector = ⊥
+IsBad (run ∷ runs) sector = LiesIn sector run ⊎ IsBad runs sector
+
+-- the runs rise from `low` on: none is empty, at least one sector lies between two, and all end by sector 2^54
+abbrev pub RisesFrom : ℕ → List Run → Type 0
+RisesFrom low [] = ⊤
+RisesFrom low (run ∷ runs) =
+    (low ≤ run.start) × (0 < run.len) × (run.start + run.len ≤ 2 ^ 54) × RisesFrom (run.start + run.len + 1) runs
+
+-- the list is that of the maximal runs of its set
+abbrev pub IsCanonical : List Run → Type 0
+IsCanonical runs = RisesFrom 0 runs
