@@ -1,5 +1,5 @@
 -- Rising lists of runs: what holds of their parts, and of the sectors in them.
-use Rattle.std.proofs.Common.{◌≡◌, ℕ, zero, suc, ◌+◌, ◌^◌, ◌<◌, ◌≤◌, ◌⊎◌, inl, inr, List, [], ◌∷◌, ◌++◌, length, get_or, arith}
+use Rattle.std.proofs.Common.{◌≡◌, ℕ, zero, suc, ◌+◌, ◌^◌, ◌<◌, ◌≤◌, ◌⊎◌, inl, inr, List, [], ◌∷◌, ◌++◌, length, get_or, sym, subst, arith}
 use Rattle.std.specs.List.{AllByRecursion}
 use Rattle.md_badblocks.specs.declared.run.Run.{Run}
 use Rattle.md_badblocks.specs.Runs.{LiesIn, IsBad, RisesFrom}
@@ -98,3 +98,14 @@ ends_rise low (r ∷ rs) zero (suc j) d h le lt =
 ends_rise low (r ∷ rs) (suc i) zero d h le lt = absurd (omega arith)
 ends_rise low (r ∷ rs) (suc i) (suc j) d h le lt =
     ends_rise (r.start + r.len + 1) rs i j d h.3 (omega arith) (omega arith)
+
+pub read_fits : (runs : List Run) (k : ℕ) (run : Run) → RisesFrom 0 runs → k < length runs → run ≡ get_or runs k run → run.start + run.len ≤ 2 ^ 54
+read_fits runs k run h lt e = let P : Run → Type 0 = λ q. q.start + q.len ≤ 2 ^ 54 in subst P (sym e) (run_fits 0 runs k run h lt)
+
+run_some : (low : ℕ) (runs : List Run) (k : ℕ) (d : Run) → RisesFrom low runs → k < length runs → 0 < (get_or runs k d).len
+run_some low [] k d h lt = absurd (omega arith)
+run_some low (r ∷ rs) zero d h lt = h.1
+run_some low (r ∷ rs) (suc k) d h lt = run_some (r.start + r.len + 1) rs k d h.3 (omega arith)
+
+pub read_some : (runs : List Run) (k : ℕ) (run : Run) → RisesFrom 0 runs → k < length runs → run ≡ get_or runs k run → 0 < run.len
+read_some runs k run h lt e = let P : Run → Type 0 = λ q. 0 < q.len in subst P (sym e) (run_some 0 runs k run h lt)

@@ -1,12 +1,12 @@
 -- The bad block log of a member, as md_p.h and badblocks.h have it: u64 entries, little-endian, each a
 -- sector in the top 54 bits (BB_OFFSET) and a length in the low 10 (BB_LEN), both in units of 2^bblog_shift
 -- sectors.
-use Rattle.std.specs.Prelude.{ℕ, ◌≡◌, ◌+◌, ◌-◌, ◌*◌, ◌/◌, ◌%◌, ◌^◌, ◌<◌, ◌==◌, ◌↔◌, List, ◌++◌, length, map, min, replicate, sum_by}
+use Rattle.std.specs.Prelude.{ℕ, ◌≡◌, ◌+◌, ◌-◌, ◌*◌, ◌/◌, ◌%◌, ◌^◌, ◌<◌, ◌==◌, ◌↔◌, List, ◌++◌, length, map, min, replicate}
 use Rattle.std.specs.List.{range_with_len, before_first, flat_map}
 use Rattle.byteorder.specs.Endian.{little_bytes}
 use Rattle.md_format.specs.Fields.{number_at}
 use Rattle.md_badblocks.specs.declared.run.Run.{Run}
-use Rattle.md_badblocks.specs.Runs.{IsBad, IsCanonical}
+use Rattle.md_badblocks.specs.Runs.{IsBad, IsCanonical, entry_count, entries_needed}
 
 -- the entry that ends a list
 abbrev pub all_ones : ℕ
@@ -28,14 +28,6 @@ named_runs shift bytes = map (run_of shift) (before_first (λ entry. entry == al
 pub record IsReadAs (shift : ℕ) (bytes : List ℕ) (runs : List Run) : Type 0 where
   pub canonical : IsCanonical runs
   pub named : (sector : ℕ) → IsBad runs sector ↔ (IsBad (named_runs shift bytes) sector × (sector < 2 ^ 54))
-
--- how many entries a run takes, at most 512 sectors each
-abbrev pub entry_count : Run → ℕ
-entry_count run = (run.len + 511) / 512
-
--- how many all of them take
-abbrev pub entries_needed : List Run → ℕ
-entries_needed runs = sum_by entry_count runs
 
 -- entry k of a run: 512 sectors, or the rest in the last
 abbrev pub entry_at : Run → ℕ → ℕ

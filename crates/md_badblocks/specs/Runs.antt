@@ -1,5 +1,5 @@
 -- Sets of sectors as lists of runs. A sector is 512 bytes.
-use Rattle.std.specs.Prelude.{ℕ, ◌+◌, ◌^◌, ◌<◌, ◌≤◌, ◌⊎◌, ⊤, List, [], ◌∷◌}
+use Rattle.std.specs.Prelude.{ℕ, ◌+◌, ◌/◌, ◌^◌, ◌<◌, ◌≤◌, ◌⊎◌, ⊤, List, [], ◌∷◌, sum_by}
 use Rattle.md_badblocks.specs.declared.run.Run.{Run}
 
 -- the sector is one of the run's
@@ -20,3 +20,11 @@ RisesFrom low (run ∷ runs) =
 -- the list is that of the maximal runs of its set
 abbrev pub IsCanonical : List Run → Type 0
 IsCanonical runs = RisesFrom 0 runs
+
+-- how many entries of the log a run takes, at most 512 sectors each
+abbrev pub entry_count : Run → ℕ
+entry_count run = (run.len + 511) / 512
+
+-- how many all of them take
+abbrev pub entries_needed : List Run → ℕ
+entries_needed runs = sum_by entry_count runs
