@@ -3,4 +3,8 @@ pub mod Merging
 pub mod Joins
 pub mod Cuts
 pub mod Ranges
+pub mod Entries
+pub mod Written
+pub mod Reading
+pub mod Unique
 pub mod Searches

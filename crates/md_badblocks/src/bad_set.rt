@@ -11,7 +11,7 @@ use std::marker::Model;
 const LIMIT: u64 = 1 << 54;
 
 /// The most sectors that one entry of the log names.
-const ENTRY_SECTORS: u64 = 512;
+pub(crate) const ENTRY_SECTORS: u64 = 512;
 
 /// Sectors below 2^54, seen by contracts as the rising list of their maximal runs.
 #[derive(Debug, Drop)]
@@ -81,6 +81,7 @@ impl BadSet {
             ↔ (IsBad self.old sector
                 ⊎ ((start ≤ sector) × (sector < start + len) × (sector < 2 ^ 54)))) }
         ensures err { OnErr result (self.new ≡ self.old) }
+        ensures canonical { IsCanonical self.new }
     {
         let end = start.saturating_add(len).min(LIMIT);
         if start < end {
@@ -94,6 +95,7 @@ impl BadSet {
         ensures ok { OnOk result ((sector : ℕ) → IsBad self.new sector
             ↔ (IsBad self.old sector × ((sector < start) ⊎ (start + len ≤ sector)))) }
         ensures err { OnErr result (self.new ≡ self.old) }
+        ensures canonical { IsCanonical self.new }
     {
         let end = start.saturating_add(len).min(LIMIT);
         if start < end {

@@ -3,7 +3,9 @@
 
 mod bad_set;
 mod editing;
+mod log;
 mod run;
 
 pub use bad_set::BadSet;
+pub use log::{LogFault, LogFull};
 pub use run::Run;
