@@ -27,35 +27,35 @@ pub data Keeps (left right : Run) : List Run → Type 0 where
 
 kept_bad : (left right : Run) (m : List Run) (s : ℕ) → Keeps left right m → IsBad m s → LiesIn s left ⊎ LiesIn s right
 kept_bad left right m s (neither p q) bad = absurd bad
-kept_bad left right m s (lower p q) bad = elim bad [ | inl here ↦ inl here | inr none ↦ absurd none ]
-kept_bad left right m s (upper p q) bad = elim bad [ | inl here ↦ inr here | inr none ↦ absurd none ]
+kept_bad left right m s (lower p q) bad = elim bad [ inl here ↦ inl here | inr none ↦ absurd none ]
+kept_bad left right m s (upper p q) bad = elim bad [ inl here ↦ inr here | inr none ↦ absurd none ]
 kept_bad left right m s (both p q) bad =
-    elim bad [ | inl here ↦ inl here | inr rest ↦ elim rest [ | inl here ↦ inr here | inr none ↦ absurd none ] ]
+    elim bad [ inl here ↦ inl here | inr rest ↦ elim rest [ inl here ↦ inr here | inr none ↦ absurd none ] ]
 
 lies_kept : (left right : Run) (m : List Run) (s : ℕ) → Keeps left right m → LiesIn s left ⊎ LiesIn s right → IsBad m s
 lies_kept left right m s (neither p q) lies =
-    elim lies [ | inl here ↦ absurd (omega arith) | inr here ↦ absurd (omega arith) ]
-lies_kept left right m s (lower p q) lies = elim lies [ | inl here ↦ inl here | inr here ↦ absurd (omega arith) ]
-lies_kept left right m s (upper p q) lies = elim lies [ | inl here ↦ absurd (omega arith) | inr here ↦ inl here ]
-lies_kept left right m s (both p q) lies = elim lies [ | inl here ↦ inl here | inr here ↦ inr (inl here) ]
+    elim lies [ inl here ↦ absurd (omega arith) | inr here ↦ absurd (omega arith) ]
+lies_kept left right m s (lower p q) lies = elim lies [ inl here ↦ inl here | inr here ↦ absurd (omega arith) ]
+lies_kept left right m s (upper p q) lies = elim lies [ inl here ↦ absurd (omega arith) | inr here ↦ inl here ]
+lies_kept left right m s (both p q) lies = elim lies [ inl here ↦ inl here | inr here ↦ inr (inl here) ]
 
 halves_bad : (low start end : ℕ) (r : Run) (rs : List Run) (left right : Run) (s : ℕ) → RisesFrom low (r ∷ rs) → start + 1 ≤ r.start + r.len → (last r rs).start < end → IsHalved start end r (last r rs) left right → LiesIn s left ⊎ LiesIn s right → IsBad (r ∷ rs) s × ((s < start) ⊎ (end ≤ s))
 halves_bad low start end r rs left right s h reaches starts is lies =
     elim lies [
       | inl here ↦
-      let below : s < start = omega arith in
-      let there : LiesIn s r = (omega arith, omega arith) in
-      (inl there, inl below)
+          let below : s < start = omega arith in
+          let there : LiesIn s r = (omega arith, omega arith) in
+          (inl there, inl below)
       | inr here ↦
-      let above : end ≤ s = omega arith in
-      (last_bad r rs s (omega arith, omega arith), inr above)
+          let above : end ≤ s = omega arith in
+          (last_bad r rs s (omega arith, omega arith), inr above)
     ]
 
 bad_halves : (low start end : ℕ) (r : Run) (rs : List Run) (left right : Run) (s : ℕ) → RisesFrom low (r ∷ rs) → IsHalved start end r (last r rs) left right → IsBad (r ∷ rs) s → (s < start) ⊎ (end ≤ s) → LiesIn s left ⊎ LiesIn s right
 bad_halves low start end r rs left right s h is bad side =
     let from : r.start ≤ s = bad_from r.start (r ∷ rs) s (omega arith, h.1, h.2, h.3) bad in
     let to = bad_to_last low r rs s h bad in
-    elim side [ | inl below ↦ inl (omega arith, omega arith) | inr above ↦ inr (omega arith, omega arith) ]
+    elim side [ inl below ↦ inl (omega arith, omega arith) | inr above ↦ inr (omega arith, omega arith) ]
 
 kept_rises : (low start end : ℕ) (r : Run) (rs c : List Run) (left right : Run) (m : List Run) → RisesFrom low (r ∷ rs) → RisesFrom (last_end r rs + 1) c → start + 1 ≤ r.start + r.len → r.start < end → IsHalved start end r (last r rs) left right → Keeps left right m → RisesFrom low (m ++ c)
 kept_rises low start end r rs c left right m h behind reaches starts is (neither p q) =
@@ -72,22 +72,24 @@ kept_rises low start end r rs c left right m h behind reaches starts is (both p 
 
 -- the sectors of a list whose middle is replaced by its part with Q, where the rest has Q
 middle_cut : (a b c m : List Run) (s : ℕ) (Q : Type 0) → (IsBad a s → Q) → (IsBad c s → Q) → (IsBad m s → IsBad b s × Q) → (IsBad b s → Q → IsBad m s) → IsBad (a ++ (m ++ c)) s ↔ (IsBad (a ++ (b ++ c)) s × Q)
-middle_cut a b c m s Q qa qc to back =
-    (λ new. elim (bad_side a (m ++ c) s new) [
-        | inl left ↦ (bad_left a (b ++ c) s left, qa left)
-        | inr rest ↦
+middle_cut a b c m s Q qa qc to back = (
+  λ new. elim (bad_side a (m ++ c) s new) [
+    | inl left ↦ (bad_left a (b ++ c) s left, qa left)
+    | inr rest ↦
         elim (bad_side m c s rest) [
           | inl middle ↦ (bad_right a (b ++ c) s (bad_left b c s (to middle).0), (to middle).1)
           | inr right ↦ (bad_right a (b ++ c) s (bad_right b c s right), qc right)
         ]
-      ], λ old. elim (bad_side a (b ++ c) s old.0) [
-        | inl left ↦ bad_left a (m ++ c) s left
-        | inr rest ↦
+  ],
+  λ old. elim (bad_side a (b ++ c) s old.0) [
+    | inl left ↦ bad_left a (m ++ c) s left
+    | inr rest ↦
         elim (bad_side b c s rest) [
           | inl middle ↦ bad_right a (m ++ c) s (bad_left m c s (back middle old.1))
           | inr right ↦ bad_right a (m ++ c) s (bad_right m c s right)
         ]
-      ])
+  ],
+)
 
 cut_middle : (start end : ℕ) (a : List Run) (r : Run) (rs c : List Run) (left right : Run) (m : List Run) → RisesFrom 0 (a ++ ((r ∷ rs) ++ c)) → AllByRecursion (λ q. q.start + q.len < start + 1) a → start + 1 ≤ r.start + r.len → AllByRecursion (λ q. q.start < end) (r ∷ rs) → AllByRecursion (λ q. end ≤ q.start) c → IsHalved start end r (last r rs) left right → Keeps left right m → IsCut start end (a ++ ((r ∷ rs) ++ c)) (a ++ (m ++ c))
 cut_middle start end a r rs c left right m h below reaches starts above is keeps =
@@ -100,8 +102,8 @@ cut_middle start end a r rs c left right m h below reaches starts above is keeps
     record {
       canonical = rises_joined 0 a (m ++ c) parts.0 (kept_rises (next 0 a) start end r rs c left right m inner.0 behind reaches first_starts is keeps);
       cut = λ s. middle_cut a (r ∷ rs) c m s ((s < start) ⊎ (end ≤ s)) (λ bad. let lt = bad_before (start + 1) a s below bad in let l : s < start = omega arith in inl l)
-      (λ bad. inr (bad_after end c s above bad)) (λ bad. halves_bad (next 0 a) start end r rs left right s inner.0 reaches last_starts is (kept_bad left right m s keeps bad))
-      (λ bad side. lies_kept left right m s keeps (bad_halves (next 0 a) start end r rs left right s inner.0 is bad side));
+          (λ bad. inr (bad_after end c s above bad)) (λ bad. halves_bad (next 0 a) start end r rs left right s inner.0 reaches last_starts is (kept_bad left right m s keeps bad))
+          (λ bad side. lies_kept left right m s keeps (bad_halves (next 0 a) start end r rs left right s inner.0 is bad side));
     }
 
 over : (start end : ℕ) (a b c : List Run) (first final left right : Run) (m : List Run) → RisesFrom 0 (a ++ (b ++ c)) → AllByRecursion (λ r. r.start + r.len < start + 1) a → AllByRecursion (λ r. start + 1 ≤ r.start + r.len) (b ++ c) → AllByRecursion (λ r. r.start < end) b → AllByRecursion (λ r. end ≤ r.start) c → 0 < length b → first ≡ get_or b 0 first → final ≡ get_or b (length b - 1) final → IsHalved start end first final left right → Keeps left right m → IsCut start end (a ++ (b ++ c)) (a ++ (m ++ c))
@@ -137,10 +139,16 @@ cut_between start end runs i j h parted same =
     let above : AllByRecursion (λ r. end ≤ r.start) (drop i runs) = subst P (sym same) parted.above in
     record {
       canonical = h;
-      cut = λ s. (λ bad. let B : List Run → Type 0 = λ xs. IsBad xs s in (bad, elim (bad_side (take i runs) (drop i runs) s (subst B (sym (take-append-drop i runs)) bad)) [
-              | inl left ↦ let lt = bad_before (start + 1) (take i runs) s parted.below left in let l : s < start = omega arith in inl l
-              | inr right ↦ inr (bad_after end (drop i runs) s above right)
-            ]), λ old. old.0);
+      cut = λ s. (
+        λ bad. let B : List Run → Type 0 = λ xs. IsBad xs s in (
+          bad,
+          elim (bad_side (take i runs) (drop i runs) s (subst B (sym (take-append-drop i runs)) bad)) [
+            | inl left ↦ let lt = bad_before (start + 1) (take i runs) s parted.below left in let l : s < start = omega arith in inl l
+            | inr right ↦ inr (bad_after end (drop i runs) s above right)
+          ],
+        ),
+        λ old. old.0,
+      );
     }
 
 -- the same, from what the code reads and computes
@@ -153,10 +161,10 @@ cut_by_code start end runs i j first final left_len last_end right_len m h parte
     let left : Run = record { start = first.start; len = left_len } in
     let right : Run = record { start = end; len = right_len } in
     cut_across start end runs i j first final left right m h parted some is_first is_final (record {
-        left_start = refl;
-        left_len = is_left;
-        right_start = refl;
-        right_len = omega arith;
-        ordered = ordered;
-        fits = fits;
-      }) keeps
+      left_start = refl;
+      left_len = is_left;
+      right_start = refl;
+      right_len = omega arith;
+      ordered = ordered;
+      fits = fits;
+    }) keeps

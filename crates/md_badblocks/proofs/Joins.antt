@@ -22,13 +22,16 @@ apart start end a c m h below above ordered fits from to =
     let over : AllByRecursion (λ r. m.start + m.len + 1 ≤ r.start) c = rw to above in
     record {
       canonical = rises_joined 0 a (m ∷ c) parts.0 (omega arith, omega arith, omega arith, rises_higher (m.start + m.len + 1) (next 0 a) c over parts.1);
-      joined = λ s. middle_joined a [] c (m ∷ []) s ((start ≤ s) × (s < end)) (λ new. elim new [
+      joined = λ s. middle_joined a [] c (m ∷ []) s ((start ≤ s) × (s < end)) (
+        λ new. elim new [
           | inl here ↦ let lo : m.start ≤ s = here.0 in let hi : s < m.start + m.len = here.1 in inr (omega arith, omega arith)
           | inr none ↦ absurd none
-        ], λ old. elim old [
+        ],
+        λ old. elim old [
           | inl none ↦ absurd none
           | inr range ↦ let lo : start ≤ s = range.0 in let hi : s < end = range.1 in inl (omega arith, omega arith)
-        ]);
+        ],
+      );
     }
 
 joined_apart : (start end : ℕ) (runs : List Run) (i : ℕ) (m : Run) → RisesFrom 0 runs → AllByRecursion (λ r. r.start + r.len < start) (take i runs) → AllByRecursion (λ r. end + 1 ≤ r.start) (drop i runs) → start < end → end ≤ 2 ^ 54 → m.start ≡ start → m.start + m.len ≡ end → IsJoined start end runs (take i runs ++ m ∷ drop i runs)

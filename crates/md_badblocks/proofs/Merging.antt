@@ -44,34 +44,36 @@ last_of low r (q ∷ rs) h =
 
 -- no sector lies past its end
 pub bad_to_last : (low : ℕ) (r : Run) (rs : List Run) (s : ℕ) → RisesFrom low (r ∷ rs) → IsBad (r ∷ rs) s → s < last_end r rs
-bad_to_last low r [] s h bad = elim bad [ | inl here ↦ here.1 | inr none ↦ absurd none ]
+bad_to_last low r [] s h bad = elim bad [ inl here ↦ here.1 | inr none ↦ absurd none ]
 bad_to_last low r (q ∷ rs) s h bad =
     let rest = last_of (r.start + r.len + 1) q rs h.3 in
-    elim bad [ | inl here ↦ omega arith | inr later ↦ bad_to_last (r.start + r.len + 1) q rs s h.3 later ]
+    elim bad [ inl here ↦ omega arith | inr later ↦ bad_to_last (r.start + r.len + 1) q rs s h.3 later ]
 
 -- the sectors of a list whose middle is replaced by one that has Q besides
 pub middle_joined : (a b c m : List Run) (s : ℕ) (Q : Type 0) → (IsBad m s ↔ (IsBad b s ⊎ Q)) → IsBad (a ++ (m ++ c)) s ↔ (IsBad (a ++ (b ++ c)) s ⊎ Q)
-middle_joined a b c m s Q e =
-    (λ new. elim (bad_side a (m ++ c) s new) [
-        | inl left ↦ inl (bad_left a (b ++ c) s left)
-        | inr rest ↦
+middle_joined a b c m s Q e = (
+  λ new. elim (bad_side a (m ++ c) s new) [
+    | inl left ↦ inl (bad_left a (b ++ c) s left)
+    | inr rest ↦
         elim (bad_side m c s rest) [
           | inl middle ↦
-          elim (e.0 middle) [ | inl was ↦ inl (bad_right a (b ++ c) s (bad_left b c s was)) | inr q ↦ inr q ]
+              elim (e.0 middle) [ inl was ↦ inl (bad_right a (b ++ c) s (bad_left b c s was)) | inr q ↦ inr q ]
           | inr right ↦ inl (bad_right a (b ++ c) s (bad_right b c s right))
         ]
-      ], λ old. elim old [
-        | inl was ↦
+  ],
+  λ old. elim old [
+    | inl was ↦
         elim (bad_side a (b ++ c) s was) [
           | inl left ↦ bad_left a (m ++ c) s left
           | inr rest ↦
-          elim (bad_side b c s rest) [
-            | inl middle ↦ bad_right a (m ++ c) s (bad_left m c s (e.1 (inl middle)))
-            | inr right ↦ bad_right a (m ++ c) s (bad_right m c s right)
-          ]
+              elim (bad_side b c s rest) [
+                | inl middle ↦ bad_right a (m ++ c) s (bad_left m c s (e.1 (inl middle)))
+                | inr right ↦ bad_right a (m ++ c) s (bad_right m c s right)
+              ]
         ]
-        | inr q ↦ bad_right a (m ++ c) s (bad_left m c s (e.1 (inr q)))
-      ])
+    | inr q ↦ bad_right a (m ++ c) s (bad_left m c s (e.1 (inr q)))
+  ],
+)
 
 -- the run m that takes the place of those touched
 pub record IsMerged (start end : ℕ) (r : Run) (rs : List Run) (m : Run) : Type 0 where
@@ -86,7 +88,7 @@ merged_lies low start end r rs m s h is lies =
     elim (cases_lt s start) [
       | inl below ↦ let here : LiesIn s r = (omega arith, omega arith) in inl (inl here)
       | inr from ↦
-      elim (cases_lt s end) [ | inl to ↦ inr (from, to) | inr above ↦ inl (last_bad r rs s (omega arith, omega arith)) ]
+          elim (cases_lt s end) [ inl to ↦ inr (from, to) | inr above ↦ inl (last_bad r rs s (omega arith, omega arith)) ]
     ]
 
 merged_was : (low start end : ℕ) (r : Run) (rs : List Run) (m : Run) (s : ℕ) → RisesFrom low (r ∷ rs) → IsMerged start end r rs m → IsBad (r ∷ rs) s → LiesIn s m
@@ -96,12 +98,13 @@ merged_was low start end r rs m s h is bad =
     (omega arith, omega arith)
 
 pub merged_bad : (low start end : ℕ) (r : Run) (rs : List Run) (m : Run) (s : ℕ) → RisesFrom low (r ∷ rs) → IsMerged start end r rs m → IsBad (m ∷ []) s ↔ (IsBad (r ∷ rs) s ⊎ ((start ≤ s) × (s < end)))
-merged_bad low start end r rs m s h is =
-    (λ new. elim new [ | inl here ↦ merged_lies low start end r rs m s h is here | inr none ↦ absurd none ],
-      λ old. elim old [
-        | inl was ↦ inl (merged_was low start end r rs m s h is was)
-        | inr range ↦ let from : start ≤ s = range.0 in let to : s < end = range.1 in inl (omega arith, omega arith)
-      ])
+merged_bad low start end r rs m s h is = (
+  λ new. elim new [ inl here ↦ merged_lies low start end r rs m s h is here | inr none ↦ absurd none ],
+  λ old. elim old [
+    | inl was ↦ inl (merged_was low start end r rs m s h is was)
+    | inr range ↦ let from : start ≤ s = range.0 in let to : s < end = range.1 in inl (omega arith, omega arith)
+  ],
+)
 
 rises_above : (was end new : ℕ) (c : List Run) → RisesFrom (was + 1) c → AllByRecursion (λ r. end + 1 ≤ r.start) c → new ≡ max was end → RisesFrom (new + 1) c
 rises_above was end new [] h all e = tt

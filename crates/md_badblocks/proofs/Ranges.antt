@@ -11,15 +11,19 @@ use Rattle.md_badblocks.proofs.Joins.{rises_behind}
 
 -- what is left of a set without the range, where the code cuts the range at 2^54
 pub removed : (old new : List Run) (start len end : ℕ) → RisesFrom 0 old → end ≡ min (start + len) (2 ^ 54) → ((s : ℕ) → IsBad new s ↔ (IsBad old s × ((s < start) ⊎ (end ≤ s)))) → (s : ℕ) → IsBad new s ↔ (IsBad old s × ((s < start) ⊎ (start + len ≤ s)))
-removed old new start len end h is cut s =
-    (λ bad. let both = (cut s).0 bad in let low = bad_below 0 old s h both.0 in
-      (both.0, elim both.1 [ | inl below ↦ inl below | inr above ↦ inr (omega arith) ]), λ both. (cut s).1 (both.0, elim both.1 [ | inl below ↦ inl below | inr above ↦ inr (omega arith) ]))
+removed old new start len end h is cut s = (
+  λ bad. let both = (cut s).0 bad in let low = bad_below 0 old s h both.0 in
+      (both.0, elim both.1 [ inl below ↦ inl below | inr above ↦ inr (omega arith) ]),
+  λ both. (cut s).1 (both.0, elim both.1 [ inl below ↦ inl below | inr above ↦ inr (omega arith) ]),
+)
 
 -- an empty range, or one from 2^54 on
 pub none_removed : (old : List Run) (start len end : ℕ) → RisesFrom 0 old → end ≡ min (start + len) (2 ^ 54) → end ≤ start → (s : ℕ) → IsBad old s ↔ (IsBad old s × ((s < start) ⊎ (start + len ≤ s)))
-none_removed old start len end h is empty s =
-    (λ bad. let low = bad_below 0 old s h bad in
-      (bad, elim (cases_lt s start) [ | inl below ↦ inl below | inr above ↦ inr (omega arith) ]), λ both. both.0)
+none_removed old start len end h is empty s = (
+  λ bad. let low = bad_below 0 old s h bad in
+      (bad, elim (cases_lt s start) [ inl below ↦ inl below | inr above ↦ inr (omega arith) ]),
+  λ both. both.0,
+)
 
 bad_at : (runs : List Run) (k : ℕ) (d : Run) (s : ℕ) → k < length runs → LiesIn s (get_or runs k d) → IsBad runs s
 bad_at [] k d s lt lies = absurd (omega arith)
@@ -58,11 +62,11 @@ starts_before runs i run start len low end h lt before is is_low is_end meets =
     elim (bad_side (take i runs) (drop i runs) meets.0 whole) [
       | inl left ↦ absurd (not_before runs i start low meets.0 before (omega arith) from left)
       | inr right ↦
-      let e : drop i runs ≡ run ∷ drop (i + 1) runs = drop_more runs i run lt ∙ ap (λ r. r ∷ drop (i + 1) runs) (sym is) in
-      let behind : RisesFrom 0 (run ∷ drop (i + 1) runs) = subst (RisesFrom 0) e (rises_behind runs i h) in
-      let here : IsBad (run ∷ drop (i + 1) runs) meets.0 = subst B e right in
-      let first = bad_from run.start (run ∷ drop (i + 1) runs) meets.0 (omega arith, behind.1, behind.2, behind.3) here in
-      omega arith
+          let e : drop i runs ≡ run ∷ drop (i + 1) runs = drop_more runs i run lt ∙ ap (λ r. r ∷ drop (i + 1) runs) (sym is) in
+          let behind : RisesFrom 0 (run ∷ drop (i + 1) runs) = subst (RisesFrom 0) e (rises_behind runs i h) in
+          let here : IsBad (run ∷ drop (i + 1) runs) meets.0 = subst B e right in
+          let first = bad_from run.start (run ∷ drop (i + 1) runs) meets.0 (omega arith, behind.1, behind.2, behind.3) here in
+          omega arith
     ]
 
 pub met_none : (runs : List Run) (i : ℕ) (start len low : ℕ) → length runs ≤ i → AllByRecursion (λ r. r.start + r.len < low) (take i runs) → low ≡ min (start + 1) (2 ^ 64 - 1) → Meets runs start len → ⊥

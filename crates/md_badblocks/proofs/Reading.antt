@@ -23,7 +23,7 @@ read_none shift bytes =
     let all : length bytes / 8 - 0 ≡ length bytes / 8 = omega arith in
     record {
       canonical = tt;
-      named = λ s. rw all (λ bad. elim bad [ | inl none ↦ absurd none | inr named ↦ named ], λ named. inr named);
+      named = λ s. rw all (λ bad. elim bad [ inl none ↦ absurd none | inr named ↦ named ], λ named. inr named);
     }
 
 named_from-next : (shift : ℕ) (bytes : List ℕ) (i n : ℕ) → i < n → named_from shift bytes i (n - i) ≡ map (run_of shift) (cond (eqb (number_at 8 (8 * i) bytes) all_ones) [] (number_at 8 (8 * i) bytes ∷ before_first (λ e. eqb e all_ones) (map (λ k. number_at 8 (8 * k) bytes) (range_with_len (i + 1) (n - (i + 1))))))
@@ -37,10 +37,13 @@ done : (shift : ℕ) (bytes : List ℕ) (place : ℕ) (runs : List Run) → name
 done shift bytes place runs none read =
     record {
       canonical = read.canonical;
-      named = λ s. (λ bad. (read.named s).0 (inl bad), λ named. elim ((read.named s).1 named) [
+      named = λ s. (
+        λ bad. (read.named s).0 (inl bad),
+        λ named. elim ((read.named s).1 named) [
           | inl bad ↦ bad
           | inr later ↦ let B : List Run → Type 0 = λ xs. IsBad xs s in absurd (subst B none later.0)
-        ]);
+        ],
+      );
     }
 
 pub read_ended : (shift : ℕ) (bytes : List ℕ) (place : ℕ) (runs : List Run) → place < length bytes / 8 → number_at 8 (8 * place) bytes ≡ all_ones → IsReadTo shift bytes place runs → IsReadAs shift bytes runs
@@ -63,16 +66,19 @@ read_more shift bytes place entry run old new lt is_entry other is_run canonical
     ∙ ap (λ r. r ∷ named_from shift bytes (place + 1) (length bytes / 8 - (place + 1))) (sym (is_run ∙ ap (λ e. run_of shift e) is_entry)) in
     record {
       canonical = canonical;
-      named = λ s. let B : List Run → Type 0 = λ xs. IsBad xs s in (λ bad. (read.named s).0 (elim bad [
-              | inl now ↦
-              elim ((joined s).0 now) [ | inl was ↦ inl was | inr range ↦ inr (subst B (sym next) (inl (range.0, range.1)), range.2) ]
-              | inr later ↦ inr (subst B (sym next) (inr later.0), later.1)
-            ]), λ named. elim ((read.named s).1 named) [
-            | inl was ↦ inl ((joined s).1 (inl was))
-            | inr later ↦
-            elim (subst B next later.0) [
-              | inl here ↦ inl ((joined s).1 (inr (here.0, here.1, later.1)))
-              | inr behind ↦ inr (behind, later.1)
-            ]
-          ]);
+      named = λ s. let B : List Run → Type 0 = λ xs. IsBad xs s in (
+        λ bad. (read.named s).0 (elim bad [
+          | inl now ↦
+              elim ((joined s).0 now) [ inl was ↦ inl was | inr range ↦ inr (subst B (sym next) (inl (range.0, range.1)), range.2) ]
+          | inr later ↦ inr (subst B (sym next) (inr later.0), later.1)
+        ]),
+        λ named. elim ((read.named s).1 named) [
+          | inl was ↦ inl ((joined s).1 (inl was))
+          | inr later ↦
+              elim (subst B next later.0) [
+                | inl here ↦ inl ((joined s).1 (inr (here.0, here.1, later.1)))
+                | inr behind ↦ inr (behind, later.1)
+              ]
+        ],
+      );
     }

@@ -34,28 +34,28 @@ next_below low limit (r ∷ rs) le all = let h : r.start + r.len < limit = all.0
 pub bad_from : (low : ℕ) (runs : List Run) (s : ℕ) → RisesFrom low runs → IsBad runs s → low ≤ s
 bad_from low [] s h bad = absurd bad
 bad_from low (r ∷ rs) s h bad =
-    elim bad [ | inl here ↦ omega arith | inr later ↦ omega (arith, bad_from (r.start + r.len + 1) rs s h.3 later) ]
+    elim bad [ inl here ↦ omega arith | inr later ↦ omega (arith, bad_from (r.start + r.len + 1) rs s h.3 later) ]
 
 pub bad_below : (low : ℕ) (runs : List Run) (s : ℕ) → RisesFrom low runs → IsBad runs s → s < 2 ^ 54
 bad_below low [] s h bad = absurd bad
 bad_below low (r ∷ rs) s h bad =
-    elim bad [ | inl here ↦ omega arith | inr later ↦ bad_below (r.start + r.len + 1) rs s h.3 later ]
+    elim bad [ inl here ↦ omega arith | inr later ↦ bad_below (r.start + r.len + 1) rs s h.3 later ]
 
 pub bad_before : (limit : ℕ) (runs : List Run) (s : ℕ) → AllByRecursion (λ r. r.start + r.len < limit) runs → IsBad runs s → s + 1 < limit
 bad_before limit [] s all bad = absurd bad
 bad_before limit (r ∷ rs) s all bad =
     let h : r.start + r.len < limit = all.0 in
-    elim bad [ | inl here ↦ omega arith | inr later ↦ bad_before limit rs s all.1 later ]
+    elim bad [ inl here ↦ omega arith | inr later ↦ bad_before limit rs s all.1 later ]
 
 pub bad_after : (low : ℕ) (runs : List Run) (s : ℕ) → AllByRecursion (λ r. low ≤ r.start) runs → IsBad runs s → low ≤ s
 bad_after low [] s all bad = absurd bad
 bad_after low (r ∷ rs) s all bad =
     let h : low ≤ r.start = all.0 in
-    elim bad [ | inl here ↦ omega arith | inr later ↦ bad_after low rs s all.1 later ]
+    elim bad [ inl here ↦ omega arith | inr later ↦ bad_after low rs s all.1 later ]
 
 pub bad_left : (a b : List Run) (s : ℕ) → IsBad a s → IsBad (a ++ b) s
 bad_left [] b s bad = absurd bad
-bad_left (r ∷ a) b s bad = elim bad [ | inl here ↦ inl here | inr later ↦ inr (bad_left a b s later) ]
+bad_left (r ∷ a) b s bad = elim bad [ inl here ↦ inl here | inr later ↦ inr (bad_left a b s later) ]
 
 pub bad_right : (a b : List Run) (s : ℕ) → IsBad b s → IsBad (a ++ b) s
 bad_right [] b s bad = bad
@@ -66,7 +66,7 @@ bad_side [] b s bad = inr bad
 bad_side (r ∷ a) b s bad =
     elim bad [
       | inl here ↦ inl (inl here)
-      | inr later ↦ elim (bad_side a b s later) [ | inl left ↦ inl (inr left) | inr right ↦ inr right ]
+      | inr later ↦ elim (bad_side a b s later) [ inl left ↦ inl (inr left) | inr right ↦ inr right ]
     ]
 
 -- the runs by their places

@@ -24,8 +24,8 @@ end_within : (la lb : ℕ) (r q : Run) (a b : List Run) → RisesFrom la (r ∷ 
 end_within la lb r q a b ha hb same to =
     elim (cases_lt (r.start + r.len) (q.start + q.len)) [
       | inl past ↦
-      let lies : LiesIn (r.start + r.len) q = (omega arith, past) in
-      absurd (end_out la r a ha (to (r.start + r.len) (inl lies)))
+          let lies : LiesIn (r.start + r.len) q = (omega arith, past) in
+          absurd (end_out la r a ha (to (r.start + r.len) (inl lies)))
       | inr within ↦ within
     ]
 
@@ -33,7 +33,7 @@ end_within la lb r q a b ha hb same to =
 later_only : (la lb : ℕ) (r q : Run) (a b : List Run) → RisesFrom la (r ∷ a) → RisesFrom lb (q ∷ b) → r.start + r.len ≡ q.start + q.len → ((s : ℕ) → IsBad (r ∷ a) s → IsBad (q ∷ b) s) → (s : ℕ) → IsBad a s → IsBad b s
 later_only la lb r q a b ha hb same to s bad =
     let from = bad_from (r.start + r.len + 1) a s ha.3 bad in
-    elim (to s (inr bad)) [ | inl here ↦ absurd (omega arith) | inr later ↦ later ]
+    elim (to s (inr bad)) [ inl here ↦ absurd (omega arith) | inr later ↦ later ]
 
 run_same : (r q : Run) → r.start ≡ q.start → r.len ≡ q.len → r ≡ q
 run_same r q start len =

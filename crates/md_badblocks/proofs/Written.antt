@@ -120,9 +120,9 @@ pieces_bad run a zero s bad = absurd bad
 pieces_bad run a (suc n) s bad =
     elim bad [
       | inl here ↦
-      let from : ((run.start + 512 * a) * 1024 + min 512 (run.len - 512 * a)) / 1024 * 1 ≤ s = here.0 in
-      let to : s < ((run.start + 512 * a) * 1024 + min 512 (run.len - 512 * a)) / 1024 * 1 + ((run.start + 512 * a) * 1024 + min 512 (run.len - 512 * a)) % 1024 * 1 = here.1 in
-      (omega arith, omega arith, omega arith)
+          let from : ((run.start + 512 * a) * 1024 + min 512 (run.len - 512 * a)) / 1024 * 1 ≤ s = here.0 in
+          let to : s < ((run.start + 512 * a) * 1024 + min 512 (run.len - 512 * a)) / 1024 * 1 + ((run.start + 512 * a) * 1024 + min 512 (run.len - 512 * a)) % 1024 * 1 = here.1 in
+          (omega arith, omega arith, omega arith)
       | inr later ↦ let rest = pieces_bad run (a + 1) n s later in (omega arith, rest.1, omega arith)
     ]
 

@@ -1,6 +1,6 @@
--- The bad block log of a member, as md_p.h and badblocks.h have it: u64 entries, little-endian, each a
--- sector in the top 54 bits (BB_OFFSET) and a length in the low 10 (BB_LEN), both in units of 2^bblog_shift
--- sectors.
+-- The bad block log of a member, as md.c has it (super_1_load, super_1_sync): u64 entries, little-endian, each a
+-- sector in the top 54 bits and a length in the low 10, both in units of 2^bblog_shift sectors; all ones end the list.
+-- An entry that is written has at most 512 sectors (BB_MAX_LEN of badblocks.h).
 use Rattle.std.specs.Prelude.{ℕ, ◌≡◌, ◌+◌, ◌-◌, ◌*◌, ◌/◌, ◌%◌, ◌^◌, ◌<◌, ◌==◌, ◌↔◌, List, ◌++◌, length, map, min, replicate}
 use Rattle.std.specs.List.{range_with_len, before_first, flat_map}
 use Rattle.byteorder.specs.Endian.{little_bytes}
@@ -24,7 +24,7 @@ run_of shift entry = record { start = entry / 1024 * 2 ^ shift; len = entry % 10
 abbrev pub named_runs : ℕ → List ℕ → List Run
 named_runs shift bytes = map (run_of shift) (before_first (λ entry. entry == all_ones) (entries_in bytes))
 
--- what a log is read as: the maximal runs of the sectors below 2^54 that it names
+-- what a log is read as: the maximal runs of the sectors below 2^54 that it names. The rest of its sectors are dropped
 pub record IsReadAs (shift : ℕ) (bytes : List ℕ) (runs : List Run) : Type 0 where
   pub canonical : IsCanonical runs
   pub named : (sector : ℕ) → IsBad runs sector ↔ (IsBad (named_runs shift bytes) sector × (sector < 2 ^ 54))

@@ -13,7 +13,7 @@ const LIMIT: u64 = 1 << 54;
 /// The most sectors that one entry of the log names.
 pub(crate) const ENTRY_SECTORS: u64 = 512;
 
-/// Sectors below 2^54, seen by contracts as the rising list of their maximal runs.
+/// A set of sectors below 2^54, seen by contracts as the rising list of its maximal runs.
 #[derive(Debug, Drop)]
 pub struct BadSet {
     runs: Vec<Run>,
@@ -41,6 +41,7 @@ impl BadSet {
         }
     }
 
+    /// Whether no sector is bad.
     pub fn is_empty(&self) -> bool
         ensures { IsTrue result ↔ (self.now ≡ []) }
     {
@@ -52,7 +53,7 @@ impl BadSet {
         ensures runs { result.now ≡ self.now }
         ensures canonical { IsCanonical self.now }
     {
-        &self.runs
+        self.runs.as_slice()
     }
 
     /// Whether one of the `len` sectors from `start` on is bad.
@@ -79,7 +80,7 @@ impl BadSet {
     pub fn add(&mut self, start: u64, len: u64) -> Result<(), AllocError>
         ensures ok { OnOk result ((sector : ℕ) → IsBad self.new sector
             ↔ (IsBad self.old sector
-                ⊎ ((start ≤ sector) × (sector < start + len) × (sector < 2 ^ 54)))) }
+            ⊎ ((start ≤ sector) × (sector < start + len) × (sector < 2 ^ 54)))) }
         ensures err { OnErr result (self.new ≡ self.old) }
         ensures canonical { IsCanonical self.new }
     {
@@ -109,7 +110,5 @@ fn count_entries(runs: &[Run]) -> u64
     requires { entries_needed runs.now < 2 ^ 64 }
     ensures { result ≡ entries_needed runs.now }
 {
-    runs.iter()
-        .map(|run| run.len.div_ceil(ENTRY_SECTORS))
-        .sum()
+    runs.iter().map(|run| run.len.div_ceil(ENTRY_SECTORS)).sum()
 }

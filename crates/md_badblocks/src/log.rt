@@ -49,7 +49,8 @@ pub struct LogFull {
 }
 
 impl BadSet {
-    /// Reads a log whose entries are in units of `2^shift` sectors.
+    /// Reads a log whose entries are in units of `2^shift` sectors, up to an entry of all ones or the
+    /// end. Bytes past the last whole entry are ignored.
     pub fn from_log(alloc: Global, bytes: &[u8], shift: u8) -> Result<Self, LogFault>
         ensures shift { IsErrOf result LogFault.Shift ↔ (9 < shift) }
         ensures ok { IfOk result (λ set. IsReadAs shift bytes.now set) }
@@ -216,9 +217,33 @@ mod tests {
         };
         assert_eq!(rt; set.to_log(&mut log), Err(full));
         assert_eq!(rt; log[0], 7);
-        assert_eq!(rt; format!(in rt.alloc(); "{full}")?.as_str(), "LogFull 513 512");
+        assert_eq!(rt;
+            format!(in rt.alloc(); "{full}")?.as_str(),
+            "LogFull 513 512"
+        );
         set.remove(0, 1)?;
         assert_eq!(rt; set.to_log(&mut log), Ok(()));
+        Ok(())
+    }
+
+    #[test]
+    fn adds_and_removes(rt: HostRuntime) -> Result<(), Fail> {
+        let run = |start, len| Run { start, len };
+        let mut set = BadSet::new(rt.alloc());
+        set.add(10, 5)?;
+        set.add(20, 5)?;
+        set.add(15, 5)?;
+        assert_eq!(rt; set.runs(), [run(10, 15)].as_slice());
+        set.remove(12, 2)?;
+        assert_eq!(rt; set.runs(), [run(10, 2), run(14, 11)].as_slice());
+        set.add(40, 1)?;
+        set.remove(11, 10)?;
+        assert_eq!(rt; set.runs(), [run(10, 1), run(21, 4), run(40, 1)].as_slice());
+        set.add(u64::MAX, u64::MAX)?;
+        set.add(1 << 54, 8)?;
+        set.add((1 << 54) - 1, u64::MAX)?;
+        set.remove(0, 41)?;
+        assert_eq!(rt; set.runs(), [run((1 << 54) - 1, 1)].as_slice());
         Ok(())
     }
 
@@ -231,7 +256,7 @@ mod tests {
         assert!(rt; matches!(&shifted, Err(LogFault::Shift)));
 
         // the entry of the highest sector, at the greatest shift
-        let high = read(rt.alloc(), &[u64::MAX - 1, (1 << 55) - 1, 8], 9)?;
+        let high = read(rt.alloc(), &[u64::MAX - 1, (1 << 55) - 1, 1024], 9)?;
         let run = Run {
             start: ((1 << 45) - 1) << 9,
             len: 512,
