@@ -1,12 +1,12 @@
 -- A range of sectors joined to a rising list, by places in it.
-use Rattle.std.proofs.Common.{◌≡◌, ℕ, suc, ◌+◌, ◌-◌, ◌^◌, ◌<◌, ◌≤◌, ◌⊎◌, ◌↔◌, inl, inr, min, max, List, [], ◌∷◌, ◌++◌, length, get_or, take, drop, refl, ap, ◌∙◌, sym, subst, arith}
+use Rattle.std.proofs.Common.{◌≡◌, ℕ, suc, ◌+◌, ◌-◌, ◌^◌, ◌<◌, ◌≤◌, inl, inr, min, max, List, [], ◌∷◌, ◌++◌, length, get_or, take, drop, ap, ◌∙◌, sym, subst, arith}
 use Rattle.std.specs.List.{AllByRecursion}
 use Rattle.std.proofs.lemmas.List.{take-append-drop, get_or-take, get_or-drop, length-take-le, length-drop, drop-drop}
 use Rattle.md_badblocks.specs.declared.run.Run.{Run}
-use Rattle.md_badblocks.specs.Runs.{LiesIn, IsBad, RisesFrom}
+use Rattle.md_badblocks.specs.Runs.{RisesFrom}
 use Rattle.md_badblocks.specs.Edits.{IsParted, IsJoined}
 use Rattle.md_badblocks.proofs.Rising.{rises_weaker, rises_higher, next, rises_parts, rises_joined, next_below}
-use Rattle.md_badblocks.proofs.Merging.{all_last, last, last_end, get_or-last, IsMerged, merged_bad, merged_rises, middle_joined}
+use Rattle.md_badblocks.proofs.Merging.{all_last, last, get_or-last, IsMerged, merged_bad, merged_rises, middle_joined}
 
 -- the runs from a place on rise as well
 pub rises_behind : (runs : List Run) (i : ℕ) → RisesFrom 0 runs → RisesFrom 0 (drop i runs)

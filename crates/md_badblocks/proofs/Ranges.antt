@@ -1,12 +1,12 @@
 -- Ranges of sectors that a caller names, against a rising list.
-use Rattle.std.proofs.Common.{◌≡◌, ℕ, zero, suc, ◌+◌, ◌-◌, ◌/◌, ◌^◌, ◌<◌, ◌≤◌, ◌⊎◌, ◌↔◌, inl, inr, min, max, Bool, true, ltb, IsTrue, List, [], ◌∷◌, ◌++◌, length, get_or, take, drop, sum_by, ap, ◌∙◌, sym, subst, arith}
+use Rattle.std.proofs.Common.{◌≡◌, ℕ, zero, suc, ◌+◌, ◌-◌, ◌/◌, ◌^◌, ◌<◌, ◌≤◌, ◌⊎◌, ◌↔◌, inl, inr, min, max, List, [], ◌∷◌, ◌++◌, length, get_or, take, drop, ap, ◌∙◌, sym, subst, arith}
 use Rattle.std.specs.List.{AllByRecursion}
-use Rattle.std.proofs.lemmas.Bool.{cases_lt, ltb-true, lt-ltb}
+use Rattle.std.proofs.lemmas.Bool.{cases_lt}
 use Rattle.std.proofs.lemmas.List.{take-append-drop, take_all, drop_more}
 use Rattle.std.proofs.lemmas.List.Sums.{sum_by-cons}
 use Rattle.md_badblocks.specs.declared.run.Run.{Run}
 use Rattle.md_badblocks.specs.Runs.{LiesIn, IsBad, RisesFrom, entry_count, entries_needed}
-use Rattle.md_badblocks.proofs.Rising.{rises_parts, next, bad_from, bad_below, bad_before, bad_side, read_fits, read_some}
+use Rattle.md_badblocks.proofs.Rising.{bad_from, bad_below, bad_before, bad_side, read_fits, read_some}
 use Rattle.md_badblocks.proofs.Joins.{rises_behind}
 
 -- what is left of a set without the range, where the code cuts the range at 2^54

@@ -2,7 +2,7 @@
 use Rattle.std.proofs.Common.{◌≡◌, ℕ, zero, suc, ◌+◌, ◌^◌, ◌<◌, ◌≤◌, ◌⊎◌, inl, inr, List, [], ◌∷◌, ◌++◌, length, get_or, sym, subst, arith}
 use Rattle.std.specs.List.{AllByRecursion}
 use Rattle.md_badblocks.specs.declared.run.Run.{Run}
-use Rattle.md_badblocks.specs.Runs.{LiesIn, IsBad, RisesFrom}
+use Rattle.md_badblocks.specs.Runs.{IsBad, RisesFrom}
 
 pub rises_weaker : (a b : ℕ) (runs : List Run) → a ≤ b → RisesFrom b runs → RisesFrom a runs
 rises_weaker a b [] le h = tt

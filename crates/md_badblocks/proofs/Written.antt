@@ -1,17 +1,15 @@
 -- What the log that is written holds, and what it is read as.
-use Rattle.std.proofs.Common.{◌≡◌, ◌≢◌, ℕ, zero, suc, ◌+◌, ◌-◌, ◌*◌, ◌/◌, ◌%◌, ◌^◌, ◌<◌, ◌≤◌, ◌⊎◌, ◌↔◌, inl, inr, min, Bool, true, false, cond, not, eqb, List, [], ◌∷◌, ◌++◌, length, map, take, drop, replicate, slice_index, refl, sym, subst, ap, ◌∙◌, arith}
+use Rattle.std.proofs.Common.{◌≡◌, ℕ, zero, suc, ◌+◌, ◌-◌, ◌*◌, ◌/◌, ◌%◌, ◌^◌, ◌<◌, ◌≤◌, inl, inr, min, Bool, true, false, cond, not, eqb, List, [], ◌∷◌, ◌++◌, length, map, take, drop, replicate, slice_index, refl, sym, subst, ap, ◌∙◌, arith}
 use Rattle.std.specs.List.{AllByRecursion, range_with_len, flat_map, before_first, prefix_len}
-use Rattle.std.proofs.lemmas.Bool.{cases_lt, ne_eqb, eqb-true, eqb-false}
-use Rattle.std.proofs.lemmas.List.{append-nil, drop_all, take_all, length-drop, length-take-le, length-append, length-replicate, get_or-append-add, map-append}
-use Rattle.std.proofs.lemmas.List.FromFn.{length-map-range_with_len}
-use Rattle.std.proofs.lemmas.List.Sums.{sum_by-cons}
+use Rattle.std.proofs.lemmas.Bool.{cases_lt, ne_eqb}
+use Rattle.std.proofs.lemmas.List.{append-nil, drop_all, take_all, length-drop, length-take-le, get_or-append-add, map-append}
 use Rattle.std.proofs.lemmas.Grind.{flat_map-append}
 use borrow.Rule.Slice.PartMut.{put_mid}
 use Rattle.byteorder.specs.Endian.{little_bytes, little_from}
 use Rattle.byteorder.specs.Numbers.{little_number-reads_back}
 use Rattle.md_format.specs.Fields.{number_at}
 use Rattle.md_badblocks.specs.declared.run.Run.{Run}
-use Rattle.md_badblocks.specs.Runs.{LiesIn, IsBad, RisesFrom, entry_count, entries_needed}
+use Rattle.md_badblocks.specs.Runs.{IsBad, RisesFrom, entry_count, entries_needed}
 use Rattle.md_badblocks.specs.Log.{all_ones, entries_in, run_of, named_runs, IsReadAs, entry_at, entries_of, log_bytes}
 use Rattle.md_badblocks.proofs.Rising.{bad_below, bad_left, bad_right, bad_side}
 use Rattle.md_badblocks.proofs.Entries.{length-bytes, bytes-ones}

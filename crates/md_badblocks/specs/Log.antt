@@ -1,7 +1,7 @@
 -- The bad block log of a member, as md.c has it (super_1_load, super_1_sync): u64 entries, little-endian, each a
 -- sector in the top 54 bits and a length in the low 10, both in units of 2^bblog_shift sectors; all ones end the list.
 -- An entry that is written has at most 512 sectors (BB_MAX_LEN of badblocks.h).
-use Rattle.std.specs.Prelude.{ℕ, ◌≡◌, ◌+◌, ◌-◌, ◌*◌, ◌/◌, ◌%◌, ◌^◌, ◌<◌, ◌==◌, ◌↔◌, List, ◌++◌, length, map, min, replicate}
+use Rattle.std.specs.Prelude.{ℕ, ◌+◌, ◌-◌, ◌*◌, ◌/◌, ◌%◌, ◌^◌, ◌<◌, ◌==◌, ◌↔◌, List, ◌++◌, length, map, min, replicate}
 use Rattle.std.specs.List.{range_with_len, before_first, flat_map}
 use Rattle.byteorder.specs.Endian.{little_bytes}
 use Rattle.md_format.specs.Fields.{number_at}

@@ -1,5 +1,4 @@
-use Rattle.std.proofs.Common.{Bool, ltb, true, false, rules}
-use Rattle.std.specs.List.Sorted.{IsPartitionPoint}
+use Rattle.std.proofs.Common.{Bool, ltb, rules}
 use Rattle.std.proofs.lemmas.List.Sorted.{IsPartitionPoint-from_clause}
 use Rattle.md_badblocks.specs.declared.run.Run.{Run}
 use Rattle.md_badblocks.proofs.Searches.{starts_are_parted, starts_before, starts_after}

@@ -1,4 +1,4 @@
-use Rattle.std.proofs.Common.{◌≡◌, ◌+◌, ◌-◌, List, get_or, subst, refl, arith, rules}
+use Rattle.std.proofs.Common.{◌+◌, ◌-◌, List, subst, refl, arith}
 use Rattle.md_badblocks.specs.declared.run.Run.{Run}
 use Rattle.md_badblocks.specs.Edits.{IsParted}
 use Rattle.md_badblocks.proofs.Rising.{read_fits}

@@ -1,6 +1,5 @@
-use Rattle.std.proofs.Common.{◌≡◌, ℕ, ◌+◌, ◌*◌, ◌/◌, ◌%◌, ◌^◌, ◌<◌, ap, ◌∙◌, arith, bit_and}
+use Rattle.std.proofs.Common.{◌≡◌, ◌/◌, ◌%◌, arith, bit_and}
 use Rattle.std.proofs.lemmas.Nat.{and_mask}
-use Rattle.md_badblocks.specs.declared.run.Run.{Run}
 use Rattle.md_badblocks.proofs.Entries.{shifted}
 use Rattle.md_badblocks.proofs.log.run_of.Goals as goal
 

@@ -1,4 +1,4 @@
-use Rattle.std.proofs.Common.{◌+◌, ◌*◌, ◌/◌, ◌≤◌, length, take, ◌∙◌, sym, arith}
+use Rattle.std.proofs.Common.{◌/◌, length, arith}
 use Rattle.std.proofs.lemmas.List.Sums.{sum_by-take-le}
 use Rattle.md_badblocks.specs.Runs.{entry_count}
 use Rattle.md_badblocks.proofs.Rising.{run_fits}

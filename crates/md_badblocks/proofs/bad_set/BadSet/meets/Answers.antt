@@ -1,8 +1,7 @@
-use Rattle.std.proofs.Common.{◌≡◌, ◌+◌, ◌<◌, ◌≤◌, List, length, take, drop, subst, ap, ◌∙◌, arith}
+use Rattle.std.proofs.Common.{◌+◌, ◌<◌, ◌≤◌, List, take, drop, subst, arith}
 use Rattle.std.specs.List.{AllByRecursion}
 use Rattle.std.proofs.lemmas.Bool.{lt-ltb, ltb-true}
 use Rattle.md_badblocks.specs.declared.run.Run.{Run}
-use Rattle.md_badblocks.specs.Runs.{IsCanonical}
 use Rattle.md_badblocks.proofs.Ranges.{met, starts_before, met_none}
 use Rattle.md_badblocks.proofs.bad_set.BadSet.meets.Goals as goal
 

@@ -1,4 +1,4 @@
-use Rattle.std.proofs.Common.{subst, sym, arith}
+use Rattle.std.proofs.Common.{subst, arith}
 use Rattle.md_badblocks.specs.Runs.{IsCanonical}
 use Rattle.md_badblocks.proofs.Ranges.{removed, none_removed}
 use Rattle.md_badblocks.proofs.bad_set.BadSet.remove.Goals as goal

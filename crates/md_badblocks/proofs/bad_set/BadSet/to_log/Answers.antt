@@ -1,6 +1,4 @@
-use Rattle.std.proofs.Common.{◌/◌, length, ◌∙◌, ap}
-use Rattle.md_badblocks.specs.Runs.{IsCanonical}
-use Rattle.md_badblocks.specs.Log.{IsReadAs, log_bytes}
+use Rattle.std.proofs.Common.{◌/◌, length}
 use Rattle.md_badblocks.proofs.Written.{log_read}
 use Rattle.md_badblocks.proofs.Unique.{read_alone}
 use Rattle.md_badblocks.proofs.bad_set.BadSet.to_log.Goals as goal
