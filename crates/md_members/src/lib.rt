@@ -2,7 +2,10 @@
 #![tactic(auto)]
 
 mod area;
+mod bitmap;
 mod fault;
 mod placing;
+mod reading;
 
 pub use fault::MemberFault;
+pub use reading::read_super;
