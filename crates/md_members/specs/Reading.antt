@@ -17,8 +17,11 @@ use Rattle.md_bitmap.specs.Faults.{Stands, place, NoneStands}
 use Rattle.md_bitmap.specs.Sound.{chunk_count}
 use Rattle.md_bitmap.specs.Marks.{Bitmap}
 use Rattle.md_members.specs.declared.fault.MemberFault.{MemberFault}
-use Rattle.md_members.specs.declared.fault.MemberFault.TheVariants.{TooShort, ReadFault, Super, Region, Bitmap as BitmapRefused, NoMemory}
+use Rattle.md_members.specs.declared.fault.MemberFault.TheVariants.{TooShort, ReadFault, Super, Region, Bitmap as BitmapRefused, Log, NoMemory}
 use Rattle.md_members.specs.Areas.{IsPlaced, bitmap_sectors}
+use Rattle.md_badblocks.specs.declared.run.Run.{Run}
+use Rattle.md_badblocks.specs.declared.log.LogFault.TheVariants as log_fault
+use Rattle.md_badblocks.specs.Log.{IsReadAs}
 
 -- n bytes that were read at a sector: those of the content, where the device is honest
 pub record IsRead (content : List ℕ) (honest : Bool) (sector n : ℕ) (bytes : List ℕ) : Type 0 where
@@ -121,3 +124,25 @@ RefusesBitmap content honest Failed sectors v _ = ⊥
 abbrev pub GivesBitmap : List ℕ → Bool → Type 0 → ℕ → Superblock → Result (BitmapHeader × Bitmap) MemberFault → Type 0
 GivesBitmap content honest Failed sectors v result =
     MatchResult result (λ b. ReadsBitmap content honest sectors v b.0 b.1) (RefusesBitmap content honest Failed sectors v)
+
+-- the sector where the log starts
+abbrev pub LogStartsAt : Superblock → ℕ → Type 0
+LogStartsAt v sector = pos sector ≡ pos 8 +ℤ v.bblog_offset
+
+-- the bad set in the log's area
+pub record ReadsLog (content : List ℕ) (honest : Bool) (v : Superblock) (bad : List Run) : Type 0 where
+  pub start : ℕ
+  pub at : LogStartsAt v start
+  pub area : List ℕ
+  pub read : IsRead content honest start (512 * v.bblog_size) area
+  pub set : IsReadAs v.bblog_shift area bad
+
+-- why the log of a member, where its area fits the device, is not read
+abbrev pub RefusesLog : Bool → Type 0 → Superblock → MemberFault → Type 0
+RefusesLog honest Failed v ReadFault = honest ≡ true → Failed
+RefusesLog honest Failed v (Log f) = (f ≡ log_fault.Shift) × (9 < v.bblog_shift)
+RefusesLog honest Failed v NoMemory = v.bblog_shift ≤ 9
+RefusesLog honest Failed v _ = ⊥
+
+abbrev pub GivesLog : List ℕ → Bool → Type 0 → Superblock → Result (List Run) MemberFault → Type 0
+GivesLog content honest Failed v result = MatchResult result (ReadsLog content honest v) (RefusesLog honest Failed v)

@@ -4,6 +4,7 @@
 mod area;
 mod bitmap;
 mod fault;
+mod log;
 mod placing;
 mod reading;
 

@@ -17,6 +17,6 @@ returns-in-Ok-from_bytes-clause-reads g c =
       };
       chunks_are = c.in-Ok-from_bytes.ensures.chunks;
       bits = c.in-Ok-from_bytes.ensures.bytes
-        ∙ take_all (length c.deref.result.now - 256) (drop 256 c.deref.result.now) (omega (arith, length-drop 256 c.deref.result.now))
-        ∙ ap (drop 256) area;
+          ∙ take_all (length c.deref.result.now - 256) (drop 256 c.deref.result.now) (omega (arith, length-drop 256 c.deref.result.now))
+          ∙ ap (drop 256) area;
     }
