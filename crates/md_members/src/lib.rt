@@ -4,9 +4,13 @@
 mod area;
 mod bitmap;
 mod fault;
+mod info;
 mod log;
+mod member;
 mod placing;
 mod reading;
 
 pub use fault::MemberFault;
+pub use info::MemberInfo;
+pub use member::{accepted, read_member};
 pub use reading::read_super;
