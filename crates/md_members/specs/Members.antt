@@ -1,6 +1,6 @@
 -- What reading a whole member gives (super_1_load and the bitmap's reading in the kernel's md driver; the limits and the
 -- order of refusals are this project's own).
-use Rattle.std.specs.Prelude.{◌≡◌, ◌⊎◌, ℕ, ◌+◌, ◌*◌, ◌/◌, ◌<◌, ◌&&◌, ◌||◌, ◌==◌, Bool, true, false, List, [], length, Option, Some, None, Result, MatchResult}
+use Rattle.std.specs.Prelude.{◌≡◌, ◌⊎◌, ℕ, ◌+◌, ◌*◌, ◌/◌, ◌&&◌, Bool, true, false, List, [], length, Option, Some, None, Result, MatchResult}
 use Rattle.md_super.specs.declared.superblock.Superblock.{Superblock}
 use Rattle.md_super.specs.Log.{has_bad_block_log}
 use Rattle.md_bitmap.specs.declared.header.BitmapHeader.{BitmapHeader}
