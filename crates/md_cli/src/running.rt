@@ -2,9 +2,10 @@
 ghost use Rattle.std.specs.Prelude.{◌≡◌, ◌≢◌, ◌⊎◌, ℕ, List, [], ◌∷◌, length, map};
 ghost use Rattle.clap.specs.Words.{fault_of};
 ghost use Rattle.md_cli.specs.Words.{mdcli, image_words};
-ghost use Rattle.md_cli.specs.Running.{DoesCommand};
+ghost use Rattle.md_cli.specs.Running.{DoesCommand, status_of};
 
 use crate::examining::examine_images;
+use crate::fault::CommandFault;
 use crate::images::Images;
 use crate::parsing::parse;
 use md_examine::Sink;
@@ -37,7 +38,14 @@ pub fn run<'a, I: Images, S: Sink, E: Write>(
             return 2;
         }
     };
-    match examine_images(alloc, images, names.as_slice(), out) {
+    answer(examine_images(alloc, images, names.as_slice(), out), err)
+}
+
+// The status of a command that was done or refused. A refusal is said on `err`.
+fn answer<E: Write>(outcome: Result<(), CommandFault>, err: &mut E) -> u8
+    ensures { result ≡ status_of outcome }
+{
+    match outcome {
         Ok(()) => 0,
         Err(fault) => {
             let _ = writeln!(err, "mdcli: {fault}");
