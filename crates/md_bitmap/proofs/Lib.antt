@@ -1,0 +1,5 @@
+pub mod Limits
+pub mod Accepted
+pub mod Encoded
+pub mod Bits
+pub mod Padded

@@ -1,0 +1,5 @@
+pub mod Sound
+pub mod Header
+pub mod Faults
+pub mod Chunks
+pub mod Marks

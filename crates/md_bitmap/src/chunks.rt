@@ -1,0 +1,51 @@
+// The chunks of an array.
+ghost use Rattle.std.specs.Prelude.{◌≡◌, ◌+◌, ◌*◌, ◌/◌, ◌<◌, ◌≤◌, ◌↔◌, min, ℕ};
+ghost use Rattle.std.specs.Int.{div_ceil};
+ghost use Rattle.md_bitmap.specs.Sound.{IsSound, chunk_count};
+ghost use Rattle.md_bitmap.specs.Chunks.{IsChunking, InChunk};
+
+use crate::header::SECTOR_BYTES;
+
+/// An array of `size` sectors, cut into chunks of `sectors` sectors. The last may be shorter.
+#[derive(Clone, Copy, Debug, PartialEq, Eq)]
+pub struct Chunks {
+    pub sectors: u32,
+    pub size: u64,
+    pub ghost chunking: { IsChunking sectors size },
+}
+
+impl Chunks {
+    /// The chunks of an array of `size` sectors, where the bitmap's chunks have `chunksize` bytes.
+    pub fn new(size: u64, chunksize: u32) -> Chunks
+        requires { IsSound size chunksize }
+        ensures sectors { result.sectors ≡ chunksize / 512 }
+        ensures size { result.size ≡ size }
+        ensures count { div_ceil result.size result.sectors ≡ chunk_count size chunksize }
+    {
+        Chunks {
+            sectors: chunksize / SECTOR_BYTES as u32,
+            size,
+        }
+    }
+
+    /// How many chunks there are.
+    pub fn count(&self) -> u32
+        ensures count { result ≡ div_ceil self.now.size self.now.sectors }
+        ensures covers { (sector : ℕ) → sector < self.now.size → sector / self.now.sectors < result }
+    {
+        self.size.div_ceil(u64::from(self.sectors)) as u32
+    }
+
+    /// Where a chunk starts, and how many sectors it has.
+    pub fn range(&self, chunk: u32) -> (u64, u64)
+        requires { chunk < div_ceil self.now.size self.now.sectors }
+        ensures start { result.0 ≡ chunk * self.now.sectors }
+        ensures end { result.0 + result.1 ≡ min ((chunk + 1) * self.now.sectors) self.now.size }
+        ensures some { 0 < result.1 }
+        ensures sectors { (sector : ℕ) → InChunk self.now.sectors self.now.size chunk sector ↔ ((result.0 ≤ sector) × (sector < result.0 + result.1)) }
+    {
+        let sectors = u64::from(self.sectors);
+        let start = u64::from(chunk) * sectors;
+        (start, sectors.min(self.size - start))
+    }
+}

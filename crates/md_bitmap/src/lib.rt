@@ -1,0 +1,16 @@
+//! The write-intent bitmap of an md array: its header, its chunks, and which of them are marked.
+#![tactic(auto)]
+
+mod chunks;
+mod fault;
+mod header;
+mod marks;
+mod words;
+
+pub use chunks::Chunks;
+pub use fault::BitmapFault;
+pub use header::{BitmapHeader, HEADER_BYTES, MAX_CHUNKS, has_few_chunks, is_chunk_size};
+pub use marks::{BLOCK_BYTES, Marks};
+
+#[cfg(test)]
+mod tests;
