@@ -1,0 +1,10 @@
+pub mod Rising
+pub mod Merging
+pub mod Joins
+pub mod Cuts
+pub mod Ranges
+pub mod Entries
+pub mod Written
+pub mod Reading
+pub mod Unique
+pub mod Searches
