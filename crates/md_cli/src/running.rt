@@ -15,7 +15,8 @@ use std::io::Write;
 /// Does what the words ask for; the first is the program's name. The status is 0 where it is done,
 /// 1 where it is refused and 2 where the words are not taken, or ask for help.
 ///
-/// Words that the parser takes are done, but for want of memory in the parse: that is status 2 too.
+/// Want of memory in the parse is status 2 too. That it is answered only then is tested, since no
+/// clause can tell whether memory was there.
 ///
 /// A refusal's line goes to `err`, as `mdcli: BadImage 0`; the parser's text goes there too. No
 /// clause speaks of what is written to `err`, nor of whether that can be written.
