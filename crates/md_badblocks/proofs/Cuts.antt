@@ -119,7 +119,6 @@ over start end a (r ∷ rs) c first final left right m h below reach starts abov
 pub cut_across : (start end : ℕ) (runs : List Run) (i j : ℕ) (first final left right : Run) (m : List Run) → RisesFrom 0 runs → IsParted (start + 1) end runs i j → i < j → first ≡ get_or runs i first → final ≡ get_or runs (j - 1) final → IsHalved start end first final left right → Keeps left right m → IsCut start end runs (take i runs ++ (m ++ drop j runs))
 cut_across start end runs i j first final left right m h parted lt is_first is_final is keeps =
     let within : j ≤ length runs = parted.within in
-    let k = j - i in
     let place : i + (j - i) ≡ j = omega arith in
     let count : length (take (j - i) (drop i runs)) ≡ j - i = length-take-le (j - i) (drop i runs) (omega (arith, length-drop i runs)) in
     let inner : take (j - i) (drop i runs) ++ drop (j - i) (drop i runs) ≡ drop i runs = take-append-drop (j - i) (drop i runs) in

@@ -19,7 +19,6 @@ shifted x shift small le =
 -- an entry written over the front of what lies behind place a
 pub front_written : (a k n : ℕ) (xs ys bytes rest : List ℕ) → ys ≡ bytes ++ rest → a ≤ length xs → length bytes ≡ 8 → n ≡ a + 8 → take n (put_mid a k xs ys) ≡ take a xs ++ bytes
 front_written a k n xs ys bytes rest e le eight is =
-    let post = drop k (drop a xs) in
     let count = length-append (take a xs) bytes in
     let short = length-take-le a xs le in
     let same : take a xs ++ ((bytes ++ rest) ++ drop k (drop a xs)) ≡ (take a xs ++ bytes) ++ (rest ++ drop k (drop a xs)) = ap (λ zs. take a xs ++ zs) (append_assoc bytes rest (drop k (drop a xs))) ∙ sym (append_assoc (take a xs) bytes (rest ++ drop k (drop a xs))) in

@@ -61,7 +61,6 @@ over start end a (r ∷ rs) c first final m h below reach touched above ordered 
 
 joined_over : (start end : ℕ) (runs : List Run) (i k : ℕ) (first final m : Run) → RisesFrom 0 runs → i + k ≤ length runs → 0 < k → AllByRecursion (λ r. r.start + r.len < start) (take i runs) → AllByRecursion (λ r. start ≤ r.start + r.len) (drop i runs) → AllByRecursion (λ r. r.start < end + 1) (take k (drop i runs)) → AllByRecursion (λ r. end + 1 ≤ r.start) (drop k (drop i runs)) → start < end → end ≤ 2 ^ 54 → first ≡ get_or runs i first → final ≡ get_or runs (i + k - 1) final → m.start ≡ min first.start start → m.start + m.len ≡ max (final.start + final.len) end → IsJoined start end runs (take i runs ++ m ∷ drop (i + k) runs)
 joined_over start end runs i k first final m h within some below reach touched above ordered fits is_first is_final from to =
-    let rest = drop i runs in
     let count : length (take k (drop i runs)) ≡ k = length-take-le k (drop i runs) (omega (arith, length-drop i runs)) in
     let inner : take k (drop i runs) ++ drop k (drop i runs) ≡ drop i runs = take-append-drop k (drop i runs) in
     let whole : take i runs ++ (take k (drop i runs) ++ drop k (drop i runs)) ≡ runs = ap (λ xs. take i runs ++ xs) inner ∙ take-append-drop i runs in

@@ -42,7 +42,6 @@ met runs i run start len low end h lt after is some is_low is_end before =
     let P : Run → Type 0 = λ r. low ≤ r.start + r.len in
     let all : AllByRecursion (λ r. low ≤ r.start + r.len) (get_or runs i run ∷ drop (i + 1) runs) = subst (AllByRecursion (λ r. low ≤ r.start + r.len)) (drop_more runs i run lt) after in
     let reaches : low ≤ run.start + run.len = subst P (sym is) all.0 in
-    let s = max run.start start in
     let L : Run → Type 0 = λ r. LiesIn (max run.start start) r in
     let lies : LiesIn (max run.start start) run = (omega arith, omega arith) in
     (max run.start start, bad_at runs i run (max run.start start) lt (subst L is lies), omega arith, omega arith)
@@ -53,7 +52,6 @@ not_before runs i start low s before le from bad =
 
 pub starts_before : (runs : List Run) (i : ℕ) (run : Run) (start len low end : ℕ) → RisesFrom 0 runs → i < length runs → AllByRecursion (λ r. r.start + r.len < low) (take i runs) → run ≡ get_or runs i run → low ≡ min (start + 1) (2 ^ 64 - 1) → end ≡ min (start + len) (2 ^ 64 - 1) → Meets runs start len → run.start < end
 starts_before runs i run start len low end h lt before is is_low is_end meets =
-    let s = meets.0 in
     let B : List Run → Type 0 = λ xs. IsBad xs meets.0 in
     let whole : IsBad (take i runs ++ drop i runs) meets.0 = subst B (sym (take-append-drop i runs)) meets.1 in
     let limit = bad_below 0 runs meets.0 h meets.1 in

@@ -58,8 +58,6 @@ read_all shift bytes place runs le read =
 
 pub read_more : (shift : ℕ) (bytes : List ℕ) (place : ℕ) (entry : ℕ) (run : Run) (old new : List Run) → place < length bytes / 8 → entry ≡ number_at 8 (8 * place) bytes → entry ≢ all_ones → run ≡ run_of shift entry → IsCanonical new → ((s : ℕ) → IsBad new s ↔ (IsBad old s ⊎ ((run.start ≤ s) × (s < run.start + run.len) × (s < 2 ^ 54)))) → IsReadTo shift bytes place old → IsReadTo shift bytes (place + 1) new
 read_more shift bytes place entry run old new lt is_entry other is_run canonical joined read =
-    let count = length bytes / 8 in
-    let rest = named_from shift bytes (place + 1) (length bytes / 8 - (place + 1)) in
     let test : eqb (number_at 8 (8 * place) bytes) all_ones ≡ false = ne_eqb (number_at 8 (8 * place) bytes) all_ones (λ ones. other (is_entry ∙ ones)) in
     let next : named_from shift bytes place (length bytes / 8 - place) ≡ run ∷ named_from shift bytes (place + 1) (length bytes / 8 - (place + 1)) = named_from-next shift bytes place (length bytes / 8) lt
     ∙ ap (λ b. map (run_of shift) (cond b [] (number_at 8 (8 * place) bytes ∷ before_first (λ e. eqb e all_ones) (map (λ k. number_at 8 (8 * k) bytes) (range_with_len (place + 1) (length bytes / 8 - (place + 1))))))) test

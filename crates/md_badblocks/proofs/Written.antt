@@ -23,7 +23,6 @@ log_written runs buf tail place index room needed front all whole within filled 
     let same : take index runs ≡ runs = take_all index runs all in
     let count : place ≡ entries_needed runs = needed ∙ ap (λ xs. entries_needed xs) same in
     let many : length (take (length buf - 8 * place) (drop (8 * place) buf)) ≡ 8 * (room - entries_needed runs) = omega arith in
-    let entries = flat_map entries_of runs in
     let ones : tail ≡ flat_map (little_bytes 8) (replicate (room - entries_needed runs) all_ones) = filled ∙ ap (λ n. replicate n 255) many ∙ sym (bytes-ones (room - entries_needed runs)) in
     let left : take (8 * place) buf ≡ flat_map (little_bytes 8) (flat_map entries_of runs) = front ∙ ap (λ xs. flat_map (little_bytes 8) (flat_map entries_of xs)) same in
     ap (λ xs. take (8 * place) buf ++ (tail ++ xs)) none
@@ -58,7 +57,6 @@ map_next f g same a (suc n) = rw (same a, map_next f g same (a + 1) n) refl
 numbers_back : (es : List ℕ) → AllByRecursion (λ e. e < 2 ^ 64) es → map (λ i. number_at 8 (8 * i) (flat_map (little_bytes 8) es)) (range_with_len 0 (length es)) ≡ es
 numbers_back [] all = refl
 numbers_back (e ∷ es) all =
-    let rest = flat_map (little_bytes 8) es in
     let first = number_first e (flat_map (little_bytes 8) es) all.0 in
     let later = map_next (λ i. number_at 8 (8 * i) (little_bytes 8 e ++ flat_map (little_bytes 8) es)) (λ i. number_at 8 (8 * i) (flat_map (little_bytes 8) es)) (λ i. number_behind (little_bytes 8 e) (flat_map (little_bytes 8) es) i refl) 0 (length es) in
     ap (λ x. x ∷ map (λ i. number_at 8 (8 * i) (little_bytes 8 e ++ flat_map (little_bytes 8) es)) (range_with_len 1 (length es))) first
@@ -73,7 +71,6 @@ entries_in-bytes es all =
 -- the list ends at the first entry of all ones
 pub before_first-cons : (p : ℕ → Bool) (e : ℕ) (es : List ℕ) → before_first p (e ∷ es) ≡ cond (p e) [] (e ∷ before_first p es)
 before_first-cons p e es =
-    let count = prefix_len (λ x. not (p x)) es in
     let one : 1 + prefix_len (λ x. not (p x)) es ≡ suc (prefix_len (λ x. not (p x)) es) = omega arith in
     elim (p e) as (λ b. take (cond (not b) (1 + prefix_len (λ x. not (p x)) es) 0) (e ∷ es) ≡ cond b [] (e ∷ take (prefix_len (λ x. not (p x)) es) es)) [
       | true ↦ refl

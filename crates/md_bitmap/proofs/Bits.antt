@@ -1,18 +1,18 @@
 -- The bits of a list of bytes, one by one and in words of 64.
-use Rattle.std.proofs.Common.{◌≡◌, ℕ, zero, suc, ◌+◌, ◌-◌, ◌*◌, ◌/◌, ◌%◌, ◌^◌, ◌<◌, ◌≤◌, Bool, true, false, cond, eqb, ltb, not, ◌&&◌, ◌||◌, bit_and, bit_or, set, List, [], ◌∷◌, ◌++◌, length, replicate, slice_index, count_by, refl, sym, ap, ◌∙◌, inl, inr, arith}
+use Rattle.std.proofs.Common.{◌≡◌, ℕ, zero, suc, ◌+◌, ◌-◌, ◌*◌, ◌/◌, ◌%◌, ◌^◌, ◌<◌, ◌≤◌, Bool, true, false, cond, eqb, ltb, not, ◌&&◌, ◌||◌, bit_and, bit_or, set, List, [], ◌∷◌, ◌++◌, length, drop, replicate, slice_index, count_by, refl, sym, ap, ◌∙◌, inl, inr, arith}
 use Rattle.std.proofs.Math.Nat.{mod-lt}
 use Rattle.std.proofs.lemmas.Nat.{mod-pow-add, ones-le, one_shl, ones_cat, pow_pos, shr-shr, shr_le}
 use Rattle.std.proofs.lemmas.Nat.Bits.{bit_at-lt, bit_at_cat_low, bit_at-trailing_zeros, bit_at-zero, bit_at_above, bit_at_ones, bit_at_ones_above, bit_at_cat_high, bit_at_clear_other, bit_at_clear_same, bit_at_set_other, bit_at_set_same}
 use Rattle.std.proofs.lemmas.Bool.{cases_eq, cases_lt, eq-eqb, le-ltb, lt-ltb, ne_eqb}
-use Rattle.std.proofs.lemmas.List.{get_or-replicate, get_or-set_other, get_or-set_same, get_or_past, length-replicate}
+use Rattle.std.proofs.lemmas.List.{get_or-append_right, get_or-drop, get_or-replicate, get_or-set_other, get_or-set_same, get_or_past, length-replicate}
 use Rattle.std.proofs.lemmas.List.Sums.{sum_by_push}
 use Rattle.std.specs.Int.{bit_at, div_ceil, trailing_zeros, w8, w64}
 use Rattle.std.specs.Int.Count.{ones, ones_step}
 use Rattle.std.specs.List.{range_with_len}
 use Rattle.byteorder.specs.Endian.{little_from}
 use Rattle.md_format.specs.Fields.{number_at}
-use Rattle.md_bitmap.proofs.Padded.{zero_at}
-use Rattle.md_bitmap.specs.Marks.{IsNextSet, NoneSet, is_set, count_set}
+use Rattle.md_bitmap.proofs.Padded.{slice_index-padded, zero_at}
+use Rattle.md_bitmap.specs.Marks.{IsNextSet, NoneSet, is_set, count_set, padded}
 
 -- ---- words
 -- a bit of the number in n bytes is a bit of one of them
@@ -304,3 +304,20 @@ is_set-all_but_rest n m i e some =
             | inr past ↦ byte ∙ past_bytes m i past ∙ sym (le-ltb i n (omega arith))
           ]
     ]
+
+-- ---- the bits of a sector
+same_bit : (xs ys : List ℕ) (i j : ℕ) → slice_index xs (i / 8) ≡ slice_index ys (j / 8) → i % 8 ≡ j % 8 → is_set xs i ≡ is_set ys j
+unfolding is_set
+same_bit xs ys i j byte bit = rw (byte, bit) refl
+
+pub is_set-later_sector : (bytes : List ℕ) (i j : ℕ) → 0 < i → j < 4096 → is_set (padded 512 (drop (512 * i - 256) bytes)) j ≡ is_set bytes (4096 * i + j - 2048)
+is_set-later_sector bytes i j later h =
+    let place : 512 * i - 256 + j / 8 ≡ (4096 * i + j - 2048) / 8 = omega arith in
+    let byte = slice_index-padded 512 (drop (512 * i - 256) bytes) (j / 8) (omega arith) ∙ get_or-drop (512 * i - 256) bytes (j / 8) 0 in
+    same_bit (padded 512 (drop (512 * i - 256) bytes)) bytes j (4096 * i + j - 2048) (rw place at byte) (omega arith)
+
+pub is_set-first_sector : (front bytes : List ℕ) (j : ℕ) → length front ≡ 256 → 2048 ≤ j → j < 4096 → is_set (front ++ padded 256 bytes) j ≡ is_set bytes (j - 2048)
+is_set-first_sector front bytes j long from h =
+    let place : j / 8 - 256 ≡ (j - 2048) / 8 = omega arith in
+    let byte = get_or-append_right front (padded 256 bytes) 256 (j / 8) 0 long (omega arith) ∙ slice_index-padded 256 bytes (j / 8 - 256) (omega arith) in
+    same_bit (front ++ padded 256 bytes) bytes j (j - 2048) (rw place at byte) (omega arith)

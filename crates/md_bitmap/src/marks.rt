@@ -1,5 +1,5 @@
 // Which chunks are marked.
-ghost use Rattle.std.specs.Prelude.{◌≡◌, ◌-◌, ◌*◌, ◌<◌, ◌≤◌, ◌==◌, ◌||◌, ◌&&◌, ◌++◌, ℕ, not, nat_lt, IfOk, IfSome, IfNone, false, length, drop};
+ghost use Rattle.std.specs.Prelude.{◌≡◌, ◌+◌, ◌-◌, ◌*◌, ◌<◌, ◌≤◌, ◌==◌, ◌||◌, ◌&&◌, ◌++◌, ℕ, not, nat_lt, IfOk, IfSome, IfNone, false, length, drop};
 ghost use Rattle.md_bitmap.specs.Marks.{IsMarked, IsNextMarked, is_set, count_set, padded};
 ghost use Rattle.md_bitmap.specs.Header.{header_bytes};
 
@@ -115,10 +115,12 @@ impl Marks {
         next_below(&self.bits, from, self.chunks)
     }
 
-    /// Sector `i` of the bitmap's area: the header's bytes, and behind them the bits.
+    /// Sector `i` of the bitmap's area: the header's bytes, and behind them the bits. So bit `j` of
+    /// this sector stands for chunk `4096 * i + j - 2048`.
     pub fn block(&self, header: &BitmapHeader, i: u32) -> [u8; 512]
         ensures first { i ≡ 0 → result ≡ header_bytes header.now ++ padded 256 self.now.bytes }
         ensures later { 0 < i → result ≡ padded 512 (drop (512 * i - 256) self.now.bytes) }
+        ensures bits { (j : ℕ) → j < 4096 → 2048 ≤ 4096 * i + j → is_set result j ≡ is_set self.now.bytes (4096 * i + j - 2048) }
     {
         let mut block = [0; BLOCK_BYTES];
         if i == 0 {

@@ -1,4 +1,6 @@
 pub mod Examining
+pub mod MemImages
+pub mod MemPlaces
 pub mod Reading
 pub mod Running
 pub mod Words

@@ -4,10 +4,12 @@
 mod examining;
 mod fault;
 mod images;
+mod memory_images;
 mod parsing;
 mod reading;
 mod running;
 
 pub use fault::{CommandFault, MemberFault};
 pub use images::Images;
+pub use memory_images::MemImages;
 pub use running::run;

@@ -2,9 +2,10 @@
 ghost use Rattle.std.specs.Prelude.{◌≡◌, ◌≢◌, ◌⊎◌, ℕ, List, [], ◌∷◌, length, map};
 ghost use Rattle.clap.specs.Words.{fault_of};
 ghost use Rattle.md_cli.specs.Words.{mdcli, image_words};
-ghost use Rattle.md_cli.specs.Running.{DoesCommand};
+ghost use Rattle.md_cli.specs.Running.{DoesCommand, status_of};
 
 use crate::examining::examine_images;
+use crate::fault::CommandFault;
 use crate::images::Images;
 use crate::parsing::parse;
 use md_examine::Sink;
@@ -14,7 +15,8 @@ use std::io::Write;
 /// Does what the words ask for; the first is the program's name. The status is 0 where it is done,
 /// 1 where it is refused and 2 where the words are not taken, or ask for help.
 ///
-/// Words that the parser takes are done, but for want of memory in the parse: that is status 2 too.
+/// Want of memory in the parse is status 2 too. That it is answered only then is tested, since no
+/// clause can tell whether memory was there.
 ///
 /// A refusal's line goes to `err`, as `mdcli: BadImage 0`; the parser's text goes there too. No
 /// clause speaks of what is written to `err`, nor of whether that can be written.
@@ -37,7 +39,14 @@ pub fn run<'a, I: Images, S: Sink, E: Write>(
             return 2;
         }
     };
-    match examine_images(alloc, images, names.as_slice(), out) {
+    answer(examine_images(alloc, images, names.as_slice(), out), err)
+}
+
+// The status of a command that was done or refused. A refusal is said on `err`.
+fn answer<E: Write>(outcome: Result<(), CommandFault>, err: &mut E) -> u8
+    ensures { result ≡ status_of outcome }
+{
+    match outcome {
         Ok(()) => 0,
         Err(fault) => {
             let _ = writeln!(err, "mdcli: {fault}");

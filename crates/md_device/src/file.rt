@@ -35,9 +35,9 @@ pub enum ImageFault {
 /// number of sectors.
 ///
 /// Nothing is known of a file: no clause says which bytes a read gives, what a write leaves, or when
-/// either fails. So it is a device that is not honest, and zeros stand for its content. What `open`,
-/// `read` and `write` do to the file is tested, and that a write waits for stable storage is neither
-/// proved nor tested: it asks the system for that before it answers `Ok`.
+/// either fails. So it is a device that is not honest, and zeros stand for its content. What they
+/// do to a regular file that does not fail is tested. That a write waits for stable storage is
+/// neither proved nor tested: it asks the system for that before it answers `Ok`.
 ///
 /// While it is open the file is locked against other openings, and dropping it ends the lock.
 #[derive(Drop)]

@@ -95,7 +95,7 @@ fn file_is_locked_while_open(rt: HostRuntime) -> Result<(), Fail> {
     Ok(())
 }
 
-// A user who may write every file opens it for writing, so only its size is looked at.
+// A user who may write every file opens it for writing, so only what is read of it is looked at.
 #[test]
 fn file_without_leave_to_write_is_opened(rt: HostRuntime) -> Result<(), Fail> {
     let path = path_of(&rt, "read_only")?;

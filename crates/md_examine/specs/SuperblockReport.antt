@@ -1,4 +1,4 @@
--- The report of a superblock, as text: 24 lines of the field's terms, as `mdadm --examine` has them, in a form of this
+-- The report of a superblock, as text: 24 lines in the terms of `mdadm --examine` where it has one, in a form of this
 -- project's own.
 use Rattle.std.specs.Prelude.{ℕ, ◌*◌, ◌-◌, ◌%◌, ◌^◌, ◌==◌, nat_lt, if◌then◌else◌, List, ◌++◌, map, codes, decimal, slice_index_or, bit_and}
 use Rattle.std.specs.List.{range_with_len, list_any}

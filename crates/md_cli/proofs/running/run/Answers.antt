@@ -3,22 +3,10 @@ use Rattle.std.proofs.lemmas.List.{length-map}
 use Rattle.std.specs.Borrow.{Bor}
 use Rattle.clap.specs.Words.{Text}
 use Rattle.md_cli.specs.Words.{image_words}
-use Rattle.md_cli.specs.Running.{status_of}
 use Rattle.md_cli.proofs.running.run.Goals as goal
 
 abbrev texts : List (Bor Text) → List Text
 texts = map (λ s. s.now)
-
-pub returns-in-Ok-examine_images-clause-taken : goal.returns-in-Ok-examine_images-clause-taken
-returns-in-Ok-examine_images-clause-taken g c taken =
-    let names_are : texts c.as_slice.result.now ≡ image_words (texts c.args.words.now) = ap texts c.as_slice.ensures.value ∙ c.in-Ok.ensures.ok in
-    let many : length (image_words (texts c.args.words.now)) ≡ length c.as_slice.result.now = ap length (sym names_are) ∙ length-map c.as_slice.result.now (λ s. s.now) in
-    inr (record {
-      result = c.examine_images.result;
-      status_is = ap status_of (sym c.in-Ok-examine_images.is);
-      count = λ n. (c.examine_images.ensures.count (λ e. n (many ∙ e))).0;
-      one = λ name e. c.examine_images.ensures.one name (names_are ∙ e);
-    })
 
 pub returns-clause-taken : goal.returns-clause-taken
 returns-clause-taken g c taken =
@@ -26,7 +14,7 @@ returns-clause-taken g c taken =
     let many : length (image_words (texts c.args.words.now)) ≡ length c.as_slice.result.now = ap length (sym names_are) ∙ length-map c.as_slice.result.now (λ s. s.now) in
     inr (record {
       result = c.examine_images.result;
-      status_is = ap status_of (sym c.in-Err-examine_images.is);
+      status_is = c.answer.ensures;
       count = λ n. (c.examine_images.ensures.count (λ e. n (many ∙ e))).0;
       one = λ name e. c.examine_images.ensures.one name (names_are ∙ e);
     })

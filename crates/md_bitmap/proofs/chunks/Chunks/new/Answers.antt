@@ -1,4 +1,4 @@
-use Rattle.std.proofs.Common.{◌≡◌, ◌≤◌, arith}
+use Rattle.std.proofs.Common.{arith}
 use Rattle.md_bitmap.proofs.Limits.{div_ceil-sectors}
 use Rattle.md_bitmap.proofs.chunks.Chunks.new.Goals as goal
 

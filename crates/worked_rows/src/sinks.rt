@@ -1,5 +1,5 @@
 // A sink over a writer that fails.
-use crate::{Output, Sink, SinkFault};
+use md_examine::{Output, Sink, SinkFault};
 use std::test::Fail;
 
 #[test]
