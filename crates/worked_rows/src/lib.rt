@@ -2,6 +2,8 @@
 #![tactic(auto)]
 
 #[cfg(test)]
+mod bitmap_and_log_reports;
+#[cfg(test)]
 mod commands;
 #[cfg(test)]
 mod examine_report;
