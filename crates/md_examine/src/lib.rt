@@ -8,6 +8,3 @@ mod values;
 
 pub use sink::{Output, Sink, SinkFault};
 pub use superblock_report::examine;
-
-#[cfg(test)]
-mod tests;

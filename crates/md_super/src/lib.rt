@@ -15,6 +15,3 @@ pub use superblock::{
     FEATURE_BAD_BLOCKS, FEATURE_BITMAP_OFFSET, FEATURE_RECOVERY_OFFSET, LEVEL, MAGIC,
     MAJOR_VERSION, MAX_RAID_DISKS, SUPER_SECTOR, Superblock,
 };
-
-#[cfg(test)]
-mod tests;

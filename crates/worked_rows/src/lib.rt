@@ -1,0 +1,15 @@
+//! Worked examples whose values come from outside the program, in tests that cross crates.
+#![tactic(auto)]
+
+#[cfg(test)]
+mod commands;
+#[cfg(test)]
+mod examine_report;
+#[cfg(test)]
+mod fault_texts;
+#[cfg(test)]
+mod sinks;
+#[cfg(test)]
+mod superblocks;
+#[cfg(test)]
+mod vault;
