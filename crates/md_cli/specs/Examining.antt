@@ -1,24 +1,44 @@
--- What the command `examine` gives.
+-- What the commands that show one image give.
 use Rattle.std.specs.Prelude.{◌≡◌, ◌≢◌, ◌⊎◌, ℕ, ◌<◌, Bool, true, List, Option, Some, None, Result, Err, MatchResult}
-use Rattle.md_super.specs.declared.superblock.Superblock.{Superblock}
+use Rattle.md_super.specs.declared.superblock.Superblock.{Superblock as SuperblockValue}
+use Rattle.md_bitmap.specs.declared.header.BitmapHeader.{BitmapHeader}
+use Rattle.md_bitmap.specs.Marks.{Bitmap as BitmapValue}
+use Rattle.md_members.specs.declared.info.MemberInfo.{MemberInfo}
+use Rattle.md_members.specs.Reading.{ReadsSuper, RefusesSuper}
+use Rattle.md_members.specs.Members.{IsMember, RefusesMember}
 use Rattle.md_examine.specs.Sink.{Puts}
 use Rattle.md_examine.specs.SuperblockReport.{examine_text}
+use Rattle.md_examine.specs.BitmapReport.{bitmap_report}
+use Rattle.md_examine.specs.BadblocksReport.{badblocks_report}
+use Rattle.md_cli.specs.declared.report.Report.{Report}
+use Rattle.md_cli.specs.declared.report.Report.TheVariants.{Superblock, Bitmap, BadBlocks}
 use Rattle.md_cli.specs.declared.fault.CommandFault.{CommandFault}
-use Rattle.md_cli.specs.declared.fault.CommandFault.TheVariants.{BadCount, BadImage, Member, OutputFault}
-use Rattle.md_cli.specs.Reading.{ReadsAs, Refuses}
+use Rattle.md_cli.specs.declared.fault.CommandFault.TheVariants.{BadImage, Member, NoBitmap, OutputFault}
 
--- a refusal of the device, before which nothing is written, or an output that failed while a superblock was shown
-abbrev pub RefusesOrFails : {S : Type 0} → (S → Option (List ℕ)) → (S → Bool) → S → S → List ℕ → Bool → Type 0 → CommandFault → Type 0
-RefusesOrFails contents failed old new content honest Failed (Member f) = (new ≡ old) × Refuses content honest Failed f
-RefusesOrFails contents failed old new content honest Failed OutputFault = (failed new ≡ true) × (v : Superblock) × ReadsAs content honest v
-RefusesOrFails contents failed old new content honest Failed BadCount = ⊥
-RefusesOrFails contents failed old new content honest Failed (BadImage i) = ⊥
+-- the text that a device of this content is shown by
+abbrev pub ShownBy : Report → List ℕ → Bool → List ℕ → Type 0
+ShownBy Superblock content honest text = (v : SuperblockValue) × ReadsSuper content honest v × (text ≡ examine_text v)
+ShownBy Bitmap content honest text = (info : MemberInfo) × (h : BitmapHeader) × (m : BitmapValue) × IsMember content honest info × (info.header ≡ Some h) × (info.marks ≡ Some m) × (text ≡ bitmap_report h m)
+ShownBy BadBlocks content honest text = (info : MemberInfo) × IsMember content honest info × (text ≡ badblocks_report info.bad)
 
--- what the command gives on a device of this content, where `Failed` says that a call on it failed
-abbrev pub Examines : {S : Type 0} → (S → Option (List ℕ)) → (S → Bool) → S → S → List ℕ → Bool → Type 0 → Result (Unit {0}) CommandFault → Type 0
-Examines contents failed old new content honest Failed result =
-    MatchResult result (λ _. (v : Superblock) × ReadsAs content honest v × Puts contents failed old new (examine_text v))
-    (RefusesOrFails contents failed old new content honest Failed)
+-- why it is not shown, where `Failed` says that a call on the device failed
+abbrev pub RefusedBy : Report → List ℕ → Bool → Type 0 → CommandFault → Type 0
+RefusedBy Superblock content honest Failed (Member f) = RefusesSuper content honest Failed f
+RefusedBy Bitmap content honest Failed (Member f) = RefusesMember content honest Failed f
+RefusedBy Bitmap content honest Failed NoBitmap = (info : MemberInfo) × IsMember content honest info × ((info.header ≡ None) ⊎ (info.marks ≡ None))
+RefusedBy BadBlocks content honest Failed (Member f) = RefusesMember content honest Failed f
+RefusedBy _ content honest Failed _ = ⊥
+
+-- a refusal, before which nothing is written, or an output that failed while a report was written
+abbrev pub RefusesOrFails : {S : Type 0} → Report → (S → Bool) → S → S → List ℕ → Bool → Type 0 → CommandFault → Type 0
+RefusesOrFails report failed old new content honest Failed OutputFault = (failed new ≡ true) × (text : List ℕ) × ShownBy report content honest text
+RefusesOrFails report failed old new content honest Failed fault = (new ≡ old) × RefusedBy report content honest Failed fault
+
+-- what a command gives on a device of this content
+abbrev pub Examines : {S : Type 0} → Report → (S → Option (List ℕ)) → (S → Bool) → S → S → List ℕ → Bool → Type 0 → Result (Unit {0}) CommandFault → Type 0
+Examines report contents failed old new content honest Failed result =
+    MatchResult result (λ _. (text : List ℕ) × ShownBy report content honest text × Puts contents failed old new text)
+    (RefusesOrFails report failed old new content honest Failed)
 
 -- every other name has the device that it had
 abbrev pub OthersStay : {D : Type 0} → (List ℕ → Option D) → (List ℕ → Option D) → List ℕ → Type 0
@@ -26,7 +46,7 @@ OthersStay old new name = (other : List ℕ) → other ≢ name → new other �
 
 -- the one image's device is taken out, read and put back. Where it is known which devices there are, it is the one under
 -- the name.
-pub record ExaminesDevice {D S : Type 0} (content : D → List ℕ) (honest : D → Bool) (failures : D → ℕ) (contents : S → Option (List ℕ)) (failed : S → Bool) (known : Bool) (before after : List ℕ → Option D) (name : List ℕ) (old new : S) (result : Result (Unit {0}) CommandFault) : Type 0 where
+pub record ExaminesDevice {D S : Type 0} (report : Report) (content : D → List ℕ) (honest : D → Bool) (failures : D → ℕ) (contents : S → Option (List ℕ)) (failed : S → Bool) (known : Bool) (before after : List ℕ → Option D) (name : List ℕ) (old new : S) (result : Result (Unit {0}) CommandFault) : Type 0 where
   pub taken : D
   pub given : D
   pub was : known ≡ true → before name ≡ Some taken
@@ -34,7 +54,7 @@ pub record ExaminesDevice {D S : Type 0} (content : D → List ℕ) (honest : D 
   pub others : known ≡ true → OthersStay before after name
   pub kept : content given ≡ content taken
   pub stays_honest : honest given ≡ honest taken
-  pub gives : Examines contents failed old new (content taken) (honest taken) (failures taken < failures given) result
+  pub gives : Examines report contents failed old new (content taken) (honest taken) (failures taken < failures given) result
 
 -- the image can't be opened
 pub record RefusesImage {D S : Type 0} (known : Bool) (before after : List ℕ → Option D) (name : List ℕ) (old new : S) (result : Result (Unit {0}) CommandFault) : Type 0 where
@@ -44,7 +64,7 @@ pub record RefusesImage {D S : Type 0} (known : Bool) (before after : List ℕ �
   pub others : known ≡ true → OthersStay before after name
   pub unwritten : new ≡ old
 
-abbrev pub ExaminesOne : {D S : Type 0} → (D → List ℕ) → (D → Bool) → (D → ℕ) → (S → Option (List ℕ)) → (S → Bool) → Bool → (List ℕ → Option D) → (List ℕ → Option D) → List ℕ → S → S → Result (Unit {0}) CommandFault → Type 0
-ExaminesOne content honest failures contents failed known before after name old new result =
-    ExaminesDevice content honest failures contents failed known before after name old new result
+abbrev pub ExaminesOne : {D S : Type 0} → Report → (D → List ℕ) → (D → Bool) → (D → ℕ) → (S → Option (List ℕ)) → (S → Bool) → Bool → (List ℕ → Option D) → (List ℕ → Option D) → List ℕ → S → S → Result (Unit {0}) CommandFault → Type 0
+ExaminesOne report content honest failures contents failed known before after name old new result =
+    ExaminesDevice report content honest failures contents failed known before after name old new result
     ⊎ RefusesImage known before after name old new result

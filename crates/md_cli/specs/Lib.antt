@@ -1,11 +1,8 @@
 pub mod Examining
 pub mod MemImages
 pub mod MemPlaces
-pub mod Reading
 pub mod Running
 pub mod Words
-pub use Rattle.md_super.specs.Faults
-pub use Rattle.md_super.specs.Format
 pub use Rattle.md_examine.specs.Sink
 pub use Rattle.md_examine.specs.SuperblockReport
 pub use Rattle.clap.specs.Words as ClapWords

@@ -1,23 +1,25 @@
-// The command `examine`.
+// The commands that show a report on one image.
 ghost use Rattle.std.specs.Prelude.{◌≡◌, ◌≢◌, ◌<◌, ℕ, Err, List, [], ◌∷◌, length, map};
 ghost use Rattle.md_cli.specs.Examining.{Examines, ExaminesOne};
+ghost use Rattle.md_cli.specs.declared.report.Report.TheVariants.{Superblock, Bitmap, BadBlocks};
 
 use crate::fault::CommandFault;
 use crate::images::Images;
-use crate::reading::read_super;
+use crate::report::Report;
 use md_device::Device;
-use md_examine::{Sink, examine};
+use md_examine::{Sink, examine, examine_badblocks, examine_bitmap};
+use md_members::{read_member, read_super};
 use std::alloc::Global;
 
-// Writes the report of a device's superblock.
-fn examine_device<D: Device, S: Sink>(
+// Shows the superblock.
+fn show_superblock<D: Device, S: Sink>(
     alloc: Global,
     device: &mut D,
     out: &mut S,
 ) -> Result<(), CommandFault>
     ensures kept { D.content device.new ≡ D.content device.old }
     ensures honest { D.honest device.new ≡ D.honest device.old }
-    ensures gives { Examines S.contents S.failed out.old out.new (D.content device.old) (D.honest device.old) (D.failures device.old < D.failures device.new) result }
+    ensures gives { Examines Superblock S.contents S.failed out.old out.new (D.content device.old) (D.honest device.old) (D.failures device.old < D.failures device.new) result }
 {
     match read_super(alloc, device) {
         Err(fault) => Err(CommandFault::Member(fault)),
@@ -28,15 +30,79 @@ fn examine_device<D: Device, S: Sink>(
     }
 }
 
-/// Writes the report of the one image that is named.
+// Shows the bitmap.
+fn show_bitmap<D: Device, S: Sink>(
+    alloc: Global,
+    device: &mut D,
+    out: &mut S,
+) -> Result<(), CommandFault>
+    ensures kept { D.content device.new ≡ D.content device.old }
+    ensures honest { D.honest device.new ≡ D.honest device.old }
+    ensures gives { Examines Bitmap S.contents S.failed out.old out.new (D.content device.old) (D.honest device.old) (D.failures device.old < D.failures device.new) result }
+{
+    let member = match read_member(alloc, device) {
+        Ok(member) => member,
+        Err(fault) => return Err(CommandFault::Member(fault)),
+    };
+    let Some(header) = &member.header else {
+        return Err(CommandFault::NoBitmap);
+    };
+    let Some(marks) = &member.marks else {
+        return Err(CommandFault::NoBitmap);
+    };
+    match examine_bitmap(out, header, marks) {
+        Ok(()) => Ok(()),
+        Err(_) => Err(CommandFault::OutputFault),
+    }
+}
+
+// Shows the bad blocks.
+fn show_badblocks<D: Device, S: Sink>(
+    alloc: Global,
+    device: &mut D,
+    out: &mut S,
+) -> Result<(), CommandFault>
+    ensures kept { D.content device.new ≡ D.content device.old }
+    ensures honest { D.honest device.new ≡ D.honest device.old }
+    ensures gives { Examines BadBlocks S.contents S.failed out.old out.new (D.content device.old) (D.honest device.old) (D.failures device.old < D.failures device.new) result }
+{
+    let member = match read_member(alloc, device) {
+        Ok(member) => member,
+        Err(fault) => return Err(CommandFault::Member(fault)),
+    };
+    match examine_badblocks(out, &member.bad) {
+        Ok(()) => Ok(()),
+        Err(_) => Err(CommandFault::OutputFault),
+    }
+}
+
+fn show<D: Device, S: Sink>(
+    alloc: Global,
+    report: Report,
+    device: &mut D,
+    out: &mut S,
+) -> Result<(), CommandFault>
+    ensures kept { D.content device.new ≡ D.content device.old }
+    ensures honest { D.honest device.new ≡ D.honest device.old }
+    ensures gives { Examines report S.contents S.failed out.old out.new (D.content device.old) (D.honest device.old) (D.failures device.old < D.failures device.new) result }
+{
+    match report {
+        Report::Superblock => show_superblock(alloc, device, out),
+        Report::Bitmap => show_bitmap(alloc, device, out),
+        Report::BadBlocks => show_badblocks(alloc, device, out),
+    }
+}
+
+/// Writes the report on the one image that is named.
 pub(crate) fn examine_images<I: Images, S: Sink>(
     alloc: Global,
+    report: Report,
     images: &mut I,
     names: &[&str],
     out: &mut S,
 ) -> Result<(), CommandFault>
     ensures count { length names.now ≢ 1 → (result ≡ Err CommandFault.BadCount) × (images.new ≡ images.old) × (out.new ≡ out.old) }
-    ensures one { (name : List ℕ) → map (λ s. s.now) names.now ≡ name ∷ [] → ExaminesOne I.Dev.content I.Dev.honest I.Dev.failures S.contents S.failed (I.known images.old) (I.device_at images.old) (I.device_at images.new) name out.old out.new result }
+    ensures one { (name : List ℕ) → map (λ s. s.now) names.now ≡ name ∷ [] → ExaminesOne report I.Dev.content I.Dev.honest I.Dev.failures S.contents S.failed (I.known images.old) (I.device_at images.old) (I.device_at images.new) name out.old out.new result }
 {
     if names.len() != 1 {
         return Err(CommandFault::BadCount);
@@ -45,7 +111,7 @@ pub(crate) fn examine_images<I: Images, S: Sink>(
     let Ok(mut device) = images.get(name) else {
         return Err(CommandFault::BadImage(0));
     };
-    let result = examine_device(alloc, &mut device, out);
+    let result = show(alloc, report, &mut device, out);
     images.put(name, device);
     result
 }

@@ -1,24 +1,7 @@
 // Why a command is refused. A message is the fault's name and its values, one space between them:
 // the program shows it behind its own name.
-use md_super::SuperFault;
+use md_members::MemberFault;
 use thiserror::Error;
-
-/// Why a device is not read as a member.
-#[derive(Clone, Copy, Debug, PartialEq, Eq, Error)]
-pub enum MemberFault {
-    /// It has fewer than 16 sectors.
-    #[error("TooShort")]
-    TooShort,
-    /// A read failed.
-    #[error("ReadFault")]
-    ReadFault,
-    /// Sectors 8 to 15 hold no superblock of ours.
-    #[error("Super {0}")]
-    Super(SuperFault),
-    /// There was no memory.
-    #[error("NoMemory")]
-    NoMemory,
-}
 
 /// Why a command whose words were taken is refused.
 #[derive(Clone, Copy, Debug, PartialEq, Eq, Error)]
@@ -32,6 +15,9 @@ pub enum CommandFault {
     /// An image is not read as a member.
     #[error("{0}")]
     Member(MemberFault),
+    /// The member has no bitmap.
+    #[error("NoBitmap")]
+    NoBitmap,
     /// The report can't be written.
     #[error("OutputFault")]
     OutputFault,

@@ -6,10 +6,11 @@ mod fault;
 mod images;
 mod memory_images;
 mod parsing;
-mod reading;
+mod report;
 mod running;
 
-pub use fault::{CommandFault, MemberFault};
+pub use fault::CommandFault;
 pub use images::Images;
 pub use memory_images::MemImages;
+pub use report::Report;
 pub use running::run;

@@ -1,7 +1,7 @@
 // One command.
 ghost use Rattle.std.specs.Prelude.{◌≡◌, ◌≢◌, ◌⊎◌, ℕ, List, [], ◌∷◌, length, map};
 ghost use Rattle.clap.specs.Words.{fault_of};
-ghost use Rattle.md_cli.specs.Words.{mdcli, image_words};
+ghost use Rattle.md_cli.specs.Words.{mdcli, image_words, report_word};
 ghost use Rattle.md_cli.specs.Running.{DoesCommand, status_of};
 
 use crate::examining::examine_images;
@@ -29,17 +29,21 @@ pub fn run<'a, I: Images, S: Sink, E: Write>(
 ) -> u8
     ensures refused { fault_of mdcli (map (λ s. s.now) words.entry.now) ≢ [] → (result ≡ 2) × (images.new ≡ images.old) × (out.new ≡ out.old) }
     ensures taken { fault_of mdcli (map (λ s. s.now) words.entry.now) ≡ [] →
-        ((result ≡ 2) × (images.new ≡ images.old) × (out.new ≡ out.old)) ⊎ DoesCommand I.Dev.content I.Dev.honest I.Dev.failures S.contents S.failed (I.known images.old) (I.device_at images.old) (I.device_at images.new) (image_words (map (λ s. s.now) words.entry.now)) out.old out.new result }
+        ((result ≡ 2) × (images.new ≡ images.old) × (out.new ≡ out.old)) ⊎ DoesCommand (report_word (map (λ s. s.now) words.entry.now)) I.Dev.content I.Dev.honest I.Dev.failures S.contents S.failed (I.known images.old) (I.device_at images.old) (I.device_at images.new) (image_words (map (λ s. s.now) words.entry.now)) out.old out.new result }
     ensures count { length (image_words (map (λ s. s.now) words.entry.now)) ≢ 1 → (images.new ≡ images.old) × (out.new ≡ out.old) }
 {
-    let names = match parse(alloc, words) {
-        Ok(names) => names,
+    let request = match parse(alloc, words) {
+        Ok(request) => request,
         Err(error) => {
             let _ = write!(err, "{error}");
             return 2;
         }
     };
-    answer(examine_images(alloc, images, names.as_slice(), out), err)
+    let names = request.images.as_slice();
+    answer(
+        examine_images(alloc, request.report, images, names, out),
+        err,
+    )
 }
 
 // The status of a command that was done or refused. A refusal is said on `err`.

@@ -2,3 +2,5 @@ pub mod Sink
 pub mod Output
 pub mod Lines
 pub mod SuperblockReport
+pub mod BitmapReport
+pub mod BadblocksReport

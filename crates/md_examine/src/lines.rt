@@ -52,6 +52,19 @@ pub(crate) fn decimal_line<S: Sink, I: Integer>(
     line(out, label, buffer.format(n).as_bytes())
 }
 
+// A number and its unit.
+pub(crate) fn unit_line<S: Sink, I: Integer>(
+    out: &mut S,
+    label: &str,
+    n: I,
+    unit: &[u8],
+) -> Result<(), SinkFault>
+    ensures { PutsOrFails S.contents S.failed out.old out.new (line_text label.now (I.text n ++ unit.now)) result }
+{
+    let mut buffer = Buffer::new();
+    two_part_line(out, label, buffer.format(n).as_bytes(), unit)
+}
+
 // A number of sectors.
 pub(crate) fn sectors_line<S: Sink>(out: &mut S, label: &str, n: u64) -> Result<(), SinkFault>
     ensures { PutsOrFails S.contents S.failed out.old out.new (line_text label.now (sectors_text n)) result }
@@ -126,6 +139,22 @@ pub(crate) fn log_line<S: Sink>(
     let entries = entries_buffer.format(entries).as_bytes();
     let offset = offset_buffer.format(offset).as_bytes();
     four_part_line(out, label, entries, b" entries at ", offset, b" sectors")
+}
+
+// The chunks of a bitmap, and those of them that are marked.
+pub(crate) fn marks_line<S: Sink>(
+    out: &mut S,
+    label: &str,
+    chunks: u32,
+    marked: u32,
+) -> Result<(), SinkFault>
+    ensures { PutsOrFails S.contents S.failed out.old out.new (line_text label.now (decimal chunks ++ codes " chunks, " ++ decimal marked ++ codes " marked")) result }
+{
+    let mut chunks_buffer = Buffer::new();
+    let mut marked_buffer = Buffer::new();
+    let chunks = chunks_buffer.format(chunks).as_bytes();
+    let marked = marked_buffer.format(marked).as_bytes();
+    four_part_line(out, label, chunks, b" chunks, ", marked, b" marked")
 }
 
 // A value in four parts.

@@ -1,24 +1,17 @@
-use Rattle.std.proofs.Common.{rules, ap, ap₂, codes, ◌≡◌, ◌∙◌}
+use Rattle.std.proofs.Common.{ap, ap₂, codes, ◌≡◌, ◌∙◌}
 use Rattle.std.proofs.lemmas.Result.{IfOk-weaker}
-use Rattle.clap.specs.Words.{App, Rule, app_of, new_app, new_rule, rule_of, with_rule, with_subcommand}
+use Rattle.clap.specs.Words.{App, app_of, new_app, with_subcommand}
 use Rattle.clap.specs.Simple.{app_of_fields}
-use Rattle.md_cli.specs.Words.{mdcli, image_rule, examine_app, with_version, required_command}
-use Rattle.md_cli.proofs.CommandLine.{some_is, with_range, with_value_name}
+use Rattle.md_cli.specs.Words.{mdcli, with_version, required_command}
 use Rattle.md_cli.proofs.parsing.command.Goals as goal
 
 pub returns : goal.returns
 unfolding mdcli
 returns c =
-    let range_is = some_is c.num_args.result.num_vals _ c.num_args.ensures.1 in
-    let ranged_is = ap rule_of c.num_args.ensures.0 ∙ with_range c.new.result c.num_args.result.num_vals
-    ∙ ap (λ (r : Rule). record r { range = c.num_args.result.num_vals }) c.new.ensures.rule
-    ∙ ap (λ n. record (new_rule (codes "image")) { range = n }) range_is in
-    let image_is : rule_of c.help-images.result ≡ image_rule =
-    ap rule_of c.help-images.ensures ∙ with_value_name c.num_args.result c.value_name.result _ c.value_name.ensures
-    ∙ ap (λ (r : Rule). record r { value_names = 1 }) ranged_is in
-    let named_is : app_of c.about.result ≡ new_app (codes "examine") = ap app_of_fields c.about.ensures ∙ c.new-2.ensures.app in
-    let examine_is : app_of c.in_ok-examine.examine ≡ examine_app = c.in_ok-examine.ensures.shape (search rules) ∙ ap₂ with_rule named_is image_is in
-    let program_is : app_of c.about-2.result ≡ new_app (codes "mdcli") = ap app_of_fields c.about-2.ensures ∙ c.new-3.ensures.app in
+    let top = λ (a : App). a.top in
+    let program_is : app_of c.about.result ≡ new_app (codes "mdcli") = ap app_of_fields c.about.ensures ∙ c.new.ensures.app in
     let required_is : app_of c.subcommand_required.result ≡ required_command (with_version (new_app (codes "mdcli"))) =
     ap app_of_fields c.subcommand_required.ensures ∙ ap required_command (ap app_of_fields c.version.ensures ∙ ap with_version program_is) in
-    IfOk-weaker c.subcommand.result _ _ (λ r h. h.shape (search rules) ∙ ap₂ with_subcommand required_is (ap (λ (a : App). a.top) examine_is)) c.subcommand.ensures
+    let first_is = c.in_ok-subcommand.ensures.shape c.in_ok-superblock.ensures.local ∙ ap₂ with_subcommand required_is (ap top c.in_ok-superblock.ensures.app) in
+    let second_is = c.in_ok-subcommand-2.ensures.shape c.in_ok-bitmap.ensures.local ∙ ap₂ with_subcommand first_is (ap top c.in_ok-bitmap.ensures.app) in
+    IfOk-weaker c.subcommand-3.result _ _ (λ r h. h.shape c.in_ok-bad_blocks.ensures.local ∙ ap₂ with_subcommand second_is (ap top c.in_ok-bad_blocks.ensures.app)) c.subcommand-3.ensures

@@ -10,11 +10,11 @@ texts = map (λ s. s.now)
 
 pub returns-clause-taken : goal.returns-clause-taken
 returns-clause-taken g c taken =
-    let names_are : texts c.as_slice.result.now ≡ image_words (texts c.args.words.now) = ap texts c.as_slice.ensures.value ∙ c.in-Ok.ensures.ok in
-    let many : length (image_words (texts c.args.words.now)) ≡ length c.as_slice.result.now = ap length (sym names_are) ∙ length-map c.as_slice.result.now (λ s. s.now) in
-    inr (record {
+    let names_are : texts c.as_slice-names.result.now ≡ image_words (texts c.args.words.now) = ap texts c.as_slice-names.ensures.value ∙ c.in-Ok.ensures.images in
+    let many : length (image_words (texts c.args.words.now)) ≡ length c.as_slice-names.result.now = ap length (sym names_are) ∙ length-map c.as_slice-names.result.now (λ s. s.now) in
+    rw (← c.in-Ok.ensures.report) (inr (record {
       result = c.examine_images.result;
       status_is = c.answer.ensures;
       count = λ n. (c.examine_images.ensures.count (λ e. n (many ∙ e))).0;
       one = λ name e. c.examine_images.ensures.one name (names_are ∙ e);
-    })
+    }))

@@ -1,6 +1,6 @@
-// The superblock of a device.
+// The superblock and the bitmap of a device.
 ghost use Rattle.std.specs.Prelude.{◌≡◌, ◌<◌, ◌≤◌};
-ghost use Rattle.md_cli.specs.Reading.{ReadsSuper};
+ghost use Rattle.md_members.specs.Reading.{GivesSuper};
 
 use crate::fault::MemberFault;
 use md_device::Device;
@@ -11,14 +11,11 @@ use std::alloc::Global;
 const LEAST_SECTORS: u64 = 16;
 
 /// Reads sectors 8 to 15 of a device, and nothing else.
-pub(crate) fn read_super<D: Device>(
-    alloc: Global,
-    device: &mut D,
-) -> Result<Superblock, MemberFault>
+pub fn read_super<D: Device>(alloc: Global, device: &mut D) -> Result<Superblock, MemberFault>
     ensures kept { D.content device.new ≡ D.content device.old }
     ensures honest { D.honest device.new ≡ D.honest device.old }
     ensures counted { D.failures device.old ≤ D.failures device.new }
-    ensures reads { ReadsSuper (D.content device.old) (D.honest device.old) (D.failures device.old < D.failures device.new) result }
+    ensures reads { GivesSuper (D.content device.old) (D.honest device.old) (D.failures device.old < D.failures device.new) result }
 {
     if device.sectors() < LEAST_SECTORS {
         return Err(MemberFault::TooShort);

@@ -1,0 +1,8 @@
+use Rattle.std.proofs.Common.{take}
+use Rattle.std.specs.List.{flat_map}
+use Rattle.md_examine.specs.Sink.{Puts}
+use Rattle.md_examine.specs.BadblocksReport.{run_text}
+use Rattle.md_examine.proofs.badblocks_report.run_lines.Given as goal
+
+abbrev pub invariant-loop-run : goal.invariant-loop-run
+invariant-loop-run g l = Puts g.S.Sink.contents g.S.Sink.failed l.fn.out l.out (flat_map run_text (take l.run-index l.runs))

@@ -1,0 +1,8 @@
+use Rattle.md_examine.specs.BitmapReport.{identity_lines}
+use Rattle.md_examine.proofs.Puts.{puts_then}
+use Rattle.md_examine.proofs.bitmap_report.identity.Goals as goal
+
+pub returns : goal.returns
+unfolding identity_lines
+returns g c =
+    puts_then g.S.Sink.contents g.S.Sink.failed (puts_then g.S.Sink.contents g.S.Sink.failed (puts_then g.S.Sink.contents g.S.Sink.failed (puts_then g.S.Sink.contents g.S.Sink.failed c.in_ok-line.ensures c.in_ok-line-2.ensures) c.in_ok-uuid_line.ensures) c.in_ok-decimal_line.ensures) c.in_ok-decimal_line-2.ensures

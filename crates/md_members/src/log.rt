@@ -1,0 +1,52 @@
+// The bad block log of a member.
+ghost use Rattle.std.specs.Prelude.{◌≡◌, ◌<◌, ◌≤◌, ◌+◌, ◌*◌, ◌/◌, ◌^◌, length, true};
+ghost use Rattle.md_members.specs.Areas.{IsPlaced, has_bad_blocks};
+ghost use Rattle.md_members.specs.Reading.{GivesLog, LogStartsAt};
+ghost use Rattle.md_super.specs.Log.{has_bad_block_log};
+
+use crate::fault::MemberFault;
+use md_badblocks::{BadSet, LogFault};
+use md_device::Device;
+use md_super::{SUPER_SECTOR, Superblock};
+use std::alloc::Global;
+
+// The most bytes of a log: 8 sectors.
+const MOST_BYTES: usize = 4096;
+
+/// Reads the log's area, once.
+pub(crate) fn read_log<D: Device>(
+    alloc: Global,
+    device: &mut D,
+    v: &Superblock,
+) -> Result<BadSet, MemberFault>
+    requires log { has_bad_block_log v.now ≡ true }
+    requires placed { IsPlaced (length (D.content device.old) / 512) v.now 1 }
+    ensures kept { D.content device.new ≡ D.content device.old }
+    ensures honest { D.honest device.new ≡ D.honest device.old }
+    ensures counted { D.failures device.old ≤ D.failures device.new }
+    ensures reads { GivesLog (D.content device.old) (D.honest device.old) (D.failures device.old < D.failures device.new) v.now result }
+{
+    let start = start_of_log(v, device.sectors());
+    let mut buffer = [0; MOST_BYTES];
+    let area = &mut buffer[..512 * v.bblog_size as usize];
+    if device.read(start, area).is_err() {
+        return Err(MemberFault::ReadFault);
+    }
+    match BadSet::from_log(alloc, area, v.bblog_shift) {
+        Ok(bad) => Ok(bad),
+        Err(LogFault::Shift) => Err(MemberFault::Log(LogFault::Shift)),
+        Err(LogFault::NoMemory) => Err(MemberFault::NoMemory),
+    }
+}
+
+// The device's sector where the log starts.
+fn start_of_log(v: &Superblock, sectors: u64) -> u64
+    requires limit { sectors ≤ 2 ^ 54 }
+    requires log { has_bad_block_log v.now ≡ true }
+    requires placed { IsPlaced sectors v.now 1 }
+    ensures start { LogStartsAt v.now result }
+    ensures room { result + v.now.bblog_size ≤ sectors }
+    ensures short { v.now.bblog_size ≤ 8 }
+{
+    (SUPER_SECTOR as i64 + i64::from(v.bblog_offset)) as u64
+}
