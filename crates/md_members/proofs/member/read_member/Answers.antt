@@ -10,9 +10,13 @@ pub returns-then-not-is_placed-clause-reads : goal.returns-then-not-is_placed-cl
 returns-then-not-is_placed-clause-reads g c =
     let old = g.D.Device.content c.args.device.now in
     let size : length old ≡ 512 * c.sectors-sectors.result = ap length (sym c.read_super.ensures.kept) ∙ c.sectors-sectors.ensures.size in
-    inr (c.in_ok-superblock.superblock, c.in_ok-superblock.ensures.reads, by_place refl (λ p.
-    let placed : IsTrue c.is_placed.result = c.is_placed.ensures.1 (placed_of old c.in_ok-superblock.superblock c.sectors-sectors.result 1 1 size refl p) in
-    absurd (search rules)))
+    inr (
+      c.in_ok-superblock.superblock,
+      c.in_ok-superblock.ensures.reads,
+      by_place refl (λ p.
+          let placed : IsTrue c.is_placed.result = c.is_placed.ensures.1 (placed_of old c.in_ok-superblock.superblock c.sectors-sectors.result 1 1 size refl p) in
+          absurd (search rules)),
+    )
 
 pub read_any_bitmap-requires : goal.read_any_bitmap-requires
 read_any_bitmap-requires g c =
@@ -26,8 +30,11 @@ returns-in_err-header-clause-reads g c =
     let placed : IsTrue c.is_placed.result = search rules in
     let there = placed_by (g.D.Device.content c.read_super.new.device) v c.sectors-sectors.result 1 1 c.sectors-sectors.ensures.size refl (c.is_placed.ensures.0 placed) in
     let p = err_from_is_err_and c.from_residual-in_err-header.result c.from_residual-in_err-header.ensures.1 in
-    rw (p.1, p.2) (inr (v, c.in_ok-superblock.ensures.reads,
-    rest_by_bitmap old _ _ _ _ _ v c.in_err-header.field-0.0 c.read_super.ensures.kept c.read_super.ensures.honest (λ failed. omega arith) there c.in_err-header.ensures.reads))
+    rw (p.1, p.2) (inr (
+      v,
+      c.in_ok-superblock.ensures.reads,
+      rest_by_bitmap old _ _ _ _ _ v c.in_err-header.field-0.0 c.read_super.ensures.kept c.read_super.ensures.honest (λ failed. omega arith) there c.in_err-header.ensures.reads,
+    ))
 
 pub read_bad_set-requires : goal.read_bad_set-requires
 read_bad_set-requires g c =
@@ -40,8 +47,11 @@ returns-in_err-bad-clause-reads g c =
     let old = g.D.Device.content c.args.device.now in
     let v = c.in_ok-superblock.superblock in
     let p = err_from_is_err_and c.from_residual-in_err-bad.result c.from_residual-in_err-bad.ensures.1 in
-    rw (p.1, p.2) (inr (v, c.in_ok-superblock.ensures.reads,
-    rest_by_log old _ _ _ _ _ _ v c.in_ok-header.header c.in_ok-header.marks c.in_err-bad.field-0.0 c.read_super.ensures.kept c.read_super.ensures.honest (c.read_any_bitmap.ensures.honest ∙ c.read_super.ensures.honest) (λ failed. omega arith) c.in_ok-header.ensures.reads c.in_err-bad.ensures.reads))
+    rw (p.1, p.2) (inr (
+      v,
+      c.in_ok-superblock.ensures.reads,
+      rest_by_log old _ _ _ _ _ _ v c.in_ok-header.header c.in_ok-header.marks c.in_err-bad.field-0.0 c.read_super.ensures.kept c.read_super.ensures.honest (c.read_any_bitmap.ensures.honest ∙ c.read_super.ensures.honest) (λ failed. omega arith) c.in_ok-header.ensures.reads c.in_err-bad.ensures.reads,
+    ))
 
 pub returns-clause-reads : goal.returns-clause-reads
 returns-clause-reads g c =
