@@ -13,6 +13,17 @@ pub fn put_bytes(out: &mut [u8], at: usize, field: &[u8])
     out[at..at + field.len()].copy_from_slice(field);
 }
 
+/// Writes a little-endian number of two bytes at a place.
+pub fn put_u16(out: &mut [u8], at: usize, number: u16)
+    requires { at + 2 ≤ length out.old }
+    ensures whole { out.new ≡ take at out.old ++ little_bytes 2 number ++ drop (at + 2) out.old }
+    ensures front { take (at + 2) out.new ≡ take at out.old ++ little_bytes 2 number }
+{
+    let mut field = [0; 2];
+    LittleEndian::write_u16(&mut field, number);
+    put_bytes(out, at, &field);
+}
+
 /// Writes a little-endian number of four bytes at a place.
 pub fn put_u32(out: &mut [u8], at: usize, number: u32)
     requires { at + 4 ≤ length out.old }

@@ -1,5 +1,5 @@
 // The roles of an array's devices.
-ghost use Rattle.std.specs.Prelude.{◌≡◌, ◌≤◌, List, ℕ, length};
+ghost use Rattle.std.specs.Prelude.{◌≡◌, ◌<◌, ◌≤◌, List, ℕ, length, set};
 
 use std::marker::Model;
 
@@ -41,6 +41,14 @@ impl Roles {
         ensures { result.now ≡ self.now }
     {
         self.list.as_slice()
+    }
+
+    /// Gives the device with this number another role.
+    pub fn set(&mut self, number: u32, role: u16)
+        requires { number < length self.old }
+        ensures { self.new ≡ set self.old number role }
+    {
+        self.list[number as usize] = role;
     }
 
     /// The list itself. It takes no memory.
