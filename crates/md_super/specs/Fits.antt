@@ -1,6 +1,6 @@
--- The numbers of a superblock fit their fields, group by group.
-use Rattle.std.specs.Prelude.{◌≡◌, ℕ, ◌<◌, ◌^◌, List, All}
-use Rattle.std.specs.Int.{w32, cast_signed, cast_unsigned}
+-- What a superblock has fits its fields, group by group.
+use Rattle.std.specs.Prelude.{◌≡◌, ℕ, ◌<◌, ◌^◌, List, length, All, FitsSigned}
+use Rattle.std.specs.Int.{w32}
 use Rattle.md_super.specs.declared.superblock.Superblock.{Superblock}
 
 pub record ShapeFits (v : Superblock) : Type 0 where
@@ -31,7 +31,7 @@ pub record LogFits (v : Superblock) : Type 0 where
   pub devflags : v.devflags < 2 ^ 8
   pub bblog_shift : v.bblog_shift < 2 ^ 8
   pub bblog_size : v.bblog_size < 2 ^ 16
-  pub bblog_offset : cast_signed w32 (cast_unsigned w32 v.bblog_offset) ≡ v.bblog_offset
+  pub bblog_offset : FitsSigned w32 v.bblog_offset
 
 pub record CountFits (v : Superblock) : Type 0 where
   pub utime : v.utime < 2 ^ 64
@@ -40,9 +40,12 @@ pub record CountFits (v : Superblock) : Type 0 where
 
 -- what stands before the checksum
 pub record FrontFits (v : Superblock) : Type 0 where
+  pub set_uuid : length v.set_uuid ≡ 16
+  pub set_name : length v.set_name ≡ 32
+  pub device_uuid : length v.device_uuid ≡ 16
   pub feature_map : v.feature_map < 2 ^ 32
   pub shape : ShapeFits v
-  pub bitmap_offset : cast_signed w32 (cast_unsigned w32 v.bitmap_offset) ≡ v.bitmap_offset
+  pub bitmap_offset : FitsSigned w32 v.bitmap_offset
   pub reshape : ReshapeFits v
   pub places : PlaceFits v
   pub log : LogFits v

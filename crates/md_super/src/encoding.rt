@@ -34,11 +34,11 @@ pub fn encode_member(shared: &Superblock, own: &Superblock, out: &mut [u8; 4096]
     ensures fields { IsSuper out.new (record (merged shared.now own.now) { sb_csum = checksum_of out.new (length shared.now.roles) }) }
     ensures sound { NoFault out.new }
 {
-    let roles = shared.roles.as_slice();
+    let max_dev = shared.roles.max_dev();
     put_front(shared, own, out);
     put_u32(out, 216, 0);
-    put_back(roles, out);
-    let sum = checksum(out, roles.len() as u32);
+    put_back(shared.roles.as_slice(), out);
+    let sum = checksum(out, max_dev);
     put_u32(out, 216, sum);
 }
 

@@ -1,13 +1,13 @@
 // The fields of a superblock that stand side by side, each group behind what was written before.
-ghost use Rattle.std.specs.Prelude.{◌≡◌, ◌<◌, ◌≤◌, ◌+◌, ◌-◌, ◌*◌, ◌^◌, ◌++◌, length, replicate, take};
+ghost use Rattle.std.specs.Prelude.{◌≡◌, ◌<◌, ◌≤◌, ◌+◌, ◌-◌, ◌*◌, ◌^◌, ◌++◌, length, replicate, take, FitsSigned};
 ghost use Rattle.std.specs.List.{flat_map};
-ghost use Rattle.std.specs.Int.{w32, cast_signed, cast_unsigned};
+ghost use Rattle.std.specs.Int.{w32};
 ghost use Rattle.byteorder.specs.Endian.{little_bytes};
 ghost use Rattle.md_super.specs.Encoding.{head_bytes, shape_bytes, bitmap_bytes, reshape_bytes, place_bytes, log_bytes, count_bytes};
 ghost use Rattle.md_super.specs.Fits.{ShapeFits, ReshapeFits, PlaceFits, LogFits, CountFits, RolesFit};
 
 use crate::superblock::{MAGIC, MAJOR_VERSION, Superblock};
-use md_format::{put_bytes, put_u16, put_u32, put_u64};
+use md_format::{put_u8, put_u16, put_u32, put_u64};
 
 pub(crate) fn put_head(v: &Superblock, out: &mut [u8; 4096])
     ensures front { take 16 out.new ≡ head_bytes v.now }
@@ -43,7 +43,7 @@ pub(crate) fn put_shape(v: &Superblock, out: &mut [u8; 4096])
 
 pub(crate) fn put_bitmap_offset(v: &Superblock, out: &mut [u8; 4096])
     ensures front { take 100 out.new ≡ take 96 out.old ++ bitmap_bytes v.now }
-    ensures fit { cast_signed w32 (cast_unsigned w32 v.now.bitmap_offset) ≡ v.now.bitmap_offset }
+    ensures fit { FitsSigned w32 v.now.bitmap_offset }
 {
     let bitmap_offset = v.bitmap_offset;
     put_u32(out, 96, bitmap_offset.cast_unsigned());
@@ -102,7 +102,8 @@ pub(crate) fn put_log(v: &Superblock, out: &mut [u8; 4096])
         bblog_offset,
         ..
     } = *v;
-    put_bytes(out, 184, &[devflags, bblog_shift]);
+    put_u8(out, 184, devflags);
+    put_u8(out, 185, bblog_shift);
     put_u16(out, 186, bblog_size);
     put_u32(out, 188, bblog_offset.cast_unsigned());
 }

@@ -36,6 +36,14 @@ impl Roles {
         Roles { list }
     }
 
+    /// How many roles there are: `max_dev` of `md_p.h`.
+    pub fn max_dev(&self) -> u32
+        ensures value { result ≡ length self.now }
+        ensures few { result ≤ 1920 }
+    {
+        self.list.len() as u32
+    }
+
     /// The list of the roles, by device number.
     pub fn as_slice(&self) -> &[u16]
         ensures { result.now ≡ self.now }
