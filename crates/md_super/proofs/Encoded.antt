@@ -44,54 +44,54 @@ shape_read : (v : Superblock) (bytes : List ℕ) → ShapeFits v → bytes_at 32
     (v.ctime ≡ number_at 8 64 bytes) × (v.level ≡ number_at 4 72 bytes) × (v.layout ≡ number_at 4 76 bytes) × (v.size ≡ number_at 8 80 bytes) × (v.chunksize ≡ number_at 4 88 bytes) × (v.raid_disks ≡ number_at 4 92 bytes)
 unfolding number_at shape_bytes
 shape_read v bytes fit e = (
-    field 8 64 32 0 v.ctime bytes (shape_bytes v) e (omega arith) (little_number-reads_back 8 v.ctime [] fit.ctime),
-    field 4 64 32 8 v.level bytes (shape_bytes v) e (omega arith) (little_number-reads_back 4 v.level [] fit.level),
-    field 4 64 32 12 v.layout bytes (shape_bytes v) e (omega arith) (little_number-reads_back 4 v.layout [] fit.layout),
-    field 8 64 32 16 v.size bytes (shape_bytes v) e (omega arith) (little_number-reads_back 8 v.size [] fit.size),
-    field 4 64 32 24 v.chunksize bytes (shape_bytes v) e (omega arith) (little_number-reads_back 4 v.chunksize [] fit.chunksize),
-    field 4 64 32 28 v.raid_disks bytes (shape_bytes v) e (omega arith) (little_number-reads_back 4 v.raid_disks [] fit.raid_disks)
+  field 8 64 32 0 v.ctime bytes (shape_bytes v) e (omega arith) (little_number-reads_back 8 v.ctime [] fit.ctime),
+  field 4 64 32 8 v.level bytes (shape_bytes v) e (omega arith) (little_number-reads_back 4 v.level [] fit.level),
+  field 4 64 32 12 v.layout bytes (shape_bytes v) e (omega arith) (little_number-reads_back 4 v.layout [] fit.layout),
+  field 8 64 32 16 v.size bytes (shape_bytes v) e (omega arith) (little_number-reads_back 8 v.size [] fit.size),
+  field 4 64 32 24 v.chunksize bytes (shape_bytes v) e (omega arith) (little_number-reads_back 4 v.chunksize [] fit.chunksize),
+  field 4 64 32 28 v.raid_disks bytes (shape_bytes v) e (omega arith) (little_number-reads_back 4 v.raid_disks [] fit.raid_disks),
 )
 
 reshape_read : (v : Superblock) (bytes : List ℕ) → ReshapeFits v → bytes_at 28 100 bytes ≡ reshape_bytes v →
     (v.new_level ≡ number_at 4 100 bytes) × (v.reshape_position ≡ number_at 8 104 bytes) × (v.delta_disks ≡ number_at 4 112 bytes) × (v.new_layout ≡ number_at 4 116 bytes) × (v.new_chunk ≡ number_at 4 120 bytes) × (v.new_offset ≡ number_at 4 124 bytes)
 unfolding number_at reshape_bytes
 reshape_read v bytes fit e = (
-    field 4 100 28 0 v.new_level bytes (reshape_bytes v) e (omega arith) (little_number-reads_back 4 v.new_level [] fit.new_level),
-    field 8 100 28 4 v.reshape_position bytes (reshape_bytes v) e (omega arith) (little_number-reads_back 8 v.reshape_position [] fit.reshape_position),
-    field 4 100 28 12 v.delta_disks bytes (reshape_bytes v) e (omega arith) (little_number-reads_back 4 v.delta_disks [] fit.delta_disks),
-    field 4 100 28 16 v.new_layout bytes (reshape_bytes v) e (omega arith) (little_number-reads_back 4 v.new_layout [] fit.new_layout),
-    field 4 100 28 20 v.new_chunk bytes (reshape_bytes v) e (omega arith) (little_number-reads_back 4 v.new_chunk [] fit.new_chunk),
-    field 4 100 28 24 v.new_offset bytes (reshape_bytes v) e (omega arith) (little_number-reads_back 4 v.new_offset [] fit.new_offset)
+  field 4 100 28 0 v.new_level bytes (reshape_bytes v) e (omega arith) (little_number-reads_back 4 v.new_level [] fit.new_level),
+  field 8 100 28 4 v.reshape_position bytes (reshape_bytes v) e (omega arith) (little_number-reads_back 8 v.reshape_position [] fit.reshape_position),
+  field 4 100 28 12 v.delta_disks bytes (reshape_bytes v) e (omega arith) (little_number-reads_back 4 v.delta_disks [] fit.delta_disks),
+  field 4 100 28 16 v.new_layout bytes (reshape_bytes v) e (omega arith) (little_number-reads_back 4 v.new_layout [] fit.new_layout),
+  field 4 100 28 20 v.new_chunk bytes (reshape_bytes v) e (omega arith) (little_number-reads_back 4 v.new_chunk [] fit.new_chunk),
+  field 4 100 28 24 v.new_offset bytes (reshape_bytes v) e (omega arith) (little_number-reads_back 4 v.new_offset [] fit.new_offset),
 )
 
 places_read : (v : Superblock) (bytes : List ℕ) → PlaceFits v → bytes_at 40 128 bytes ≡ place_bytes v →
     (v.data_offset ≡ number_at 8 128 bytes) × (v.data_size ≡ number_at 8 136 bytes) × (v.super_offset ≡ number_at 8 144 bytes) × (v.recovery_offset ≡ number_at 8 152 bytes) × (v.dev_number ≡ number_at 4 160 bytes) × (v.cnt_corrected_read ≡ number_at 4 164 bytes)
 unfolding number_at place_bytes
 places_read v bytes fit e = (
-    field 8 128 40 0 v.data_offset bytes (place_bytes v) e (omega arith) (little_number-reads_back 8 v.data_offset [] fit.data_offset),
-    field 8 128 40 8 v.data_size bytes (place_bytes v) e (omega arith) (little_number-reads_back 8 v.data_size [] fit.data_size),
-    field 8 128 40 16 v.super_offset bytes (place_bytes v) e (omega arith) (little_number-reads_back 8 v.super_offset [] fit.super_offset),
-    field 8 128 40 24 v.recovery_offset bytes (place_bytes v) e (omega arith) (little_number-reads_back 8 v.recovery_offset [] fit.recovery_offset),
-    field 4 128 40 32 v.dev_number bytes (place_bytes v) e (omega arith) (little_number-reads_back 4 v.dev_number [] fit.dev_number),
-    field 4 128 40 36 v.cnt_corrected_read bytes (place_bytes v) e (omega arith) (little_number-reads_back 4 v.cnt_corrected_read [] fit.cnt_corrected_read)
+  field 8 128 40 0 v.data_offset bytes (place_bytes v) e (omega arith) (little_number-reads_back 8 v.data_offset [] fit.data_offset),
+  field 8 128 40 8 v.data_size bytes (place_bytes v) e (omega arith) (little_number-reads_back 8 v.data_size [] fit.data_size),
+  field 8 128 40 16 v.super_offset bytes (place_bytes v) e (omega arith) (little_number-reads_back 8 v.super_offset [] fit.super_offset),
+  field 8 128 40 24 v.recovery_offset bytes (place_bytes v) e (omega arith) (little_number-reads_back 8 v.recovery_offset [] fit.recovery_offset),
+  field 4 128 40 32 v.dev_number bytes (place_bytes v) e (omega arith) (little_number-reads_back 4 v.dev_number [] fit.dev_number),
+  field 4 128 40 36 v.cnt_corrected_read bytes (place_bytes v) e (omega arith) (little_number-reads_back 4 v.cnt_corrected_read [] fit.cnt_corrected_read),
 )
 
 counts_read : (v : Superblock) (bytes : List ℕ) → CountFits v → bytes_at 24 192 bytes ≡ count_bytes v →
     (v.utime ≡ number_at 8 192 bytes) × (v.events ≡ number_at 8 200 bytes) × (v.resync_offset ≡ number_at 8 208 bytes)
 unfolding number_at count_bytes
 counts_read v bytes fit e = (
-    field 8 192 24 0 v.utime bytes (count_bytes v) e (omega arith) (little_number-reads_back 8 v.utime [] fit.utime),
-    field 8 192 24 8 v.events bytes (count_bytes v) e (omega arith) (little_number-reads_back 8 v.events [] fit.events),
-    field 8 192 24 16 v.resync_offset bytes (count_bytes v) e (omega arith) (little_number-reads_back 8 v.resync_offset [] fit.resync_offset)
+  field 8 192 24 0 v.utime bytes (count_bytes v) e (omega arith) (little_number-reads_back 8 v.utime [] fit.utime),
+  field 8 192 24 8 v.events bytes (count_bytes v) e (omega arith) (little_number-reads_back 8 v.events [] fit.events),
+  field 8 192 24 16 v.resync_offset bytes (count_bytes v) e (omega arith) (little_number-reads_back 8 v.resync_offset [] fit.resync_offset),
 )
 
 head_read : (v : Superblock) (bytes : List ℕ) → v.feature_map < 2 ^ 32 → bytes_at 16 0 bytes ≡ head_bytes v →
     (0xa92b4efc ≡ number_at 4 0 bytes) × (1 ≡ number_at 4 4 bytes) × (v.feature_map ≡ number_at 4 8 bytes)
 unfolding number_at head_bytes
 head_read v bytes fit e = (
-    field 4 0 16 0 0xa92b4efc bytes (head_bytes v) e (omega arith) refl,
-    field 4 0 16 4 1 bytes (head_bytes v) e (omega arith) refl,
-    field 4 0 16 8 v.feature_map bytes (head_bytes v) e (omega arith) (little_number-reads_back 4 v.feature_map (little_bytes 4 0) fit)
+  field 4 0 16 0 0xa92b4efc bytes (head_bytes v) e (omega arith) refl,
+  field 4 0 16 4 1 bytes (head_bytes v) e (omega arith) refl,
+  field 4 0 16 8 v.feature_map bytes (head_bytes v) e (omega arith) (little_number-reads_back 4 v.feature_map (little_bytes 4 0) fit),
 )
 
 bits_fit : (z : ℤ) → FitsSigned w32 z → cast_unsigned w32 z < 2 ^ 32
@@ -109,12 +109,12 @@ log_read : (v : Superblock) (bytes : List ℕ) → LogFits v → bytes_at 8 184 
 unfolding number_at log_bytes
 log_read v bytes fit e =
     let bits = cast_unsigned w32 v.bblog_offset in (
-    field 1 184 8 0 v.devflags bytes (log_bytes v) e (omega arith) (omega arith),
-    field 1 184 8 1 v.bblog_shift bytes (log_bytes v) e (omega arith) (omega arith),
-    field 2 184 8 2 v.bblog_size bytes (log_bytes v) e (omega arith) (little_number-reads_back 2 v.bblog_size (little_bytes 4 bits) fit.bblog_size),
-    sym (to_z-of_z w32 v.bblog_offset fit.bblog_offset)
-    ∙ ap (cast_signed w32) (field 4 184 8 4 bits bytes (log_bytes v) e (omega arith) (little_number-reads_back 4 bits [] (bits_fit v.bblog_offset fit.bblog_offset)))
-)
+      field 1 184 8 0 v.devflags bytes (log_bytes v) e (omega arith) (omega arith),
+      field 1 184 8 1 v.bblog_shift bytes (log_bytes v) e (omega arith) (omega arith),
+      field 2 184 8 2 v.bblog_size bytes (log_bytes v) e (omega arith) (little_number-reads_back 2 v.bblog_size (little_bytes 4 bits) fit.bblog_size),
+      sym (to_z-of_z w32 v.bblog_offset fit.bblog_offset)
+          ∙ ap (cast_signed w32) (field 4 184 8 4 bits bytes (log_bytes v) e (omega arith) (little_number-reads_back 4 bits [] (bits_fit v.bblog_offset fit.bblog_offset))),
+    )
 
 number_read : (i x : ℕ) (bytes : List ℕ) → x < 2 ^ 32 → bytes_at 4 i bytes ≡ little_bytes 4 x → x ≡ number_at 4 (i + 0) bytes
 unfolding number_at

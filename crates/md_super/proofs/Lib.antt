@@ -5,3 +5,4 @@ pub mod Order
 pub mod Joined
 pub mod Encoded
 pub mod SameSum
+pub mod Sealed
