@@ -9,7 +9,7 @@ use Rattle.byteorder.specs.Endian.{little_bytes}
 use Rattle.byteorder.specs.Numbers.{little_number-reads_back}
 use Rattle.md_format.specs.Fields.{number_at, bytes_at}
 use Rattle.md_super.specs.Encoding.{head_bytes, shape_bytes, bitmap_bytes, reshape_bytes, place_bytes, log_bytes, count_bytes, front_bytes, back_bytes, bytes_with}
-use Rattle.md_super.specs.Fits.{ShapeFits, ReshapeFits, PlaceFits, LogFits, CountFits, FrontFits, RolesFit}
+use Rattle.md_super.specs.Fits.{ShapeFits, ReshapeFits, PlaceFits, LogFits, CountFits, TextsFit, FrontFits, RolesFit}
 use Rattle.md_super.specs.Format.{IsSuper, roles_in}
 use Rattle.md_super.specs.declared.superblock.Superblock.{Superblock}
 use Rattle.md_super.proofs.Parts.{part_at, field, length-flat_map_two}
@@ -35,7 +35,7 @@ in_parts : (total : ℕ) (v : Superblock) → bytes_with total v ≡ concat (par
 unfolding bytes_with front_bytes back_bytes
 in_parts total v = regroup (head_bytes v) v.set_uuid v.set_name (shape_bytes v) (bitmap_bytes v) (reshape_bytes v) (place_bytes v) v.device_uuid (log_bytes v) (count_bytes v) (little_bytes 4 total) (little_bytes 4 (length v.roles)) (replicate 32 0) (flat_map (little_bytes 2) v.roles) (replicate (3840 - 2 * length v.roles) 0)
 
-lengths_of : (total : ℕ) (v : Superblock) → FrontFits v → map length (parts total v) ≡ lengths (length v.roles)
+lengths_of : (total : ℕ) (v : Superblock) → TextsFit v → map length (parts total v) ≡ lengths (length v.roles)
 unfolding head_bytes shape_bytes bitmap_bytes reshape_bytes place_bytes log_bytes count_bytes
 lengths_of total v fit = rw (fit.set_uuid, fit.set_name, fit.device_uuid, length-flat_map_two v.roles, length-replicate {A = ℕ} (3840 - 2 * length v.roles) 0) refl
 
@@ -122,7 +122,7 @@ number_read i x bytes fit e = field 4 i 4 0 x bytes (little_bytes 4 x) e (omega 
 
 module _ (total : ℕ) (v : Superblock) (fit : FrontFits v) where
   part : (k : ℕ) → k < 15 → bytes_at (get_or (lengths (length v.roles)) k 0) (sum (take k (lengths (length v.roles)))) (bytes_with total v) ≡ get_or (parts total v) k []
-  part k h = rw (in_parts total v) (part_at (parts total v) (lengths (length v.roles)) k (lengths_of total v fit) h)
+  part k h = rw (in_parts total v) (part_at (parts total v) (lengths (length v.roles)) k (lengths_of total v fit.texts) h)
 
   -- the superblock reads back
   pub reads_back : RolesFit v.roles → length v.roles ≤ 1920 → total < 2 ^ 32 → IsSuper (bytes_with total v) (record v { sb_csum = total })

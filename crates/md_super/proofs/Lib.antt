@@ -6,3 +6,4 @@ pub mod Joined
 pub mod Encoded
 pub mod SameSum
 pub mod Sealed
+pub mod Unique

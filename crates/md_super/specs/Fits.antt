@@ -38,11 +38,14 @@ pub record CountFits (v : Superblock) : Type 0 where
   pub events : v.events < 2 ^ 64
   pub resync_offset : v.resync_offset < 2 ^ 64
 
--- what stands before the checksum
-pub record FrontFits (v : Superblock) : Type 0 where
+pub record TextsFit (v : Superblock) : Type 0 where
   pub set_uuid : length v.set_uuid ≡ 16
   pub set_name : length v.set_name ≡ 32
   pub device_uuid : length v.device_uuid ≡ 16
+
+-- what stands before the checksum
+pub record FrontFits (v : Superblock) : Type 0 where
+  pub texts : TextsFit v
   pub feature_map : v.feature_map < 2 ^ 32
   pub shape : ShapeFits v
   pub bitmap_offset : FitsSigned w32 v.bitmap_offset
