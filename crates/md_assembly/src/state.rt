@@ -50,6 +50,7 @@ impl MemberState {
 }
 
 /// The state of a member by the freshest superblock and its own.
+#[tactic(auto, unfolding(crate::specs::States::state_of))]
 pub fn state_of(freshest: &Superblock, own: &Superblock) -> MemberState
     ensures { result ≡ state_of freshest.now own.now }
 {
