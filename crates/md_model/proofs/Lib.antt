@@ -1,3 +1,10 @@
 pub mod Cases
+pub mod Puts
 pub mod SmallOpening
 pub mod OpeningCovers
+pub mod Tracked
+pub mod TrackedSteps
+pub mod TrackedCalls
+pub mod Table
+pub mod Recorded
+pub mod RecordedSteps

@@ -7,11 +7,8 @@ use Rattle.md_model.specs.Devices.{Super, Stored, AgreeAt, Covered, is_accepted,
 use Rattle.md_model.specs.Worlds.{World, IsInSync}
 use Rattle.md_model.specs.Assembly.{IsFreshest, IsFound}
 use Rattle.md_model.specs.Openings.{IsOpened, IsOpenedFrom}
+use Rattle.md_model.proofs.Tracked.{agree_as}
 use Rattle.md_model.proofs.Cases.{by_test, is_below, not_below}
-
--- devices with the same sector agree as these do
-pub agree_as : (d e d' e' : Stored) (s : ℕ) → d'.content s ≡ d.content s → e'.content s ≡ e.content s → d'.listed s ≡ d.listed s → e'.listed s ≡ e.listed s → AgreeAt d e s → AgreeAt d' e' s
-agree_as d e d' e' s c c' l l' h off off' = c ∙ h (sym l ∙ off) (sym l' ∙ off') ∙ sym c'
 
 -- the marks of an accepted bitmap are its bits
 pub accepted-bits : (d : Stored) (c : ℕ) → is_accepted d ≡ true → is_marked d c ≡ d.bits c
