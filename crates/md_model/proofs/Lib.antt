@@ -8,3 +8,7 @@ pub mod TrackedCalls
 pub mod Table
 pub mod Recorded
 pub mod RecordedSteps
+pub mod Keeps
+pub mod Opened
+pub mod Safe
+pub mod Lives

@@ -3,7 +3,7 @@ use Rattle.std.proofs.Common.{◌≡◌, ℕ, true, sym, ap, ◌∙◌, true≢f
 use Rattle.std.specs.Prelude.{Some, nat_lt}
 use Rattle.md_model.specs.Sectors.{Geometry, chunk_of}
 use Rattle.md_model.specs.States.{is_in_sync}
-use Rattle.md_model.specs.Devices.{Super, Stored, AgreeAt, Covered, is_accepted, is_marked}
+use Rattle.md_model.specs.Devices.{Super, Stored, Covered, is_accepted, is_marked}
 use Rattle.md_model.specs.Worlds.{World, IsInSync}
 use Rattle.md_model.specs.Assembly.{IsFreshest, IsFound}
 use Rattle.md_model.specs.Openings.{IsOpened, IsOpenedFrom}

@@ -1,12 +1,12 @@
 -- A rise, a record and a failure keep it.
-use Rattle.std.proofs.Common.{◌≡◌, ◌≢◌, ℕ, ◌<◌, ◌≤◌, ◌+◌, Bool, true, false, cond, ◌&&◌, ◌||◌, ◌⊎◌, inl, inr, ⊎_elim, refl, sym, ap, ◌∙◌, subst, eqb, true≢false, arith}
+use Rattle.std.proofs.Common.{◌≡◌, ◌≢◌, ℕ, ◌<◌, ◌≤◌, Bool, true, false, cond, ◌&&◌, ◌||◌, refl, sym, ap, ◌∙◌, subst, eqb, true≢false, arith}
 use Rattle.std.specs.Prelude.{Some, nat_lt, not}
 use Rattle.std.proofs.lemmas.Bool.Decides.{nat_tests}
-use Rattle.md_model.specs.Sectors.{Geometry, put}
+use Rattle.md_model.specs.Sectors.{Geometry}
 use Rattle.md_model.specs.States.{State, is_in_sync, is_recovering, is_recorded}
 use Rattle.md_model.specs.States.State.{Stale, Faulty}
 use Rattle.md_model.specs.Devices.{Super, Stored}
-use Rattle.md_model.specs.Worlds.{World, IsInSync}
+use Rattle.md_model.specs.Worlds.{World}
 use Rattle.md_model.specs.Counts.{role_at_rise, risen}
 use Rattle.md_model.specs.Steps.{with_device, has_bit, super_for, recorded, recorded_device}
 use Rattle.md_model.specs.Failures.{without, MayFail}

@@ -1,8 +1,6 @@
 -- What holds of the data, the marks and the requests at every moment.
-use Rattle.std.proofs.Common.{◌≡◌, ◌≢◌, ℕ, Bool, true, false, sym, ap, ◌∙◌}
-use Rattle.md_model.specs.Sectors.{Geometry, chunk_of, put}
-use Rattle.md_model.specs.States.{is_in_sync}
-use Rattle.md_model.specs.States.State.{Faulty}
+use Rattle.std.proofs.Common.{◌≡◌, ℕ, true, false, sym, ap, ◌∙◌}
+use Rattle.md_model.specs.Sectors.{Geometry, chunk_of}
 use Rattle.md_model.specs.Devices.{Stored, AgreeAt}
 use Rattle.md_model.specs.Worlds.{Request, touches, World, IsInSync, IsInFlight, IsQuiet}
 

@@ -1,9 +1,9 @@
 -- What resync and stop do keeps it.
 use Rattle.std.proofs.Common.{◌≡◌, ◌≢◌, ℕ, List, Bool, true, false, refl, sym, ap, ◌∙◌, subst}
-use Rattle.md_model.specs.Sectors.{Geometry, chunk_of, put}
-use Rattle.md_model.specs.Devices.{Stored, AgreeAt}
+use Rattle.md_model.specs.Sectors.{Geometry, chunk_of}
+use Rattle.md_model.specs.Devices.{AgreeAt}
 use Rattle.md_model.specs.Worlds.{World, IsInSync}
-use Rattle.md_model.specs.Resyncing.{copied, copied_device, made_resynced, made_clean, IsIdle, MayCopy, MayResync}
+use Rattle.md_model.specs.Resyncing.{copied, copied_device, made_resynced, made_clean, IsIdle, MayCopy}
 use Rattle.md_model.proofs.Cases.{none_some}
 use Rattle.md_model.proofs.Puts.{by_same, put-at, put-same, put-hit, put-miss}
 use Rattle.md_model.proofs.Tracked.{IsTracked}

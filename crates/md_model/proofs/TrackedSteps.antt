@@ -9,12 +9,12 @@ use Rattle.md_model.specs.States.{is_in_sync}
 use Rattle.md_model.specs.States.State.{Faulty}
 use Rattle.md_model.specs.Devices.{Stored, AgreeAt}
 use Rattle.md_model.specs.Worlds.{Request, touches, World, IsInSync, IsInFlight, IsQuiet}
-use Rattle.md_model.specs.Counts.{risen, risen_if}
-use Rattle.md_model.specs.Steps.{with_device, touches_chunk, entered, begun, recorded, recorded_device, bits_after, marked_device, marks_stored, written_device, member_written, finished, unmarked, MayBegin, MayWrite, MayFinish, MayClear}
+use Rattle.md_model.specs.Counts.{risen}
+use Rattle.md_model.specs.Steps.{with_device, touches_chunk, entered, recorded, recorded_device, bits_after, marked_device, marks_stored, written_device, member_written, finished, unmarked, MayBegin, MayWrite, MayFinish, MayClear}
 use Rattle.md_model.specs.Failures.{failed}
 use Rattle.md_model.proofs.Cases.{by_test, never, both, some-injective, none_some, is_below}
 use Rattle.md_model.proofs.Puts.{by_same, put-at, put-same, put-hit, put-miss}
-use Rattle.md_model.proofs.Tracked.{IsTracked, IsFewer, agree_as, tracked_fewer}
+use Rattle.md_model.proofs.Tracked.{IsTracked, IsFewer, agree_as}
 
 -- record changes no data, and a failure takes a member away, whatever its device has by then
 pub fewer_recorded : (w : World) (k : ℕ) → IsFewer w (recorded w k)

@@ -3,9 +3,11 @@
 ghost use Rattle.std.specs.Prelude.{◌≡◌, ℕ, ◌<◌, true};
 ghost use Rattle.md_model.specs.Assembly.{IsFound};
 ghost use Rattle.md_model.specs.Devices.{Covered, Stored, Super, is_marked};
+ghost use Rattle.md_model.specs.Lives.{Always, IsCovered};
 ghost use Rattle.md_model.specs.Openings.{IsOpened, IsOpenedFrom};
 ghost use Rattle.md_model.specs.Sectors.{Geometry, chunk_of};
 ghost use Rattle.md_model.specs.SmallArray.{small_geometry, small_super, small_world};
+ghost use Rattle.md_model.specs.Stops.{IsSafeAtStop, KeepsOut};
 ghost use Rattle.md_model.specs.Worlds.{IsInSync, World};
 
 /// The premises on an opening can be met: the mirror of two members does.
@@ -27,4 +29,17 @@ pub fn opening_covers()
         → IsOpenedFrom g left freshest w
         → Covered g left (IsFound g left freshest)
         → Covered g w.stored (IsInSync w) }
+{}
+
+/// The law of write intent, over every list of events, stops and openings that begins with devices that are covered.
+pub fn every_run()
+    // Wherever two members in sync differ, the marks stored on each of them have the chunk.
+    ensures covered { Always IsCovered }
+
+    // A stop, also in the middle of a data write, leaves devices of which an opening finds only members in sync that were so,
+    // whose marks cover what differs; and all of these, where each has recorded all but the last change.
+    ensures at_stop { Always IsSafeAtStop }
+
+    // Once data was let through, a device that the opening left out is not found in sync beside one that was.
+    ensures keeps_out { Always KeepsOut }
 {}

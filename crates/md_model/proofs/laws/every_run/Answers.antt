@@ -1,0 +1,5 @@
+use Rattle.md_model.proofs.Lives.{always_covered, always_safe, always_out}
+use Rattle.md_model.proofs.laws.every_run.Goals as goal
+
+pub returns : goal.returns
+returns c = record { covered = always_covered; at_stop = always_safe; keeps_out = always_out }
