@@ -12,3 +12,4 @@ pub mod Keeps
 pub mod Opened
 pub mod Safe
 pub mod Lives
+pub mod SmallRun

@@ -13,3 +13,4 @@ pub mod Events
 pub mod Runs
 pub mod Stops
 pub mod Lives
+pub mod SmallRun

@@ -1,12 +1,15 @@
 //! What holds of the definitions alone.
 
-ghost use Rattle.std.specs.Prelude.{◌≡◌, ℕ, ◌<◌, true};
+ghost use Rattle.std.specs.Prelude.{◌≡◌, ℕ, ◌<◌, true, [], ◌∷◌, ◌++◌};
 ghost use Rattle.md_model.specs.Assembly.{IsFound};
 ghost use Rattle.md_model.specs.Devices.{Covered, Stored, Super, is_marked};
-ghost use Rattle.md_model.specs.Lives.{Always, IsCovered};
+ghost use Rattle.md_model.specs.Events.{Event};
+ghost use Rattle.md_model.specs.Lives.{Always, IsCovered, Reopens};
 ghost use Rattle.md_model.specs.Openings.{IsOpened, IsOpenedFrom};
+ghost use Rattle.md_model.specs.Runs.{opening};
 ghost use Rattle.md_model.specs.Sectors.{Geometry, chunk_of};
 ghost use Rattle.md_model.specs.SmallArray.{small_geometry, small_super, small_world};
+ghost use Rattle.md_model.specs.SmallRun.{CanRun, beginning, chunk_resynced, data_fails, data_written};
 ghost use Rattle.md_model.specs.Stops.{IsSafeAtStop, KeepsOut};
 ghost use Rattle.md_model.specs.Worlds.{IsInSync, World};
 
@@ -29,6 +32,16 @@ pub fn opening_covers()
         → IsOpenedFrom g left freshest w
         → Covered g left (IsFound g left freshest)
         → Covered g w.stored (IsInSync w) }
+{}
+
+/// No guard is empty: the mirror of two members goes through every event, each failure among them, and is opened again.
+pub fn small_runs()
+    ensures resyncing { CanRun ((beginning ++ data_written) ++ chunk_resynced) }
+    ensures record_fails { CanRun (beginning ++ (Event.RecordFails 1 ∷ [])) }
+    ensures marks_fail { CanRun (beginning ++ (Event.StoreMarksFails 1 0 ∷ [])) }
+    ensures write_fails { CanRun (beginning ++ data_fails) }
+    ensures copy_fails { CanRun ((beginning ++ data_written) ++ (Event.CopyFails 1 1 ∷ [])) }
+    ensures reopens { Reopens small_geometry (small_super 0) (opening small_world) (small_super 0) small_world }
 {}
 
 /// The law of write intent, over every list of events, stops and openings that begins with devices that are covered.
