@@ -29,13 +29,14 @@ pub record IsKept (g : Geometry) (opened : Super) (h : History) : Type 0 where
   pub recorded : IsRecorded g opened h.failed_at h.tried (book_of h.now)
   pub alone : IsAlone g h.now
 
+-- a request may begin after the rise, if it may before
+pub begin_after : (g : Geometry) (w : World) (n : ℕ) (p : Request) (rises full : Bool) → MayBegin g w n p → MayBegin g (risen_if g w rises full) n p
+begin_after g w n p true full m = record { resynced = m.resynced; new = m.new; apart = m.apart; some = m.some; inside = m.inside; unwritten = m.unwritten }
+begin_after g w n p false full m = m
+
 module _ (g : Geometry) (small : IsSmall g) where
   fails_tracked : (w : World) (k : ℕ) (left : Stored) (w' : World) → Fails g w k left w' → IsTracked g w → IsTracked g w'
   fails_tracked w k left w' f t = subst (IsTracked g) (sym f.3) (tracked_fewer g w (failed g (with_device w k left) k f.0) (fewer_failed g w k left f.0) t)
-
-  pub begin_after : (w : World) (n : ℕ) (p : Request) (rises full : Bool) → MayBegin g w n p → MayBegin g (risen_if g w rises full) n p
-  begin_after w n p true full m = record { resynced = m.resynced; new = m.new; apart = m.apart; some = m.some; inside = m.inside; unwritten = m.unwritten }
-  begin_after w n p false full m = m
 
   rise_tracked : (w : World) (rises full : Bool) → IsTracked g w → IsTracked g (risen_if g w rises full)
   rise_tracked w true full t = tracked_risen g w full t
@@ -43,7 +44,7 @@ module _ (g : Geometry) (small : IsSmall g) where
 
   tracked_step : (w : World) (e : Event) (w' : World) → IsTracked g w → Step g w e w' → IsTracked g w'
   tracked_step w (Event.Begin n p) w' t s = subst (IsTracked g) (sym s.5)
-      (tracked_entered g (risen_if g w s.0 s.1) n p small.wide (begin_after w n p s.0 s.1 s.2) (rise_tracked w s.0 s.1 t))
+      (tracked_entered g (risen_if g w s.0 s.1) n p small.wide (begin_after g w n p s.0 s.1 s.2) (rise_tracked w s.0 s.1 t))
   tracked_step w (Event.Record k) w' t s = subst (IsTracked g) (sym s.1) (tracked_fewer g w (recorded w k) (fewer_recorded w k) t)
   tracked_step w (Event.StoreMarks k b) w' t s = subst (IsTracked g) (sym s.1) (tracked_marks_stored g w k b t)
   tracked_step w (Event.WriteMember n k) w' t s = subst (IsTracked g) (sym s.2) (tracked_written g w n s.0 k s.1 t)

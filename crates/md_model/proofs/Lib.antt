@@ -13,3 +13,7 @@ pub mod Opened
 pub mod Safe
 pub mod Lives
 pub mod SmallRun
+pub mod Picked
+pub mod Contents
+pub mod BehindSteps
+pub mod ContentLives

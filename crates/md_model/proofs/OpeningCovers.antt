@@ -28,7 +28,7 @@ module _ (g : Geometry) (left : ℕ → Stored) (first : Super) (w : World) (o :
     greatest = λ k own e. let x = o.all k own e in o.opened.freshest.greatest x.0 own x.1;
   }
 
-  found : (k : ℕ) → IsInSync w k → IsFound g left first (o.at k)
+  pub found : (k : ℕ) → IsInSync w k → IsFound g left first (o.at k)
   found k a =
       let x = own_of g first w o.opened k a in
       record { own = x.0; is = o.super k x.0 x.1; in_sync = sym (ap is_in_sync (o.opened.states.by_table k x.0 x.1)) ∙ a }

@@ -67,6 +67,12 @@ module _ (g : Geometry) (small : IsSmall g) (opened : Super) (h : History) (t : 
                 (λ apart. ap (λ (d : Stored). d.content s) (x.others j apart));
           }
 
+  pub cut_listed : (cut : ℕ → Stored) → IsCut g h.now cut → (k s : ℕ) → (cut k).listed s ≡ (h.now.stored k).listed s
+  cut_listed cut is = (cuts cut is).listed
+
+  pub cut_content : (cut : ℕ → Stored) → IsCut g h.now cut → (i k s : ℕ) → IsInSync h.now i → (h.now.stored i).bits (chunk_of g s) ≡ false → (cut k).content s ≡ (h.now.stored k).content s
+  cut_content cut is = (cuts cut is).content
+
   pub leaves : (left : ℕ → Stored) → IsLeft g h.now left → Leaves g h.now left
   leaves left is =
       let c = cuts is.0 is.1 in

@@ -14,3 +14,5 @@ pub mod Runs
 pub mod Stops
 pub mod Lives
 pub mod SmallRun
+pub mod Content
+pub mod Behind

@@ -2,6 +2,8 @@
 
 ghost use Rattle.std.specs.Prelude.{◌≡◌, ℕ, ◌<◌, true, [], ◌∷◌, ◌++◌};
 ghost use Rattle.md_model.specs.Assembly.{IsFound};
+ghost use Rattle.md_model.specs.Behind.{LeavesBehind, MissingBehind};
+ghost use Rattle.md_model.specs.Content.{HasContent, HasContentAgain, KeepsContent};
 ghost use Rattle.md_model.specs.Devices.{Covered, Stored, Super, is_marked};
 ghost use Rattle.md_model.specs.Events.{Event};
 ghost use Rattle.md_model.specs.Lives.{Always, IsCovered, Reopens};
@@ -55,4 +57,19 @@ pub fn every_run()
 
     // Once data was let through, a device that the opening left out is not found in sync beside one that was.
     ensures keeps_out { Always KeepsOut }
+
+    // The members in sync hold the array's content, which only the end of a request changes, and a resync or an opening in
+    // chunks that each of them has marked.
+    ensures keeps_content { KeepsContent }
+
+    // A member that was in sync and failed, or was missing at an opening, differs from the content only in marked chunks, as
+    // long as some role is empty.
+    ensures leaves_behind { LeavesBehind }
+    ensures missing_behind { MissingBehind }
+{}
+
+/// There is such a content: at an opening of devices that are covered, and at each later one of what a stop left.
+pub fn has_content()
+    ensures at_first { HasContent }
+    ensures again { HasContentAgain }
 {}
