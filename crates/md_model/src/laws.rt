@@ -1,0 +1,75 @@
+//! What holds of the definitions alone.
+
+ghost use Rattle.std.specs.Prelude.{◌≡◌, ℕ, ◌<◌, true, [], ◌∷◌, ◌++◌};
+ghost use Rattle.md_model.specs.Assembly.{IsFound};
+ghost use Rattle.md_model.specs.Behind.{LeavesBehind, MissingBehind};
+ghost use Rattle.md_model.specs.Content.{HasContent, HasContentAgain, KeepsContent};
+ghost use Rattle.md_model.specs.Devices.{Covered, Stored, Super, is_marked};
+ghost use Rattle.md_model.specs.Events.{Event};
+ghost use Rattle.md_model.specs.Lives.{Always, IsCovered, Reopens};
+ghost use Rattle.md_model.specs.Openings.{IsOpened, IsOpenedFrom};
+ghost use Rattle.md_model.specs.Runs.{opening};
+ghost use Rattle.md_model.specs.Sectors.{Geometry, chunk_of};
+ghost use Rattle.md_model.specs.SmallArray.{small_geometry, small_super, small_world};
+ghost use Rattle.md_model.specs.SmallRun.{CanRun, beginning, chunk_resynced, data_fails, data_written};
+ghost use Rattle.md_model.specs.Stops.{IsSafeAtStop, KeepsOut};
+ghost use Rattle.md_model.specs.Worlds.{IsInSync, World};
+
+/// The premises on an opening can be met: the mirror of two members does.
+pub fn small_array()
+    ensures opened { IsOpened small_geometry (small_super 0) small_world }
+    ensures covered { Covered small_geometry small_world.stored (IsInSync small_world) }
+{}
+
+/// Members whose stored marks have every chunk of the array, as those of a fresh layout, are covered whatever they hold.
+pub fn fresh_layout()
+    ensures covered { (g : Geometry) (stored : ℕ → Stored) (freshest : Super)
+        → ((k s : ℕ) → s < g.size → IsFound g stored freshest k → is_marked (stored k) (chunk_of g s) ≡ true)
+        → Covered g stored (IsFound g stored freshest) }
+{}
+
+/// Devices that are covered stay so by their opening: it stores all marks on a member in sync whose bitmap was not accepted.
+pub fn opening_covers()
+    ensures covered { (g : Geometry) (left : ℕ → Stored) (freshest : Super) (w : World)
+        → IsOpenedFrom g left freshest w
+        → Covered g left (IsFound g left freshest)
+        → Covered g w.stored (IsInSync w) }
+{}
+
+/// No guard is empty: the mirror of two members goes through every event, each failure among them, and is opened again.
+pub fn small_runs()
+    ensures resyncing { CanRun ((beginning ++ data_written) ++ chunk_resynced) }
+    ensures record_fails { CanRun (beginning ++ (Event.RecordFails 1 ∷ [])) }
+    ensures marks_fail { CanRun (beginning ++ (Event.StoreMarksFails 1 0 ∷ [])) }
+    ensures write_fails { CanRun (beginning ++ data_fails) }
+    ensures copy_fails { CanRun ((beginning ++ data_written) ++ (Event.CopyFails 1 1 ∷ [])) }
+    ensures reopens { Reopens small_geometry (small_super 0) (opening small_world) (small_super 0) small_world }
+{}
+
+/// The law of write intent, over every list of events, stops and openings that begins with devices that are covered.
+pub fn every_run()
+    // Wherever two members in sync differ, the marks stored on each of them have the chunk.
+    ensures covered { Always IsCovered }
+
+    // A stop, also in the middle of a data write, leaves devices of which an opening finds only members in sync that were so,
+    // whose marks cover what differs; and all of these, where each has recorded all but the last change.
+    ensures at_stop { Always IsSafeAtStop }
+
+    // Once data was let through, a device that the opening left out is not found in sync beside one that was.
+    ensures keeps_out { Always KeepsOut }
+
+    // The members in sync hold the array's content, which only the end of a request changes, and a resync or an opening in
+    // chunks that each of them has marked.
+    ensures keeps_content { KeepsContent }
+
+    // A member that was in sync and failed, or was missing at an opening, differs from the content only in marked chunks, as
+    // long as some role is empty.
+    ensures leaves_behind { LeavesBehind }
+    ensures missing_behind { MissingBehind }
+{}
+
+/// There is such a content: at an opening of devices that are covered, and at each later one of what a stop left.
+pub fn has_content()
+    ensures at_first { HasContent }
+    ensures again { HasContentAgain }
+{}
