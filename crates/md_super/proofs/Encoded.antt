@@ -10,7 +10,7 @@ use Rattle.byteorder.specs.Numbers.{little_number-reads_back}
 use Rattle.md_format.specs.Fields.{number_at, bytes_at}
 use Rattle.md_super.specs.Encoding.{head_bytes, shape_bytes, bitmap_bytes, reshape_bytes, place_bytes, log_bytes, count_bytes, front_bytes, back_bytes, bytes_with}
 use Rattle.md_super.specs.Fits.{ShapeFits, ReshapeFits, PlaceFits, LogFits, CountFits, TextsFit, FrontFits, RolesFit}
-use Rattle.md_super.specs.Format.{IsSuper, roles_in}
+use Rattle.md_super.specs.Format.{IsSuper}
 use Rattle.md_super.specs.declared.superblock.Superblock.{Superblock}
 use Rattle.md_super.proofs.Parts.{part_at, field, length-flat_map_two}
 use Rattle.md_super.proofs.RoleLists.{roles_read_back}

@@ -1,11 +1,10 @@
 -- What is read at the places of parts that stand one after the other.
-use Rattle.std.proofs.Common.{◌≡◌, ℕ, zero, suc, ◌+◌, ◌*◌, ◌^◌, ◌<◌, ◌≤◌, List, [], ◌∷◌, ◌++◌, length, take, get_or, map, sum, sum_by, All, refl, sym, ap, ◌∙◌, arith}
+use Rattle.std.proofs.Common.{◌≡◌, ℕ, zero, suc, ◌+◌, ◌*◌, ◌^◌, ◌<◌, ◌≤◌, List, [], ◌∷◌, length, take, get_or, map, sum, sum_by, All, refl, sym, ap, ◌∙◌, arith}
 use Rattle.std.specs.List.{concat, flat_map}
 use Rattle.std.proofs.lemmas.List.{get_or-map, take-map}
 use Rattle.std.proofs.lemmas.List.Sums.{sum-map, sum_by-cons}
 use Rattle.std.proofs.lemmas.List.Elements.{All-head, All-tail}
 use Rattle.byteorder.specs.Endian.{little_bytes, little_from}
-use Rattle.byteorder.specs.Numbers.{little_number-reads_back}
 use Rattle.md_format.specs.Fields.{number_at, bytes_at}
 use Rattle.md_format.proofs.Places.{little_from-part}
 use Rattle.md_format.proofs.Written.{number_at-behind, number_at-little_bytes, bytes_at-behind, bytes_at-field}

@@ -1,12 +1,12 @@
 -- The checksum does not depend on what stands in its place.
-use Rattle.std.proofs.Common.{◌≡◌, ℕ, ◌+◌, ◌-◌, ◌*◌, ◌<◌, ◌≤◌, ◌%◌, ◌==◌, List, ◌++◌, length, map, sum, cond, refl, sym, ap, ap₂, ◌∙◌, inl, inr, arith}
+use Rattle.std.proofs.Common.{◌≡◌, ℕ, ◌+◌, ◌-◌, ◌*◌, ◌≤◌, ◌%◌, ◌==◌, List, ◌++◌, length, map, sum, cond, sym, ap, ap₂, ◌∙◌, inl, inr, arith}
 use Rattle.std.specs.List.{range_with_len}
 use Rattle.std.proofs.Math.Path.{fun_ext}
 use Rattle.std.proofs.lemmas.Bool.{cases_lt}
 use Rattle.std.proofs.lemmas.List.{length-append}
 use Rattle.md_format.specs.Fields.{number_at}
 use Rattle.md_format.proofs.Written.{number_at-behind, number_at-within}
-use Rattle.md_super.specs.Checksum.{word_at, word_sum, word_count, half_word, folded, checksum_of}
+use Rattle.md_super.specs.Checksum.{word_at, word_sum, word_count, folded, checksum_of}
 use Rattle.md_super.proofs.Sums.{word_at-other, word_at-own}
 
 module _ (front back a b : List ℕ) (front_long : length front ≡ 216) (a_long : length a ≡ 4) (b_long : length b ≡ 4) where

@@ -1,5 +1,4 @@
 -- The superblocks of one array's members: what they share, and what is each member's own (md.c).
-use Rattle.md_super.specs.Profile.{IsProfile}
 use Rattle.md_super.specs.declared.superblock.Superblock.{Superblock}
 
 -- the array's fields of the first, and the member's own of the second

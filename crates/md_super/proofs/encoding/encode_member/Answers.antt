@@ -1,4 +1,4 @@
-use Rattle.std.proofs.Common.{◌≡◌, ◌≤◌, ◌++◌, length, take, refl, ap, ◌∙◌}
+use Rattle.std.proofs.Common.{◌≡◌, ◌≤◌, ◌++◌, length, take, refl}
 use Rattle.byteorder.specs.Endian.{little_bytes}
 use Rattle.md_super.specs.Checksum.{checksum_of}
 use Rattle.md_super.specs.Encoding.{back_bytes, bytes_with, super_bytes}
