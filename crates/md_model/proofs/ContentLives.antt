@@ -69,7 +69,7 @@ module _ (g : Geometry) (small : IsSmall g) (opened : Super) (h : History) (a : 
       on_members : (i s : ℕ) → s < g.size → IsInSync next i → d.listed s ≡ false → (next.stored i).bits (chunk_of g s) ≡ false → d.content s ≡ b s
       on_members i s low x off bit =
           let l = leaves g small opened h t.kept r.left r.is_left in
-          let safe = safe_at_stop g small opened h t.kept r.left first r.is_left (freshest_left g r.left first next r.opens) r.fit in
+          let safe = safe_at_stop g small opened h t.kept r.left first r.is_left (freshest_left g r.left first next r.opens opened) r.fit in
           let f = found g r.left first next r.opens i x in
           has (r.opens.at i) s low (safe.among (r.opens.at i) f) off (l.bits (r.opens.at i) (chunk_of g s) f.own f.is (sym (r.opens.bits i s low x) ∙ bit))
           ∙ sym (c.unmarked i s low x bit)

@@ -94,7 +94,7 @@ pub reopened_holds : (g : Geometry) (opened : Super) (h : History) (t : IsKept g
     → (i k s : ℕ) → s < g.size → IsInSync next i → IsInSync next k → (next.stored k).listed s ≡ false → (next.stored i).bits (chunk_of g s) ≡ false → (next.stored k).content s ≡ a s
 reopened_holds g opened h t a first next r start holds i k s low x on clear off =
     let l = leaves g start.small opened h t r.left r.is_left in
-    let safe = safe_at_stop g start.small opened h t r.left first r.is_left (freshest_left g r.left first next r.opens) r.fit in
+    let safe = safe_at_stop g start.small opened h t r.left first r.is_left (freshest_left g r.left first next r.opens opened) r.fit in
     let fi = found g r.left first next r.opens i x in
     let fk = found g r.left first next r.opens k on in
     let in_i = safe.among (r.opens.at i) fi in
