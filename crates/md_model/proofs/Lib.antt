@@ -22,3 +22,4 @@ pub mod Fits
 pub mod Untouched
 pub mod Present
 pub mod Returns
+pub mod ContentAlong

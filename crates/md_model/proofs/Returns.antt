@@ -8,7 +8,7 @@ use Rattle.md_model.specs.Worlds.{World, IsInSync}
 use Rattle.md_model.specs.Assembly.{IsFreshest, IsFound}
 use Rattle.md_model.specs.Events.{Event}
 use Rattle.md_model.specs.Runs.{History, opening, Run, IsStart}
-use Rattle.md_model.specs.Stops.{IsTorn, IsHardlyOpened, IsLeft, IsFit, IsSafe, IsFreshestWithAbsent, WasTried}
+use Rattle.md_model.specs.Stops.{IsTorn, IsHalfOpened, IsLeft, IsFit, IsSafe, IsFreshestWithAbsent, WasTried}
 use Rattle.md_model.specs.Returns.{beside, WasAway, CoversReturns}
 use Rattle.md_model.proofs.Cases.{by_test, never, none_some, below-nat_lt}
 use Rattle.md_model.proofs.Table.{found_says, says_found}
@@ -160,9 +160,9 @@ module _ (g : Geometry) (opened : Super) (w : World) (start : IsStart g opened w
       uncut = ⊎_elim (λ (whole : is_left.0 ≡ last.now.stored). whole)
           (λ (t : IsTorn g last.now is_left.0). absurd (untried (inr (t.number, t.request, t.on, t.let_through)))) is_left.1
 
-      left_is : (k : ℕ) → nat_lt k m ≡ true → IsFound g now first k → IsHardlyOpened (last.now.stored k) (left k)
-      left_is k low f = subst (λ (d : ℕ → Stored). IsHardlyOpened (d k) (left k)) uncut
-          (⊎_elim (λ (x : IsHardlyOpened (is_left.0 k) (left k)). x)
+      left_is : (k : ℕ) → nat_lt k m ≡ true → IsFound g now first k → IsHalfOpened (last.now.stored k) (left k)
+      left_is k low f = subst (λ (d : ℕ → Stored). IsHalfOpened (d k) (left k)) uncut
+          (⊎_elim (λ (x : IsHalfOpened (is_left.0 k) (left k)). x)
           (λ (gone : (left k).super ≡ None). absurd (none_some f.own (sym gone ∙ ap (λ (d : Stored). d.super) (sym (here_is m left back k low)) ∙ f.is)))
           (is_left.2 k))
 

@@ -10,7 +10,7 @@ use Rattle.md_model.specs.Assembly.{state_by, IsFound}
 use Rattle.md_model.specs.Steps.{MayWrite}
 use Rattle.md_model.specs.Openings.{IsSmall}
 use Rattle.md_model.specs.Runs.{History}
-use Rattle.md_model.specs.Stops.{IsTorn, IsCut, IsHardlyOpened, IsLeft, IsFit, IsSafe, IsSafeAtStop, KeepsOut, StaysOut, IsFreshestWithAbsent}
+use Rattle.md_model.specs.Stops.{IsTorn, IsCut, IsHalfOpened, IsLeft, IsFit, IsSafe, IsSafeAtStop, KeepsOut, StaysOut, IsFreshestWithAbsent}
 use Rattle.md_model.specs.Lives.{IsCovered}
 use Rattle.md_model.proofs.Cases.{by_test, never, none_some}
 use Rattle.md_model.proofs.Puts.{by_same}
@@ -84,8 +84,8 @@ module _ (g : Geometry) (small : IsSmall g) (opened : Super) (h : History) (t : 
   pub leaves : (left : ℕ → Stored) → IsLeft g h.now left → Leaves g h.now left
   leaves left is =
       let c = cuts is.0 is.1 in
-      let there : (k : ℕ) (own : Super) → (left k).super ≡ Some own → IsHardlyOpened (is.0 k) (left k) =
-      λ k own e. ⊎_elim (λ (x : IsHardlyOpened (is.0 k) (left k)). x) (λ (gone : (left k).super ≡ None). absurd (none_some own (sym gone ∙ e))) (is.2 k) in
+      let there : (k : ℕ) (own : Super) → (left k).super ≡ Some own → IsHalfOpened (is.0 k) (left k) =
+      λ k own e. ⊎_elim (λ (x : IsHalfOpened (is.0 k) (left k)). x) (λ (gone : (left k).super ≡ None). absurd (none_some own (sym gone ∙ e))) (is.2 k) in
       record {
         super = λ k own e. sym (c.super k) ∙ sym (there k own e).super ∙ e;
         bits = λ k x own e off. sym (c.bits k x) ∙ unmarked-bits (is.0 k) x ((there k own e).marks x off);

@@ -41,7 +41,7 @@ module _ (g : Geometry) (small : IsSmall g) (opened : Super) (Q : ℕ → Super 
       x)
       l.super
 
-  all_step : (h : History) (e : Event) (w' : World) → IsKept g opened h → OfAll Q h.now → Step g h.now e w' → OfAll Q w'
+  pub all_step : (h : History) (e : Event) (w' : World) → IsKept g opened h → OfAll Q h.now → Step g h.now e w' → OfAll Q w'
   all_step h (Event.Begin n p) w' t all s = subst (OfAll Q) (sym s.5) (begun_all s.0)
     where
       begun_all : (rises : Bool) → OfAll Q (begun g h.now n p rises s.1)

@@ -22,8 +22,8 @@ pub record IsTorn (g : Geometry) (w : World) (cut : ℕ → Stored) : Type 0 whe
 abbrev pub IsCut : Geometry → World → (ℕ → Stored) → Type 0
 IsCut g w cut = (cut ≡ w.stored) ⊎ IsTorn g w cut
 
--- openings that were stopped before their end may have stored all marks on it, or some bits where the bitmap is not accepted
-pub record IsHardlyOpened (cut left : Stored) : Type 0 where
+-- Openings that were themselves stopped may have stored all marks on it, or some sectors of them under a bitmap that is not accepted.
+pub record IsHalfOpened (cut left : Stored) : Type 0 where
   pub super : left.super ≡ cut.super
   pub content : left.content ≡ cut.content
   pub listed : left.listed ≡ cut.listed
@@ -31,7 +31,7 @@ pub record IsHardlyOpened (cut left : Stored) : Type 0 where
 
 -- the devices of which the next opening is made: any of them may be missing
 abbrev pub IsLeft : Geometry → World → (ℕ → Stored) → Type 0
-IsLeft g w left = (cut : ℕ → Stored) × IsCut g w cut × ((k : ℕ) → IsHardlyOpened (cut k) (left k) ⊎ ((left k).super ≡ None))
+IsLeft g w left = (cut : ℕ → Stored) × IsCut g w cut × ((k : ℕ) → IsHalfOpened (cut k) (left k) ⊎ ((left k).super ≡ None))
 
 -- The superblock that it goes by is fit: it has recorded the last failure, and is newer than the one of the opening before, or
 -- as new with the same roles.
@@ -50,7 +50,7 @@ pub record IsFreshestWithAbsent (opened : Super) (left : ℕ → Stored) (first 
   pub greatest : (k : ℕ) (own : Super) → (left k).super ≡ Some own → own.events ≤ first.events
 
 -- Such an opening finds no member in sync that was not, and the marks cover those that it finds. Where all members in sync that
--- are there have the count or one less, it finds all of these
+-- are there have the count or one less, it finds all of these.
 pub record IsSafe (g : Geometry) (h : History) (left : ℕ → Stored) (first : Super) : Type 0 where
   pub among : (k : ℕ) → IsFound g left first k → IsInSync h.now k
   pub covered : Covered g left (IsFound g left first)

@@ -3,7 +3,7 @@
 ghost use Rattle.std.specs.Prelude.{◌≡◌, ℕ, ◌<◌, true, [], ◌∷◌, ◌++◌};
 ghost use Rattle.md_model.specs.Assembly.{IsFound};
 ghost use Rattle.md_model.specs.Behind.{LeavesBehind, MissingBehind};
-ghost use Rattle.md_model.specs.Content.{HasContent, HasContentAgain, KeepsContent};
+ghost use Rattle.md_model.specs.Content.{HasContent, HasContentAlong, KeepsContent};
 ghost use Rattle.md_model.specs.Devices.{Covered, Stored, Super, is_marked};
 ghost use Rattle.md_model.specs.Events.{Event};
 ghost use Rattle.md_model.specs.Fits.{FitsWhenThere, StepsRun};
@@ -71,10 +71,10 @@ pub fn every_run()
     ensures missing_behind { MissingBehind }
 {}
 
-/// There is such a content: at an opening of devices that are covered, and at each later one of what a stop left.
+/// There is such a content at an opening of devices that are covered, and it goes along every life.
 pub fn has_content()
     ensures at_first { HasContent }
-    ensures again { HasContentAgain }
+    ensures along { HasContentAlong }
 {}
 
 /// A device that an opening left out may be found in sync again, as long as no data was tried: then the marks cover it too.
