@@ -7,7 +7,7 @@ use Rattle.md_model.specs.Openings.{IsSmall}
 use Rattle.md_model.specs.Events.{Event}
 use Rattle.md_model.specs.Runs.{History, then_in, opening, IsStart}
 use Rattle.md_model.specs.Lives.{Reopens}
-use Rattle.md_model.specs.Content.{Content, Becomes, Holds, BecomesAtOpening, RunWith, LifeWith, KeepsContent, HasContent, HasContentAgain}
+use Rattle.md_model.specs.Content.{Content, Becomes, Holds, BecomesAtOpening, RunWith, LifeWith, KeepsContent, HasContent}
 use Rattle.md_model.specs.Behind.{IsBehind, Leaves, IsDegraded, LeavesBehind, MissingBehind}
 use Rattle.md_model.proofs.Cases.{by_test, never}
 use Rattle.md_model.proofs.Keeps.{IsKept, kept_step}
@@ -15,7 +15,7 @@ use Rattle.md_model.proofs.Opened.{kept_opened}
 use Rattle.md_model.proofs.OpeningCovers.{freshest_left, found}
 use Rattle.md_model.proofs.Safe.{leaves, safe_at_stop, cut_listed, cut_content}
 use Rattle.md_model.proofs.Lives.{start_again}
-use Rattle.md_model.proofs.Picked.{has_content, has_content_again}
+use Rattle.md_model.proofs.Picked.{has_content}
 use Rattle.md_model.proofs.Contents.{holds_step}
 use Rattle.md_model.proofs.BehindSteps.{behind_step, behind_leaving}
 
@@ -50,11 +50,6 @@ keeps_content g opened w a start t es rest final last b life = (held_life g star
 pub some_content : HasContent
 some_content = has_content
 
-pub some_content_again : HasContentAgain
-some_content_again g opened w a start t es rest final last b life first next r =
-    let h = held_life g start.small _ opened (opening w) a es rest final last b (held_opened g opened w a start t) life in
-    has_content_again g final last h.kept b first next r (start_again g final last first next start.small h.kept r) h.holds.unmarked
-
 -- A device that holds the content where a member in sync has no bit is behind at the next opening.
 module _ (g : Geometry) (small : IsSmall g) (opened : Super) (h : History) (a : Content) (t : IsHeld g opened h a) (first : Super) (next : World) (r : Reopens g opened h first next) (b : Content) (c : BecomesAtOpening g next a b) where
   behind_again : (d : Stored)
@@ -69,7 +64,7 @@ module _ (g : Geometry) (small : IsSmall g) (opened : Super) (h : History) (a : 
       on_members : (i s : ℕ) → s < g.size → IsInSync next i → d.listed s ≡ false → (next.stored i).bits (chunk_of g s) ≡ false → d.content s ≡ b s
       on_members i s low x off bit =
           let l = leaves g small opened h t.kept r.left r.is_left in
-          let safe = safe_at_stop g small opened h t.kept r.left first r.is_left (freshest_left g r.left first next r.opens) r.fit in
+          let safe = safe_at_stop g small opened h t.kept r.left first r.is_left (freshest_left g r.left first next r.opens opened) r.fit in
           let f = found g r.left first next r.opens i x in
           has (r.opens.at i) s low (safe.among (r.opens.at i) f) off (l.bits (r.opens.at i) (chunk_of g s) f.own f.is (sym (r.opens.bits i s low x) ∙ bit))
           ∙ sym (c.unmarked i s low x bit)

@@ -17,3 +17,9 @@ pub mod Picked
 pub mod Contents
 pub mod BehindSteps
 pub mod ContentLives
+pub mod Supers
+pub mod Fits
+pub mod Untouched
+pub mod Present
+pub mod Returns
+pub mod ContentAlong

@@ -17,7 +17,7 @@ module _ (g : Geometry) (first : Super) (w : World) (start : IsStart g first w) 
   abbrev o : IsOpened g first w
   o = start.opening
 
-  slot_of : (k : ℕ) (own : Super) → (w.stored k).super ≡ Some own → k < w.members
+  pub slot_of : (k : ℕ) (own : Super) → (w.stored k).super ≡ Some own → k < w.members
   slot_of k own e = by_test (nat_lt k w.members) (is_below k w.members)
       (λ past. absurd (none_some own (sym (o.members.vacant k (not_below k w.members past)) ∙ e)))
 

@@ -1,11 +1,12 @@
 -- An opening covers what was covered.
-use Rattle.std.proofs.Common.{◌≡◌, ℕ, true, sym, ap, ◌∙◌, true≢false, cond}
+use Rattle.std.proofs.Common.{inl, ◌≡◌, ℕ, true, sym, ap, ◌∙◌, true≢false, cond}
 use Rattle.std.specs.Prelude.{Some, nat_lt}
 use Rattle.md_model.specs.Sectors.{Geometry, chunk_of}
 use Rattle.md_model.specs.States.{is_in_sync}
 use Rattle.md_model.specs.Devices.{Super, Stored, Covered, is_accepted, is_marked}
 use Rattle.md_model.specs.Worlds.{World, IsInSync}
-use Rattle.md_model.specs.Assembly.{IsFreshest, IsFound}
+use Rattle.md_model.specs.Assembly.{IsFound}
+use Rattle.md_model.specs.Stops.{IsFreshestWithAbsent}
 use Rattle.md_model.specs.Openings.{IsOpened, IsOpenedFrom}
 use Rattle.md_model.proofs.Tracked.{agree_as}
 use Rattle.md_model.proofs.Cases.{by_test, is_below, not_below}
@@ -21,10 +22,9 @@ own_of g first w o k a = by_test (nat_lt k w.members)
     (λ past. absurd (true≢false (sym a ∙ ap is_in_sync (o.states.past k (not_below k w.members past)))))
 
 module _ (g : Geometry) (left : ℕ → Stored) (first : Super) (w : World) (o : IsOpenedFrom g left first w) where
-  pub freshest_left : IsFreshest left first
-  freshest_left = record {
-    at = o.at o.opened.freshest.at;
-    is = o.super o.opened.freshest.at first o.opened.freshest.is;
+  pub freshest_left : (opened : Super) → IsFreshestWithAbsent opened left first
+  freshest_left opened = record {
+    whose = inl (o.at o.opened.freshest.at, o.super o.opened.freshest.at first o.opened.freshest.is);
     greatest = λ k own e. let x = o.all k own e in o.opened.freshest.greatest x.0 own x.1;
   }
 

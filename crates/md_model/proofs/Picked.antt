@@ -19,7 +19,7 @@ abbrev tells : World → ℕ → ℕ → Bool
 tells w s k = is_in_sync (w.state k) && not ((w.stored k).listed s)
 
 -- what a member below n that is in sync and does not list the sector has in it, or this
-abbrev picked : World → List ℕ → ℕ → ℕ → List ℕ
+abbrev pub picked : World → List ℕ → ℕ → ℕ → List ℕ
 picked w else_ s zero = else_
 picked w else_ s (suc n) = cond (tells w s n) ((w.stored n).content s) (picked w else_ s n)
 
@@ -28,14 +28,14 @@ module _ (w : World) (else_ : List ℕ) (s : ℕ) where
   unlisted k e = by_test ((w.stored k).listed s) (λ at. absurd (true≢false (sym e ∙ ap not at))) (λ off. off)
 
   -- what all have, and this, it has
-  picked-all : (P : List ℕ → Type 0) (n : ℕ) → P else_ → ((k : ℕ) → IsInSync w k → (w.stored k).listed s ≡ false → P ((w.stored k).content s)) → P (picked w else_ s n)
+  pub picked-all : (P : List ℕ → Type 0) (n : ℕ) → P else_ → ((k : ℕ) → IsInSync w k → (w.stored k).listed s ≡ false → P ((w.stored k).content s)) → P (picked w else_ s n)
   picked-all P zero base all = base
   picked-all P (suc n) base all = by_test (tells w s n)
       (λ at. subst P (sym (ap (λ b. cond b ((w.stored n).content s) (picked w else_ s n)) at)) (let x = both _ _ at in all n x.0 (unlisted n x.1)))
       (λ off. subst P (sym (ap (λ b. cond b ((w.stored n).content s) (picked w else_ s n)) off)) (picked-all P n base all))
 
   -- where they agree, each has it
-  picked-one : (n k : ℕ) → k < n → IsInSync w k → (w.stored k).listed s ≡ false
+  pub picked-one : (n k : ℕ) → k < n → IsInSync w k → (w.stored k).listed s ≡ false
       → ((j : ℕ) → IsInSync w j → (w.stored j).listed s ≡ false → (w.stored j).content s ≡ (w.stored k).content s)
       → picked w else_ s n ≡ (w.stored k).content s
   picked-one zero k low on clear agree = absurd (omega arith)
@@ -94,7 +94,7 @@ pub reopened_holds : (g : Geometry) (opened : Super) (h : History) (t : IsKept g
     → (i k s : ℕ) → s < g.size → IsInSync next i → IsInSync next k → (next.stored k).listed s ≡ false → (next.stored i).bits (chunk_of g s) ≡ false → (next.stored k).content s ≡ a s
 reopened_holds g opened h t a first next r start holds i k s low x on clear off =
     let l = leaves g start.small opened h t r.left r.is_left in
-    let safe = safe_at_stop g start.small opened h t r.left first r.is_left (freshest_left g r.left first next r.opens) r.fit in
+    let safe = safe_at_stop g start.small opened h t r.left first r.is_left (freshest_left g r.left first next r.opens opened) r.fit in
     let fi = found g r.left first next r.opens i x in
     let fk = found g r.left first next r.opens k on in
     let in_i = safe.among (r.opens.at i) fi in

@@ -28,7 +28,7 @@ module _ (g : Geometry) (w : World) (d : ℕ) (few : g.raid_disks ≤ 32) where
       (λ e. subst P (sym (ap (λ b. cond b 65534 (w.role d)) e)) (lost e))
       (λ e. subst P (sym (ap (λ b. cond b 65534 (w.role d)) e)) (kept e))
 
-  present_keeps : w.present d ≡ true → at_rise ≡ w.role d
+  pub present_keeps : w.present d ≡ true → at_rise ≡ w.role d
   present_keeps here = by_loss (λ r. r ≡ w.role d) (λ e. absurd (true≢false (sym (both _ _ e).1 ∙ ap not here))) (λ _. refl)
 
   -- a role that is still taken was taken before, and is of a device that is there

@@ -6,15 +6,15 @@ use Rattle.md_model.specs.States.{State, is_in_sync, is_recovering}
 use Rattle.md_model.specs.States.State.{InSync, Recovering, Stale, Spare, Faulty}
 use Rattle.md_model.specs.Devices.{Super, Stored, is_accepted, is_marked}
 use Rattle.md_model.specs.Worlds.{Request, touches, World, IsInSync}
-use Rattle.md_model.specs.Assembly.{state_by, IsFreshest, IsFound}
+use Rattle.md_model.specs.Assembly.{state_by, IsFound}
 use Rattle.md_model.specs.Steps.{MayWrite}
 use Rattle.md_model.specs.Openings.{IsSmall}
 use Rattle.md_model.specs.Runs.{History}
-use Rattle.md_model.specs.Stops.{IsTorn, IsCut, IsHardlyOpened, IsLeft, IsFit, IsSafe, IsSafeAtStop, KeepsOut}
+use Rattle.md_model.specs.Stops.{IsTorn, IsCut, IsHalfOpened, IsLeft, IsFit, IsSafe, IsSafeAtStop, KeepsOut, StaysOut, IsFreshestWithAbsent}
 use Rattle.md_model.specs.Lives.{IsCovered}
 use Rattle.md_model.proofs.Cases.{by_test, never, none_some}
 use Rattle.md_model.proofs.Puts.{by_same}
-use Rattle.md_model.proofs.Table.{has_role, found_says, says_found}
+use Rattle.md_model.proofs.Table.{SaysInSync, has_role, found_says, says_found}
 use Rattle.md_model.proofs.Tracked.{agree_as}
 use Rattle.md_model.proofs.Keeps.{IsKept, tried_now}
 
@@ -23,6 +23,14 @@ pub unmarked-bits : (d : Stored) (c : ℕ) → is_marked d c ≡ false → d.bit
 unmarked-bits d c = by_test (is_accepted d)
     (λ at e. sym (ap (λ b. cond b (d.bits c) true) at) ∙ e)
     (λ off e. absurd (true≢false (sym (ap (λ b. cond b (d.bits c) true) off) ∙ e)))
+
+-- superblocks with the same count and role say the same
+pub as_opened : {g : Geometry} (first opened own : Super) → first.events ≡ opened.events → first.role own.number ≡ opened.role own.number → SaysInSync g first own → SaysInSync g opened own
+as_opened {g} first opened own count role says = record {
+  role = subst (λ r. r < g.raid_disks) role says.role;
+  fresh = let x = says.fresh in omega arith;
+  clear = says.clear;
+}
 
 -- after a stop a member has the superblock and the bits that it had, and where one of those in sync has no bit, its data
 pub record Leaves (g : Geometry) (w : World) (left : ℕ → Stored) : Type 0 where
@@ -76,8 +84,8 @@ module _ (g : Geometry) (small : IsSmall g) (opened : Super) (h : History) (t : 
   pub leaves : (left : ℕ → Stored) → IsLeft g h.now left → Leaves g h.now left
   leaves left is =
       let c = cuts is.0 is.1 in
-      let there : (k : ℕ) (own : Super) → (left k).super ≡ Some own → IsHardlyOpened (is.0 k) (left k) =
-      λ k own e. ⊎_elim (λ (x : IsHardlyOpened (is.0 k) (left k)). x) (λ (gone : (left k).super ≡ None). absurd (none_some own (sym gone ∙ e))) (is.2 k) in
+      let there : (k : ℕ) (own : Super) → (left k).super ≡ Some own → IsHalfOpened (is.0 k) (left k) =
+      λ k own e. ⊎_elim (λ (x : IsHalfOpened (is.0 k) (left k)). x) (λ (gone : (left k).super ≡ None). absurd (none_some own (sym gone ∙ e))) (is.2 k) in
       record {
         super = λ k own e. sym (c.super k) ∙ sym (there k own e).super ∙ e;
         bits = λ k x own e off. sym (c.bits k x) ∙ unmarked-bits (is.0 k) x ((there k own e).marks x off);
@@ -85,13 +93,23 @@ module _ (g : Geometry) (small : IsSmall g) (opened : Super) (h : History) (t : 
         content = λ i k s own e a off. ap (λ (f : ℕ → _). f s) (there k own e).content ∙ c.content i k s a off;
       }
 
-  module _ (left : ℕ → Stored) (l : Leaves g h.now left) (first : Super) (fresh : IsFreshest left first) (fit : IsFit opened first h.failed_at) where
+  module _ (left : ℕ → Stored) (l : Leaves g h.now left) (first : Super) (fresh : IsFreshestWithAbsent opened left first) (fit : IsFit opened first h.failed_at) where
+    -- a newer superblock than the opening's is a member's
+    newer_of : opened.events < first.events → (k : ℕ) × ((left k).super ≡ Some first)
+    newer_of up = ⊎_elim (λ (x : (k : ℕ) × ((left k).super ≡ Some first)). x) (λ (old : first.events ≤ opened.events). absurd (omega arith)) fresh.whose
+
+    no_later : first.events ≤ h.now.events
+    no_later = ⊎_elim
+        (λ (x : (k : ℕ) × ((left k).super ≡ Some first)). t.recorded.below x.0 first (l.super x.0 first x.1))
+        (λ (old : first.events ≤ opened.events). let up = t.recorded.later in let r : first.events ≤ h.now.events = omega arith in r)
+        fresh.whose
+
     -- the superblock that an opening goes by names only members with a role
     names : (k : ℕ) (own : Super) → (left k).super ≡ Some own → first.role own.number < g.raid_disks → has_role (h.now.state k) ≡ true
     names k own e low =
         let had = l.super k own e in
         let at_number : first.role (h.now.number k) < g.raid_disks = subst (λ d. first.role d < g.raid_disks) (t.recorded.number k own had) low in ⊎_elim
-        (λ (newer : opened.events < first.events). t.recorded.by_super fresh.at first (l.super fresh.at first fresh.is) fit.recorded newer k own had at_number)
+        (λ (newer : opened.events < first.events). let x = newer_of newer in t.recorded.by_super x.0 first (l.super x.0 first x.1) fit.recorded newer k own had at_number)
         (λ (same : (first.events ≡ opened.events) × ((d : ℕ) → first.role d ≡ opened.role d)).
         t.recorded.by_opening (let f = fit.recorded in let s = same.0 in omega arith) k own had (subst (λ r. r < g.raid_disks) (same.1 (h.now.number k)) at_number))
         fit.newer
@@ -126,10 +144,9 @@ module _ (g : Geometry) (small : IsSmall g) (opened : Super) (h : History) (t : 
         let had = l.super k own here in
         let n = near k own a here in
         let most = fresh.greatest k own here in
-        let first_had = l.super fresh.at first fresh.is in
-        let under = t.recorded.below fresh.at first first_had in
+        let under = no_later in
         let named : first.role (h.now.number k) < g.raid_disks = ⊎_elim
-        (λ (newer : opened.events < first.events). t.recorded.in_super fresh.at first k own first_had a had most newer)
+        (λ (newer : opened.events < first.events). let x = newer_of newer in t.recorded.in_super x.0 first k own (l.super x.0 first x.1) a had most newer)
         (λ (same : (first.events ≡ opened.events) × ((d : ℕ) → first.role d ≡ opened.role d)).
         subst (λ r. r < g.raid_disks) (sym (same.1 (h.now.number k))) (t.recorded.in_opening k own a had (let s = same.0 in omega arith)))
         fit.newer in
@@ -183,4 +200,18 @@ module _ (g : Geometry) (small : IsSmall g) (opened : Super) (h : History) (t : 
           let most = freshest.greatest k own there in
           let s = same.0 in
           omega arith)
+          fit.newer
+
+  pub stays_out : StaysOut g opened h
+  stays_out other away off left is first freshest fit =
+      by_test (is_in_sync (state_by g first other)) (λ at. absurd (out (found_says g first other at))) (λ e. e)
+    where
+      out : SaysInSync g first other → ⊥
+      out says = ⊎_elim
+          (λ (newer : opened.events < first.events). ⊎_elim
+          (λ (member : (k : ℕ) × ((left k).super ≡ Some first)). t.recorded.out_super member.0 first other.number ((leaves left is).super member.0 first member.1) away.away newer says.role)
+          (λ (absent : first.events ≤ opened.events). omega arith)
+          freshest.whose)
+          (λ (same : (first.events ≡ opened.events) × ((d : ℕ) → first.role d ≡ opened.role d)).
+          true≢false (sym (says_found g opened other small.few (as_opened first opened other same.0 (same.1 other.number) says)) ∙ off))
           fit.newer

@@ -236,7 +236,7 @@ can_fail_record = fails_after beginning (at w5 false) (Event.RecordFails 1) begi
 
 pub can_fail_marks : CanRun (beginning ++ (Event.StoreMarksFails 1 0 ∷ []))
 can_fail_marks = fails_after beginning (at w5 false) (Event.StoreMarksFails 1 0) begins
-    (w5.stored 1, refl, record { rest = refl; outside = λ _ _. refl }, fails w5 (w5.stored 1) refl refl (λ _. refl))
+    (w5.stored 1, refl, record { rest = refl; outside = λ _ _. refl; header = λ _. (refl, refl) }, fails w5 (w5.stored 1) refl refl (λ _. refl))
 
 pub can_fail_data : CanRun (beginning ++ data_fails)
 can_fail_data = (

@@ -5,7 +5,7 @@ use Rattle.md_model.specs.Devices.{Super}
 use Rattle.md_model.specs.Worlds.{Request, touches, World, IsInSync, IsQuiet}
 use Rattle.md_model.specs.Events.{Event, Step}
 use Rattle.md_model.specs.Runs.{History, then_in, opening, IsStart}
-use Rattle.md_model.specs.Lives.{Reopens}
+use Rattle.md_model.specs.Lives.{Reopens, Life}
 
 -- each sector's bytes
 abbrev pub Content : Type 0
@@ -80,11 +80,9 @@ KeepsContent =
 abbrev pub HasContent : Type 0
 HasContent = (g : Geometry) (opened : Super) (w : World) → IsStart g opened w → (a : Content) × Holds g a w
 
--- and at a later one, of what a stop left
-abbrev pub HasContentAgain : Type 0
-HasContentAgain =
+-- and it goes along every life
+abbrev pub HasContentAlong : Type 0
+HasContentAlong =
     (g : Geometry) (opened : Super) (w : World) (a : Content) → IsStart g opened w → Holds g a w
-    → (es : List Event) (rest : List (List Event)) (final : Super) (last : History) (b : Content)
-    → LifeWith g Anyhow opened (opening w) a es rest final last b
-    → (first : Super) (next : World) → Reopens g final last first next
-    → (c : Content) × BecomesAtOpening g next b c
+    → (es : List Event) (rest : List (List Event)) (final : Super) (last : History) → Life g opened w es rest final last
+    → (b : Content) × LifeWith g Anyhow opened (opening w) a es rest final last b

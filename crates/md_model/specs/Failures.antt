@@ -37,6 +37,7 @@ pub record LeftBySuper (w : World) (k : ℕ) (left : Stored) : Type 0 where
 pub record LeftByMarks (w : World) (k b : ℕ) (left : Stored) : Type 0 where
   pub rest : left ≡ record (w.stored k) { bits = left.bits; bitmap_events = left.bitmap_events; bitmap_fits = left.bitmap_fits }
   pub outside : (c : ℕ) → block_of c ≢ b → left.bits c ≡ (w.stored k).bits c
+  pub header : b ≢ 0 → (left.bitmap_events ≡ (w.stored k).bitmap_events) × (left.bitmap_fits ≡ (w.stored k).bitmap_fits)
 
 pub record LeftByData (w : World) (k : ℕ) (p : Request) (left : Stored) : Type 0 where
   pub rest : left ≡ record (w.stored k) { content = left.content }

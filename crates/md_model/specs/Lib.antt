@@ -16,3 +16,5 @@ pub mod Lives
 pub mod SmallRun
 pub mod Content
 pub mod Behind
+pub mod Returns
+pub mod Fits

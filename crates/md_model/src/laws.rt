@@ -3,16 +3,18 @@
 ghost use Rattle.std.specs.Prelude.{◌≡◌, ℕ, ◌<◌, true, [], ◌∷◌, ◌++◌};
 ghost use Rattle.md_model.specs.Assembly.{IsFound};
 ghost use Rattle.md_model.specs.Behind.{LeavesBehind, MissingBehind};
-ghost use Rattle.md_model.specs.Content.{HasContent, HasContentAgain, KeepsContent};
+ghost use Rattle.md_model.specs.Content.{HasContent, HasContentAlong, KeepsContent};
 ghost use Rattle.md_model.specs.Devices.{Covered, Stored, Super, is_marked};
 ghost use Rattle.md_model.specs.Events.{Event};
+ghost use Rattle.md_model.specs.Fits.{FitsWhenThere, StepsRun};
 ghost use Rattle.md_model.specs.Lives.{Always, IsCovered, Reopens};
 ghost use Rattle.md_model.specs.Openings.{IsOpened, IsOpenedFrom};
+ghost use Rattle.md_model.specs.Returns.{CoversReturns};
 ghost use Rattle.md_model.specs.Runs.{opening};
 ghost use Rattle.md_model.specs.Sectors.{Geometry, chunk_of};
 ghost use Rattle.md_model.specs.SmallArray.{small_geometry, small_super, small_world};
 ghost use Rattle.md_model.specs.SmallRun.{CanRun, beginning, chunk_resynced, data_fails, data_written};
-ghost use Rattle.md_model.specs.Stops.{IsSafeAtStop, KeepsOut};
+ghost use Rattle.md_model.specs.Stops.{IsSafeAtStop, KeepsOut, StaysOut};
 ghost use Rattle.md_model.specs.Worlds.{IsInSync, World};
 
 /// The premises on an opening can be met: the mirror of two members does.
@@ -57,6 +59,7 @@ pub fn every_run()
 
     // Once data was let through, a device that the opening left out is not found in sync beside one that was.
     ensures keeps_out { Always KeepsOut }
+    ensures stays_out { Always StaysOut }
 
     // The members in sync hold the array's content, which only the end of a request changes, and a resync or an opening in
     // chunks that each of them has marked.
@@ -68,8 +71,24 @@ pub fn every_run()
     ensures missing_behind { MissingBehind }
 {}
 
-/// There is such a content: at an opening of devices that are covered, and at each later one of what a stop left.
+/// There is such a content at an opening of devices that are covered, and it goes along every life.
 pub fn has_content()
     ensures at_first { HasContent }
-    ensures again { HasContentAgain }
+    ensures along { HasContentAlong }
+{}
+
+/// A device that an opening left out may be found in sync again, as long as no data was tried: then the marks cover it too.
+pub fn returning_devices()
+    ensures covered { CoversReturns }
+{}
+
+/// When the next opening's superblock is fit: it is enough that one of its devices is as new as the opening before and as the
+/// last failure, if no two superblocks of that opening were as new and told of other roles.
+pub fn fitness()
+    ensures fits { FitsWhenThere }
+{}
+
+/// A call that is a list of events is a run, from whatever history it is made.
+pub fn whole_calls()
+    ensures run { StepsRun }
 {}
