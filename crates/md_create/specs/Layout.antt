@@ -1,6 +1,7 @@
 -- How a new member is laid out on its device.
-use Rattle.std.specs.Prelude.{◌≡◌, ℕ, ◌+◌, ◌-◌, ◌*◌, List, [], ◌∷◌, ◌++◌, length, map, drop, reverse, replicate}
+use Rattle.std.specs.Prelude.{◌≡◌, ℕ, zero, suc, ◌+◌, ◌-◌, ◌*◌, ◌<◌, List, [], ◌∷◌, ◌++◌, map, drop, reverse, replicate}
 use Rattle.std.specs.List.{range_with_len}
+use Rattle.md_device.specs.Splice.{SameOutside}
 use Rattle.md_device.specs.Device.{held}
 use Rattle.md_super.specs.declared.superblock.Superblock.{Superblock}
 use Rattle.md_create.specs.Stub.{super_bytes}
@@ -11,11 +12,15 @@ use Rattle.md_members.specs.Areas.{bitmap_sectors}
 use Rattle.md_create.specs.declared.params.NewMember.{NewMember}
 use Rattle.md_create.specs.Writes.{Write}
 
--- sector i of the bitmap: 512 bytes of the header and the bits behind it, with zeros where these end
-abbrev pub bitmap_write : BitmapHeader → Bitmap → ℕ → Write
-bitmap_write h m i = record { sector = 16 + i; bytes = padded 512 (drop (512 * i) (header_bytes h ++ m.bytes)) }
+-- sector i of a bitmap: the header and the first bits, or more bits, with zeros where these end
+abbrev pub bitmap_sector : BitmapHeader → Bitmap → ℕ → List ℕ
+bitmap_sector h m zero = padded 512 (header_bytes h ++ m.bytes)
+bitmap_sector h m (suc i) = padded 512 (drop (512 * i + 256) m.bytes)
 
--- its first n sectors, the last one first: so the header's sector is written last
+abbrev pub bitmap_write : BitmapHeader → Bitmap → ℕ → Write
+bitmap_write h m i = record { sector = 16 + i; bytes = bitmap_sector h m i }
+
+-- the first n sectors, the last one first: so the header's sector is written last
 abbrev pub bitmap_writes : BitmapHeader → Bitmap → ℕ → List Write
 bitmap_writes h m n = map (bitmap_write h m) (reverse (range_with_len 0 n))
 
@@ -42,10 +47,8 @@ writes_of member =
 
 -- What stands on the device then. Where neither a part of the member nor its log stands, nothing has changed.
 pub record IsLaidOut (old : List ℕ) (member : NewMember) (new : List ℕ) : Type 0 where
-  pub size : length new ≡ length old
-  pub before : held new 0 4096 ≡ held old 0 4096
   pub superblock : held new 8 4096 ≡ super_bytes member.superblock
-  pub bitmap : held new 16 (512 * sectors_of member) ≡ padded (512 * sectors_of member) (header_bytes member.header ++ member.marks.bytes)
-  pub between : held new (16 + sectors_of member) (512 * (2016 - sectors_of member)) ≡ held old (16 + sectors_of member) (512 * (2016 - sectors_of member))
+  pub bitmap : (i : ℕ) → i < sectors_of member → held new (16 + i) 512 ≡ bitmap_sector member.header member.marks i
+  pub behind_bitmap : held new (16 + sectors_of member) (512 * (2016 - sectors_of member)) ≡ held old (16 + sectors_of member) (512 * (2016 - sectors_of member))
   pub log : held new 2032 4096 ≡ replicate 4096 0xff
-  pub behind : drop (512 * 2040) new ≡ drop (512 * 2040) old
+  pub others : SameOutside (512 * 8) (512 * 2032) old new

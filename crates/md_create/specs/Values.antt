@@ -24,13 +24,20 @@ device_uuid_of set_uuid number = named_uuid set_uuid (decimal number)
 abbrev pub device_for : List (Option ℕ) → ℕ → Option ℕ
 device_for sizes role = slice_index_or sizes role None
 
--- the role that each device number has: its own, or that of a faulty one where the device is missing
-abbrev pub roles_of : List (Option ℕ) → List ℕ
-roles_of sizes = map (λ role. if is_some (device_for sizes role) then role else 0xfffe) (range_with_len 0 (length sizes))
+-- the role of a device number: its own, or that of a faulty one where the device is missing
+abbrev pub role_for : List (Option ℕ) → ℕ → ℕ
+role_for sizes number = if is_some (device_for sizes number) then number else 0xfffe
 
--- the devices that are there, each by its role, which is its number, and its sectors, in the order of roles
+abbrev pub roles_of : List (Option ℕ) → List ℕ
+roles_of sizes = map (role_for sizes) (range_with_len 0 (length sizes))
+
+-- a device by its role, which is its number, and its sectors, where it is there
+abbrev pub numbered : List (Option ℕ) → ℕ → Option (ℕ × ℕ)
+numbered sizes role = option_map (λ sectors. (role, sectors)) (device_for sizes role)
+
+-- the devices that are there, in the order of roles
 abbrev pub devices_of : List (Option ℕ) → List (ℕ × ℕ)
-devices_of sizes = filter_map (λ role. option_map (λ n. (role, n)) (device_for sizes role)) (range_with_len 0 (length sizes))
+devices_of sizes = filter_map (numbered sizes) (range_with_len 0 (length sizes))
 
 -- A superblock of the array, but for its device's number and size. A resync_offset of all ones is a clean array.
 pub record IsNewSuper (params : CreateParams) (sizes : List (Option ℕ)) (size : ℕ) (v : Superblock) : Type 0 where

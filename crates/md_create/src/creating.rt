@@ -2,7 +2,7 @@
 ghost use Rattle.std.specs.Prelude.{◌≡◌, ◌+◌, ◌≤◌, ◌<◌, ℕ, List, Option, IfOk, IsErrOf, length};
 ghost use Rattle.md_bitmap.specs.Sound.{IsSound, chunk_count};
 ghost use Rattle.md_create.specs.Geometry.{HasDevice, IsGeometry};
-ghost use Rattle.md_create.specs.Values.{AreMembers, HasMarks, IsNewHeader, IsNewMember, IsNewSuper, device_of, roles_of};
+ghost use Rattle.md_create.specs.Values.{AreMembers, HasMarks, IsNewHeader, IsNewMember, IsNewSuper, device_of, role_for, roles_of};
 
 use crate::fault::CreateFault;
 use crate::geometry::size_of;
@@ -86,13 +86,21 @@ fn roles_for(alloc: Global, sizes: &[Option<u64>]) -> Result<Roles, AllocError>
 {
     let mut roles = Vec::new(alloc);
     for role in 0..sizes.len() {
-        roles.push(if sizes[role].is_some() {
-            role as u16
-        } else {
-            FAULTY
-        })?;
+        roles.push(role_for(sizes, role))?;
     }
     Ok(Roles::from_vec(roles))
+}
+
+fn role_for(sizes: &[Option<u64>], number: usize) -> u16
+    requires few { length sizes.now ≤ 32 }
+    requires within { number < length sizes.now }
+    ensures { result ≡ role_for sizes.now number }
+{
+    if sizes[number].is_some() {
+        number as u16
+    } else {
+        FAULTY
+    }
 }
 
 fn new_marks(alloc: Global, params: &CreateParams, size: u64) -> Result<Marks, AllocError>

@@ -1,9 +1,8 @@
 // Laying a new member out on its device.
-ghost use Rattle.std.specs.Prelude.{◌≡◌, ◌≤◌, ◌<◌, ◌*◌, ◌+◌, length, true, OnOk, OnErr};
-ghost use Rattle.md_device.specs.Splice.{SameOutside};
+ghost use Rattle.std.specs.Prelude.{◌≡◌, ◌≤◌, ◌*◌, ◌+◌, ◌%◌, [], ◌∷◌, length, true, OnOk};
 ghost use Rattle.md_members.specs.Areas.{bitmap_sectors};
-ghost use Rattle.md_create.specs.Writes.{IsStopped, after};
-ghost use Rattle.md_create.specs.Layout.{IsLaidOut, bitmap_writes, writes_of};
+ghost use Rattle.md_create.specs.Writes.{MakesWrites};
+ghost use Rattle.md_create.specs.Layout.{IsLaidOut, bitmap_sector, bitmap_writes, writes_of};
 
 use crate::params::NewMember;
 use crate::places::{BITMAP_SECTOR, LOG_SECTOR};
@@ -17,47 +16,50 @@ use md_super::SUPER_SECTOR;
 /// has stopped bears none. It takes no memory.
 pub fn lay_out<D: Device>(device: &mut D, member: &NewMember) -> Result<(), WriteFault>
     requires { 512 * 2048 ≤ length (D.content device.old) }
-
-    ensures ok { OnOk result (D.honest device.old ≡ true → D.content device.new ≡ after (D.content device.old) (writes_of member.now)) }
+    ensures writes { MakesWrites D.content D.honest D.failures (writes_of member.now) device.old device.new result }
     ensures laid_out { OnOk result (D.honest device.old ≡ true → IsLaidOut (D.content device.old) member.now (D.content device.new)) }
-    ensures err { OnErr result (D.honest device.old ≡ true → IsStopped (D.content device.old) (writes_of member.now) (D.content device.new)) }
-    ensures failed { OnErr result (D.honest device.old ≡ true → D.failures device.old < D.failures device.new) }
-
-    // Without honesty: nothing changes but from sector 8 to 2039.
-    ensures outside { SameOutside (512 * 8) (512 * 2032) (D.content device.old) (D.content device.new) }
-    ensures honest { D.honest device.new ≡ D.honest device.old }
-    ensures counted { D.failures device.old ≤ D.failures device.new }
 {
+    put(device, SUPER_SECTOR, &[0; 4096])?;
+    put(device, LOG_SECTOR, &[0xff; 4096])?;
+    put_bitmap(device, &member.header, &member.marks)?;
     let mut block = [0; 4096];
-    device.write(SUPER_SECTOR, &block)?;
-    device.write(LOG_SECTOR, &[0xff; 4096])?;
-    write_bitmap(device, &member.header, &member.marks)?;
     encode(&member.superblock, &mut block);
-    device.write(SUPER_SECTOR, &block)
+    put(device, SUPER_SECTOR, &block)
+}
+
+// Makes one write.
+fn put<D: Device>(device: &mut D, sector: u64, bytes: &[u8]) -> Result<(), WriteFault>
+    requires whole { length bytes.now % 512 ≡ 0 }
+    requires within { 512 * sector + length bytes.now ≤ length (D.content device.old) }
+    ensures { MakesWrites D.content D.honest D.failures (record { sector = sector; bytes = bytes.now } ∷ []) device.old device.new result }
+{
+    device.write(sector, bytes)
 }
 
 // Writes the sectors of a bitmap, the last one first.
-fn write_bitmap<D: Device>(
+fn put_bitmap<D: Device>(
     device: &mut D,
     header: &BitmapHeader,
     marks: &Marks,
 ) -> Result<(), WriteFault>
     requires room { 512 * 2048 ≤ length (D.content device.old) }
     requires few_chunks { marks.now.chunks ≤ 1048576 }
-
-    ensures ok { OnOk result (D.honest device.old ≡ true → D.content device.new ≡ after (D.content device.old) (bitmap_writes header.now marks.now (bitmap_sectors marks.now.chunks))) }
-    ensures err { OnErr result (D.honest device.old ≡ true → IsStopped (D.content device.old) (bitmap_writes header.now marks.now (bitmap_sectors marks.now.chunks)) (D.content device.new)) }
-    ensures failed { OnErr result (D.honest device.old ≡ true → D.failures device.old < D.failures device.new) }
-    ensures outside { SameOutside (512 * 16) (512 * bitmap_sectors marks.now.chunks) (D.content device.old) (D.content device.new) }
-    ensures honest { D.honest device.new ≡ D.honest device.old }
-    ensures counted { D.failures device.old ≤ D.failures device.new }
+    ensures { MakesWrites D.content D.honest D.failures (bitmap_writes header.now marks.now (bitmap_sectors marks.now.chunks)) device.old device.new result }
 {
     let mut left = sectors_of_bitmap(marks.chunks());
     while left > 0 {
         left -= 1;
-        device.write(BITMAP_SECTOR + u64::from(left), &marks.block(header, left))?;
+        let sector = sector_of_bitmap(header, marks, left);
+        put(device, BITMAP_SECTOR + u64::from(left), &sector)?;
     }
     Ok(())
+}
+
+// Sector `i` of a bitmap.
+fn sector_of_bitmap(header: &BitmapHeader, marks: &Marks, i: u32) -> [u8; 512]
+    ensures { result ≡ bitmap_sector header.now marks.now i }
+{
+    marks.block(header, i)
 }
 
 // How many sectors hold a bitmap's header and the bits of so many chunks.
