@@ -1,5 +1,5 @@
 -- Writes in their order, some of them made.
-use Rattle.std.proofs.Common.{◌≡◌, ℕ, ◌+◌, ◌*◌, ◌<◌, ◌≤◌, Bool, true, List, [], ◌∷◌, ◌++◌, length, append_assoc, OnOk, OnErr, IsErr, refl, ap, sym, ◌∙◌, arith, Result, Ok, Err}
+use Rattle.std.proofs.Common.{◌≡◌, ℕ, ◌+◌, ◌*◌, ◌<◌, ◌≤◌, Bool, true, false, List, [], ◌∷◌, ◌++◌, length, append_assoc, OnOk, OnErr, IsErr, refl, ap, sym, ◌∙◌, arith, Result, Ok, Err}
 use Rattle.std.proofs.lemmas.List.{append-nil}
 use Rattle.std.proofs.lemmas.List.Sums.{fold-append}
 use Rattle.md_device.specs.Splice.{SameOutside}
@@ -94,9 +94,13 @@ module _ {D : Type 0} (content : D → List ℕ) (honest : D → Bool) (failures
   }
 
   pub stops_any : {T E : Type 0} (writes : List Write) (old new : D) (result : Result T E) → StopsInWrites content honest failures writes old new → IsErr result → MakesWrites content honest failures writes old new result
-  stops_any writes old new (Ok x) stop err = absurd err
+  stops_any writes old new (Ok x) stop err = absurd (let e : false ≡ true = err in cc)
   stops_any writes old new (Err e) stop err = stop
 
   pub does_any : {T E : Type 0} (writes more : List Write) (old mid new : D) (result : Result T E) → DoesWrites content honest failures writes old mid → MakesWrites content honest failures more mid new result → MakesWrites content honest failures (writes ++ more) old new result
   does_any writes more old mid new (Ok x) first then = does_then writes more old mid new first then
   does_any writes more old mid new (Err e) first then = stops_then writes more old mid new first then
+
+  pub all_done_of : {T E : Type 0} (writes : List Write) (old new : D) (result : Result T E) {P : Type 0} → MakesWrites content honest failures writes old new result → (DoesWrites content honest failures writes old new → P) → OnOk result P
+  all_done_of writes old new (Ok x) does then = then does
+  all_done_of writes old new (Err e) stop then = tt
