@@ -6,7 +6,6 @@ ghost use Rattle.md_create.specs.Layout.{IsLaidOut, bitmap_sector, bitmap_writes
 
 use crate::params::NewMember;
 use crate::places::{BITMAP_SECTOR, LOG_SECTOR};
-use crate::stub::encode;
 use md_bitmap::{BitmapHeader, Marks};
 use md_device::{Device, WriteFault};
 use md_super::SUPER_SECTOR;
@@ -23,7 +22,7 @@ pub fn lay_out<D: Device>(device: &mut D, member: &NewMember) -> Result<(), Writ
     put(device, LOG_SECTOR, &[0xff; 4096])?;
     put_bitmap(device, &member.header, &member.marks)?;
     let mut block = [0; 4096];
-    encode(&member.superblock, &mut block);
+    member.superblock.encode(&mut block);
     put(device, SUPER_SECTOR, &block)
 }
 
