@@ -25,8 +25,9 @@ impl MemberState {
         ensures { result ≡ role_of self.now }
     {
         match *self {
-            MemberState::InSync(role) | MemberState::Recovering(role) | MemberState::Stale(role) =>
-                { Some(role) }
+            MemberState::InSync(role) => Some(role),
+            MemberState::Recovering(role) => Some(role),
+            MemberState::Stale(role) => Some(role),
             MemberState::Spare | MemberState::Faulty => None,
         }
     }
