@@ -1,8 +1,9 @@
 """What the program has to answer for the images, command by command, as others than the program say it.
 
-A comparer takes an array and gives a Case for each run of its command. A command over several images, as one that
-assembles the array, is one more function here that names more than one member in its Case.
+A comparer takes an array and gives a Case for each run of its command: over one image, or over all of them in each order.
 """
+
+import itertools
 
 import outside
 
@@ -30,12 +31,14 @@ class Line:
 class Case:
     """A run over some members, and the answer that it has to give: a report, or a fault."""
 
-    def __init__(self, command, members, lines=None, fault=None):
+    def __init__(self, command, members, lines=None, fault=None, stores_marks_on=()):
         self.name = "%s %s" % (command, ", ".join(member.name for member in members))
         self.command = command
         self.members = members
         self.lines = lines
         self.fault = fault
+        # The members on which the run stores its marks; no other may change.
+        self.stores_marks_on = stores_marks_on
 
     def judge(self, status, output, errors):
         """The reasons against an answer, and how many of its lines were compared with something from outside."""
@@ -245,8 +248,105 @@ def examine_badblocks(member):
     return [Line(mdadm=one, facts=other) for one, other in zip(mdadm, facts)]
 
 
+def marked_chunks(member):
+    """The chunks that a member's bitmap marks: all of them where it is not accepted."""
+    bitmap = member.facts["bitmap"]
+    if not bitmap["passes_tool_rule"]:
+        return set(range(bitmap["chunks"]))
+    return {chunk for first, last in bitmap["dirty_ranges"] for chunk in range(first, last + 1)}
+
+
+def freshest(members):
+    """The first of those with the greatest events."""
+    return max(members, key=lambda member: member.facts["events"])
+
+
+class Assembled:
+    """Which array the members of a folder make, in an order of theirs, by the kernel and by facts.json."""
+
+    def __init__(self, array, members):
+        self.members = members
+        self.found = outside.Found(array.facts)
+        self.first = freshest(members).facts
+        self.in_sync = [member for member in members if self.found.disks[member.index].slot is not None]
+        told = [member for member in members if member.facts["in_sync"]]
+        if told != self.in_sync:
+            raise outside.Unreadable("%s: the kernel and facts.json differ on who is in sync" % array.name)
+        self.chunks = self.first["bitmap"]["chunks"]
+        self.marked = len(set().union(*(marked_chunks(member) for member in self.in_sync)))
+        self.refused_bitmaps = [member for member in self.in_sync if not member.facts["bitmap"]["passes_tool_rule"]]
+
+    def role(self, member):
+        """The role of a member by the freshest superblock, as text."""
+        roles = self.first["dev_roles"]
+        number = member.facts["dev_number"]
+        return roles[number] if number < len(roles) and not roles[number].startswith("...") else "spare"
+
+    def standing(self, member):
+        """What a member is, and its role."""
+        role = self.role(member)
+        disk = self.found.disks[member.index]
+        if disk.slot is not None:
+            return str(disk.slot), "in sync"
+        if not role.isdigit():
+            return "-", {"spare": "spare", "faulty": "faulty"}[role]
+        if member.facts["events"] + 1 < self.first["events"]:
+            return role, "stale"
+        return role, "recovering" if member.facts["feature_map"] & RECOVERY_FEATURE else "in sync"
+
+    def member_line(self, index, member):
+        role, standing = self.standing(member)
+        return Line(kernel="%6d %6d %6s %s" % (index, member.facts["dev_number"], role, standing))
+
+    def condition(self):
+        words = ["clean" if self.first["resync_offset"] == "none" else "active"]
+        if self.found.degraded:
+            words.append("degraded")
+        # This project's own rule: nothing is resynced while chunks are marked and several members are in sync.
+        if self.marked and len(self.in_sync) > 1:
+            words.append("resync needed")
+        return ", ".join(words)
+
+    def summary(self):
+        text = "in sync %d of %d, events %d, marked %d"
+        return [Line(kernel=text % (len(self.in_sync), self.found.raid_disks, self.found.events, self.marked))]
+
+    def detail(self):
+        line = Line.labelled
+        return [
+            line("Array UUID", kernel=self.found.uuid),
+            line("Name", kernel=self.found.name),
+            line("Raid Devices", kernel=self.found.raid_disks, facts=self.first["raid_disks"]),
+            line("Array Size", kernel=in_sectors(self.found.sectors), facts=in_sectors(self.first["size_sectors"])),
+            line("In Sync", kernel=len(self.in_sync)),
+            line("State", kernel=self.condition()),
+            line("Events", kernel=self.found.events, facts=self.first["events"]),
+            line("Marked Chunks", facts="%d of %d" % (self.marked, self.chunks)),
+        ] + [self.member_line(index, member) for index, member in enumerate(self.members)]
+
+
+def of_each_order(command, lines):
+    """A comparer of a command that takes all members of an array: in each order they are what they are."""
+
+    def cases(array):
+        for members in itertools.permutations(array.members):
+            members = list(members)
+            strange = [(index, strange_features(member)) for index, member in enumerate(members) if strange_features(member)]
+            if strange:
+                yield Case(command, members, fault="Member %d Super Feature %d" % strange[0])
+            elif not members[0].facts.get("bitmap"):
+                yield Case(command, members, fault="Assemble NoBitmap 0")
+            else:
+                assembled = Assembled(array, members)
+                yield Case(command, members, lines=lines(assembled), stores_marks_on=assembled.refused_bitmaps)
+
+    return cases
+
+
 COMPARERS = {
     "examine": of_each_member("examine", examine),
     "examine-bitmap": of_each_member("examine-bitmap", examine_bitmap),
     "examine-badblocks": of_each_member("examine-badblocks", examine_badblocks),
+    "assemble": of_each_order("assemble", Assembled.summary),
+    "detail": of_each_order("detail", Assembled.detail),
 }

@@ -34,6 +34,38 @@ class Member:
             raise Unreadable("%s: the image is not as long as facts.json says" % self.name)
 
 
+class Found:
+    """What a real kernel found when it assembled the images read-only."""
+
+    def __init__(self, facts):
+        found = facts["judge_readonly"]
+        if found["assembled"] != "yes":
+            raise Unreadable("the kernel did not assemble these images")
+        self.events = int(found["array.events"])
+        self.degraded = found["array.degraded"] != "0"
+        self.raid_disks = int(found["array.raid_disks"])
+        self.sectors = int(found["array.size_bytes"]) // 512
+        self.uuid = hyphenated(found["array.uuid"])
+        self.name = found["array.name"]
+        self.disks = [self.disk(found, index) for index in range(len(facts["members"]))]
+
+    @staticmethod
+    def disk(found, index):
+        """The slot of a member in sync, and whether the kernel took the member in."""
+        own = {key: value for key, value in ((k.partition("disk.%d." % index)[2], v) for k, v in found.items()) if key}
+        taken = own["in_array"] == "yes"
+        in_sync = taken and "in_sync" in own["state_now"].split(",")
+        return Disk(taken, int(own["slot"]) if in_sync else None)
+
+
+class Disk:
+    """One member, as the kernel found it."""
+
+    def __init__(self, taken, slot):
+        self.taken = taken
+        self.slot = slot
+
+
 class Array:
     """The members of one folder, in the order of their numbers."""
 
