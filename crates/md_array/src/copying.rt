@@ -1,14 +1,14 @@
 // Copies.
 ghost use Rattle.std.specs.Prelude.{◌≡◌, IfOk};
 
-use md_super::{Roles, Superblock};
+use md_super::Superblock;
 use std::alloc::{AllocError, Global};
 
 /// A superblock with the same fields.
 pub(crate) fn copy_superblock(alloc: Global, v: &Superblock) -> Result<Superblock, AllocError>
     ensures { IfOk result (λ copy. copy ≡ v.now) }
 {
-    let roles = Roles::from_vec(Vec::from_slice(alloc, v.roles.as_slice())?);
+    let roles = v.roles.try_clone(alloc)?;
     Ok(Superblock {
         feature_map: v.feature_map,
         set_uuid: v.set_uuid,

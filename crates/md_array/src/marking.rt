@@ -53,8 +53,12 @@ fn unite(marks: &mut Marks, others: &Marks)
     ensures chunks { marks.new.chunks ≡ marks.old.chunks }
     ensures bits { (c : ℕ) → is_set marks.new.bytes c ≡ (is_set marks.old.bytes c || (nat_lt c others.now.chunks && is_set others.now.bytes c)) }
 {
+    let end = others.chunks();
     let mut from = 0;
-    while let Some(chunk) = others.next_marked(from) {
+    while from < end {
+        let Some(chunk) = others.next_marked(from) else {
+            return;
+        };
         marks.mark(chunk);
         from = chunk + 1;
     }

@@ -1,6 +1,5 @@
 // What is kept in memory of the members that were read, and of the array that they make.
-ghost use Rattle.std.specs.Prelude.{◌≡◌, ◌↔◌, ◌⊎◌, ◌<◌, ◌/◌, ℕ, true, false, length, IfOk, Some, nat_le, count_by};
-ghost use Rattle.std.specs.Int.{div_ceil};
+ghost use Rattle.std.specs.Prelude.{◌≡◌, ◌↔◌, ◌⊎◌, ◌<◌, ℕ, true, false, length, IfOk, MatchOption, max, nat_le, nat_lt, ◌&&◌, count_by};
 ghost use Rattle.md_assembly.specs.Assembled.{IsAssembled};
 ghost use Rattle.md_assembly.specs.Faults.{NoFault};
 ghost use Rattle.md_assembly.specs.States.{is_in_sync};
@@ -93,7 +92,7 @@ fn member_of(
         bad,
         ..
     } = info;
-    let due = is_recorded(state) && superblock.events < events;
+    let due = is_due(state, superblock.events, events);
     let mut member = Member {
         superblock,
         header: header.unwrap(),
@@ -103,18 +102,19 @@ fn member_of(
         due,
         re_added: false,
     };
-    if needs_marks(&member) {
-        member.stored = Marks::all(alloc, member.stored.chunks())?;
+    if !needs_marks(&member) {
+        return Ok(member);
     }
+    member.stored = Marks::all(alloc, member.stored.chunks())?;
     Ok(member)
 }
 
-// Whether the superblock of a member in this state is kept up to date.
-fn is_recorded(state: MemberState) -> bool
-    ensures { result ≡ is_recorded state }
+// Whether the superblock of a member in this state, of these events, has to be stored.
+fn is_due(state: MemberState, own: u64, events: u64) -> bool
+    ensures { result ≡ (is_recorded state && nat_lt own events) }
 {
     match state {
-        MemberState::InSync(_) | MemberState::Recovering(_) | MemberState::Spare => true,
+        MemberState::InSync(_) | MemberState::Recovering(_) | MemberState::Spare => own < events,
         MemberState::Stale(_) | MemberState::Faulty => false,
     }
 }
@@ -133,7 +133,9 @@ fn last_cleared(members: &[Member], events: u64) -> u64
     last.unwrap_or(events)
 }
 
-fn greater(last: Option<u64>, events: u64) -> u64 {
+fn greater(last: Option<u64>, events: u64) -> u64
+    ensures { MatchOption last (result ≡ events) (λ l. result ≡ max l events) }
+{
     match last {
         Some(last) => last.max(events),
         None => events,
