@@ -1,11 +1,11 @@
 -- Members in which no fault is found are of one size, and of chunks of one size.
-use Rattle.std.proofs.Common.{◌≡◌, ◌∙◌, ◌≢◌, ℕ, ◌+◌, ◌/◌, ◌<◌, ◌≤◌, zero, suc, List, map, length, Some, Option, ap, sym, subst, refl, arith, inl, inr}
+use Rattle.std.proofs.Common.{◌≡◌, ◌∙◌, ℕ, ◌+◌, ◌/◌, ◌<◌, zero, suc, List, length, Some, Option, ap, sym, arith, inl, inr}
 use Rattle.std.specs.Int.{div_ceil}
 use Rattle.std.specs.List.{slice_get}
 use Rattle.std.specs.Option.{option_map}
 use Rattle.std.proofs.lemmas.Bool.{cases_eq, cases_lt}
 use Rattle.std.proofs.lemmas.List.{length-map}
-use Rattle.std.proofs.lemmas.Option.{slice_get-map, slice_get_within}
+use Rattle.std.proofs.lemmas.Option.{slice_get_within}
 use Rattle.md_bitmap.specs.declared.header.BitmapHeader.{BitmapHeader}
 use Rattle.md_bitmap.specs.declared.chunks.Chunks.{Chunks}
 use Rattle.md_bitmap.specs.Sound.{chunk_count}
@@ -13,12 +13,10 @@ use Rattle.md_members.specs.declared.info.MemberInfo.{MemberInfo}
 use Rattle.md_assembly.specs.declared.assembling.Assembly.{Assembly}
 use Rattle.md_assembly.specs.declared.fault.AssembleFault.TheVariants.{Geometry, NoBitmap}
 use Rattle.md_assembly.specs.Assembled.{IsAssembled, superblocks}
-use Rattle.md_assembly.specs.States.{states_by}
-use Rattle.md_assembly.specs.Faults.{HasOtherGeometry, LacksBitmap, NoFault, chunk_size}
+use Rattle.md_assembly.specs.Faults.{HasOtherGeometry, LacksBitmap, NoFault}
 use Rattle.md_assembly.specs.Listed.{IsLeast, MemberAt, PairAt}
 use Rattle.md_array.specs.View.{MemberView}
-use Rattle.md_array.specs.Opening.{IsKept}
-use Rattle.md_array.specs.Remembering.{AreKept, AreWhole, HaveChunks, IsChunkingOf, IsWhole}
+use Rattle.md_array.specs.Remembering.{AreKept, AreWhole, HaveChunks, IsChunkingOf}
 use Rattle.md_array.proofs.Listing.{listed_at}
 
 -- what holds of no least number holds of none

@@ -1,18 +1,17 @@
 -- What is found in the list of the members is what an array of them keeps.
-use Rattle.std.proofs.Common.{◌≡◌, ◌∙◌, ◌↔◌, ◌⊎◌, ℕ, ◌+◌, ◌<◌, ◌≤◌, Bool, true, false, List, map, length, Some, None, ap, sym, subst, refl, arith, inl, inr}
+use Rattle.std.proofs.Common.{◌≡◌, ◌∙◌, ◌↔◌, ◌⊎◌, ℕ, ◌<◌, true, false, List, length, Some, ap, sym, arith, inl, inr}
 use Rattle.std.specs.Int.{div_ceil}
 use Rattle.std.specs.List.{slice_get}
 use Rattle.std.specs.Option.{option_map}
 use Rattle.std.proofs.lemmas.Option.{slice_get-map, slice_get_within}
 use Rattle.md_super.specs.declared.superblock.Superblock.{Superblock}
-use Rattle.md_bitmap.specs.declared.chunks.Chunks.{Chunks}
 use Rattle.md_bitmap.specs.Marks.{Bitmap, IsMarked, is_set}
 use Rattle.md_members.specs.declared.info.MemberInfo.{MemberInfo}
 use Rattle.md_assembly.specs.declared.assembling.Assembly.{Assembly}
 use Rattle.md_assembly.specs.Assembled.{IsAssembled}
 use Rattle.md_assembly.specs.Faults.{NoFault}
 use Rattle.md_array.specs.View.{ArrayView, MemberView}
-use Rattle.md_array.specs.Members.{IsAlone, IsInSync, IsMember}
+use Rattle.md_array.specs.Members.{IsAlone, IsInSync}
 use Rattle.md_array.specs.Opening.{ClearedAt, IsLastCleared, IsRemembered}
 use Rattle.md_array.specs.Remembering.{AreKept, AreWhole, ClearedIn, HaveChunks, IsAloneIn, IsChunkingOf, IsLastClearedOr, IsMarkedIn}
 use Rattle.md_array.proofs.Geometry.{count_of, width_of}
@@ -40,11 +39,10 @@ abbrev pub MarkedBySome : ArrayView → ℕ → Type 0
 MarkedBySome a c = (k : ℕ) × (m : MemberView) × IsInSync a k m × IsMarked m.stored c
 
 marked_by_some : (a : ArrayView) (c : ℕ) → ((is_set a.marks.bytes c ≡ true) ↔ IsMarkedIn a.members (length a.members) c) → (is_set a.marks.bytes c ≡ true) ↔ MarkedBySome a c
-marked_by_some a c found =
-    (
-      λ set. let h = found.0 set in (h.at, h.member, record { member = h.listed; in_sync = h.in_sync }, h.marked),
-      λ h. found.1 (record { at = h.0; member = h.1; early = slice_get_within a.members h.0 h.1 h.2.member; listed = h.2.member; in_sync = h.2.in_sync; marked = h.3 }),
-    )
+marked_by_some a c found = (
+  λ set. let h = found.0 set in (h.at, h.member, record { member = h.listed; in_sync = h.in_sync }, h.marked),
+  λ h. found.1 (record { at = h.0; member = h.1; early = slice_get_within a.members h.0 h.1 h.2.member; listed = h.2.member; in_sync = h.2.in_sync; marked = h.3 }),
+)
 
 alone : (a : ArrayView) → IsAloneIn a.members → IsAlone a
 alone a one j k m n at_j at_k = one j k m n at_j.member at_j.in_sync at_k.member at_k.in_sync
@@ -56,11 +54,10 @@ abbrev pub NoneSetIn : Bitmap → Type 0
 NoneSetIn marks = (c : ℕ) → is_set marks.bytes c ≡ false
 
 resynced : (a : ArrayView) → ((a.resynced ≡ true) ↔ (NoneSetIn a.marks ⊎ IsAloneIn a.members)) → (a.resynced ≡ true) ↔ (NoneSetIn a.marks ⊎ IsAlone a)
-resynced a found =
-    (
-      λ yes. elim (found.0 yes) [ inl none ↦ inl none | inr one ↦ inr (alone a one) ],
-      λ why. found.1 (elim why [ inl none ↦ inl none | inr one ↦ inr (alone_in a one) ]),
-    )
+resynced a found = (
+  λ yes. elim (found.0 yes) [ inl none ↦ inl none | inr one ↦ inr (alone a one) ],
+  λ why. found.1 (elim why [ inl none ↦ inl none | inr one ↦ inr (alone_in a one) ]),
+)
 
 -- marks of members that have no more chunks than these are
 pub marks_within : (members : List MemberView) (n count c : ℕ) → HaveChunks members count → IsMarkedIn members n c → c < count

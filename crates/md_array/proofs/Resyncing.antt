@@ -1,5 +1,5 @@
 -- Whether members in sync hold the same, by the next marked chunk and by how many they are.
-use Rattle.std.proofs.Common.{◌≡◌, ◌∙◌, ◌↔◌, ◌⊎◌, ℕ, ◌<◌, ◌≤◌, Bool, true, false, nat_le, List, Option, Some, None, IfNone, IfSome, is_some, sym, refl, arith, inl, inr}
+use Rattle.std.proofs.Common.{◌≡◌, ◌↔◌, ◌⊎◌, ℕ, ◌<◌, ◌≤◌, Bool, true, false, nat_le, List, Option, Some, None, IfNone, IfSome, is_some, refl, arith, inl, inr}
 use Rattle.std.specs.List.{count_by}
 use Rattle.std.proofs.lemmas.Bool.{false_from_ne_true}
 use Rattle.md_assembly.specs.States.{is_in_sync}
@@ -21,8 +21,7 @@ pub some_marked : (members : List MemberView) (marks : Bitmap) (next : Option �
 some_marked members marks None alone some e count = absurd cc
 some_marked members marks (Some chunk) alone some e count =
     let one = one_iff (λ (m : MemberView). is_in_sync m.state) members alone count in
-    let marked = some.marked.1 in
-    (
+    let marked = some.marked.1 in (
       λ holds. inr (one.0 holds),
       λ why. elim why [ inl none ↦ let unmarked = none chunk in absurd cc | inr single ↦ one.1 single ],
     )

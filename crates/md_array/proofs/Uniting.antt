@@ -1,7 +1,7 @@
 -- Marks that are united, chunk by chunk and member by member.
-use Rattle.std.proofs.Common.{◌≡◌, ◌∙◌, ◌↔◌, ◌||◌, ◌&&◌, ◌==◌, ℕ, ◌+◌, ◌<◌, ◌≤◌, Bool, true, false, nat_lt, List, length, Some, ap, sym, subst, refl, arith, inl, inr}
+use Rattle.std.proofs.Common.{◌≡◌, ◌∙◌, ◌↔◌, ◌||◌, ◌&&◌, ◌==◌, ℕ, ◌+◌, ◌<◌, ◌≤◌, Bool, true, false, nat_lt, List, Some, ap, sym, subst, refl, arith, inl, inr}
 use Rattle.std.specs.List.{slice_get}
-use Rattle.std.proofs.lemmas.Bool.{and_cases, and_from, and_left, and_parts, and_right, cases_Bool, cases_lt, false_from_ne_true, lt-ltb, ltb-true, ne_eqb, or_cases, or_from, or_left, or_right}
+use Rattle.std.proofs.lemmas.Bool.{and_from, and_parts, cases_lt, false_from_ne_true, lt-ltb, ltb-true, ne_eqb, or_cases, or_left, or_right}
 use Rattle.md_assembly.specs.States.{is_in_sync}
 use Rattle.md_bitmap.specs.Marks.{Bitmap, IsMarked, IsNextMarked, is_set}
 use Rattle.md_array.specs.View.{MemberView}
@@ -81,32 +81,30 @@ later members n c h = let early = h.early in record { at = h.at; member = h.memb
 
 -- one more member, which is in sync
 pub marked_more : (members : List MemberView) (n c : ℕ) (m : MemberView) (old new : Bool) → slice_get members n ≡ Some m → is_in_sync m.state ≡ true → new ≡ (old || marks_chunk m.stored c) → IsUnion members n c old → IsUnion members (n + 1) c new
-marked_more members n c m old new listed in_sync e union =
-    (
-      λ set. elim (or_cases _ _ (sym e ∙ set)) [
-        | inl before ↦ later members n c (union.0 before)
-        | inr by_this ↦ record { at = n; member = m; early = omega arith; listed = listed; in_sync = in_sync; marked = marked_from m.stored c by_this }
-      ],
-      λ h. elim (cases_more h.at n h.early) [
-        | inl early ↦ e ∙ or_left _ _ (union.1 (record { at = h.at; member = h.member; early = early; listed = h.listed; in_sync = h.in_sync; marked = h.marked }))
-        | inr here ↦
-            let at_n = subst (λ (k : ℕ). slice_get members k ≡ Some h.member) here h.listed in
-            let same : h.member ≡ m = cc in
-            e ∙ or_right _ _ (marks_from m.stored c (subst (λ (x : MemberView). IsMarked x.stored c) same h.marked))
-      ],
-    )
+marked_more members n c m old new listed in_sync e union = (
+  λ set. elim (or_cases _ _ (sym e ∙ set)) [
+    | inl before ↦ later members n c (union.0 before)
+    | inr by_this ↦ record { at = n; member = m; early = omega arith; listed = listed; in_sync = in_sync; marked = marked_from m.stored c by_this }
+  ],
+  λ h. elim (cases_more h.at n h.early) [
+    | inl early ↦ e ∙ or_left _ _ (union.1 (record { at = h.at; member = h.member; early = early; listed = h.listed; in_sync = h.in_sync; marked = h.marked }))
+    | inr here ↦
+        let at_n = subst (λ (k : ℕ). slice_get members k ≡ Some h.member) here h.listed in
+        let same : h.member ≡ m = cc in
+        e ∙ or_right _ _ (marks_from m.stored c (subst (λ (x : MemberView). IsMarked x.stored c) same h.marked))
+  ],
+)
 
 -- one more member, which is not
 pub not_marked_more : (members : List MemberView) (n c : ℕ) (m : MemberView) (bit : Bool) → slice_get members n ≡ Some m → is_in_sync m.state ≡ false → IsUnion members n c bit → IsUnion members (n + 1) c bit
-not_marked_more members n c m bit listed out union =
-    (
-      λ set. later members n c (union.0 set),
-      λ h. elim (cases_more h.at n h.early) [
-        | inl early ↦ union.1 (record { at = h.at; member = h.member; early = early; listed = h.listed; in_sync = h.in_sync; marked = h.marked })
-        | inr here ↦
-            let at_n = subst (λ (k : ℕ). slice_get members k ≡ Some h.member) here h.listed in
-            let same : h.member ≡ m = cc in
-            let is_in = subst (λ (x : MemberView). is_in_sync x.state ≡ true) same h.in_sync in
-            absurd cc
-      ],
-    )
+not_marked_more members n c m bit listed out union = (
+  λ set. later members n c (union.0 set),
+  λ h. elim (cases_more h.at n h.early) [
+    | inl early ↦ union.1 (record { at = h.at; member = h.member; early = early; listed = h.listed; in_sync = h.in_sync; marked = h.marked })
+    | inr here ↦
+        let at_n = subst (λ (k : ℕ). slice_get members k ≡ Some h.member) here h.listed in
+        let same : h.member ≡ m = cc in
+        let is_in = subst (λ (x : MemberView). is_in_sync x.state ≡ true) same h.in_sync in
+        absurd cc
+  ],
+)

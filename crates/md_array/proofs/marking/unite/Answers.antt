@@ -1,4 +1,4 @@
-use Rattle.std.proofs.Common.{◌≡◌, ◌<◌, ◌≤◌, arith}
+use Rattle.std.proofs.Common.{arith}
 use Rattle.md_array.proofs.Uniting.{all_united, none_united, one_more_united}
 use Rattle.md_array.proofs.marking.unite.Goals as goal
 

@@ -1,7 +1,7 @@
-use Rattle.std.proofs.Common.{◌≡◌, ◌∙◌, ℕ, ◌+◌, ◌<◌, ◌||◌, sym, subst, true, false, length, ap, refl, arith}
+use Rattle.std.proofs.Common.{◌≡◌, ◌∙◌, ℕ, ◌||◌, sym, subst, true, false, length, ap, refl, arith}
 use Rattle.std.proofs.lemmas.Option.{slice_get_read}
 use Rattle.md_assembly.specs.States.{is_in_sync}
-use Rattle.md_bitmap.specs.Marks.{Bitmap, is_set}
+use Rattle.md_bitmap.specs.Marks.{is_set}
 use Rattle.md_array.specs.View.{MemberView}
 use Rattle.md_array.proofs.Uniting.{IsUnion, marked_more, marks_chunk, not_marked_more}
 use Rattle.md_array.proofs.marking.united_marks.Goals as goal

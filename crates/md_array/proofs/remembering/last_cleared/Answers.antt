@@ -1,4 +1,4 @@
-use Rattle.std.proofs.Common.{◌≡◌, ◌∙◌, ℕ, ◌+◌, ◌<◌, true, false, max, MatchOption, length, ap, sym, subst, refl, arith}
+use Rattle.std.proofs.Common.{◌≡◌, ℕ, max, MatchOption, length, ap, subst, refl, arith}
 use Rattle.std.proofs.lemmas.Option.{slice_get_read}
 use Rattle.md_array.specs.View.{MemberView}
 use Rattle.md_array.proofs.Clearing.{cleared_more, last_or, not_cleared_more}

@@ -1,4 +1,4 @@
-use Rattle.std.proofs.Common.{◌≡◌, ◌∙◌, ℕ, ◌+◌, ◌<◌, length, ap, refl, sym, arith}
+use Rattle.std.proofs.Common.{◌∙◌, length, refl, sym, arith}
 use Rattle.std.proofs.lemmas.Option.{slice_get_read}
 use Rattle.md_array.proofs.Geometry.{count_of, freshest_within}
 use Rattle.md_array.proofs.Remembered.{marks_within, remembered}
