@@ -2,10 +2,13 @@
 #![tactic(auto)]
 
 mod array;
+mod copying;
 mod fault;
+mod marking;
 mod member;
 mod mirror;
 mod observing;
+mod remembering;
 
 pub use fault::OpenFault;
 pub use mirror::Mirror;

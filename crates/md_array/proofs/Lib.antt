@@ -1,0 +1,9 @@
+pub mod Counting
+pub mod Clearing
+pub mod Geometry
+pub mod Keeping
+pub mod Listing
+pub mod Remembered
+pub mod Resyncing
+pub mod Uniting
+pub mod Whole
