@@ -64,7 +64,7 @@ member_text index dev_number state re_added =
     ++ standing_text state re_added ++ codes "\n"
 
 -- the lines of members that are counted from an index on
-pub member_lines : ℕ → List MemberView → List ℕ
+unfoldable pub member_lines : ℕ → List MemberView → List ℕ
 member_lines index [] = []
 member_lines index (m ∷ ms) = member_text index m.superblock.dev_number m.state m.re_added ++ member_lines (index + 1) ms
 

@@ -5,4 +5,5 @@ use Rattle.md_examine.proofs.detail_report.detail.Goals as goal
 pub returns : goal.returns
 unfolding detail_text
 returns g c =
-    puts_then g.S.Sink.contents g.S.Sink.failed (puts_then g.S.Sink.contents g.S.Sink.failed c.in_ok-shared.ensures c.in_ok-condition.ensures) c.in_ok-member_lines.ensures
+    let all = puts_then g.S.Sink.contents g.S.Sink.failed (puts_then g.S.Sink.contents g.S.Sink.failed c.in_ok-shared.ensures c.in_ok-condition.ensures) c.in_ok-member_lines.ensures in
+    rw (c.shared.ensures) at all
