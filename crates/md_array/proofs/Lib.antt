@@ -3,6 +3,7 @@ pub mod Clearing
 pub mod Geometry
 pub mod Keeping
 pub mod Listing
+pub mod Roles
 pub mod Remembered
 pub mod Resyncing
 pub mod Uniting

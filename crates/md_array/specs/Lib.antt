@@ -1,5 +1,6 @@
 pub mod View
 pub mod Members
+pub mod Permitting
 pub mod Writes
 pub mod Opening
 pub mod Remembering

@@ -8,6 +8,7 @@ mod marking;
 mod member;
 mod mirror;
 mod observing;
+mod permitting;
 mod remembering;
 
 pub use fault::OpenFault;

@@ -1,6 +1,7 @@
 // The mirror, and what can be seen of it.
-ghost use Rattle.std.specs.Prelude.{◌≡◌, ◌<◌, Some, length, map, option_map, slice_get};
-ghost use Rattle.md_array.specs.Members.{is_degraded};
+ghost use Rattle.std.specs.Prelude.{◌≡◌, ◌↔◌, ◌<◌, ℕ, Some, length, map, option_map, slice_get};
+ghost use Rattle.std.specs.Int.{bit_at, div_ceil};
+ghost use Rattle.md_array.specs.Members.{IsPermitted, is_degraded};
 ghost use Rattle.md_array.specs.View.{disk_of};
 
 use crate::array::Array;
@@ -125,6 +126,15 @@ impl<D: Device + Drop> Mirror<D> {
         ensures { result ≡ is_degraded self.now.array }
     {
         self.array.is_degraded()
+    }
+
+    /// The roles in which a chunk may be read: bit r is set where the member that is in sync in role r
+    /// lists no sector of it.
+    pub fn permitted(&self, chunk: u32) -> u32
+        requires { chunk < div_ceil self.now.array.chunks.size self.now.array.chunks.sectors }
+        ensures { (role : ℕ) → role < 32 → (bit_at result role ≡ 1) ↔ IsPermitted self.now.array chunk role }
+    {
+        self.array.permitted(chunk)
     }
 
     /// The devices, in the order of the members. Takes no memory.

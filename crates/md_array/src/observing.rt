@@ -1,9 +1,11 @@
 // What is found by going through the members.
-ghost use Rattle.std.specs.Prelude.{◌≡◌};
+ghost use Rattle.std.specs.Prelude.{◌≡◌, ◌↔◌, ◌<◌, ℕ};
+ghost use Rattle.std.specs.Int.{bit_at, div_ceil};
 ghost use Rattle.std.specs.List.{list_any};
-ghost use Rattle.md_array.specs.Members.{is_degraded, is_filled, is_in_sync_as};
+ghost use Rattle.md_array.specs.Members.{IsPermitted, is_degraded, is_filled, is_in_sync_as};
 
 use crate::array::Array;
+use crate::permitting::permitted_roles;
 use md_assembly::MemberState;
 
 impl Array {
@@ -12,6 +14,15 @@ impl Array {
         ensures { result ≡ is_degraded self.now }
     {
         (0..self.shared.raid_disks).any(|role| !self.is_filled(role))
+    }
+
+    /// The roles in which a chunk may be read: bit r is set where the member that is in sync in role r
+    /// lists no sector of it.
+    pub(crate) fn permitted(&self, chunk: u32) -> u32
+        requires { chunk < div_ceil self.now.chunks.size self.now.chunks.sectors }
+        ensures { (role : ℕ) → role < 32 → (bit_at result role ≡ 1) ↔ IsPermitted self.now chunk role }
+    {
+        permitted_roles(&self.members, self.chunks, chunk)
     }
 
     // Whether a member is in sync in the role.
