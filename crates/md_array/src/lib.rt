@@ -3,6 +3,7 @@
 
 mod array;
 mod fault;
+pub mod laws;
 mod member;
 mod mirror;
 mod observing;
