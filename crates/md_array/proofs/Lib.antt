@@ -5,3 +5,4 @@ pub mod WorldsSound
 pub mod WorldsStates
 pub mod WorldsSupers
 pub mod WorldsWrites
+pub mod WorldsMember

@@ -1,4 +1,5 @@
 use Rattle.md_array.proofs.WorldsLists.{none_without_least, got_in_map, got_within, got_same, any_at, at_any, two_counted}
+use Rattle.md_array.proofs.WorldsMember.{accepted_there}
 use Rattle.md_array.proofs.WorldsOutside.{listed_stays}
 use Rattle.md_array.proofs.WorldsStates.{same_state}
 use Rattle.md_array.proofs.WorldsSupers.{device_super}
