@@ -1,8 +1,12 @@
+pub mod WorldsCovered
+pub mod WorldsDevice
 pub mod WorldsLists
+pub mod WorldsMember
+pub mod WorldsOpened
 pub mod WorldsOutside
 pub mod WorldsRead
+pub mod WorldsShown
 pub mod WorldsSound
 pub mod WorldsStates
 pub mod WorldsSupers
 pub mod WorldsWrites
-pub mod WorldsMember

@@ -40,7 +40,7 @@ by_bytes xs ys is isnt =
 by_numbers : {P : Type 0} (x y : ℕ) → (x ≡ y → P) → ((x ≡ y → ⊥) → P) → P
 by_numbers x y is isnt = by_test (eqb x y) (λ e. is (eqb-true x y e)) (λ other. isnt (λ e. true≢false (sym (eq-eqb x y e) ∙ other)))
 
-by_accepted : {P : Type 0} (v : Superblock) (h : BitmapHeader) → (IsAccepted v h → P) → ((IsAccepted v h → ⊥) → P) → P
+pub by_accepted : {P : Type 0} (v : Superblock) (h : BitmapHeader) → (IsAccepted v h → P) → ((IsAccepted v h → ⊥) → P) → P
 by_accepted v h is isnt =
     by_bytes h.uuid v.set_uuid
     (λ uuid. by_numbers h.sync_size v.size
