@@ -107,11 +107,12 @@ module _ (before : List Disk) (m : MirrorView) (honest : AreHonest before) (o : 
       ∙ number_here k y.0 y.1 ∙ ap (λ (v : Superblock). v.dev_number) (superblock_is k y.0 y.1))
 
   present : (d : ℕ) → (w.present d ≡ true) ↔ ((k : ℕ) × (k < w.members) × (w.number k ≡ d))
-  present d =
-      ((λ e. let x = at_any (λ (mv : MemberView). eqb mv.superblock.dev_number d) a.members e in
-      (x.0, slice_get_within a.members x.0 x.1 x.2, number_here x.0 x.1 x.2 ∙ eqb-true x.1.superblock.dev_number d x.3)),
-      (λ x. let mv = got_within a.members x.0 x.1 in
-      any_at (λ (mv : MemberView). eqb mv.superblock.dev_number d) a.members x.0 mv.0 mv.1 (eq-eqb mv.0.superblock.dev_number d (sym (number_here x.0 mv.0 mv.1) ∙ x.2))))
+  present d = (
+    (λ e. let x = at_any (λ (mv : MemberView). eqb mv.superblock.dev_number d) a.members e in
+        (x.0, slice_get_within a.members x.0 x.1 x.2, number_here x.0 x.1 x.2 ∙ eqb-true x.1.superblock.dev_number d x.3)),
+    (λ x. let mv = got_within a.members x.0 x.1 in
+        any_at (λ (mv : MemberView). eqb mv.superblock.dev_number d) a.members x.0 mv.0 mv.1 (eq-eqb mv.0.superblock.dev_number d (sym (number_here x.0 mv.0 mv.1) ∙ x.2))),
+  )
 
   has_members : HasMembers w
   has_members = record {
@@ -138,9 +139,11 @@ module _ (before : List Disk) (m : MirrorView) (honest : AreHonest before) (o : 
   some =
       let x = some_in_sync o.array.infos o.array.assembly a o.array.assembled o.array.sound o.array.remembered in
       let mv = member_of x.0 x.1 x.2 in
-      let s = seen x.0 mv.0 mv.1 in
-      (x.0, in_sync_there before m honest o x.0 mv.0 mv.1
-      (ap is_in_sync (state_is a mv.0 s.info s.old s.new s.opened ∙ ap (state_of a.shared) (same_info x.0 x.1 mv.0 x.2 mv.1)) ∙ x.3))
+      let s = seen x.0 mv.0 mv.1 in (
+        x.0,
+        in_sync_there before m honest o x.0 mv.0 mv.1
+            (ap is_in_sync (state_is a mv.0 s.info s.old s.new s.opened ∙ ap (state_of a.shared) (same_info x.0 x.1 mv.0 x.2 mv.1)) ∙ x.3),
+      )
 
   -- an active member takes its role
   record IsActive (k : ℕ) : Type 0 where
@@ -218,17 +221,20 @@ module _ (before : List Disk) (m : MirrorView) (honest : AreHonest before) (o : 
       lt-ltb c a.marks.chunks (omega arith)
 
   union : (c : ℕ) → (w.marks c ≡ true) ↔ ((k : ℕ) × (worlds.IsInSync w k) × ((w.stored k).bits c ≡ true))
-  union c =
-      ((λ e. let p = both (nat_lt c a.marks.chunks) (is_set a.marks.bytes c) e in
-      let x = (o.array.remembered.marks c).0 p.1 in
-      (x.0, in_sync_there before m honest o x.0 x.1 x.2.member x.2.in_sync,
-      bits_of x.0 x.1 x.2.member x.2.in_sync c ∙ and_is (nat_lt c a.marks.chunks) (is_set x.1.stored.bytes c) p.0 x.3.1)),
-      (λ x. let y = in_sync_is before m honest o x.0 x.1 in
-      let p = both (nat_lt c a.marks.chunks) (is_set y.0.stored.bytes c) (sym (bits_of x.0 y.0 y.1 y.2 c) ∙ x.2) in
-      let count = o.array.remembered.mark_count x.0 y.0 y.1 in
-      let low = ltb-true c a.marks.chunks p.0 in
-      and_is (nat_lt c a.marks.chunks) (is_set a.marks.bytes c) p.0
-      ((o.array.remembered.marks c).1 (x.0, y.0, record { member = y.1; in_sync = y.2 }, (omega arith, p.1)))))
+  union c = (
+    (λ e. let p = both (nat_lt c a.marks.chunks) (is_set a.marks.bytes c) e in
+        let x = (o.array.remembered.marks c).0 p.1 in (
+          x.0,
+          in_sync_there before m honest o x.0 x.1 x.2.member x.2.in_sync,
+          bits_of x.0 x.1 x.2.member x.2.in_sync c ∙ and_is (nat_lt c a.marks.chunks) (is_set x.1.stored.bytes c) p.0 x.3.1,
+        )),
+    (λ x. let y = in_sync_is before m honest o x.0 x.1 in
+        let p = both (nat_lt c a.marks.chunks) (is_set y.0.stored.bytes c) (sym (bits_of x.0 y.0 y.1 y.2 c) ∙ x.2) in
+        let count = o.array.remembered.mark_count x.0 y.0 y.1 in
+        let low = ltb-true c a.marks.chunks p.0 in
+        and_is (nat_lt c a.marks.chunks) (is_set a.marks.bytes c) p.0
+        ((o.array.remembered.marks c).1 (x.0, y.0, record { member = y.1; in_sync = y.2 }, (omega arith, p.1)))),
+  )
 
   alone_there : IsAlone a → (j k : ℕ) → worlds.IsInSync w j → worlds.IsInSync w k → j ≡ k
   alone_there alone j k x y =
@@ -247,9 +253,10 @@ module _ (before : List Disk) (m : MirrorView) (honest : AreHonest before) (o : 
   none_set none c = true_unless_false _ (λ e. true≢false (sym (and_is (nat_lt c a.marks.chunks) (is_set a.marks.bytes c) (marked_low c e) e) ∙ none c))
 
   resynced : (w.resynced ≡ true) ↔ (((c : ℕ) → w.marks c ≡ false) ⊎ ((j k : ℕ) → worlds.IsInSync w j → worlds.IsInSync w k → j ≡ k))
-  resynced =
-      ((λ e. elim (o.array.remembered.resynced.0 e) [ inl none ↦ inl (none_marked none) | inr alone ↦ inr (alone_there alone) ]),
-      (λ x. o.array.remembered.resynced.1 (elim x [ inl none ↦ inl (none_set none) | inr alone ↦ inr (alone_here alone) ])))
+  resynced = (
+    (λ e. elim (o.array.remembered.resynced.0 e) [ inl none ↦ inl (none_marked none) | inr alone ↦ inr (alone_there alone) ]),
+    (λ x. o.array.remembered.resynced.1 (elim x [ inl none ↦ inl (none_set none) | inr alone ↦ inr (alone_here alone) ])),
+  )
 
   has_marks : HasMarks w
   has_marks = record { accepted = accepted; known = known; union = union; resynced = resynced }

@@ -20,7 +20,8 @@ unfolding fault_of
 no_fault block none =
     let s = sound_without_fault block none in
     let sum : number_at 4 216 block ≡ checksum_of block (number_at 4 220 block) = same_unless_other _ _ (none Checksum (omega arith)) in
-    rw (eq-eqb (number_at 4 0 block) 0xa92b4efc s.magic,
+    rw (
+      eq-eqb (number_at 4 0 block) 0xa92b4efc s.magic,
       eq-eqb (number_at 4 4 block) 1 s.major_version,
       le-leb (number_at 4 220 block) 1920 s.few_roles,
       eq-eqb (number_at 4 216 block) (checksum_of block (number_at 4 220 block)) sum,
@@ -28,7 +29,8 @@ no_fault block none =
       eq-eqb (unsupported_features (number_at 4 8 block)) 0 s.profile.features,
       eq-eqb (number_at 4 72 block) 1 s.profile.level_is,
       lt-ltb 0 (number_at 4 92 block) s.profile.some_disks,
-      le-leb (number_at 4 92 block) 32 s.profile.few_disks) refl
+      le-leb (number_at 4 92 block) 32 s.profile.few_disks,
+    ) refl
 
 same_fields : (block : List ℕ) (v : Superblock) → IsSuper block v → super_fields block ≡ super_of v
 same_fields block v f =
