@@ -1,8 +1,9 @@
-pub mod WorldsCovered
+pub mod WorldsBad
 pub mod WorldsDevice
 pub mod WorldsLists
 pub mod WorldsMember
 pub mod WorldsOpened
+pub mod WorldsOpenedFrom
 pub mod WorldsOutside
 pub mod WorldsRead
 pub mod WorldsShown

@@ -1,5 +1,5 @@
 -- The device of a member, before and after the opening.
-use Rattle.std.proofs.Common.{◌≡◌, ℕ, ◌+◌, ◌*◌, ◌/◌, ◌<◌, ◌≤◌, ◌⊎◌, inl, inr, Bool, true, false, nat_lt, List, length, drop, Some, ℤ, pos, ◌+ℤ◌, ◌≤ℤ◌, refl, sym, ap, ◌∙◌, subst, arith, add-mul, lt_of_mul-lt-mul_right, lt-ltb, ◌&&◌}
+use Rattle.std.proofs.Common.{◌≡◌, ℕ, ◌+◌, ◌*◌, ◌/◌, ◌<◌, ◌≤◌, ◌⊎◌, inl, inr, Bool, true, false, nat_lt, List, length, drop, Some, ℤ, pos, ◌+ℤ◌, ◌≤ℤ◌, refl, sym, ap, ◌∙◌, subst, arith, add-mul, lt_of_mul-lt-mul_right, lt-ltb, ◌&&◌, ◌↔◌}
 use Rattle.std.specs.Int.{div_ceil}
 use Rattle.std.proofs.lemmas.Bool.{cases_lt}
 use Rattle.std.proofs.lemmas.Grind.{div_ceil_times}
@@ -17,17 +17,20 @@ use Rattle.md_members.specs.declared.info.MemberInfo.{MemberInfo}
 use Rattle.md_members.specs.Areas.{BitmapIsPlaced, IsPlaced, bitmap_sectors}
 use Rattle.md_members.specs.Reading.{BitmapStartsAt, ReadsSuper, chunks_of}
 use Rattle.md_members.specs.Members as members
-use Rattle.md_members.specs.Members.{IsAccepted, sectors_of}
+use Rattle.md_members.specs.Members.{HasBadSet, IsAccepted, sectors_of}
 use Rattle.md_assembly.specs.States.{is_in_sync, state_of}
+use Rattle.md_badblocks.specs.Runs.{IsBad}
 use Rattle.md_model.specs.Devices.{is_accepted}
 use Rattle.md_array.specs.View.{Disk, ArrayView, MemberView}
 use Rattle.md_array.specs.Members.{NeedsMarks, is_recorded}
 use Rattle.md_array.specs.Opening.{IsKept, IsUnchanged, StoresMarks, bitmap_writes}
 use Rattle.md_array.specs.Writes.{after}
 use Rattle.md_array.specs.Worlds.{block_on, from_super, is_listed, stored_of, super_in, super_of}
-use Rattle.md_array.proofs.WorldsMember.{Fits, accepted_there, by_need, by_accepted}
+use Rattle.md_array.proofs.WorldsBad.{listed_is_bad}
+use Rattle.md_array.proofs.WorldsMember.{Fits, accepted_there, by_need, by_accepted, fits_there}
 use Rattle.md_array.proofs.WorldsOutside.{block_stays, data_stays, listed_stays, starts_at}
-use Rattle.md_array.proofs.WorldsRead.{HasRead, read_of, holds_read, uuid_long, name_long}
+use Rattle.md_array.proofs.WorldsRead.{HasRead, header_there, read_of, holds_read, uuid_long, name_long}
+use Rattle.md_array.proofs.WorldsSound.{by_test}
 use Rattle.md_array.proofs.WorldsStates.{in_sync_up_to_date}
 use Rattle.md_array.proofs.WorldsSupers.{block_spells, device_super}
 use Rattle.md_array.proofs.WorldsWrites.{HoldsBitmap, holds_written}
@@ -150,6 +153,13 @@ module _ (a : ArrayView) (m : MemberView) (info : MemberInfo) (old new : Disk) (
   same_listed sector =
       listed_stays own (sectors_of old.content) start sectors old.content new.content sector starts outside (block_spells old.content own super) placed.log bitmap_placed
 
+  pub bad_is_listed : (sector : ℕ) → is_listed new.content sector ≡ true ↔ IsBad m.bad sector
+  bad_is_listed sector =
+      let set : HasBadSet old.content true own m.bad =
+      subst (λ (v : Superblock). HasBadSet old.content true v m.bad) (sym o.kept.superblock) (subst (HasBadSet old.content true info.superblock) (sym o.kept.bad) o.read.bad) in
+      let is = listed_is_bad old.content own m.bad sector (block_spells old.content own super) set in
+      ((λ e. is.0 (sym (same_listed sector) ∙ e)), (λ h. same_listed sector ∙ is.1 h))
+
   -- ---- the chunks
   sound_size : IsChunkSize m.header.chunksize
   sound_size = m.header.sound.chunk_size
@@ -204,11 +214,22 @@ module _ (a : ArrayView) (m : MemberView) (info : MemberInfo) (old new : Disk) (
   pub bits_new : is_in_sync m.state ≡ true → (c : ℕ) → c < a.marks.chunks → is_set (drop (512 * start + 256) new.content) c ≡ is_set m.stored.bytes c
   bits_new in_sync c low = (fitting in_sync).holds.bits c (subst (λ n. c < n) o.count low)
 
-  -- all of its chunks are marked, or its device is as it was
-  pub all_or_same : ((c : ℕ) → c < a.marks.chunks → is_set m.stored.bytes c ≡ true) ⊎ (new.content ≡ old.content)
+  -- a bitmap that the world accepts before is accepted in memory
+  accepted_before : is_accepted (stored_of a m old.content) ≡ true → IsAccepted own m.header
+  accepted_before e =
+      let f = fits_there a m old.content m.header super_old (header_there old.content own m.header start reads.bitmap.header starts) e in
+      record { uuid = f.uuid ∙ sym uuid_is; size = f.size ∙ sym o.array_size ∙ size_is; state = f.state; events = f.events }
+
+  -- all of its chunks are marked, since its bitmap was not accepted
+  pub record IsAllMarked : Type 0 where
+    pub all : (c : ℕ) → c < a.marks.chunks → is_set m.stored.bytes c ≡ true
+    pub refused : is_accepted (stored_of a m old.content) ≡ false
+
+  -- or its device is as it was
+  pub all_or_same : IsAllMarked ⊎ (new.content ≡ old.content)
   all_or_same = by_need m
-      (λ need. inl (λ c low. o.kept.all_marks need c ∙ lower c (subst (λ n. c < n) o.count low)))
+      (λ need. inl (record {
+        all = λ c low. o.kept.all_marks need c ∙ lt-ltb c m.stored.chunks (subst (λ n. c < n) o.count low);
+        refused = by_test (is_accepted (stored_of a m old.content)) (λ e. absurd (need.refused (accepted_before e))) (λ e. e);
+      }))
       (λ none. inr (o.unchanged none))
-    where
-      lower : (c : ℕ) → c < m.stored.chunks → nat_lt c m.stored.chunks ≡ true
-      lower c low = lt-ltb c m.stored.chunks low

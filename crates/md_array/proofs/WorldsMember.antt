@@ -99,3 +99,37 @@ accepted_there a m content h super header fits =
     accepts_when (super_in (block_on content)) (super_of m.superblock) _ _ super
     (header_fits_there a m.superblock h (header_on content (from_super m.superblock.bitmap_offset)) header fits)
     (nearby h.events _ m.superblock.events header.events fits.events)
+
+-- ---- and what acceptance says
+all_three_hold : (a b c : Bool) → (a && b && c) ≡ true → (a ≡ true) × (b ≡ true) × (c ≡ true)
+all_three_hold true true true e = (refl, refl, refl)
+all_three_hold true true false e = absurd cc
+all_three_hold true false c e = absurd cc
+all_three_hold false b c e = absurd cc
+
+accepts_says : (super : Option Super) (own : Super) (events : ℕ) (fits : Bool) → super ≡ Some own → accepts super events fits ≡ true → (fits ≡ true) × ((events ≡ own.events) ⊎ (events ≡ own.events + 1))
+accepts_says super own events fits is e =
+    let t : (fits && (eqb events own.events || eqb events (own.events + 1))) ≡ true = rw is at e in
+    let parts : (fits ≡ true) × ((eqb events own.events || eqb events (own.events + 1)) ≡ true) = both_hold _ _ t in
+    (parts.0, one_of (eqb events own.events) (eqb events (own.events + 1)) (eqb-true events own.events) (eqb-true events (own.events + 1)) parts.1)
+  where
+    both_hold : (a b : Bool) → (a && b) ≡ true → (a ≡ true) × (b ≡ true)
+    both_hold true b h = (refl, h)
+    both_hold false b h = absurd cc
+
+    one_of : {P Q : Type 0} (a b : Bool) → (a ≡ true → P) → (b ≡ true → Q) → (a || b) ≡ true → P ⊎ Q
+    one_of true b p q h = inl (p refl)
+    one_of false b p q h = inr (q h)
+
+-- the header of such a device fits
+pub fits_there : (a : ArrayView) (m : MemberView) (content : List ℕ) (h : BitmapHeader) → super_in (block_on content) ≡ Some (super_of m.superblock)
+    → IsHeader (header_on content (from_super m.superblock.bitmap_offset)) h → is_accepted (stored_of a m content) ≡ true → Fits a m.superblock h
+fits_there a m content h super is accepted =
+    let says = accepts_says (super_in (block_on content)) (super_of m.superblock) _ _ super accepted in
+    let parts = all_three_hold _ _ _ says.0 in
+    record {
+      uuid = is.uuid ∙ (bytes_eq-Decides _ _).0 parts.0;
+      size = is.sync_size ∙ eqb-true _ _ parts.1;
+      state = is.state ∙ eqb-true _ _ parts.2;
+      events = nearby _ h.events m.superblock.events (sym is.events) says.1;
+    }
