@@ -8,3 +8,16 @@ pub mod Remembered
 pub mod Resyncing
 pub mod Uniting
 pub mod Whole
+pub mod WorldsBad
+pub mod WorldsDevice
+pub mod WorldsLists
+pub mod WorldsMember
+pub mod WorldsOpened
+pub mod WorldsOpenedFrom
+pub mod WorldsOutside
+pub mod WorldsRead
+pub mod WorldsShown
+pub mod WorldsSound
+pub mod WorldsStates
+pub mod WorldsSupers
+pub mod WorldsWrites

@@ -3,7 +3,7 @@ use Rattle.std.specs.Prelude.{◌≡◌, ◌≢◌, ◌⊎◌, ◌↔◌, ℕ, �
 use Rattle.std.specs.List.{range_with_len}
 use Rattle.md_device.specs.Splice.{SameOutside}
 use Rattle.md_bitmap.specs.declared.header.BitmapHeader.{BitmapHeader}
-use Rattle.md_bitmap.specs.Header.{header_bytes}
+use Rattle.md_bitmap.specs.Header.{CountsFit, SettingsFit, header_bytes}
 use Rattle.md_bitmap.specs.Marks as marks
 use Rattle.md_bitmap.specs.Marks.{Bitmap, is_set, padded}
 use Rattle.md_bitmap.specs.Sound.{chunk_count}
@@ -70,7 +70,8 @@ pub record IsRemembered (infos : List MemberInfo) (assembly : Assembly) (a : Arr
   pub resynced : (a.resynced ≡ true) ↔ (((c : ℕ) → is_set a.marks.bytes c ≡ false) ⊎ IsAlone a)
   pub running : a.halted ≡ false
 
--- the header that is stored with a member's marks: the array's uuid, size, events and events_cleared, state 0, the rest its own
+-- the header that is stored with a member's marks: the array's uuid, size, events and events_cleared, state 0, the rest its
+-- own; its numbers fit their fields
 pub record IsHeaderFor (a : ArrayView) (m : MemberView) (h : BitmapHeader) : Type 0 where
   pub uuid : h.uuid ≡ a.shared.set_uuid
   pub events : h.events ≡ a.shared.events
@@ -83,6 +84,8 @@ pub record IsHeaderFor (a : ArrayView) (m : MemberView) (h : BitmapHeader) : Typ
   pub sectors_reserved : h.sectors_reserved ≡ m.header.sectors_reserved
   pub nodes : h.nodes ≡ m.header.nodes
   pub cluster_name : h.cluster_name ≡ m.header.cluster_name
+  pub counts_fit : CountsFit h
+  pub settings_fit : SettingsFit h
 
 -- sector i of a bitmap that starts at a sector
 abbrev pub bitmap_write : ℕ → BitmapHeader → Bitmap → ℕ → Write

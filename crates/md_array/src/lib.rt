@@ -4,6 +4,7 @@
 mod array;
 mod copying;
 mod fault;
+pub mod laws;
 mod marking;
 mod member;
 mod mirror;
