@@ -6,7 +6,8 @@ use Rattle.md_model.specs.Devices.{Covered, Stored, Super, is_accepted, is_marke
 use Rattle.md_model.specs.Openings as openings
 use Rattle.md_model.specs.Sectors.{chunk_of}
 use Rattle.md_model.specs.Worlds as worlds
-use Rattle.md_model.proofs.OpeningCovers.{accepted-bits, agree_as}
+use Rattle.md_model.proofs.Tracked.{agree_as}
+use Rattle.md_model.proofs.OpeningCovers.{accepted-bits}
 use Rattle.md_array.specs.View.{Disk, ArrayView, MemberView, MirrorView}
 use Rattle.md_array.specs.Members.{IsMember}
 use Rattle.md_array.specs.Opening.{IsOpenedFrom}
