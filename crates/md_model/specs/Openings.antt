@@ -50,12 +50,13 @@ pub record IsOpened (g : Geometry) (first : Super) (w : World) : Type 0 where
   pub running : w.halted ≡ false
 
 -- It was opened from these devices, in any order and with others between them that no superblock tells of. The opening stored
--- all marks on the members in sync whose bitmap was not accepted, and nothing else.
+-- all marks on the members in sync whose bitmap was not accepted, and nothing else: each member, in sync or not, has its data
+-- and its list as before.
 pub record IsOpenedFrom (g : Geometry) (left : ℕ → Stored) (first : Super) (w : World) : Type 0 where
   pub opened : IsOpened g first w
   pub at : ℕ → ℕ  -- which of them each member is
   pub super : (k : ℕ) (own : Super) → (w.stored k).super ≡ Some own → (left (at k)).super ≡ Some own
   pub all : (k : ℕ) (own : Super) → (left k).super ≡ Some own → (j : ℕ) × ((w.stored j).super ≡ Some own)
-  pub content : (k s : ℕ) → s < g.size → IsInSync w k → (w.stored k).content s ≡ (left (at k)).content s
-  pub listed : (k s : ℕ) → s < g.size → IsInSync w k → (w.stored k).listed s ≡ (left (at k)).listed s
+  pub content : (k s : ℕ) → s < g.size → k < w.members → (w.stored k).content s ≡ (left (at k)).content s
+  pub listed : (k s : ℕ) → s < g.size → k < w.members → (w.stored k).listed s ≡ (left (at k)).listed s
   pub bits : (k s : ℕ) → s < g.size → IsInSync w k → (w.stored k).bits (chunk_of g s) ≡ is_marked (left (at k)) (chunk_of g s)
