@@ -1,15 +1,15 @@
 -- An opening covers what was covered.
-use Rattle.std.proofs.Common.{inl, ◌≡◌, ℕ, ◌<◌, true, sym, ap, ◌∙◌, true≢false, cond}
-use Rattle.std.specs.Prelude.{Some, nat_lt}
+use Rattle.std.proofs.Common.{inl, ◌⊎◌, ⊎_elim, ◌≡◌, ℕ, ◌<◌, true, sym, ap, ◌∙◌, true≢false, cond}
+use Rattle.std.specs.Prelude.{Some, None, nat_lt}
 use Rattle.md_model.specs.Sectors.{Geometry, chunk_of}
 use Rattle.md_model.specs.States.{is_in_sync}
 use Rattle.md_model.specs.Devices.{Super, Stored, Covered, is_accepted, is_marked}
 use Rattle.md_model.specs.Worlds.{World, IsInSync}
 use Rattle.md_model.specs.Assembly.{IsFound}
-use Rattle.md_model.specs.Stops.{IsFreshestWithAbsent}
+use Rattle.md_model.specs.Stops.{IsHalfOpened, IsFreshestWithAbsent}
 use Rattle.md_model.specs.Openings.{IsOpened, IsOpenedFrom}
 use Rattle.md_model.proofs.Tracked.{agree_as}
-use Rattle.md_model.proofs.Cases.{by_test, is_below, not_below}
+use Rattle.md_model.proofs.Cases.{by_test, none_some, is_below, not_below}
 
 -- the marks of an accepted bitmap are its bits
 pub accepted-bits : (d : Stored) (c : ℕ) → is_accepted d ≡ true → is_marked d c ≡ d.bits c
@@ -46,3 +46,19 @@ module _ (g : Geometry) (left : ℕ → Stored) (first : Super) (w : World) (o :
       (o.content j s low (slot j b)) (o.content k s low (slot k c)) (o.listed j s low (slot j b)) (o.listed k s low (slot k c))
       (covered (o.at i) (o.at j) (o.at k) s low (found i a) (found j b) (found k c)
       (sym (o.bits i s low a) ∙ sym (accepted-bits (w.stored i) (chunk_of g s) (o.opened.marks.accepted i a)) ∙ off))
+
+-- openings that were stopped leave covered what was so
+module _ (g : Geometry) (before left : ℕ → Stored) (first : Super) (half : (k : ℕ) → IsHalfOpened (before k) (left k) ⊎ ((left k).super ≡ None)) where
+  there : (k : ℕ) → IsFound g left first k → IsHalfOpened (before k) (left k)
+  there k f = ⊎_elim (λ h. h) (λ gone. absurd (none_some f.own (sym gone ∙ f.is))) (half k)
+
+  found_before : (k : ℕ) → IsFound g left first k → IsFound g before first k
+  found_before k f = record { own = f.own; is = sym (there k f).super ∙ f.is; in_sync = f.in_sync }
+
+  pub covered_half : Covered g before (IsFound g before first) → Covered g left (IsFound g left first)
+  covered_half covered i j k s low a b c off =
+      let y = there j b in
+      let z = there k c in
+      agree_as (before j) (before k) (left j) (left k) s
+      (ap (λ (f : ℕ → _). f s) y.content) (ap (λ (f : ℕ → _). f s) z.content) (ap (λ (f : ℕ → _). f s) y.listed) (ap (λ (f : ℕ → _). f s) z.listed)
+      (covered i j k s low (found_before i a) (found_before j b) (found_before k c) ((there i a).marks (chunk_of g s) off))

@@ -1,6 +1,6 @@
 //! What holds of the definitions alone.
 
-ghost use Rattle.std.specs.Prelude.{◌≡◌, ℕ, ◌<◌, true, [], ◌∷◌, ◌++◌};
+ghost use Rattle.std.specs.Prelude.{◌≡◌, ℕ, ◌<◌, ◌⊎◌, true, None, [], ◌∷◌, ◌++◌};
 ghost use Rattle.md_model.specs.Assembly.{IsFound};
 ghost use Rattle.md_model.specs.Behind.{LeavesBehind, MissingBehind};
 ghost use Rattle.md_model.specs.Content.{HasContent, HasContentAlong, KeepsContent};
@@ -14,7 +14,7 @@ ghost use Rattle.md_model.specs.Runs.{opening};
 ghost use Rattle.md_model.specs.Sectors.{Geometry, chunk_of};
 ghost use Rattle.md_model.specs.SmallArray.{small_geometry, small_super, small_world};
 ghost use Rattle.md_model.specs.SmallRun.{CanRun, beginning, chunk_resynced, data_fails, data_written};
-ghost use Rattle.md_model.specs.Stops.{IsSafeAtStop, KeepsOut, StaysOut};
+ghost use Rattle.md_model.specs.Stops.{IsHalfOpened, IsSafeAtStop, KeepsOut, StaysOut};
 ghost use Rattle.md_model.specs.Worlds.{IsInSync, World};
 
 /// The premises on an opening can be met: the mirror of two members does.
@@ -36,6 +36,12 @@ pub fn opening_covers()
         → IsOpenedFrom g left freshest w
         → Covered g left (IsFound g left freshest)
         → Covered g w.stored (IsInSync w) }
+
+    // So does an opening that is stopped before it ends, the first one too; some devices may be missing after it.
+    ensures stopped { (g : Geometry) (before left : ℕ → Stored) (freshest : Super)
+        → ((k : ℕ) → IsHalfOpened (before k) (left k) ⊎ ((left k).super ≡ None))
+        → Covered g before (IsFound g before freshest)
+        → Covered g left (IsFound g left freshest) }
 {}
 
 /// No guard is empty: the mirror of two members goes through every event, each failure among them, and is opened again.
