@@ -28,7 +28,7 @@ then g (e ∷ es) fs h mid last r more = (r.0, r.1, then g es fs (then_in h e r.
 in_two : (P : ℕ → Type 0) → P 0 → P 1 → (k : ℕ) → IsInSync small_world k → P k
 in_two P a b k on = in_both P a b k (in_sync_active k on)
 
-only_eight : (P : ℕ → Type 0) → P 8 → (s : ℕ) → touches one_sector s ≡ true → P s
+pub only_eight : (P : ℕ → Type 0) → P 8 → (s : ℕ) → touches one_sector s ≡ true → P s
 only_eight P at s e =
     let x = both (leb 8 s) (nat_lt s 9) e in
     let low = is_at_most 8 s x.0 in

@@ -8,9 +8,10 @@ ghost use Rattle.md_model.specs.Devices.{Covered, Stored, Super, is_marked};
 ghost use Rattle.md_model.specs.Events.{Event};
 ghost use Rattle.md_model.specs.Fits.{FitsWhenThere, StepsRun};
 ghost use Rattle.md_model.specs.Lives.{Always, IsCovered, Reopens};
+ghost use Rattle.md_model.specs.LoneMember.{IsBack, IsShutOut, lone_begin, lone_world, lone_write, other_back};
 ghost use Rattle.md_model.specs.Openings.{IsOpened, IsOpenedFrom};
 ghost use Rattle.md_model.specs.Returns.{CoversReturns};
-ghost use Rattle.md_model.specs.Runs.{opening};
+ghost use Rattle.md_model.specs.Runs.{History, Run, opening};
 ghost use Rattle.md_model.specs.Sectors.{Geometry, chunk_of};
 ghost use Rattle.md_model.specs.SmallArray.{small_geometry, small_super, small_world};
 ghost use Rattle.md_model.specs.SmallRun.{CanRun, beginning, chunk_resynced, data_fails, data_written};
@@ -52,6 +53,15 @@ pub fn small_runs()
     ensures write_fails { CanRun (beginning ++ data_fails) }
     ensures copy_fails { CanRun ((beginning ++ data_written) ++ (Event.CopyFails 1 1 ∷ [])) }
     ensures reopens { Reopens small_geometry (small_super 0) (opening small_world) (small_super 0) small_world }
+{}
+
+/// So does the same mirror when it is opened from member 1 alone. A write makes the absent role faulty, and the other device,
+/// which was in sync by the opening's superblock, is not by the next one. Before any data it may come back.
+pub fn lone_member()
+    ensures opened { IsOpened small_geometry (small_super 1) lone_world }
+    ensures covered { Covered small_geometry lone_world.stored (IsInSync lone_world) }
+    ensures shuts_out { (last : History) × Run small_geometry (opening lone_world) lone_write last × IsShutOut small_geometry (small_super 1) last (small_super 0) }
+    ensures comes_back { (last : History) × Run small_geometry (opening lone_world) lone_begin last × IsBack small_geometry (small_super 1) lone_world last other_back }
 {}
 
 /// The law of write intent, over every list of events, stops and openings that begins with devices that are covered.
