@@ -5,7 +5,7 @@ use Rattle.md_model.specs.Devices.{Super}
 use Rattle.md_model.specs.Worlds.{World, IsInSync, IsQuiet}
 use Rattle.md_model.specs.Resyncing.{MayResync}
 use Rattle.md_model.specs.Events.{Event, Happens}
-use Rattle.md_model.specs.Openings.{IsSmall}
+use Rattle.md_model.specs.Openings.{IsWithinLimits}
 use Rattle.md_model.specs.Runs.{History, then_in, opening, Run, IsStart}
 use Rattle.md_model.specs.Lives.{Life}
 use Rattle.md_model.specs.Content.{Content, with_request, IsSettled, Becomes, Holds, Anyhow, RunWith, LifeWith, HasContentAlong}
@@ -23,7 +23,7 @@ use Rattle.md_model.proofs.ContentLives.{IsHeld, held_opened}
 abbrev IsOfMembers : ℕ → World → Type 0
 IsOfMembers m w = OfAll (λ k _. k < m) w
 
-module _ (g : Geometry) (small : IsSmall g) (opened : Super) (m : ℕ) where
+module _ (g : Geometry) (small : IsWithinLimits g) (opened : Super) (m : ℕ) where
   -- after a resync it is what the members in sync hold
   settled : (h : History) (a : Content) → IsHeld g opened h a → IsOfMembers m h.now → MayResync h.now → (b : Content) × IsSettled g h.now a b
   settled h a t all may =

@@ -3,7 +3,7 @@ use Rattle.std.proofs.Common.{◌≡◌, ℕ, ◌<◌, false, List, [], ◌∷�
 use Rattle.md_model.specs.Sectors.{Geometry, chunk_of}
 use Rattle.md_model.specs.Devices.{Super, Stored}
 use Rattle.md_model.specs.Worlds.{World, IsInSync}
-use Rattle.md_model.specs.Openings.{IsSmall}
+use Rattle.md_model.specs.Openings.{IsWithinLimits}
 use Rattle.md_model.specs.Events.{Event}
 use Rattle.md_model.specs.Runs.{History, then_in, opening, IsStart}
 use Rattle.md_model.specs.Lives.{Reopens}
@@ -24,7 +24,7 @@ pub record IsHeld (g : Geometry) (opened : Super) (h : History) (a : Content) : 
   pub kept : IsKept g opened h
   pub holds : Holds g a h.now
 
-module _ (g : Geometry) (small : IsSmall g) (Still : World → Type 0) where
+module _ (g : Geometry) (small : IsWithinLimits g) (Still : World → Type 0) where
   held_run : (opened : Super) (es : List Event) (h : History) (a : Content) (last : History) (b : Content) → IsHeld g opened h a → RunWith g Still h a es last b → IsHeld g opened last b
   held_run opened [] h a last b t r = subst (λ x. IsHeld g opened x b) (sym r.0) (subst (IsHeld g opened h) (sym r.1) t)
   held_run opened (e ∷ es) h a last b t r =
@@ -51,7 +51,7 @@ pub some_content : HasContent
 some_content = has_content
 
 -- A device that holds the content where a member in sync has no bit is behind at the next opening.
-module _ (g : Geometry) (small : IsSmall g) (opened : Super) (h : History) (a : Content) (t : IsHeld g opened h a) (first : Super) (next : World) (r : Reopens g opened h first next) (b : Content) (c : BecomesAtOpening g next a b) where
+module _ (g : Geometry) (small : IsWithinLimits g) (opened : Super) (h : History) (a : Content) (t : IsHeld g opened h a) (first : Super) (next : World) (r : Reopens g opened h first next) (b : Content) (c : BecomesAtOpening g next a b) where
   behind_again : (d : Stored)
       → ((i s : ℕ) → s < g.size → IsInSync h.now i → d.listed s ≡ false → (h.now.stored i).bits (chunk_of g s) ≡ false → d.content s ≡ a s)
       → IsBehind g b d next
@@ -78,7 +78,7 @@ module _ (g : Geometry) (small : IsSmall g) (opened : Super) (h : History) (a : 
       cut_content g small opened h t.kept r.is_left.0 r.is_left.1 i k s x bit
       ∙ t.holds.unmarked i k s low x on (sym (cut_listed g small opened h t.kept r.is_left.0 r.is_left.1 k s) ∙ off) bit)
 
-module _ (g : Geometry) (small : IsSmall g) (d : Stored) where
+module _ (g : Geometry) (small : IsWithinLimits g) (d : Stored) where
   behind_run : (opened : Super) (es : List Event) (h : History) (a : Content) (last : History) (b : Content) → IsHeld g opened h a → IsBehind g a d h.now → RunWith g (IsDegraded g) h a es last b → IsBehind g b d last.now
   behind_run opened [] h a last b t late r = subst (λ (x : History). IsBehind g b d x.now) (sym r.0) (subst (λ x. IsBehind g x d h.now) (sym r.1) late)
   behind_run opened (e ∷ es) h a last b t late r =

@@ -10,7 +10,7 @@ use Rattle.md_model.specs.Steps.{begun, with_device, super_for, recorded, record
 use Rattle.md_model.specs.Failures.{failed, MayFail, LeftBySuper}
 use Rattle.md_model.specs.Resyncing.{copied_device, copied}
 use Rattle.md_model.specs.Events.{Event, Fails, Happens, Step}
-use Rattle.md_model.specs.Openings.{IsSmall}
+use Rattle.md_model.specs.Openings.{IsWithinLimits}
 use Rattle.md_model.specs.Runs.{History, failed_after, tried_after, then_in, Run}
 use Rattle.md_model.proofs.Cases.{by_test, none_some, is_below, not_below}
 use Rattle.md_model.proofs.Puts.{put-same, put-hit, put-twice}
@@ -34,7 +34,7 @@ pub begin_after : (g : Geometry) (w : World) (n : ℕ) (p : Request) (rises full
 begin_after g w n p true full m = record { resynced = m.resynced; new = m.new; apart = m.apart; some = m.some; inside = m.inside; unwritten = m.unwritten }
 begin_after g w n p false full m = m
 
-module _ (g : Geometry) (small : IsSmall g) where
+module _ (g : Geometry) (small : IsWithinLimits g) where
   fails_tracked : (w : World) (k : ℕ) (left : Stored) (w' : World) → Fails g w k left w' → IsTracked g w → IsTracked g w'
   fails_tracked w k left w' f t = subst (IsTracked g) (sym f.3) (tracked_fewer g w (failed g (with_device w k left) k f.0) (fewer_failed g w k left f.0) t)
 
@@ -60,7 +60,7 @@ module _ (g : Geometry) (small : IsSmall g) where
   tracked_step w Event.Unresynced w' t s = subst (IsTracked g) (sym s.1) (tracked_resynced g w false s.0 (λ r. absurd (true≢false (sym r))) t)
   tracked_step w Event.MakeClean w' t s = subst (IsTracked g) (sym s.3) (tracked_made_clean g w s.0 t)
 
-module _ (g : Geometry) (small : IsSmall g) (opened : Super) where
+module _ (g : Geometry) (small : IsWithinLimits g) (opened : Super) where
   abbrev Records : ℕ → Bool → World → Type 0
   Records failed_at tried w = IsRecorded g opened failed_at tried (book_of w)
 

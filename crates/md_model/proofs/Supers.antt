@@ -9,7 +9,7 @@ use Rattle.md_model.specs.Steps.{super_for, recorded_device, marked_device, writ
 use Rattle.md_model.specs.Failures.{LeftBySuper}
 use Rattle.md_model.specs.Resyncing.{copied_device}
 use Rattle.md_model.specs.Events.{Event, Fails, Happens}
-use Rattle.md_model.specs.Openings.{IsSmall}
+use Rattle.md_model.specs.Openings.{IsWithinLimits}
 use Rattle.md_model.specs.Runs.{History, then_in, Run}
 use Rattle.md_model.proofs.Cases.{some-injective, none_some}
 use Rattle.md_model.proofs.Puts.{put-at}
@@ -18,7 +18,7 @@ use Rattle.md_model.proofs.Keeps.{IsKept, kept_step}
 abbrev pub OfAll : (ℕ → Super → Type 0) → World → Type 0
 OfAll Q w = (k : ℕ) (own : Super) → (w.stored k).super ≡ Some own → Q k own
 
-module _ (g : Geometry) (small : IsSmall g) (opened : Super) (Q : ℕ → Super → Type 0)
+module _ (g : Geometry) (small : IsWithinLimits g) (opened : Super) (Q : ℕ → Super → Type 0)
     (new : (h : History) → IsKept g opened h → OfAll Q h.now → (k : ℕ) → is_recorded (h.now.state k) ≡ true → Q k (super_for h.now k)) where
   put_all : (w : World) (k : ℕ) (left : Stored) → OfAll Q w → ((own : Super) → left.super ≡ Some own → Q k own)
       → (j : ℕ) (own : Super) → (put k left w.stored j).super ≡ Some own → Q j own

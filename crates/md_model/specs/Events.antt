@@ -1,4 +1,4 @@
--- What may happen to an array.
+-- What may happen to an array (this project's own).
 use Rattle.std.specs.Prelude.{◌≡◌, ℕ, ◌↔◌, Bool, true, false}
 use Rattle.md_model.specs.Sectors.{Geometry}
 use Rattle.md_model.specs.States.{is_active, is_recorded}
@@ -26,7 +26,7 @@ pub data Event : Type 0 where
   -- of resync and stop
   Copy : (from k s : ℕ) → Event
   Resynced : Event
-  Unresynced : Event
+  Unresynced : Event  -- a resync fails; one that answers Ok is a list without it, if the array was resynced
   MakeClean : Event
 
 -- Member k fails, and its device is by then as left. Whether the array is full after that is known.
@@ -52,6 +52,6 @@ Happens g w Event.Resynced w' = MayResync w × (w' ≡ made_resynced w true)
 Happens g w Event.Unresynced w' = IsIdle w × (w' ≡ made_resynced w false)
 Happens g w Event.MakeClean w' = (full : Bool) × MayStop w × ((full ≡ true) ↔ IsFull g w') × (w' ≡ made_clean g w full)
 
--- The event may happen in the first world, and give the second. In a halted one nothing happens: each call answers Halted (own).
+-- The event may happen in the first world, and give the second. In a halted one nothing happens: each call answers Halted.
 abbrev pub Step : Geometry → World → Event → World → Type 0
 Step g w e w' = (w.halted ≡ false) × Happens g w e w'

@@ -1,4 +1,5 @@
--- What an opening gives.
+-- What an opening gives (md_run, and md_bitmap_read_sb and md_bitmap_load in the kernel's md driver: a bitmap that is refused
+-- has all marks. That the opening stores them, and the union of the members' marks, are this project's own).
 use Rattle.std.specs.Prelude.{◌≡◌, ℕ, ◌<◌, ◌≤◌, ◌⊎◌, ◌↔◌, true, false, ◌&&◌, nat_lt, Some, None}
 use Rattle.md_model.specs.Sectors.{Geometry, chunk_of}
 use Rattle.md_model.specs.States.{is_active, is_recorded}
@@ -7,8 +8,8 @@ use Rattle.md_model.specs.Devices.{Super, Stored, is_accepted, is_marked, EndsWi
 use Rattle.md_model.specs.Worlds.{World, IsInSync}
 use Rattle.md_model.specs.Assembly.{state_by, IsFreshest}
 
--- the limits of an array
-pub record IsSmall (g : Geometry) : Type 0 where
+-- the limits of an array (this project's own)
+pub record IsWithinLimits (g : Geometry) : Type 0 where
   pub few : g.raid_disks ≤ 32
   pub wide : 0 < g.width
 

@@ -78,11 +78,12 @@ pub fn every_run()
     ensures stays_out { Always StaysOut }
 
     // The members in sync hold the array's content, which only the end of a request changes, and a resync or an opening in
-    // chunks that each of them has marked.
+    // chunks that each of them has marked. A resync of a resynced array changes nothing of it, if its list of events is without
+    // Unresynced: one that answers Ok gives such a list.
     ensures keeps_content { KeepsContent }
 
-    // A member that was in sync and failed, or was missing at an opening, differs from the content only in marked chunks, as
-    // long as some role is empty.
+    // A member that was in sync and failed, or one as a stop left it, whatever the next opening finds of it, differs from the
+    // content only in marked chunks, as long as some role is empty.
     ensures leaves_behind { LeavesBehind }
     ensures missing_behind { MissingBehind }
 {}
