@@ -5,7 +5,7 @@ use Rattle.md_model.specs.Devices.{Stored}
 use Rattle.md_model.specs.Worlds.{Request, touches, World, IsInSync}
 use Rattle.md_model.specs.Steps.{touches_chunk, begun, with_device, recorded}
 use Rattle.md_model.specs.Failures.{failed}
-use Rattle.md_model.specs.Events.{Event, Fails, Step}
+use Rattle.md_model.specs.Events.{Event, Fails, Happens}
 use Rattle.md_model.specs.Content.{Content, with_request, Becomes, Holds}
 use Rattle.md_model.specs.Behind.{IsBehind, Leaves, IsDegraded}
 use Rattle.md_model.proofs.Cases.{by_test, never}
@@ -33,7 +33,7 @@ module _ (g : Geometry) (d : Stored) where
   behind_begun a w n p false full t = record { in_memory = λ x low off m. t.in_memory x low off (left_off (w.marks (chunk_of g x)) (touches_chunk g p (chunk_of g x)) m); on_members = t.on_members }
 
   -- each event, as long as the array is degraded: no mark is cleared
-  pub behind_step : (a b : Content) (w : World) (e : Event) (w' : World) → IsTracked g w → IsDegraded g w → IsBehind g a d w → Step g w e w' → Becomes g e w a b → IsBehind g b d w'
+  pub behind_step : (a b : Content) (w : World) (e : Event) (w' : World) → IsTracked g w → IsDegraded g w → IsBehind g a d w → Happens g w e w' → Becomes g e w a b → IsBehind g b d w'
   behind_step a b w (Event.Begin n p) w' _ _ t s c = behind_as a b w' c (subst (IsBehind g a d) (sym s.5) (behind_begun a w n p s.0 s.1 t))
   behind_step a b w (Event.Record k) w' _ _ t s c = behind_as a b w' c (subst (IsBehind g a d) (sym s.1) (behind_fewer a w (recorded w k) (fewer_recorded w k) t))
   behind_step a b w (Event.StoreMarks k y) w' _ _ t s c = behind_as a b w' c (subst (IsBehind g a d) (sym s.1) (record {
@@ -105,7 +105,7 @@ module _ (g : Geometry) (a : Content) (w : World) (tracked : IsTracked g w) (t :
       (λ (m : w.marks c ≡ false). never (w.marks c) marked m)
       (λ (x : (i : ℕ) × IsInSync w i × ((w.stored i).bits c ≡ false)). never ((w.stored x.0).bits c) (sym (tracked.known x.0 c x.1) ∙ known x.0 x.1) x.2)
 
-  pub behind_leaving : (e : Event) → Leaves e k → (w' : World) → Step g w e w' → IsBehind g a (w'.stored k) w'
+  pub behind_leaving : (e : Event) → Leaves e k → (w' : World) → Happens g w e w' → IsBehind g a (w'.stored k) w'
   behind_leaving (Event.Fail j) same w' s = late j (w.stored j) w' same s.1 (λ _. refl) (λ _ _. refl)
   behind_leaving (Event.RecordFails j) same w' s = late j s.0 w' same s.2 (λ x. ap (λ (d : Stored). d.listed x) s.1.rest) (λ x _. ap (λ (d : Stored). d.content x) s.1.rest)
   behind_leaving (Event.StoreMarksFails j b) same w' s = late j s.0 w' same s.3 (λ x. ap (λ (d : Stored). d.listed x) s.2.rest) (λ x _. ap (λ (d : Stored). d.content x) s.2.rest)

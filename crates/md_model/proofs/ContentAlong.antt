@@ -4,8 +4,8 @@ use Rattle.md_model.specs.Sectors.{Geometry}
 use Rattle.md_model.specs.Devices.{Super}
 use Rattle.md_model.specs.Worlds.{World, IsInSync, IsQuiet}
 use Rattle.md_model.specs.Resyncing.{MayResync}
-use Rattle.md_model.specs.Events.{Event, Step}
-use Rattle.md_model.specs.Openings.{IsSmall}
+use Rattle.md_model.specs.Events.{Event, Happens}
+use Rattle.md_model.specs.Openings.{IsWithinLimits}
 use Rattle.md_model.specs.Runs.{History, then_in, opening, Run, IsStart}
 use Rattle.md_model.specs.Lives.{Life}
 use Rattle.md_model.specs.Content.{Content, with_request, IsSettled, Becomes, Holds, Anyhow, RunWith, LifeWith, HasContentAlong}
@@ -23,7 +23,7 @@ use Rattle.md_model.proofs.ContentLives.{IsHeld, held_opened}
 abbrev IsOfMembers : ℕ → World → Type 0
 IsOfMembers m w = OfAll (λ k _. k < m) w
 
-module _ (g : Geometry) (small : IsSmall g) (opened : Super) (m : ℕ) where
+module _ (g : Geometry) (small : IsWithinLimits g) (opened : Super) (m : ℕ) where
   -- after a resync it is what the members in sync hold
   settled : (h : History) (a : Content) → IsHeld g opened h a → IsOfMembers m h.now → MayResync h.now → (b : Content) × IsSettled g h.now a b
   settled h a t all may =
@@ -41,7 +41,7 @@ module _ (g : Geometry) (small : IsSmall g) (opened : Super) (m : ℕ) where
         },
       )
 
-  after_event : (h : History) (e : Event) (w' : World) (a : Content) → IsHeld g opened h a → IsOfMembers m h.now → Step g h.now e w' → (b : Content) × Becomes g e h.now a b
+  after_event : (h : History) (e : Event) (w' : World) (a : Content) → IsHeld g opened h a → IsOfMembers m h.now → Happens g h.now e w' → (b : Content) × Becomes g e h.now a b
   after_event h (Event.Begin n p) w' a t all s = (a, refl)
   after_event h (Event.Record k) w' a t all s = (a, refl)
   after_event h (Event.StoreMarks k b) w' a t all s = (a, refl)
@@ -62,13 +62,13 @@ module _ (g : Geometry) (small : IsSmall g) (opened : Super) (m : ℕ) where
       → (b : Content) × RunWith g Anyhow h a es last b × IsHeld g opened last b
   along_run [] h a last t all r = (a, (r, refl), subst (λ x. IsHeld g opened x a) (sym r) t)
   along_run (e ∷ es) h a last t all r =
-      let c = after_event h e r.0 a t all r.1 in
+      let c = after_event h e r.0 a t all r.1.1 in
       let held : IsHeld g opened (then_in h e r.0) c.0 = record {
         kept = kept_step g small opened h e r.0 t.kept r.1;
-        holds = holds_step g a c.0 h.now e r.0 t.kept.tracked t.holds r.1 c.1;
+        holds = holds_step g a c.0 h.now e r.0 t.kept.tracked t.holds r.1.1 c.1;
       } in
       let more = along_run es (then_in h e r.0) c.0 last held
-      (all_step g small opened (λ k _. k < m) (λ h' t' all' k on. let x = t'.recorded.has_super k on in all' k x.0 x.1) h e r.0 t.kept all r.1) r.2 in
+      (all_step g small opened (λ k _. k < m) (λ h' t' all' k on. let x = t'.recorded.has_super k on in all' k x.0 x.1) h e r.0 t.kept all r.1.1) r.2 in
       (more.0, (r.0, c.0, refl, r.1, c.1, more.1), more.2)
 
 along_life : (g : Geometry) (opened : Super) (w : World) (a : Content) → IsStart g opened w → Holds g a w

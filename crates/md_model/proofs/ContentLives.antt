@@ -3,7 +3,7 @@ use Rattle.std.proofs.Common.{◌≡◌, ℕ, ◌<◌, false, List, [], ◌∷�
 use Rattle.md_model.specs.Sectors.{Geometry, chunk_of}
 use Rattle.md_model.specs.Devices.{Super, Stored}
 use Rattle.md_model.specs.Worlds.{World, IsInSync}
-use Rattle.md_model.specs.Openings.{IsSmall}
+use Rattle.md_model.specs.Openings.{IsWithinLimits}
 use Rattle.md_model.specs.Events.{Event}
 use Rattle.md_model.specs.Runs.{History, then_in, opening, IsStart}
 use Rattle.md_model.specs.Lives.{Reopens}
@@ -24,12 +24,12 @@ pub record IsHeld (g : Geometry) (opened : Super) (h : History) (a : Content) : 
   pub kept : IsKept g opened h
   pub holds : Holds g a h.now
 
-module _ (g : Geometry) (small : IsSmall g) (Still : World → Type 0) where
+module _ (g : Geometry) (small : IsWithinLimits g) (Still : World → Type 0) where
   held_run : (opened : Super) (es : List Event) (h : History) (a : Content) (last : History) (b : Content) → IsHeld g opened h a → RunWith g Still h a es last b → IsHeld g opened last b
   held_run opened [] h a last b t r = subst (λ x. IsHeld g opened x b) (sym r.0) (subst (IsHeld g opened h) (sym r.1) t)
   held_run opened (e ∷ es) h a last b t r =
       held_run opened es (then_in h e r.0) r.1 last b
-      (record { kept = kept_step g small opened h e r.0 t.kept r.3; holds = holds_step g a r.1 h.now e r.0 t.kept.tracked t.holds r.3 r.4 }) r.5
+      (record { kept = kept_step g small opened h e r.0 t.kept r.3; holds = holds_step g a r.1 h.now e r.0 t.kept.tracked t.holds r.3.1 r.4 }) r.5
 
   held_again : (opened : Super) (h : History) (a : Content) (first : Super) (next : World) (b : Content) → IsHeld g opened h a → Reopens g opened h first next → BecomesAtOpening g next a b → IsHeld g first (opening next) b
   held_again opened h a first next b t r c = record { kept = kept_opened g first next (start_again g opened h first next small t.kept r); holds = c.holds }
@@ -51,7 +51,7 @@ pub some_content : HasContent
 some_content = has_content
 
 -- A device that holds the content where a member in sync has no bit is behind at the next opening.
-module _ (g : Geometry) (small : IsSmall g) (opened : Super) (h : History) (a : Content) (t : IsHeld g opened h a) (first : Super) (next : World) (r : Reopens g opened h first next) (b : Content) (c : BecomesAtOpening g next a b) where
+module _ (g : Geometry) (small : IsWithinLimits g) (opened : Super) (h : History) (a : Content) (t : IsHeld g opened h a) (first : Super) (next : World) (r : Reopens g opened h first next) (b : Content) (c : BecomesAtOpening g next a b) where
   behind_again : (d : Stored)
       → ((i s : ℕ) → s < g.size → IsInSync h.now i → d.listed s ≡ false → (h.now.stored i).bits (chunk_of g s) ≡ false → d.content s ≡ a s)
       → IsBehind g b d next
@@ -78,13 +78,13 @@ module _ (g : Geometry) (small : IsSmall g) (opened : Super) (h : History) (a : 
       cut_content g small opened h t.kept r.is_left.0 r.is_left.1 i k s x bit
       ∙ t.holds.unmarked i k s low x on (sym (cut_listed g small opened h t.kept r.is_left.0 r.is_left.1 k s) ∙ off) bit)
 
-module _ (g : Geometry) (small : IsSmall g) (d : Stored) where
+module _ (g : Geometry) (small : IsWithinLimits g) (d : Stored) where
   behind_run : (opened : Super) (es : List Event) (h : History) (a : Content) (last : History) (b : Content) → IsHeld g opened h a → IsBehind g a d h.now → RunWith g (IsDegraded g) h a es last b → IsBehind g b d last.now
   behind_run opened [] h a last b t late r = subst (λ (x : History). IsBehind g b d x.now) (sym r.0) (subst (λ x. IsBehind g x d h.now) (sym r.1) late)
   behind_run opened (e ∷ es) h a last b t late r =
       behind_run opened es (then_in h e r.0) r.1 last b
-      (record { kept = kept_step g small opened h e r.0 t.kept r.3; holds = holds_step g a r.1 h.now e r.0 t.kept.tracked t.holds r.3 r.4 })
-      (behind_step g d a r.1 h.now e r.0 t.kept.tracked r.2 late r.3 r.4) r.5
+      (record { kept = kept_step g small opened h e r.0 t.kept r.3; holds = holds_step g a r.1 h.now e r.0 t.kept.tracked t.holds r.3.1 r.4 })
+      (behind_step g d a r.1 h.now e r.0 t.kept.tracked r.2 late r.3.1 r.4) r.5
 
   behind_life : (opened : Super) (h : History) (a : Content) (es : List Event) (rest : List (List Event)) (final : Super) (last : History) (b : Content)
       → IsHeld g opened h a → IsBehind g a d h.now → LifeWith g (IsDegraded g) opened h a es rest final last b → IsBehind g b d last.now
@@ -116,9 +116,9 @@ unchanged g Event.MakeClean k same w a = refl
 pub leaves_behind : LeavesBehind
 leaves_behind g opened w a start t es rest final then b life k device after f more others newest last c life' =
     let x = held_life g start.small _ opened (opening w) a es rest final then b (held_opened g opened w a start t) life in
-    let late = behind_leaving g b then.now x.kept.tracked x.holds k f.in_sync f.event f.it f.world f.step in
+    let late = behind_leaving g b then.now x.kept.tracked x.holds k f.in_sync f.event f.it f.world f.step.1 in
     behind_life g start.small device final after b more others newest last c
-    (subst (λ y. IsHeld g final y b) (sym f.gives) (record { kept = kept_step g start.small final then f.event f.world x.kept f.step; holds = holds_step g b b then.now f.event f.world x.kept.tracked x.holds f.step (unchanged g f.event k f.it then.now b) }))
+    (subst (λ y. IsHeld g final y b) (sym f.gives) (record { kept = kept_step g start.small final then f.event f.world x.kept f.step; holds = holds_step g b b then.now f.event f.world x.kept.tracked x.holds f.step.1 (unchanged g f.event k f.it then.now b) }))
     (subst (λ (y : History). IsBehind g b device y.now) (sym f.gives) (subst (λ (y : Stored). IsBehind g b y f.world) (sym f.has) late))
     life'
 

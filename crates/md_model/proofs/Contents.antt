@@ -8,7 +8,7 @@ use Rattle.md_model.specs.Counts.{risen}
 use Rattle.md_model.specs.Steps.{entered, begun, with_device, recorded, marks_stored, member_written, finished, unmarked, MayBegin, MayWrite, MayFinish, MayClear}
 use Rattle.md_model.specs.Failures.{failed}
 use Rattle.md_model.specs.Resyncing.{copied, made_resynced, MayCopy}
-use Rattle.md_model.specs.Events.{Event, Fails, Step}
+use Rattle.md_model.specs.Events.{Event, Fails, Happens}
 use Rattle.md_model.specs.Content.{Content, with_request, Becomes, Holds}
 use Rattle.md_model.proofs.Cases.{by_test, never, none_some}
 use Rattle.md_model.proofs.Puts.{by_same, put-miss}
@@ -112,7 +112,7 @@ module _ (g : Geometry) (a : Content) where
     unmarked = t.unmarked;
   }
 
-pub holds_step : (g : Geometry) (a b : Content) (w : World) (e : Event) (w' : World) → IsTracked g w → Holds g a w → Step g w e w' → Becomes g e w a b → Holds g b w'
+pub holds_step : (g : Geometry) (a b : Content) (w : World) (e : Event) (w' : World) → IsTracked g w → Holds g a w → Happens g w e w' → Becomes g e w a b → Holds g b w'
 holds_step g a b w (Event.Begin n p) w' _ t s c = holds_as g a b w' c (subst (Holds g a) (sym s.5) (holds_begun g a w n p s.0 s.1 s.2 t))
 holds_step g a b w (Event.Record k) w' _ t s c = holds_as g a b w' c (subst (Holds g a) (sym s.1) (holds_fewer g a w (recorded w k) (fewer_recorded w k) t))
 holds_step g a b w (Event.StoreMarks k x) w' tracked t s c = holds_as g a b w' c (subst (Holds g a) (sym s.1) (holds_marks_stored g a w k x tracked t))

@@ -9,8 +9,8 @@ use Rattle.md_model.specs.Counts.{role_at_rise, risen, risen_if, HasToRise}
 use Rattle.md_model.specs.Steps.{begun, with_device, super_for, recorded, recorded_device, marked_device, marks_stored, written_device, member_written, MayBegin, MayWrite}
 use Rattle.md_model.specs.Failures.{failed, MayFail, LeftBySuper}
 use Rattle.md_model.specs.Resyncing.{copied_device, copied}
-use Rattle.md_model.specs.Events.{Event, Fails, Step}
-use Rattle.md_model.specs.Openings.{IsSmall}
+use Rattle.md_model.specs.Events.{Event, Fails, Happens, Step}
+use Rattle.md_model.specs.Openings.{IsWithinLimits}
 use Rattle.md_model.specs.Runs.{History, failed_after, tried_after, then_in, Run}
 use Rattle.md_model.proofs.Cases.{by_test, none_some, is_below, not_below}
 use Rattle.md_model.proofs.Puts.{put-same, put-hit, put-twice}
@@ -34,7 +34,7 @@ pub begin_after : (g : Geometry) (w : World) (n : ℕ) (p : Request) (rises full
 begin_after g w n p true full m = record { resynced = m.resynced; new = m.new; apart = m.apart; some = m.some; inside = m.inside; unwritten = m.unwritten }
 begin_after g w n p false full m = m
 
-module _ (g : Geometry) (small : IsSmall g) where
+module _ (g : Geometry) (small : IsWithinLimits g) where
   fails_tracked : (w : World) (k : ℕ) (left : Stored) (w' : World) → Fails g w k left w' → IsTracked g w → IsTracked g w'
   fails_tracked w k left w' f t = subst (IsTracked g) (sym f.3) (tracked_fewer g w (failed g (with_device w k left) k f.0) (fewer_failed g w k left f.0) t)
 
@@ -42,7 +42,7 @@ module _ (g : Geometry) (small : IsSmall g) where
   rise_tracked w true full t = tracked_risen g w full t
   rise_tracked w false full t = t
 
-  tracked_step : (w : World) (e : Event) (w' : World) → IsTracked g w → Step g w e w' → IsTracked g w'
+  tracked_step : (w : World) (e : Event) (w' : World) → IsTracked g w → Happens g w e w' → IsTracked g w'
   tracked_step w (Event.Begin n p) w' t s = subst (IsTracked g) (sym s.5)
       (tracked_entered g (risen_if g w s.0 s.1) n p small.wide (begin_after g w n p s.0 s.1 s.2) (rise_tracked w s.0 s.1 t))
   tracked_step w (Event.Record k) w' t s = subst (IsTracked g) (sym s.1) (tracked_fewer g w (recorded w k) (fewer_recorded w k) t)
@@ -60,7 +60,7 @@ module _ (g : Geometry) (small : IsSmall g) where
   tracked_step w Event.Unresynced w' t s = subst (IsTracked g) (sym s.1) (tracked_resynced g w false s.0 (λ r. absurd (true≢false (sym r))) t)
   tracked_step w Event.MakeClean w' t s = subst (IsTracked g) (sym s.3) (tracked_made_clean g w s.0 t)
 
-module _ (g : Geometry) (small : IsSmall g) (opened : Super) where
+module _ (g : Geometry) (small : IsWithinLimits g) (opened : Super) where
   abbrev Records : ℕ → Bool → World → Type 0
   Records failed_at tried w = IsRecorded g opened failed_at tried (book_of w)
 
@@ -159,7 +159,7 @@ module _ (g : Geometry) (small : IsSmall g) (opened : Super) where
   rise_recorded w n p true full failed_at tried r = recorded_risen g small.few opened failed_at tried w full r
   rise_recorded w n p false full failed_at tried r = r
 
-  recorded_step : (h : History) (e : Event) (w' : World) → IsKept g opened h → Step g h.now e w' → Records (failed_after e w' h.failed_at) (tried_after e h.tried) w'
+  recorded_step : (h : History) (e : Event) (w' : World) → IsKept g opened h → Happens g h.now e w' → Records (failed_after e w' h.failed_at) (tried_after e h.tried) w'
   recorded_step h (Event.Begin n p) w' t s = subst (Records h.failed_at h.tried) (sym s.5) (rise_recorded h.now n p s.0 s.1 h.failed_at h.tried t.recorded)
   recorded_step h (Event.Record k) w' t s = subst (Records h.failed_at h.tried) (sym s.1) (recorded_recorded g small.few opened h.failed_at h.tried h.now k s.0 t.recorded)
   recorded_step h (Event.StoreMarks k b) w' t s = subst (Records h.failed_at h.tried) (sym s.1)
@@ -195,7 +195,7 @@ module _ (g : Geometry) (small : IsSmall g) (opened : Super) where
   begun_alone w n p true full needed m q d e off low = absent_none g w d small.few off low
   begun_alone w n p false full needed m q d e off low = true≢false (sym (needed.1 (inr (d, low, off))))
 
-  alone_step : (w : World) (e : Event) (w' : World) → IsAlone g w → Step g w e w' → IsAlone g w'
+  alone_step : (w : World) (e : Event) (w' : World) → IsAlone g w → Happens g w e w' → IsAlone g w'
   alone_step w (Event.Begin n p) w' t s = subst (IsAlone g) (sym s.5) (begun_alone w n p s.0 s.1 s.3)
   alone_step w (Event.Record k) w' t s = subst (IsAlone g) (sym s.1) t
   alone_step w (Event.StoreMarks k b) w' t s = subst (IsAlone g) (sym s.1) t
@@ -213,7 +213,7 @@ module _ (g : Geometry) (small : IsSmall g) (opened : Super) where
   alone_step w Event.MakeClean w' t s = subst (IsAlone g) (sym s.3) (λ m q d e. absurd (none_some q (sym (s.1.idle m) ∙ e)))
 
   pub kept_step : (h : History) (e : Event) (w' : World) → IsKept g opened h → Step g h.now e w' → IsKept g opened (then_in h e w')
-  kept_step h e w' t s = record { tracked = tracked_step g small h.now e w' t.tracked s; recorded = recorded_step h e w' t s; alone = alone_step h.now e w' t.alone s }
+  kept_step h e w' t s = record { tracked = tracked_step g small h.now e w' t.tracked s.1; recorded = recorded_step h e w' t s.1; alone = alone_step h.now e w' t.alone s.1 }
 
   pub kept_run : (es : List Event) (h last : History) → IsKept g opened h → Run g h es last → IsKept g opened last
   kept_run [] h last t r = subst (IsKept g opened) (sym r) t

@@ -23,3 +23,5 @@ pub mod Untouched
 pub mod Present
 pub mod Returns
 pub mod ContentAlong
+pub mod LoneOpening
+pub mod LoneMember

@@ -3,7 +3,7 @@ use Rattle.std.proofs.Common.{[], ◌∷◌, sym, subst}
 use Rattle.md_model.specs.Sectors.{Geometry}
 use Rattle.md_model.specs.Devices.{Super}
 use Rattle.md_model.specs.Worlds.{World}
-use Rattle.md_model.specs.Openings.{IsSmall}
+use Rattle.md_model.specs.Openings.{IsWithinLimits}
 use Rattle.md_model.specs.Runs.{History, opening, IsStart}
 use Rattle.md_model.specs.Stops.{IsSafeAtStop, KeepsOut, StaysOut}
 use Rattle.md_model.specs.Lives.{Reopens, Always, IsCovered}
@@ -14,13 +14,13 @@ use Rattle.md_model.proofs.Safe.{covered_now, safe_at_stop, keeps_out, stays_out
 
 -- an opening of what a stop left is a start again
 pub start_again : (g : Geometry) (opened : Super) (h : History) (first : Super) (next : World)
-    → IsSmall g → IsKept g opened h → Reopens g opened h first next → IsStart g first next
+    → IsWithinLimits g → IsKept g opened h → Reopens g opened h first next → IsStart g first next
 start_again g opened h first next small t r =
     let safe = safe_at_stop g small opened h t r.left first r.is_left (freshest_left g r.left first next r.opens opened) r.fit in
     record { small = small; opening = r.opens.opened; covered = covered_again g r.left first next r.opens safe.covered }
 
 pub always : (P : Geometry → Super → History → Type 0)
-    → ((g : Geometry) → IsSmall g → (opened : Super) (h : History) → IsKept g opened h → P g opened h) → Always P
+    → ((g : Geometry) → IsWithinLimits g → (opened : Super) (h : History) → IsKept g opened h → P g opened h) → Always P
 always P holds g opened w start es [] final last life =
     subst (λ f. P g f last) (sym life.0) (holds g start.small opened last (kept_run g start.small opened es (opening w) last (kept_opened g opened w start) life.1))
 always P holds g opened w start es (more ∷ rest) final last life =

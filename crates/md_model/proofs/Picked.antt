@@ -12,7 +12,7 @@ use Rattle.md_model.specs.Content.{Content, Holds, HoldsUnmarked, BecomesAtOpeni
 use Rattle.md_model.proofs.Cases.{by_test, never, both, is_below, not_below}
 use Rattle.md_model.proofs.Puts.{by_same}
 use Rattle.md_model.proofs.Keeps.{IsKept}
-use Rattle.md_model.proofs.OpeningCovers.{accepted-bits, freshest_left, found}
+use Rattle.md_model.proofs.OpeningCovers.{accepted-bits, slot_of, freshest_left, found}
 use Rattle.md_model.proofs.Safe.{leaves, safe_at_stop}
 
 abbrev tells : World → ℕ → ℕ → Bool
@@ -100,8 +100,9 @@ reopened_holds g opened h t a first next r start holds i k s low x on clear off 
     let in_i = safe.among (r.opens.at i) fi in
     let in_k = safe.among (r.opens.at k) fk in
     let bit = l.bits (r.opens.at i) (chunk_of g s) fi.own fi.is (sym (r.opens.bits i s low x) ∙ off) in
-    r.opens.content k s low on ∙ l.content (r.opens.at i) (r.opens.at k) s fk.own fk.is in_i bit
-    ∙ holds (r.opens.at i) (r.opens.at k) s low in_i in_k (sym (l.listed (r.opens.at k) s fk.own fk.is) ∙ sym (r.opens.listed k s low on) ∙ clear) bit
+    let slot = slot_of g first next r.opens.opened k on in
+    r.opens.content k s low slot ∙ l.content (r.opens.at i) (r.opens.at k) s fk.own fk.is in_i bit
+    ∙ holds (r.opens.at i) (r.opens.at k) s low in_i in_k (sym (l.listed (r.opens.at k) s fk.own fk.is) ∙ sym (r.opens.listed k s low slot) ∙ clear) bit
 
 pub has_content_again : (g : Geometry) (opened : Super) (h : History) (t : IsKept g opened h) (a : Content) (first : Super) (next : World) (r : Reopens g opened h first next)
     → IsStart g first next → HoldsUnmarked g a h.now → (b : Content) × BecomesAtOpening g next a b

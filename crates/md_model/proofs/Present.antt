@@ -3,7 +3,7 @@ use Rattle.std.proofs.Common.{◌≡◌, ℕ, Bool, true, false, refl, ap, ◌�
 use Rattle.md_model.specs.Sectors.{Geometry}
 use Rattle.md_model.specs.Worlds.{Request, World}
 use Rattle.md_model.specs.Steps.{begun}
-use Rattle.md_model.specs.Events.{Event, Step}
+use Rattle.md_model.specs.Events.{Event, Happens}
 use Rattle.md_model.specs.Runs.{History, then_in, Run}
 
 module _ (g : Geometry) where
@@ -14,7 +14,7 @@ module _ (g : Geometry) where
   same_by : (w w' v : World) → v.present ≡ w.present → w' ≡ v → w'.present ≡ w.present
   same_by w w' v same e = ap (λ (x : World). x.present) e ∙ same
 
-  same_step : (w : World) (e : Event) (w' : World) → Step g w e w' → w'.present ≡ w.present
+  same_step : (w : World) (e : Event) (w' : World) → Happens g w e w' → w'.present ≡ w.present
   same_step w (Event.Begin n p) w' s = same_by w w' _ (begun_present w n p s.0 s.1) s.5
   same_step w (Event.Record k) w' s = same_by w w' _ refl s.1
   same_step w (Event.StoreMarks k b) w' s = same_by w w' _ refl s.1
@@ -33,4 +33,4 @@ module _ (g : Geometry) where
 
   pub same_run : (es : List Event) (h last : History) → Run g h es last → last.now.present ≡ h.now.present
   same_run [] h last r = ap (λ (x : History). x.now.present) r
-  same_run (e ∷ es) h last r = same_run es (then_in h e r.0) last r.2 ∙ same_step h.now e r.0 r.1
+  same_run (e ∷ es) h last r = same_run es (then_in h e r.0) last r.2 ∙ same_step h.now e r.0 r.1.1

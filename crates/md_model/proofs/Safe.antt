@@ -8,7 +8,7 @@ use Rattle.md_model.specs.Devices.{Super, Stored, is_accepted, is_marked}
 use Rattle.md_model.specs.Worlds.{Request, touches, World, IsInSync}
 use Rattle.md_model.specs.Assembly.{state_by, IsFound}
 use Rattle.md_model.specs.Steps.{MayWrite}
-use Rattle.md_model.specs.Openings.{IsSmall}
+use Rattle.md_model.specs.Openings.{IsWithinLimits}
 use Rattle.md_model.specs.Runs.{History}
 use Rattle.md_model.specs.Stops.{IsTorn, IsCut, IsHalfOpened, IsLeft, IsFit, IsSafe, IsSafeAtStop, KeepsOut, StaysOut, IsFreshestWithAbsent}
 use Rattle.md_model.specs.Lives.{IsCovered}
@@ -39,7 +39,7 @@ pub record Leaves (g : Geometry) (w : World) (left : ℕ → Stored) : Type 0 wh
   pub listed : (k s : ℕ) (own : Super) → (left k).super ≡ Some own → (left k).listed s ≡ (w.stored k).listed s
   pub content : (i k s : ℕ) (own : Super) → (left k).super ≡ Some own → IsInSync w i → (w.stored i).bits (chunk_of g s) ≡ false → (left k).content s ≡ (w.stored k).content s
 
-module _ (g : Geometry) (small : IsSmall g) (opened : Super) (h : History) (t : IsKept g opened h) where
+module _ (g : Geometry) (small : IsWithinLimits g) (opened : Super) (h : History) (t : IsKept g opened h) where
   pub covered_now : IsCovered g opened h
   covered_now i j k s _ a b c off = t.tracked.on_members i j k s a b c (unmarked-bits (h.now.stored i) (chunk_of g s) off)
 

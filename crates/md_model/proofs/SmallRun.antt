@@ -28,7 +28,7 @@ then g (e ∷ es) fs h mid last r more = (r.0, r.1, then g es fs (then_in h e r.
 in_two : (P : ℕ → Type 0) → P 0 → P 1 → (k : ℕ) → IsInSync small_world k → P k
 in_two P a b k on = in_both P a b k (in_sync_active k on)
 
-only_eight : (P : ℕ → Type 0) → P 8 → (s : ℕ) → touches one_sector s ≡ true → P s
+pub only_eight : (P : ℕ → Type 0) → P 8 → (s : ℕ) → touches one_sector s ≡ true → P s
 only_eight P at s e =
     let x = both (leb 8 s) (nat_lt s 9) e in
     let low = is_at_most 8 s x.0 in
@@ -80,8 +80,8 @@ may_begin = record { resynced = refl; new = refl; apart = λ m q e. absurd (none
 begins : Run small_geometry (opening small_world) beginning (at w5 false)
 begins = (
   w1,
-  (true, true, may_begin, ((λ _. inl refl), (λ _. refl)), ((λ _. full w1 refl refl refl (λ _. refl)), (λ _. refl)), refl),
-  (w2, (refl, refl), (w3, (refl, refl), (w4, (refl, refl), (w5, (refl, refl), refl)))),
+  (refl, (true, true, may_begin, ((λ _. inl refl), (λ _. refl)), ((λ _. full w1 refl refl refl (λ _. refl)), (λ _. refl)), refl)),
+  (w2, (refl, (refl, refl)), (w3, (refl, (refl, refl)), (w4, (refl, (refl, refl)), (w5, (refl, (refl, refl)), refl)))),
 )
 
 may_write : MayWrite small_geometry w5 0 one_sector 0
@@ -111,7 +111,7 @@ may_finish = record {
 
 writes : Run small_geometry (opening small_world) (beginning ++ data_written) (at w8 true)
 writes = then small_geometry beginning data_written (opening small_world) (at w5 false) (at w8 true) begins
-    (w6, (one_sector, may_write, refl), (w7, (once_written, may_write_too, refl), (w8, (twice_written, may_finish, refl), refl)))
+    (w6, (refl, (one_sector, may_write, refl)), (w7, (refl, (once_written, may_write_too, refl)), (w8, (refl, (twice_written, may_finish, refl)), refl)))
 
 abbrev w9 : World
 w9 = made_resynced w8 false
@@ -202,20 +202,20 @@ can_resync = (
   record { now = w14; failed_at = w14.events; tried = true },
   then small_geometry (beginning ++ data_written) chunk_resynced (opening small_world) (at w8 true) (record { now = w14; failed_at = w14.events; tried = true }) writes (
     w9,
-    (no_request, refl),
+    (refl, (no_request, refl)),
     (
       w10,
-      (may_copy, refl),
+      (refl, (may_copy, refl)),
       (
         w11,
-        (may_resync, refl),
+        (refl, (may_resync, refl)),
         (
           w12,
-          (may_clear, refl),
+          (refl, (may_clear, refl)),
           (
             w13,
-            (true, may_stop, ((λ _. full w13 refl refl refl (λ _. refl)), (λ _. refl)), refl),
-            (w14, (refl, fails w13 (w13.stored 1) refl refl (λ _. refl)), refl),
+            (refl, (true, may_stop, ((λ _. full w13 refl refl refl (λ _. refl)), (λ _. refl)), refl)),
+            (w14, (refl, (refl, fails w13 (w13.stored 1) refl refl (λ _. refl))), refl),
           ),
         ),
       ),
@@ -232,25 +232,25 @@ fails_after es h e r s = (then_in h e (lost h.now), then small_geometry es (e �
 
 pub can_fail_record : CanRun (beginning ++ (Event.RecordFails 1 ∷ []))
 can_fail_record = fails_after beginning (at w5 false) (Event.RecordFails 1) begins
-    (w5.stored 1, record { rest = refl; super = inl refl }, fails w5 (w5.stored 1) refl refl (λ _. refl))
+    (refl, (w5.stored 1, record { rest = refl; super = inl refl }, fails w5 (w5.stored 1) refl refl (λ _. refl)))
 
 pub can_fail_marks : CanRun (beginning ++ (Event.StoreMarksFails 1 0 ∷ []))
 can_fail_marks = fails_after beginning (at w5 false) (Event.StoreMarksFails 1 0) begins
-    (w5.stored 1, refl, record { rest = refl; outside = λ _ _. refl; header = λ _. (refl, refl) }, fails w5 (w5.stored 1) refl refl (λ _. refl))
+    (refl, (w5.stored 1, refl, record { rest = refl; outside = λ _ _. refl; header = λ _. (refl, refl) }, fails w5 (w5.stored 1) refl refl (λ _. refl)))
 
 pub can_fail_data : CanRun (beginning ++ data_fails)
 can_fail_data = (
   then_in (at w6 true) (Event.WriteMemberFails 0 1) (lost w6),
   then small_geometry beginning data_fails (opening small_world) (at w5 false) (then_in (at w6 true) (Event.WriteMemberFails 0 1) (lost w6)) begins (
     w6,
-    (one_sector, may_write, refl),
-    (lost w6, (w6.stored 1, once_written, may_write_too, record { rest = refl; outside = λ _ _. refl }, fails w6 (w6.stored 1) refl refl (λ _. refl)), refl),
+    (refl, (one_sector, may_write, refl)),
+    (lost w6, (refl, (w6.stored 1, once_written, may_write_too, record { rest = refl; outside = λ _ _. refl }, fails w6 (w6.stored 1) refl refl (λ _. refl))), refl),
   ),
 )
 
 pub can_fail_copy : CanRun ((beginning ++ data_written) ++ (Event.CopyFails 1 1 ∷ []))
 can_fail_copy = fails_after (beginning ++ data_written) (at w8 true) (Event.CopyFails 1 1) writes
-    (w8.stored 1, refl, may_copy_chunk w8 refl refl refl refl, record { rest = refl; outside = λ _ _. refl }, fails w8 (w8.stored 1) refl refl (λ _. refl))
+    (refl, (w8.stored 1, refl, may_copy_chunk w8 refl refl refl refl, record { rest = refl; outside = λ _ _. refl }, fails w8 (w8.stored 1) refl refl (λ _. refl)))
 
 -- it may be stopped and opened again
 pub reopens : Reopens small_geometry (small_super 0) (opening small_world) (small_super 0) small_world

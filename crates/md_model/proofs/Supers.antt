@@ -8,8 +8,8 @@ use Rattle.md_model.specs.Worlds.{World}
 use Rattle.md_model.specs.Steps.{super_for, recorded_device, marked_device, written_device, begun}
 use Rattle.md_model.specs.Failures.{LeftBySuper}
 use Rattle.md_model.specs.Resyncing.{copied_device}
-use Rattle.md_model.specs.Events.{Event, Fails, Step}
-use Rattle.md_model.specs.Openings.{IsSmall}
+use Rattle.md_model.specs.Events.{Event, Fails, Happens}
+use Rattle.md_model.specs.Openings.{IsWithinLimits}
 use Rattle.md_model.specs.Runs.{History, then_in, Run}
 use Rattle.md_model.proofs.Cases.{some-injective, none_some}
 use Rattle.md_model.proofs.Puts.{put-at}
@@ -18,7 +18,7 @@ use Rattle.md_model.proofs.Keeps.{IsKept, kept_step}
 abbrev pub OfAll : (ℕ → Super → Type 0) → World → Type 0
 OfAll Q w = (k : ℕ) (own : Super) → (w.stored k).super ≡ Some own → Q k own
 
-module _ (g : Geometry) (small : IsSmall g) (opened : Super) (Q : ℕ → Super → Type 0)
+module _ (g : Geometry) (small : IsWithinLimits g) (opened : Super) (Q : ℕ → Super → Type 0)
     (new : (h : History) → IsKept g opened h → OfAll Q h.now → (k : ℕ) → is_recorded (h.now.state k) ≡ true → Q k (super_for h.now k)) where
   put_all : (w : World) (k : ℕ) (left : Stored) → OfAll Q w → ((own : Super) → left.super ≡ Some own → Q k own)
       → (j : ℕ) (own : Super) → (put k left w.stored j).super ≡ Some own → Q j own
@@ -41,7 +41,7 @@ module _ (g : Geometry) (small : IsSmall g) (opened : Super) (Q : ℕ → Super 
       x)
       l.super
 
-  pub all_step : (h : History) (e : Event) (w' : World) → IsKept g opened h → OfAll Q h.now → Step g h.now e w' → OfAll Q w'
+  pub all_step : (h : History) (e : Event) (w' : World) → IsKept g opened h → OfAll Q h.now → Happens g h.now e w' → OfAll Q w'
   all_step h (Event.Begin n p) w' t all s = subst (OfAll Q) (sym s.5) (begun_all s.0)
     where
       begun_all : (rises : Bool) → OfAll Q (begun g h.now n p rises s.1)
@@ -65,4 +65,4 @@ module _ (g : Geometry) (small : IsSmall g) (opened : Super) (Q : ℕ → Super 
 
   pub all_run : (es : List Event) (h last : History) → IsKept g opened h → OfAll Q h.now → Run g h es last → OfAll Q last.now
   all_run [] h last t all r = subst (λ (x : History). OfAll Q x.now) (sym r) all
-  all_run (e ∷ es) h last t all r = all_run es (then_in h e r.0) last (kept_step g small opened h e r.0 t r.1) (all_step h e r.0 t all r.1) r.2
+  all_run (e ∷ es) h last t all r = all_run es (then_in h e r.0) last (kept_step g small opened h e r.0 t r.1) (all_step h e r.0 t all r.1.1) r.2

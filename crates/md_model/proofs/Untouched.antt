@@ -7,7 +7,7 @@ use Rattle.md_model.specs.Worlds.{Request, World, IsInSync}
 use Rattle.md_model.specs.Counts.{IsFull, risen}
 use Rattle.md_model.specs.Steps.{touches_chunk, entered, begun, recorded, marks_stored}
 use Rattle.md_model.specs.Resyncing.{copied, MayCopy}
-use Rattle.md_model.specs.Events.{Event, Fails, Step}
+use Rattle.md_model.specs.Events.{Event, Fails, Happens}
 use Rattle.md_model.specs.Runs.{History, then_in, opening, Run, IsStart}
 use Rattle.md_model.proofs.Cases.{by_test, never}
 use Rattle.md_model.proofs.Puts.{by_same}
@@ -107,7 +107,7 @@ module _ (g : Geometry) (opened : Super) (was : World) (start : IsStart g opened
       let low : h.now.events + 1 ≤ opened.events = subst (λ (v : World). v.events ≤ opened.events) f.3 late in
       omega arith
 
-  still_step : (h : History) (e : Event) (w' : World) → IsKept g opened h → IsStill h → Step g h.now e w' → IsStill (then_in h e w')
+  still_step : (h : History) (e : Event) (w' : World) → IsKept g opened h → IsStill h → Happens g h.now e w' → IsStill (then_in h e w')
   still_step h (Event.Begin n p) w' t u s a b = subst Untouched (sym s.5) (untouched_begun h t n p s.0 s.1 (u a b))
   still_step h (Event.Record k) w' t u s a b = subst Untouched (sym s.1) (untouched_recorded h.now k (u a b))
   still_step h (Event.StoreMarks k y) w' t u s a b = subst Untouched (sym s.1) (untouched_marks_stored h.now k y (u a b))
@@ -127,7 +127,7 @@ module _ (g : Geometry) (opened : Super) (was : World) (start : IsStart g opened
 
   still_run : (es : List Event) (h last : History) → IsKept g opened h → IsStill h → Run g h es last → IsStill last
   still_run [] h last t u run = subst IsStill (sym run) u
-  still_run (e ∷ es) h last t u run = still_run es (then_in h e run.0) last (kept_step g start.small opened h e run.0 t run.1) (still_step h e run.0 t u run.1) run.2
+  still_run (e ∷ es) h last t u run = still_run es (then_in h e run.0) last (kept_step g start.small opened h e run.0 t run.1) (still_step h e run.0 t u run.1.1) run.2
 
   pub untouched_run : (es : List Event) (last : History) → Run g (opening was) es last → last.tried ≡ false → last.failed_at ≤ opened.events → IsUntouched was last.now
   untouched_run es last = still_run es (opening was) last (kept_opened g opened was start) (λ _ _. record {

@@ -1,4 +1,5 @@
--- What a member that left still has of the array's content.
+-- What a member that left still has of the array's content: by this a re-add copies marked chunks alone (super_1_validate in the
+-- kernel's md driver lets it by events_cleared; that nothing else differs is this project's own theorem).
 use Rattle.std.specs.Prelude.{◌≡◌, ℕ, ◌<◌, false, List}
 use Rattle.md_model.specs.Sectors.{Geometry, chunk_of}
 use Rattle.md_model.specs.Devices.{Super, Stored}
@@ -33,7 +34,8 @@ pub record FailsWith (g : Geometry) (h : History) (k : ℕ) (device : Stored) (a
   pub has : device ≡ world.stored k
   pub gives : after ≡ then_in h event world
 
--- or it is missing at the next opening after a stop
+-- Or it was in sync at a stop. The device is as that left it, whatever the next opening finds of it: it may be missing there, or
+-- be there and stale.
 pub record MissesOpening (g : Geometry) (opened : Super) (h : History) (a : Content) (k : ℕ) (device : Stored) (first : Super) (next : World) (b : Content) : Type 0 where
   pub in_sync : IsInSync h.now k
   pub reopens : Reopens g opened h first next
@@ -55,7 +57,7 @@ LeavesBehind =
     → LifeWith g (IsDegraded g) final after b more others newest last c
     → IsBehind g c device last.now
 
--- So does one that was missing at an opening.
+-- So does one as a stop left it.
 abbrev pub MissingBehind : Type 0
 MissingBehind =
     (g : Geometry) (opened : Super) (w : World) (a : Content) → IsStart g opened w → Holds g a w

@@ -1,4 +1,5 @@
--- The array's own content: what a reader is to get. No device and no memory has it; it goes along with the events.
+-- The array's own content: what a reader is to get. No device and no memory has it; it goes along with the events
+-- (this project's own).
 use Rattle.std.specs.Prelude.{◌≡◌, ℕ, ◌<◌, ◌⊎◌, true, false, cond, List, [], ◌∷◌, Option, Some, None}
 use Rattle.md_model.specs.Sectors.{Geometry, chunk_of}
 use Rattle.md_model.specs.Devices.{Super}
@@ -16,7 +17,8 @@ abbrev pub with_request : Option Request → Content → Content
 with_request None a s = a s
 with_request (Some p) a s = cond (touches p s) (p.bytes s) (a s)
 
--- A resync settles it: it is what the members in sync hold. It was so already, unless each of them has the chunk's mark.
+-- A resync settles it: it is what the members in sync hold. It was so already, unless each of them has the chunk's mark; and
+-- throughout, if the array was resynced and stayed so, as in a list without Unresynced.
 pub record IsSettled (g : Geometry) (w : World) (a b : Content) : Type 0 where
   pub held : (k s : ℕ) → s < g.size → IsInSync w k → (w.stored k).listed s ≡ false → (w.stored k).content s ≡ b s
   pub unmarked : (s : ℕ) → s < g.size → w.marks (chunk_of g s) ≡ false → b s ≡ a s

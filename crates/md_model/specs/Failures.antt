@@ -1,4 +1,5 @@
--- A member fails, by a call or by a write to it that failed.
+-- A member fails, by a call or by a write to it that failed (md_error in the kernel's md driver, and raid1_error, which keeps the
+-- last member too). What a failed write may leave is this project's own premise.
 use Rattle.std.specs.Prelude.{◌≡◌, ◌≢◌, ℕ, ◌⊎◌, Bool, true, false, cond, ◌&&◌, nat_lt, eqb, Some, None}
 use Rattle.md_model.specs.Sectors.{Geometry, chunk_of, block_of, put}
 use Rattle.md_model.specs.States.{is_recorded}
@@ -8,7 +9,7 @@ use Rattle.md_model.specs.Worlds.{Request, touches, World, IsInSync}
 use Rattle.md_model.specs.Counts.{risen}
 use Rattle.md_model.specs.Steps.{super_for}
 
--- a member is faulty, and so is its entry in the roles, where it has one
+-- a member is faulty, and so is its entry in the roles, where it has one (super_1_sync)
 abbrev pub without : World → ℕ → World
 without w k =
     record w {
@@ -22,7 +23,8 @@ without w k =
 abbrev pub failed : Geometry → World → ℕ → Bool → World
 failed g w k full = without (risen g w full) k
 
--- It is in use, and another member is in sync: where the last one fails the mirror is halted instead, and nothing is said of it.
+-- It is in use, and another member is in sync: where the last one fails the mirror is halted instead (own), and no
+-- event comes after that.
 pub record MayFail (w : World) (k : ℕ) : Type 0 where
   pub in_use : is_recorded (w.state k) ≡ true
   pub other : ℕ

@@ -18,3 +18,4 @@ pub mod Content
 pub mod Behind
 pub mod Returns
 pub mod Fits
+pub mod LoneMember

@@ -1,4 +1,5 @@
--- What an opening gives.
+-- What an opening gives (md_run, and md_bitmap_read_sb and md_bitmap_load in the kernel's md driver: a bitmap that is refused
+-- has all marks. That the opening stores them, and the union of the members' marks, are this project's own).
 use Rattle.std.specs.Prelude.{◌≡◌, ℕ, ◌<◌, ◌≤◌, ◌⊎◌, ◌↔◌, true, false, ◌&&◌, nat_lt, Some, None}
 use Rattle.md_model.specs.Sectors.{Geometry, chunk_of}
 use Rattle.md_model.specs.States.{is_active, is_recorded}
@@ -7,8 +8,8 @@ use Rattle.md_model.specs.Devices.{Super, Stored, is_accepted, is_marked, EndsWi
 use Rattle.md_model.specs.Worlds.{World, IsInSync}
 use Rattle.md_model.specs.Assembly.{state_by, IsFreshest}
 
--- the limits of an array
-pub record IsSmall (g : Geometry) : Type 0 where
+-- the limits of an array (this project's own)
+pub record IsWithinLimits (g : Geometry) : Type 0 where
   pub few : g.raid_disks ≤ 32
   pub wide : 0 < g.width
 
@@ -50,12 +51,13 @@ pub record IsOpened (g : Geometry) (first : Super) (w : World) : Type 0 where
   pub running : w.halted ≡ false
 
 -- It was opened from these devices, in any order and with others between them that no superblock tells of. The opening stored
--- all marks on the members in sync whose bitmap was not accepted, and nothing else.
+-- all marks on the members in sync whose bitmap was not accepted, and nothing else: each member, in sync or not, has its data
+-- and its list as before.
 pub record IsOpenedFrom (g : Geometry) (left : ℕ → Stored) (first : Super) (w : World) : Type 0 where
   pub opened : IsOpened g first w
   pub at : ℕ → ℕ  -- which of them each member is
   pub super : (k : ℕ) (own : Super) → (w.stored k).super ≡ Some own → (left (at k)).super ≡ Some own
   pub all : (k : ℕ) (own : Super) → (left k).super ≡ Some own → (j : ℕ) × ((w.stored j).super ≡ Some own)
-  pub content : (k s : ℕ) → s < g.size → IsInSync w k → (w.stored k).content s ≡ (left (at k)).content s
-  pub listed : (k s : ℕ) → s < g.size → IsInSync w k → (w.stored k).listed s ≡ (left (at k)).listed s
+  pub content : (k s : ℕ) → s < g.size → k < w.members → (w.stored k).content s ≡ (left (at k)).content s
+  pub listed : (k s : ℕ) → s < g.size → k < w.members → (w.stored k).listed s ≡ (left (at k)).listed s
   pub bits : (k s : ℕ) → s < g.size → IsInSync w k → (w.stored k).bits (chunk_of g s) ≡ is_marked (left (at k)) (chunk_of g s)

@@ -1,4 +1,5 @@
--- What resync and stop do beside the steps. Nothing is in flight meanwhile.
+-- What resync and stop do beside the steps (md_do_sync, raid1_sync_request and __md_stop_writes in the kernel's md driver; that
+-- nothing is in flight meanwhile, and which member is copied, are this project's own).
 use Rattle.std.specs.Prelude.{◌≡◌, ℕ, ◌≤◌, Bool, true, false, None}
 use Rattle.md_model.specs.Sectors.{Geometry, chunk_of, put}
 use Rattle.md_model.specs.Devices.{Stored, AgreeAt}
@@ -34,6 +35,8 @@ pub record MayResync (w : World) : Type 0 where
   pub idle : IsIdle w
   pub agree : (j k s : ℕ) → IsInSync w j → IsInSync w k → AgreeAt (w.stored j) (w.stored k) s
 
+-- Resynced and Unresynced. A resync of an array that was resynced and answers Ok is a list without Unresynced: then its end changes
+-- nothing of the content, which IsSettled says of a resynced array alone. Unresynced is for a resync that fails.
 abbrev pub made_resynced : World → Bool → World
 made_resynced w is = record w { resynced = is }
 

@@ -1,4 +1,5 @@
--- A device that an opening left out, and that comes back at the next one before any data was tried.
+-- A device that an opening left out, and that comes back at the next one before any data was tried (this project's own). Its
+-- devices are covered; their content is that of a first opening, and not what it was before.
 use Rattle.std.specs.Prelude.{◌≡◌, ℕ, cond, nat_lt, Some, List}
 use Rattle.md_model.specs.Sectors.{Geometry}
 use Rattle.md_model.specs.Devices.{Super, Stored, Covered}

@@ -1,9 +1,9 @@
--- Whole runs from an opening.
+-- Whole runs from an opening (this project's own).
 use Rattle.std.specs.Prelude.{◌≡◌, ℕ, Bool, true, false, List, [], ◌∷◌}
 use Rattle.md_model.specs.Sectors.{Geometry}
 use Rattle.md_model.specs.Devices.{Super, Covered}
 use Rattle.md_model.specs.Worlds.{World, IsInSync}
-use Rattle.md_model.specs.Openings.{IsSmall, IsOpened}
+use Rattle.md_model.specs.Openings.{IsWithinLimits, IsOpened}
 use Rattle.md_model.specs.Events.{Event, Step}
 
 -- a world, and what of its past the laws speak of
@@ -43,6 +43,6 @@ Steps g w (e ∷ es) last = (mid : World) × Step g w e mid × Steps g mid es la
 
 -- an opening of devices that are covered
 pub record IsStart (g : Geometry) (opened : Super) (w : World) : Type 0 where
-  pub small : IsSmall g
+  pub small : IsWithinLimits g
   pub opening : IsOpened g opened w
   pub covered : Covered g w.stored (IsInSync w)

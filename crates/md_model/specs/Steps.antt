@@ -1,4 +1,6 @@
--- The mirror's steps: what each asks, and what it changes. Each writes one device at most.
+-- The mirror's steps: what each asks, and what it changes. Each writes one device at most. After the kernel's md driver, where the
+-- same is done in one piece: md_write_start, md_bitmap_startwrite, md_update_sb, flush_pending_writes of raid1.c (data waits for
+-- md_bitmap_unplug), md_bitmap_endwrite and md_bitmap_daemon_work. What each asks is this project's own rule.
 use Rattle.std.specs.Prelude.{◌≡◌, ◌≢◌, ℕ, ◌+◌, ◌-◌, ◌<◌, ◌≤◌, Bool, true, false, cond, ◌&&◌, ◌||◌, leb, eqb, Option, Some, None}
 use Rattle.md_model.specs.Sectors.{Geometry, chunk_of, block_of, put}
 use Rattle.md_model.specs.Devices.{Super, Stored}
@@ -9,7 +11,7 @@ use Rattle.md_model.specs.Counts.{risen_if, IsFull}
 abbrev pub with_device : World → ℕ → Stored → World
 with_device w k d = record w { stored = put k d w.stored }
 
--- begin: the request is entered, its chunks are marked in memory, and the array is active
+-- begin (md_write_start, md_bitmap_startwrite): the request is entered, its chunks are marked in memory, and the array is active
 abbrev pub touches_chunk : Geometry → Request → ℕ → Bool
 touches_chunk g p c = leb (chunk_of g p.start) c && leb c (chunk_of g ((p.start + p.sectors) - 1))
 
@@ -32,7 +34,7 @@ pub record MayBegin (g : Geometry) (w : World) (n : ℕ) (p : Request) : Type 0 
   pub inside : p.start + p.sectors ≤ g.size
   pub unwritten : (d : ℕ) → p.written d ≡ false
 
--- record: a member's superblock is stored, with its own bit 2 of the feature map as before
+-- record (super_1_sync): a member's superblock is stored, with its own bit 2 of the feature map as before
 abbrev pub has_bit : Option Super → Bool
 has_bit None = false
 has_bit (Some own) = own.recovering
@@ -47,7 +49,7 @@ recorded_device w k = record (w.stored k) { super = Some (super_for w k) }
 abbrev pub recorded : World → ℕ → World
 recorded w k = record w { stored = put k (recorded_device w k) w.stored; due = put k false w.due }
 
--- store_marks: one sector of a member's bitmap is stored, as the marks in memory are. The first one has the header
+-- store_marks (md_bitmap_unplug): one sector of a member's bitmap is stored, as the marks in memory are; the first has the header
 abbrev pub bits_after : World → ℕ → (ℕ → Bool) → ℕ → Bool
 bits_after w b bits c = cond (eqb (block_of c) b) (w.marks c) (bits c)
 
@@ -63,7 +65,7 @@ abbrev pub marks_stored : World → ℕ → ℕ → World
 marks_stored w k b =
     record w { stored = put k (marked_device w k b) w.stored; known = put k (bits_after w b (w.known k)) w.known }
 
--- write_member: a member gets a request's bytes
+-- write_member (raid1_write_request): a member gets a request's bytes
 abbrev pub written_device : World → ℕ → Request → Stored
 written_device w k p = record (w.stored k) { content = λ s. cond (touches p s) (p.bytes s) ((w.stored k).content s) }
 
@@ -82,7 +84,7 @@ pub record MayWrite (g : Geometry) (w : World) (n : ℕ) (p : Request) (k : ℕ)
   pub recorded : (j : ℕ) → IsInSync w j → w.due j ≡ false
   pub unwritten : p.written (w.number k) ≡ false
 
--- finish: a request leaves that every member in sync has
+-- finish (md_bitmap_endwrite): a request leaves that every member in sync has
 abbrev pub finished : World → ℕ → World
 finished w n = record w { request = put n None w.request }
 
@@ -91,7 +93,7 @@ pub record MayFinish (w : World) (n : ℕ) (p : Request) : Type 0 where
   pub written : (k : ℕ) → IsInSync w k → p.written (w.number k) ≡ true
   pub recorded : (k : ℕ) → IsInSync w k → w.due k ≡ false
 
--- clear_idle: a mark goes from memory, where no request touches its chunk and the array is full
+-- clear_idle (md_bitmap_daemon_work): a mark goes from memory, where no request touches its chunk and the array is full
 abbrev pub unmarked : World → ℕ → World
 unmarked w c = record w { marks = put c false w.marks }
 

@@ -1,4 +1,4 @@
--- A stop, and what the next opening may find.
+-- A stop, and what the next opening may find (this project's own).
 use Rattle.std.specs.Prelude.{◌≡◌, ◌≢◌, ℕ, ◌+◌, ◌<◌, ◌≤◌, ◌⊎◌, true, false, Some, None}
 use Rattle.md_model.specs.Sectors.{Geometry}
 use Rattle.md_model.specs.States.{is_in_sync}

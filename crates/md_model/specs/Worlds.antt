@@ -1,4 +1,5 @@
--- The whole state: the devices, and what the mirror has in memory.
+-- The whole state: the devices, and what the mirror has in memory (this project's own, after mddev and md_rdev in the kernel's md
+-- driver).
 use Rattle.std.specs.Prelude.{◌≡◌, ℕ, ◌+◌, Bool, true, false, ◌&&◌, nat_lt, leb, List, Option, Some}
 use Rattle.md_model.specs.States.{State, is_in_sync}
 use Rattle.md_model.specs.Devices.{Stored}
@@ -29,7 +30,7 @@ pub record World : Type 0 where
   pub cleared_at : ℕ  -- events_cleared
   pub clean : Bool  -- resync_offset is all ones
   pub resynced : Bool
-  pub halted : Bool
+  pub halted : Bool  -- nothing happens any more
   pub marks : ℕ → Bool
   pub request : ℕ → Option Request  -- those in flight, by their numbers
 

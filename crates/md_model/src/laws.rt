@@ -1,6 +1,6 @@
 //! What holds of the definitions alone.
 
-ghost use Rattle.std.specs.Prelude.{◌≡◌, ℕ, ◌<◌, true, [], ◌∷◌, ◌++◌};
+ghost use Rattle.std.specs.Prelude.{◌≡◌, ℕ, ◌<◌, ◌⊎◌, true, None, [], ◌∷◌, ◌++◌};
 ghost use Rattle.md_model.specs.Assembly.{IsFound};
 ghost use Rattle.md_model.specs.Behind.{LeavesBehind, MissingBehind};
 ghost use Rattle.md_model.specs.Content.{HasContent, HasContentAlong, KeepsContent};
@@ -8,13 +8,14 @@ ghost use Rattle.md_model.specs.Devices.{Covered, Stored, Super, is_marked};
 ghost use Rattle.md_model.specs.Events.{Event};
 ghost use Rattle.md_model.specs.Fits.{FitsWhenThere, StepsRun};
 ghost use Rattle.md_model.specs.Lives.{Always, IsCovered, Reopens};
+ghost use Rattle.md_model.specs.LoneMember.{IsBack, IsShutOut, lone_begin, lone_world, lone_write, other_back};
 ghost use Rattle.md_model.specs.Openings.{IsOpened, IsOpenedFrom};
 ghost use Rattle.md_model.specs.Returns.{CoversReturns};
-ghost use Rattle.md_model.specs.Runs.{opening};
+ghost use Rattle.md_model.specs.Runs.{History, Run, opening};
 ghost use Rattle.md_model.specs.Sectors.{Geometry, chunk_of};
 ghost use Rattle.md_model.specs.SmallArray.{small_geometry, small_super, small_world};
 ghost use Rattle.md_model.specs.SmallRun.{CanRun, beginning, chunk_resynced, data_fails, data_written};
-ghost use Rattle.md_model.specs.Stops.{IsSafeAtStop, KeepsOut, StaysOut};
+ghost use Rattle.md_model.specs.Stops.{IsHalfOpened, IsSafeAtStop, KeepsOut, StaysOut};
 ghost use Rattle.md_model.specs.Worlds.{IsInSync, World};
 
 /// The premises on an opening can be met: the mirror of two members does.
@@ -36,6 +37,12 @@ pub fn opening_covers()
         → IsOpenedFrom g left freshest w
         → Covered g left (IsFound g left freshest)
         → Covered g w.stored (IsInSync w) }
+
+    // So does an opening that is stopped before it ends, the first one too; some devices may be missing after it.
+    ensures stopped { (g : Geometry) (before left : ℕ → Stored) (freshest : Super)
+        → ((k : ℕ) → IsHalfOpened (before k) (left k) ⊎ ((left k).super ≡ None))
+        → Covered g before (IsFound g before freshest)
+        → Covered g left (IsFound g left freshest) }
 {}
 
 /// No guard is empty: the mirror of two members goes through every event, each failure among them, and is opened again.
@@ -46,6 +53,15 @@ pub fn small_runs()
     ensures write_fails { CanRun (beginning ++ data_fails) }
     ensures copy_fails { CanRun ((beginning ++ data_written) ++ (Event.CopyFails 1 1 ∷ [])) }
     ensures reopens { Reopens small_geometry (small_super 0) (opening small_world) (small_super 0) small_world }
+{}
+
+/// So does the same mirror when it is opened from member 1 alone. A write makes the absent role faulty, and the other device,
+/// which was in sync by the opening's superblock, is not by the next one. Before any data it may come back.
+pub fn lone_member()
+    ensures opened { IsOpened small_geometry (small_super 1) lone_world }
+    ensures covered { Covered small_geometry lone_world.stored (IsInSync lone_world) }
+    ensures shuts_out { (last : History) × Run small_geometry (opening lone_world) lone_write last × IsShutOut small_geometry (small_super 1) last (small_super 0) }
+    ensures comes_back { (last : History) × Run small_geometry (opening lone_world) lone_begin last × IsBack small_geometry (small_super 1) lone_world last other_back }
 {}
 
 /// The law of write intent, over every list of events, stops and openings that begins with devices that are covered.
@@ -62,11 +78,12 @@ pub fn every_run()
     ensures stays_out { Always StaysOut }
 
     // The members in sync hold the array's content, which only the end of a request changes, and a resync or an opening in
-    // chunks that each of them has marked.
+    // chunks that each of them has marked. A resync of a resynced array changes nothing of it, if its list of events is without
+    // Unresynced: one that answers Ok gives such a list.
     ensures keeps_content { KeepsContent }
 
-    // A member that was in sync and failed, or was missing at an opening, differs from the content only in marked chunks, as
-    // long as some role is empty.
+    // A member that was in sync and failed, or one as a stop left it, whatever the next opening finds of it, differs from the
+    // content only in marked chunks, as long as some role is empty.
     ensures leaves_behind { LeavesBehind }
     ensures missing_behind { MissingBehind }
 {}

@@ -1,0 +1,76 @@
+-- The mirror of two members, opened from member 1 alone while it was active: its role 0 is absent.
+use Rattle.std.specs.Prelude.{◌≡◌, ℕ, ◌≤◌, true, false, eqb, List, [], ◌∷◌, Some, None, zero, suc}
+use Rattle.md_model.specs.Sectors.{Geometry}
+use Rattle.md_model.specs.States.{State, is_in_sync}
+use Rattle.md_model.specs.States.State.{InSync, Faulty}
+use Rattle.md_model.specs.Devices.{Super, Stored}
+use Rattle.md_model.specs.Worlds.{World, IsInSync}
+use Rattle.md_model.specs.Assembly.{state_by, IsFreshest, IsFound}
+use Rattle.md_model.specs.Events.{Event}
+use Rattle.md_model.specs.Runs.{History}
+use Rattle.md_model.specs.Stops.{IsLeft, IsFit, IsAbsent, IsFreshestWithAbsent, WasTried}
+use Rattle.md_model.specs.Returns.{beside, WasAway}
+use Rattle.md_model.specs.SmallArray.{small_super, small_device, small_world}
+use Rattle.md_model.specs.SmallRun.{one_sector}
+
+abbrev pub lone_stored : ℕ → Stored
+lone_stored zero = small_device (Some (small_super 1))
+lone_stored (suc k) = small_device None
+
+abbrev pub lone_state : ℕ → State
+lone_state zero = InSync
+lone_state (suc k) = Faulty
+
+abbrev pub lone_world : World
+lone_world =
+    record small_world {
+      members = 1;
+      stored = lone_stored;
+      number = λ _. 1;
+      state = lone_state;
+      present = λ d. eqb d 1;
+      clean = false;
+    }
+
+-- member 0's device, beside that
+abbrev pub other_back : ℕ → Stored
+other_back zero = small_device None
+other_back (suc zero) = small_device (Some (small_super 0))
+other_back (suc (suc k)) = small_device None
+
+-- a write of one sector, whole
+abbrev pub lone_write : List Event
+lone_write = Event.Begin 0 one_sector ∷ Event.StoreMarks 0 0 ∷ Event.Record 0 ∷ Event.WriteMember 0 0 ∷ Event.Finish 0 ∷ []
+
+-- what of it comes before the count is recorded
+abbrev pub lone_begin : List Event
+lone_begin = Event.Begin 0 one_sector ∷ Event.StoreMarks 0 0 ∷ []
+
+-- All that is asked of a device that is kept out is met: the opening's superblock finds it in sync, the next one's does not.
+pub record IsShutOut (g : Geometry) (opened : Super) (h : History) (absent : Super) : Type 0 where
+  pub away : IsAbsent opened h.now absent
+  pub before : is_in_sync (state_by g opened absent) ≡ true
+  pub tried : WasTried g h
+  pub left : ℕ → Stored
+  pub is_left : IsLeft g h.now left
+  pub member : ℕ
+  pub own : Super
+  pub in_sync : IsInSync h.now member
+  pub has : (left member).super ≡ Some own
+  pub first : Super
+  pub freshest : IsFreshestWithAbsent opened left first
+  pub fit : IsFit opened first h.failed_at
+  pub after : is_in_sync (state_by g first absent) ≡ false
+
+-- and all that is asked of one that comes back: it is found in sync beside the members
+pub record IsBack (g : Geometry) (opened : Super) (w : World) (h : History) (back : ℕ → Stored) : Type 0 where
+  pub away : WasAway g opened w back
+  pub untried : WasTried g h → ⊥
+  pub left : ℕ → Stored
+  pub is_left : IsLeft g h.now left
+  pub first : Super
+  pub freshest : IsFreshest (beside w.members left back) first
+  pub fit : IsFit opened first h.failed_at
+  pub at : ℕ
+  pub beside_them : w.members ≤ at
+  pub found : IsFound g (beside w.members left back) first at
