@@ -1,6 +1,6 @@
 -- What the opening changed: all marks are stored where the bitmap was not accepted, and all else is as it was.
-use Rattle.std.proofs.Common.{◌≡◌, ℕ, ◌+◌, ◌<◌, ◌≤◌, ◌↔◌, inl, inr, Bool, true, false, cond, ◌&&◌, nat_lt, List, [], length, slice_get, Some, refl, sym, ap, ◌∙◌, lt-ltb}
-use Rattle.std.proofs.lemmas.Option.{none-some, same_Some, slice_get_past}
+use Rattle.std.proofs.Common.{◌≡◌, ℕ, ◌+◌, ◌<◌, ◌≤◌, ◌↔◌, inl, inr, Bool, true, false, cond, ◌&&◌, nat_lt, List, [], length, slice_get, Some, refl, sym, ap, ◌∙◌, arith, lt-ltb}
+use Rattle.std.proofs.lemmas.Option.{none-some, same_Some, slice_get_past, slice_get_within}
 use Rattle.md_badblocks.specs.Runs.{IsBad}
 use Rattle.md_model.specs.Devices.{Covered, Stored, Super, is_accepted, is_marked}
 use Rattle.md_model.specs.Openings as openings
@@ -52,17 +52,24 @@ module _ (before : List Disk) (m : MirrorView) (honest : AreHonest before) (o : 
       (λ mv is. super_at before m honest o k mv is ∙ sym (super_before k mv is) ∙ e)
       (λ past. absurd (none-some own (sym (ap (λ (d : Stored). d.super) (none_before k past)) ∙ e)))
 
-  same_content : (k s : ℕ) → s < a.chunks.size → worlds.IsInSync w k → (w.stored k).content s ≡ (was.stored k).content s
+  member_at : (k : ℕ) → k < length a.members → (mv : MemberView) × IsMember a k mv
+  member_at k low = by_member a k (λ mv is. (mv, is)) (λ past. absurd (omega arith))
+
+  -- a member in sync is one
+  is_there : (k : ℕ) → worlds.IsInSync w k → k < length a.members
+  is_there k i = let x = in_sync_is before m honest o k i in slice_get_within a.members k x.0 x.1
+
+  same_content : (k s : ℕ) → s < a.chunks.size → k < length a.members → (w.stored k).content s ≡ (was.stored k).content s
   same_content k s low i =
-      let x = in_sync_is before m honest o k i in
+      let x = member_at k i in
       let t = seen k x.0 x.1 in
       ap (λ (d : Stored). d.content s) (stored_after k x.0 x.1)
       ∙ ap (λ bytes. cond (nat_lt s a.chunks.size) bytes []) (same_data a x.0 t.info t.old t.new t.opened s low)
       ∙ sym (ap (λ (d : Stored). d.content s) (stored_before k x.0 x.1))
 
-  same_list : (k s : ℕ) → worlds.IsInSync w k → (w.stored k).listed s ≡ (was.stored k).listed s
+  same_list : (k s : ℕ) → k < length a.members → (w.stored k).listed s ≡ (was.stored k).listed s
   same_list k s i =
-      let x = in_sync_is before m honest o k i in
+      let x = member_at k i in
       let t = seen k x.0 x.1 in
       ap (λ (d : Stored). d.listed s) (stored_after k x.0 x.1)
       ∙ ap (λ b. nat_lt s a.chunks.size && b) (same_listed a x.0 t.info t.old t.new t.opened _)
@@ -101,7 +108,7 @@ module _ (before : List Disk) (m : MirrorView) (honest : AreHonest before) (o : 
   covered h i j k s low x y z off =
       let c = chunk_of (geometry_of a) s in
       agree_as (was.stored j) (was.stored k) (w.stored j) (w.stored k) s
-      (same_content j s low y) (same_content k s low z) (same_list j s y) (same_list k s z)
+      (same_content j s low (is_there j y)) (same_content k s low (is_there k z)) (same_list j s (is_there j y)) (same_list k s (is_there k z))
       (h i j k s low x y z (sym (same_marks i s low x) ∙ sym (accepted-bits (w.stored i) c ((opened before m honest o).marks.accepted i x)) ∙ off))
 
   -- the bad sets that are kept are those that are listed
