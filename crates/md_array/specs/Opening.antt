@@ -178,6 +178,12 @@ pub record RefusesMember (before after : List Disk) (k : ℕ) (fault : MemberFau
   pub memory : fault ≢ member_fault.NoMemory
   pub earlier : (j : ℕ) (d : Disk) → j < k → slice_get before j ≡ Some d → (info : MemberInfo) × members.IsMember d.content d.honest info
 
+-- why reading them all ends
+abbrev pub RefusesRead : List Disk → List Disk → OpenFault → Type 0
+RefusesRead before after (Member k fault) = RefusesMember before after k fault
+RefusesRead before after NoMemory = Unit {0}
+RefusesRead before after _ = ⊥
+
 -- all are read, and make no array for this reason
 pub record RefusesAssembly (before : List Disk) (fault : AssembleFault) : Type 0 where
   pub infos : List MemberInfo
