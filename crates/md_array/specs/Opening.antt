@@ -9,6 +9,7 @@ use Rattle.md_bitmap.specs.Marks.{Bitmap, is_set, padded}
 use Rattle.md_bitmap.specs.Sound.{chunk_count}
 use Rattle.md_members.specs.declared.fault.MemberFault.{MemberFault}
 use Rattle.md_members.specs.declared.fault.MemberFault.TheVariants as member_fault
+use Rattle.md_members.specs.declared.fault.MemberFault.TheVariants.{NoMemory as NoMemoryOfMember}
 use Rattle.md_members.specs.declared.info.MemberInfo.{MemberInfo}
 use Rattle.md_members.specs.Areas.{bitmap_sectors}
 use Rattle.md_members.specs.Reading.{BitmapStartsAt}
@@ -177,6 +178,11 @@ pub record RefusesMember (before after : List Disk) (k : ℕ) (fault : MemberFau
   pub refused : members.RefusesMember disk.content disk.honest (FailsAt before after k) fault
   pub memory : fault ≢ member_fault.NoMemory
   pub earlier : (j : ℕ) (d : Disk) → j < k → slice_get before j ≡ Some d → (info : MemberInfo) × members.IsMember d.content d.honest info
+
+-- the fault of opening, where device k is not read as a member for this reason
+abbrev pub refusal_of : ℕ → MemberFault → OpenFault
+refusal_of k NoMemoryOfMember = NoMemory
+refusal_of k fault = Member k fault
 
 -- why reading them all ends
 abbrev pub RefusesRead : List Disk → List Disk → OpenFault → Type 0

@@ -1,6 +1,6 @@
 // The members of a list of devices.
 ghost use Rattle.std.specs.Prelude.{◌≡◌, ◌<◌, ◌≤◌, ◌+◌, MatchResult, length, map};
-ghost use Rattle.md_array.specs.Opening.{AreRead, IsUntouched, RefusesRead};
+ghost use Rattle.md_array.specs.Opening.{AreRead, IsUntouched, RefusesRead, refusal_of};
 ghost use Rattle.md_array.specs.View.{disk_of};
 
 use crate::fault::OpenFault;
@@ -21,9 +21,18 @@ pub(crate) fn read_members<D: Device>(
     for k in 0..devices.len() {
         match read_member(alloc, &mut devices[k]) {
             Ok(info) => infos.push_reserved(info),
-            Err(MemberFault::NoMemory) => return Err(OpenFault::NoMemory),
-            Err(fault) => return Err(OpenFault::Member(k, fault)),
+            Err(fault) => return Err(refusal(k, fault)),
         }
     }
     Ok(infos)
+}
+
+// The fault of opening, where device k is not read as a member.
+fn refusal(k: usize, fault: MemberFault) -> OpenFault
+    ensures { result ≡ refusal_of k fault }
+{
+    match fault {
+        MemberFault::NoMemory => OpenFault::NoMemory,
+        _ => OpenFault::Member(k, fault),
+    }
 }

@@ -1,7 +1,7 @@
 use Rattle.std.proofs.Common.{◌≡◌, ◌<◌, ◌≤◌, ◌+◌, MatchResult, length, map, ℕ, ◌-◌, ◌*◌}
 use Rattle.md_array.specs.Opening.{IsUntouched}
 use Rattle.md_array.specs.View.{disk_of}
-use Rattle.md_array.proofs.InTurn.{AreReadSoFar}
+use Rattle.md_array.proofs.MembersRead.{AreReadSoFar}
 use Rattle.md_array.proofs.reading.read_members.Given as goal
 
 abbrev pub invariant-loop-k : goal.invariant-loop-k
