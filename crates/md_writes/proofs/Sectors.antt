@@ -2,11 +2,12 @@
 use Rattle.std.proofs.Common.{◌≡◌, ℕ, zero, suc, ◌+◌, ◌-◌, ◌*◌, ◌<◌, min, List, [], ◌∷◌, ◌++◌, length, take, drop, map, reverse, replicate, append_assoc, refl, ap, sym, ◌∙◌, arith}
 use Rattle.std.proofs.Math.Seq.{drop-append-add, take-append-add}
 use Rattle.std.specs.List.{range_with_len}
-use Rattle.std.proofs.lemmas.List.{reverse-append, length-append}
+use Rattle.std.proofs.lemmas.List.{reverse-append, length-append, length-replicate}
 use Rattle.std.proofs.lemmas.List.FromFn.{map-range_with_len_more}
 use Rattle.md_bitmap.specs.declared.header.BitmapHeader.{BitmapHeader}
-use Rattle.md_bitmap.specs.Header.{header_bytes}
+use Rattle.md_bitmap.specs.Header.{header_bytes, count_bytes, setting_bytes}
 use Rattle.md_bitmap.specs.Marks.{Bitmap, padded}
+use Rattle.md_bitmap.proofs.Encoded.{length-format_bytes}
 use Rattle.md_bitmap.proofs.Padded.{length-padded, padded_parts}
 use Rattle.md_writes.specs.Writes.{Write}
 use Rattle.md_writes.specs.Bitmaps.{bitmap_sector, bitmap_write, bitmap_writes}
@@ -25,6 +26,19 @@ bitmap_writes_more start h m n = ap (λ xs. map (bitmap_write start h m) (revers
 -- the writes of one sector more, where the last is numbered i
 pub writes_from : (start : ℕ) (h : BitmapHeader) (m : Bitmap) (n i : ℕ) → n ≡ i + 1 → bitmap_writes start h m n ≡ (bitmap_write start h m i ∷ []) ++ bitmap_writes start h m i
 writes_from start h m n i e = ap (bitmap_writes start h m) e ∙ bitmap_writes_more start h m i
+
+length-count_bytes : (h : BitmapHeader) → length (count_bytes h) ≡ 24
+unfolding count_bytes
+length-count_bytes h = refl
+
+length-setting_bytes : (h : BitmapHeader) → length (setting_bytes h) ≡ 24
+unfolding setting_bytes
+length-setting_bytes h = refl
+
+pub length-header_bytes : (h : BitmapHeader) → length h.uuid ≡ 16 → length h.cluster_name ≡ 64 → length (header_bytes h) ≡ 256
+unfolding header_bytes
+length-header_bytes h uuid name =
+    omega (arith, length-append {A = ℕ}, length-format_bytes, length-count_bytes h, length-setting_bytes h, length-replicate {A = ℕ} 120 0, uuid, name)
 
 -- bytes behind a front that fit it
 padded_behind : (n k : ℕ) (front bytes : List ℕ) → length front ≡ n → padded (n + k) (front ++ bytes) ≡ front ++ padded k bytes

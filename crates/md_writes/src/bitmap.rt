@@ -50,12 +50,11 @@ fn store_sector<D: Device>(
 fn sector_of_bitmap(header: &BitmapHeader, marks: &Marks, i: u32) -> [u8; 512]
     ensures { result ≡ bitmap_sector header.now marks.now i }
 {
-    let BitmapHeader {
-        uuid, cluster_name, ..
-    } = *header;
-    let sector = marks.block(header, i);
-    let _whole = (uuid, cluster_name);
-    sector
+    let uuid: &[u8] = header.uuid.as_bytes();
+    let name: &[u8] = &header.cluster_name;
+    prove!(uuid.len() == 16);
+    prove!(name.len() == 64);
+    marks.block(header, i)
 }
 
 // How many sectors hold a bitmap's header and the bits of so many chunks.
