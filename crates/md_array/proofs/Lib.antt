@@ -1,2 +1,11 @@
 pub mod InTurn
 pub mod MembersRead
+pub mod Counting
+pub mod Clearing
+pub mod Geometry
+pub mod Keeping
+pub mod Listing
+pub mod Remembered
+pub mod Resyncing
+pub mod Uniting
+pub mod Whole

@@ -2,4 +2,5 @@ pub mod View
 pub mod Members
 pub mod Writes
 pub mod Opening
+pub mod Remembering
 pub mod Worlds

@@ -2,11 +2,14 @@
 #![tactic(auto)]
 
 mod array;
+mod copying;
 mod fault;
+mod marking;
 mod member;
 mod mirror;
 mod observing;
 mod reading;
+mod remembering;
 
 pub use fault::OpenFault;
 pub use mirror::Mirror;
