@@ -8,8 +8,10 @@ mod marking;
 mod member;
 mod mirror;
 mod observing;
+mod opening;
 mod reading;
 mod remembering;
+mod storing;
 
 pub use fault::OpenFault;
 pub use mirror::Mirror;
