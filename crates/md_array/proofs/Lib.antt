@@ -8,6 +8,7 @@ pub mod Fitting
 pub mod Geometry
 pub mod Keeping
 pub mod Listing
+pub mod Opened
 pub mod Remembered
 pub mod Resyncing
 pub mod StoredOn

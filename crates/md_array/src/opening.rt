@@ -1,5 +1,5 @@
 // Opening devices as a mirror.
-ghost use Rattle.std.specs.Prelude.{◌≡◌, IfOk, IfErr, MatchResult, map};
+ghost use Rattle.std.specs.Prelude.{◌≡◌, IfOk, IfErr, MatchResult, length, map};
 ghost use Rattle.md_array.specs.View.{disk_of};
 ghost use Rattle.md_array.specs.Opening.{IsArrayOf, IsOpenedFrom, IsUntouched, RefusesArray, RefusesOpen, assembly_refusal_of};
 
@@ -21,14 +21,26 @@ impl<D: Device + Drop> Mirror<D> {
             (λ e. RefusesOpen (map (disk_of D.content D.honest D.failures) devices.items) (map (disk_of D.content D.honest D.failures) e.0.items) e.1) }
     {
         let mut devices = devices;
-        let array = match array_of(alloc, &mut devices) {
-            Ok(array) => array,
-            Err(fault) => return Err((devices, fault)),
-        };
-        match store_needed_marks(&mut devices, &array) {
-            Ok(()) => Ok(Mirror { devices, array }),
+        match open_array(alloc, &mut devices) {
+            Ok(array) => Ok(Mirror { devices, array }),
             Err(fault) => Err((devices, fault)),
         }
+    }
+}
+
+// The array that the devices make, whose marks are stored where they have to be.
+fn open_array<D: Device>(alloc: Global, devices: &mut [D]) -> Result<Array, OpenFault>
+    ensures ok { IfOk result (λ a. IsOpenedFrom (map (disk_of D.content D.honest D.failures) devices.old) (record { disks = map (disk_of D.content D.honest D.failures) devices.new; array = a })) }
+    ensures err { IfErr result (RefusesOpen (map (disk_of D.content D.honest D.failures) devices.old) (map (disk_of D.content D.honest D.failures) devices.new)) }
+    ensures len { length devices.new ≡ length devices.old }
+{
+    let array = match array_of(alloc, devices) {
+        Ok(array) => array,
+        Err(fault) => return Err(fault),
+    };
+    match store_needed_marks(devices, &array) {
+        Ok(()) => Ok(array),
+        Err(fault) => Err(fault),
     }
 }
 
