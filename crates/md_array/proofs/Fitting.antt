@@ -37,9 +37,9 @@ chunk_size_of content honest v h read = rw read.fields.chunksize (sound_is (fron
 -- the superblock of an array is that of a member
 superblock_at : (infos : List MemberInfo) (i : ℕ) (v : Superblock) → slice_get (map (λ info. info.superblock) infos) i ≡ Some v → (info : MemberInfo) × (slice_get infos i ≡ Some info) × (info.superblock ≡ v)
 superblock_at infos i v is = by (slice_get infos i) refl where
-    by : (o : Option MemberInfo) → slice_get infos i ≡ o → (info : MemberInfo) × (slice_get infos i ≡ Some info) × (info.superblock ≡ v)
-    by (Some info) at = (info, at, same_Some info.superblock v (sym (slice_get-map (λ info. info.superblock) infos i ∙ ap (option_map (λ info. info.superblock)) at) ∙ is))
-    by None at = absurd (none-some v (sym (slice_get-map (λ info. info.superblock) infos i ∙ ap (option_map (λ info. info.superblock)) at) ∙ is))
+  by : (o : Option MemberInfo) → slice_get infos i ≡ o → (info : MemberInfo) × (slice_get infos i ≡ Some info) × (info.superblock ≡ v)
+  by (Some info) at = (info, at, same_Some info.superblock v (sym (slice_get-map (λ info. info.superblock) infos i ∙ ap (option_map (λ info. info.superblock)) at) ∙ is))
+  by None at = absurd (none-some v (sym (slice_get-map (λ info. info.superblock) infos i ∙ ap (option_map (λ info. info.superblock)) at) ∙ is))
 
 -- a member that is kept of what was read on its device
 kept_fits : (a : ArrayView) (m : MemberView) (d : Disk) (info : MemberInfo) → m.superblock ≡ info.superblock → m.stored.chunks ≡ chunk_count info.superblock.size m.header.chunksize → a.shared.size ≡ info.superblock.size

@@ -41,9 +41,9 @@ pub each_after : (R S : ℕ → Disk → Disk → Type 0) (before now : List Dis
 each_after R S before now k d e here each others this = λ j a b was is.
     ⊎_elim
     (λ same. let at : j ≡ k = same.1 in
-        let found : Some b ≡ Some e = sym is ∙ ap (slice_get (set now k e)) at ∙ at_set_same now k e (slice_get_within now k d here) in
-        let found_k : slice_get before k ≡ Some a = ap (slice_get before) (sym at) ∙ was in
-        subst (λ (i : ℕ). S i a b) (sym at) (subst (λ (x : Disk). S k a x) (sym (same_Some b e found)) (this a found_k (each k a d found_k here))))
+    let found : Some b ≡ Some e = sym is ∙ ap (slice_get (set now k e)) at ∙ at_set_same now k e (slice_get_within now k d here) in
+    let found_k : slice_get before k ≡ Some a = ap (slice_get before) (sym at) ∙ was in
+    subst (λ (i : ℕ). S i a b) (sym at) (subst (λ (x : Disk). S k a x) (sym (same_Some b e found)) (this a found_k (each k a d found_k here))))
     (λ other. others j a b other.1 (each j a b was (at_set_other now k j e b other.1 is)))
     (eqb_tells j k)
 

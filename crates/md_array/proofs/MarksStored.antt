@@ -28,8 +28,8 @@ module _ (a : ArrayView) (before now : List Disk) (k : ℕ) (d e : Disk) (to : A
     earlier = each_after (λ j x y. j < k → IsMarked a j x y) (λ j x y. j < k + 1 → IsMarked a j x y) before now k d e here to.earlier
         (λ j x y other is below. is (omega arith))
         (λ x was is below n at_n. let same_disk : x ≡ d = same_listed before k x d was (to.rest k d (omega arith) here) in
-            let same_member : n ≡ m = same_listed a.members k n m at_n at in
-            rw (same_disk, same_member) marked);
+        let same_member : n ≡ m = same_listed a.members k n m at_n at in
+        rw (same_disk, same_member) marked);
     rest = λ j x from at_j. to.rest j x (omega arith) (at_set_other now k j e x (λ same. absurd (omega arith)) at_j);
   }
 

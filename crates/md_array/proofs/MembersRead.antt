@@ -66,12 +66,12 @@ pub read_more : (before now : List Disk) (infos : List MemberInfo) (k : ℕ) (d 
 read_more before now infos k d info count here untouched read is = λ j a x was at.
     ⊎_elim
     (λ same. let at_k : j ≡ length infos = same.1 ∙ sym count in
-        let last : x ≡ info = at_push_last infos info x (length infos) refl (subst (λ (i : ℕ). slice_get (infos ++ info ∷ []) i ≡ Some x) at_k at) in
-        let here_j : slice_get now j ≡ Some d = ap (slice_get now) same.1 ∙ here in
-        rw last (member_on d a info (untouched.content j a d was here_j) (untouched.same.honest j a d was here_j).honest is))
+    let last : x ≡ info = at_push_last infos info x (length infos) refl (subst (λ (i : ℕ). slice_get (infos ++ info ∷ []) i ≡ Some x) at_k at) in
+    let here_j : slice_get now j ≡ Some d = ap (slice_get now) same.1 ∙ here in
+    rw last (member_on d a info (untouched.content j a d was here_j) (untouched.same.honest j a d was here_j).honest is))
     (λ other. let total : length (infos ++ info ∷ []) ≡ length infos + 1 = length_push infos info in
-        let within : j < length infos = omega (arith, slice_get_within (infos ++ info ∷ []) j x at, other.1) in
-        read j a x was (at_push_before infos info x j within at))
+    let within : j < length infos = omega (arith, slice_get_within (infos ++ info ∷ []) j x at, other.1) in
+    read j a x was (at_push_before infos info x j within at))
     (eqb_tells j k)
 
 -- all of them
@@ -87,9 +87,9 @@ refused_member before now infos k d e fault count here untouched read refused me
     let stayed = untouched.same.honest k a d was here in
     let Fails = FailsAt before (set now k e) k in
     let fails : d.failures < e.failures → Fails = λ more x y is_x is_y.
-        let x_is = same_Some a x (sym was ∙ is_x) in
-        let y_is = same_Some e y (sym (at_set_same now k e (slice_get_within now k d here)) ∙ is_y) in
-        rw (sym x_is, sym y_is) (omega (arith, stayed.counted, more)) in
+    let x_is = same_Some a x (sym was ∙ is_x) in
+    let y_is = same_Some e y (sym (at_set_same now k e (slice_get_within now k d here)) ∙ is_y) in
+    rw (sym x_is, sym y_is) (omega (arith, stayed.counted, more)) in
     record {
       disk = a;
       is = was;
