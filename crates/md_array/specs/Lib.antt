@@ -1,7 +1,7 @@
 pub mod View
 pub mod Members
 pub mod Permitting
-pub mod Writes
 pub mod Opening
+pub mod Fits
 pub mod Remembering
 pub mod Worlds

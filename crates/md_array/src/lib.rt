@@ -9,8 +9,11 @@ mod marking;
 mod member;
 mod mirror;
 mod observing;
+mod opening;
 mod permitting;
+mod reading;
 mod remembering;
+mod storing;
 
 pub use fault::OpenFault;
 pub use mirror::Mirror;

@@ -1,5 +1,7 @@
 -- What is said of the content holds in every life.
-use Rattle.std.proofs.Common.{◌≡◌, ℕ, ◌<◌, false, List, [], ◌∷◌, refl, sym, ◌∙◌, subst}
+use Rattle.std.proofs.Common.{◌≡◌, ℕ, ◌<◌, Bool, false, ⊎_elim, List, [], ◌∷◌, refl, sym, ap, ◌∙◌, subst}
+use Rattle.std.specs.Prelude.{None}
+use Rattle.md_model.specs.Stops.{IsHalfOpened}
 use Rattle.md_model.specs.Sectors.{Geometry, chunk_of}
 use Rattle.md_model.specs.Devices.{Super, Stored}
 use Rattle.md_model.specs.Worlds.{World, IsInSync}
@@ -8,8 +10,8 @@ use Rattle.md_model.specs.Events.{Event}
 use Rattle.md_model.specs.Runs.{History, then_in, opening, IsStart}
 use Rattle.md_model.specs.Lives.{Reopens}
 use Rattle.md_model.specs.Content.{Content, Becomes, Holds, BecomesAtOpening, RunWith, LifeWith, KeepsContent, HasContent}
-use Rattle.md_model.specs.Behind.{IsBehind, Leaves, IsDegraded, LeavesBehind, MissingBehind}
-use Rattle.md_model.proofs.Cases.{by_test, never}
+use Rattle.md_model.specs.Behind.{IsBehind, HasDataOf, Leaves, IsDegraded, KeepsData, LeavesBehind, MissingBehind}
+use Rattle.md_model.proofs.Cases.{by_test, never, none_some}
 use Rattle.md_model.proofs.Keeps.{IsKept, kept_step}
 use Rattle.md_model.proofs.Opened.{kept_opened}
 use Rattle.md_model.proofs.OpeningCovers.{freshest_left, found}
@@ -95,6 +97,25 @@ module _ (g : Geometry) (small : IsWithinLimits g) (d : Stored) where
       (held_again g small (IsDegraded g) opened life.0 life.1 life.2 life.3 life.4 mid life.6 life.7)
       (stays_behind g small opened life.0 life.1 mid life.2 life.3 life.6 life.4 life.7 d (behind_run opened es h a life.0 life.1 t late life.5)) life.8
 
+-- a device with the data of one that is behind is so too
+behind_with_data : (g : Geometry) (a : Content) (w : World) (device other : Stored) → HasDataOf g device other → IsBehind g a other w → IsBehind g a device w
+behind_with_data g a w device other same late = record {
+  in_memory = λ s low off m. same.content s low ∙ late.in_memory s low (sym (same.listed s low) ∙ off) m;
+  on_members = λ i s low on off bit. same.content s low ∙ late.on_members i s low on (sym (same.listed s low) ∙ off) bit;
+}
+
+pub keeps_data : KeepsData
+keeps_data g opened h first next r k low =
+    let x = r.opens.opened.members.filled k low in
+    let half : IsHalfOpened (r.is_left.0 (r.opens.at k)) (r.left (r.opens.at k)) =
+    ⊎_elim (λ (is : IsHalfOpened (r.is_left.0 (r.opens.at k)) (r.left (r.opens.at k))). is)
+    (λ (gone : (r.left (r.opens.at k)).super ≡ None). absurd (none_some x.0 (sym gone ∙ r.opens.super k x.0 x.1)))
+    (r.is_left.2 (r.opens.at k)) in
+    record {
+      content = λ s inside. r.opens.content k s inside low ∙ ap (λ (f : ℕ → List ℕ). f s) half.content;
+      listed = λ s inside. r.opens.listed k s inside low ∙ ap (λ (f : ℕ → Bool). f s) half.listed;
+    }
+
 -- a failure leaves the content as it is
 unchanged : (g : Geometry) (e : Event) (k : ℕ) → Leaves e k → (w : World) (a : Content) → Becomes g e w a a
 unchanged g (Event.Fail j) k same w a = refl
@@ -119,7 +140,7 @@ leaves_behind g opened w a start t es rest final then b life k device after f mo
     let late = behind_leaving g b then.now x.kept.tracked x.holds k f.in_sync f.event f.it f.world f.step.1 in
     behind_life g start.small device final after b more others newest last c
     (subst (λ y. IsHeld g final y b) (sym f.gives) (record { kept = kept_step g start.small final then f.event f.world x.kept f.step; holds = holds_step g b b then.now f.event f.world x.kept.tracked x.holds f.step.1 (unchanged g f.event k f.it then.now b) }))
-    (subst (λ (y : History). IsBehind g b device y.now) (sym f.gives) (subst (λ (y : Stored). IsBehind g b y f.world) (sym f.has) late))
+    (subst (λ (y : History). IsBehind g b device y.now) (sym f.gives) (behind_with_data g b f.world device (f.world.stored k) f.has late))
     life'
 
 pub missing_behind_ever : MissingBehind
@@ -127,5 +148,5 @@ missing_behind_ever g opened w a start t es rest final then b life k device firs
     let x = held_life g start.small _ opened (opening w) a es rest final then b (held_opened g opened w a start t) life in
     behind_life g start.small device first (opening next) c more others newest last d
     (held_again g start.small (IsDegraded g) final then b first next c x m.reopens m.content)
-    (subst (λ (y : Stored). IsBehind g c y next) (sym m.has) (missing_behind g start.small final then b x first next m.reopens c m.content k m.in_sync))
+    (behind_with_data g c next device (m.reopens.is_left.0 k) m.has (missing_behind g start.small final then b x first next m.reopens c m.content k m.in_sync))
     life'

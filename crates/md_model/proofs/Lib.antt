@@ -25,3 +25,4 @@ pub mod Returns
 pub mod ContentAlong
 pub mod LoneOpening
 pub mod LoneMember
+pub mod NeededGuards

@@ -12,6 +12,7 @@ use Rattle.md_model.specs.Failures.{failed}
 use Rattle.md_model.specs.Resyncing.{copied, made_resynced, made_clean, MayCopyChunk, MayCopy, MayResync, MayStop}
 use Rattle.md_model.specs.Events.{Event, Fails, Step}
 use Rattle.md_model.specs.Runs.{History, then_in, opening, Run}
+use Rattle.md_model.specs.Stops.{IsLeft}
 use Rattle.md_model.specs.Lives.{Reopens}
 use Rattle.md_model.specs.SmallArray.{small_geometry, small_super, small_stored, small_state, small_world}
 use Rattle.md_model.specs.SmallRun.{one_sector, beginning, data_written, chunk_resynced, data_fails, CanRun}
@@ -20,7 +21,7 @@ use Rattle.md_model.proofs.Puts.{by_same, put-at, put-miss}
 use Rattle.md_model.proofs.SmallOpening.{in_both, in_sync_active, small_opened}
 
 -- one run after another
-then : (g : Geometry) (es fs : List Event) (h mid last : History) → Run g h es mid → Run g mid fs last → Run g h (es ++ fs) last
+pub then : (g : Geometry) (es fs : List Event) (h mid last : History) → Run g h es mid → Run g mid fs last → Run g h (es ++ fs) last
 then g [] fs h mid last r more = subst (λ x. Run g x fs last) r more
 then g (e ∷ es) fs h mid last r more = (r.0, r.1, then g es fs (then_in h e r.0) mid last r.2 more)
 
@@ -36,42 +37,42 @@ only_eight P at s e =
     let same : s ≡ 8 = omega arith in
     subst P (sym same) at
 
-full : (w : World) → w.state ≡ small_state → w.role 0 ≡ 0 → w.role 1 ≡ 1 → ((k : ℕ) → w.number k ≡ k) → IsFull small_geometry w
+pub full : (w : World) → w.state ≡ small_state → w.role 0 ≡ 0 → w.role 1 ≡ 1 → ((k : ℕ) → w.number k ≡ k) → IsFull small_geometry w
 full w state zero_is one_is number zero low = (0, ap (λ (f : ℕ → State). is_in_sync (f 0)) state, ap w.role (number 0) ∙ zero_is)
 full w state zero_is one_is number (suc zero) low = (1, ap (λ (f : ℕ → State). is_in_sync (f 1)) state, ap w.role (number 1) ∙ one_is)
 full w state zero_is one_is number (suc (suc r)) low = absurd (omega arith)
 
-abbrev w1 : World
+abbrev pub w1 : World
 w1 = begun small_geometry small_world 0 one_sector true true
 
-abbrev w2 : World
+abbrev pub w2 : World
 w2 = marks_stored w1 0 0
 
-abbrev w3 : World
+abbrev pub w3 : World
 w3 = recorded w2 0
 
-abbrev w4 : World
+abbrev pub w4 : World
 w4 = marks_stored w3 1 0
 
-abbrev w5 : World
+abbrev pub w5 : World
 w5 = recorded w4 1
 
-abbrev w6 : World
+abbrev pub w6 : World
 w6 = member_written w5 0 one_sector 0
 
 abbrev once_written : Request
 once_written = record one_sector { written = put 0 true one_sector.written }
 
-abbrev w7 : World
+abbrev pub w7 : World
 w7 = member_written w6 0 once_written 1
 
 abbrev twice_written : Request
 twice_written = record once_written { written = put 1 true once_written.written }
 
-abbrev w8 : World
+abbrev pub w8 : World
 w8 = finished w7 0
 
-abbrev at : World → Bool → History
+abbrev pub at : World → Bool → History
 at w tried = record { now = w; failed_at = 0; tried = tried }
 
 may_begin : MayBegin small_geometry small_world 0 one_sector
@@ -109,7 +110,7 @@ may_finish = record {
   recorded = in_two (λ i. w7.due i ≡ false) refl refl;
 }
 
-writes : Run small_geometry (opening small_world) (beginning ++ data_written) (at w8 true)
+pub writes : Run small_geometry (opening small_world) (beginning ++ data_written) (at w8 true)
 writes = then small_geometry beginning data_written (opening small_world) (at w5 false) (at w8 true) begins
     (w6, (refl, (one_sector, may_write, refl)), (w7, (refl, (once_written, may_write_too, refl)), (w8, (refl, (twice_written, may_finish, refl)), refl)))
 
@@ -131,7 +132,7 @@ w13 = made_clean small_geometry w12 true
 abbrev w14 : World
 w14 = failed small_geometry (with_device w13 1 (w13.stored 1)) 1 false
 
-no_request : (n : ℕ) → w8.request n ≡ None
+pub no_request : (n : ℕ) → w8.request n ≡ None
 no_request n = put-at 0 None w7.request n (λ x. x ≡ None) (λ _. refl)
     (λ apart. put-miss 0 (Some twice_written) w6.request n apart ∙ put-miss 0 (Some once_written) w5.request n apart ∙ put-miss 0 (Some one_sector) small_world.request n apart)
 
@@ -224,7 +225,7 @@ can_resync = (
 )
 
 -- a write that fails and leaves its device as it was
-abbrev lost : World → World
+abbrev pub lost : World → World
 lost w = failed small_geometry (with_device w 1 (w.stored 1)) 1 false
 
 fails_after : (es : List Event) (h : History) (e : Event) → Run small_geometry (opening small_world) es h → Step small_geometry h.now e (lost h.now) → CanRun (es ++ (e ∷ []))
@@ -238,25 +239,32 @@ pub can_fail_marks : CanRun (beginning ++ (Event.StoreMarksFails 1 0 ∷ []))
 can_fail_marks = fails_after beginning (at w5 false) (Event.StoreMarksFails 1 0) begins
     (refl, (w5.stored 1, refl, record { rest = refl; outside = λ _ _. refl; header = λ _. (refl, refl) }, fails w5 (w5.stored 1) refl refl (λ _. refl)))
 
-pub can_fail_data : CanRun (beginning ++ data_fails)
-can_fail_data = (
-  then_in (at w6 true) (Event.WriteMemberFails 0 1) (lost w6),
-  then small_geometry beginning data_fails (opening small_world) (at w5 false) (then_in (at w6 true) (Event.WriteMemberFails 0 1) (lost w6)) begins (
-    w6,
-    (refl, (one_sector, may_write, refl)),
-    (lost w6, (refl, (w6.stored 1, once_written, may_write_too, record { rest = refl; outside = λ _ _. refl }, fails w6 (w6.stored 1) refl refl (λ _. refl))), refl),
-  ),
+abbrev pub at_loss : History
+at_loss = then_in (at w6 true) (Event.WriteMemberFails 0 1) (lost w6)
+
+pub loses : Run small_geometry (opening small_world) (beginning ++ data_fails) at_loss
+loses = then small_geometry beginning data_fails (opening small_world) (at w5 false) at_loss begins (
+  w6,
+  (refl, (one_sector, may_write, refl)),
+  (lost w6, (refl, (w6.stored 1, once_written, may_write_too, record { rest = refl; outside = λ _ _. refl }, fails w6 (w6.stored 1) refl refl (λ _. refl))), refl),
 )
+
+pub can_fail_data : CanRun (beginning ++ data_fails)
+can_fail_data = (at_loss, loses)
 
 pub can_fail_copy : CanRun ((beginning ++ data_written) ++ (Event.CopyFails 1 1 ∷ []))
 can_fail_copy = fails_after (beginning ++ data_written) (at w8 true) (Event.CopyFails 1 1) writes
     (refl, (w8.stored 1, refl, may_copy_chunk w8 refl refl refl refl, record { rest = refl; outside = λ _ _. refl }, fails w8 (w8.stored 1) refl refl (λ _. refl)))
 
+-- a stop leaves the devices as they are
+pub as_it_was : (w : World) → IsLeft small_geometry w w.stored
+as_it_was w = (w.stored, inl refl, λ k. inl (record { super = refl; content = refl; listed = refl; marks = λ _ off. off }))
+
 -- it may be stopped and opened again
 pub reopens : Reopens small_geometry (small_super 0) (opening small_world) (small_super 0) small_world
 reopens = record {
   left = small_stored;
-  is_left = (small_stored, inl refl, λ k. inl (record { super = refl; content = refl; listed = refl; marks = λ _ off. off }));
+  is_left = as_it_was small_world;
   fit = record { recorded = omega arith; newer = inr (refl, λ _. refl) };
   opens = record {
     opened = small_opened;

@@ -15,6 +15,11 @@ pub record IsBehind (g : Geometry) (a : Content) (device : Stored) (w : World) :
   pub in_memory : (s : ℕ) → s < g.size → device.listed s ≡ false → w.marks (chunk_of g s) ≡ false → device.content s ≡ a s
   pub on_members : (i s : ℕ) → s < g.size → IsInSync w i → device.listed s ≡ false → (w.stored i).bits (chunk_of g s) ≡ false → device.content s ≡ a s
 
+-- a device with the same data and the same list, within the array
+pub record HasDataOf (g : Geometry) (device other : Stored) : Type 0 where
+  pub content : (s : ℕ) → s < g.size → device.content s ≡ other.content s
+  pub listed : (s : ℕ) → s < g.size → device.listed s ≡ other.listed s
+
 -- the events by which member k leaves
 abbrev pub Leaves : Event → ℕ → Type 0
 Leaves (Event.Fail j) k = j ≡ k
@@ -24,23 +29,29 @@ Leaves (Event.WriteMemberFails n j) k = j ≡ k
 Leaves (Event.CopyFails j c) k = j ≡ k
 Leaves e k = ⊥
 
--- member k, which is in sync, fails, and its device stays as it is by then
+-- member k, which is in sync, fails, and this device has its data
 pub record FailsWith (g : Geometry) (h : History) (k : ℕ) (device : Stored) (after : History) : Type 0 where
   pub in_sync : IsInSync h.now k
   pub event : Event
   pub it : Leaves event k
   pub world : World
   pub step : Step g h.now event world
-  pub has : device ≡ world.stored k
+  pub has : HasDataOf g device (world.stored k)
   pub gives : after ≡ then_in h event world
 
--- Or it was in sync at a stop. The device is as that left it, whatever the next opening finds of it: it may be missing there, or
--- be there and stale.
+-- Or it was in sync at a stop. The device has its data as the stop left it, whatever the next opening finds of it: it may be
+-- missing there, or be there and stale, as a member whose data that opening kept.
 pub record MissesOpening (g : Geometry) (opened : Super) (h : History) (a : Content) (k : ℕ) (device : Stored) (first : Super) (next : World) (b : Content) : Type 0 where
   pub in_sync : IsInSync h.now k
   pub reopens : Reopens g opened h first next
   pub content : BecomesAtOpening g next a b
-  pub has : device ≡ reopens.is_left.0 k
+  pub has : HasDataOf g device (reopens.is_left.0 k)
+
+-- Such is each member of an opening, in sync or stale: it has the data that the stop left on it.
+abbrev pub KeepsData : Type 0
+KeepsData =
+    (g : Geometry) (opened : Super) (h : History) (first : Super) (next : World) (r : Reopens g opened h first next)
+    → (k : ℕ) → k < next.members → HasDataOf g (next.stored k) (r.is_left.0 (r.opens.at k))
 
 -- some role has no member in sync
 abbrev pub IsDegraded : Geometry → World → Type 0

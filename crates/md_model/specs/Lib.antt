@@ -19,3 +19,4 @@ pub mod Behind
 pub mod Returns
 pub mod Fits
 pub mod LoneMember
+pub mod NeededGuards

@@ -1,17 +1,18 @@
 //! What holds of the definitions alone.
 
-ghost use Rattle.std.specs.Prelude.{◌≡◌, ℕ, ◌<◌, ◌⊎◌, true, None, [], ◌∷◌, ◌++◌};
+ghost use Rattle.std.specs.Prelude.{◌≡◌, ℕ, ◌<◌, ◌⊎◌, false, true, None, [], ◌∷◌, ◌++◌};
 ghost use Rattle.md_model.specs.Assembly.{IsFound};
-ghost use Rattle.md_model.specs.Behind.{LeavesBehind, MissingBehind};
+ghost use Rattle.md_model.specs.Behind.{KeepsData, LeavesBehind, MissingBehind};
 ghost use Rattle.md_model.specs.Content.{HasContent, HasContentAlong, KeepsContent};
 ghost use Rattle.md_model.specs.Devices.{Covered, Stored, Super, is_marked};
 ghost use Rattle.md_model.specs.Events.{Event};
 ghost use Rattle.md_model.specs.Fits.{FitsWhenThere, StepsRun};
 ghost use Rattle.md_model.specs.Lives.{Always, IsCovered, Reopens};
-ghost use Rattle.md_model.specs.LoneMember.{IsBack, IsShutOut, lone_begin, lone_world, lone_write, other_back};
+ghost use Rattle.md_model.specs.LoneMember.{IsBack, IsKeptOut, IsShutOut, later_super, lone_at, lone_begin, lone_recorded, lone_world, lone_write, other_back};
+ghost use Rattle.md_model.specs.NeededGuards.{ForgetsFailure, KeepsTheRole, WritesTooEarly, WritesUnmarked};
 ghost use Rattle.md_model.specs.Openings.{IsOpened, IsOpenedFrom};
 ghost use Rattle.md_model.specs.Returns.{CoversReturns};
-ghost use Rattle.md_model.specs.Runs.{History, Run, opening};
+ghost use Rattle.md_model.specs.Runs.{History, IsStart, Run, opening};
 ghost use Rattle.md_model.specs.Sectors.{Geometry, chunk_of};
 ghost use Rattle.md_model.specs.SmallArray.{small_geometry, small_super, small_world};
 ghost use Rattle.md_model.specs.SmallRun.{CanRun, beginning, chunk_resynced, data_fails, data_written};
@@ -38,11 +39,14 @@ pub fn opening_covers()
         → Covered g left (IsFound g left freshest)
         → Covered g w.stored (IsInSync w) }
 
-    // So does an opening that is stopped before it ends, the first one too; some devices may be missing after it.
+    // They stay covered too where an opening is stopped before it ends, the first one as well; some may be missing after it.
     ensures stopped { (g : Geometry) (before left : ℕ → Stored) (freshest : Super)
         → ((k : ℕ) → IsHalfOpened (before k) (left k) ⊎ ((left k).super ≡ None))
         → Covered g before (IsFound g before freshest)
         → Covered g left (IsFound g left freshest) }
+
+    // Each member that it opens, in sync or stale, has the data that a stop left on it.
+    ensures keeps_data { KeepsData }
 {}
 
 /// No guard is empty: the mirror of two members goes through every event, each failure among them, and is opened again.
@@ -55,13 +59,27 @@ pub fn small_runs()
     ensures reopens { Reopens small_geometry (small_super 0) (opening small_world) (small_super 0) small_world }
 {}
 
-/// So does the same mirror when it is opened from member 1 alone. A write makes the absent role faulty, and the other device,
-/// which was in sync by the opening's superblock, is not by the next one. Before any data it may come back.
+/// The same mirror, opened from member 1 alone: no premise on absent devices is empty. A write makes the absent role faulty, and
+/// the other device, which was in sync by the opening's superblock, is not by the next one, also where a stop tears the data.
+/// Before any data it may come back.
 pub fn lone_member()
-    ensures opened { IsOpened small_geometry (small_super 1) lone_world }
-    ensures covered { Covered small_geometry lone_world.stored (IsInSync lone_world) }
-    ensures shuts_out { (last : History) × Run small_geometry (opening lone_world) lone_write last × IsShutOut small_geometry (small_super 1) last (small_super 0) }
+    ensures starts { IsStart small_geometry (small_super 1) lone_world }
+    ensures shuts_out { (last : History) × Run small_geometry (opening lone_world) lone_write last × IsShutOut small_geometry (small_super 1) last (small_super 0) 8 (1 ∷ []) }
+    ensures shuts_out_torn { (last : History) × Run small_geometry (opening lone_world) lone_recorded last × IsShutOut small_geometry (small_super 1) last (small_super 0) 8 (2 ∷ []) }
     ensures comes_back { (last : History) × Run small_geometry (opening lone_world) lone_begin last × IsBack small_geometry (small_super 1) lone_world last other_back }
+
+    // At an opening after that it is out from the first, and stays so.
+    ensures starts_again { IsStart small_geometry later_super (lone_at later_super) }
+    ensures stays_out { IsKeptOut small_geometry later_super (opening (lone_at later_super)) (small_super 0) false }
+{}
+
+/// Guards that the law can't do without. Where one is left out, an opening finds members in sync that marks don't cover, or one
+/// that failed.
+pub fn needed_guards()
+    ensures marks_before_data { WritesUnmarked }
+    ensures record_before_data { WritesTooEarly }
+    ensures absent_loses_role { KeepsTheRole }
+    ensures failure_recorded { ForgetsFailure }
 {}
 
 /// The law of write intent, over every list of events, stops and openings that begins with devices that are covered.

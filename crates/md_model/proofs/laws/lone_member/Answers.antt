@@ -1,12 +1,13 @@
-use Rattle.md_model.proofs.LoneOpening.{lone_opened}
-use Rattle.md_model.proofs.LoneMember.{shuts_out, comes_back}
+use Rattle.md_model.proofs.LoneOpening.{lone_starts, later_starts}
+use Rattle.md_model.proofs.LoneMember as lone
 use Rattle.md_model.proofs.laws.lone_member.Goals as goal
 
-pub returns-clause-opened : goal.returns-clause-opened
-returns-clause-opened c = lone_opened
-
-pub returns-clause-shuts_out : goal.returns-clause-shuts_out
-returns-clause-shuts_out c = shuts_out
-
-pub returns-clause-comes_back : goal.returns-clause-comes_back
-returns-clause-comes_back c = comes_back
+pub returns : goal.returns
+returns c = record {
+  starts = lone_starts;
+  shuts_out = lone.shuts_out;
+  shuts_out_torn = lone.shuts_out_torn;
+  comes_back = lone.comes_back;
+  starts_again = later_starts;
+  stays_out = lone.stays_out;
+}
