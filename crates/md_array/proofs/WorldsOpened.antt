@@ -1,8 +1,8 @@
 -- A mirror that was opened is an opened world.
-use Rattle.std.proofs.Common.{◌≡◌, ℕ, ◌*◌, ◌<◌, ◌≤◌, ◌⊎◌, ◌↔◌, inl, inr, Bool, true, false, true≢false, cond, ◌&&◌, nat_lt, eqb, List, [], length, drop, slice_get, slice_index_or, Some, None, refl, sym, ap, ◌∙◌, subst, arith, eq-eqb, eqb-true, ltb-true, lt-ltb}
+use Rattle.std.proofs.Common.{◌≡◌, ℕ, ◌*◌, ◌<◌, ◌≤◌, ◌⊎◌, ◌↔◌, inl, inr, Bool, true, false, true≢false, ◌&&◌, nat_lt, eqb, List, length, slice_get, Some, refl, sym, ap, ◌∙◌, subst, arith, eq-eqb, eqb-true, ltb-true, lt-ltb}
 use Rattle.std.proofs.lemmas.Bool.Decides.{nat_tests}
 use Rattle.std.proofs.lemmas.List.{get_or_past}
-use Rattle.std.proofs.lemmas.Option.{same_Some, slice_get_within}
+use Rattle.std.proofs.lemmas.Option.{slice_get_within}
 use Rattle.md_bitmap.specs.Marks.{is_set}
 use Rattle.md_members.specs.declared.info.MemberInfo.{MemberInfo}
 use Rattle.md_super.specs.declared.superblock.Superblock.{Superblock}
@@ -14,10 +14,10 @@ use Rattle.md_model.specs.Devices.{Stored, Super, EndsWith, is_accepted}
 use Rattle.md_model.specs.Openings.{HasMembers, HasStates, HasMarks, IsOpened}
 use Rattle.md_model.specs.Worlds as worlds
 use Rattle.md_array.specs.View.{Disk, ArrayView, MemberView, MirrorView}
-use Rattle.md_array.specs.Members.{IsMember, IsInSync, IsAlone, is_recorded}
+use Rattle.md_array.specs.Members.{IsMember, IsAlone}
 use Rattle.md_array.specs.Opening.{IsOpenedFrom}
-use Rattle.md_array.specs.Worlds.{AreHonest, geometry_of, nothing_stored, stored_of, super_of, kind_of, from_super, is_listed, world_of, none_in_flight}
-use Rattle.md_array.proofs.WorldsDevice.{IsOpenedMember, bits_new, due_is, is_accepted_new, none_past, not_fresher_own, state_is}
+use Rattle.md_array.specs.Worlds.{AreHonest, geometry_of, nothing_stored, stored_of, super_of, kind_of, world_of, none_in_flight}
+use Rattle.md_array.proofs.WorldsDevice.{bits_new, due_is, is_accepted_new, none_past, not_fresher_own, state_is}
 use Rattle.md_array.proofs.WorldsLists.{any_at, at_any, got_within, got_same}
 use Rattle.md_array.proofs.WorldsShown.{IsShown, at_is, at_past, by_member, in_sync_is, in_sync_there, number_at_member, own_is, shown, state_at, state_past, stored_at, stored_past, super_at}
 use Rattle.md_array.proofs.WorldsSound.{freshest_at, numbers_distinct, roles_distinct, some_in_sync}

@@ -1,8 +1,8 @@
 -- What the opening changed: all marks are stored where the bitmap was not accepted, and all else is as it was.
-use Rattle.std.proofs.Common.{◌≡◌, ℕ, ◌+◌, ◌<◌, ◌≤◌, ◌↔◌, inl, inr, Bool, true, false, cond, ◌&&◌, nat_lt, List, [], length, slice_get, Some, refl, sym, ap, ◌∙◌, lt-ltb}
-use Rattle.std.proofs.lemmas.Option.{none-some, same_Some, slice_get_past}
+use Rattle.std.proofs.Common.{◌≡◌, ℕ, ◌+◌, ◌<◌, ◌≤◌, ◌↔◌, inl, inr, Bool, true, cond, ◌&&◌, nat_lt, List, [], length, slice_get, Some, refl, sym, ap, ◌∙◌, lt-ltb}
+use Rattle.std.proofs.lemmas.Option.{none-some, slice_get_past}
 use Rattle.md_badblocks.specs.Runs.{IsBad}
-use Rattle.md_model.specs.Devices.{Covered, Stored, Super, is_accepted, is_marked}
+use Rattle.md_model.specs.Devices.{Covered, Stored, Super, is_marked}
 use Rattle.md_model.specs.Openings as openings
 use Rattle.md_model.specs.Sectors.{chunk_of}
 use Rattle.md_model.specs.Worlds as worlds

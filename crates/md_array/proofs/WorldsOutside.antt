@@ -9,7 +9,7 @@ use Rattle.md_super.specs.declared.superblock.Superblock.{Superblock}
 use Rattle.md_super.specs.Format.{IsSuper}
 use Rattle.md_super.specs.Log.{has_bad_block_log}
 use Rattle.md_members.specs.declared.area.Area.{Area}
-use Rattle.md_members.specs.Areas.{AreApart, IsPlaced, BitmapIsPlaced, LogIsPlaced, bitmap_area, super_area, data_area, log_area}
+use Rattle.md_members.specs.Areas.{AreApart, BitmapIsPlaced, LogIsPlaced, bitmap_area, super_area, data_area, log_area}
 use Rattle.md_members.specs.Reading.{BitmapStartsAt}
 use Rattle.md_array.specs.Worlds.{block_on, from_super, has_listed, is_listed, is_logged, sector_at}
 

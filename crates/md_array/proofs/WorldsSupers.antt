@@ -1,12 +1,12 @@
 -- A superblock that was read is the one that the world shows.
-use Rattle.std.proofs.Common.{◌≡◌, ℕ, ◌<◌, ◌≤◌, Bool, true, ◌&&◌, not, bit_and, eqb, leb, ltb, List, slice_index_or, ◌==◌, Some, None, refl, sym, ap, ◌∙◌, subst, arith, eq-eqb, le-leb, lt-ltb}
+use Rattle.std.proofs.Common.{◌≡◌, ℕ, Bool, true, ◌&&◌, not, bit_and, List, slice_index_or, ◌==◌, Some, None, refl, sym, ap, subst, arith, eq-eqb, le-leb, lt-ltb}
 use Rattle.md_format.specs.Fields.{number_at}
 use Rattle.md_format.proofs.Order.{same_unless_other}
 use Rattle.md_super.specs.declared.superblock.Superblock.{Superblock}
 use Rattle.md_super.specs.declared.fault.SuperFault.TheVariants.{Checksum}
 use Rattle.md_super.specs.Checksum.{checksum_of}
 use Rattle.md_super.specs.Profile.{unsupported_features}
-use Rattle.md_super.specs.Faults.{NoFault, IsSound, fault_of}
+use Rattle.md_super.specs.Faults.{NoFault, fault_of}
 use Rattle.md_super.specs.Format.{IsSuper}
 use Rattle.md_super.proofs.Order.{sound_without_fault}
 use Rattle.md_members.specs.Reading.{ReadsSuper}
