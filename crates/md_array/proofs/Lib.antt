@@ -1,13 +1,17 @@
 pub mod WorldsBad
 pub mod WorldsDevice
+pub mod WorldsFound
 pub mod WorldsLists
+pub mod WorldsMarked
 pub mod WorldsMember
 pub mod WorldsOpened
 pub mod WorldsOpenedFrom
 pub mod WorldsOutside
+pub mod WorldsPresent
 pub mod WorldsRead
 pub mod WorldsShown
 pub mod WorldsSound
 pub mod WorldsStates
 pub mod WorldsSupers
+pub mod WorldsTests
 pub mod WorldsWrites

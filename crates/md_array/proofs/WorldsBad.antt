@@ -11,13 +11,8 @@ use Rattle.md_badblocks.specs.Runs.{IsBad, LiesIn}
 use Rattle.md_members.specs.Members.{HasBadSet, reads_log}
 use Rattle.md_members.specs.Reading.{ReadsLog}
 use Rattle.md_array.specs.Worlds.{block_on, from_super, has_listed, is_listed, is_logged, lies_in, sector_at}
-
-both : (a b : Bool) → (a && b) ≡ true → (a ≡ true) × (b ≡ true)
-both true b e = (refl, e)
-both false b e = absurd cc
-
-and_is : (a b : Bool) → a ≡ true → b ≡ true → (a && b) ≡ true
-and_is a b x y = rw (x, y) refl
+use Rattle.md_model.proofs.Cases.{both}
+use Rattle.md_array.proofs.WorldsTests.{and_is}
 
 in_run : (run : Run) (sector : ℕ) → (nat_le run.start sector && nat_lt sector (run.start + run.len)) ≡ true ↔ LiesIn sector run
 in_run run sector = (

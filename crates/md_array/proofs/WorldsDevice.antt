@@ -29,7 +29,7 @@ use Rattle.md_array.proofs.WorldsBad.{listed_is_bad}
 use Rattle.md_array.proofs.WorldsMember.{Fits, accepted_there, by_need, by_accepted, fits_there}
 use Rattle.md_array.proofs.WorldsOutside.{block_stays, data_stays, listed_stays, starts_at}
 use Rattle.md_array.proofs.WorldsRead.{HasRead, header_there, read_of, holds_read, uuid_long, name_long}
-use Rattle.md_array.proofs.WorldsSound.{by_test}
+use Rattle.md_model.proofs.Cases.{by_test}
 use Rattle.md_array.proofs.WorldsStates.{in_sync_up_to_date}
 use Rattle.md_array.proofs.WorldsSupers.{block_spells, device_super}
 use Rattle.md_array.proofs.WorldsWrites.{HoldsBitmap, holds_written}

@@ -11,7 +11,7 @@ use Rattle.md_model.specs.Devices.{Super, accepts, is_accepted}
 use Rattle.md_array.specs.View.{ArrayView, MemberView}
 use Rattle.md_array.specs.Members.{NeedsMarks}
 use Rattle.md_array.specs.Worlds.{block_on, from_super, header_fits, header_on, stored_of, super_in, super_of}
-use Rattle.md_array.proofs.WorldsSound.{by_test}
+use Rattle.md_model.proofs.Cases.{both, by_test}
 
 -- ---- tests of numbers and bytes
 by_bytes : {P : Type 0} (xs ys : List ℕ) → (xs ≡ ys → P) → ((xs ≡ ys → ⊥) → P) → P
@@ -92,13 +92,9 @@ all_three_hold false b c e = absurd cc
 accepts_says : (super : Option Super) (own : Super) (events : ℕ) (fits : Bool) → super ≡ Some own → accepts super events fits ≡ true → (fits ≡ true) × ((events ≡ own.events) ⊎ (events ≡ own.events + 1))
 accepts_says super own events fits is e =
     let t : (fits && (eqb events own.events || eqb events (own.events + 1))) ≡ true = rw is at e in
-    let parts : (fits ≡ true) × ((eqb events own.events || eqb events (own.events + 1)) ≡ true) = both_hold _ _ t in
+    let parts : (fits ≡ true) × ((eqb events own.events || eqb events (own.events + 1)) ≡ true) = both _ _ t in
     (parts.0, one_of (eqb events own.events) (eqb events (own.events + 1)) (eqb-true events own.events) (eqb-true events (own.events + 1)) parts.1)
   where
-    both_hold : (a b : Bool) → (a && b) ≡ true → (a ≡ true) × (b ≡ true)
-    both_hold true b h = (refl, h)
-    both_hold false b h = absurd cc
-
     one_of : {P Q : Type 0} (a b : Bool) → (a ≡ true → P) → (b ≡ true → Q) → (a || b) ≡ true → P ⊎ Q
     one_of true b p q h = inl (p refl)
     one_of false b p q h = inr (q h)

@@ -1,5 +1,5 @@
 -- What the opening changed: all marks are stored where the bitmap was not accepted, and all else is as it was.
-use Rattle.std.proofs.Common.{◌≡◌, ℕ, ◌+◌, ◌<◌, ◌≤◌, ◌↔◌, inl, inr, Bool, true, cond, ◌&&◌, nat_lt, List, [], length, slice_get, Some, refl, sym, ap, ◌∙◌, lt-ltb}
+use Rattle.std.proofs.Common.{◌≡◌, ℕ, ◌+◌, ◌<◌, ◌≤◌, ◌↔◌, inl, inr, true, cond, ◌&&◌, nat_lt, List, [], length, slice_get, Some, sym, ap, ◌∙◌, lt-ltb}
 use Rattle.std.proofs.lemmas.Option.{none-some, slice_get_past}
 use Rattle.md_badblocks.specs.Runs.{IsBad}
 use Rattle.md_model.specs.Devices.{Covered, Stored, Super, is_marked}
@@ -14,9 +14,7 @@ use Rattle.md_array.specs.Worlds.{AreHonest, geometry_of, is_listed, nothing_sto
 use Rattle.md_array.proofs.WorldsDevice.{all_or_same, bad_is_listed, bits_new, chunk_of_sector, is_accepted_new, same_data, same_listed, super_old}
 use Rattle.md_array.proofs.WorldsOpened.{opened}
 use Rattle.md_array.proofs.WorldsShown.{IsShown, by_member, in_sync_is, own_is, shown, stored_at, stored_is, super_at}
-
-and_is : (a b : Bool) → a ≡ true → b ≡ true → (a && b) ≡ true
-and_is a b x y = rw (x, y) refl
+use Rattle.md_array.proofs.WorldsTests.{and_is}
 
 module _ (before : List Disk) (m : MirrorView) (honest : AreHonest before) (o : IsOpenedFrom before m) where
   abbrev a : ArrayView
