@@ -22,8 +22,9 @@ use Rattle.md_badblocks.specs.Runs.{IsBad}
 use Rattle.md_model.specs.Devices.{is_accepted}
 use Rattle.md_array.specs.View.{Disk, ArrayView, MemberView}
 use Rattle.md_array.specs.Members.{NeedsMarks, is_recorded}
-use Rattle.md_array.specs.Opening.{IsKept, IsUnchanged, StoresMarks, bitmap_writes}
-use Rattle.md_array.specs.Writes.{after}
+use Rattle.md_array.specs.Opening.{IsKept, IsUnchanged, StoresMarks}
+use Rattle.md_writes.specs.Bitmaps.{bitmap_writes}
+use Rattle.md_writes.specs.Writes.{after}
 use Rattle.md_array.specs.Worlds.{block_on, from_super, is_listed, stored_of, super_in, super_of}
 use Rattle.md_array.proofs.WorldsBad.{listed_is_bad}
 use Rattle.md_array.proofs.WorldsMember.{Fits, accepted_there, by_need, by_accepted, fits_there}

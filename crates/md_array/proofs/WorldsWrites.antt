@@ -13,9 +13,9 @@ use Rattle.md_bitmap.specs.Header.{IsHeader, header_bytes}
 use Rattle.md_bitmap.specs.Marks.{Bitmap, is_set, padded}
 use Rattle.md_bitmap.proofs.Padded.{length-padded, slice_index-padded}
 use Rattle.md_members.specs.Areas.{bitmap_sectors}
-use Rattle.md_array.specs.Opening.{bitmap_write, bitmap_writes}
+use Rattle.md_writes.specs.Bitmaps.{bitmap_write, bitmap_writes}
 use Rattle.md_array.specs.Worlds.{header_on}
-use Rattle.md_array.specs.Writes.{after}
+use Rattle.md_writes.specs.Writes.{after}
 
 -- the bitmap that starts at a sector of the device: its header, and the marks behind it
 pub record HoldsBitmap (content : List ℕ) (start : ℕ) (h : BitmapHeader) (m : Bitmap) : Type 0 where

@@ -2,11 +2,17 @@
 #![tactic(auto)]
 
 mod array;
+mod copying;
 mod fault;
 pub mod laws;
+mod marking;
 mod member;
 mod mirror;
 mod observing;
+mod opening;
+mod reading;
+mod remembering;
+mod storing;
 
 pub use fault::OpenFault;
 pub use mirror::Mirror;

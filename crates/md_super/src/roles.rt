@@ -1,6 +1,7 @@
 // The roles of an array's devices.
-ghost use Rattle.std.specs.Prelude.{◌≡◌, ◌≤◌, List, ℕ, length};
+ghost use Rattle.std.specs.Prelude.{◌≡◌, ◌<◌, ◌≤◌, List, ℕ, length, set};
 
+use std::alloc::{AllocError, Global};
 use std::marker::Model;
 
 /// The roles for which a superblock of 4096 bytes has room.
@@ -36,11 +37,27 @@ impl Roles {
         Roles { list }
     }
 
+    /// How many roles there are: `max_dev` of `md_p.h`.
+    pub fn max_dev(&self) -> u32
+        ensures value { result ≡ length self.now }
+        ensures few { result ≤ 1920 }
+    {
+        self.list.len() as u32
+    }
+
     /// The list of the roles, by device number.
     pub fn as_slice(&self) -> &[u16]
         ensures { result.now ≡ self.now }
     {
         self.list.as_slice()
+    }
+
+    /// Gives the device with this number another role.
+    pub fn set(&mut self, number: u32, role: u16)
+        requires { number < length self.old }
+        ensures { self.new ≡ set self.old number role }
+    {
+        self.list[number as usize] = role;
     }
 
     /// The list itself. It takes no memory.
@@ -49,5 +66,18 @@ impl Roles {
     {
         let Roles { list: roles } = self;
         roles
+    }
+}
+
+impl Roles {
+    ghost use Rattle.std.specs.Prelude.{IfOk};
+
+    /// The same roles.
+    pub fn try_clone(&self, alloc: Global) -> Result<Roles, AllocError>
+        ensures { IfOk result (λ copy. copy ≡ self.now) }
+    {
+        Ok(Roles {
+            list: Vec::from_slice(alloc, &self.list)?,
+        })
     }
 }
