@@ -1,24 +1,18 @@
 -- The bad set that is kept of a member is what its log lists.
-use Rattle.std.proofs.Common.{◌≡◌, ℕ, ◌+◌, ◌*◌, ◌^◌, ◌<◌, ◌≤◌, ◌⊎◌, ◌↔◌, inl, inr, Bool, true, false, true≢false, ◌&&◌, ◌||◌, not, ◌==◌, bit_and, nat_lt, nat_le, int_eq, List, [], ◌∷◌, ℤ, pos, refl, sym, ap, ◌∙◌, subst, leb-true, le-leb, ltb-true, lt-ltb}
-use Rattle.std.specs.List.{list_any}
+use Rattle.std.proofs.Common.{◌≡◌, ℕ, ◌+◌, ◌*◌, ◌^◌, ◌⊎◌, ◌↔◌, inl, inr, Bool, true, false, true≢false, ◌&&◌, ◌||◌, not, ◌==◌, bit_and, nat_lt, nat_le, int_eq, List, [], ◌∷◌, pos, refl, sym, ap, ◌∙◌, subst, leb-true, le-leb, ltb-true, lt-ltb}
 use Rattle.std.specs.Int.{w32, cast_signed}
 use Rattle.md_device.specs.Splice.{part}
 use Rattle.md_format.specs.Fields.{number_at}
 use Rattle.md_super.specs.declared.superblock.Superblock.{Superblock}
 use Rattle.md_super.specs.Format.{IsSuper}
 use Rattle.md_badblocks.specs.declared.run.Run.{Run}
-use Rattle.md_badblocks.specs.Log.{IsReadAs, named_runs}
+use Rattle.md_badblocks.specs.Log.{named_runs}
 use Rattle.md_badblocks.specs.Runs.{IsBad, LiesIn}
 use Rattle.md_members.specs.Members.{HasBadSet, reads_log}
-use Rattle.md_members.specs.Reading.{LogStartsAt, ReadsLog}
+use Rattle.md_members.specs.Reading.{ReadsLog}
 use Rattle.md_array.specs.Worlds.{block_on, from_super, has_listed, is_listed, is_logged, lies_in, sector_at}
-
-both : (a b : Bool) → (a && b) ≡ true → (a ≡ true) × (b ≡ true)
-both true b e = (refl, e)
-both false b e = absurd cc
-
-and_is : (a b : Bool) → a ≡ true → b ≡ true → (a && b) ≡ true
-and_is a b x y = rw (x, y) refl
+use Rattle.md_model.proofs.Cases.{both}
+use Rattle.md_array.proofs.WorldsTests.{and_is}
 
 in_run : (run : Run) (sector : ℕ) → (nat_le run.start sector && nat_lt sector (run.start + run.len)) ≡ true ↔ LiesIn sector run
 in_run run sector = (

@@ -1,5 +1,5 @@
 -- The device of a member, before and after the opening.
-use Rattle.std.proofs.Common.{◌≡◌, ℕ, ◌+◌, ◌*◌, ◌/◌, ◌<◌, ◌≤◌, ◌⊎◌, inl, inr, Bool, true, false, nat_lt, List, length, drop, Some, ℤ, pos, ◌+ℤ◌, ◌≤ℤ◌, refl, sym, ap, ◌∙◌, subst, arith, add-mul, lt_of_mul-lt-mul_right, lt-ltb, ◌&&◌, ◌↔◌}
+use Rattle.std.proofs.Common.{◌≡◌, ℕ, ◌+◌, ◌*◌, ◌/◌, ◌<◌, ◌≤◌, ◌⊎◌, inl, inr, true, false, nat_lt, length, drop, Some, ℤ, pos, ◌+ℤ◌, ◌≤ℤ◌, refl, sym, ap, ◌∙◌, subst, arith, add-mul, lt_of_mul-lt-mul_right, lt-ltb, ◌&&◌, ◌↔◌}
 use Rattle.std.specs.Int.{div_ceil}
 use Rattle.std.proofs.lemmas.Bool.{cases_lt}
 use Rattle.std.proofs.lemmas.Grind.{div_ceil_times}
@@ -8,8 +8,7 @@ use Rattle.std.proofs.lemmas.Option.{same_Some}
 use Rattle.md_device.specs.Splice.{part, SameOutside}
 use Rattle.md_super.specs.declared.superblock.Superblock.{Superblock}
 use Rattle.md_bitmap.specs.declared.header.BitmapHeader.{BitmapHeader}
-use Rattle.md_bitmap.specs.Header.{header_bytes}
-use Rattle.md_bitmap.specs.Marks.{Bitmap, is_set}
+use Rattle.md_bitmap.specs.Marks.{is_set}
 use Rattle.md_bitmap.specs.Sound.{IsChunkSize, chunk_count}
 use Rattle.md_bitmap.proofs.Encoded.{length-header_bytes, reads_back}
 use Rattle.md_bitmap.proofs.Limits.{div-lt-div_ceil, div_ceil-sectors}
@@ -23,14 +22,15 @@ use Rattle.md_badblocks.specs.Runs.{IsBad}
 use Rattle.md_model.specs.Devices.{is_accepted}
 use Rattle.md_array.specs.View.{Disk, ArrayView, MemberView}
 use Rattle.md_array.specs.Members.{NeedsMarks, is_recorded}
-use Rattle.md_array.specs.Opening.{IsKept, IsUnchanged, StoresMarks, bitmap_writes}
-use Rattle.md_array.specs.Writes.{after}
+use Rattle.md_array.specs.Opening.{IsKept, IsUnchanged, StoresMarks}
+use Rattle.md_writes.specs.Bitmaps.{bitmap_writes}
+use Rattle.md_writes.specs.Writes.{after}
 use Rattle.md_array.specs.Worlds.{block_on, from_super, is_listed, stored_of, super_in, super_of}
 use Rattle.md_array.proofs.WorldsBad.{listed_is_bad}
 use Rattle.md_array.proofs.WorldsMember.{Fits, accepted_there, by_need, by_accepted, fits_there}
 use Rattle.md_array.proofs.WorldsOutside.{block_stays, data_stays, listed_stays, starts_at}
 use Rattle.md_array.proofs.WorldsRead.{HasRead, header_there, read_of, holds_read, uuid_long, name_long}
-use Rattle.md_array.proofs.WorldsSound.{by_test}
+use Rattle.md_model.proofs.Cases.{by_test}
 use Rattle.md_array.proofs.WorldsStates.{in_sync_up_to_date}
 use Rattle.md_array.proofs.WorldsSupers.{block_spells, device_super}
 use Rattle.md_array.proofs.WorldsWrites.{HoldsBitmap, holds_written}

@@ -1,35 +1,17 @@
 -- A member of an array that was opened, by its device before and after.
-use Rattle.std.proofs.Common.{◌≡◌, ℕ, ◌+◌, ◌*◌, ◌/◌, ◌<◌, ◌≤◌, ◌⊎◌, inl, inr, Bool, true, false, true≢false, ◌&&◌, ◌||◌, ◌==◌, eqb, nat_lt, List, length, drop, Option, Some, ℤ, pos, ◌+ℤ◌, ◌≤ℤ◌, refl, sym, ap, ◌∙◌, subst, arith, eq-eqb, eqb-true, bytes_eq}
+use Rattle.std.proofs.Common.{◌≡◌, ℕ, ◌+◌, ◌⊎◌, inl, inr, Bool, true, false, true≢false, ◌&&◌, ◌||◌, eqb, List, Option, Some, refl, sym, ◌∙◌, arith, eq-eqb, eqb-true, bytes_eq}
 use Rattle.std.proofs.lemmas.Bool.Decides.{nat_tests}
-use Rattle.std.proofs.lemmas.Int.{ints}
 use Rattle.std.proofs.lemmas.Slice.Eq.{bytes_eq-Decides}
-use Rattle.md_device.specs.Splice.{part, SameOutside}
 use Rattle.md_super.specs.declared.superblock.Superblock.{Superblock}
-use Rattle.md_super.specs.Format.{IsSuper}
 use Rattle.md_bitmap.specs.declared.header.BitmapHeader.{BitmapHeader}
-use Rattle.md_bitmap.specs.Header.{IsHeader, header_bytes}
-use Rattle.md_bitmap.specs.Marks.{Bitmap, is_set}
-use Rattle.md_bitmap.specs.Sound.{chunk_count}
-use Rattle.md_bitmap.proofs.Encoded.{length-header_bytes, reads_back}
-use Rattle.md_bitmap.proofs.Limits.{div-lt-div_ceil, div_ceil-sectors}
-use Rattle.md_members.specs.declared.info.MemberInfo.{MemberInfo}
-use Rattle.md_members.specs.Areas.{BitmapIsPlaced, IsPlaced, bitmap_area, bitmap_sectors}
-use Rattle.md_members.specs.Reading.{BitmapStartsAt, ReadsSuper, chunks_of}
-use Rattle.md_members.specs.Members as members
-use Rattle.md_members.specs.Members.{IsAccepted, sectors_of}
-use Rattle.md_assembly.specs.declared.state.MemberState.{MemberState}
-use Rattle.md_assembly.specs.States.{is_in_sync, state_of}
-use Rattle.md_model.specs.Devices.{Stored, Super, accepts, is_accepted}
-use Rattle.md_array.specs.View.{Disk, ArrayView, MemberView}
+use Rattle.md_bitmap.specs.Header.{IsHeader}
+use Rattle.md_members.specs.Members.{IsAccepted}
+use Rattle.md_assembly.specs.States.{is_in_sync}
+use Rattle.md_model.specs.Devices.{Super, accepts, is_accepted}
+use Rattle.md_array.specs.View.{ArrayView, MemberView}
 use Rattle.md_array.specs.Members.{NeedsMarks}
-use Rattle.md_array.specs.Opening.{IsKept, IsHeaderFor, IsUnchanged, StoresMarks}
-use Rattle.md_array.specs.Worlds.{block_on, from_super, header_fits, header_on, is_listed, stored_of, super_in, super_of}
-use Rattle.md_array.proofs.WorldsOutside.{block_stays, data_stays, listed_stays, starts_at}
-use Rattle.md_array.proofs.WorldsRead.{HasRead, read_of, holds_read, uuid_long, name_long}
-use Rattle.md_array.proofs.WorldsSound.{by_test}
-use Rattle.md_array.proofs.WorldsStates.{in_sync_up_to_date}
-use Rattle.md_array.proofs.WorldsSupers.{block_spells, device_super}
-use Rattle.md_array.proofs.WorldsWrites.{HoldsBitmap, holds_written}
+use Rattle.md_array.specs.Worlds.{block_on, from_super, header_fits, header_on, stored_of, super_in, super_of}
+use Rattle.md_model.proofs.Cases.{both, by_test}
 
 -- ---- tests of numbers and bytes
 by_bytes : {P : Type 0} (xs ys : List ℕ) → (xs ≡ ys → P) → ((xs ≡ ys → ⊥) → P) → P
@@ -110,13 +92,9 @@ all_three_hold false b c e = absurd cc
 accepts_says : (super : Option Super) (own : Super) (events : ℕ) (fits : Bool) → super ≡ Some own → accepts super events fits ≡ true → (fits ≡ true) × ((events ≡ own.events) ⊎ (events ≡ own.events + 1))
 accepts_says super own events fits is e =
     let t : (fits && (eqb events own.events || eqb events (own.events + 1))) ≡ true = rw is at e in
-    let parts : (fits ≡ true) × ((eqb events own.events || eqb events (own.events + 1)) ≡ true) = both_hold _ _ t in
+    let parts : (fits ≡ true) × ((eqb events own.events || eqb events (own.events + 1)) ≡ true) = both _ _ t in
     (parts.0, one_of (eqb events own.events) (eqb events (own.events + 1)) (eqb-true events own.events) (eqb-true events (own.events + 1)) parts.1)
   where
-    both_hold : (a b : Bool) → (a && b) ≡ true → (a ≡ true) × (b ≡ true)
-    both_hold true b h = (refl, h)
-    both_hold false b h = absurd cc
-
     one_of : {P Q : Type 0} (a b : Bool) → (a ≡ true → P) → (b ≡ true → Q) → (a || b) ≡ true → P ⊎ Q
     one_of true b p q h = inl (p refl)
     one_of false b p q h = inr (q h)

@@ -9,9 +9,10 @@ use Rattle.md_super.specs.declared.superblock.Superblock.{Superblock}
 use Rattle.md_super.specs.Format.{IsSuper}
 use Rattle.md_super.specs.Log.{has_bad_block_log}
 use Rattle.md_members.specs.declared.area.Area.{Area}
-use Rattle.md_members.specs.Areas.{AreApart, IsPlaced, BitmapIsPlaced, LogIsPlaced, bitmap_area, super_area, data_area, log_area}
+use Rattle.md_members.specs.Areas.{AreApart, BitmapIsPlaced, LogIsPlaced, bitmap_area, super_area, data_area, log_area}
 use Rattle.md_members.specs.Reading.{BitmapStartsAt}
 use Rattle.md_array.specs.Worlds.{block_on, from_super, has_listed, is_listed, is_logged, sector_at}
+use Rattle.md_array.proofs.WorldsTests.{and_same}
 
 pub sector_at_is : (z : ℤ) → pos 0 ≤ℤ z → z ≡ pos (sector_at z)
 sector_at_is (pos n) h = refl
@@ -45,10 +46,6 @@ module _ (v : Superblock) (start n : ℕ) (old new : List ℕ) (at : BitmapStart
   log_stays h from =
       stays (log_area v) (from_super v.bblog_offset) (sector_at_is (log_area v).start from) h
       (512 * from_super v.bblog_offset) (512 * v.bblog_size) (omega arith) (omega arith)
-
-and_same : (b x y : Bool) → (b ≡ true → x ≡ y) → (b && x) ≡ (b && y)
-and_same true x y h = h refl
-and_same false x y h = refl
 
 last_two : (a b c : Bool) → (a && b && c) ≡ true → (b && c) ≡ true
 last_two true b c e = e

@@ -1,5 +1,5 @@
 -- What an honest device holds of a member that was read from it.
-use Rattle.std.proofs.Common.{◌≡◌, ℕ, ◌+◌, ◌*◌, ◌/◌, ◌<◌, ◌≤◌, true, List, length, take, drop, slice_index, Option, Some, None, refl, sym, ap, ◌∙◌, subst, arith, length-take, length-drop, take-take, get_or-take, get_or-drop}
+use Rattle.std.proofs.Common.{◌≡◌, ℕ, ◌+◌, ◌*◌, ◌/◌, ◌<◌, ◌≤◌, true, List, length, drop, slice_index, Option, Some, None, refl, sym, ap, ◌∙◌, subst, arith, length-take, length-drop, take-take, get_or-take, get_or-drop}
 use Rattle.std.proofs.lemmas.Option.{none-some, same_Some}
 use Rattle.md_device.specs.Splice.{part}
 use Rattle.md_device.proofs.Splices.{length-part}
@@ -7,10 +7,10 @@ use Rattle.md_format.specs.Fields.{bytes_at}
 use Rattle.md_super.specs.declared.superblock.Superblock.{Superblock}
 use Rattle.md_bitmap.specs.declared.header.BitmapHeader.{BitmapHeader}
 use Rattle.md_bitmap.specs.Header.{IsHeader}
-use Rattle.md_bitmap.specs.Marks.{Bitmap, is_set}
+use Rattle.md_bitmap.specs.Marks.{Bitmap}
 use Rattle.md_members.specs.declared.info.MemberInfo.{MemberInfo}
 use Rattle.md_members.specs.Areas.{has_bitmap, bitmap_sectors}
-use Rattle.md_members.specs.Reading.{ReadsSuper, ReadsBitmap, ReadsHeader, IsMarks, BitmapStartsAt, chunks_of, front_of}
+use Rattle.md_members.specs.Reading.{ReadsSuper, ReadsBitmap, ReadsHeader, BitmapStartsAt, chunks_of, front_of}
 use Rattle.md_members.specs.Members.{HasBitmap, IsMember, sectors_of}
 use Rattle.md_array.specs.Worlds.{header_on}
 use Rattle.md_array.proofs.WorldsOutside.{starts_at}

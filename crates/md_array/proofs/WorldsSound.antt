@@ -1,5 +1,5 @@
 -- What the members of an array have in common, where no fault stands in them.
-use Rattle.std.proofs.Common.{◌≡◌, ◌≢◌, ℕ, ◌<◌, ◌≤◌, inl, inr, Bool, true, false, true≢false, List, map, length, slice_get, count_by, Some, sym, ap, ◌∙◌, subst, refl, arith}
+use Rattle.std.proofs.Common.{◌≡◌, ◌≢◌, ℕ, ◌<◌, ◌≤◌, inl, inr, true, false, true≢false, List, length, slice_get, count_by, Some, sym, ap, ◌∙◌, subst, arith}
 use Rattle.std.specs.List.{list_any}
 use Rattle.std.specs.Str.{bytes_eq}
 use Rattle.std.proofs.lemmas.Bool.{cases_lt}
@@ -20,10 +20,7 @@ use Rattle.md_array.specs.View.{ArrayView, MemberView}
 use Rattle.md_array.specs.Members.{IsMember}
 use Rattle.md_array.specs.Opening.{IsKept, IsRemembered}
 use Rattle.md_array.proofs.WorldsLists.{none_without_least, got_in_map, got_within, got_same, at_any, two_counted}
-
-pub by_test : {P : Type 0} (b : Bool) → (b ≡ true → P) → (b ≡ false → P) → P
-by_test true is isnt = is refl
-by_test false is isnt = isnt refl
+use Rattle.md_model.proofs.Cases.{by_test}
 
 pub same_bytes_unless_other : (xs ys : List ℕ) → (xs ≢ ys → ⊥) → xs ≡ ys
 same_bytes_unless_other xs ys h =

@@ -1,19 +1,16 @@
 -- A superblock that was read is the one that the world shows.
-use Rattle.std.proofs.Common.{◌≡◌, ℕ, ◌<◌, ◌≤◌, Bool, true, ◌&&◌, not, bit_and, eqb, leb, ltb, List, slice_index_or, ◌==◌, Some, None, refl, sym, ap, ◌∙◌, subst, arith, eq-eqb, le-leb, lt-ltb}
+use Rattle.std.proofs.Common.{◌≡◌, ℕ, true, not, bit_and, List, slice_index_or, ◌==◌, Some, None, refl, sym, ap, subst, arith, eq-eqb, le-leb, lt-ltb}
 use Rattle.md_format.specs.Fields.{number_at}
 use Rattle.md_format.proofs.Order.{same_unless_other}
 use Rattle.md_super.specs.declared.superblock.Superblock.{Superblock}
 use Rattle.md_super.specs.declared.fault.SuperFault.TheVariants.{Checksum}
 use Rattle.md_super.specs.Checksum.{checksum_of}
 use Rattle.md_super.specs.Profile.{unsupported_features}
-use Rattle.md_super.specs.Faults.{NoFault, IsSound, fault_of}
+use Rattle.md_super.specs.Faults.{NoFault, fault_of}
 use Rattle.md_super.specs.Format.{IsSuper}
 use Rattle.md_super.proofs.Order.{sound_without_fault}
 use Rattle.md_members.specs.Reading.{ReadsSuper}
 use Rattle.md_array.specs.Worlds.{super_of, super_fields, super_in, block_on}
-
-both : (a b : Bool) → a ≡ true → b ≡ true → (a && b) ≡ true
-both a b x y = rw (x, y) refl
 
 no_fault : (block : List ℕ) → NoFault block → fault_of block ≡ None
 unfolding fault_of

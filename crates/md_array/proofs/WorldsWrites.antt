@@ -1,11 +1,11 @@
 -- What stands in a bitmap's area once its sectors are written.
-use Rattle.std.proofs.Common.{◌≡◌, ℕ, zero, suc, ◌+◌, ◌-◌, ◌*◌, ◌/◌, ◌%◌, ◌<◌, ◌≤◌, inl, inr, List, [], ◌∷◌, ◌++◌, length, take, drop, map, reverse, fold, slice_index, refl, sym, ap, ◌∙◌, subst, eqb, arith, get_or-take, get_or-drop}
+use Rattle.std.proofs.Common.{◌≡◌, ℕ, zero, suc, ◌+◌, ◌*◌, ◌/◌, ◌%◌, ◌<◌, ◌≤◌, inl, inr, List, [], ◌∷◌, ◌++◌, length, drop, map, reverse, slice_index, refl, sym, ap, ◌∙◌, subst, eqb, arith, get_or-take, get_or-drop}
 use Rattle.std.specs.List.{range_with_len}
 use Rattle.std.specs.Int.{div_ceil, bit_at}
-use Rattle.std.proofs.lemmas.Bool.{cases_lt, cases_eq}
+use Rattle.std.proofs.lemmas.Bool.{cases_lt}
 use Rattle.std.proofs.lemmas.Grind.{div_ceil_times}
-use Rattle.std.proofs.lemmas.List.{reverse-append, map-append, ext_get_or, get_or-append-add, get_or_append_left}
-use Rattle.md_device.specs.Splice.{part, spliced}
+use Rattle.std.proofs.lemmas.List.{reverse-append, ext_get_or, get_or-append-add, get_or_append_left}
+use Rattle.md_device.specs.Splice.{part}
 use Rattle.md_device.specs.Device.{written}
 use Rattle.md_device.proofs.Splices.{length-spliced, length-part, part-spliced, part-spliced_after}
 use Rattle.md_bitmap.specs.declared.header.BitmapHeader.{BitmapHeader}
@@ -13,9 +13,9 @@ use Rattle.md_bitmap.specs.Header.{IsHeader, header_bytes}
 use Rattle.md_bitmap.specs.Marks.{Bitmap, is_set, padded}
 use Rattle.md_bitmap.proofs.Padded.{length-padded, slice_index-padded}
 use Rattle.md_members.specs.Areas.{bitmap_sectors}
-use Rattle.md_array.specs.Opening.{bitmap_write, bitmap_writes}
+use Rattle.md_writes.specs.Bitmaps.{bitmap_write, bitmap_writes}
 use Rattle.md_array.specs.Worlds.{header_on}
-use Rattle.md_array.specs.Writes.{Write, after}
+use Rattle.md_writes.specs.Writes.{after}
 
 -- the bitmap that starts at a sector of the device: its header, and the marks behind it
 pub record HoldsBitmap (content : List ℕ) (start : ℕ) (h : BitmapHeader) (m : Bitmap) : Type 0 where

@@ -1,5 +1,6 @@
 // Storing marks on the members.
 ghost use Rattle.std.specs.Prelude.{◌≡◌, ◌≤◌, ◌≤ℤ◌, ◌+ℤ◌, pos, OnOk, OnErr, MatchResult, length, map};
+ghost use Rattle.md_bitmap.specs.Header.{CountsFit, SettingsFit};
 ghost use Rattle.md_bitmap.specs.Sound.{IsSound};
 ghost use Rattle.md_members.specs.Reading.{BitmapStartsAt};
 ghost use Rattle.md_array.specs.Fits.{Fits, FitsMember};
@@ -22,7 +23,7 @@ impl Array {
         requires { IsSound self.now.shared.size member.now.header.chunksize }
         ensures { IsHeaderFor self.now member.now result }
     {
-        BitmapHeader {
+        fitting(BitmapHeader {
             uuid: self.shared.set_uuid,
             events: self.shared.events,
             events_cleared: self.events_cleared,
@@ -34,8 +35,32 @@ impl Array {
             sectors_reserved: member.header.sectors_reserved,
             nodes: member.header.nodes,
             cluster_name: member.header.cluster_name,
-        }
+        })
     }
+}
+
+// A header as it is: its numbers fit their fields.
+fn fitting(header: BitmapHeader) -> BitmapHeader
+    ensures same { result ≡ header }
+    ensures counts { CountsFit header }
+    ensures settings { SettingsFit header }
+{
+    let BitmapHeader {
+        events,
+        events_cleared,
+        sync_size,
+        ..
+    } = header;
+    let BitmapHeader {
+        state,
+        chunksize,
+        daemon_sleep,
+        write_behind,
+        sectors_reserved,
+        nodes,
+        ..
+    } = header;
+    header
 }
 
 /// Stores marks on each member in sync whose bitmap was not accepted, in the order of the members,
