@@ -2,11 +2,11 @@
 use Rattle.std.proofs.Common.{◌≡◌, ℕ, ◌+◌, ◌<◌, ◌≤◌, ◌↔◌, inl, inr, true, cond, ◌&&◌, nat_lt, List, [], length, slice_get, Some, sym, ap, ◌∙◌, lt-ltb}
 use Rattle.std.proofs.lemmas.Option.{none-some, slice_get_past}
 use Rattle.md_badblocks.specs.Runs.{IsBad}
-use Rattle.md_model.specs.Devices.{Covered, Stored, Super, is_marked}
+use Rattle.md_model.specs.Devices.{AgreeAt, Covered, Stored, Super, is_marked}
 use Rattle.md_model.specs.Openings as openings
 use Rattle.md_model.specs.Sectors.{chunk_of}
 use Rattle.md_model.specs.Worlds as worlds
-use Rattle.md_model.proofs.OpeningCovers.{accepted-bits, agree_as}
+use Rattle.md_model.proofs.OpeningCovers.{accepted-bits}
 use Rattle.md_array.specs.View.{Disk, ArrayView, MemberView, MirrorView}
 use Rattle.md_array.specs.Members.{IsMember}
 use Rattle.md_array.specs.Opening.{IsOpenedFrom}
@@ -15,6 +15,10 @@ use Rattle.md_array.proofs.WorldsDevice.{all_or_same, bad_is_listed, bits_new, c
 use Rattle.md_array.proofs.WorldsOpened.{opened}
 use Rattle.md_array.proofs.WorldsShown.{IsShown, by_member, in_sync_is, own_is, shown, stored_at, stored_is, super_at}
 use Rattle.md_array.proofs.WorldsTests.{and_is}
+
+-- devices with the same sector agree as these do
+agree_as : (d e x y : Stored) (s : ℕ) → x.content s ≡ d.content s → y.content s ≡ e.content s → x.listed s ≡ d.listed s → y.listed s ≡ e.listed s → AgreeAt d e s → AgreeAt x y s
+agree_as d e x y s c c' l l' h off off' = c ∙ h (sym l ∙ off) (sym l' ∙ off') ∙ sym c'
 
 module _ (before : List Disk) (m : MirrorView) (honest : AreHonest before) (o : IsOpenedFrom before m) where
   abbrev a : ArrayView
