@@ -4,3 +4,4 @@ pub mod Laid
 pub mod Least
 pub mod Runs
 pub mod Sectors
+pub mod Read
