@@ -5,3 +5,4 @@ pub mod Least
 pub mod Runs
 pub mod Sectors
 pub mod Read
+pub mod Taken

@@ -18,10 +18,11 @@ use Rattle.md_bitmap.specs.Header.{IsHeader, header_bytes}
 use Rattle.md_bitmap.specs.Marks.{Bitmap, is_set, padded}
 use Rattle.md_bitmap.specs.Sound.{IsSound, chunk_count}
 use Rattle.md_bitmap.proofs.Bits.{is_set-first_sector, is_set-later_sector}
+use Rattle.md_badblocks.specs.declared.run.Run.{Run}
 use Rattle.md_members.specs.declared.info.MemberInfo.{MemberInfo}
 use Rattle.md_members.specs.Areas.{bitmap_sectors, has_bitmap}
 use Rattle.md_members.specs.Members.{IsMember, HasBitmap, HasBadSet, reads_log, sectors_of as sectors_in}
-use Rattle.md_members.specs.Reading.{BitmapStartsAt, ReadsBitmap, ReadsHeader, chunks_of, front_of}
+use Rattle.md_members.specs.Reading.{BitmapStartsAt, IsRead, ReadsSuper, ReadsBitmap, ReadsHeader, chunks_of, front_of}
 use Rattle.md_create.specs.declared.params.NewMember.{NewMember}
 use Rattle.md_create.specs.Layout.{IsLaidOut, bitmap_sector}
 use Rattle.md_create.specs.ReadBack.{HasSameMarks, ReadsBack, sealed}
@@ -97,67 +98,77 @@ front_is : (front rest : List ℕ) → length front ≡ 256 → bytes_at 256 0 (
 unfolding bytes_at
 front_is front rest long = take_at front rest 256 long
 
-module _ (member : NewMember) (old new : List ℕ) (info : MemberInfo) (spelled : IsSuper (super_bytes member.superblock) (sealed member.superblock))
+-- a superblock v that was read of the device
+module _ (member : NewMember) (old new : List ℕ) (spelled : IsSuper (super_bytes member.superblock) (sealed member.superblock))
     (header_is : IsHeader (header_bytes member.header) member.header) (long : length (header_bytes member.header) ≡ 256)
-    (laid : IsLaidOut old member new) (is : IsMember new true info) where
-  super_read : info.superblock ≡ sealed member.superblock
+    (laid : IsLaidOut old member new) (v : Superblock) (read : ReadsSuper new true v) where
+  pub super_read : v ≡ sealed member.superblock
   super_read =
-      unique (super_bytes member.superblock) info.superblock (sealed member.superblock)
-      (subst (λ (bytes : List ℕ). IsSuper bytes info.superblock) (is.superblock.read.from_device refl ∙ laid.superblock) is.superblock.fields) spelled
+      unique (super_bytes member.superblock) v (sealed member.superblock)
+      (subst (λ (bytes : List ℕ). IsSuper bytes v) (read.read.from_device refl ∙ laid.superblock) read.fields) spelled
 
-  feature_read : info.superblock.feature_map ≡ 1
-  feature_read = ap (λ (v : Superblock). v.feature_map) super_read ∙ member.new.places.feature_map
+  feature_read : v.feature_map ≡ 1
+  feature_read = ap (λ (w : Superblock). w.feature_map) super_read ∙ member.new.places.feature_map
 
-  offset_read : info.superblock.bitmap_offset ≡ pos 8
-  offset_read = ap (λ (v : Superblock). v.bitmap_offset) super_read ∙ member.new.places.bitmap_offset
+  offset_read : v.bitmap_offset ≡ pos 8
+  offset_read = ap (λ (w : Superblock). w.bitmap_offset) super_read ∙ member.new.places.bitmap_offset
 
-  starts_at : (start : ℕ) → BitmapStartsAt info.superblock start → start ≡ 16
+  starts_at : (start : ℕ) → BitmapStartsAt v start → start ≡ 16
   starts_at start at =
       let sum : pos start ≡ pos 16 = at ∙ ap (λ offset. pos 8 +ℤ offset) offset_read in
       cc
 
-  header_read : (h : BitmapHeader) → ReadsHeader new true info.superblock h → h ≡ member.header
-  header_read h reads =
+  pub front_read : (start : ℕ) (sector : List ℕ) → BitmapStartsAt v start → IsRead new true start 512 sector → front_of sector ≡ header_bytes member.header
+  front_read start sector at is =
       let first = laid.bitmap 0 (omega arith) in
-      let sector : reads.sector ≡ header_bytes member.header ++ padded 256 member.marks.bytes =
-      reads.read.from_device refl ∙ ap (λ start. held new start 512) (starts_at reads.start reads.at) ∙ first ∙ padded_behind 256 256 (header_bytes member.header) member.marks.bytes long in
-      let front : front_of reads.sector ≡ header_bytes member.header = ap (bytes_at 256 0) sector ∙ front_is (header_bytes member.header) (padded 256 member.marks.bytes) long in
-      one_header (header_bytes member.header) h member.header (subst (λ (bytes : List ℕ). IsHeader bytes h) front reads.fields) header_is
+      let whole : sector ≡ header_bytes member.header ++ padded 256 member.marks.bytes =
+      is.from_device refl ∙ ap (λ k. held new k 512) (starts_at start at) ∙ first ∙ padded_behind 256 256 (header_bytes member.header) member.marks.bytes long in
+      ap (bytes_at 256 0) whole ∙ front_is (header_bytes member.header) (padded 256 member.marks.bytes) long
 
-  chunks_read : (h : BitmapHeader) → h ≡ member.header → chunks_of info.superblock h ≡ member.marks.chunks
+  pub header_read : (h : BitmapHeader) → ReadsHeader new true v h → h ≡ member.header
+  header_read h reads =
+      one_header (header_bytes member.header) h member.header (subst (λ (bytes : List ℕ). IsHeader bytes h) (front_read reads.start reads.sector reads.at reads.read) reads.fields) header_is
+
+  pub chunks_read : (h : BitmapHeader) → h ≡ member.header → chunks_of v h ≡ member.marks.chunks
   chunks_read h same =
-      ap (λ (v : Superblock). chunk_count v.size h.chunksize) super_read ∙ ap (λ (k : BitmapHeader). chunk_count member.superblock.size k.chunksize) same
+      ap (λ (w : Superblock). chunk_count w.size h.chunksize) super_read ∙ ap (λ (k : BitmapHeader). chunk_count member.superblock.size k.chunksize) same
       ∙ ap (λ size. chunk_count size member.header.chunksize) (sym member.new.sync_size) ∙ sym member.new.chunks
 
-  marks_read : (h : BitmapHeader) (m : Bitmap) → ReadsBitmap new true (sectors_in new) info.superblock h m → h ≡ member.header → HasSameMarks member.marks m
+  marks_read : (h : BitmapHeader) (m : Bitmap) → ReadsBitmap new true (sectors_in new) v h m → h ≡ member.header → HasSameMarks member.marks m
   marks_read h m reads same =
       let chunks = chunks_read h same in
       let area : reads.marks.area ≡ part new (512 * 16) (512 * bitmap_sectors member.marks.chunks) =
-      reads.marks.read.from_device refl ∙ ap (λ start. held new start (512 * bitmap_sectors (chunks_of info.superblock h))) (starts_at reads.start reads.at)
+      reads.marks.read.from_device refl ∙ ap (λ start. held new start (512 * bitmap_sectors (chunks_of v h))) (starts_at reads.start reads.at)
       ∙ ap (λ n. held new 16 (512 * bitmap_sectors n)) chunks in
       record {
         chunks = reads.marks.chunks_are ∙ chunks;
         bits = λ c below. ap (λ bytes. is_set bytes c) reads.marks.bits ∙ bit_read member.header member.marks new reads.marks.area long area laid.bitmap c below;
       }
 
-  bitmap_read : (h : Option BitmapHeader) (m : Option Bitmap) → HasBitmap new true info.superblock h m → (h ≡ Some member.header) × IfSome m (HasSameMarks member.marks)
+  bitmap_read : (h : Option BitmapHeader) (m : Option Bitmap) → HasBitmap new true v h m → (h ≡ Some member.header) × IfSome m (HasSameMarks member.marks)
   bitmap_read (Some h) (Some m) has =
       let same = header_read h has.1.header in
       (ap Some same, marks_read h m has.1 same)
   bitmap_read None None has =
-      let there : has_bitmap info.superblock ≡ true = ap (λ map. not (bit_and map 1 == 0)) feature_read in
+      let there : has_bitmap v ≡ true = ap (λ map. not (bit_and map 1 == 0)) feature_read in
       absurd cc
   bitmap_read (Some h) None has = absurd has
   bitmap_read None (Some m) has = absurd has
 
-  no_log : reads_log info.superblock ≡ false
-  no_log = ap (λ map. not (bit_and map 8 == 0) && has_bad_block_log info.superblock) feature_read
+  pub no_log : reads_log v ≡ false
+  no_log = ap (λ map. not (bit_and map 8 == 0) && has_bad_block_log v) feature_read
 
-  bad_read : HasBadSet new true info.superblock info.bad → info.bad ≡ []
-  bad_read (inl listed) = let log = listed.0 in let none = no_log in absurd cc
-  bad_read (inr none) = none.1
+  bad_read : (bad : List Run) → HasBadSet new true v bad → bad ≡ []
+  bad_read bad (inl listed) = let log = listed.0 in let none = no_log in absurd cc
+  bad_read bad (inr none) = none.1
 
-  pub read_back : ReadsBack member info
-  read_back =
-      let bitmap = bitmap_read info.header info.marks is.bitmap in
-      record { superblock = super_read; header = bitmap.0; marks = bitmap.1; bad = bad_read is.bad }
+-- the whole member
+pub read_back : (member : NewMember) (old new : List ℕ) (info : MemberInfo) → IsSuper (super_bytes member.superblock) (sealed member.superblock) → IsHeader (header_bytes member.header) member.header → length (header_bytes member.header) ≡ 256 → IsLaidOut old member new → IsMember new true info → ReadsBack member info
+read_back member old new info spelled header_is long laid is =
+    let bitmap = bitmap_read member old new spelled header_is long laid info.superblock is.superblock info.header info.marks is.bitmap in
+    record {
+      superblock = super_read member old new spelled header_is long laid info.superblock is.superblock;
+      header = bitmap.0;
+      marks = bitmap.1;
+      bad = bad_read member old new spelled header_is long laid info.superblock is.superblock info.bad is.bad;
+    }
