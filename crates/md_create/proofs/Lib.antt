@@ -4,3 +4,5 @@ pub mod Laid
 pub mod Least
 pub mod Runs
 pub mod Sectors
+pub mod Read
+pub mod Taken

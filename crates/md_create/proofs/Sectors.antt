@@ -14,7 +14,8 @@ use Rattle.md_create.proofs.Devices.{range_more}
 pub bitmap_writes_more : (h : BitmapHeader) (m : Bitmap) (n : ℕ) → bitmap_writes h m (n + 1) ≡ (bitmap_write h m n ∷ []) ++ bitmap_writes h m n
 bitmap_writes_more h m n = ap (λ xs. map (bitmap_write h m) (reverse xs)) (range_more n) ∙ ap (map (bitmap_write h m)) (reverse-append (range_with_len 0 n) (n ∷ []))
 
-padded_behind : (n k : ℕ) (front bytes : List ℕ) → length front ≡ n → padded (n + k) (front ++ bytes) ≡ front ++ padded k bytes
+-- zeros behind a front
+pub padded_behind : (n k : ℕ) (front bytes : List ℕ) → length front ≡ n → padded (n + k) (front ++ bytes) ≡ front ++ padded k bytes
 padded_behind n k front bytes long =
     let m = min (length bytes) k in
     let whole : n + m ≡ min (length (front ++ bytes)) (n + k) = omega (arith, length-append front bytes) in

@@ -3,3 +3,4 @@ pub mod Places
 pub mod Geometry
 pub mod Values
 pub mod Layout
+pub mod ReadBack

@@ -8,8 +8,10 @@ mod laying_out;
 mod naming;
 mod params;
 mod places;
+mod reading_back;
 
 pub use creating::create;
 pub use fault::CreateFault;
 pub use laying_out::lay_out;
 pub use params::{CreateParams, NewMember};
+pub use reading_back::reads_back;
