@@ -1,9 +1,8 @@
-use Rattle.std.proofs.Common.{◌≡◌, ◌↔◌, true}
+use Rattle.std.proofs.Common.{◌≡◌, ◌↔◌, true, subst}
 use Rattle.std.specs.Int.{bit_at}
 use Rattle.md_array.specs.View.{MemberView}
 use Rattle.md_array.specs.Members.{is_in_sync_as}
 use Rattle.md_array.proofs.Roles.{listed_role, unlisted_role}
-use Rattle.std.proofs.Common.{subst}
 use Rattle.md_array.proofs.permitting.role_to_read.Goals as goal
 
 pub returns-then-lists_any : goal.returns-then-lists_any
