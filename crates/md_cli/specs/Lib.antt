@@ -1,7 +1,9 @@
+pub mod Asked
 pub mod Examining
 pub mod MemImages
 pub mod MemPlaces
 pub mod Running
+pub mod Taking
 pub mod Words
 pub use Rattle.md_examine.specs.Sink
 pub use Rattle.md_examine.specs.SuperblockReport

@@ -9,9 +9,10 @@ pub enum CommandFault {
     /// The command wants another number of images.
     #[error("BadCount")]
     BadCount,
-    /// The image with this index, counted from 0, can't be opened.
+    /// The image word with this index, counted from 0, is the same as an earlier one, or its image
+    /// can't be opened.
     #[error("BadImage {0}")]
-    BadImage(u32),
+    BadImage(usize),
     /// An image is not read as a member.
     #[error("{0}")]
     Member(MemberFault),
@@ -21,4 +22,7 @@ pub enum CommandFault {
     /// The report can't be written.
     #[error("OutputFault")]
     OutputFault,
+    /// There was no memory for the command's own lists.
+    #[error("NoMemory")]
+    NoMemory,
 }

@@ -1,13 +1,15 @@
 // One command.
 ghost use Rattle.std.specs.Prelude.{◌≡◌, ◌≢◌, ◌⊎◌, ℕ, List, [], ◌∷◌, length, map};
 ghost use Rattle.clap.specs.Words.{fault_of};
-ghost use Rattle.md_cli.specs.Words.{mdcli, image_words, report_word};
+ghost use Rattle.md_cli.specs.Words.{mdcli};
+ghost use Rattle.md_cli.specs.Asked.{asked, image_words};
 ghost use Rattle.md_cli.specs.Running.{DoesCommand, status_of};
 
 use crate::examining::examine_images;
 use crate::fault::CommandFault;
 use crate::images::Images;
 use crate::parsing::parse;
+use crate::request::Action;
 use md_examine::Sink;
 use std::alloc::Global;
 use std::io::Write;
@@ -29,7 +31,7 @@ pub fn run<'a, I: Images, S: Sink, E: Write>(
 ) -> u8
     ensures refused { fault_of mdcli (map (λ s. s.now) words.entry.now) ≢ [] → (result ≡ 2) × (images.new ≡ images.old) × (out.new ≡ out.old) }
     ensures taken { fault_of mdcli (map (λ s. s.now) words.entry.now) ≡ [] →
-        ((result ≡ 2) × (images.new ≡ images.old) × (out.new ≡ out.old)) ⊎ DoesCommand (report_word (map (λ s. s.now) words.entry.now)) I.Dev.content I.Dev.honest I.Dev.failures S.contents S.failed (I.known images.old) (I.device_at images.old) (I.device_at images.new) (image_words (map (λ s. s.now) words.entry.now)) out.old out.new result }
+        ((result ≡ 2) × (images.new ≡ images.old) × (out.new ≡ out.old)) ⊎ DoesCommand (asked (map (λ s. s.now) words.entry.now)) I.Dev.content I.Dev.honest I.Dev.failures S.contents S.failed (I.known images.old) (I.device_at images.old) (I.device_at images.new) (image_words (map (λ s. s.now) words.entry.now)) out.old out.new result }
     ensures count { length (image_words (map (λ s. s.now) words.entry.now)) ≢ 1 → (images.new ≡ images.old) × (out.new ≡ out.old) }
 {
     let request = match parse(alloc, words) {
@@ -39,11 +41,12 @@ pub fn run<'a, I: Images, S: Sink, E: Write>(
             return 2;
         }
     };
+    let action = request.action;
     let names = request.images.as_slice();
-    answer(
-        examine_images(alloc, request.report, images, names, out),
-        err,
-    )
+    match action {
+        Action::Examine(report) => answer(examine_images(alloc, report, images, names, out), err),
+        _ => 2,
+    }
 }
 
 // The status of a command that was done or refused. A refusal is said on `err`.

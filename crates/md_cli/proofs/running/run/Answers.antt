@@ -2,7 +2,7 @@ use Rattle.std.proofs.Common.{◌≡◌, ap, sym, ◌∙◌, inr, map, length, L
 use Rattle.std.proofs.lemmas.List.{length-map}
 use Rattle.std.specs.Borrow.{Bor}
 use Rattle.clap.specs.Words.{Text}
-use Rattle.md_cli.specs.Words.{image_words}
+use Rattle.md_cli.specs.Asked.{image_words}
 use Rattle.md_cli.proofs.running.run.Goals as goal
 
 abbrev texts : List (Bor Text) → List Text
