@@ -1,0 +1,5 @@
+pub mod View
+pub mod Members
+pub mod Writes
+pub mod Opening
+pub mod Worlds

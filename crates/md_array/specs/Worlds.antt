@@ -1,0 +1,152 @@
+-- The mirror as the array's world: each device's bytes are read for what assembly, marks and data are.
+use Rattle.std.specs.Prelude.{◌≡◌, ℕ, ◌+◌, ◌*◌, Bool, true, false, cond, ◌&&◌, not, ◌==◌, eqb, nat_lt, nat_le, bit_and, ◌-◌, ◌^◌, List, [], length, drop, slice_get, slice_index_or, Option, Some, None, ℤ, pos, negsuc, ◌+ℤ◌, option_map, unwrap_or}
+use Rattle.std.specs.List.{list_any}
+use Rattle.std.specs.Ordering.{int_eq}
+use Rattle.std.specs.Str.{bytes_eq}
+use Rattle.std.specs.Int.{w32, cast_signed}
+use Rattle.md_model.specs.Sectors.{Geometry}
+use Rattle.md_model.specs.States as model
+use Rattle.md_model.specs.Devices.{Super, Stored}
+use Rattle.md_model.specs.Worlds.{Request, World}
+use Rattle.md_device.specs.Splice.{part}
+use Rattle.md_format.specs.Fields.{number_at, bytes_at}
+use Rattle.md_super.specs.declared.superblock.Superblock.{Superblock}
+use Rattle.md_super.specs.declared.fault.SuperFault.{SuperFault}
+use Rattle.md_super.specs.Faults.{fault_of}
+use Rattle.md_super.specs.Format.{roles_in}
+use Rattle.md_bitmap.specs.Marks.{is_set}
+use Rattle.md_badblocks.specs.declared.run.Run.{Run}
+use Rattle.md_badblocks.specs.Log.{named_runs}
+use Rattle.md_assembly.specs.declared.state.MemberState.{MemberState}
+use Rattle.md_assembly.specs.declared.state.MemberState.TheVariants.{InSync, Recovering, Stale, Spare, Faulty}
+use Rattle.md_assembly.specs.States.{role_in, has_recovery_offset}
+use Rattle.md_array.specs.View.{Disk, MemberView, ArrayView, MirrorView}
+
+abbrev pub kind_of : MemberState → model.State
+kind_of (InSync role) = model.State.InSync
+kind_of (Recovering role) = model.State.Recovering
+kind_of (Stale role) = model.State.Stale
+kind_of Spare = model.State.Spare
+kind_of Faulty = model.State.Faulty
+
+-- what assembly reads of a superblock
+abbrev pub super_of : Superblock → Super
+super_of v = record { number = v.dev_number; events = v.events; role = role_in v; recovering = has_recovery_offset v }
+
+-- it, of the 4096 bytes of one
+abbrev pub super_fields : List ℕ → Super
+super_fields block =
+    record {
+      number = number_at 4 160 block;
+      events = number_at 8 200 block;
+      role = λ d. slice_index_or (roles_in (number_at 4 220 block) block) d 0xffff;
+      recovering = not (bit_and (number_at 4 8 block) 2 == 0);
+    }
+
+-- the superblock in these bytes, where no fault is found
+unfoldable pub super_in : List ℕ → Option Super
+super_in block = by_fault (fault_of block)
+  where
+    by_fault : Option SuperFault → Option Super
+    by_fault None = Some (super_fields block)
+    by_fault (Some f) = None
+
+-- the superblock of a device, at sector 8
+abbrev pub block_on : List ℕ → List ℕ
+block_on content = part content 4096 4096
+
+-- a sector that is counted from the superblock
+abbrev pub sector_at : ℤ → ℕ
+sector_at (pos n) = n
+sector_at (negsuc n) = 0
+
+abbrev pub from_super : ℤ → ℕ
+from_super offset = sector_at (pos 8 +ℤ offset)
+
+-- the sector lies in one of the runs
+abbrev pub lies_in : List Run → ℕ → Bool
+lies_in runs sector = list_any (λ run. nat_le run.start sector && nat_lt sector (run.start + run.len)) runs
+
+-- the bad block log in so many sectors from this one on lists the sector. Sectors of 2^54 and more are dropped
+abbrev pub is_logged : List ℕ → ℕ → ℕ → ℕ → ℕ → Bool
+is_logged content start sectors shift sector = nat_lt sector (2 ^ 54) && lies_in (named_runs shift (part content (512 * start) (512 * sectors))) sector
+
+-- the superblock in these bytes says that the member has a log, and that it lists bad blocks
+abbrev pub has_listed : List ℕ → Bool
+has_listed block =
+    not (bit_and (number_at 4 8 block) 8 == 0) && not (number_at 2 186 block == 0) && not (int_eq (cast_signed w32 (number_at 4 188 block)) (pos 0))
+
+-- a sector of the device is listed in its log
+unfoldable pub is_listed : List ℕ → ℕ → Bool
+is_listed content sector =
+    let block = block_on content in
+    has_listed block && is_logged content (from_super (cast_signed w32 (number_at 4 188 block))) (number_at 2 186 block) (number_at 1 185 block) sector
+
+-- the header of the bitmap at this sector
+abbrev pub header_on : List ℕ → ℕ → List ℕ
+header_on content start = part content (512 * start) 256
+
+-- its uuid and its size are the array's, and its state is 0
+abbrev pub header_fits : ArrayView → List ℕ → Bool
+header_fits a header = bytes_eq (bytes_at 16 8 header) a.shared.set_uuid && (number_at 8 40 header == a.shared.size) && (number_at 4 48 header == 0)
+
+-- What a device holds of the array. Where a member's parts stand is by its own fields, which are those that are stored on it.
+abbrev pub stored_of : ArrayView → MemberView → List ℕ → Stored
+stored_of a m content =
+    let start : ℕ = from_super m.superblock.bitmap_offset in
+    record {
+      super = super_in (block_on content);
+      content = λ s. cond (nat_lt s a.chunks.size) (part content (512 * (m.superblock.data_offset + s)) 512) [];
+      listed = λ s. nat_lt s a.chunks.size && is_listed content (m.superblock.data_offset + s);
+      bits = λ c. nat_lt c a.marks.chunks && is_set (drop (512 * start + 256) content) c;
+      bitmap_events = number_at 8 24 (header_on content start);
+      bitmap_fits = header_fits a (header_on content start);
+    }
+
+-- no device
+abbrev pub nothing_stored : Stored
+nothing_stored = record { super = None; content = λ _. []; listed = λ _. false; bits = λ _. false; bitmap_events = 0; bitmap_fits = false }
+
+abbrev pub stored_on : ArrayView → Option MemberView → Option Disk → Stored
+stored_on a (Some m) (Some d) = stored_of a m d.content
+stored_on a _ _ = nothing_stored
+
+abbrev pub geometry_of : ArrayView → Geometry
+geometry_of a = record { raid_disks = a.shared.raid_disks; width = a.chunks.sectors; size = a.chunks.size }
+
+-- a fact of member k, where there is one
+abbrev pub at_member : {A : Type 0} → ArrayView → ℕ → A → (MemberView → A) → A
+at_member a k none of = unwrap_or (option_map of (slice_get a.members k)) none
+
+-- the world of an array on these devices, with these requests in flight
+abbrev pub world_on : List Disk → ArrayView → (ℕ → Option Request) → World
+world_on disks a requests =
+    record {
+      members = length a.members;
+      stored = λ k. stored_on a (slice_get a.members k) (slice_get disks k);
+      number = λ k. at_member a k 0 (λ m. m.superblock.dev_number);
+      state = λ k. at_member a k model.State.Faulty (λ m. kind_of m.state);
+      due = λ k. at_member a k false (λ m. m.due);
+      known = λ k c. at_member a k false (λ m. nat_lt c a.marks.chunks && is_set m.stored.bytes c);
+      re_added = λ k. at_member a k false (λ m. m.re_added);
+      role = role_in a.shared;
+      entries = length a.shared.roles;
+      present = λ d. list_any (λ m. eqb m.superblock.dev_number d) a.members;
+      events = a.shared.events;
+      cleared_at = a.events_cleared;
+      clean = a.shared.resync_offset == 2 ^ 64 - 1;
+      resynced = a.resynced;
+      halted = a.halted;
+      marks = λ c. nat_lt c a.marks.chunks && is_set a.marks.bytes c;
+      request = requests;
+    }
+
+abbrev pub world_of : MirrorView → (ℕ → Option Request) → World
+world_of m requests = world_on m.disks m.array requests
+
+abbrev pub none_in_flight : ℕ → Option Request
+none_in_flight _ = None
+
+-- reads and writes of these devices do what they answer
+abbrev pub AreHonest : List Disk → Type 0
+AreHonest disks = (k : ℕ) (d : Disk) → slice_get disks k ≡ Some d → d.honest ≡ true

@@ -1,0 +1,136 @@
+// The mirror, and what can be seen of it.
+ghost use Rattle.std.specs.Prelude.{◌≡◌, ◌<◌, Some, length, map, option_map, slice_get};
+ghost use Rattle.md_array.specs.Members.{is_degraded};
+ghost use Rattle.md_array.specs.View.{disk_of};
+
+use crate::array::Array;
+use md_assembly::MemberState;
+use md_badblocks::BadSet;
+use md_bitmap::{Chunks, Marks};
+use md_device::Device;
+use md_super::Superblock;
+use std::marker::Model;
+
+/// An array on its devices. Members are counted from 0, in the order of the devices that were opened.
+///
+/// Contracts see the devices and all that is kept in memory (`specs/View.antt`). No observer takes
+/// memory.
+#[derive(Drop)]
+pub struct Mirror<D: Device + Drop> {
+    pub(crate) devices: Vec<D>,
+    pub(crate) array: Array,
+}
+
+impl<D: Device + Drop> Model for Mirror<D> {
+    ghost use Rattle.std.specs.Prelude.{map};
+    ghost use Rattle.md_array.specs.View.{MirrorView, disk_of};
+
+    ghost Value = { MirrorView };
+
+    ghost view = { λ m. record { disks = map (disk_of D.content D.honest D.failures) m.devices.items; array = m.array } };
+}
+
+impl<D: Device + Drop> Mirror<D> {
+    /// How many members there are.
+    pub fn members(&self) -> usize
+        ensures { result ≡ length self.now.array.members }
+    {
+        self.array.members.len()
+    }
+
+    /// The state of member k.
+    pub fn state(&self, k: usize) -> MemberState
+        requires { k < length self.now.array.members }
+        ensures { option_map (λ m. m.state) (slice_get self.now.array.members k) ≡ Some result }
+    {
+        self.array.members[k].state
+    }
+
+    /// Whether member k was re-added by this mirror, and is recovering.
+    pub fn re_added(&self, k: usize) -> bool
+        requires { k < length self.now.array.members }
+        ensures { option_map (λ m. m.re_added) (slice_get self.now.array.members k) ≡ Some result }
+    {
+        self.array.members[k].re_added
+    }
+
+    /// Whether member k's superblock has to be stored.
+    pub fn due(&self, k: usize) -> bool
+        requires { k < length self.now.array.members }
+        ensures { option_map (λ m. m.due) (slice_get self.now.array.members k) ≡ Some result }
+    {
+        self.array.members[k].due
+    }
+
+    /// The superblock of member k, of which its own fields count: those of the array are `shared`.
+    pub fn own(&self, k: usize) -> &Superblock
+        requires { k < length self.now.array.members }
+        ensures { option_map (λ m. m.superblock) (slice_get self.now.array.members k) ≡ Some result.now }
+    {
+        &self.array.members[k].superblock
+    }
+
+    /// The sectors of member k's device that are listed as bad.
+    pub fn bad(&self, k: usize) -> &BadSet
+        requires { k < length self.now.array.members }
+        ensures { option_map (λ m. m.bad) (slice_get self.now.array.members k) ≡ Some result.now }
+    {
+        &self.array.members[k].bad
+    }
+
+    /// The superblock of the array, of which the fields that all members share count.
+    pub fn shared(&self) -> &Superblock
+        ensures { result.now ≡ self.now.array.shared }
+    {
+        &self.array.shared
+    }
+
+    /// The event count of the array.
+    pub fn events(&self) -> u64
+        ensures { result ≡ self.now.array.shared.events }
+    {
+        self.array.shared.events
+    }
+
+    /// The chunks in which members may differ.
+    pub fn marks(&self) -> &Marks
+        ensures { result.now ≡ self.now.array.marks }
+    {
+        &self.array.marks
+    }
+
+    /// The chunks of the array.
+    pub fn chunks(&self) -> Chunks
+        ensures { result ≡ self.now.array.chunks }
+    {
+        self.array.chunks
+    }
+
+    /// Whether members in sync hold the same wherever no mark is set by a request in flight.
+    pub fn resynced(&self) -> bool
+        ensures { result ≡ self.now.array.resynced }
+    {
+        self.array.resynced
+    }
+
+    /// Whether no call can go on, since a failure can't be recorded.
+    pub fn halted(&self) -> bool
+        ensures { result ≡ self.now.array.halted }
+    {
+        self.array.halted
+    }
+
+    /// Whether some role has no member in sync.
+    pub fn degraded(&self) -> bool
+        ensures { result ≡ is_degraded self.now.array }
+    {
+        self.array.is_degraded()
+    }
+
+    /// The devices, in the order of the members. Takes no memory.
+    pub fn into_devices(self) -> Vec<D>
+        ensures { map (disk_of D.content D.honest D.failures) result.items ≡ self.disks }
+    {
+        self.devices
+    }
+}

@@ -1,0 +1,81 @@
+-- Why members make no array, and in which order that is found, which is this project's own.
+use Rattle.std.specs.Prelude.{◌≡◌, ◌≢◌, ◌⊎◌, ℕ, ◌+◌, ◌<◌, List, length, false, Option, Some, None, count_by, Result, MatchResult}
+use Rattle.std.specs.List.{list_any}
+use Rattle.std.specs.Option.{option_map}
+use Rattle.md_format.specs.FirstFault.{NoneBefore, IsFirst}
+use Rattle.md_bitmap.specs.declared.header.BitmapHeader.{BitmapHeader}
+use Rattle.md_members.specs.declared.info.MemberInfo.{MemberInfo}
+use Rattle.md_assembly.specs.declared.fault.AssembleFault.{AssembleFault}
+use Rattle.md_assembly.specs.declared.fault.AssembleFault.TheVariants.{Empty, TooMany, Stranger, DoubleNumber, NoBitmap, Geometry, DoubleRole, NotEnough, NoMemory}
+use Rattle.md_assembly.specs.Assembled.{ByFreshest, superblocks}
+use Rattle.md_assembly.specs.Listed.{IsLeast, MemberAt, PairAt}
+use Rattle.md_assembly.specs.States.{is_in_sync, takes_role}
+
+-- the member is of another array
+abbrev pub IsStranger : MemberInfo → MemberInfo → Type 0
+IsStranger first m = m.superblock.set_uuid ≢ first.superblock.set_uuid
+
+abbrev pub HasSameNumber : MemberInfo → MemberInfo → Type 0
+HasSameNumber a b = a.superblock.dev_number ≡ b.superblock.dev_number
+
+-- no bitmap was read: of a device that is where bit 1 of the superblock's feature map is clear
+abbrev pub LacksBitmap : MemberInfo → Type 0
+LacksBitmap m = m.header ≡ None
+
+-- the bytes of a chunk, where there is a bitmap
+abbrev pub chunk_size : MemberInfo → Option ℕ
+chunk_size m = option_map (λ h. h.chunksize) m.header
+
+abbrev pub HasOtherGeometry : MemberInfo → MemberInfo → Type 0
+HasOtherGeometry first m =
+    (m.superblock.size ≢ first.superblock.size)
+    ⊎ (m.superblock.raid_disks ≢ first.superblock.raid_disks)
+    ⊎ (chunk_size m ≢ chunk_size first)
+
+-- two members have one device number, the second of them at this index
+abbrev pub RepeatsNumber : List MemberInfo → ℕ → Type 0
+RepeatsNumber members j = (i : ℕ) × (i < j) × PairAt HasSameNumber members i j
+
+-- two members are in sync or recovering in this role
+abbrev pub IsDoubleRole : List MemberInfo → ℕ → Type 0
+IsDoubleRole members role = ByFreshest (λ states. 1 < count_by (takes_role role) states) (superblocks members)
+
+-- the fault stands; want of memory can always be found
+abbrev pub Stands : List MemberInfo → AssembleFault → Type 0
+Stands members Empty = length members ≡ 0
+Stands members TooMany = 64 < length members
+Stands members (Stranger i) = IsLeast (PairAt IsStranger members 0) i
+Stands members (DoubleNumber i j) = (i < j) × PairAt HasSameNumber members i j × IsLeast (RepeatsNumber members) j
+Stands members (NoBitmap i) = IsLeast (MemberAt LacksBitmap members) i
+Stands members (Geometry i) = IsLeast (PairAt HasOtherGeometry members 0) i
+Stands members (DoubleRole role) = IsLeast (IsDoubleRole members) role
+Stands members NotEnough = ByFreshest (λ states. list_any is_in_sync states ≡ false) (superblocks members)
+Stands members NoMemory = Unit {0}
+
+-- the place of a fault in the order in which they are looked for
+abbrev pub place : AssembleFault → ℕ
+place Empty = 1
+place TooMany = 2
+place (Stranger i) = 3
+place (DoubleNumber i j) = 4
+place (NoBitmap i) = 5
+place (Geometry i) = 6
+place (DoubleRole role) = 7
+place NotEnough = 8
+place NoMemory = 9
+
+-- no fault before the n-th place stands
+abbrev pub NoneBeforePlace : List MemberInfo → ℕ → Type 0
+NoneBeforePlace members n = NoneBefore (Stands members) place n
+
+-- no fault stands besides want of memory
+abbrev pub NoFault : List MemberInfo → Type 0
+NoFault members = NoneBeforePlace members 9
+
+-- the fault stands, and none that is looked for before it
+abbrev pub IsFirstFault : List MemberInfo → AssembleFault → Type 0
+IsFirstFault members f = IsFirst (Stands members) place f
+
+-- what a check of the faults at a place finds, once those at the earlier places are found not to stand
+abbrev pub IsChecked : {T : Type 0} → List MemberInfo → ℕ → Result T AssembleFault → Type 0
+IsChecked members n result = MatchResult result (λ _. NoneBeforePlace members (n + 1)) (IsFirstFault members)

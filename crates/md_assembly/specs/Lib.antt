@@ -1,0 +1,4 @@
+pub mod Assembled
+pub mod Faults
+pub mod Listed
+pub mod States

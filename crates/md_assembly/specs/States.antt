@@ -1,0 +1,55 @@
+-- The state of a member by the freshest superblock and its own (super_1_validate of the kernel's md driver, without
+-- replacement and journal; that a member one event behind is up to date is the kernel's rule too).
+use Rattle.std.specs.Prelude.{ℕ, ◌+◌, ◌==◌, nat_le, nat_lt, Bool, true, false, not, bit_and, slice_index_or, List, map, Option, Some, None, if◌then◌else◌}
+use Rattle.md_super.specs.declared.superblock.Superblock.{Superblock}
+use Rattle.md_assembly.specs.declared.state.MemberState.{MemberState}
+use Rattle.md_assembly.specs.declared.state.MemberState.TheVariants.{InSync, Recovering, Stale, Spare, Faulty}
+
+-- the role of a device by a superblock, 0xffff where it has none for the number
+abbrev pub role_in : Superblock → ℕ → ℕ
+role_in v dev_number = slice_index_or v.roles dev_number 0xffff
+
+-- the events are the freshest's or one less
+abbrev pub is_up_to_date : Superblock → Superblock → Bool
+is_up_to_date freshest own = nat_le freshest.events (own.events + 1)
+
+-- the member's recovery is not done: bit 2 of its feature map
+abbrev pub has_recovery_offset : Superblock → Bool
+has_recovery_offset own = not (bit_and own.feature_map 2 == 0)
+
+-- the state of a member whose role this is: 0xfffe is that of a failed device
+abbrev pub state_by : Superblock → Superblock → ℕ → MemberState
+state_by freshest own role =
+    if role == 0xfffe then Faulty else
+    if nat_le freshest.raid_disks role then Spare else
+    if not (is_up_to_date freshest own) then Stale role else
+    if has_recovery_offset own then Recovering role else InSync role
+
+unfoldable pub state_of : Superblock → Superblock → MemberState
+state_of freshest own = state_by freshest own (role_in freshest own.dev_number)
+
+-- the states of all members
+abbrev pub states_by : Superblock → List Superblock → List MemberState
+states_by freshest all = map (state_of freshest) all
+
+abbrev pub role_of : MemberState → Option ℕ
+role_of (InSync role) = Some role
+role_of (Recovering role) = Some role
+role_of (Stale role) = Some role
+role_of Spare = None
+role_of Faulty = None
+
+abbrev pub is_in_sync : MemberState → Bool
+is_in_sync (InSync role) = true
+is_in_sync (Recovering role) = false
+is_in_sync (Stale role) = false
+is_in_sync Spare = false
+is_in_sync Faulty = false
+
+-- the member is in sync or recovering in this role, so that no other may have it
+abbrev pub takes_role : ℕ → MemberState → Bool
+takes_role wanted (InSync role) = role == wanted
+takes_role wanted (Recovering role) = role == wanted
+takes_role wanted (Stale role) = false
+takes_role wanted Spare = false
+takes_role wanted Faulty = false

@@ -1,0 +1,47 @@
+-- What a device of an array holds, and when marks cover what differs.
+use Rattle.std.specs.Prelude.{◌≡◌, ℕ, ◌+◌, ◌*◌, ◌<◌, ◌≤◌, Bool, true, false, cond, ◌&&◌, ◌||◌, eqb, List, [], Option, Some, None}
+use Rattle.md_model.specs.Sectors.{Geometry, chunk_of}
+
+-- what assembly reads of a superblock (md_p.h): dev_number, events, dev_roles (65535 past their end) and bit 2 of the feature map
+pub record Super : Type 0 where
+  pub number : ℕ
+  pub events : ℕ
+  pub role : ℕ → ℕ
+  pub recovering : Bool
+
+pub record Stored : Type 0 where
+  pub super : Option Super  -- none where it can't be decoded, or no device is there
+  pub content : ℕ → List ℕ  -- the bytes of each sector of the array
+  pub listed : ℕ → Bool  -- the bad block log has the sector
+  pub bits : ℕ → Bool  -- the bitmap has the chunk's bit
+  pub bitmap_events : ℕ
+  pub bitmap_fits : Bool  -- its uuid and size are the array's, and its state is 0
+
+-- A bitmap is accepted that is as old as the superblock beside it or one event newer (this project's own rule).
+abbrev pub accepts : Option Super → ℕ → Bool → Bool
+accepts None events fits = false
+accepts (Some own) events fits = fits && (eqb events own.events || eqb events (own.events + 1))
+
+abbrev pub is_accepted : Stored → Bool
+is_accepted d = accepts d.super d.bitmap_events d.bitmap_fits
+
+-- the stored marks: those of the bitmap, or every chunk where it is not accepted
+abbrev pub is_marked : Stored → ℕ → Bool
+is_marked d c = cond (is_accepted d) (d.bits c) true
+
+-- the two hold the same in this sector, unless one of them lists it
+abbrev pub AgreeAt : Stored → Stored → ℕ → Type 0
+AgreeAt d e s = d.listed s ≡ false → e.listed s ≡ false → d.content s ≡ e.content s
+
+-- Wherever two of these members differ, in a sector of the array that neither lists, the stored marks of each of them have
+-- its chunk. That is: where the marks of one lack the chunk, any two agree.
+abbrev pub Covered : Geometry → (ℕ → Stored) → (ℕ → Type 0) → Type 0
+Covered g stored Member =
+    (i j k s : ℕ) → s < g.size → Member i → Member j → Member k
+    → is_marked (stored i) (chunk_of g s) ≡ false → AgreeAt (stored j) (stored k) s
+
+-- nothing is said of a device past the array's end
+pub record EndsWith (g : Geometry) (d : Stored) : Type 0 where
+  pub content : (s : ℕ) → g.size ≤ s → d.content s ≡ []
+  pub listed : (s : ℕ) → g.size ≤ s → d.listed s ≡ false
+  pub bits : (c : ℕ) → g.size ≤ c * g.width → d.bits c ≡ false
