@@ -1,5 +1,5 @@
 -- Devices that are taken out of their images one by one, and put back.
-use Rattle.std.proofs.Common.{◌≡◌, ◌≢◌, ◌⊎◌, ◌∙◌, ◌+◌, ◌<◌, ◌≤◌, ◌||◌, ℕ, zero, suc, Bool, true, false, cond, take, List, [], ◌∷◌, ◌++◌, length, map, Option, Some, None, refl, sym, ap, subst, inl, inr, arith, true≢false}
+use Rattle.std.proofs.Common.{◌≡◌, ◌≢◌, ◌⊎◌, ◌∙◌, ◌+◌, ◌<◌, ◌≤◌, ◌||◌, ℕ, zero, suc, Bool, true, false, cond, take, List, [], ◌∷◌, ◌++◌, length, map, Option, Some, None, Result, Ok, Err, is_ok, IsOk, if◌then◌else◌, refl, sym, ap, subst, inl, inr, arith, true≢false}
 use Rattle.std.specs.Prelude.{slice_get, slice_index_or}
 use Rattle.std.specs.List.{list_any}
 use Rattle.std.specs.Str.{bytes_eq}
@@ -38,14 +38,22 @@ among names (suc n) text = elim (among names n text) [
   ]
 ]
 
--- the name of word i
-pub name_of_word : (words : List ImageWord) (i : ℕ) (w : ImageWord) → i < length words → w ≡ slice_index_or words i w → name_at (names_of (map word_of words)) i ≡ w.name.now
-name_of_word words i w lt e =
-    let inside : i < length (map word_of words) = subst (λ (n : ℕ). i < n) (sym (length-map words word_of)) lt in
-    get_or-map (λ v. v.1) (map word_of words) i (word_of w) [] inside ∙ ap (λ v. v.1) (get_or-map word_of words i w (word_of w) lt ∙ ap word_of (sym e))
+-- what an index past the end would read
+abbrev pub no_word : ImageWord
+no_word = record { index = 0; name = record { ref_ptr = (0, 0); now = [] } }
 
-abbrev names_in : List ImageWord → List Text
+abbrev pub names_in : List ImageWord → List Text
 names_in words = names_of (map word_of words)
+
+-- the name of word i
+pub name_of_word : (words : List ImageWord) (i : ℕ) → i < length words → name_at (names_in words) i ≡ (slice_index_or words i no_word).name.now
+name_of_word words i lt =
+    let inside : i < length (map word_of words) = subst (λ (n : ℕ). i < n) (sym (length-map words word_of)) lt in
+    get_or-map (λ v. v.1) (map word_of words) i (word_of no_word) [] inside ∙ ap (λ v. v.1) (get_or-map word_of words i no_word (word_of no_word) lt)
+
+-- its place among the image words
+pub index_of_word : (words : List ImageWord) (i : ℕ) → i < length words → (slice_index_or (map word_of words) i (0, [])).0 ≡ (slice_index_or words i no_word).index
+index_of_word words i lt = ap (λ v. v.0) (get_or-map word_of words i no_word (0, []) lt)
 
 abbrev bears : Text → ImageWord → Bool
 bears name w = bytes_eq w.name.now name
@@ -66,13 +74,12 @@ some_before : (words : List ImageWord) (k : ℕ) (name : Text) → list_any (bea
 some_before [] zero name e = absurd (true≢false (sym e))
 some_before [] (suc k) name e = absurd (true≢false (sym e))
 some_before (w ∷ words) zero name e = absurd (true≢false (sym e))
-some_before (w ∷ words) (suc k) name e = by (bears name w) refl
+some_before (w ∷ words) (suc k) name e = by (bears name w) refl (some_before words k name)
   where
-    by : (b : Bool) → bears name w ≡ b → (i : ℕ) × (i < suc k) × (name_at (names_in (w ∷ words)) i ≡ name)
-    by true is = (0, omega arith, (bytes_eq-Decides w.name.now name).0 is)
-    by false is =
-        let rest : list_any (bears name) (take k words) ≡ true = sym (ap (λ b. b || list_any (bears name) (take k words)) is) ∙ e in
-        let found = some_before words k name rest in
+    by : (b : Bool) → bears name w ≡ b → (list_any (bears name) (take k words) ≡ true → (i : ℕ) × (i < k) × (name_at (names_in words) i ≡ name)) → (i : ℕ) × (i < suc k) × (name_at (names_in (w ∷ words)) i ≡ name)
+    by true is later = (0, omega arith, (bytes_eq-Decides w.name.now name).0 is)
+    by false is later =
+        let found = later (sym (ap (λ b. b || list_any (bears name) (take k words)) is) ∙ e) in
         (suc found.0, omega (arith, found.1), found.2)
 
 -- the next name repeats none of the first, so that these and it are distinct
@@ -81,6 +88,11 @@ distinct_more names k distinct fresh i j less lt = elim (below_next j k lt) [
   | inl inside ↦ distinct i j less inside
   | inr is ↦ subst (λ (n : ℕ). name_at names i ≢ name_at names n) (sym is) (fresh i (subst (λ (n : ℕ). i < n) is less))
 ]
+
+-- what a push leaves that succeeds
+pub pushed : {X R E : Type 0} (r : Result R E) (x y z : X) → IsOk r → z ≡ (if is_ok r then x else y) → z ≡ x
+pushed (Ok v) x y z is e = e
+pushed (Err v) x y z is e = absurd (true≢false (sym is))
 
 module _ {D : Type 0} where
   pub get_before : (xs ys : List D) (i : ℕ) → i < length xs → slice_get (xs ++ ys) i ≡ slice_get xs i
@@ -162,13 +174,11 @@ module _ {D : Type 0} where
     others = λ other h. refl;
   }
 
-  pub all_put : (before now : Text → Option D) (names : List Text) (all left : List D) → left ≡ [] → PutDown before now names all left → ArePut before now names (length all) all
-  all_put before now names all left e so =
-      let none : length left ≡ 0 = ap length e in
-      record {
-        back = record { many = refl; each = λ i lt. so.back i (omega (arith, none)) lt };
-        others = λ other h. so.others other (λ i le lt. h i lt);
-      }
+  pub all_put : (before now : Text → Option D) (names : List Text) (all left : List D) → length left ≡ 0 → PutDown before now names all left → ArePut before now names (length all) all
+  all_put before now names all left none so = record {
+    back = record { many = refl; each = λ i lt. so.back i (omega (arith, none)) lt };
+    others = λ other h. so.others other (λ i le lt. h i lt);
+  }
 
   pub one_put : (before now after : Text → Option D) (names : List Text) (all left rest : List D) (d : D) → PutDown before now names all left → IsDistinct names (length all) → left ≡ rest ++ d ∷ []
       → after (name_at names (length rest)) ≡ Some d → ((other : Text) → other ≢ name_at names (length rest) → after other ≡ now other) → PutDown before after names all rest
@@ -187,11 +197,13 @@ module _ {D : Type 0} where
       }
 
   -- what was taken and put back is as it was
-  pub restored : (before mid after : Text → Option D) (names : List Text) (n : ℕ) (devices : List D) → AreOut before mid names n devices → ArePut mid after names n devices → (text : Text) → after text ≡ before text
-  restored before mid after names n devices taken put text = elim (among names n text) [
-    | inl found ↦ ap after found.2 ∙ put.back.each found.0 found.1 ∙ sym (taken.were.each found.0 found.1) ∙ ap before (sym found.2)
-    | inr other ↦ put.others text other ∙ taken.others text other
-  ]
+  pub restored : (before mid after : Text → Option D) (names : List Text) (n : ℕ) (devices : List D) → AreOut before mid names n devices → ArePut mid after names (length devices) devices → (text : Text) → after text ≡ before text
+  restored before mid after names n devices taken put text =
+      let back : ArePut mid after names n devices = subst (λ (m : ℕ). ArePut mid after names m devices) taken.were.many put in
+      elim (among names n text) [
+        | inl found ↦ ap after found.2 ∙ back.back.each found.0 found.1 ∙ sym (taken.were.each found.0 found.1) ∙ ap before (sym found.2)
+        | inr other ↦ back.others text other ∙ taken.others text other
+      ]
 
   -- each device that was taken was there
   pub was_there : (before mid : Text → Option D) (names : List Text) (n : ℕ) (devices : List D) → AreOut before mid names n devices → (k : ℕ) → k < n → before (name_at names k) ≢ None
