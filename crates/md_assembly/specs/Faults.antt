@@ -1,9 +1,8 @@
 -- Why members make no array, and in which order that is found, which is this project's own.
-use Rattle.std.specs.Prelude.{◌≡◌, ◌≢◌, ◌⊎◌, ℕ, ◌+◌, ◌<◌, List, length, false, Option, Some, None, count_by, Result, MatchResult}
+use Rattle.std.specs.Prelude.{◌≡◌, ◌≢◌, ◌⊎◌, ℕ, ◌+◌, ◌<◌, List, length, false, Option, None, count_by, Result, MatchResult}
 use Rattle.std.specs.List.{list_any}
 use Rattle.std.specs.Option.{option_map}
 use Rattle.md_format.specs.FirstFault.{NoneBefore, IsFirst}
-use Rattle.md_bitmap.specs.declared.header.BitmapHeader.{BitmapHeader}
 use Rattle.md_members.specs.declared.info.MemberInfo.{MemberInfo}
 use Rattle.md_assembly.specs.declared.fault.AssembleFault.{AssembleFault}
 use Rattle.md_assembly.specs.declared.fault.AssembleFault.TheVariants.{Empty, TooMany, Stranger, DoubleNumber, NoBitmap, Geometry, DoubleRole, NotEnough, NoMemory}

@@ -1,5 +1,5 @@
 -- Facts of members by their indices in the list.
-use Rattle.std.specs.Prelude.{◌≡◌, ℕ, ◌<◌, ◌≤◌, List, slice_get, Some}
+use Rattle.std.specs.Prelude.{◌≡◌, ℕ, ◌≤◌, List, slice_get, Some}
 use Rattle.md_members.specs.declared.info.MemberInfo.{MemberInfo}
 
 -- there is a member at the index, and the fact holds of it

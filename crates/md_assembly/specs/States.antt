@@ -1,6 +1,6 @@
 -- The state of a member by the freshest superblock and its own (super_1_validate of the kernel's md driver, without
 -- replacement and journal; that a member one event behind is up to date is the kernel's rule too).
-use Rattle.std.specs.Prelude.{ℕ, ◌+◌, ◌==◌, nat_le, nat_lt, Bool, true, false, not, bit_and, slice_index_or, List, map, Option, Some, None, if◌then◌else◌}
+use Rattle.std.specs.Prelude.{ℕ, ◌+◌, ◌==◌, nat_le, Bool, true, false, not, bit_and, slice_index_or, List, map, Option, Some, None, if◌then◌else◌}
 use Rattle.md_super.specs.declared.superblock.Superblock.{Superblock}
 use Rattle.md_assembly.specs.declared.state.MemberState.{MemberState}
 use Rattle.md_assembly.specs.declared.state.MemberState.TheVariants.{InSync, Recovering, Stale, Spare, Faulty}

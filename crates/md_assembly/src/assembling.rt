@@ -1,5 +1,15 @@
 // What array members make.
+ghost use Rattle.std.specs.Prelude.{◌≡◌, IfOk, IfErr, OnOk};
+ghost use Rattle.md_assembly.specs.Assembled.{IsAssembled};
+ghost use Rattle.md_assembly.specs.Faults.{IsFirstFault, NoFault};
+
+use crate::checks::check_members;
+use crate::fault::AssembleFault;
+use crate::freshest::freshest_of;
+use crate::roles::{check_states, states_of};
 use crate::state::MemberState;
+use md_members::MemberInfo;
+use std::alloc::Global;
 
 /// What the members of an array are to it.
 #[derive(Debug, Drop)]
@@ -9,4 +19,19 @@ pub struct Assembly {
     pub freshest: usize,
     /// The state of each member, in the order of the members.
     pub states: Vec<MemberState>,
+}
+
+/// The array that the members make, or the first fault in them, in the order of `AssembleFault`.
+/// Want of memory comes last: only where no other fault stands.
+pub fn assemble(alloc: Global, members: &[MemberInfo]) -> Result<Assembly, AssembleFault>
+    ensures ok { IfOk result (λ a. IsAssembled members.now a) }
+    ensures sound { OnOk result (NoFault members.now) }
+    ensures refused { IfErr result (λ f. IsFirstFault members.now f) }
+{
+    check_members(members)?;
+    let freshest = freshest_of(members);
+    let superblock = &members[freshest].superblock;
+    check_states(members, superblock)?;
+    let states = states_of(alloc, members, superblock)?;
+    Ok(Assembly { freshest, states })
 }

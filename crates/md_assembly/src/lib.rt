@@ -2,9 +2,12 @@
 #![tactic(auto)]
 
 mod assembling;
+mod checks;
 mod fault;
+mod freshest;
+mod roles;
 mod state;
 
-pub use assembling::Assembly;
+pub use assembling::{Assembly, assemble};
 pub use fault::AssembleFault;
-pub use state::MemberState;
+pub use state::{MemberState, state_of};

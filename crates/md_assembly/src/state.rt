@@ -1,4 +1,8 @@
 // The state of a member.
+ghost use Rattle.std.specs.Prelude.{◌≡◌};
+ghost use Rattle.md_assembly.specs.States.{has_recovery_offset, is_in_sync, is_up_to_date, role_in, role_of, state_of, takes_role};
+
+use md_super::{FAULTY, FEATURE_RECOVERY_OFFSET, Superblock};
 
 /// What a member is to its array. The number is its role by the freshest superblock.
 #[derive(Clone, Copy, Debug, PartialEq, Eq)]
@@ -13,4 +17,63 @@ pub enum MemberState {
     Spare,
     /// It has failed.
     Faulty,
+}
+
+impl MemberState {
+    /// The role, where the member has one.
+    pub fn role(&self) -> Option<u16>
+        ensures { result ≡ role_of self.now }
+    {
+        match *self {
+            MemberState::InSync(role) => Some(role),
+            MemberState::Recovering(role) => Some(role),
+            MemberState::Stale(role) => Some(role),
+            MemberState::Spare | MemberState::Faulty => None,
+        }
+    }
+
+    /// Whether the member holds what the array holds.
+    pub fn is_in_sync(&self) -> bool
+        ensures { result ≡ is_in_sync self.now }
+    {
+        matches!(self, MemberState::InSync(_))
+    }
+
+    // Whether the member is in sync or recovering in this role: then no other may have it.
+    pub(crate) fn takes_role(&self, wanted: u16) -> bool
+        ensures { result ≡ takes_role wanted self.now }
+    {
+        match *self {
+            MemberState::InSync(role) | MemberState::Recovering(role) => role == wanted,
+            _ => false,
+        }
+    }
+}
+
+/// The state of a member by the freshest superblock and its own.
+#[tactic(auto, unfolding(crate::specs::States::state_of))]
+pub fn state_of(freshest: &Superblock, own: &Superblock) -> MemberState
+    ensures { result ≡ state_of freshest.now own.now }
+{
+    let role = freshest.role_of(own.dev_number);
+    if role == FAULTY {
+        return MemberState::Faulty;
+    }
+    if u32::from(role) >= freshest.raid_disks {
+        return MemberState::Spare;
+    }
+    if !is_up_to_date(freshest, own) {
+        return MemberState::Stale(role);
+    }
+    if own.feature_map & FEATURE_RECOVERY_OFFSET != 0 {
+        return MemberState::Recovering(role);
+    }
+    MemberState::InSync(role)
+}
+
+// Whether the events are the freshest's or one less.
+fn is_up_to_date(freshest: &Superblock, own: &Superblock) -> bool
+    ensures { result ≡ is_up_to_date freshest.now own.now }
+{
+    freshest.events.saturating_sub(1) <= own.events
 }

@@ -2,7 +2,6 @@
 use Rattle.std.proofs.Common.{◌≡◌, ℕ, ◌+◌, ◌-◌, ◌≤◌, List, take, drop, drop-drop, refl, ap, sym, ◌∙◌, arith}
 use Rattle.std.proofs.lemmas.List.{take-take}
 use Rattle.md_device.specs.Splice.{SameOutside}
-use Rattle.md_device.proofs.Splices.{outside_more}
 
 pub outside_none : {X : Type 0} (at n : ℕ) (xs : List X) → SameOutside at n xs xs
 outside_none at n xs = record { size = refl; before = refl; after = refl }

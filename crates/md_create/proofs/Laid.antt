@@ -1,15 +1,15 @@
 -- What stands on a device on which a member was laid out.
-use Rattle.std.proofs.Common.{◌≡◌, ℕ, zero, suc, ◌+◌, ◌-◌, ◌*◌, ◌<◌, ◌≤◌, List, [], ◌∷◌, ◌++◌, length, refl, ap, sym, ◌∙◌, arith, inl, inr, subst}
+use Rattle.std.proofs.Common.{◌≡◌, ℕ, zero, suc, ◌+◌, ◌-◌, ◌*◌, ◌<◌, ◌≤◌, List, [], ◌∷◌, length, refl, ap, sym, ◌∙◌, arith, inl, inr, subst}
 use Rattle.std.proofs.lemmas.Bool.{cases_lt}
 use Rattle.std.proofs.lemmas.List.{length-replicate}
 use Rattle.md_device.specs.Splice.{SameOutside, part, spliced}
 use Rattle.md_device.proofs.Splices.{length-spliced, part-spliced, part_before, part_after, spliced_outside}
+use Rattle.md_super.specs.Encoding.{super_bytes}
 use Rattle.md_bitmap.specs.declared.header.BitmapHeader.{BitmapHeader}
 use Rattle.md_bitmap.specs.Marks.{Bitmap}
-use Rattle.md_create.specs.Writes.{Write, after}
+use Rattle.md_create.specs.Writes.{after}
 use Rattle.md_create.specs.Layout.{IsLaidOut, bitmap_sector, bitmap_writes, empty_log, sectors_of, super_write, wipe, writes_of}
 use Rattle.md_create.specs.declared.params.NewMember.{NewMember}
-use Rattle.md_create.specs.Stub.{super_bytes}
 use Rattle.md_create.proofs.Runs.{after-append}
 use Rattle.md_create.proofs.Frames.{outside_none, outside_then, outside_around}
 use Rattle.md_create.proofs.Sectors.{writes_from, length-bitmap_sector}
@@ -29,13 +29,14 @@ module _ (h : BitmapHeader) (m : Bitmap) where
       record {
         outside = outside_then (outside_around here (512 * 16) (512 * (n + 1)) (omega arith) (omega arith)) (outside_around stand.outside (512 * 16) (512 * (n + 1)) (omega arith) (omega arith));
         each = λ i below. elim (cases_lt i n) [
-            inl lower ↦ stand.each i lower
+          | inl lower ↦ stand.each i lower
           | inr from ↦
               let same : i ≡ n = omega arith in
               ap (λ k. part new (512 * (16 + k)) 512) same
               ∙ part_after stand.outside at 512 (omega arith)
               ∙ part-spliced old at bytes 512 (sym long) (omega arith)
-              ∙ ap (bitmap_sector h m) (sym same) ];
+              ∙ ap (bitmap_sector h m) (sym same)
+        ];
       }
 
   pub sectors_stand : (n : ℕ) (old : List ℕ) → 512 * (16 + n) ≤ length old → SectorsStand h m n old (after old (bitmap_writes h m n))
@@ -69,7 +70,7 @@ module _ (h : BitmapHeader) (m : Bitmap) (n : ℕ) (few : n ≤ 257) {first seco
       outside_then (outside_around wiped (512 * 8) (512 * 2032) (omega arith) (omega arith))
       (outside_then (outside_around logged (512 * 8) (512 * 2032) (omega arith) (omega arith))
       (outside_then (outside_around stand.outside (512 * 8) (512 * 2032) (omega arith) (omega arith))
-          (outside_around named (512 * 8) (512 * 2032) (omega arith) (omega arith))))
+      (outside_around named (512 * 8) (512 * 2032) (omega arith) (omega arith))))
 
 module _ (member : NewMember) (old zeros log super : List ℕ) (room : 512 * 2048 ≤ length old) (few : sectors_of member ≤ 257)
     (zeros_long : length zeros ≡ 4096) (log_long : length log ≡ 4096) (super_long : length super ≡ 4096) where

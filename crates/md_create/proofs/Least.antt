@@ -1,5 +1,5 @@
 -- The least device among those that were looked at.
-use Rattle.std.proofs.Common.{◌≡◌, ℕ, ◌+◌, ◌<◌, ◌≤◌, List, Option, Some, None, length, arith, sym, ◌∙◌, inl, inr, ◌⊎◌}
+use Rattle.std.proofs.Common.{◌≡◌, ℕ, ◌+◌, ◌<◌, ◌≤◌, List, Option, Some, None, length, arith, inl, inr}
 use Rattle.std.specs.Prelude.{slice_get, min, IfSome, IfNone}
 use Rattle.std.proofs.lemmas.Bool.{cases_lt}
 use Rattle.std.proofs.lemmas.Option.{slice_get_within}
@@ -43,10 +43,11 @@ least_more sizes k (Some a) None here below = record {
 }
 least_more sizes k (Some a) (Some b) here below =
     let least : (other n : ℕ) → other < k + 1 → HasDevice sizes other n → min a b ≤ n =
-        both sizes k (Some b) here (min a b) (λ other n h device. omega (arith, below.least other n h device)) (λ n e. let f : b ≡ n = cc in omega arith) in
+    both sizes k (Some b) here (min a b) (λ other n h device. omega (arith, below.least other n h device)) (λ n e. let f : b ≡ n = cc in omega arith) in
     elim (cases_lt a b) [
-        inl lower ↦ let is : min a b ≡ a = omega arith in record { role = below.role; reached = rw is below.reached; least = least }
-      | inr from ↦ let is : min a b ≡ b = omega arith in record { role = k; reached = rw is here; least = least } ]
+      | inl lower ↦ let is : min a b ≡ a = omega arith in record { role = below.role; reached = rw is below.reached; least = least }
+      | inr from ↦ let is : min a b ≡ b = omega arith in record { role = k; reached = rw is here; least = least }
+    ]
 
 -- all were looked at
 pub some_whole : (sizes : List (Option ℕ)) (so_far : Option ℕ) (k : ℕ) → length sizes ≤ k → LeastBelow sizes k so_far → IfSome so_far (IsLeast sizes)

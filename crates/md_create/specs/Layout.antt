@@ -4,7 +4,7 @@ use Rattle.std.specs.List.{range_with_len}
 use Rattle.md_device.specs.Splice.{SameOutside}
 use Rattle.md_device.specs.Device.{held}
 use Rattle.md_super.specs.declared.superblock.Superblock.{Superblock}
-use Rattle.md_create.specs.Stub.{super_bytes}
+use Rattle.md_super.specs.Encoding.{super_bytes}
 use Rattle.md_bitmap.specs.declared.header.BitmapHeader.{BitmapHeader}
 use Rattle.md_bitmap.specs.Header.{header_bytes}
 use Rattle.md_bitmap.specs.Marks.{Bitmap, padded}

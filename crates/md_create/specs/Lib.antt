@@ -2,5 +2,4 @@ pub mod Writes
 pub mod Places
 pub mod Geometry
 pub mod Values
-pub mod Stub
 pub mod Layout

@@ -1,6 +1,6 @@
 -- Where the parts of a new member stand on its device, in sectors (this project's own): the superblock at 8, the bitmap at
 -- 16, the bad block log at 2032, the data from 2048 on.
-use Rattle.std.specs.Prelude.{◌≡◌, ℕ, ◌<◌, ◌≤◌, pos}
+use Rattle.std.specs.Prelude.{◌≡◌, ◌<◌, ◌≤◌, pos}
 use Rattle.md_super.specs.declared.superblock.Superblock.{Superblock}
 use Rattle.md_bitmap.specs.declared.header.BitmapHeader.{BitmapHeader}
 use Rattle.md_bitmap.specs.Marks.{Bitmap}

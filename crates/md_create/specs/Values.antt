@@ -1,5 +1,5 @@
 -- What a new array's members say (this project's own choice among what md_p.h and md-bitmap.h allow).
-use Rattle.std.specs.Prelude.{◌≡◌, ℕ, ◌+◌, ◌-◌, ◌^◌, ◌&&◌, Bool, not, nat_lt, List, ◌++◌, length, map, take, replicate, decimal, All, Option, Some, None, option_map, slice_index_or, if◌then◌else◌, is_some, pos}
+use Rattle.std.specs.Prelude.{◌≡◌, ℕ, ◌+◌, ◌-◌, ◌^◌, ◌&&◌, Bool, not, nat_lt, List, ◌++◌, length, map, take, replicate, decimal, All, Option, None, option_map, slice_index_or, if◌then◌else◌, is_some, pos}
 use Rattle.std.specs.List.{range_with_len, filter_map}
 use Rattle.sha1.specs.Sha1.{sha1}
 use Rattle.uuid.specs.Parts.{with_version, with_variant}

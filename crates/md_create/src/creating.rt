@@ -20,7 +20,7 @@ const FIRST_EVENTS: u64 = 1;
 const DAEMON_SLEEP: u32 = 5;
 
 /// The members of a new array, one for each device that is there, in the order of roles. `sizes` has
-/// the sectors of the device for each role, or `None` where it is missing.
+/// the sectors of the device for each role, or `None` where it is missing. Nothing is written.
 pub fn create(
     alloc: Global,
     params: &CreateParams,
@@ -96,10 +96,9 @@ fn role_for(sizes: &[Option<u64>], number: usize) -> u16
     requires within { number < length sizes.now }
     ensures { result ≡ role_for sizes.now number }
 {
-    if sizes[number].is_some() {
-        number as u16
-    } else {
-        FAULTY
+    match sizes[number] {
+        Some(_) => number as u16,
+        None => FAULTY,
     }
 }
 

@@ -51,6 +51,7 @@ fn least_device(sizes: &[Option<u64>]) -> Option<u64>
     least
 }
 
+// The lesser of two sizes, or the one that there is.
 fn lesser(least: Option<u64>, size: Option<u64>) -> Option<u64>
     ensures { result ≡ lesser_of least size }
 {

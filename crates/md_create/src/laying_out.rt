@@ -6,14 +6,13 @@ ghost use Rattle.md_create.specs.Layout.{IsLaidOut, bitmap_sector, bitmap_writes
 
 use crate::params::NewMember;
 use crate::places::{BITMAP_SECTOR, LOG_SECTOR};
-use crate::stub::encode;
 use md_bitmap::{BitmapHeader, Marks};
 use md_device::{Device, WriteFault};
 use md_super::SUPER_SECTOR;
 
-/// Writes a member's superblock and bitmap to a device, and an empty bad block log. The superblock's
-/// place is overwritten with zeros first and gets the superblock last, so that a device on which this
-/// has stopped bears none. It takes no memory.
+/// Writes a member's bitmap and superblock to a device of at least 2048 sectors, and an empty bad
+/// block log. The superblock's place is overwritten with zeros first and gets the superblock last, so
+/// that no stop leaves an old superblock over an emptied log. It takes no memory.
 pub fn lay_out<D: Device>(device: &mut D, member: &NewMember) -> Result<(), WriteFault>
     requires { 512 * 2048 ≤ length (D.content device.old) }
     ensures writes { MakesWrites D.content D.honest D.failures (writes_of member.now) device.old device.new result }
@@ -23,7 +22,7 @@ pub fn lay_out<D: Device>(device: &mut D, member: &NewMember) -> Result<(), Writ
     put(device, LOG_SECTOR, &[0xff; 4096])?;
     put_bitmap(device, &member.header, &member.marks)?;
     let mut block = [0; 4096];
-    encode(&member.superblock, &mut block);
+    member.superblock.encode(&mut block);
     put(device, SUPER_SECTOR, &block)
 }
 

@@ -8,7 +8,6 @@ mod laying_out;
 mod naming;
 mod params;
 mod places;
-mod stub;
 
 pub use creating::create;
 pub use fault::CreateFault;

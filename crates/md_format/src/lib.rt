@@ -6,4 +6,4 @@ mod reading;
 mod writing;
 
 pub use reading::{array_at, u8_at, u16_at, u32_at, u64_at, uuid_at};
-pub use writing::{put_bytes, put_u32, put_u64};
+pub use writing::{put_bytes, put_u8, put_u16, put_u32, put_u64};

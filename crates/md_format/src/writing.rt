@@ -1,5 +1,5 @@
 // Fields written into a block of bytes. Places are in bytes.
-ghost use Rattle.std.specs.Prelude.{◌≡◌, ◌+◌, ◌≤◌, ◌++◌, length, take, drop};
+ghost use Rattle.std.specs.Prelude.{◌≡◌, ◌+◌, ◌≤◌, ◌++◌, ◌∷◌, [], length, take, drop};
 ghost use Rattle.byteorder.specs.Endian.{little_bytes};
 
 use byteorder::{ByteOrder, LittleEndian};
@@ -11,6 +11,26 @@ pub fn put_bytes(out: &mut [u8], at: usize, field: &[u8])
     ensures front { take (at + length field.now) out.new ≡ take at out.old ++ field.now }
 {
     out[at..at + field.len()].copy_from_slice(field);
+}
+
+/// Writes a byte at a place.
+pub fn put_u8(out: &mut [u8], at: usize, number: u8)
+    requires { at + 1 ≤ length out.old }
+    ensures whole { out.new ≡ take at out.old ++ (number ∷ []) ++ drop (at + 1) out.old }
+    ensures front { take (at + 1) out.new ≡ take at out.old ++ (number ∷ []) }
+{
+    put_bytes(out, at, &[number]);
+}
+
+/// Writes a little-endian number of two bytes at a place.
+pub fn put_u16(out: &mut [u8], at: usize, number: u16)
+    requires { at + 2 ≤ length out.old }
+    ensures whole { out.new ≡ take at out.old ++ little_bytes 2 number ++ drop (at + 2) out.old }
+    ensures front { take (at + 2) out.new ≡ take at out.old ++ little_bytes 2 number }
+{
+    let mut field = [0; 2];
+    LittleEndian::write_u16(&mut field, number);
+    put_bytes(out, at, &field);
 }
 
 /// Writes a little-endian number of four bytes at a place.

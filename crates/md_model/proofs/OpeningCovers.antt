@@ -1,17 +1,15 @@
 -- An opening covers what was covered.
-use Rattle.std.proofs.Common.{◌≡◌, ℕ, true, sym, ap, ◌∙◌, true≢false, cond}
+use Rattle.std.proofs.Common.{inl, ◌≡◌, ℕ, true, sym, ap, ◌∙◌, true≢false, cond}
 use Rattle.std.specs.Prelude.{Some, nat_lt}
 use Rattle.md_model.specs.Sectors.{Geometry, chunk_of}
 use Rattle.md_model.specs.States.{is_in_sync}
-use Rattle.md_model.specs.Devices.{Super, Stored, AgreeAt, Covered, is_accepted, is_marked}
+use Rattle.md_model.specs.Devices.{Super, Stored, Covered, is_accepted, is_marked}
 use Rattle.md_model.specs.Worlds.{World, IsInSync}
-use Rattle.md_model.specs.Assembly.{IsFreshest, IsFound}
+use Rattle.md_model.specs.Assembly.{IsFound}
+use Rattle.md_model.specs.Stops.{IsFreshestWithAbsent}
 use Rattle.md_model.specs.Openings.{IsOpened, IsOpenedFrom}
+use Rattle.md_model.proofs.Tracked.{agree_as}
 use Rattle.md_model.proofs.Cases.{by_test, is_below, not_below}
-
--- devices with the same sector agree as these do
-pub agree_as : (d e d' e' : Stored) (s : ℕ) → d'.content s ≡ d.content s → e'.content s ≡ e.content s → d'.listed s ≡ d.listed s → e'.listed s ≡ e.listed s → AgreeAt d e s → AgreeAt d' e' s
-agree_as d e d' e' s c c' l l' h off off' = c ∙ h (sym l ∙ off) (sym l' ∙ off') ∙ sym c'
 
 -- the marks of an accepted bitmap are its bits
 pub accepted-bits : (d : Stored) (c : ℕ) → is_accepted d ≡ true → is_marked d c ≡ d.bits c
@@ -24,14 +22,13 @@ own_of g first w o k a = by_test (nat_lt k w.members)
     (λ past. absurd (true≢false (sym a ∙ ap is_in_sync (o.states.past k (not_below k w.members past)))))
 
 module _ (g : Geometry) (left : ℕ → Stored) (first : Super) (w : World) (o : IsOpenedFrom g left first w) where
-  pub freshest_left : IsFreshest left first
-  freshest_left = record {
-    at = o.at o.opened.freshest.at;
-    is = o.super o.opened.freshest.at first o.opened.freshest.is;
+  pub freshest_left : (opened : Super) → IsFreshestWithAbsent opened left first
+  freshest_left opened = record {
+    whose = inl (o.at o.opened.freshest.at, o.super o.opened.freshest.at first o.opened.freshest.is);
     greatest = λ k own e. let x = o.all k own e in o.opened.freshest.greatest x.0 own x.1;
   }
 
-  found : (k : ℕ) → IsInSync w k → IsFound g left first (o.at k)
+  pub found : (k : ℕ) → IsInSync w k → IsFound g left first (o.at k)
   found k a =
       let x = own_of g first w o.opened k a in
       record { own = x.0; is = o.super k x.0 x.1; in_sync = sym (ap is_in_sync (o.opened.states.by_table k x.0 x.1)) ∙ a }

@@ -51,7 +51,7 @@ nobody zero h = absurd (omega arith)
 nobody (suc zero) h = absurd (omega arith)
 nobody (suc (suc k)) h = refl
 
-in_sync_active : (k : ℕ) → IsInSync small_world k → is_active (small_state k) ≡ true
+pub in_sync_active : (k : ℕ) → IsInSync small_world k → is_active (small_state k) ≡ true
 in_sync_active zero a = refl
 in_sync_active (suc zero) a = refl
 in_sync_active (suc (suc k)) a = absurd (true≢false (sym a))

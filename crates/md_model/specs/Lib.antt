@@ -5,3 +5,16 @@ pub mod Worlds
 pub mod Assembly
 pub mod Openings
 pub mod SmallArray
+pub mod Counts
+pub mod Steps
+pub mod Failures
+pub mod Resyncing
+pub mod Events
+pub mod Runs
+pub mod Stops
+pub mod Lives
+pub mod SmallRun
+pub mod Content
+pub mod Behind
+pub mod Returns
+pub mod Fits

@@ -1,11 +1,20 @@
 //! What holds of the definitions alone.
 
-ghost use Rattle.std.specs.Prelude.{◌≡◌, ℕ, ◌<◌, true};
+ghost use Rattle.std.specs.Prelude.{◌≡◌, ℕ, ◌<◌, true, [], ◌∷◌, ◌++◌};
 ghost use Rattle.md_model.specs.Assembly.{IsFound};
+ghost use Rattle.md_model.specs.Behind.{LeavesBehind, MissingBehind};
+ghost use Rattle.md_model.specs.Content.{HasContent, HasContentAlong, KeepsContent};
 ghost use Rattle.md_model.specs.Devices.{Covered, Stored, Super, is_marked};
+ghost use Rattle.md_model.specs.Events.{Event};
+ghost use Rattle.md_model.specs.Fits.{FitsWhenThere, StepsRun};
+ghost use Rattle.md_model.specs.Lives.{Always, IsCovered, Reopens};
 ghost use Rattle.md_model.specs.Openings.{IsOpened, IsOpenedFrom};
+ghost use Rattle.md_model.specs.Returns.{CoversReturns};
+ghost use Rattle.md_model.specs.Runs.{opening};
 ghost use Rattle.md_model.specs.Sectors.{Geometry, chunk_of};
 ghost use Rattle.md_model.specs.SmallArray.{small_geometry, small_super, small_world};
+ghost use Rattle.md_model.specs.SmallRun.{CanRun, beginning, chunk_resynced, data_fails, data_written};
+ghost use Rattle.md_model.specs.Stops.{IsSafeAtStop, KeepsOut, StaysOut};
 ghost use Rattle.md_model.specs.Worlds.{IsInSync, World};
 
 /// The premises on an opening can be met: the mirror of two members does.
@@ -27,4 +36,59 @@ pub fn opening_covers()
         → IsOpenedFrom g left freshest w
         → Covered g left (IsFound g left freshest)
         → Covered g w.stored (IsInSync w) }
+{}
+
+/// No guard is empty: the mirror of two members goes through every event, each failure among them, and is opened again.
+pub fn small_runs()
+    ensures resyncing { CanRun ((beginning ++ data_written) ++ chunk_resynced) }
+    ensures record_fails { CanRun (beginning ++ (Event.RecordFails 1 ∷ [])) }
+    ensures marks_fail { CanRun (beginning ++ (Event.StoreMarksFails 1 0 ∷ [])) }
+    ensures write_fails { CanRun (beginning ++ data_fails) }
+    ensures copy_fails { CanRun ((beginning ++ data_written) ++ (Event.CopyFails 1 1 ∷ [])) }
+    ensures reopens { Reopens small_geometry (small_super 0) (opening small_world) (small_super 0) small_world }
+{}
+
+/// The law of write intent, over every list of events, stops and openings that begins with devices that are covered.
+pub fn every_run()
+    // Wherever two members in sync differ, the marks stored on each of them have the chunk.
+    ensures covered { Always IsCovered }
+
+    // A stop, also in the middle of a data write, leaves devices of which an opening finds only members in sync that were so,
+    // whose marks cover what differs; and all of these, where each has recorded all but the last change.
+    ensures at_stop { Always IsSafeAtStop }
+
+    // Once data was let through, a device that the opening left out is not found in sync beside one that was.
+    ensures keeps_out { Always KeepsOut }
+    ensures stays_out { Always StaysOut }
+
+    // The members in sync hold the array's content, which only the end of a request changes, and a resync or an opening in
+    // chunks that each of them has marked.
+    ensures keeps_content { KeepsContent }
+
+    // A member that was in sync and failed, or was missing at an opening, differs from the content only in marked chunks, as
+    // long as some role is empty.
+    ensures leaves_behind { LeavesBehind }
+    ensures missing_behind { MissingBehind }
+{}
+
+/// There is such a content at an opening of devices that are covered, and it goes along every life.
+pub fn has_content()
+    ensures at_first { HasContent }
+    ensures along { HasContentAlong }
+{}
+
+/// A device that an opening left out may be found in sync again, as long as no data was tried: then the marks cover it too.
+pub fn returning_devices()
+    ensures covered { CoversReturns }
+{}
+
+/// When the next opening's superblock is fit: it is enough that one of its devices is as new as the opening before and as the
+/// last failure, if no two superblocks of that opening were as new and told of other roles.
+pub fn fitness()
+    ensures fits { FitsWhenThere }
+{}
+
+/// A call that is a list of events is a run, from whatever history it is made.
+pub fn whole_calls()
+    ensures run { StepsRun }
 {}

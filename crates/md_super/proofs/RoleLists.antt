@@ -1,9 +1,25 @@
 -- The list of roles.
-use Rattle.std.proofs.Common.{◌≡◌, ℕ, ◌+◌, ◌*◌, List, length}
-use Rattle.std.proofs.lemmas.List.FromFn.{length-map-range_with_len}
-use Rattle.md_format.specs.Fields.{number_at}
+use Rattle.std.proofs.Common.{◌≡◌, ℕ, ◌+◌, ◌*◌, ◌^◌, ◌<◌, List, All, length, ◌∙◌, arith}
+use Rattle.std.specs.List.{flat_map}
+use Rattle.std.proofs.lemmas.List.{ext_get_or}
+use Rattle.std.proofs.lemmas.List.FromFn.{length-map-range_with_len, get_or-map-range_with_len}
+use Rattle.byteorder.specs.Endian.{little_bytes}
+use Rattle.md_format.specs.Fields.{number_at, bytes_at}
+use Rattle.md_super.proofs.Parts.{number_in, number_of_two}
 use Rattle.md_super.specs.Format.{roles_in}
 
 pub length-roles_in : (count : ℕ) (bytes : List ℕ) → length (roles_in count bytes) ≡ count
 unfolding roles_in
 length-roles_in count bytes = length-map-range_with_len (λ i. number_at 2 (256 + 2 * i) bytes) 0 count
+
+-- the roles read back
+pub roles_read_back : (roles bytes : List ℕ) → All (λ role. role < 2 ^ 16) roles → bytes_at (2 * length roles) 256 bytes ≡ flat_map (little_bytes 2) roles → roles_in (length roles) bytes ≡ roles
+unfolding roles_in
+roles_read_back roles bytes fit e =
+    let role : ℕ → ℕ = λ i. number_at 2 (256 + 2 * i) bytes in
+    let long = length-map-range_with_len role 0 (length roles) in
+    ext_get_or 0 _ roles long (λ i h.
+    let within : i < length roles = omega (arith, h, long) in
+    get_or-map-range_with_len role 0 (length roles) i i 0 within (omega arith)
+    ∙ number_in 2 256 (2 * length roles) (2 * i) bytes (flat_map (little_bytes 2) roles) e (omega (arith, within))
+    ∙ number_of_two roles i 0 fit within)

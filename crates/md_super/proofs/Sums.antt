@@ -21,10 +21,10 @@ pub record SummedTo (bytes : List ℕ) (k total : ℕ) : Type 0 where
   pub total_is : total ≡ word_sum bytes k
   pub small : total ≤ k * 0xffffffff
 
-word_at-other : (bytes : List ℕ) (k : ℕ) → (k ≡ 54 → ⊥) → word_at bytes k ≡ number_at 4 (4 * k) bytes
+pub word_at-other : (bytes : List ℕ) (k : ℕ) → (k ≡ 54 → ⊥) → word_at bytes k ≡ number_at 4 (4 * k) bytes
 word_at-other bytes k h = rw (ne_eqb k 54 h) refl
 
-word_at-own : (bytes : List ℕ) (k : ℕ) → k ≡ 54 → word_at bytes k ≡ 0
+pub word_at-own : (bytes : List ℕ) (k : ℕ) → k ≡ 54 → word_at bytes k ≡ 0
 word_at-own bytes k h = rw (eq-eqb k 54 h) refl
 
 pub SummedTo-other : (bytes : List ℕ) (k total word : ℕ) → SummedTo bytes k total → (k ≡ 54 → ⊥) → word ≡ number_at 4 (4 * k) bytes → word < 2 ^ 32 → SummedTo bytes (k + 1) (total + word)

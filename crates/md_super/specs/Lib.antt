@@ -1,7 +1,10 @@
 pub mod Checksum
+pub mod Encoding
 pub mod Faults
+pub mod Fits
 pub mod Format
 pub mod Log
+pub mod Merge
 pub mod Profile
 pub use Rattle.md_format.specs.Fields
 pub use Rattle.md_format.specs.FirstFault

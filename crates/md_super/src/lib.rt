@@ -2,12 +2,15 @@
 #![tactic(auto)]
 
 mod decoding;
+mod encoding;
 mod fault;
+mod groups;
 mod roles;
 mod summing;
 mod superblock;
 
 pub use decoding::decode;
+pub use encoding::encode_member;
 pub use fault::SuperFault;
 pub use roles::{FAULTY, MAX_ROLES, Roles, SPARE};
 pub use summing::checksum;

@@ -1,5 +1,5 @@
 // The roles of an array's devices.
-ghost use Rattle.std.specs.Prelude.{◌≡◌, ◌≤◌, List, ℕ, length};
+ghost use Rattle.std.specs.Prelude.{◌≡◌, ◌<◌, ◌≤◌, List, ℕ, length, set};
 
 use std::marker::Model;
 
@@ -36,11 +36,27 @@ impl Roles {
         Roles { list }
     }
 
+    /// How many roles there are: `max_dev` of `md_p.h`.
+    pub fn max_dev(&self) -> u32
+        ensures value { result ≡ length self.now }
+        ensures few { result ≤ 1920 }
+    {
+        self.list.len() as u32
+    }
+
     /// The list of the roles, by device number.
     pub fn as_slice(&self) -> &[u16]
         ensures { result.now ≡ self.now }
     {
         self.list.as_slice()
+    }
+
+    /// Gives the device with this number another role.
+    pub fn set(&mut self, number: u32, role: u16)
+        requires { number < length self.old }
+        ensures { self.new ≡ set self.old number role }
+    {
+        self.list[number as usize] = role;
     }
 
     /// The list itself. It takes no memory.

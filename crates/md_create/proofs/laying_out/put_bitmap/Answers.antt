@@ -32,8 +32,8 @@ returns-in_err-put g c =
     let left = writes_from h m c.loop-left.left i (omega arith) in
     let total = c.sectors_of_bitmap-left.ensures.sectors ∙ ap bitmap_sectors c.chunks.ensures in
     let stop = stops_in_left g.D.Device.content g.D.Device.honest g.D.Device.failures (bitmap_writes h m c.sectors_of_bitmap-left.result) (bitmap_write h m i ∷ []) (bitmap_writes h m i) c.args.device.now c.loop-left.device c.put.new.device
-        (subst (λ (ws : List Write). AreLeft g.D.Device.content g.D.Device.honest g.D.Device.failures (bitmap_writes h m c.sectors_of_bitmap-left.result) ws c.args.device.now c.loop-left.device) left c.loop-left.invariant.writes)
-        (subst (λ (w : Write). StopsInWrites g.D.Device.content g.D.Device.honest g.D.Device.failures (w ∷ []) c.loop-left.device c.put.new.device) this c.in_err-put.ensures) in
+    (subst (λ (ws : List Write). AreLeft g.D.Device.content g.D.Device.honest g.D.Device.failures (bitmap_writes h m c.sectors_of_bitmap-left.result) ws c.args.device.now c.loop-left.device) left c.loop-left.invariant.writes)
+    (subst (λ (w : Write). StopsInWrites g.D.Device.content g.D.Device.honest g.D.Device.failures (w ∷ []) c.loop-left.device c.put.new.device) this c.in_err-put.ensures) in
     stops_any g.D.Device.content g.D.Device.honest g.D.Device.failures (bitmap_writes h m (bitmap_sectors m.chunks)) c.args.device.now c.put.new.device c.from_residual.result
     (subst (λ (n : ℕ). StopsInWrites g.D.Device.content g.D.Device.honest g.D.Device.failures (bitmap_writes h m n) c.args.device.now c.put.new.device) total stop)
     c.from_residual.ensures.0
@@ -46,4 +46,4 @@ returns g c =
     let none : c.loop-left.left ≡ 0 = omega arith in
     subst (λ (n : ℕ). DoesWrites g.D.Device.content g.D.Device.honest g.D.Device.failures (bitmap_writes h m n) c.args.device.now c.loop-left.device) total
     (none_left g.D.Device.content g.D.Device.honest g.D.Device.failures (bitmap_writes h m c.sectors_of_bitmap-left.result) c.args.device.now c.loop-left.device
-        (subst (λ (n : ℕ). AreLeft g.D.Device.content g.D.Device.honest g.D.Device.failures (bitmap_writes h m c.sectors_of_bitmap-left.result) (bitmap_writes h m n) c.args.device.now c.loop-left.device) none c.loop-left.invariant.writes))
+    (subst (λ (n : ℕ). AreLeft g.D.Device.content g.D.Device.honest g.D.Device.failures (bitmap_writes h m c.sectors_of_bitmap-left.result) (bitmap_writes h m n) c.args.device.now c.loop-left.device) none c.loop-left.invariant.writes))

@@ -1,0 +1,4 @@
+pub mod Freshness
+pub mod Order
+pub mod Places
+pub mod Taken

@@ -1,0 +1,7 @@
+use Rattle.std.proofs.Common.{ℕ, ◌<◌}
+use Rattle.md_assembly.specs.Faults.{IsStranger}
+use Rattle.md_assembly.specs.Listed.{PairAt}
+use Rattle.md_assembly.proofs.checks.check_sets.Given as goal
+
+abbrev pub invariant-loop-i : goal.invariant-loop-i
+invariant-loop-i l = (k : ℕ) → k < l.i → PairAt IsStranger l.members 0 k → ⊥

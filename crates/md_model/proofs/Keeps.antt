@@ -1,0 +1,220 @@
+-- Every event keeps the invariant.
+use Rattle.std.proofs.Common.{◌≡◌, ℕ, ◌<◌, ◌+◌, ◌↔◌, Bool, true, false, cond, ◌&&◌, ◌||◌, ◌⊎◌, inr, ⊎_elim, refl, sym, ap, ◌∙◌, subst, eqb, true≢false, arith, List, [], ◌∷◌}
+use Rattle.std.specs.Prelude.{Some, None, nat_lt}
+use Rattle.md_model.specs.Sectors.{Geometry, put}
+use Rattle.md_model.specs.States.{State, is_recorded, is_in_sync}
+use Rattle.md_model.specs.Devices.{Super, Stored}
+use Rattle.md_model.specs.Worlds.{Request, World, IsInFlight}
+use Rattle.md_model.specs.Counts.{role_at_rise, risen, risen_if, HasToRise}
+use Rattle.md_model.specs.Steps.{begun, with_device, super_for, recorded, recorded_device, marked_device, marks_stored, written_device, member_written, MayBegin, MayWrite}
+use Rattle.md_model.specs.Failures.{failed, MayFail, LeftBySuper}
+use Rattle.md_model.specs.Resyncing.{copied_device, copied}
+use Rattle.md_model.specs.Events.{Event, Fails, Step}
+use Rattle.md_model.specs.Openings.{IsSmall}
+use Rattle.md_model.specs.Runs.{History, failed_after, tried_after, then_in, Run}
+use Rattle.md_model.proofs.Cases.{by_test, none_some, is_below, not_below}
+use Rattle.md_model.proofs.Puts.{put-same, put-hit, put-twice}
+use Rattle.md_model.proofs.Tracked.{IsTracked, tracked_fewer}
+use Rattle.md_model.proofs.TrackedSteps.{fewer_recorded, fewer_failed, tracked_risen, tracked_entered, tracked_finished, tracked_unmarked, tracked_marks_stored, tracked_written, other_flights}
+use Rattle.md_model.proofs.TrackedCalls.{tracked_copied, tracked_resynced, tracked_made_clean}
+use Rattle.md_model.proofs.Recorded.{book_of, IsRecorded, recorded_in_sync}
+use Rattle.md_model.proofs.RecordedSteps.{absent_none, recorded_risen, recorded_recorded, recorded_without}
+
+-- while a request is in flight, no absent device has a role
+abbrev pub IsAlone : Geometry → World → Type 0
+IsAlone g w = (n : ℕ) (p : Request) (d : ℕ) → IsInFlight w n p → w.present d ≡ false → w.role d < g.raid_disks → ⊥
+
+pub record IsKept (g : Geometry) (opened : Super) (h : History) : Type 0 where
+  pub tracked : IsTracked g h.now
+  pub recorded : IsRecorded g opened h.failed_at h.tried (book_of h.now)
+  pub alone : IsAlone g h.now
+
+-- a request may begin after the rise, if it may before
+pub begin_after : (g : Geometry) (w : World) (n : ℕ) (p : Request) (rises full : Bool) → MayBegin g w n p → MayBegin g (risen_if g w rises full) n p
+begin_after g w n p true full m = record { resynced = m.resynced; new = m.new; apart = m.apart; some = m.some; inside = m.inside; unwritten = m.unwritten }
+begin_after g w n p false full m = m
+
+module _ (g : Geometry) (small : IsSmall g) where
+  fails_tracked : (w : World) (k : ℕ) (left : Stored) (w' : World) → Fails g w k left w' → IsTracked g w → IsTracked g w'
+  fails_tracked w k left w' f t = subst (IsTracked g) (sym f.3) (tracked_fewer g w (failed g (with_device w k left) k f.0) (fewer_failed g w k left f.0) t)
+
+  rise_tracked : (w : World) (rises full : Bool) → IsTracked g w → IsTracked g (risen_if g w rises full)
+  rise_tracked w true full t = tracked_risen g w full t
+  rise_tracked w false full t = t
+
+  tracked_step : (w : World) (e : Event) (w' : World) → IsTracked g w → Step g w e w' → IsTracked g w'
+  tracked_step w (Event.Begin n p) w' t s = subst (IsTracked g) (sym s.5)
+      (tracked_entered g (risen_if g w s.0 s.1) n p small.wide (begin_after g w n p s.0 s.1 s.2) (rise_tracked w s.0 s.1 t))
+  tracked_step w (Event.Record k) w' t s = subst (IsTracked g) (sym s.1) (tracked_fewer g w (recorded w k) (fewer_recorded w k) t)
+  tracked_step w (Event.StoreMarks k b) w' t s = subst (IsTracked g) (sym s.1) (tracked_marks_stored g w k b t)
+  tracked_step w (Event.WriteMember n k) w' t s = subst (IsTracked g) (sym s.2) (tracked_written g w n s.0 k s.1 t)
+  tracked_step w (Event.Finish n) w' t s = subst (IsTracked g) (sym s.2) (tracked_finished g w n s.0 s.1 t)
+  tracked_step w (Event.ClearIdle c) w' t s = subst (IsTracked g) (sym s.1) (tracked_unmarked g w c s.0 t)
+  tracked_step w (Event.Fail k) w' t s = fails_tracked w k (w.stored k) w' s.1 t
+  tracked_step w (Event.RecordFails k) w' t s = fails_tracked w k s.0 w' s.2 t
+  tracked_step w (Event.StoreMarksFails k b) w' t s = fails_tracked w k s.0 w' s.3 t
+  tracked_step w (Event.WriteMemberFails n k) w' t s = fails_tracked w k s.0 w' s.4 t
+  tracked_step w (Event.CopyFails k c) w' t s = fails_tracked w k s.0 w' s.4 t
+  tracked_step w (Event.Copy from k x) w' t s = subst (IsTracked g) (sym s.1) (tracked_copied g w from k x s.0 t)
+  tracked_step w Event.Resynced w' t s = subst (IsTracked g) (sym s.1) (tracked_resynced g w true s.0.idle (λ _. s.0.agree) t)
+  tracked_step w Event.Unresynced w' t s = subst (IsTracked g) (sym s.1) (tracked_resynced g w false s.0 (λ r. absurd (true≢false (sym r))) t)
+  tracked_step w Event.MakeClean w' t s = subst (IsTracked g) (sym s.3) (tracked_made_clean g w s.0 t)
+
+module _ (g : Geometry) (small : IsSmall g) (opened : Super) where
+  abbrev Records : ℕ → Bool → World → Type 0
+  Records failed_at tried w = IsRecorded g opened failed_at tried (book_of w)
+
+  -- the same superblocks
+  same_supers : (failed_at : ℕ) (tried : Bool) (w : World) (stored : ℕ → Stored) → ((j : ℕ) → (stored j).super ≡ (w.stored j).super)
+      → Records failed_at tried w → Records failed_at tried (record w { stored = stored })
+  same_supers failed_at tried w stored same = subst (IsRecorded g opened failed_at tried) (λ i. record (book_of w) { super = λ k. sym (same k) i })
+
+  -- Data was let through: each member in sync has recorded the absence of those that had a role.
+  pub tried_now : (failed_at : ℕ) (tried : Bool) (w : World) (n : ℕ) (p : Request) (k : ℕ) → MayWrite g w n p k → IsAlone g w
+      → Records failed_at tried w → Records failed_at true w
+  tried_now failed_at tried w n p k may alone r =
+      record {
+        number = r.number;
+        below = r.below;
+        later = r.later;
+        has_super = r.has_super;
+        entries = r.entries;
+        present = r.present;
+        distinct = r.distinct;
+        by_memory = r.by_memory;
+        by_opening = r.by_opening;
+        by_super = r.by_super;
+        stale = r.stale;
+        recovering = r.recovering;
+        clear = r.clear;
+        in_memory = r.in_memory;
+        in_opening = r.in_opening;
+        in_super = r.in_super;
+        unrisen = r.unrisen;
+        out_memory = r.out_memory;
+        out_super = r.out_super;
+        current = r.current;
+        some_in = r.some_in;
+        out_tried = λ d _ off low j own a e.
+            let is : own.events ≡ w.events = r.current j own (recorded_in_sync (w.state j) a) (may.recorded j a) e in
+            let up : opened.events < w.events = by_test (nat_lt opened.events w.events) (is_below opened.events w.events)
+            (λ at. absurd (alone n p d may.in_flight off (subst (λ x. x < g.raid_disks) (sym (r.unrisen (not_below opened.events w.events at) d)) low))) in
+            omega arith;
+      }
+
+  may_fail_risen : (w v : World) (k : ℕ) → v.state ≡ w.state → MayFail w k → MayFail v k
+  may_fail_risen w v k same may = record {
+    in_use = ap (λ (f : ℕ → State). is_recorded (f k)) same ∙ may.in_use;
+    other = may.other;
+    apart = may.apart;
+    in_sync = ap (λ (f : ℕ → State). is_in_sync (f may.other)) same ∙ may.in_sync;
+  }
+
+  -- a member fails, whose device has the superblock that it had, or none
+  fails_recorded : (w : World) (k : ℕ) (left : Stored) (w' : World) (failed_at : ℕ) (tried : Bool)
+      → ((own : Super) → left.super ≡ Some own → (w.stored k).super ≡ Some own)
+      → Fails g w k left w' → Records failed_at tried w → Records w'.events tried w'
+  fails_recorded w k left w' failed_at tried from f r = subst (λ v. Records v.events tried v) (sym f.3)
+      (recorded_without g small.few opened failed_at tried (risen g w f.0) k left from
+      (λ j own e. let h = r.below j own e in let t : own.events < w.events + 1 = omega arith in t)
+      (let h = r.later in let t : opened.events < w.events + 1 = omega arith in t)
+      (may_fail_risen w (risen g w f.0) k refl f.1) (recorded_risen g small.few opened failed_at tried w f.0 r))
+
+  -- or the one that was being written: then it fails as after a record
+  module _ (w : World) (k : ℕ) (left : Stored) (full : Bool) (tried : Bool) where
+    abbrev after_record : World
+    after_record = failed g (with_device (recorded w k) k left) k full
+
+    not_due : (j : ℕ) → put k false (λ i. is_recorded (w.state i) || put k false w.due i) j ≡ put k false (λ i. is_recorded (w.state i) || w.due i) j
+    not_due j = by_test (eqb j k)
+        (λ at. ap (λ b. cond b false (is_recorded (w.state j) || cond b false (w.due j))) at ∙ sym (ap (λ b. cond b false (is_recorded (w.state j) || w.due j)) at))
+        (λ off. ap (λ b. cond b false (is_recorded (w.state j) || cond b false (w.due j))) off ∙ sym (ap (λ b. cond b false (is_recorded (w.state j) || w.due j)) off))
+
+    as_unrecorded : Records (w.events + 1) tried after_record → Records (w.events + 1) tried (failed g (with_device w k left) k full)
+    as_unrecorded = subst (IsRecorded g opened (w.events + 1) tried) (λ i. record (book_of (failed g (with_device w k left) k full)) {
+      super = λ j. (put-twice k left (recorded_device w k) w.stored j i).super;
+      due = λ j. not_due j i;
+    })
+
+    fails_at_end : (failed_at : ℕ) → left.super ≡ Some (super_for w k) → MayFail w k → Records failed_at tried (recorded w k) → Records (w.events + 1) tried after_record
+    fails_at_end failed_at new may r = recorded_without g small.few opened failed_at tried (risen g (recorded w k) full) k left
+        (λ own e. ap (λ (d : Stored). d.super) (put-hit k (recorded_device w k) w.stored) ∙ sym new ∙ e)
+        (λ j own e. let h = r.below j own e in let t : own.events < w.events + 1 = omega arith in t)
+        (let h = r.later in let t : opened.events < w.events + 1 = omega arith in t)
+        (may_fail_risen w (risen g (recorded w k) full) k refl may) (recorded_risen g small.few opened failed_at tried (recorded w k) full r)
+
+  record_fails : (w : World) (k : ℕ) (left : Stored) (w' : World) (failed_at : ℕ) (tried : Bool)
+      → LeftBySuper w k left → Fails g w k left w' → Records failed_at tried w → Records w'.events tried w'
+  record_fails w k left w' failed_at tried l f r = ⊎_elim
+      (λ (same : left.super ≡ (w.stored k).super). fails_recorded w k left w' failed_at tried (λ own e. sym same ∙ e) f r)
+      (λ (x : (left.super ≡ Some (super_for w k)) ⊎ (left.super ≡ None)). ⊎_elim
+      (λ (new : left.super ≡ Some (super_for w k)). subst (λ v. Records v.events tried v) (sym f.3)
+      (as_unrecorded w k left f.0 tried (fails_at_end w k left f.0 tried failed_at new f.1
+      (recorded_recorded g small.few opened failed_at tried w k f.1.in_use r))))
+      (λ (lost : left.super ≡ None). fails_recorded w k left w' failed_at tried (λ own e. absurd (none_some own (sym lost ∙ e))) f r)
+      x)
+      l.super
+
+  rise_recorded : (w : World) (n : ℕ) (p : Request) (rises full : Bool) (failed_at : ℕ) (tried : Bool) → Records failed_at tried w → Records failed_at tried (begun g w n p rises full)
+  rise_recorded w n p true full failed_at tried r = recorded_risen g small.few opened failed_at tried w full r
+  rise_recorded w n p false full failed_at tried r = r
+
+  recorded_step : (h : History) (e : Event) (w' : World) → IsKept g opened h → Step g h.now e w' → Records (failed_after e w' h.failed_at) (tried_after e h.tried) w'
+  recorded_step h (Event.Begin n p) w' t s = subst (Records h.failed_at h.tried) (sym s.5) (rise_recorded h.now n p s.0 s.1 h.failed_at h.tried t.recorded)
+  recorded_step h (Event.Record k) w' t s = subst (Records h.failed_at h.tried) (sym s.1) (recorded_recorded g small.few opened h.failed_at h.tried h.now k s.0 t.recorded)
+  recorded_step h (Event.StoreMarks k b) w' t s = subst (Records h.failed_at h.tried) (sym s.1)
+      (same_supers h.failed_at h.tried h.now (marks_stored h.now k b).stored (λ j. put-same (λ d. d.super) k (marked_device h.now k b) h.now.stored j refl) t.recorded)
+  recorded_step h (Event.WriteMember n k) w' t s = subst (Records h.failed_at true) (sym s.2)
+      (same_supers h.failed_at true h.now (member_written h.now n s.0 k).stored (λ j. put-same (λ d. d.super) k (written_device h.now k s.0) h.now.stored j refl)
+      (tried_now h.failed_at h.tried h.now n s.0 k s.1 t.alone t.recorded))
+  recorded_step h (Event.Finish n) w' t s = subst (Records h.failed_at h.tried) (sym s.2) t.recorded
+  recorded_step h (Event.ClearIdle c) w' t s = subst (Records h.failed_at h.tried) (sym s.1) t.recorded
+  recorded_step h (Event.Fail k) w' t s = fails_recorded h.now k (h.now.stored k) w' h.failed_at h.tried (λ own e. e) s.1 t.recorded
+  recorded_step h (Event.RecordFails k) w' t s = record_fails h.now k s.0 w' h.failed_at h.tried s.1 s.2 t.recorded
+  recorded_step h (Event.StoreMarksFails k b) w' t s =
+      fails_recorded h.now k s.0 w' h.failed_at h.tried (λ own e. sym (ap (λ (d : Stored). d.super) s.2.rest) ∙ e) s.3 t.recorded
+  recorded_step h (Event.WriteMemberFails n k) w' t s =
+      fails_recorded h.now k s.0 w' h.failed_at true (λ own e. sym (ap (λ (d : Stored). d.super) s.3.rest) ∙ e) s.4
+      (tried_now h.failed_at h.tried h.now n s.1 k s.2 t.alone t.recorded)
+  recorded_step h (Event.CopyFails k c) w' t s =
+      fails_recorded h.now k s.0 w' h.failed_at h.tried (λ own e. sym (ap (λ (d : Stored). d.super) s.3.rest) ∙ e) s.4 t.recorded
+  recorded_step h (Event.Copy from k x) w' t s = subst (Records h.failed_at h.tried) (sym s.1)
+      (same_supers h.failed_at h.tried h.now (copied h.now from k x).stored (λ j. put-same (λ d. d.super) k (copied_device h.now from k x) h.now.stored j refl) t.recorded)
+  recorded_step h Event.Resynced w' t s = subst (Records h.failed_at h.tried) (sym s.1) t.recorded
+  recorded_step h Event.Unresynced w' t s = subst (Records h.failed_at h.tried) (sym s.1) t.recorded
+  recorded_step h Event.MakeClean w' t s = subst (Records h.failed_at h.tried) (sym s.3) (recorded_risen g small.few opened h.failed_at h.tried h.now s.0 t.recorded)
+
+  -- a failure takes no role to an absent device
+  fails_alone : (w : World) (k : ℕ) (left : Stored) (w' : World) → Fails g w k left w' → IsAlone g w'
+  fails_alone w k left w' f = subst (IsAlone g) (sym f.3)
+      (λ n p d _ off. by_test (eqb d (w.number k) && nat_lt d w.entries)
+      (λ at low. let t : 65534 < g.raid_disks = subst (λ x. x < g.raid_disks) (ap (λ b. cond b 65534 (role_at_rise g w d)) at) low in let few = small.few in omega arith)
+      (λ no_entry low. absent_none g w d small.few off (subst (λ x. x < g.raid_disks) (ap (λ b. cond b 65534 (role_at_rise g w d)) no_entry) low)))
+
+  begun_alone : (w : World) (n : ℕ) (p : Request) (rises full : Bool) → ((rises ≡ true) ↔ HasToRise g w) → IsAlone g (begun g w n p rises full)
+  begun_alone w n p true full needed m q d e off low = absent_none g w d small.few off low
+  begun_alone w n p false full needed m q d e off low = true≢false (sym (needed.1 (inr (d, low, off))))
+
+  alone_step : (w : World) (e : Event) (w' : World) → IsAlone g w → Step g w e w' → IsAlone g w'
+  alone_step w (Event.Begin n p) w' t s = subst (IsAlone g) (sym s.5) (begun_alone w n p s.0 s.1 s.3)
+  alone_step w (Event.Record k) w' t s = subst (IsAlone g) (sym s.1) t
+  alone_step w (Event.StoreMarks k b) w' t s = subst (IsAlone g) (sym s.1) t
+  alone_step w (Event.WriteMember n k) w' t s = subst (IsAlone g) (sym s.2) (λ _ _ d _. t n s.0 d s.1.in_flight)
+  alone_step w (Event.Finish n) w' t s = subst (IsAlone g) (sym s.2) (λ m q d e. t m q d (other_flights w n m q e).1)
+  alone_step w (Event.ClearIdle c) w' t s = subst (IsAlone g) (sym s.1) t
+  alone_step w (Event.Fail k) w' t s = fails_alone w k (w.stored k) w' s.1
+  alone_step w (Event.RecordFails k) w' t s = fails_alone w k s.0 w' s.2
+  alone_step w (Event.StoreMarksFails k b) w' t s = fails_alone w k s.0 w' s.3
+  alone_step w (Event.WriteMemberFails n k) w' t s = fails_alone w k s.0 w' s.4
+  alone_step w (Event.CopyFails k c) w' t s = fails_alone w k s.0 w' s.4
+  alone_step w (Event.Copy from k x) w' t s = subst (IsAlone g) (sym s.1) t
+  alone_step w Event.Resynced w' t s = subst (IsAlone g) (sym s.1) t
+  alone_step w Event.Unresynced w' t s = subst (IsAlone g) (sym s.1) t
+  alone_step w Event.MakeClean w' t s = subst (IsAlone g) (sym s.3) (λ m q d e. absurd (none_some q (sym (s.1.idle m) ∙ e)))
+
+  pub kept_step : (h : History) (e : Event) (w' : World) → IsKept g opened h → Step g h.now e w' → IsKept g opened (then_in h e w')
+  kept_step h e w' t s = record { tracked = tracked_step g small h.now e w' t.tracked s; recorded = recorded_step h e w' t s; alone = alone_step h.now e w' t.alone s }
+
+  pub kept_run : (es : List Event) (h last : History) → IsKept g opened h → Run g h es last → IsKept g opened last
+  kept_run [] h last t r = subst (IsKept g opened) (sym r) t
+  kept_run (e ∷ es) h last t r = kept_run es (then_in h e r.0) last (kept_step h e r.0 t r.1) r.2

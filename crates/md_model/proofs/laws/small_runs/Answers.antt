@@ -1,0 +1,12 @@
+use Rattle.md_model.proofs.SmallRun.{can_resync, can_fail_record, can_fail_marks, can_fail_data, can_fail_copy, reopens}
+use Rattle.md_model.proofs.laws.small_runs.Goals as goal
+
+pub returns : goal.returns
+returns c = record {
+  resyncing = can_resync;
+  record_fails = can_fail_record;
+  marks_fail = can_fail_marks;
+  write_fails = can_fail_data;
+  copy_fails = can_fail_copy;
+  reopens = reopens;
+}

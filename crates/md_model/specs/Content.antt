@@ -1,0 +1,88 @@
+-- The array's own content: what a reader is to get. No device and no memory has it; it goes along with the events.
+use Rattle.std.specs.Prelude.{◌≡◌, ℕ, ◌<◌, ◌⊎◌, true, false, cond, List, [], ◌∷◌, Option, Some, None}
+use Rattle.md_model.specs.Sectors.{Geometry, chunk_of}
+use Rattle.md_model.specs.Devices.{Super}
+use Rattle.md_model.specs.Worlds.{Request, touches, World, IsInSync, IsQuiet}
+use Rattle.md_model.specs.Events.{Event, Step}
+use Rattle.md_model.specs.Runs.{History, then_in, opening, IsStart}
+use Rattle.md_model.specs.Lives.{Reopens, Life}
+
+-- each sector's bytes
+abbrev pub Content : Type 0
+Content = ℕ → List ℕ
+
+-- with the bytes of a request
+abbrev pub with_request : Option Request → Content → Content
+with_request None a s = a s
+with_request (Some p) a s = cond (touches p s) (p.bytes s) (a s)
+
+-- A resync settles it: it is what the members in sync hold. It was so already, unless each of them has the chunk's mark.
+pub record IsSettled (g : Geometry) (w : World) (a b : Content) : Type 0 where
+  pub held : (k s : ℕ) → s < g.size → IsInSync w k → (w.stored k).listed s ≡ false → (w.stored k).content s ≡ b s
+  pub unmarked : (s : ℕ) → s < g.size → w.marks (chunk_of g s) ≡ false → b s ≡ a s
+  pub unmarked_on : (i s : ℕ) → s < g.size → IsInSync w i → (w.stored i).bits (chunk_of g s) ≡ false → b s ≡ a s
+  pub same : w.resynced ≡ true → (s : ℕ) → s < g.size → b s ≡ a s
+
+-- by an event that happens in this world it goes from the one to the other: only a request's end and a resync change it
+abbrev pub Becomes : Geometry → Event → World → Content → Content → Type 0
+Becomes g (Event.Finish n) w a b = b ≡ with_request (w.request n) a
+Becomes g Event.Resynced w a b = IsSettled g w a b
+Becomes g e w a b = b ≡ a
+
+-- A member in sync holds it in each sector that it does not list, that no request in flight touches and, while the array is not
+-- resynced, whose chunk has no mark in memory.
+abbrev pub HoldsAtRest : Geometry → Content → World → Type 0
+HoldsAtRest g a w =
+    (k s : ℕ) → s < g.size → IsInSync w k → (w.stored k).listed s ≡ false → IsQuiet w s
+    → (w.resynced ≡ true) ⊎ (w.marks (chunk_of g s) ≡ false) → (w.stored k).content s ≡ a s
+
+-- and in each sector whose chunk has no bit in the bitmap of one of them
+abbrev pub HoldsUnmarked : Geometry → Content → World → Type 0
+HoldsUnmarked g a w =
+    (i k s : ℕ) → s < g.size → IsInSync w i → IsInSync w k → (w.stored k).listed s ≡ false
+    → (w.stored i).bits (chunk_of g s) ≡ false → (w.stored k).content s ≡ a s
+
+pub record Holds (g : Geometry) (a : Content) (w : World) : Type 0 where
+  pub at_rest : HoldsAtRest g a w
+  pub unmarked : HoldsUnmarked g a w
+
+-- an opening may change it where each member that is found in sync has the chunk's mark, and nowhere else
+pub record BecomesAtOpening (g : Geometry) (next : World) (a b : Content) : Type 0 where
+  pub holds : Holds g b next
+  pub unmarked : (i s : ℕ) → s < g.size → IsInSync next i → (next.stored i).bits (chunk_of g s) ≡ false → b s ≡ a s
+
+-- a run in which something holds before each event, with the content before it and after it
+abbrev pub RunWith : Geometry → (World → Type 0) → History → Content → List Event → History → Content → Type 0
+RunWith g Still h a [] last b = (last ≡ h) × (b ≡ a)
+RunWith g Still h a (e ∷ es) last b =
+    (w : World) × (c : Content) × Still h.now × Step g h.now e w × Becomes g e h.now a c × RunWith g Still (then_in h e w) c es last b
+
+-- a life, likewise, from any moment on
+abbrev pub LifeWith : Geometry → (World → Type 0) → Super → History → Content → List Event → List (List Event) → Super → History → Content → Type 0
+LifeWith g Still opened h a es [] final last b = (final ≡ opened) × RunWith g Still h a es last b
+LifeWith g Still opened h a es (more ∷ rest) final last b =
+    (mid : History) × (c : Content) × (first : Super) × (next : World) × (d : Content)
+    × RunWith g Still h a es mid c × Reopens g opened mid first next × BecomesAtOpening g next c d
+    × LifeWith g Still first (opening next) d more rest final last b
+
+abbrev pub Anyhow : World → Type 0
+Anyhow w = true ≡ true
+
+-- the members in sync hold the content at every moment, if they did at the first
+abbrev pub KeepsContent : Type 0
+KeepsContent =
+    (g : Geometry) (opened : Super) (w : World) (a : Content) → IsStart g opened w → Holds g a w
+    → (es : List Event) (rest : List (List Event)) (final : Super) (last : History) (b : Content)
+    → LifeWith g Anyhow opened (opening w) a es rest final last b
+    → Holds g b last.now
+
+-- at an opening of devices that are covered there is such a content
+abbrev pub HasContent : Type 0
+HasContent = (g : Geometry) (opened : Super) (w : World) → IsStart g opened w → (a : Content) × Holds g a w
+
+-- and it goes along every life
+abbrev pub HasContentAlong : Type 0
+HasContentAlong =
+    (g : Geometry) (opened : Super) (w : World) (a : Content) → IsStart g opened w → Holds g a w
+    → (es : List Event) (rest : List (List Event)) (final : Super) (last : History) → Life g opened w es rest final last
+    → (b : Content) × LifeWith g Anyhow opened (opening w) a es rest final last b

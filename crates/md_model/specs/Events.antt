@@ -1,0 +1,53 @@
+-- What may happen to an array.
+use Rattle.std.specs.Prelude.{◌≡◌, ℕ, ◌↔◌, Bool, true, false}
+use Rattle.md_model.specs.Sectors.{Geometry}
+use Rattle.md_model.specs.States.{is_active, is_recorded}
+use Rattle.md_model.specs.Devices.{Stored}
+use Rattle.md_model.specs.Worlds.{Request, World, IsInSync}
+use Rattle.md_model.specs.Counts.{HasToRise, IsFull}
+use Rattle.md_model.specs.Steps.{with_device, begun, recorded, marks_stored, member_written, finished, unmarked, MayBegin, MayWrite, MayFinish, MayClear}
+use Rattle.md_model.specs.Failures.{failed, MayFail, LeftBySuper, LeftByMarks, LeftByData, LeftByCopy}
+use Rattle.md_model.specs.Resyncing.{copied, made_resynced, made_clean, IsIdle, MayCopyChunk, MayCopy, MayResync, MayStop}
+
+pub data Event : Type 0 where
+  -- the steps
+  Begin : (n : ℕ) (p : Request) → Event
+  Record : (k : ℕ) → Event
+  StoreMarks : (k b : ℕ) → Event
+  WriteMember : (n k : ℕ) → Event
+  Finish : (n : ℕ) → Event
+  ClearIdle : (c : ℕ) → Event
+  -- member k fails, by a call or by a write to it
+  Fail : (k : ℕ) → Event
+  RecordFails : (k : ℕ) → Event
+  StoreMarksFails : (k b : ℕ) → Event
+  WriteMemberFails : (n k : ℕ) → Event
+  CopyFails : (k c : ℕ) → Event
+  -- of resync and stop
+  Copy : (from k s : ℕ) → Event
+  Resynced : Event
+  Unresynced : Event
+  MakeClean : Event
+
+-- Member k fails, and its device is by then as left. Whether the array is full after that is known.
+abbrev pub Fails : Geometry → World → ℕ → Stored → World → Type 0
+Fails g w k left w' = (full : Bool) × MayFail w k × ((full ≡ true) ↔ IsFull g w') × (w' ≡ failed g (with_device w k left) k full)
+
+-- the event may happen in the first world, and give the second
+abbrev pub Step : Geometry → World → Event → World → Type 0
+Step g w (Event.Begin n p) w' =
+    (rises full : Bool) × MayBegin g w n p × ((rises ≡ true) ↔ HasToRise g w) × ((full ≡ true) ↔ IsFull g w') × (w' ≡ begun g w n p rises full)
+Step g w (Event.Record k) w' = (is_recorded (w.state k) ≡ true) × (w' ≡ recorded w k)
+Step g w (Event.StoreMarks k b) w' = IsInSync w k × (w' ≡ marks_stored w k b)
+Step g w (Event.WriteMember n k) w' = (p : Request) × MayWrite g w n p k × (w' ≡ member_written w n p k)
+Step g w (Event.Finish n) w' = (p : Request) × MayFinish w n p × (w' ≡ finished w n)
+Step g w (Event.ClearIdle c) w' = MayClear g w c × (w' ≡ unmarked w c)
+Step g w (Event.Fail k) w' = (is_active (w.state k) ≡ true) × Fails g w k (w.stored k) w'
+Step g w (Event.RecordFails k) w' = (left : Stored) × LeftBySuper w k left × Fails g w k left w'
+Step g w (Event.StoreMarksFails k b) w' = (left : Stored) × IsInSync w k × LeftByMarks w k b left × Fails g w k left w'
+Step g w (Event.WriteMemberFails n k) w' = (left : Stored) × (p : Request) × MayWrite g w n p k × LeftByData w k p left × Fails g w k left w'
+Step g w (Event.CopyFails k c) w' = (left : Stored) × IsInSync w k × MayCopyChunk w c × LeftByCopy g w k c left × Fails g w k left w'
+Step g w (Event.Copy from k s) w' = MayCopy g w from k s × (w' ≡ copied w from k s)
+Step g w Event.Resynced w' = MayResync w × (w' ≡ made_resynced w true)
+Step g w Event.Unresynced w' = IsIdle w × (w' ≡ made_resynced w false)
+Step g w Event.MakeClean w' = (full : Bool) × MayStop w × ((full ≡ true) ↔ IsFull g w') × (w' ≡ made_clean g w full)

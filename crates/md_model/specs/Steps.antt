@@ -1,0 +1,102 @@
+-- The mirror's steps: what each asks, and what it changes. Each writes one device at most.
+use Rattle.std.specs.Prelude.{◌≡◌, ◌≢◌, ℕ, ◌+◌, ◌-◌, ◌<◌, ◌≤◌, Bool, true, false, cond, ◌&&◌, ◌||◌, leb, eqb, Option, Some, None}
+use Rattle.md_model.specs.Sectors.{Geometry, chunk_of, block_of, put}
+use Rattle.md_model.specs.Devices.{Super, Stored}
+use Rattle.md_model.specs.Worlds.{Request, touches, World, IsInSync, IsInFlight}
+use Rattle.md_model.specs.Counts.{risen_if, IsFull}
+
+-- the device of a member, anew
+abbrev pub with_device : World → ℕ → Stored → World
+with_device w k d = record w { stored = put k d w.stored }
+
+-- begin: the request is entered, its chunks are marked in memory, and the array is active
+abbrev pub touches_chunk : Geometry → Request → ℕ → Bool
+touches_chunk g p c = leb (chunk_of g p.start) c && leb c (chunk_of g ((p.start + p.sectors) - 1))
+
+abbrev pub entered : Geometry → World → ℕ → Request → World
+entered g w n p =
+    record w {
+      request = put n (Some p) w.request;
+      marks = λ c. w.marks c || touches_chunk g p c;
+      clean = false;
+    }
+
+abbrev pub begun : Geometry → World → ℕ → Request → Bool → Bool → World
+begun g w n p rises full = entered g (risen_if g w rises full) n p
+
+pub record MayBegin (g : Geometry) (w : World) (n : ℕ) (p : Request) : Type 0 where
+  pub resynced : w.resynced ≡ true
+  pub new : w.request n ≡ None
+  pub apart : (m : ℕ) (q : Request) → IsInFlight w m q → (s : ℕ) → touches q s ≡ true → touches p s ≡ false
+  pub some : 0 < p.sectors
+  pub inside : p.start + p.sectors ≤ g.size
+  pub unwritten : (d : ℕ) → p.written d ≡ false
+
+-- record: a member's superblock is stored, with its own bit 2 of the feature map as before
+abbrev pub has_bit : Option Super → Bool
+has_bit None = false
+has_bit (Some own) = own.recovering
+
+abbrev pub super_for : World → ℕ → Super
+super_for w k =
+    record { number = w.number k; events = w.events; role = w.role; recovering = has_bit (w.stored k).super }
+
+abbrev pub recorded_device : World → ℕ → Stored
+recorded_device w k = record (w.stored k) { super = Some (super_for w k) }
+
+abbrev pub recorded : World → ℕ → World
+recorded w k = record w { stored = put k (recorded_device w k) w.stored; due = put k false w.due }
+
+-- store_marks: one sector of a member's bitmap is stored, as the marks in memory are. The first one has the header
+abbrev pub bits_after : World → ℕ → (ℕ → Bool) → ℕ → Bool
+bits_after w b bits c = cond (eqb (block_of c) b) (w.marks c) (bits c)
+
+abbrev pub marked_device : World → ℕ → ℕ → Stored
+marked_device w k b =
+    record (w.stored k) {
+      bits = bits_after w b (w.stored k).bits;
+      bitmap_events = cond (eqb b 0) w.events (w.stored k).bitmap_events;
+      bitmap_fits = cond (eqb b 0) true (w.stored k).bitmap_fits;
+    }
+
+abbrev pub marks_stored : World → ℕ → ℕ → World
+marks_stored w k b =
+    record w { stored = put k (marked_device w k b) w.stored; known = put k (bits_after w b (w.known k)) w.known }
+
+-- write_member: a member gets a request's bytes
+abbrev pub written_device : World → ℕ → Request → Stored
+written_device w k p = record (w.stored k) { content = λ s. cond (touches p s) (p.bytes s) ((w.stored k).content s) }
+
+abbrev pub member_written : World → ℕ → Request → ℕ → World
+member_written w n p k =
+    record w {
+      stored = put k (written_device w k p) w.stored;
+      request = put n (Some (record p { written = put (w.number k) true p.written })) w.request;
+    }
+
+-- Data comes last: by then each member in sync has the request's marks stored, accepted or not, and its superblock too.
+pub record MayWrite (g : Geometry) (w : World) (n : ℕ) (p : Request) (k : ℕ) : Type 0 where
+  pub in_flight : IsInFlight w n p
+  pub in_sync : IsInSync w k
+  pub marked : (j s : ℕ) → IsInSync w j → touches p s ≡ true → w.known j (chunk_of g s) ≡ true
+  pub recorded : (j : ℕ) → IsInSync w j → w.due j ≡ false
+  pub unwritten : p.written (w.number k) ≡ false
+
+-- finish: a request leaves that every member in sync has
+abbrev pub finished : World → ℕ → World
+finished w n = record w { request = put n None w.request }
+
+pub record MayFinish (w : World) (n : ℕ) (p : Request) : Type 0 where
+  pub in_flight : IsInFlight w n p
+  pub written : (k : ℕ) → IsInSync w k → p.written (w.number k) ≡ true
+  pub recorded : (k : ℕ) → IsInSync w k → w.due k ≡ false
+
+-- clear_idle: a mark goes from memory, where no request touches its chunk and the array is full
+abbrev pub unmarked : World → ℕ → World
+unmarked w c = record w { marks = put c false w.marks }
+
+pub record MayClear (g : Geometry) (w : World) (c : ℕ) : Type 0 where
+  pub resynced : w.resynced ≡ true
+  pub full : IsFull g w
+  pub idle : (n : ℕ) (p : Request) → IsInFlight w n p → (s : ℕ) → touches p s ≡ true → chunk_of g s ≢ c
+  pub marked : w.marks c ≡ true

@@ -1,0 +1,84 @@
+-- A stop, and what the next opening may find.
+use Rattle.std.specs.Prelude.{◌≡◌, ◌≢◌, ℕ, ◌+◌, ◌<◌, ◌≤◌, ◌⊎◌, true, false, Some, None}
+use Rattle.md_model.specs.Sectors.{Geometry}
+use Rattle.md_model.specs.States.{is_in_sync}
+use Rattle.md_model.specs.Devices.{Super, Stored, is_marked, Covered}
+use Rattle.md_model.specs.Worlds.{Request, touches, World, IsInSync}
+use Rattle.md_model.specs.Assembly.{state_by, IsFound}
+use Rattle.md_model.specs.Steps.{MayWrite}
+use Rattle.md_model.specs.Runs.{History}
+
+-- a write of data that the stop broke off: any of its sectors are new
+pub record IsTorn (g : Geometry) (w : World) (cut : ℕ → Stored) : Type 0 where
+  pub number : ℕ
+  pub request : Request
+  pub on : ℕ
+  pub let_through : MayWrite g w number request on
+  pub others : (j : ℕ) → j ≢ on → cut j ≡ w.stored j
+  pub rest : cut on ≡ record (w.stored on) { content = (cut on).content }
+  pub outside : (s : ℕ) → touches request s ≡ false → (cut on).content s ≡ (w.stored on).content s
+
+-- What a stop leaves. Every other write is on its device or is not, so that the stop is before or after its event.
+abbrev pub IsCut : Geometry → World → (ℕ → Stored) → Type 0
+IsCut g w cut = (cut ≡ w.stored) ⊎ IsTorn g w cut
+
+-- Openings that were themselves stopped may have stored all marks on it, or some sectors of them under a bitmap that is not accepted.
+pub record IsHalfOpened (cut left : Stored) : Type 0 where
+  pub super : left.super ≡ cut.super
+  pub content : left.content ≡ cut.content
+  pub listed : left.listed ≡ cut.listed
+  pub marks : (c : ℕ) → is_marked left c ≡ false → is_marked cut c ≡ false
+
+-- the devices of which the next opening is made: any of them may be missing
+abbrev pub IsLeft : Geometry → World → (ℕ → Stored) → Type 0
+IsLeft g w left = (cut : ℕ → Stored) × IsCut g w cut × ((k : ℕ) → IsHalfOpened (cut k) (left k) ⊎ ((left k).super ≡ None))
+
+-- The superblock that it goes by is fit: it has recorded the last failure, and is newer than the one of the opening before, or
+-- as new with the same roles.
+pub record IsFit (opened first : Super) (failed_at : ℕ) : Type 0 where
+  pub recorded : failed_at ≤ first.events
+  pub newer : (opened.events < first.events) ⊎ ((first.events ≡ opened.events) × ((d : ℕ) → first.role d ≡ opened.role d))
+
+-- a device that the opening left out, whose events were not above the array's there
+pub record IsAbsent (opened : Super) (w : World) (own : Super) : Type 0 where
+  pub no_newer : own.events ≤ opened.events
+  pub away : w.present own.number ≡ false
+
+-- the freshest superblock of these devices, and perhaps of others that the opening before left out
+pub record IsFreshestWithAbsent (opened : Super) (left : ℕ → Stored) (first : Super) : Type 0 where
+  pub whose : ((k : ℕ) × ((left k).super ≡ Some first)) ⊎ (first.events ≤ opened.events)
+  pub greatest : (k : ℕ) (own : Super) → (left k).super ≡ Some own → own.events ≤ first.events
+
+-- Such an opening finds no member in sync that was not, and the marks cover those that it finds. Where all members in sync that
+-- are there have the count or one less, it finds all of these.
+pub record IsSafe (g : Geometry) (h : History) (left : ℕ → Stored) (first : Super) : Type 0 where
+  pub among : (k : ℕ) → IsFound g left first k → IsInSync h.now k
+  pub covered : Covered g left (IsFound g left first)
+  pub all : ((k : ℕ) (own : Super) → IsInSync h.now k → (left k).super ≡ Some own → h.now.events ≤ own.events + 1)
+      → (k : ℕ) (own : Super) → IsInSync h.now k → (left k).super ≡ Some own → IsFound g left first k
+
+abbrev pub IsSafeAtStop : Geometry → Super → History → Type 0
+IsSafeAtStop g opened h =
+    (left : ℕ → Stored) (first : Super) → IsLeft g h.now left → IsFreshestWithAbsent opened left first → IsFit opened first h.failed_at
+    → IsSafe g h left first
+
+-- data was written to a member, or a write of it may be on its way
+abbrev pub WasTried : Geometry → History → Type 0
+WasTried g h = (h.tried ≡ true) ⊎ ((n : ℕ) × (p : Request) × (k : ℕ) × MayWrite g h.now n p k)
+
+-- Once data was tried, a device that was absent is not found in sync beside a member that was so.
+abbrev pub KeepsOut : Geometry → Super → History → Type 0
+KeepsOut g opened h =
+    WasTried g h → (left : ℕ → Stored) → IsLeft g h.now left
+    → (k : ℕ) (own : Super) → IsInSync h.now k → (left k).super ≡ Some own
+    → (absent : Super) → IsAbsent opened h.now absent
+    → (first : Super) → IsFreshestWithAbsent opened left first → IsFit opened first h.failed_at
+    → is_in_sync (state_by g first absent) ≡ false
+
+-- One that the superblock of an opening calls out of sync stays so, with data tried since or not.
+abbrev pub StaysOut : Geometry → Super → History → Type 0
+StaysOut g opened h =
+    (absent : Super) → IsAbsent opened h.now absent → is_in_sync (state_by g opened absent) ≡ false
+    → (left : ℕ → Stored) → IsLeft g h.now left
+    → (first : Super) → IsFreshestWithAbsent opened left first → IsFit opened first h.failed_at
+    → is_in_sync (state_by g first absent) ≡ false
