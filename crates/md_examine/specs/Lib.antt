@@ -4,3 +4,5 @@ pub mod Lines
 pub mod SuperblockReport
 pub mod BitmapReport
 pub mod BadblocksReport
+pub mod SummaryReport
+pub mod DetailReport

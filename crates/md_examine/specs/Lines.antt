@@ -12,6 +12,10 @@ column label = label ++ replicate (15 - length label) 32
 unfoldable pub line_text : List ℕ → List ℕ → List ℕ
 line_text label value = label ++ codes " : " ++ value ++ 10 ∷ []
 
+-- a text that ends with column n or past it, with spaces in front
+unfoldable pub right_aligned : ℕ → List ℕ → List ℕ
+right_aligned n text = replicate (n - length text) 32 ++ text
+
 -- eight hex digits, of a number below 2 ^ 32
 unfoldable pub hex8_text : ℕ → List ℕ
 hex8_text n = encode_lower (to_be_bytes w32 n)

@@ -1,17 +1,13 @@
 // The report of a member's bad blocks.
-ghost use Rattle.std.specs.Prelude.{◌≡◌, ◌≤◌, ◌++◌, codes, decimal, replicate};
+ghost use Rattle.std.specs.Prelude.{◌++◌, codes, decimal};
 ghost use Rattle.std.specs.List.{flat_map};
 ghost use Rattle.md_examine.specs.Sink.{PutsOrFails};
-ghost use Rattle.md_examine.specs.BadblocksReport.{badblocks_report, run_text, right_aligned};
+ghost use Rattle.md_examine.specs.BadblocksReport.{badblocks_report, run_text};
 
+use crate::columns::right_aligned_number;
 use crate::sink::{Sink, SinkFault};
 use itoa::Buffer;
 use md_badblocks::{BadSet, Run};
-
-// The column in which the first sectors end.
-const WIDTH: usize = 12;
-
-static SPACES: [u8; WIDTH] = [b' '; WIDTH];
 
 /// Writes the report of a set of bad blocks: a line for each of its maximal runs, rising, or one
 /// line where there is none. It takes no memory, and fails only where the sink has failed.
@@ -37,28 +33,9 @@ fn run_lines<S: Sink>(out: &mut S, runs: &[Run]) -> Result<(), SinkFault>
 fn run_line<S: Sink>(out: &mut S, run: &Run) -> Result<(), SinkFault>
     ensures { PutsOrFails S.contents S.failed out.old out.new (run_text run.now) result }
 {
-    first_sector(out, run.start)?;
+    right_aligned_number(out, 12, run.start)?;
     size(out, run.len)?;
     Ok(())
-}
-
-// A run's first sector, right-aligned.
-#[tactic(auto, unfolding(crate::specs::BadblocksReport::right_aligned), using(crate::proofs::Puts::puts_then))]
-fn first_sector<S: Sink>(out: &mut S, n: u64) -> Result<(), SinkFault>
-    ensures { PutsOrFails S.contents S.failed out.old out.new (right_aligned n) result }
-{
-    let mut buffer = Buffer::new();
-    let digits = buffer.format(n).as_bytes();
-    out.put(spaces(WIDTH.saturating_sub(digits.len())))?;
-    out.put(digits)?;
-    Ok(())
-}
-
-fn spaces(n: usize) -> &'static [u8]
-    requires { n ≤ 12 }
-    ensures { result.now ≡ replicate n 32 }
-{
-    &SPACES[..n]
 }
 
 // A run's length, and the line's end.

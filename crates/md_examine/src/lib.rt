@@ -3,12 +3,18 @@
 
 mod badblocks_report;
 mod bitmap_report;
+mod columns;
+mod detail_report;
 mod lines;
+mod member_lines;
 mod sink;
+mod summary_report;
 mod superblock_report;
 mod values;
 
 pub use badblocks_report::examine_badblocks;
 pub use bitmap_report::examine_bitmap;
+pub use detail_report::detail;
 pub use sink::{Output, Sink, SinkFault};
+pub use summary_report::summary;
 pub use superblock_report::examine;

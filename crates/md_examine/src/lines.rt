@@ -40,6 +40,20 @@ pub(crate) fn two_part_line<S: Sink>(
     Ok(())
 }
 
+// A value in three parts.
+#[tactic(auto, unfolding(crate::specs::Lines::line_text), using(crate::proofs::Puts::puts_then))]
+pub(crate) fn three_part_line<S: Sink>(
+    out: &mut S,
+    label: &str,
+    first: &[u8],
+    second: &[u8],
+    third: &[u8],
+) -> Result<(), SinkFault>
+    ensures { PutsOrFails S.contents S.failed out.old out.new (line_text label.now (first.now ++ second.now ++ third.now)) result }
+{
+    four_part_line(out, label, first, second, third, b"")
+}
+
 // A number.
 pub(crate) fn decimal_line<S: Sink, I: Integer>(
     out: &mut S,

@@ -69,7 +69,7 @@ fn state<S: Sink>(out: &mut S, v: &Superblock) -> Result<(), SinkFault>
     bad_block_log(out, v)?;
     decimal_line(out, "Update Time    ", v.utime % SECONDS)?;
     decimal_line(out, "Events         ", v.events)?;
-    cleanness(out, v)?;
+    cleanness_line(out, v)?;
     hex8_line(out, "Checksum       ", v.sb_csum)?;
     roles(out, v)?;
     Ok(())
@@ -121,13 +121,20 @@ fn bad_block_log<S: Sink>(out: &mut S, v: &Superblock) -> Result<(), SinkFault>
     }
 }
 
-fn cleanness<S: Sink>(out: &mut S, v: &Superblock) -> Result<(), SinkFault>
+fn cleanness_line<S: Sink>(out: &mut S, v: &Superblock) -> Result<(), SinkFault>
     ensures { PutsOrFails S.contents S.failed out.old out.new (line_text (column (codes "State")) (state_text v.now)) result }
 {
+    line(out, "State          ", cleanness(v).as_bytes())
+}
+
+/// Whether the array was stopped in order, or is not known to have been.
+pub(crate) fn cleanness(v: &Superblock) -> &'static str
+    ensures { result.now ≡ state_text v.now }
+{
     if v.resync_offset == u64::MAX {
-        line(out, "State          ", b"clean")
+        "clean"
     } else {
-        line(out, "State          ", b"active")
+        "active"
     }
 }
 

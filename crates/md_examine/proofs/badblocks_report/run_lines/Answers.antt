@@ -1,4 +1,4 @@
-use Rattle.std.proofs.Common.{ℕ, ◌+◌, List, take, ap, subst, arith, rules}
+use Rattle.std.proofs.Common.{ℕ, List, ap, subst, arith, rules}
 use Rattle.std.specs.List.{flat_map}
 use Rattle.std.proofs.lemmas.List.{take_all}
 use Rattle.md_examine.specs.Sink.{Puts}
