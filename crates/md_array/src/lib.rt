@@ -6,6 +6,7 @@ mod fault;
 mod member;
 mod mirror;
 mod observing;
+mod opening;
 
 pub use fault::OpenFault;
 pub use mirror::Mirror;

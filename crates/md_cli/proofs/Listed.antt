@@ -8,10 +8,10 @@ use Rattle.std.proofs.lemmas.List.FromFn.{filter_of_map_range_with_len_more}
 use Rattle.clap.specs.Words.{Text}
 use Rattle.md_cli.specs.Taking.{Word, is_missing}
 
-abbrev is_image : Bool → Word → Bool
+abbrev pub is_image : Bool → Word → Bool
 is_image may_miss w = not (is_missing may_miss w.1)
 
-abbrev word_at : List Text → ℕ → Word
+abbrev pub word_at : List Text → ℕ → Word
 word_at words i = (i, slice_index_or words i [])
 
 abbrev pub listed : Bool → List Text → ℕ → List Word
@@ -21,8 +21,11 @@ listed_more : (may_miss : Bool) (words : List Text) (n : ℕ) → listed may_mis
 listed_more may_miss words n = filter_of_map_range_with_len_more (is_image may_miss) (word_at words) 0 n n (omega arith)
 
 -- what an index past the end would read
-abbrev no_text : Bor Text
+abbrev pub no_text : Bor Text
 no_text = record { ref_ptr = (0, 0); now = [] }
+
+pub text_at : (words : List (Bor Text)) (n : ℕ) → n < length words → slice_index_or (map (λ s. s.now) words) n [] ≡ (slice_index_or words n no_text).now
+text_at words n lt = get_or-map (λ s. s.now) words n no_text [] lt
 
 module _ (may_miss : Bool) (words : List (Bor Text)) (n : ℕ) (lt : n < length words) where
   abbrev texts : List Text
@@ -32,7 +35,7 @@ module _ (may_miss : Bool) (words : List (Bor Text)) (n : ℕ) (lt : n < length 
   name = (slice_index_or words n no_text).now
 
   text_is : slice_index_or texts n [] ≡ name
-  text_is = get_or-map (λ s. s.now) words n no_text [] lt
+  text_is = text_at words n lt
 
   -- a word that stands for a missing member is left out
   pub left_out : (list : List Word) → is_missing may_miss name ≡ true → list ≡ listed may_miss texts n → list ≡ listed may_miss texts (n + 1)

@@ -11,8 +11,8 @@ pub(crate) struct ImageWord<'a> {
     pub(crate) name: &'a str,
 }
 
-// Whether a word stands for a missing member.
-fn is_missing(may_miss: bool, name: &str) -> bool
+/// Whether a word stands for a missing member.
+pub(crate) fn is_missing(may_miss: bool, name: &str) -> bool
     ensures { result ≡ is_missing may_miss name.now }
 {
     may_miss && name == "missing"
