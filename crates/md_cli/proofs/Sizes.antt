@@ -24,7 +24,7 @@ drop_one xs zero = refl
 drop_one [] (suc n) = let e : suc n + 1 ≡ suc (n + 1) = omega arith in rw e refl
 drop_one (x ∷ xs) (suc n) = let e : suc n + 1 ≡ suc (n + 1) = omega arith in rw e (drop_one xs n)
 
-all_dropped : {X : Type 0} (xs : List X) (n : ℕ) → length xs ≤ n → drop n xs ≡ []
+pub all_dropped : {X : Type 0} (xs : List X) (n : ℕ) → length xs ≤ n → drop n xs ≡ []
 all_dropped [] zero le = refl
 all_dropped [] (suc n) le = refl
 all_dropped (x ∷ xs) zero le = absurd (omega (arith, le))

@@ -92,4 +92,4 @@ module _ {S : Type 0} (contents : S → Option (List ℕ)) (failed : S → Bool)
 
   abbrev pub CreatesOn : List Disk → List Disk → S → S → Result (Unit {0}) CommandFault → Type 0
   CreatesOn before after old new result =
-      RefusesDevices before after old new result ⊎ StopsOnDevice before after old new result ⊎ LaysOutAll before after old new result
+      RefusesDevices before after old new result ⊎ (StopsOnDevice before after old new result ⊎ LaysOutAll before after old new result)

@@ -1,4 +1,5 @@
-use Rattle.std.proofs.Common.{◌≡◌, ◌∙◌, ◌↔◌, ℕ, List, Option, Some, None, Result, Ok, Err, IsOk, IfOk, refl, sym, true≢false, result_ok}
+use Rattle.std.proofs.Common.{◌≡◌, ◌∙◌, ◌↔◌, ℕ, List, Option, Some, None, Result, Ok, Err, IsOk, IfOk, refl, sym, true≢false}
+use Rattle.std.specs.Result.{result_ok}
 use Rattle.uuid.specs.Text.{parsed}
 use Rattle.md_cli.proofs.planning.uuid_of.Goals as goal
 
