@@ -12,7 +12,7 @@ use Rattle.clap.specs.declared.builder.range.ValueRange.{ValueRange}
 use Rattle.std.specs.Borrow.{Bor}
 use Rattle.clap.specs.declared.builder.texts.Texts.TheVariants.{One}
 use Rattle.md_cli.specs.Words.{mdcli}
-use Rattle.md_cli.specs.Asked.{Ask, asks_in, asks_of, images_in}
+use Rattle.md_cli.specs.Asked.{asks_in, asks_of, images_in}
 
 pub some_is : {X : Type 0} (o : Option X) (x : X) → IsSomeAnd o (λ r. r ≡ x) → o ≡ Some x
 some_is None x h = absurd h

@@ -1,5 +1,5 @@
 -- Members that are laid out on their devices one by one.
-use Rattle.std.proofs.Common.{◌≡◌, ◌≢◌, ◌⊎◌, ◌∙◌, ◌+◌, ◌<◌, ◌≤◌, ℕ, zero, suc, Bool, List, [], ◌∷◌, length, map, set, Option, Some, None, refl, sym, ap, subst, inl, inr, arith, length-set, option_map, Result, Ok, Err, MatchResult, is_err, true, false, true≢false}
+use Rattle.std.proofs.Common.{◌≡◌, ◌≢◌, ◌⊎◌, ◌∙◌, ◌+◌, ◌<◌, ◌≤◌, ℕ, zero, suc, Bool, List, [], ◌∷◌, length, map, set, Some, refl, sym, ap, subst, inl, inr, arith, length-set, option_map, Result, Ok, Err, MatchResult, is_err, true, false, true≢false}
 use Rattle.std.specs.Prelude.{slice_get, slice_index_or}
 use Rattle.std.proofs.lemmas.Option.{same_Some, slice_get-get_or, slice_get-map, slice_get_within}
 use Rattle.std.proofs.lemmas.List.{map-set}

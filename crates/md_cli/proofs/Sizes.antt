@@ -2,11 +2,11 @@
 use Rattle.std.proofs.Common.{◌≡◌, ◌∙◌, ◌+◌, ◌*◌, ◌/◌, ◌<◌, ◌≤◌, ℕ, zero, suc, Bool, true, false, cond, List, [], ◌∷◌, ◌++◌, drop, length, map, Option, Some, None, refl, sym, ap, subst, arith, append_assoc, append-nil}
 use Rattle.std.specs.Prelude.{slice_get, slice_index_or}
 use Rattle.std.specs.Borrow.{Bor}
-use Rattle.std.proofs.lemmas.List.{drop_more, get_or-map, length-map}
+use Rattle.std.proofs.lemmas.List.{drop_more, length-map}
 use Rattle.std.proofs.lemmas.Nat.{div-mul-add}
 use Rattle.clap.specs.Words.{Text}
 use Rattle.md_array.specs.View.{Disk, disk_of}
-use Rattle.md_cli.specs.Creating.{first_size, sectors_on, sizes_of}
+use Rattle.md_cli.specs.Creating.{first_size, sizes_of}
 use Rattle.md_cli.specs.Taking.{is_missing}
 use Rattle.md_cli.proofs.Listed.{text_at, no_text}
 

@@ -1,5 +1,5 @@
 -- Devices that are taken out of their images one by one, and put back.
-use Rattle.std.proofs.Common.{◌≡◌, ◌≢◌, ◌⊎◌, ◌∙◌, ◌+◌, ◌<◌, ◌≤◌, ◌||◌, ℕ, zero, suc, Bool, true, false, cond, take, List, [], ◌∷◌, ◌++◌, length, map, Option, Some, None, Result, Ok, Err, is_ok, IsOk, if◌then◌else◌, refl, sym, ap, subst, inl, inr, arith, true≢false}
+use Rattle.std.proofs.Common.{◌≡◌, ◌≢◌, ◌⊎◌, ◌∙◌, ◌+◌, ◌<◌, ◌≤◌, ◌||◌, ℕ, zero, suc, Bool, true, false, take, List, [], ◌∷◌, ◌++◌, length, map, Option, Some, None, Result, Ok, Err, is_ok, IsOk, if◌then◌else◌, refl, sym, ap, subst, inl, inr, arith, true≢false}
 use Rattle.std.specs.Prelude.{slice_get, slice_index_or}
 use Rattle.std.specs.List.{list_any}
 use Rattle.std.specs.Str.{bytes_eq}
@@ -7,7 +7,7 @@ use Rattle.std.proofs.lemmas.List.{length-append, length-map, get_or-map}
 use Rattle.std.proofs.lemmas.Slice.Eq.{bytes_eq-Decides}
 use Rattle.clap.specs.Words.{Text}
 use Rattle.md_cli.specs.declared.image_word.ImageWord.{ImageWord}
-use Rattle.md_cli.specs.Taking.{AreOut, ArePut, AreUnder, IsBad, IsDistinct, IsOther, Repeats, name_at, names_of, word_of}
+use Rattle.md_cli.specs.Taking.{AreOut, ArePut, IsBad, IsDistinct, IsOther, name_at, names_of, word_of}
 
 -- two texts are the same or not
 pub same_text : (a b : Text) → (a ≡ b) ⊎ (a ≢ b)

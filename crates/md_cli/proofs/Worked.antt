@@ -1,14 +1,13 @@
 -- Devices that are taken out of their images, worked on and put back.
-use Rattle.std.proofs.Common.{◌≡◌, ◌≤◌, ◌<◌, ◌∙◌, ℕ, Bool, true, List, length, map, Option, Result, sym, subst, inl, arith}
-use Rattle.std.proofs.lemmas.List.{length-map}
+use Rattle.std.proofs.Common.{◌≡◌, ◌∙◌, ℕ, Bool, true, List, length, Option, Result, subst, inl}
 use Rattle.clap.specs.Words.{Text}
-use Rattle.md_array.specs.View.{Disk, disk_of}
+use Rattle.md_array.specs.View.{Disk}
 use Rattle.md_array.specs.Opening.{RefusesOpen}
 use Rattle.md_array.specs.declared.fault.OpenFault.{OpenFault}
 use Rattle.md_array.specs.declared.fault.OpenFault.TheVariants as opening
 use Rattle.md_cli.specs.declared.fault.CommandFault.{CommandFault}
 use Rattle.md_cli.specs.Arrays.{UsesImages, Work, disks}
-use Rattle.md_cli.specs.Taking.{AreOut, ArePut, IsDistinct, TakesImages, Word, names_of}
+use Rattle.md_cli.specs.Taking.{AreOut, ArePut, TakesImages, Word, names_of}
 
 module _ {D : Type 0} where
   together : (before mid after : Text → Option D) (names : List Text) (n : ℕ) (taken given : List D) → AreOut before mid names n taken → ArePut mid after names n given → ArePut before after names n given

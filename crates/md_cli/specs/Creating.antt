@@ -13,7 +13,7 @@ use Rattle.md_cli.specs.declared.array_report.ArrayReport.TheVariants.{Summary}
 use Rattle.md_cli.specs.declared.fault.CommandFault.{CommandFault}
 use Rattle.md_cli.specs.declared.fault.CommandFault.TheVariants as fault
 use Rattle.md_cli.specs.Arrays.{OpensDevices}
-use Rattle.md_cli.specs.Taking.{Word, image_list, is_missing}
+use Rattle.md_cli.specs.Taking.{image_list, is_missing}
 
 -- the sectors of a device
 abbrev pub sectors_on : Disk → ℕ

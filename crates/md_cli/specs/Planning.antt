@@ -1,9 +1,9 @@
 -- What `create` makes of its options.
-use Rattle.std.specs.Prelude.{◌≡◌, ℕ, ◌-◌, ◌*◌, ◌^◌, ◌==◌, ◌||◌, Bool, List, [], ◌∷◌, ◌++◌, codes, length, nat_lt, replicate, Option, Some, None, is_some, option_map, if◌then◌else◌}
+use Rattle.std.specs.Prelude.{◌≡◌, ℕ, ◌-◌, ◌*◌, ◌^◌, ◌==◌, ◌||◌, Bool, List, [], ◌∷◌, ◌++◌, codes, length, nat_lt, replicate, Option, Some, None, is_some, if◌then◌else◌}
 use Rattle.std.specs.Str.{bytes_eq}
 use Rattle.uuid.specs.Text.{parsed}
 use Rattle.clap.specs.Words.{Text}
-use Rattle.md_format.specs.FirstFault.{Check, check, first_fault}
+use Rattle.md_format.specs.FirstFault.{check, first_fault}
 use Rattle.md_create.specs.declared.params.CreateParams.{CreateParams}
 use Rattle.md_cli.specs.declared.option_fault.OptionFault.{OptionFault}
 use Rattle.md_cli.specs.declared.option_fault.OptionFault.TheVariants.{BadLevel, BadUuid, BadName, BadCount, BadChunk, BadSize}

@@ -1,4 +1,4 @@
-use Rattle.std.proofs.Common.{◌≡◌, ◌∙◌, ◌<◌, [], length, map, Err, ap, sym, subst, refl, inl, inr, arith}
+use Rattle.std.proofs.Common.{◌≡◌, ◌∙◌, ◌<◌, List, [], length, map, Err, ap, sym, subst, refl, inl, inr, arith}
 use Rattle.std.specs.Prelude.{slice_get, slice_index_or}
 use Rattle.std.proofs.lemmas.List.{length-map}
 use Rattle.md_array.specs.View.{disk_of}
@@ -6,7 +6,7 @@ use Rattle.md_cli.specs.declared.array_report.ArrayReport.TheVariants.{Summary}
 use Rattle.md_cli.specs.declared.fault.CommandFault.TheVariants.{MetadataFault}
 use Rattle.md_cli.specs.Arrays.{OpensDevices}
 use Rattle.md_cli.specs.Creating.{AreLaidOut, FailsToLayOut, sizes_of}
-use Rattle.md_cli.specs.Taking.{word_of}
+use Rattle.md_cli.specs.Taking.{Word, word_of}
 use Rattle.md_cli.proofs.Created.{at_of, laid_out_of, made, room, written_back}
 use Rattle.md_cli.proofs.Taken.{index_of_word}
 use Rattle.md_cli.proofs.creating.create_on.Goals as goal
@@ -53,7 +53,7 @@ returns-then-place-len-clause-gives g c =
       made = new;
       place = place;
       within = subst (λ n. place < n) (sym (length-map c.args.devices.items disk)) within;
-      is = ap (λ i. Err (MetadataFault i)) (sym (index_of_word c.args.words.now place inside) ∙ ap (λ ws. (slice_index_or ws place (0, [])).0) c.requires.words);
+      is = ap (λ i. Err (MetadataFault i)) (sym (index_of_word c.args.words.now place inside) ∙ ap (λ (ws : List Word). (slice_index_or ws place (0, [])).0) c.requires.words);
       laid_out = laid_out_of _ before _ _ _ c.in-Ok-create.members.items place lent (sym back) c.as_slice-3.ensures.value laid.laid_out;
       stopped = at_of FailsToLayOut _ before _ _ _ c.in-Ok-create.members.items place lent (sym back) c.as_slice-3.ensures.value stopped;
       unwritten = refl;

@@ -1,4 +1,4 @@
-use Rattle.std.proofs.Common.{◌∙◌, List, Option, [], ap, unwrap_or}
+use Rattle.std.proofs.Common.{◌∙◌, Option, [], ap, unwrap_or}
 use Rattle.clap.proofs.WalkLemmas.{first_value-rows}
 use Rattle.clap.specs.Words.{Text, found_of}
 use Rattle.md_cli.proofs.parsing.text_of.Goals as goal

@@ -1,4 +1,4 @@
-use Rattle.std.proofs.Common.{◌≡◌, ◌≤◌, ◌<◌, ◌∙◌, ◌+◌, [], ◌∷◌, ◌++◌, List, length, sym, subst, arith, rules, vec_capacity, vec_len, IsOk}
+use Rattle.std.proofs.Common.{◌≡◌, ◌<◌, ◌∙◌, ◌+◌, [], ◌∷◌, ◌++◌, sym, subst, arith, vec_capacity, vec_len, IsOk}
 use Rattle.std.specs.Prelude.{slice_index_or}
 use Rattle.md_cli.proofs.Taken.{Taking, name_of_word, names_in, no_word, pushed, refused_bad, repeated_bad, taking_more, taking_refused}
 use Rattle.md_cli.proofs.taking.take_each.Goals as goal

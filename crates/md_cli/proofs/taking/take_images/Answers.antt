@@ -1,4 +1,4 @@
-use Rattle.std.proofs.Common.{◌≡◌, ◌∙◌, ◌<◌, length, map, sym, subst, arith}
+use Rattle.std.proofs.Common.{◌∙◌, ◌<◌, length, sym, subst, arith}
 use Rattle.std.proofs.lemmas.List.{length-map}
 use Rattle.md_cli.specs.Taking.{word_of}
 use Rattle.md_cli.proofs.Taken.{index_of_word, names_in, restored, was_there}
