@@ -1,5 +1,6 @@
 pub mod View
 pub mod Members
-pub mod Writes
 pub mod Opening
+pub mod Fits
+pub mod Remembering
 pub mod Worlds

@@ -9,6 +9,7 @@ use Rattle.md_bitmap.specs.Marks.{Bitmap, is_set, padded}
 use Rattle.md_bitmap.specs.Sound.{chunk_count}
 use Rattle.md_members.specs.declared.fault.MemberFault.{MemberFault}
 use Rattle.md_members.specs.declared.fault.MemberFault.TheVariants as member_fault
+use Rattle.md_members.specs.declared.fault.MemberFault.TheVariants.{NoMemory as NoMemoryOfMember}
 use Rattle.md_members.specs.declared.info.MemberInfo.{MemberInfo}
 use Rattle.md_members.specs.Areas.{bitmap_sectors}
 use Rattle.md_members.specs.Reading.{BitmapStartsAt}
@@ -17,11 +18,13 @@ use Rattle.md_assembly.specs.declared.state.MemberState.{MemberState}
 use Rattle.md_assembly.specs.declared.assembling.Assembly.{Assembly}
 use Rattle.md_assembly.specs.declared.fault.AssembleFault.{AssembleFault}
 use Rattle.md_assembly.specs.declared.fault.AssembleFault.TheVariants as assemble_fault
+use Rattle.md_assembly.specs.declared.fault.AssembleFault.TheVariants.{NoMemory as NoMemoryOfAssembly}
 use Rattle.md_assembly.specs.Assembled.{IsAssembled}
 use Rattle.md_assembly.specs.Faults.{NoFault, IsFirstFault}
 use Rattle.md_array.specs.declared.fault.OpenFault.{OpenFault}
 use Rattle.md_array.specs.declared.fault.OpenFault.TheVariants.{Member, Assemble, MetadataFault, NoMemory}
-use Rattle.md_array.specs.Writes.{Write, after, IsStopped}
+use Rattle.md_writes.specs.Bitmaps.{bitmap_writes}
+use Rattle.md_writes.specs.Writes.{Write, after, IsStopped}
 use Rattle.md_array.specs.View.{Disk, MemberView, ArrayView, MirrorView}
 use Rattle.md_array.specs.Members.{IsMember, IsInSync, IsAlone, NeedsMarks, is_recorded}
 
@@ -84,14 +87,6 @@ pub record IsHeaderFor (a : ArrayView) (m : MemberView) (h : BitmapHeader) : Typ
   pub nodes : h.nodes ≡ m.header.nodes
   pub cluster_name : h.cluster_name ≡ m.header.cluster_name
 
--- sector i of a bitmap that starts at a sector
-abbrev pub bitmap_write : ℕ → BitmapHeader → Bitmap → ℕ → Write
-bitmap_write start h m i = record { sector = start + i; bytes = padded 512 (drop (512 * i) (header_bytes h ++ m.bytes)) }
-
--- its first n sectors, the last one first, so that the header's sector is written last
-abbrev pub bitmap_writes : ℕ → BitmapHeader → Bitmap → ℕ → List Write
-bitmap_writes start h m n = map (bitmap_write start h m) (reverse (range_with_len 0 n))
-
 -- the writes by which a member's marks are stored
 pub record AreMarkWrites (a : ArrayView) (m : MemberView) (start : ℕ) (writes : List Write) : Type 0 where
   pub at : BitmapStartsAt m.superblock start
@@ -143,9 +138,12 @@ pub record IsUntouched (before after : List Disk) : Type 0 where
   pub same : AreSame before after
   pub content : EachPair (λ _. IsUnchanged) before after
 
--- where marks are to be stored on member k they were, and else its device is as before
+-- where marks are to be stored on a member they were, and else its device is as before
+abbrev pub IsMarkedBy : ArrayView → MemberView → Disk → Disk → Type 0
+IsMarkedBy a m d e = (NeedsMarks m → StoresMarks a m d e) × ((NeedsMarks m → ⊥) → IsUnchanged d e)
+
 abbrev pub IsMarked : ArrayView → ℕ → Disk → Disk → Type 0
-IsMarked a k d e = (m : MemberView) → IsMember a k m → (NeedsMarks m → StoresMarks a m d e) × ((NeedsMarks m → ⊥) → IsUnchanged d e)
+IsMarked a k d e = (m : MemberView) → IsMember a k m → IsMarkedBy a m d e
 
 -- so it is on all members
 pub record AreMarked (before after : List Disk) (a : ArrayView) : Type 0 where
@@ -178,6 +176,17 @@ pub record RefusesMember (before after : List Disk) (k : ℕ) (fault : MemberFau
   pub memory : fault ≢ member_fault.NoMemory
   pub earlier : (j : ℕ) (d : Disk) → j < k → slice_get before j ≡ Some d → (info : MemberInfo) × members.IsMember d.content d.honest info
 
+-- the fault of opening, where device k is not read as a member for this reason
+abbrev pub refusal_of : ℕ → MemberFault → OpenFault
+refusal_of k NoMemoryOfMember = NoMemory
+refusal_of k fault = Member k fault
+
+-- why reading them all ends
+abbrev pub RefusesRead : List Disk → List Disk → OpenFault → Type 0
+RefusesRead before after (Member k fault) = RefusesMember before after k fault
+RefusesRead before after NoMemory = Unit {0}
+RefusesRead before after _ = ⊥
+
 -- all are read, and make no array for this reason
 pub record RefusesAssembly (before : List Disk) (fault : AssembleFault) : Type 0 where
   pub infos : List MemberInfo
@@ -185,18 +194,38 @@ pub record RefusesAssembly (before : List Disk) (fault : AssembleFault) : Type 0
   pub refused : IsFirstFault infos fault
   pub memory : fault ≢ assemble_fault.NoMemory
 
--- They make an array, and storing the marks on member k failed: they are stored on the members before it, and the devices
--- behind it are unchanged.
+-- the fault of opening, where the members make no array for this reason
+abbrev pub assembly_refusal_of : AssembleFault → OpenFault
+assembly_refusal_of NoMemoryOfAssembly = NoMemory
+assembly_refusal_of fault = Assemble fault
+
+-- why there is no array to keep
+abbrev pub RefusesArray : List Disk → List Disk → OpenFault → Type 0
+RefusesArray before after (Member k fault) = RefusesMember before after k fault
+RefusesArray before after (Assemble fault) = RefusesAssembly before fault
+RefusesArray before after NoMemory = Unit {0}
+RefusesArray before after _ = ⊥
+
+-- storing the marks on member k failed: they are stored on the members before it, and the devices behind it are unchanged
+pub record StopsAtMember (a : ArrayView) (before after : List Disk) (k : ℕ) : Type 0 where
+  pub same : AreSame before after
+  pub member : MemberView
+  pub at : IsMember a k member
+  pub needs : NeedsMarks member
+  pub failed : (d e : Disk) → slice_get before k ≡ Some d → slice_get after k ≡ Some e → FailsToStore a member d e
+  pub earlier : EachPair (λ j d e. j < k → IsMarked a j d e) before after
+  pub later : EachPair (λ j d e. k < j → IsUnchanged d e) before after
+
+-- why storing the marks ends
+abbrev pub RefusesMarks : ArrayView → List Disk → List Disk → OpenFault → Type 0
+RefusesMarks a before after (MetadataFault k) = StopsAtMember a before after k
+RefusesMarks a before after _ = ⊥
+
+-- they make an array, and storing its marks failed on member k
 pub record FailsAtMember (before after : List Disk) (k : ℕ) : Type 0 where
   pub array : ArrayView
   pub is : IsArrayOf before array
-  pub same : AreSame before after
-  pub member : MemberView
-  pub at : IsMember array k member
-  pub needs : NeedsMarks member
-  pub failed : (d e : Disk) → slice_get before k ≡ Some d → slice_get after k ≡ Some e → FailsToStore array member d e
-  pub earlier : EachPair (λ j d e. j < k → IsMarked array j d e) before after
-  pub later : EachPair (λ j d e. k < j → IsUnchanged d e) before after
+  pub stopped : StopsAtMember array before after k
 
 -- why devices are not opened
 abbrev pub RefusesOpen : List Disk → List Disk → OpenFault → Type 0

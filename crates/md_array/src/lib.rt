@@ -2,11 +2,16 @@
 #![tactic(auto)]
 
 mod array;
+mod copying;
 mod fault;
+mod marking;
 mod member;
 mod mirror;
 mod observing;
 mod opening;
+mod reading;
+mod remembering;
+mod storing;
 
 pub use fault::OpenFault;
 pub use mirror::Mirror;

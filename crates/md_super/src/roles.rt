@@ -1,6 +1,7 @@
 // The roles of an array's devices.
 ghost use Rattle.std.specs.Prelude.{◌≡◌, ◌<◌, ◌≤◌, List, ℕ, length, set};
 
+use std::alloc::{AllocError, Global};
 use std::marker::Model;
 
 /// The roles for which a superblock of 4096 bytes has room.
@@ -65,5 +66,18 @@ impl Roles {
     {
         let Roles { list: roles } = self;
         roles
+    }
+}
+
+impl Roles {
+    ghost use Rattle.std.specs.Prelude.{IfOk};
+
+    /// The same roles.
+    pub fn try_clone(&self, alloc: Global) -> Result<Roles, AllocError>
+        ensures { IfOk result (λ copy. copy ≡ self.now) }
+    {
+        Ok(Roles {
+            list: Vec::from_slice(alloc, &self.list)?,
+        })
     }
 }

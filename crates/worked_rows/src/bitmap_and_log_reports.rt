@@ -20,7 +20,7 @@ const BITMAP: &str = "\
     Bitmap          : 8 chunks, 1 marked\n";
 
 // The first 4096 bytes from the bitmap's first sector: chunk 1 is marked.
-fn bitmap() -> [u8; 4096] {
+pub(crate) fn bitmap() -> [u8; 4096] {
     let mut b = [0u8; 4096];
     put(&mut b, 0, &0x6d74_6962u32.to_le_bytes());
     put(&mut b, 4, &4u32.to_le_bytes());

@@ -2,6 +2,8 @@
 #![tactic(auto)]
 
 #[cfg(test)]
+mod assembly;
+#[cfg(test)]
 mod bitmap_and_log_reports;
 #[cfg(test)]
 mod commands;
@@ -9,6 +11,8 @@ mod commands;
 mod examine_report;
 #[cfg(test)]
 mod fault_texts;
+#[cfg(test)]
+mod new_members;
 #[cfg(test)]
 mod sinks;
 #[cfg(test)]

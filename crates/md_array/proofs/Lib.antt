@@ -1,0 +1,16 @@
+pub mod Answered
+pub mod InTurn
+pub mod MarksStored
+pub mod MembersRead
+pub mod Counting
+pub mod Clearing
+pub mod Fitting
+pub mod Geometry
+pub mod Keeping
+pub mod Listing
+pub mod Opened
+pub mod Remembered
+pub mod Resyncing
+pub mod StoredOn
+pub mod Uniting
+pub mod Whole

@@ -1,0 +1,16 @@
+use Rattle.std.proofs.Common.{◌≡◌, ◌<◌, ◌≤◌, ◌+◌, MatchResult, length, map, ℕ, ◌-◌, ◌*◌}
+use Rattle.md_array.specs.Opening.{IsUntouched}
+use Rattle.md_array.specs.View.{disk_of}
+use Rattle.md_array.proofs.MembersRead.{AreReadSoFar}
+use Rattle.md_array.proofs.reading.read_members.Given as goal
+
+abbrev pub invariant-loop-k : goal.invariant-loop-k
+invariant-loop-k g l =
+    let disks = map (disk_of g.D.Device.content g.D.Device.honest g.D.Device.failures) in
+    record {
+      untouched : IsUntouched (disks l.fn.devices) (disks l.devices);
+      read : AreReadSoFar (disks l.fn.devices) l.infos.items;
+      count : length l.infos.items ≡ l.k;
+      size : length l.devices ≡ length l.fn.devices;
+      room : length l.fn.devices ≤ l.infos.cap;
+    }

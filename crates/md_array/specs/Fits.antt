@@ -1,0 +1,19 @@
+-- Devices and the array that is kept of them fit one another, so that marks may be stored on the members.
+use Rattle.std.specs.Prelude.{◌≡◌, ℕ, ◌≤◌, true, List, length, slice_get, Some}
+use Rattle.md_bitmap.specs.Sound.{IsSound}
+use Rattle.md_members.specs.Areas.{IsPlaced, bitmap_sectors, has_bitmap}
+use Rattle.md_members.specs.Members.{sectors_of}
+use Rattle.md_array.specs.View.{Disk, MemberView, ArrayView}
+use Rattle.md_array.specs.Members.{IsMember}
+
+-- a member's bitmap lies on its device, and its chunks fit the size of the array
+pub record FitsMember (a : ArrayView) (m : MemberView) (d : Disk) : Type 0 where
+  pub has : has_bitmap m.superblock ≡ true
+  pub placed : IsPlaced (sectors_of d.content) m.superblock (bitmap_sectors m.stored.chunks)
+  pub few_chunks : m.stored.chunks ≤ 1048576
+  pub sound : IsSound a.shared.size m.header.chunksize
+
+-- as many devices as members, and each fits its member
+pub record Fits (disks : List Disk) (a : ArrayView) : Type 0 where
+  pub as_many : length disks ≡ length a.members
+  pub each : (k : ℕ) (d : Disk) (m : MemberView) → slice_get disks k ≡ Some d → IsMember a k m → FitsMember a m d
