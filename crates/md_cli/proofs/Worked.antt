@@ -30,5 +30,5 @@ module _ {D : Type 0} where
 pub refused_as_many : (before after : List Disk) (fault : OpenFault) → RefusesOpen before after fault → length after ≡ length before
 refused_as_many before after (opening.Member k f) h = h.0.same.as_many
 refused_as_many before after (opening.Assemble f) h = h.0.same.as_many
-refused_as_many before after (opening.MetadataFault k) h = h.same.as_many
+refused_as_many before after (opening.MetadataFault k) h = h.stopped.same.as_many
 refused_as_many before after opening.NoMemory h = h.same.as_many
