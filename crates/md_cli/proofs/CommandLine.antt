@@ -1,5 +1,5 @@
 -- The command line as a value, and its image words.
-use Rattle.std.proofs.Common.{◌≡◌, true, List, [], Option, Some, None, codes, refl, sym, ap, ◌∙◌, option_map, unwrap_or, IsSomeAnd}
+use Rattle.std.proofs.Common.{◌≡◌, ◌||◌, Bool, true, false, ap₂, List, [], Option, Some, None, codes, refl, sym, ap, ◌∙◌, option_map, unwrap_or, IsSomeAnd}
 use Rattle.std.specs.Box.{box_value}
 use Rattle.clap.proofs.OnLiterals.{clap_on_literals}
 use Rattle.clap.proofs.WalkLemmas.{raw_values-rows}
@@ -11,7 +11,8 @@ use Rattle.clap.specs.declared.builder.arg.Arg.{Arg}
 use Rattle.clap.specs.declared.builder.range.ValueRange.{ValueRange}
 use Rattle.std.specs.Borrow.{Bor}
 use Rattle.clap.specs.declared.builder.texts.Texts.TheVariants.{One}
-use Rattle.md_cli.specs.Words.{images_in, mdcli}
+use Rattle.md_cli.specs.Words.{mdcli}
+use Rattle.md_cli.specs.Asked.{asks_in, asks_of, images_in}
 
 pub some_is : {X : Type 0} (o : Option X) (x : X) → IsSomeAnd o (λ r. r ≡ x) → o ≡ Some x
 some_is None x h = absurd h
@@ -69,3 +70,11 @@ no_subcommand m none = no_pair (subcommand_rows_of m) (sym (name_is m) ∙ none)
 pub images_read : (m : ArgMatches) (name : Text) (f : Found) → subcommand_rows_of m ≡ Some (name, rows_of f) → unwrap_or (option_map raw_values (matched_of f (codes "image"))) [] ≡ images_in (subcommand_rows_of m)
 images_read m name f is =
     ap (λ (o : Option (List Text)). unwrap_or o []) (raw_values-rows f (codes "image")) ∙ sym (ap images_in is)
+
+-- what a subcommand's name and matches ask for
+pub asks_read : (m : ArgMatches) (name : Text) (f : Found) → subcommand_rows_of m ≡ Some (name, rows_of f) → asks_of name (rows_of f) ≡ asks_in (subcommand_rows_of m)
+asks_read m name f is = sym (ap asks_in is)
+
+-- a command gets no global argument with one that is local
+pub no_globals : (old arg new : Bool) → new ≡ (old || arg) → old ≡ false → arg ≡ false → new ≡ false
+no_globals old arg new e first second = e ∙ ap₂ (λ a b. a || b) first second

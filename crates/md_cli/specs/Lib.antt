@@ -1,7 +1,12 @@
+pub mod Arrays
+pub mod Asked
+pub mod Creating
 pub mod Examining
 pub mod MemImages
 pub mod MemPlaces
+pub mod Planning
 pub mod Running
+pub mod Taking
 pub mod Words
 pub use Rattle.md_examine.specs.Sink
 pub use Rattle.md_examine.specs.SuperblockReport

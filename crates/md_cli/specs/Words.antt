@@ -1,18 +1,57 @@
--- The command line, and what its words ask for.
-use Rattle.std.specs.Prelude.{true, List, [], Option, Some, None, codes, unwrap_or, if◌then◌else◌}
-use Rattle.std.specs.Str.{bytes_eq}
+-- The command line.
+use Rattle.std.specs.Prelude.{true, ◌∷◌, [], Some, codes, pos}
 use Rattle.clap.specs.Lexer.{usize_max}
-use Rattle.md_cli.specs.declared.report.Report.{Report}
-use Rattle.md_cli.specs.declared.report.Report.TheVariants.{Superblock, Bitmap, BadBlocks}
-use Rattle.clap.specs.Words.{App, Row, Rule, Text, all_of, new_app, new_rule, with_rule, with_subcommand, subcommand_of}
+use Rattle.clap.specs.Words.{App, Rule, Text, new_app, new_rule, with_rule, with_subcommand}
+use Rattle.clap.specs.declared.builder.action.ArgAction.TheVariants.{SetTrue}
+use Rattle.clap.specs.declared.builder.value_parser.ValueParser.TheVariants.{Signed, Unsigned}
 
 -- any number of images, listed last
 abbrev pub image_rule : Rule
 image_rule = record (new_rule (codes "image")) { range = Some (record { start_inclusive = 1; end_inclusive = usize_max }); value_names = 1 }
 
--- a command that takes images
+-- an option with a value, and with a number of 32 or 64 bits
+abbrev pub value_rule : Text → Rule
+value_rule name = record (new_rule name) { long = Some name; value_names = 1 }
+
+abbrev pub u32_rule : Text → Rule
+u32_rule name = record (value_rule name) { parser = Some (Signed (pos 0) (pos 4294967295)) }
+
+abbrev pub u64_rule : Text → Rule
+u64_rule name = record (value_rule name) { parser = Some (Unsigned 0 18446744073709551615) }
+
+-- an option without a value
+abbrev pub flag_rule : Text → Rule
+flag_rule name = record (new_rule name) { long = Some name; action = Some SetTrue }
+
+abbrev pub required : Rule → Rule
+required r = record r { required = true }
+
+abbrev pub by_default : Text → Rule → Rule
+by_default value r = record r { defaults = value ∷ [] }
+
+-- a command that takes images alone
 abbrev pub images_app : Text → App
 images_app name = with_rule (new_app name) image_rule
+
+-- `create`: what it must be given, and what it may
+abbrev pub with_required : App → App
+with_required a =
+    with_rule (with_rule (with_rule a (required (value_rule (codes "level")))) (required (u32_rule (codes "raid-devices")))) (required (value_rule (codes "uuid")))
+
+abbrev pub with_optional : App → App
+with_optional a =
+    with_rule
+    (with_rule
+    (with_rule
+    (with_rule
+    (with_rule a (by_default (codes "md") (value_rule (codes "name"))))
+    (by_default (codes "65536") (u32_rule (codes "bitmap-chunk"))))
+    (u64_rule (codes "size")))
+    (by_default (codes "0") (u64_rule (codes "time"))))
+    (flag_rule (codes "assume-clean"))
+
+abbrev pub create_app : App
+create_app = with_rule (with_optional (with_required (new_app (codes "create")))) image_rule
 
 -- the program itself has a version, and asks for a command
 abbrev pub with_version : App → App
@@ -21,31 +60,19 @@ with_version a = record a { top = record a.top { has_version = true } }
 abbrev pub required_command : App → App
 required_command a = record a { top = record a.top { subcommand_required = true } }
 
--- the whole command line
-unfoldable pub mdcli : App
-mdcli =
+-- the commands on one image, and those on a whole array
+abbrev pub with_examine_commands : App → App
+with_examine_commands a =
     with_subcommand
-    (with_subcommand
-    (with_subcommand (required_command (with_version (new_app (codes "mdcli")))) (images_app (codes "examine")).top)
-    (images_app (codes "examine-bitmap")).top)
+    (with_subcommand (with_subcommand a (images_app (codes "examine")).top) (images_app (codes "examine-bitmap")).top)
     (images_app (codes "examine-badblocks")).top
 
--- the report that a command shows
-abbrev pub report_of : Text → Report
-report_of name = if bytes_eq name (codes "examine-bitmap") then Bitmap else if bytes_eq name (codes "examine-badblocks") then BadBlocks else Superblock
+abbrev pub with_array_commands : App → App
+with_array_commands a =
+    with_subcommand
+    (with_subcommand (with_subcommand a create_app.top) (images_app (codes "assemble")).top)
+    (images_app (codes "detail")).top
 
-abbrev pub report_in : Option (Text × List Row) → Report
-report_in None = Superblock
-report_in (Some p) = report_of p.0
-
-abbrev pub images_in : Option (Text × List Row) → List Text
-images_in None = []
-images_in (Some p) = unwrap_or (all_of (codes "image") p.1) []
-
--- the report that the words ask for
-unfoldable pub report_word : List Text → Report
-report_word words = report_in (subcommand_of mdcli words)
-
--- the image words
-unfoldable pub image_words : List Text → List Text
-image_words words = images_in (subcommand_of mdcli words)
+-- the whole command line
+unfoldable pub mdcli : App
+mdcli = with_array_commands (with_examine_commands (required_command (with_version (new_app (codes "mdcli")))))

@@ -1,24 +1,44 @@
 // Why a command is refused. A message is the fault's name and its values, one space between them:
 // the program shows it behind its own name.
+use crate::option_fault::OptionFault;
+use md_array::OpenFault;
+use md_create::CreateFault;
 use md_members::MemberFault;
 use thiserror::Error;
 
 /// Why a command whose words were taken is refused.
 #[derive(Clone, Copy, Debug, PartialEq, Eq, Error)]
 pub enum CommandFault {
-    /// The command wants another number of images.
+    /// A command on one image is given another number of them.
     #[error("BadCount")]
     BadCount,
-    /// The image with this index, counted from 0, can't be opened.
+    /// The image word with this index, counted from 0, is the same as an earlier one, or its image
+    /// can't be opened.
     #[error("BadImage {0}")]
-    BadImage(u32),
+    BadImage(usize),
+    /// The options of `create` are refused.
+    #[error("{0}")]
+    Options(OptionFault),
     /// An image is not read as a member.
     #[error("{0}")]
     Member(MemberFault),
     /// The member has no bitmap.
     #[error("NoBitmap")]
     NoBitmap,
+    /// No array can be made of the images.
+    #[error("{0}")]
+    Create(CreateFault),
+    /// A write failed while a new member was laid out on the image of the word with this index,
+    /// counted from 0.
+    #[error("MetadataFault {0}")]
+    MetadataFault(usize),
+    /// The images are not opened as an array.
+    #[error("{0}")]
+    Open(OpenFault),
     /// The report can't be written.
     #[error("OutputFault")]
     OutputFault,
+    /// There was no memory for the command's own lists.
+    #[error("NoMemory")]
+    NoMemory,
 }

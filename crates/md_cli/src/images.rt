@@ -5,7 +5,7 @@ use md_device::{Device, ImageFault};
 
 /// Devices that are taken out and put back under their names.
 pub trait Images {
-    type Dev: Device + Send;
+    type Dev: Device + Drop + Send;
 
     /// Whether it is known which devices there are. It is not of files.
     ghost known: { Self → Bool };

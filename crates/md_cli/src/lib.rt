@@ -1,16 +1,29 @@
 //! The commands of the program, over images that are found by name.
 #![tactic(auto)]
 
+mod array_report;
+mod arrays;
+mod command_line;
+mod creating;
 mod examining;
 mod fault;
+mod image_word;
 mod images;
+mod laying_out;
 mod memory_images;
+mod option_fault;
+mod options;
 mod parsing;
+mod planning;
 mod report;
+mod request;
 mod running;
+mod sizing;
+mod taking;
 
 pub use fault::CommandFault;
 pub use images::Images;
 pub use memory_images::MemImages;
+pub use option_fault::OptionFault;
 pub use report::Report;
 pub use running::run;

@@ -1,80 +1,97 @@
-// The command line.
-ghost use Rattle.std.specs.Prelude.{◌≡◌, IfOk, [], codes, false, map, option_map, unwrap_or};
-ghost use Rattle.clap.specs.Words.{FailsBy, app_of, fault_of, found_of, matched_of, raw_values, subcommand_of, subcommand_rows_of};
-ghost use Rattle.clap.specs.declared.builder.command.Command.TheViews.{out-Command as fields_of};
-ghost use Rattle.md_cli.specs.Words.{mdcli, images_app, images_in, image_words, report_in, report_word};
+// Reading the words.
+ghost use Rattle.std.specs.Prelude.{◌≡◌, IfOk, [], codes, map, option_map, unwrap_or};
+ghost use Rattle.clap.specs.Words.{FailsBy, fault_of, first_of, found_of, matched_of, raw_values, rows_of, subcommand_of, subcommand_rows_of};
+ghost use Rattle.md_cli.specs.Words.{mdcli};
+ghost use Rattle.md_cli.specs.Asked.{ask_of, asked, asks_in, asks_of, image_words, images_in, number_in, number_of, options_in, options_of, text_in};
 
+use crate::command_line::command_line;
+use crate::options::CreateOptions;
 use crate::report::{Report, report_named};
-use clap::{Arg, ArgMatches, Command, Error};
+use crate::request::{Action, Request};
+use clap::{ArgMatches, Error};
 use std::alloc::{AllocError, Global};
-
-/// What the words ask for: a report, on the images that they name.
-#[derive(Drop)]
-pub(crate) struct Request<'a> {
-    pub(crate) report: Report,
-    pub(crate) images: Vec<&'a str>,
-}
-
-// A command that takes images. Their number is no matter of the parser's: the command itself
-// refuses it by name.
-fn images_command<'a>(
-    alloc: Global,
-    name: &'a str,
-    about: &'a str,
-) -> Result<Command<'a>, AllocError>
-    ensures app { IfOk result (λ c. app_of c ≡ images_app name.entry.now) }
-    ensures local { IfOk result (λ c. (fields_of c).has_globals ≡ false) }
-{
-    let images = Arg::new(alloc, "image")
-        .num_args(1..)
-        .value_name("IMAGE")
-        .help("The image of a member: a file or a block device");
-    Command::new(alloc, name).about(about).arg(images)
-}
-
-fn command<'a>(alloc: Global) -> Result<Command<'a>, AllocError>
-    ensures { IfOk result (λ c. app_of c ≡ mdcli) }
-{
-    let superblock = images_command(alloc, "examine", "Shows the superblock of a member's image")?;
-    let bitmap = images_command(
-        alloc,
-        "examine-bitmap",
-        "Shows the write-intent bitmap of a member's image",
-    )?;
-    let bad_blocks = images_command(
-        alloc,
-        "examine-badblocks",
-        "Shows the bad block log of a member's image",
-    )?;
-    Command::new(alloc, "mdcli")
-        .about("Reads the members of Linux md RAID-1 arrays (metadata 1.2)")
-        .version("0.1.0")
-        .subcommand_required(true)
-        .subcommand(superblock)?
-        .subcommand(bitmap)?
-        .subcommand(bad_blocks)
-}
 
 fn matches<'a>(alloc: Global, words: &'a [&'a str]) -> Result<ArgMatches<'a>, Error>
     ensures ok { IfOk result (λ m. subcommand_rows_of m ≡ subcommand_of mdcli (map (λ s. s.now) words.entry.now)) }
     ensures fails { FailsBy (fault_of mdcli (map (λ s. s.now) words.entry.now)) result }
 {
-    command(alloc)?.try_get_matches_from(words)
+    command_line(alloc)?.try_get_matches_from(words)
+}
+
+// The number that a text says, 0 where it says none.
+fn u32_of(text: &str) -> u32
+    ensures { result ≡ number_of 32 text.now }
+{
+    text.parse::<u32>().unwrap_or(0)
+}
+
+fn u64_of(text: &str) -> u64
+    ensures { result ≡ number_of 64 text.now }
+{
+    text.parse::<u64>().unwrap_or(0)
+}
+
+// The value of an option, empty where it has none.
+fn text_of<'a>(found: &ArgMatches<'a>, name: &str) -> &'a str
+    ensures { result.now ≡ text_in name.now (rows_of (found_of found.now)) }
+{
+    match found.get_str(name) {
+        Some(text) => text,
+        None => "",
+    }
+}
+
+fn size_of(found: &ArgMatches<'_>) -> Option<u64>
+    ensures { result ≡ option_map (number_of 64) (first_of (codes "size") (rows_of (found_of found.now))) }
+{
+    let text = found.get_str("size")?;
+    Some(u64_of(text))
+}
+
+fn create_options<'a>(found: &ArgMatches<'a>) -> CreateOptions<'a>
+    ensures { options_of result ≡ options_in (rows_of (found_of found.now)) }
+{
+    CreateOptions {
+        level: text_of(found, "level"),
+        raid_devices: u32_of(text_of(found, "raid-devices")),
+        uuid: text_of(found, "uuid"),
+        name: text_of(found, "name"),
+        bitmap_chunk: u32_of(text_of(found, "bitmap-chunk")),
+        size: size_of(found),
+        time: u64_of(text_of(found, "time")),
+        assume_clean: text_of(found, "assume-clean") == "true",
+    }
+}
+
+// What the command of a name asks for.
+fn action_of<'a>(name: &str, found: &ArgMatches<'a>) -> Action<'a>
+    ensures { ask_of result ≡ asks_of name.now (rows_of (found_of found.now)) }
+{
+    if name == "create" {
+        return Action::Create(create_options(found));
+    }
+    if name == "assemble" {
+        return Action::Assemble;
+    }
+    if name == "detail" {
+        return Action::Detail;
+    }
+    Action::Examine(report_named(name))
 }
 
 fn requested<'a>(alloc: Global, matches: &ArgMatches<'a>) -> Result<Request<'a>, AllocError>
-    ensures report { IfOk result (λ r. r.report ≡ report_in (subcommand_rows_of matches.now)) }
+    ensures asks { IfOk result (λ r. ask_of r.action ≡ asks_in (subcommand_rows_of matches.now)) }
     ensures images { IfOk result (λ r. map (λ s. s.now) r.images.items ≡ images_in (subcommand_rows_of matches.now)) }
 {
     let Some((name, found)) = matches.subcommand() else {
         return Ok(Request {
-            report: Report::Superblock,
+            action: Action::Examine(Report::Superblock),
             images: Vec::new(alloc),
         });
     };
     let images = image_list(alloc, found)?;
     Ok(Request {
-        report: report_named(name),
+        action: action_of(name, found),
         images,
     })
 }
@@ -90,9 +107,9 @@ fn image_list<'a>(alloc: Global, found: &ArgMatches<'a>) -> Result<Vec<&'a str>,
 }
 
 /// What the words ask for, or why the words are not taken.
-#[tactic(auto, unfolding(crate::specs::Words::image_words, crate::specs::Words::report_word))]
+#[tactic(auto, unfolding(crate::specs::Asked::image_words, crate::specs::Asked::asked))]
 pub(crate) fn parse<'a>(alloc: Global, words: &'a [&'a str]) -> Result<Request<'a>, Error>
-    ensures report { IfOk result (λ r. r.report ≡ report_word (map (λ s. s.now) words.entry.now)) }
+    ensures asks { IfOk result (λ r. ask_of r.action ≡ asked (map (λ s. s.now) words.entry.now)) }
     ensures images { IfOk result (λ r. map (λ s. s.now) r.images.items ≡ image_words (map (λ s. s.now) words.entry.now)) }
     ensures fails { FailsBy (fault_of mdcli (map (λ s. s.now) words.entry.now)) result }
 {

@@ -1,6 +1,6 @@
 // The reports on one image.
 ghost use Rattle.std.specs.Prelude.{◌≡◌};
-ghost use Rattle.md_cli.specs.Words.{report_of};
+ghost use Rattle.md_cli.specs.Asked.{report_of};
 
 /// What is shown of an image.
 #[derive(Clone, Copy, Debug, PartialEq, Eq)]

@@ -1,13 +1,20 @@
 // One command.
-ghost use Rattle.std.specs.Prelude.{◌≡◌, ◌≢◌, ◌⊎◌, ℕ, List, [], ◌∷◌, length, map};
+ghost use Rattle.std.specs.Prelude.{◌≡◌, ◌≢◌, ◌⊎◌, [], map};
 ghost use Rattle.clap.specs.Words.{fault_of};
-ghost use Rattle.md_cli.specs.Words.{mdcli, image_words, report_word};
-ghost use Rattle.md_cli.specs.Running.{DoesCommand, status_of};
+ghost use Rattle.md_cli.specs.Asked.{ask_of, asked, creates, image_words, options_of};
+ghost use Rattle.md_cli.specs.Running.{Does, DoesCommand, IsIdle, status_of};
+ghost use Rattle.md_cli.specs.Words.{mdcli};
 
+use crate::array_report::ArrayReport;
+use crate::arrays::show_images;
+use crate::creating::create_images;
 use crate::examining::examine_images;
 use crate::fault::CommandFault;
 use crate::images::Images;
+use crate::options::CreateOptions;
 use crate::parsing::parse;
+use crate::planning::plan;
+use crate::request::Action;
 use md_examine::Sink;
 use std::alloc::Global;
 use std::io::Write;
@@ -27,10 +34,10 @@ pub fn run<'a, I: Images, S: Sink, E: Write>(
     out: &mut S,
     err: &mut E,
 ) -> u8
-    ensures refused { fault_of mdcli (map (λ s. s.now) words.entry.now) ≢ [] → (result ≡ 2) × (images.new ≡ images.old) × (out.new ≡ out.old) }
+    ensures refused { fault_of mdcli (map (λ s. s.now) words.entry.now) ≢ [] → (result ≡ 2) × IsIdle images.old images.new out.old out.new }
     ensures taken { fault_of mdcli (map (λ s. s.now) words.entry.now) ≡ [] →
-        ((result ≡ 2) × (images.new ≡ images.old) × (out.new ≡ out.old)) ⊎ DoesCommand (report_word (map (λ s. s.now) words.entry.now)) I.Dev.content I.Dev.honest I.Dev.failures S.contents S.failed (I.known images.old) (I.device_at images.old) (I.device_at images.new) (image_words (map (λ s. s.now) words.entry.now)) out.old out.new result }
-    ensures count { length (image_words (map (λ s. s.now) words.entry.now)) ≢ 1 → (images.new ≡ images.old) × (out.new ≡ out.old) }
+        ((result ≡ 2) × IsIdle images.old images.new out.old out.new)
+        ⊎ DoesCommand I.Dev.content I.Dev.honest I.Dev.failures S.contents S.failed I.known I.device_at (asked (map (λ s. s.now) words.entry.now)) (image_words (map (λ s. s.now) words.entry.now)) images.old images.new out.old out.new result }
 {
     let request = match parse(alloc, words) {
         Ok(request) => request,
@@ -39,11 +46,48 @@ pub fn run<'a, I: Images, S: Sink, E: Write>(
             return 2;
         }
     };
-    let names = request.images.as_slice();
-    answer(
-        examine_images(alloc, request.report, images, names, out),
-        err,
-    )
+    let outcome = act(
+        alloc,
+        request.action,
+        images,
+        request.images.as_slice(),
+        out,
+    );
+    answer(outcome, err)
+}
+
+// Does a command on the images that are named.
+fn act<I: Images, S: Sink>(
+    alloc: Global,
+    action: Action<'_>,
+    images: &mut I,
+    names: &[&str],
+    out: &mut S,
+) -> Result<(), CommandFault>
+    ensures { Does I.Dev.content I.Dev.honest I.Dev.failures S.contents S.failed I.known I.device_at (ask_of action.entry) (map (λ s. s.now) names.now) images.old images.new out.old out.new result }
+{
+    match action {
+        Action::Examine(report) => examine_images(alloc, report, images, names, out),
+        Action::Create(options) => create_array(alloc, options, images, names, out),
+        Action::Assemble => show_images(alloc, ArrayReport::Summary, images, names, out),
+        Action::Detail => show_images(alloc, ArrayReport::Detail, images, names, out),
+    }
+}
+
+// Makes an array. No image is touched before the options are accepted.
+fn create_array<I: Images, S: Sink>(
+    alloc: Global,
+    options: CreateOptions<'_>,
+    images: &mut I,
+    names: &[&str],
+    out: &mut S,
+) -> Result<(), CommandFault>
+    ensures { Does I.Dev.content I.Dev.honest I.Dev.failures S.contents S.failed I.known I.device_at (creates (options_of options.entry)) (map (λ s. s.now) names.now) images.old images.new out.old out.new result }
+{
+    match plan(&options, names.len()) {
+        Ok(params) => create_images(alloc, &params, images, names, out),
+        Err(fault) => Err(CommandFault::Options(fault)),
+    }
 }
 
 // The status of a command that was done or refused. A refusal is said on `err`.

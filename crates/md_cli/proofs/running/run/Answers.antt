@@ -1,8 +1,8 @@
-use Rattle.std.proofs.Common.{◌≡◌, ap, sym, ◌∙◌, inr, map, length, List}
-use Rattle.std.proofs.lemmas.List.{length-map}
+use Rattle.std.proofs.Common.{◌≡◌, ap, ◌∙◌, inr, map, List, subst}
 use Rattle.std.specs.Borrow.{Bor}
 use Rattle.clap.specs.Words.{Text}
-use Rattle.md_cli.specs.Words.{image_words}
+use Rattle.md_cli.specs.Asked.{Ask, asked, image_words}
+use Rattle.md_cli.specs.Running.{Does}
 use Rattle.md_cli.proofs.running.run.Goals as goal
 
 abbrev texts : List (Bor Text) → List Text
@@ -10,11 +10,11 @@ texts = map (λ s. s.now)
 
 pub returns-clause-taken : goal.returns-clause-taken
 returns-clause-taken g c taken =
-    let names_are : texts c.as_slice-names.result.now ≡ image_words (texts c.args.words.now) = ap texts c.as_slice-names.ensures.value ∙ c.in-Ok.ensures.images in
-    let many : length (image_words (texts c.args.words.now)) ≡ length c.as_slice-names.result.now = ap length (sym names_are) ∙ length-map c.as_slice-names.result.now (λ s. s.now) in
-    rw (← c.in-Ok.ensures.report) (inr (record {
-      result = c.examine_images.result;
+    let names_are : texts c.as_slice.result.now ≡ image_words (texts c.args.words.now) = ap texts c.as_slice.ensures.value ∙ c.in-Ok.ensures.images in
+    let Doing : Ask → List Text → Type 0 =
+    λ ask names. Does g.I.Dev.Device.content g.I.Dev.Device.honest g.I.Dev.Device.failures g.S.Sink.contents g.S.Sink.failed g.I.Images.known g.I.Images.device_at ask names c.args.images.now c.act-outcome.new.images c.args.out.now c.act-outcome.new.out c.act-outcome.result in
+    inr (record {
+      result = c.act-outcome.result;
       status_is = c.answer.ensures;
-      count = λ n. (c.examine_images.ensures.count (λ e. n (many ∙ e))).0;
-      one = λ name e. c.examine_images.ensures.one name (names_are ∙ e);
-    }))
+      does = subst (λ names. Doing (asked (texts c.args.words.now)) names) names_are (subst (λ ask. Doing ask (texts c.as_slice.result.now)) c.in-Ok.ensures.asks c.act-outcome.ensures);
+    })

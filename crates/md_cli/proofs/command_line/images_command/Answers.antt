@@ -1,0 +1,10 @@
+use Rattle.std.proofs.Common.{ap, ap₂, ◌≡◌, ◌∙◌}
+use Rattle.std.proofs.lemmas.Result.{IfOk-weaker}
+use Rattle.clap.specs.Words.{app_of, new_app, with_rule}
+use Rattle.clap.specs.Simple.{app_of_fields}
+use Rattle.md_cli.proofs.command_line.images_command.Goals as goal
+
+pub returns-clause-app : goal.returns-clause-app
+returns-clause-app c =
+    let named_is : app_of c.about.result ≡ new_app c.args.name.now = ap app_of_fields c.about.ensures ∙ c.new.ensures.app in
+    IfOk-weaker c.arg.result _ _ (λ r h. h.shape c.image_arg.ensures.local ∙ ap₂ with_rule named_is c.image_arg.ensures.rule) c.arg.ensures

@@ -1,0 +1,19 @@
+use Rattle.std.proofs.Common.{◌∙◌, map, subst, sym}
+use Rattle.std.proofs.lemmas.List.{length-map}
+use Rattle.md_cli.specs.declared.request.Action.{Action}
+use Rattle.md_cli.specs.declared.request.Action.TheVariants as action
+use Rattle.md_cli.specs.Asked.{ask_of}
+use Rattle.md_cli.specs.Running.{Does}
+use Rattle.md_cli.proofs.running.act.Goals as goal
+
+pub returns-in-Examine : goal.returns-in-Examine
+returns-in-Examine g c =
+    let Doing : Action → Type 0 =
+    λ a. Does g.I.Dev.Device.content g.I.Dev.Device.honest g.I.Dev.Device.failures g.S.Sink.contents g.S.Sink.failed g.I.Images.known g.I.Images.device_at (ask_of a) (map (λ s. s.now) c.args.names.now) c.args.images.now c.examine_images.new.images c.args.out.now c.examine_images.new.out c.examine_images.result in
+    let done : Doing (action.Examine c.in-Examine.report) = record {
+      count = λ other.
+          let so = c.examine_images.ensures.count (λ e. other (length-map c.args.names.now (λ s. s.now) ∙ e)) in
+          (so.0, (so.1, so.2));
+      one = c.examine_images.ensures.one;
+    } in
+    subst Doing (sym c.in-Examine.is) done

@@ -1,0 +1,72 @@
+-- What the commands that open a whole array give.
+use Rattle.std.specs.Prelude.{◌≡◌, ◌⊎◌, ℕ, Bool, true, List, length, map, Option, Result, Err, MatchResult}
+use Rattle.clap.specs.Words.{Text}
+use Rattle.md_array.specs.View.{ArrayView, Disk, MirrorView, disk_of}
+use Rattle.md_array.specs.Opening.{IsOpenedFrom, RefusesOpen}
+use Rattle.md_array.specs.declared.fault.OpenFault.{OpenFault}
+use Rattle.md_examine.specs.Sink.{Puts}
+use Rattle.md_examine.specs.SummaryReport.{summary_text}
+use Rattle.md_examine.specs.DetailReport.{detail_text}
+use Rattle.md_cli.specs.declared.array_report.ArrayReport.{ArrayReport}
+use Rattle.md_cli.specs.declared.array_report.ArrayReport.TheVariants.{Summary, Detail}
+use Rattle.md_cli.specs.declared.fault.CommandFault.{CommandFault}
+use Rattle.md_cli.specs.declared.fault.CommandFault.TheVariants.{Open, OutputFault}
+use Rattle.md_cli.specs.Taking.{ArePut, AreUnder, IsDistinct, RefusesImages, Word, names_of}
+
+abbrev pub array_text : ArrayReport → ArrayView → List ℕ
+array_text Summary a = summary_text a
+array_text Detail a = detail_text a
+
+-- the text is written, or the output failed
+abbrev pub WritesText : {S : Type 0} → (S → Option (List ℕ)) → (S → Bool) → S → S → List ℕ → Result (Unit {0}) CommandFault → Type 0
+WritesText contents failed old new text result =
+    MatchResult result (λ _. Puts contents failed old new text) (λ fault. (fault ≡ OutputFault) × (failed new ≡ true))
+
+module _ {S : Type 0} (contents : S → Option (List ℕ)) (failed : S → Bool) where
+  -- The devices are opened as a mirror, and a report on it is written. `before` and `after` are the devices as contracts see
+  -- them.
+  pub record ShowsMirror (report : ArrayReport) (before after : List Disk) (old new : S) (result : Result (Unit {0}) CommandFault) : Type 0 where
+    pub mirror : MirrorView
+    pub opened : IsOpenedFrom before mirror
+    pub devices : after ≡ mirror.disks
+    pub shown : WritesText contents failed old new (array_text report mirror.array) result
+
+  -- they are not opened, and nothing is written to the output
+  pub record RefusesMirror (before after : List Disk) (old new : S) (result : Result (Unit {0}) CommandFault) : Type 0 where
+    pub fault : OpenFault
+    pub is : result ≡ Err (Open fault)
+    pub refused : RefusesOpen before after fault
+    pub unwritten : new ≡ old
+
+  abbrev pub OpensDevices : ArrayReport → List Disk → List Disk → S → S → Result (Unit {0}) CommandFault → Type 0
+  OpensDevices report before after old new result = ShowsMirror report before after old new result ⊎ RefusesMirror before after old new result
+
+-- What is done with devices, as contracts see them before and after, and with the output.
+abbrev pub Work : Type 0 → Type 1
+Work S = List Disk → List Disk → S → S → Result (Unit {0}) CommandFault → Type 0
+
+module _ {D : Type 0} (content : D → List ℕ) (honest : D → Bool) (failures : D → ℕ) where
+  abbrev pub disks : List D → List Disk
+  disks = map (disk_of content honest failures)
+
+module _ {D S : Type 0} (content : D → List ℕ) (honest : D → Bool) (failures : D → ℕ) where
+  -- The devices of all words are taken out of their images, worked on, and put back under their names. Where it is known
+  -- which devices there are, they are those under the names, and all other names keep theirs.
+  pub record WorksOnImages (Does : Work S) (known : Bool) (before after : Text → Option D) (words : List Word) (old new : S) (result : Result (Unit {0}) CommandFault) : Type 0 where
+    pub taken : List D
+    pub given : List D
+    pub distinct : IsDistinct (names_of words) (length words)
+    pub were : known ≡ true → AreUnder before (names_of words) (length words) taken
+    pub put : known ≡ true → ArePut before after (names_of words) (length words) given
+    pub done : Does (disks content honest failures taken) (disks content honest failures given) old new result
+
+  -- an image is refused, or there is no memory for the list of devices: nothing else is done
+  pub record RefusesWords (Unchanged : Type 0) (known : Bool) (before after : Text → Option D) (words : List Word) (old new : S) (result : Result (Unit {0}) CommandFault) : Type 0 where
+    pub fault : CommandFault
+    pub is : result ≡ Err fault
+    pub refused : RefusesImages Unchanged known before after words fault
+    pub unwritten : new ≡ old
+
+  abbrev pub UsesImages : Work S → Type 0 → Bool → (Text → Option D) → (Text → Option D) → List Word → S → S → Result (Unit {0}) CommandFault → Type 0
+  UsesImages Does Unchanged known before after words old new result =
+      WorksOnImages Does known before after words old new result ⊎ RefusesWords Unchanged known before after words old new result

@@ -1,0 +1,95 @@
+-- What `create` does with the devices of the images.
+use Rattle.std.specs.Prelude.{◌≡◌, ◌⊎◌, ℕ, ◌/◌, ◌<◌, Bool, true, List, [], ◌∷◌, drop, length, Option, Some, None, Result, Err, slice_get, slice_index_or, if◌then◌else◌}
+use Rattle.clap.specs.Words.{Text}
+use Rattle.md_create.specs.Geometry.{IsGeometry}
+use Rattle.md_create.specs.Values.{AreMembers}
+use Rattle.md_create.specs.Layout.{writes_of}
+use Rattle.md_create.specs.Writes.{DoesWrites, StopsInWrites}
+use Rattle.md_create.specs.declared.params.CreateParams.{CreateParams}
+use Rattle.md_create.specs.declared.params.NewMember.{NewMember}
+use Rattle.md_create.specs.declared.fault.CreateFault.TheVariants.{BadGeometry, NoMemory}
+use Rattle.md_array.specs.View.{Disk}
+use Rattle.md_cli.specs.declared.array_report.ArrayReport.TheVariants.{Summary}
+use Rattle.md_cli.specs.declared.fault.CommandFault.{CommandFault}
+use Rattle.md_cli.specs.declared.fault.CommandFault.TheVariants as fault
+use Rattle.md_cli.specs.Arrays.{OpensDevices}
+use Rattle.md_cli.specs.Taking.{image_list, is_missing}
+
+-- the sectors of a device
+abbrev pub sectors_on : Disk → ℕ
+sectors_on d = length d.content / 512
+
+abbrev pub first_size : List Disk → Option ℕ
+first_size [] = None
+first_size (d ∷ ds) = Some (sectors_on d)
+
+-- the size of the device for each image word, of which those that stand for a missing member have none, and the others the
+-- devices in their order
+unfoldable pub sizes_of : List Text → List Disk → List (Option ℕ)
+sizes_of [] disks = []
+sizes_of (word ∷ words) disks =
+    if is_missing true word then None ∷ sizes_of words disks
+    else first_size disks ∷ sizes_of words (drop 1 disks)
+
+-- device k before and after
+abbrev pub At : (Disk → Disk → NewMember → Type 0) → List Disk → List Disk → List NewMember → ℕ → Type 0
+At Related before after members k =
+    (d e : Disk) (m : NewMember) → slice_get before k ≡ Some d → slice_get after k ≡ Some e → slice_get members k ≡ Some m → Related d e m
+
+-- a member is laid out on a device, or a write of it failed
+abbrev pub LaysOut : Disk → Disk → NewMember → Type 0
+LaysOut d e m = DoesWrites (λ x. x.content) (λ x. x.honest) (λ x. x.failures) (writes_of m) d e
+
+abbrev pub FailsToLayOut : Disk → Disk → NewMember → Type 0
+FailsToLayOut d e m = StopsInWrites (λ x. x.content) (λ x. x.honest) (λ x. x.failures) (writes_of m) d e
+
+-- the first n members are laid out, each on its device, and nothing is done to the devices behind the n-th
+pub record AreLaidOut (before after : List Disk) (members : List NewMember) (n : ℕ) : Type 0 where
+  pub as_many : length after ≡ length before
+  pub each : (k : ℕ) → k < n → At LaysOut before after members k
+  pub later : (k : ℕ) → n < k → slice_get after k ≡ slice_get before k
+
+-- these are the members of the array that is made of the devices
+pub record AreNewMembers (params : CreateParams) (words : List Text) (disks : List Disk) (members : List NewMember) : Type 0 where
+  pub size : ℕ
+  pub geometry : IsGeometry params (sizes_of words disks) size
+  pub are : AreMembers params (sizes_of words disks) size members
+  pub as_many : length members ≡ length disks
+
+module _ {S : Type 0} (contents : S → Option (List ℕ)) (failed : S → Bool) (params : CreateParams) (words : List Text) where
+  -- Before the first write: the devices make no array, or there is no memory.
+  abbrev pub IsRefusal : List Disk → CommandFault → Type 0
+  IsRefusal disks (fault.Create BadGeometry) = (size : ℕ) → IsGeometry params (sizes_of words disks) size → ⊥
+  IsRefusal disks (fault.Create NoMemory) = (size : ℕ) × IsGeometry params (sizes_of words disks) size
+  IsRefusal disks fault.NoMemory = Unit {0}
+  IsRefusal disks _ = ⊥
+
+  pub record RefusesDevices (before after : List Disk) (old new : S) (result : Result (Unit {0}) CommandFault) : Type 0 where
+    pub why : CommandFault
+    pub is : result ≡ Err why
+    pub refused : IsRefusal before why
+    pub untouched : after ≡ before
+    pub unwritten : new ≡ old
+
+  -- A write fails while a member is laid out, which is named by the place of its image word.
+  pub record StopsOnDevice (before after : List Disk) (old new : S) (result : Result (Unit {0}) CommandFault) : Type 0 where
+    pub members : List NewMember
+    pub made : AreNewMembers params words before members
+    pub place : ℕ
+    pub within : place < length before
+    pub is : result ≡ Err (fault.MetadataFault (slice_index_or (image_list true words) place (0, [])).0)
+    pub laid_out : AreLaidOut before after members place
+    pub stopped : At FailsToLayOut before after members place
+    pub unwritten : new ≡ old
+
+  -- All members are laid out, and the devices are opened and shown in a line.
+  pub record LaysOutAll (before after : List Disk) (old new : S) (result : Result (Unit {0}) CommandFault) : Type 0 where
+    pub members : List NewMember
+    pub made : AreNewMembers params words before members
+    pub middle : List Disk
+    pub laid_out : AreLaidOut before middle members (length before)
+    pub opened : OpensDevices contents failed Summary middle after old new result
+
+  abbrev pub CreatesOn : List Disk → List Disk → S → S → Result (Unit {0}) CommandFault → Type 0
+  CreatesOn before after old new result =
+      RefusesDevices before after old new result ⊎ (StopsOnDevice before after old new result ⊎ LaysOutAll before after old new result)

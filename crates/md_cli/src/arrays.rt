@@ -1,0 +1,71 @@
+// The commands that show a whole array.
+ghost use Rattle.std.specs.Prelude.{◌≡◌, length, map, false};
+ghost use Rattle.md_array.specs.View.{disk_of};
+ghost use Rattle.md_cli.specs.Arrays.{OpensDevices, UsesImages, WritesText, array_text};
+ghost use Rattle.md_cli.specs.Taking.{image_list};
+
+use crate::array_report::ArrayReport;
+use crate::fault::CommandFault;
+use crate::image_word::image_list;
+use crate::images::Images;
+use crate::taking::{put_back, take_images};
+use md_array::Mirror;
+use md_device::Device;
+use md_examine::{Sink, detail, summary};
+use std::alloc::Global;
+
+fn show<D: Device + Drop, S: Sink>(
+    report: ArrayReport,
+    mirror: &Mirror<D>,
+    out: &mut S,
+) -> Result<(), CommandFault>
+    ensures { WritesText S.contents S.failed out.old out.new (array_text report mirror.now.array) result }
+{
+    let shown = match report {
+        ArrayReport::Summary => summary(out, mirror),
+        ArrayReport::Detail => detail(out, mirror),
+    };
+    match shown {
+        Ok(()) => Ok(()),
+        Err(_) => Err(CommandFault::OutputFault),
+    }
+}
+
+/// Opens devices as a mirror and writes a report on it. They come back in their order.
+pub(crate) fn show_devices<D: Device + Drop, S: Sink>(
+    alloc: Global,
+    report: ArrayReport,
+    devices: Vec<D>,
+    out: &mut S,
+) -> (Vec<D>, Result<(), CommandFault>)
+    ensures as_many { length result.0.items ≡ length devices.items }
+    ensures gives { OpensDevices S.contents S.failed report (map (disk_of D.content D.honest D.failures) devices.items) (map (disk_of D.content D.honest D.failures) result.0.items) out.old out.new result.1 }
+{
+    match Mirror::open(alloc, devices) {
+        Ok(mirror) => {
+            let shown = show(report, &mirror, out);
+            (mirror.into_devices(), shown)
+        }
+        Err((devices, fault)) => (devices, Err(CommandFault::Open(fault))),
+    }
+}
+
+/// Shows the array that images make, and puts them back.
+pub(crate) fn show_images<I: Images, S: Sink>(
+    alloc: Global,
+    report: ArrayReport,
+    images: &mut I,
+    names: &[&str],
+    out: &mut S,
+) -> Result<(), CommandFault>
+    ensures { UsesImages I.Dev.content I.Dev.honest I.Dev.failures (OpensDevices S.contents S.failed report) (images.new ≡ images.old) (I.known images.old) (I.device_at images.old) (I.device_at images.new) (image_list false (map (λ s. s.now) names.now)) out.old out.new result }
+{
+    let Ok(list) = image_list(alloc, names, false) else {
+        return Err(CommandFault::NoMemory);
+    };
+    let words = list.as_slice();
+    let devices = take_images(alloc, images, words)?;
+    let (devices, result) = show_devices(alloc, report, devices, out);
+    put_back(images, words, devices);
+    result
+}

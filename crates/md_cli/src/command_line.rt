@@ -1,0 +1,191 @@
+// The command line, as clap is told of it.
+ghost use Rattle.std.specs.Prelude.{◌≡◌, IfOk, false};
+ghost use Rattle.clap.specs.Words.{app_of, rule_of};
+ghost use Rattle.clap.specs.declared.builder.command.Command.TheViews.{out-Command as fields_of};
+ghost use Rattle.md_cli.specs.Words.{create_app, flag_rule, image_rule, images_app, mdcli, u32_rule, u64_rule, with_optional, with_required, value_rule, with_array_commands, with_examine_commands};
+
+use clap::builder::ValueParserFactory;
+use clap::{Arg, ArgAction, Command};
+use std::alloc::{AllocError, Global};
+
+// The images, listed last. Their number is no matter of the parser's: the command itself refuses it by
+// name.
+fn image_arg<'a>(alloc: Global) -> Arg<'a>
+    ensures rule { rule_of result ≡ image_rule }
+    ensures local { result.global ≡ false }
+{
+    Arg::new(alloc, "image")
+        .num_args(1..)
+        .value_name("IMAGE")
+        .help("The image of a member: a file or a block device")
+}
+
+// An option with a value.
+fn value_arg<'a>(alloc: Global, name: &'a str, value: &'a str, help: &'a str) -> Arg<'a>
+    ensures rule { rule_of result ≡ value_rule name.entry.now }
+    ensures local { result.global ≡ false }
+{
+    Arg::new(alloc, name)
+        .long(name)
+        .value_name(value)
+        .help(help)
+}
+
+// An option with a number.
+fn u32_arg<'a>(alloc: Global, name: &'a str, value: &'a str, help: &'a str) -> Arg<'a>
+    ensures rule { rule_of result ≡ u32_rule name.entry.now }
+    ensures local { result.global ≡ false }
+{
+    value_arg(alloc, name, value, help).value_parser(u32::value_parser())
+}
+
+fn u64_arg<'a>(alloc: Global, name: &'a str, value: &'a str, help: &'a str) -> Arg<'a>
+    ensures rule { rule_of result ≡ u64_rule name.entry.now }
+    ensures local { result.global ≡ false }
+{
+    value_arg(alloc, name, value, help).value_parser(u64::value_parser())
+}
+
+// An option without a value.
+fn flag_arg<'a>(alloc: Global, name: &'a str, help: &'a str) -> Arg<'a>
+    ensures rule { rule_of result ≡ flag_rule name.entry.now }
+    ensures local { result.global ≡ false }
+{
+    Arg::new(alloc, name)
+        .long(name)
+        .action(ArgAction::SetTrue)
+        .help(help)
+}
+
+// A command that takes images alone.
+fn images_command<'a>(
+    alloc: Global,
+    name: &'a str,
+    about: &'a str,
+) -> Result<Command<'a>, AllocError>
+    ensures app { IfOk result (λ c. app_of c ≡ images_app name.entry.now) }
+    ensures local { IfOk result (λ c. (fields_of c).has_globals ≡ false) }
+{
+    Command::new(alloc, name).about(about).arg(image_arg(alloc))
+}
+
+// The options that `create` must be given.
+fn required_options<'a>(alloc: Global, command: Command<'a>) -> Result<Command<'a>, AllocError>
+    ensures app { IfOk result (λ c. app_of c ≡ with_required (app_of command.entry)) }
+    ensures local { IfOk result (λ c. (fields_of command.entry).has_globals ≡ false → (fields_of c).has_globals ≡ false) }
+{
+    let level = value_arg(
+        alloc,
+        "level",
+        "LEVEL",
+        "The RAID level: 1, raid1 or mirror",
+    )
+    .required(true);
+    let devices = u32_arg(alloc, "raid-devices", "N", "The number of members").required(true);
+    let uuid = value_arg(alloc, "uuid", "UUID", "The UUID of the array").required(true);
+    command.arg(level)?.arg(devices)?.arg(uuid)
+}
+
+// The options that `create` may be given.
+fn optional_options<'a>(alloc: Global, command: Command<'a>) -> Result<Command<'a>, AllocError>
+    ensures app { IfOk result (λ c. app_of c ≡ with_optional (app_of command.entry)) }
+    ensures local { IfOk result (λ c. (fields_of command.entry).has_globals ≡ false → (fields_of c).has_globals ≡ false) }
+{
+    let name = value_arg(
+        alloc,
+        "name",
+        "NAME",
+        "The name of the array, of at most 32 bytes",
+    )
+    .default_value("md");
+    let chunk = u32_arg(
+        alloc,
+        "bitmap-chunk",
+        "KIB",
+        "The size of a chunk of the bitmap",
+    )
+    .default_value("65536");
+    let size = u64_arg(
+        alloc,
+        "size",
+        "KIB",
+        "The size of the array: by default all that its members have",
+    );
+    let time = u64_arg(
+        alloc,
+        "time",
+        "SECONDS",
+        "The time that the array is created at, since 1970",
+    )
+    .default_value("0");
+    let clean = flag_arg(
+        alloc,
+        "assume-clean",
+        "Takes the members for equal, so that nothing is to be copied",
+    );
+    command
+        .arg(name)?
+        .arg(chunk)?
+        .arg(size)?
+        .arg(time)?
+        .arg(clean)
+}
+
+fn create_command<'a>(alloc: Global) -> Result<Command<'a>, AllocError>
+    ensures app { IfOk result (λ c. app_of c ≡ create_app) }
+    ensures local { IfOk result (λ c. (fields_of c).has_globals ≡ false) }
+{
+    let command = Command::new(alloc, "create").about("Makes an array of the images");
+    let command = required_options(alloc, command)?;
+    optional_options(alloc, command)?.arg(image_arg(alloc))
+}
+
+// The commands on a whole array.
+fn array_commands<'a>(alloc: Global, program: Command<'a>) -> Result<Command<'a>, AllocError>
+    ensures { IfOk result (λ c. app_of c ≡ with_array_commands (app_of program.entry)) }
+{
+    let create = create_command(alloc)?;
+    let assemble = images_command(
+        alloc,
+        "assemble",
+        "Shows in a line what array the images make",
+    )?;
+    let detail = images_command(alloc, "detail", "Shows the array that the images make")?;
+    program
+        .subcommand(create)?
+        .subcommand(assemble)?
+        .subcommand(detail)
+}
+
+// The commands on one image.
+fn examine_commands<'a>(alloc: Global, program: Command<'a>) -> Result<Command<'a>, AllocError>
+    ensures { IfOk result (λ c. app_of c ≡ with_examine_commands (app_of program.entry)) }
+{
+    let superblock = images_command(alloc, "examine", "Shows the superblock of a member's image")?;
+    let bitmap = images_command(
+        alloc,
+        "examine-bitmap",
+        "Shows the write-intent bitmap of a member's image",
+    )?;
+    let bad_blocks = images_command(
+        alloc,
+        "examine-badblocks",
+        "Shows the bad block log of a member's image",
+    )?;
+    program
+        .subcommand(superblock)?
+        .subcommand(bitmap)?
+        .subcommand(bad_blocks)
+}
+
+/// The whole command line.
+pub(crate) fn command_line<'a>(alloc: Global) -> Result<Command<'a>, AllocError>
+    ensures { IfOk result (λ c. app_of c ≡ mdcli) }
+{
+    let program = Command::new(alloc, "mdcli")
+        .about("Makes and reads Linux md RAID-1 arrays (metadata 1.2)")
+        .version("0.1.0")
+        .subcommand_required(true);
+    let program = examine_commands(alloc, program)?;
+    array_commands(alloc, program)
+}

@@ -1,0 +1,71 @@
+// The command that makes an array.
+ghost use Rattle.std.specs.Prelude.{◌≡◌, ℕ, length, map, true};
+ghost use Rattle.md_array.specs.View.{disk_of};
+ghost use Rattle.md_cli.specs.Arrays.{UsesImages};
+ghost use Rattle.md_cli.specs.Creating.{CreatesOn};
+ghost use Rattle.md_cli.specs.Taking.{image_list, word_of};
+
+use crate::array_report::ArrayReport;
+use crate::arrays::show_devices;
+use crate::fault::CommandFault;
+use crate::image_word::{ImageWord, image_list};
+use crate::images::Images;
+use crate::laying_out::lay_out_each;
+use crate::sizing::sizes_of;
+use crate::taking::{put_back, take_images};
+use md_create::{CreateParams, create};
+use md_device::Device;
+use md_examine::Sink;
+use std::alloc::Global;
+
+// Makes an array of the devices, opens it and shows it in a line. The devices come back in their
+// order.
+fn create_on<D: Device + Drop, S: Sink>(
+    alloc: Global,
+    params: &CreateParams,
+    names: &[&str],
+    words: &[ImageWord<'_>],
+    mut devices: Vec<D>,
+    out: &mut S,
+) -> (Vec<D>, Result<(), CommandFault>)
+    requires words { map word_of words.now ≡ image_list true (map (λ s. s.now) names.now) }
+    requires as_many { length devices.items ≡ length words.now }
+    ensures as_many { length result.0.items ≡ length devices.items }
+    ensures gives { CreatesOn S.contents S.failed params.now (map (λ s. s.now) names.now) (map (disk_of D.content D.honest D.failures) devices.items) (map (disk_of D.content D.honest D.failures) result.0.items) out.old out.new result.1 }
+{
+    let Ok(sizes) = sizes_of(alloc, names, devices.as_slice()) else {
+        return (devices, Err(CommandFault::NoMemory));
+    };
+    let members = match create(alloc, params, sizes.as_slice()) {
+        Ok(members) => members,
+        Err(fault) => return (devices, Err(CommandFault::Create(fault))),
+    };
+    let place = lay_out_each(devices.as_mut_slice(), members.as_slice());
+    if place < devices.len() {
+        return (
+            devices,
+            Err(CommandFault::MetadataFault(words[place].index)),
+        );
+    }
+    show_devices(alloc, ArrayReport::Summary, devices, out)
+}
+
+/// Makes an array of the images, shows it in a line, and puts the images back.
+pub(crate) fn create_images<I: Images, S: Sink>(
+    alloc: Global,
+    params: &CreateParams,
+    images: &mut I,
+    names: &[&str],
+    out: &mut S,
+) -> Result<(), CommandFault>
+    ensures { UsesImages I.Dev.content I.Dev.honest I.Dev.failures (CreatesOn S.contents S.failed params.now (map (λ s. s.now) names.now)) (images.new ≡ images.old) (I.known images.old) (I.device_at images.old) (I.device_at images.new) (image_list true (map (λ s. s.now) names.now)) out.old out.new result }
+{
+    let Ok(list) = image_list(alloc, names, true) else {
+        return Err(CommandFault::NoMemory);
+    };
+    let words = list.as_slice();
+    let devices = take_images(alloc, images, words)?;
+    let (devices, result) = create_on(alloc, params, names, words, devices, out);
+    put_back(images, words, devices);
+    result
+}

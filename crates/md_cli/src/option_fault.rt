@@ -1,0 +1,26 @@
+// Why the options of `create` are refused. A message is the fault's name.
+use thiserror::Error;
+
+/// Why `create` refuses its options, before any image is touched; in the order in which it is looked
+/// for.
+#[derive(Clone, Copy, Debug, PartialEq, Eq, Error)]
+pub enum OptionFault {
+    /// The level is not RAID 1: `1`, `raid1` or `mirror`.
+    #[error("BadLevel")]
+    BadLevel,
+    /// The array's UUID is not one.
+    #[error("BadUuid")]
+    BadUuid,
+    /// The name has more than 32 bytes.
+    #[error("BadName")]
+    BadName,
+    /// There are not as many image words as members.
+    #[error("BadCount")]
+    BadCount,
+    /// The bitmap's chunk size in bytes doesn't fit 32 bits.
+    #[error("BadChunk")]
+    BadChunk,
+    /// The size in sectors doesn't fit 64 bits.
+    #[error("BadSize")]
+    BadSize,
+}

@@ -1,0 +1,39 @@
+// The sizes of the devices that an array is made of.
+ghost use Rattle.std.specs.Prelude.{◌≡◌, IfOk, drop, map};
+ghost use Rattle.md_array.specs.View.{disk_of};
+ghost use Rattle.md_cli.specs.Creating.{first_size, sizes_of};
+
+use crate::image_word::is_missing;
+use md_device::Device;
+use std::alloc::{AllocError, Global};
+
+// The size of the next device, in sectors.
+fn next_size<D: Device>(devices: &[D], next: usize) -> Option<u64>
+    ensures { result ≡ first_size (drop next (map (disk_of D.content D.honest D.failures) devices.now)) }
+{
+    match devices.get(next) {
+        Some(device) => Some(device.sectors()),
+        None => None,
+    }
+}
+
+/// The sizes of the devices by the image words, in sectors. A missing member has none.
+pub(crate) fn sizes_of<D: Device>(
+    alloc: Global,
+    names: &[&str],
+    devices: &[D],
+) -> Result<Vec<Option<u64>>, AllocError>
+    ensures { IfOk result (λ sizes. sizes.items ≡ sizes_of (map (λ s. s.now) names.now) (map (disk_of D.content D.honest D.failures) devices.now)) }
+{
+    let mut sizes = Vec::new(alloc);
+    let mut next = 0;
+    for place in 0..names.len() {
+        if is_missing(true, names[place]) {
+            sizes.push(None)?;
+            continue;
+        }
+        sizes.push(next_size(devices, next))?;
+        next += 1;
+    }
+    Ok(sizes)
+}
