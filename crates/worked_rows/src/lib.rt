@@ -8,9 +8,13 @@ mod bitmap_and_log_reports;
 #[cfg(test)]
 mod commands;
 #[cfg(test)]
+mod commands_on_arrays;
+#[cfg(test)]
 mod examine_report;
 #[cfg(test)]
 mod fault_texts;
+#[cfg(test)]
+mod mirrors;
 #[cfg(test)]
 mod new_members;
 #[cfg(test)]
