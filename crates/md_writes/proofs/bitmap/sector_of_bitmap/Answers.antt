@@ -1,4 +1,4 @@
-use Rattle.std.proofs.Common.{arith, ◌≡◌, ◌∙◌, ap, sym, length}
+use Rattle.std.proofs.Common.{◌∙◌, ap, sym, length}
 use Rattle.md_writes.proofs.Sectors.{length-header_bytes, sector_is}
 use Rattle.md_writes.proofs.bitmap.sector_of_bitmap.Goals as goal
 

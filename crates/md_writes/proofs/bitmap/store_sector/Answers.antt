@@ -1,6 +1,5 @@
-use Rattle.std.proofs.Common.{refl, ℕ, ◌≡◌, ◌∙◌, ◌+◌, ◌∷◌, [], ap, subst}
+use Rattle.std.proofs.Common.{refl, ℕ, ◌≡◌, ◌+◌, ◌∷◌, [], subst}
 use Rattle.md_writes.specs.Writes.{MakesWrites, Write}
-use Rattle.md_writes.specs.Bitmaps.{bitmap_write}
 use Rattle.md_writes.proofs.Sectors.{write_is}
 use Rattle.md_writes.proofs.bitmap.store_sector.Goals as goal
 
