@@ -1,5 +1,5 @@
 -- Devices fit the array that they make.
-use Rattle.std.proofs.Common.{◌≡◌, ℕ, ◌≤◌, ◌<◌, Bool, true, List, length, Option, Some, None, map, refl, sym, ap, ◌∙◌, arith, subst}
+use Rattle.std.proofs.Common.{◌≡◌, ℕ, Bool, true, List, Option, Some, None, map, refl, sym, ap, ◌∙◌, arith, subst}
 use Rattle.std.specs.Prelude.{slice_get, option_map}
 use Rattle.std.proofs.lemmas.Option.{none-some, same_Some, slice_get-map, slice_get_within}
 use Rattle.md_super.specs.declared.superblock.Superblock.{Superblock}
@@ -8,12 +8,11 @@ use Rattle.md_bitmap.specs.Marks.{Bitmap}
 use Rattle.md_bitmap.specs.Sound.{IsChunkSize, chunk_count}
 use Rattle.md_bitmap.proofs.Accepted.{sound_is}
 use Rattle.md_members.specs.declared.info.MemberInfo.{MemberInfo}
-use Rattle.md_members.specs.Areas.{IsPlaced, bitmap_sectors, has_bitmap}
+use Rattle.md_members.specs.Areas.{has_bitmap}
 use Rattle.md_members.specs.Members.{HasBitmap, sectors_of}
 use Rattle.md_members.specs.Reading.{ReadsBitmap, ReadsHeader, front_of}
 use Rattle.md_array.specs.View.{Disk, ArrayView, MemberView}
-use Rattle.md_array.specs.Members.{IsMember}
-use Rattle.md_array.specs.Opening.{IsArrayOf, IsKept}
+use Rattle.md_array.specs.Opening.{IsArrayOf}
 use Rattle.md_array.specs.Fits.{Fits, FitsMember}
 use Rattle.md_array.proofs.Geometry.{alike, states_as_many}
 use Rattle.md_array.proofs.Listing.{listed_at}

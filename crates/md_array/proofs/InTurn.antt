@@ -1,5 +1,5 @@
 -- Devices are gone through in their order: what changes where the device at an index does.
-use Rattle.std.proofs.Common.{◌≡◌, ◌≢◌, ℕ, ◌≤◌, ◌<◌, ◌+◌, ◌++◌, ◌∷◌, [], List, length, refl, sym, ap, ◌∙◌, arith, map, set, subst, get_or, get_or-set_same, get_or-set_other, length-set, ⊎_elim}
+use Rattle.std.proofs.Common.{◌≡◌, ◌≢◌, ℕ, ◌<◌, ◌++◌, ◌∷◌, [], List, length, refl, sym, ap, ◌∙◌, arith, map, set, subst, get_or, get_or-set_same, get_or-set_other, length-set, ⊎_elim}
 use Rattle.std.specs.Prelude.{slice_get, Some, option_map}
 use Rattle.std.proofs.lemmas.Bool.Decides.{eqb_tells}
 use Rattle.std.proofs.lemmas.List.{get_or_push, get_or_append_left}

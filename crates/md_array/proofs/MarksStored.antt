@@ -1,10 +1,10 @@
 -- Marks are stored on one member after another.
-use Rattle.std.proofs.Common.{◌≡◌, ℕ, ◌≤◌, ◌<◌, ◌+◌, List, length, refl, sym, ap, ◌∙◌, arith, set, subst}
+use Rattle.std.proofs.Common.{◌≡◌, ℕ, ◌≤◌, ◌<◌, ◌+◌, List, length, sym, ap, arith, set}
 use Rattle.std.specs.Prelude.{slice_get, Some}
-use Rattle.std.proofs.lemmas.Option.{slice_get_within, same_Some}
+use Rattle.std.proofs.lemmas.Option.{slice_get_within}
 use Rattle.md_array.specs.View.{Disk, ArrayView, MemberView}
 use Rattle.md_array.specs.Members.{IsMember, NeedsMarks}
-use Rattle.md_array.specs.Opening.{AreMarked, AreSame, EachPair, FailsToStore, IsMarked, IsMarkedBy, IsUnchanged, StaysHonest, StopsAtMember}
+use Rattle.md_array.specs.Opening.{AreMarked, AreSame, EachPair, FailsToStore, IsMarked, IsMarkedBy, StaysHonest, StopsAtMember}
 use Rattle.md_array.proofs.InTurn.{at_set_other, at_set_same, each_after, none_touched, still_same}
 use Rattle.md_array.proofs.Listing.{same_listed}
 

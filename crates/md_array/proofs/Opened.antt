@@ -1,5 +1,5 @@
 -- Devices are opened: the members are read, assembled and remembered, and then marks are stored.
-use Rattle.std.proofs.Common.{◌≡◌, ◌≢◌, ℕ, ◌≤◌, ◌<◌, ◌*◌, Bool, true, List, length, refl, sym, ap, ◌∙◌, arith, subst, get_or}
+use Rattle.std.proofs.Common.{◌≡◌, ℕ, ◌*◌, List, length, sym, ap, ◌∙◌, arith, subst, get_or}
 use Rattle.std.specs.Prelude.{slice_get, Some}
 use Rattle.md_device.specs.Splice.{SameOutside}
 use Rattle.md_members.specs.Areas.{IsPlaced, bitmap_sectors}
@@ -12,9 +12,8 @@ use Rattle.md_writes.specs.Writes.{IsStopped, after}
 use Rattle.md_array.specs.declared.fault.OpenFault.{OpenFault}
 use Rattle.md_array.specs.declared.fault.OpenFault.TheVariants.{Member, Assemble, MetadataFault, NoMemory}
 use Rattle.md_array.specs.View.{Disk, ArrayView, MemberView}
-use Rattle.md_array.specs.Members.{IsMember, NeedsMarks}
-use Rattle.md_array.specs.Fits.{Fits, FitsMember}
-use Rattle.md_array.specs.Opening.{AreMarked, AreRead, AreSame, EachPair, FailsToStore, IsArrayOf, IsMarked, IsMarkedBy, IsUnchanged, IsUntouched, RefusesArray, RefusesAssembly, RefusesMarks, RefusesOpen, RefusesRead, StaysHonest, StopsAtMember, StoresMarks, assembly_refusal_of}
+use Rattle.md_array.specs.Fits.{Fits}
+use Rattle.md_array.specs.Opening.{AreMarked, AreRead, AreSame, EachPair, FailsToStore, IsArrayOf, IsMarked, IsMarkedBy, IsUntouched, RefusesArray, RefusesMarks, RefusesOpen, RefusesRead, StaysHonest, StopsAtMember, StoresMarks, assembly_refusal_of}
 use Rattle.md_array.proofs.InTurn.{same_place}
 
 -- what holds of each pair, in two steps

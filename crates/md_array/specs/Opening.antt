@@ -1,9 +1,8 @@
 -- What opening devices as a mirror gives: what is kept in memory of what was read and assembled, and what is written.
-use Rattle.std.specs.Prelude.{◌≡◌, ◌≢◌, ◌⊎◌, ◌↔◌, ℕ, ◌+◌, ◌*◌, ◌/◌, ◌<◌, ◌≤◌, true, false, ◌&&◌, nat_lt, List, ◌++◌, length, map, drop, reverse, slice_get, Some}
-use Rattle.std.specs.List.{range_with_len}
+use Rattle.std.specs.Prelude.{◌≡◌, ◌≢◌, ◌⊎◌, ◌↔◌, ℕ, ◌*◌, ◌/◌, ◌<◌, ◌≤◌, true, false, ◌&&◌, nat_lt, List, length, map, slice_get, Some}
 use Rattle.md_device.specs.Splice.{SameOutside}
 use Rattle.md_bitmap.specs.declared.header.BitmapHeader.{BitmapHeader}
-use Rattle.md_bitmap.specs.Header.{CountsFit, SettingsFit, header_bytes}
+use Rattle.md_bitmap.specs.Header.{CountsFit, SettingsFit}
 use Rattle.md_bitmap.specs.Marks as marks
 use Rattle.md_bitmap.specs.Marks.{Bitmap, is_set, padded}
 use Rattle.md_bitmap.specs.Sound.{chunk_count}

@@ -1,5 +1,5 @@
-use Rattle.std.proofs.Common.{arith, rules, ◌≡◌, ℕ, ◌+◌, ◌<◌, ◌∙◌, ◌++◌, ◌∷◌, [], ap, sym, map, length, List, set, subst, get_or}
-use Rattle.std.proofs.lemmas.List.{length_push, length-map, map-set}
+use Rattle.std.proofs.Common.{arith, rules, ◌≡◌, ℕ, ◌+◌, ◌<◌, ◌∙◌, ap, sym, map, length, List, set, subst, get_or}
+use Rattle.std.proofs.lemmas.List.{length_push, map-set}
 use Rattle.md_array.specs.View.{Disk, disk_of}
 use Rattle.md_members.specs.declared.info.MemberInfo.{MemberInfo}
 use Rattle.md_array.specs.Opening.{IsUntouched, RefusesRead, StaysHonest, refusal_of}

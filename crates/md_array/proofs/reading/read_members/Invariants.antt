@@ -1,4 +1,4 @@
-use Rattle.std.proofs.Common.{◌≡◌, ◌<◌, ◌≤◌, ◌+◌, MatchResult, length, map, ℕ, ◌-◌, ◌*◌}
+use Rattle.std.proofs.Common.{◌≡◌, ◌≤◌, length, map}
 use Rattle.md_array.specs.Opening.{IsUntouched}
 use Rattle.md_array.specs.View.{disk_of}
 use Rattle.md_array.proofs.MembersRead.{AreReadSoFar}

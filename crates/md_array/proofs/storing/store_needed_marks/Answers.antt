@@ -1,5 +1,4 @@
-use Rattle.std.proofs.Common.{arith, ◌≡◌, ◌∙◌, ◌+◌, ◌<◌, ap, sym, map, length, List, ℕ, refl, set, subst, get_or, length-set}
-use Rattle.std.specs.Prelude.{slice_get, Some}
+use Rattle.std.proofs.Common.{arith, ◌≡◌, ◌∙◌, ◌+◌, ◌<◌, ap, sym, map, length, List, ℕ, refl, subst, get_or, length-set}
 use Rattle.std.proofs.lemmas.List.{length-map, map-set}
 use Rattle.std.proofs.lemmas.Option.{slice_get_read}
 use Rattle.md_array.specs.View.{ArrayView, Disk, MemberView, disk_of}
@@ -7,7 +6,6 @@ use Rattle.md_array.specs.Members.{IsMember, NeedsMarks}
 use Rattle.md_array.specs.Opening.{FailsToStore, IsMarkedBy, StopsAtMember}
 use Rattle.md_array.proofs.Answered.{err_gives, ok_gives}
 use Rattle.md_array.proofs.InTurn.{disk_at}
-use Rattle.md_array.proofs.Fitting.{fits}
 use Rattle.md_array.proofs.MarksStored.{AreStoredTo, stored_all, stored_more, stored_none, stopped_at}
 use Rattle.md_array.proofs.storing.store_needed_marks.Goals as goal
 
