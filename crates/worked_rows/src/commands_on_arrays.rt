@@ -97,7 +97,10 @@ fn array_refusals(rt: HostRuntime) -> Result<(), Fail> {
     }
     let mut images = two_images(alloc)?;
     for (words, fault) in [
-        (["mdcli", "assemble", "a", "b"], "mdcli: Member 0 Super Magic\n"),
+        (
+            ["mdcli", "assemble", "a", "b"],
+            "mdcli: Member 0 Super Magic\n",
+        ),
         (["mdcli", "detail", "b", "b"], "mdcli: BadImage 1\n"),
     ] {
         let answer = run_words(alloc, words.as_slice(), &mut images)?;

@@ -11,6 +11,7 @@ use std::alloc::Global;
 use std::test::Fail;
 
 const BITMAP_OFFSET: u32 = 1;
+
 const BITMAP_OFFSET_AND_BAD_BLOCKS: u32 = 9;
 
 // Member `number` of two of the vault's array with these features, whose bitmap is at these events and

@@ -26,13 +26,33 @@ fn create_limits(rt: HostRuntime) -> Result<(), Fail> {
     let sizes = [Some(2112u64), Some(2112)];
     let mut odd = params();
     odd.chunk_bytes = 1000;
-    assert!(rt; matches!(create(alloc, &odd, sizes.as_slice()), Err(CreateFault::BadGeometry)));
+    assert!(rt;
+        matches!(
+            create(alloc, &odd, sizes.as_slice()),
+            Err(CreateFault::BadGeometry)
+        )
+    );
     let mut large = params();
     large.size = Some(65);
-    assert!(rt; matches!(create(alloc, &large, sizes.as_slice()), Err(CreateFault::BadGeometry)));
+    assert!(rt;
+        matches!(
+            create(alloc, &large, sizes.as_slice()),
+            Err(CreateFault::BadGeometry)
+        )
+    );
     let missing = [None, None];
-    assert!(rt; matches!(create(alloc, &params(), missing.as_slice()), Err(CreateFault::BadGeometry)));
-    assert!(rt; matches!(create(alloc, &params(), [].as_slice()), Err(CreateFault::BadGeometry)));
+    assert!(rt;
+        matches!(
+            create(alloc, &params(), missing.as_slice()),
+            Err(CreateFault::BadGeometry)
+        )
+    );
+    assert!(rt;
+        matches!(
+            create(alloc, &params(), [].as_slice()),
+            Err(CreateFault::BadGeometry)
+        )
+    );
     Ok(())
 }
 
