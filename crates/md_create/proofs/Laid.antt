@@ -7,11 +7,11 @@ use Rattle.md_device.proofs.Splices.{length-spliced, part-spliced, part_before, 
 use Rattle.md_super.specs.Encoding.{super_bytes}
 use Rattle.md_bitmap.specs.declared.header.BitmapHeader.{BitmapHeader}
 use Rattle.md_bitmap.specs.Marks.{Bitmap}
-use Rattle.md_create.specs.Writes.{after}
+use Rattle.md_writes.specs.Writes.{after}
 use Rattle.md_create.specs.Layout.{IsLaidOut, bitmap_sector, bitmap_writes, empty_log, sectors_of, super_write, wipe, writes_of}
 use Rattle.md_create.specs.declared.params.NewMember.{NewMember}
-use Rattle.md_create.proofs.Runs.{after-append}
-use Rattle.md_create.proofs.Frames.{outside_none, outside_then, outside_around}
+use Rattle.md_writes.proofs.Runs.{after-append}
+use Rattle.md_writes.proofs.Frames.{outside_none, outside_then, outside_around}
 use Rattle.md_create.proofs.Sectors.{writes_from, length-bitmap_sector}
 
 -- the first n sectors of a bitmap stand in their places, and nothing else has changed

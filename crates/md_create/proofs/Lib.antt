@@ -1,8 +1,6 @@
 pub mod Devices
-pub mod Frames
 pub mod Laid
 pub mod Least
-pub mod Runs
 pub mod Sectors
 pub mod Read
 pub mod Taken

@@ -7,7 +7,7 @@ use Rattle.md_bitmap.specs.declared.header.BitmapHeader.{BitmapHeader}
 use Rattle.md_bitmap.specs.Header.{header_bytes}
 use Rattle.md_bitmap.specs.Marks.{Bitmap, padded}
 use Rattle.md_bitmap.proofs.Padded.{length-padded, padded_parts}
-use Rattle.md_create.specs.Writes.{Write}
+use Rattle.md_writes.specs.Writes.{Write}
 use Rattle.md_create.specs.Layout.{bitmap_sector, bitmap_write, bitmap_writes}
 use Rattle.md_create.proofs.Devices.{range_more}
 

@@ -10,7 +10,7 @@ use Rattle.md_bitmap.specs.Header.{header_bytes}
 use Rattle.md_bitmap.specs.Marks.{Bitmap, padded}
 use Rattle.md_members.specs.Areas.{bitmap_sectors}
 use Rattle.md_create.specs.declared.params.NewMember.{NewMember}
-use Rattle.md_create.specs.Writes.{Write}
+use Rattle.md_writes.specs.Writes.{Write}
 
 -- sector i of a bitmap: the header and the first bits, or more bits, with zeros where these end
 abbrev pub bitmap_sector : BitmapHeader → Bitmap → ℕ → List ℕ

@@ -1,4 +1,4 @@
-pub mod Writes
+pub use Rattle.md_writes.specs.Writes
 pub mod Places
 pub mod Geometry
 pub mod Values

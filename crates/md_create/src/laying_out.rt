@@ -1,7 +1,7 @@
 // Laying a new member out on its device.
 ghost use Rattle.std.specs.Prelude.{◌≡◌, ◌≤◌, ◌*◌, ◌+◌, ◌%◌, [], ◌∷◌, length, true, OnOk};
 ghost use Rattle.md_members.specs.Areas.{bitmap_sectors};
-ghost use Rattle.md_create.specs.Writes.{MakesWrites};
+ghost use Rattle.md_writes.specs.Writes.{MakesWrites};
 ghost use Rattle.md_create.specs.Layout.{IsLaidOut, bitmap_sector, bitmap_writes, writes_of};
 
 use crate::params::NewMember;

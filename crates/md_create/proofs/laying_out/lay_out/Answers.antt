@@ -1,8 +1,8 @@
 use Rattle.std.proofs.Common.{arith, ◌≡◌, ◌∷◌, [], ◌++◌, List, ℕ, ap, subst, sym, length, ◌∙◌}
-use Rattle.md_create.specs.Writes.{MakesWrites}
+use Rattle.md_writes.specs.Writes.{MakesWrites}
 use Rattle.md_create.specs.Layout.{IsLaidOut, bitmap_writes, empty_log, sectors_of, super_write, wipe, writes_of}
 use Rattle.md_create.proofs.Laid.{few_sectors, laid_out}
-use Rattle.md_create.proofs.Runs.{all_done_of, does_any, stops_any, stops_front, stops_then}
+use Rattle.md_writes.proofs.Runs.{all_done_of, does_any, stops_any, stops_front, stops_then}
 use Rattle.md_create.proofs.laying_out.lay_out.Goals as goal
 
 pub returns-in_err-put-clause-writes : goal.returns-in_err-put-clause-writes

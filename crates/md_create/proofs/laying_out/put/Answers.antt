@@ -1,4 +1,4 @@
-use Rattle.md_create.proofs.Runs.{one_write}
+use Rattle.md_writes.proofs.Runs.{one_write}
 use Rattle.md_create.proofs.laying_out.put.Goals as goal
 
 pub returns : goal.returns

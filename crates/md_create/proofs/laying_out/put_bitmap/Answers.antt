@@ -1,9 +1,9 @@
 use Rattle.std.proofs.Common.{arith, ◌≡◌, ◌∙◌, ℕ, ◌-◌, ◌∷◌, [], List, ap, subst}
 use Rattle.md_members.specs.Areas.{bitmap_sectors}
-use Rattle.md_create.specs.Writes.{Write, DoesWrites, StopsInWrites}
+use Rattle.md_writes.specs.Writes.{Write, DoesWrites, StopsInWrites}
 use Rattle.md_create.specs.Layout.{bitmap_write, bitmap_writes}
 use Rattle.md_create.proofs.Sectors.{write_is, writes_from}
-use Rattle.md_create.proofs.Runs.{AreLeft, fewer_left, none_left, stops_in_left, stops_any}
+use Rattle.md_writes.proofs.Runs.{AreLeft, fewer_left, none_left, stops_in_left, stops_any}
 use Rattle.md_create.proofs.laying_out.put_bitmap.Goals as goal
 
 pub put-requires-clause-within : goal.put-requires-clause-within

@@ -1,6 +1,6 @@
 use Rattle.std.proofs.Common.{◌≤◌}
 use Rattle.md_create.specs.Layout.{bitmap_writes}
-use Rattle.md_create.proofs.Runs.{AreLeft}
+use Rattle.md_writes.proofs.Runs.{AreLeft}
 use Rattle.md_create.proofs.laying_out.put_bitmap.Given as goal
 
 abbrev pub invariant-loop-left : goal.invariant-loop-left
