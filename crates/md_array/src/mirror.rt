@@ -107,7 +107,8 @@ impl<D: Device + Drop> Mirror<D> {
         self.array.chunks
     }
 
-    /// Whether members in sync hold the same wherever no mark is set by a request in flight.
+    /// Whether members in sync are known to hold the same in each sector that neither lists and no
+    /// request in flight writes.
     pub fn resynced(&self) -> bool
         ensures { result ≡ self.now.array.resynced }
     {
