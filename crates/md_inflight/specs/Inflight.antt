@@ -1,5 +1,6 @@
 -- What a contract sees of the requests in flight.
-use Rattle.std.specs.Prelude.{◌≡◌, ℕ, ◌+◌, ◌<◌, ◌≤◌, ◌^◌, ◌==◌, Bool, not, List, [], ◌∷◌, Option, Some, None, IsSome, map, filter, find, option_map, if◌then◌else◌, refl}
+use Rattle.std.specs.Prelude.{ℕ, ◌+◌, ◌<◌, ◌≤◌, ◌^◌, ◌==◌, not, List, [], ◌∷◌, Option, Some, None, IsSome, filter, find, option_map, refl}
+use Rattle.std.specs.Map.{lookup as lookup_by, set_value}
 use Rattle.std.specs.Coded.{Coded, code_by, coded×, coded_ℕ, coded_list}
 use Rattle.md_inflight.specs.Spans.{meets}
 
@@ -22,17 +23,16 @@ pub record TicketView : Type 0 where
 module _ {T : Type 0} where
   -- the item under a number
   abbrev pub lookup : List (ℕ × T) → ℕ → Option T
-  lookup entries number = option_map (λ entry. entry.1) (find (λ entry. entry.0 == number) entries)
+  lookup entries number = lookup_by (λ other. other == number) entries
 
   -- the entries but for a number, in their order
   abbrev pub without : List (ℕ × T) → ℕ → List (ℕ × T)
   without entries number = filter (λ entry. not (entry.0 == number)) entries
 
-  -- the list with this item under a number
+  -- the list with another item under a number
   abbrev pub with_item : InflightList T → ℕ → T → InflightList T
-  with_item list number item = record list {
-    entries = map (λ entry. (entry.0, (if entry.0 == number then item else entry.1))) list.entries;
-  }
+  with_item list number item =
+      record list { entries = set_value (λ other. other == number) list.entries item }
 
   -- the number of the first entry that has a sector in common with len sectors from start on
   abbrev pub first_meeting : (T → ℕ) → (T → ℕ) → List (ℕ × T) → ℕ → ℕ → Option ℕ

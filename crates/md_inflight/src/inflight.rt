@@ -1,6 +1,6 @@
 // The list of requests in flight.
 ghost use Rattle.std.specs.Prelude.{◌≡◌, ◌+◌, ◌^◌, ◌<◌, ◌≢◌, ◌==◌, ◌↔◌, [], ◌∷◌, ◌++◌, Some, None, IsTrue, IsSome, IsErr, OnOk, OnErr, IfOk, IfErr, length, if◌then◌else◌};
-ghost use Rattle.std.specs.List.{position_or_len};
+ghost use Rattle.std.specs.List.{position, position_or_len};
 ghost use Rattle.std.specs.Borrow.{sem};
 ghost use Rattle.md_inflight.specs.Inflight.{TicketView, BelongsTo, IsNumbered, lookup, without, with_item, first_meeting};
 
@@ -163,5 +163,11 @@ fn place_of<T>(entries: &[(u64, T)], number: u64) -> usize
     ensures place { result ≡ position_or_len (λ entry. entry.0 == number) entries.now }
     ensures within { result < length entries.now }
 {
-    entries.iter().position(|entry| entry.0 == number).unwrap()
+    position_of(entries, number).unwrap()
+}
+
+fn position_of<T>(entries: &[(u64, T)], number: u64) -> Option<usize>
+    ensures { result ≡ position (λ entry. entry.0 == number) entries.now }
+{
+    entries.iter().position(|entry| entry.0 == number)
 }
