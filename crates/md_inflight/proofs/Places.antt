@@ -34,6 +34,10 @@ module _ {T : Type 0} (number : ℕ) where
       by true at rest = absurd (omega arith)
       by false at rest = rest (omega arith)
 
+  -- the same, of an entry that was read there
+  pub lookup_read : (entries : List (ℕ × T)) (i : ℕ) (entry : ℕ × T) → i ≡ place entries → i < length entries → entry ≡ get_or entries i entry → lookup entries number ≡ Some entry.1
+  lookup_read entries i entry at within read = lookup_place entries i entry at within ∙ ap (λ e. Some e.1) (sym read)
+
   -- another item there is another item under the number
   pub set_place : (entries : List (ℕ × T)) (i : ℕ) (d : ℕ × T) (item : T) → i ≡ place entries → i < length entries → set entries i ((get_or entries i d).0, item) ≡ set_value (λ other. other == number) entries item
   set_place [] i d item at within = absurd (omega arith)
@@ -47,6 +51,10 @@ module _ {T : Type 0} (number : ℕ) where
       by : (b : Bool) → suc i ≡ cond (not b) (1 + place entries) 0 → (i ≡ place entries → set entries i ((get_or entries i d).0, item) ≡ set_value (λ other. other == number) entries item) → entry ∷ set entries i ((get_or entries i d).0, item) ≡ cond b ((entry.0, item) ∷ entries) (entry ∷ set_value (λ other. other == number) entries item)
       by true at rest = absurd (omega arith)
       by false at rest = ap (λ es. entry ∷ es) (rest (omega arith))
+
+  -- the same, of an entry that was read there
+  pub set_read : (entries : List (ℕ × T)) (i : ℕ) (entry : ℕ × T) (item : T) → i ≡ place entries → i < length entries → entry ≡ get_or entries i entry → set entries i (entry.0, item) ≡ set_value (λ other. other == number) entries item
+  set_read entries i entry item at within read = ap (λ e. set entries i (e.0, item)) read ∙ set_place entries i entry item at within
 
   -- numbers from above it on are not that number
   without_above : (entries : List (ℕ × T)) (low next : ℕ) → RisesFrom low entries next → number < low → without entries number ≡ entries
