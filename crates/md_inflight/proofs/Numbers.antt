@@ -6,7 +6,7 @@ use Rattle.std.proofs.lemmas.Bool.{eq-eqb, eqb-true, ne_eqb}
 use Rattle.std.proofs.lemmas.Map.Made.{IsSome-lookup_same_keys}
 use Rattle.std.proofs.lemmas.Map.Entries.{lookup-filter-keys}
 use Rattle.std.proofs.lemmas.Map.{keys-set_value}
-use Rattle.md_inflight.specs.Inflight.{InflightList, TicketView, BelongsTo, IsNumbered, lookup, without, with_item, next_number, RisesFrom}
+use Rattle.md_inflight.specs.Inflight.{InflightList, TicketView, BelongsTo, IsNumbered, lookup, without, with_item, RisesFrom}
 
 module _ {T : Type 0} where
   pub rises_push : (low : ℕ) (entries : List (ℕ × T)) (next : ℕ) (item : T) → RisesFrom low entries next → RisesFrom low (entries ++ (next, item) ∷ []) (next + 1)

@@ -49,7 +49,8 @@ module _ {T : Type 0} where
     pub rising : RisesFrom 0 list.entries list.next
     pub limit : list.next ≤ 2 ^ 64
 
-  -- the ticket was given for an entry that still stands in the list
+  -- the ticket was given for an entry that still stands in the list. `push_back` gives this fact and
+  -- the other calls keep it; its parts are what follows from it
   pub record BelongsTo (list : InflightList T) (ticket : TicketView) : Type 0 where
     pub stands : IsSome (lookup list.entries ticket.number)
     pub given : ticket.number < list.next

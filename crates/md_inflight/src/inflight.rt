@@ -75,15 +75,18 @@ impl<T> Inflight<T> {
     /// Enters `item` at the end, or hands it back. `NumbersSpent` comes before `NoMemory`.
     pub fn push_back(&mut self, item: T) -> Result<Ticket, Refused<T>>
         // The item stands at the end under the next number, and every other ticket stays good.
-        ensures entries { OnOk result (self.new.entries ≡ self.old.entries ++ (self.old.next, item) ∷ []) }
+        ensures entries { OnOk result
+            (self.new.entries ≡ self.old.entries ++ (self.old.next, item) ∷ []) }
         ensures next { OnOk result (self.new.next ≡ self.old.next + 1) }
         ensures number { IfOk result (λ ticket. ticket.number ≡ self.old.next) }
         ensures belongs { IfOk result (BelongsTo self.new) }
-        ensures kept { (other : TicketView) → BelongsTo self.old other → BelongsTo self.new other }
+        ensures kept { (other : TicketView)
+            → BelongsTo self.old other → BelongsTo self.new other }
 
-        // The numbers come first: with one left, only memory is short.
+        // It is refused where no number is left, and otherwise only for want of memory.
         ensures spent { self.old.next ≡ 2 ^ 64 → IsErr result }
-        ensures why { IfErr result (λ refused. refused.why ≡ (if self.old.next == 2 ^ 64 then PushFault.NumbersSpent else PushFault.NoMemory)) }
+        ensures why { IfErr result (λ refused. refused.why ≡
+            (if self.old.next == 2 ^ 64 then PushFault.NumbersSpent else PushFault.NoMemory)) }
         ensures item { IfErr result (λ refused. refused.item ≡ item) }
         ensures err { OnErr result (self.new ≡ self.old) }
     {
@@ -121,7 +124,9 @@ impl<T> Inflight<T> {
         ensures item { lookup self.old.entries ticket.now.number ≡ Some result.now }
 
         // Whatever is written, every ticket stays good.
-        ensures kept { (other : TicketView) (written : T) → BelongsTo self.old other → BelongsTo (with_item self.old ticket.now.number written) other }
+        ensures kept { (other : TicketView) (written : T)
+            → BelongsTo self.old other
+            → BelongsTo (with_item self.old ticket.now.number written) other }
     {
         let place = place_of(&self.entries, ticket.number);
         let entry = &mut self.entries[place];
@@ -136,7 +141,8 @@ impl<T> Inflight<T> {
         ensures next { self.new.next ≡ self.old.next }
 
         // The tickets of the other numbers stay good.
-        ensures kept { (other : TicketView) → other.number ≢ ticket.number → BelongsTo self.old other → BelongsTo self.new other }
+        ensures kept { (other : TicketView) → other.number ≢ ticket.number
+            → BelongsTo self.old other → BelongsTo self.new other }
     {
         let place = place_of(&self.entries, ticket.number);
         let (_, item) = self.entries.remove(place);
@@ -168,7 +174,7 @@ impl<T> Inflight<T> {
     }
 }
 
-/// Where the entry of `number` stands.
+// Where the entry of `number` stands.
 fn place_of<T>(entries: &[(u64, T)], number: u64) -> usize
     requires { IsSome (lookup entries.now number) }
     ensures place { result ≡ position_or_len (λ entry. entry.0 == number) entries.now }

@@ -5,7 +5,7 @@ use std::marker::Model;
 use std::slice;
 
 /// The numbers and items of a list in order of entry, seen as the list of those that are left.
-#[derive(Drop)]
+#[derive(Debug, Drop)]
 pub struct Iter<'a, T> {
     pub(crate) entries: slice::Iter<'a, (u64, T)>,
 }

@@ -1,4 +1,4 @@
-use Rattle.std.proofs.Common.{◌≡◌, Some, IsSome, refl, sym, ◌∙◌}
+use Rattle.std.proofs.Common.{◌≡◌, refl}
 use Rattle.md_inflight.proofs.Places.{place, place_within, position_place}
 use Rattle.md_inflight.proofs.inflight.place_of.Goals as goal
 

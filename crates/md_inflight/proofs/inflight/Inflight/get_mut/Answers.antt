@@ -1,5 +1,4 @@
-use Rattle.std.proofs.Common.{◌≡◌, ◌<◌, length, refl, ap}
-use Rattle.md_inflight.specs.Inflight.{IsNumbered, with_item}
+use Rattle.std.proofs.Common.{◌≡◌, ◌<◌, length, refl}
 use Rattle.md_inflight.proofs.Places.{place, lookup_read, set_read}
 use Rattle.md_inflight.proofs.Numbers.{rises_set, belongs_with}
 use Rattle.md_inflight.proofs.inflight.Inflight.get_mut.Goals as goal

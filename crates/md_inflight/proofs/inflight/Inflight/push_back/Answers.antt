@@ -1,6 +1,6 @@
-use Rattle.std.proofs.Common.{◌≡◌, ℕ, ◌<◌, ◌+◌, ◌^◌, Option, Some, None, refl, sym, ap, ◌∙◌, arith, rules}
+use Rattle.std.proofs.Common.{◌≡◌, ℕ, ◌<◌, ◌+◌, ◌^◌, Option, Some, None, arith, rules}
 use Rattle.std.specs.Option.{SomeIff}
-use Rattle.md_inflight.specs.Inflight.{InflightList, next_number}
+use Rattle.md_inflight.specs.Inflight.{next_number}
 use Rattle.md_inflight.proofs.Numbers.{IsPushed, numbered_push, belongs_push, belongs_last}
 use Rattle.md_inflight.proofs.inflight.Inflight.push_back.Goals as goal
 
