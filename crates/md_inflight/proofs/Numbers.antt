@@ -9,14 +9,17 @@ use Rattle.std.proofs.lemmas.Map.{keys-set_value}
 use Rattle.md_inflight.specs.Inflight.{InflightList, TicketView, BelongsTo, IsNumbered, lookup, without, with_item, RisesFrom}
 
 module _ {T : Type 0} where
+  -- numbers rise still with the next one at the end
   pub rises_push : (low : ℕ) (entries : List (ℕ × T)) (next : ℕ) (item : T) → RisesFrom low entries next → RisesFrom low (entries ++ (next, item) ∷ []) (next + 1)
   rises_push low [] next item rising = (rising, omega arith)
   rises_push low (entry ∷ entries) next item rising = (rising.0, rises_push (entry.0 + 1) entries next item rising.1)
 
+  -- from any lower number on
   rises_lower : (low lower : ℕ) (entries : List (ℕ × T)) (next : ℕ) → lower ≤ low → RisesFrom low entries next → RisesFrom lower entries next
   rises_lower low lower [] next below rising = omega arith
   rises_lower low lower (entry ∷ entries) next below rising = (omega arith, rising.1)
 
+  -- where some go
   pub rises_filter : (test : ℕ × T → Bool) (low : ℕ) (entries : List (ℕ × T)) (next : ℕ) → RisesFrom low entries next → RisesFrom low (filter test entries) next
   rises_filter test low [] next rising = rising
   rises_filter test low (entry ∷ entries) next rising = by (test entry) (rises_filter test (entry.0 + 1) entries next rising.1)
@@ -25,6 +28,7 @@ module _ {T : Type 0} where
       by true rest = (rising.0, rest)
       by false rest = let first = rising.0 in rises_lower (entry.0 + 1) low (filter test entries) next (omega arith) rest
 
+  -- and where an item changes
   pub rises_set : (test : ℕ → Bool) (item : T) (low : ℕ) (entries : List (ℕ × T)) (next : ℕ) → RisesFrom low entries next → RisesFrom low (set_value test entries item) next
   rises_set test item low [] next rising = rising
   rises_set test item low (entry ∷ entries) next rising = by (test entry.0) (rises_set test item (entry.0 + 1) entries next rising.1)
@@ -42,6 +46,7 @@ module _ {T : Type 0} where
       by true rest = refl
       by false rest = rest
 
+  -- a number that was found is found still
   pub found_before : (entries more : List (ℕ × T)) (number : ℕ) → IsSome (lookup entries number) → IsSome (lookup (entries ++ more) number)
   found_before [] more number found = cc
   found_before (entry ∷ entries) more number found = by (entry.0 == number) found (found_before entries more number)
@@ -55,12 +60,14 @@ module _ {T : Type 0} where
     pub entries : new.entries ≡ old.entries ++ (old.next, item) ∷ []
     pub next : new.next ≡ old.next + 1
 
+  -- a push keeps what is true of each list
   pub numbered_push : (old new : InflightList T) (item : T) → IsPushed old new item → old.next < 2 ^ 64 → IsNumbered old → IsNumbered new
   numbered_push old new item pushed room before = record {
     rising = rw (pushed.entries, pushed.next) (rises_push 0 old.entries old.next item before.rising);
     limit = rw pushed.next (omega arith);
   }
 
+  -- and each ticket good
   pub belongs_push : (old new : InflightList T) (item : T) → IsPushed old new item → (other : TicketView) → BelongsTo old other → BelongsTo new other
   belongs_push old new item pushed other before =
       let below = before.given in

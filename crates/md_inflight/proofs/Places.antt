@@ -10,6 +10,7 @@ module _ {T : Type 0} (number : ℕ) where
   abbrev pub place : List (ℕ × T) → ℕ
   place entries = position_or_len (λ entry. entry.0 == number) entries
 
+  -- a number that is found stands somewhere
   pub place_within : (entries : List (ℕ × T)) → IsSome (lookup entries number) → place entries < length entries
   place_within [] found = cc
   place_within (entry ∷ entries) found = by (entry.0 == number) found (place_within entries)
@@ -18,10 +19,16 @@ module _ {T : Type 0} (number : ℕ) where
       by true found rest = omega arith
       by false found rest = let later = rest found in omega arith
 
+  -- and the search for it gives its place
   pub position_place : (entries : List (ℕ × T)) → IsSome (lookup entries number) → position (λ entry. entry.0 == number) entries ≡ Some (place entries)
   position_place entries found = cond-true _ _ _ (lt-ltb (place entries) (length entries) (place_within entries found))
 
-  pub lookup_place : (entries : List (ℕ × T)) (i : ℕ) (d : ℕ × T) → i ≡ place entries → i < length entries → lookup entries number ≡ Some (get_or entries i d).1
+  -- the place in a list that was lent
+  pub place_lent : (lent entries : List (ℕ × T)) (i : ℕ) → lent ≡ entries → i ≡ place lent → i < length lent → (i ≡ place entries) × (i < length entries)
+  place_lent lent entries i same at within = rw (← same) (at, within)
+
+  -- the item there is the one under the number
+  lookup_place : (entries : List (ℕ × T)) (i : ℕ) (d : ℕ × T) → i ≡ place entries → i < length entries → lookup entries number ≡ Some (get_or entries i d).1
   lookup_place [] i d at within = absurd (omega arith)
   lookup_place (entry ∷ entries) zero d at within = by (entry.0 == number) at
     where
@@ -39,7 +46,7 @@ module _ {T : Type 0} (number : ℕ) where
   lookup_read entries i entry at within read = lookup_place entries i entry at within ∙ ap (λ e. Some e.1) (sym read)
 
   -- another item there is another item under the number
-  pub set_place : (entries : List (ℕ × T)) (i : ℕ) (d : ℕ × T) (item : T) → i ≡ place entries → i < length entries → set entries i ((get_or entries i d).0, item) ≡ set_value (λ other. other == number) entries item
+  set_place : (entries : List (ℕ × T)) (i : ℕ) (d : ℕ × T) (item : T) → i ≡ place entries → i < length entries → set entries i ((get_or entries i d).0, item) ≡ set_value (λ other. other == number) entries item
   set_place [] i d item at within = absurd (omega arith)
   set_place (entry ∷ entries) zero d item at within = by (entry.0 == number) at
     where

@@ -30,8 +30,4 @@ impl<'a, T> Iterator for Iter<'a, T> {
         let (number, item) = self.entries.next()?;
         Some((*number, item))
     }
-
-    fn size_hint(&self) -> (usize, Option<usize>) {
-        self.entries.size_hint()
-    }
 }
