@@ -1,0 +1,190 @@
+// The list of requests in flight.
+ghost use Rattle.std.specs.Prelude.{◌≡◌, ◌+◌, ◌^◌, ◌<◌, ◌≢◌, ◌==◌, ◌↔◌, [], ◌∷◌, ◌++◌, Some, None, IsTrue, IsSome, IsErr, OnOk, OnErr, IfOk, IfErr, length, if◌then◌else◌};
+ghost use Rattle.std.specs.List.{position, position_or_len};
+ghost use Rattle.std.specs.Borrow.{sem};
+ghost use Rattle.md_inflight.specs.Inflight.{TicketView, BelongsTo, IsNumbered, lookup, without, with_item, first_meeting};
+
+use crate::fault::{PushFault, Refused};
+use crate::iter::Iter;
+use crate::span::{Span, meets};
+use crate::ticket::Ticket;
+use std::alloc::{AllocFailed, Global};
+use std::marker::Model;
+
+/// A list of items in order of entry, each under a number of its own.
+///
+/// Numbers rise from 0 and none is given out twice. Contracts see the entries as pairs of a number and
+/// an item, and the number of the next entry, which is 2^64 once u64::MAX was given out.
+#[derive(Debug, Drop)]
+pub struct Inflight<T> {
+    entries: Vec<(u64, T)>,
+    // `None` once u64::MAX was given out.
+    next: Option<u64>,
+}
+
+impl<T> Model for Inflight<T> {
+    ghost use Rattle.md_inflight.specs.Inflight.{InflightList, inflight_code, next_number, IsNumbered};
+
+    ghost Value = { InflightList T };
+
+    ghost coded = { inflight_code T.code };
+
+    ghost view = { λ a. record { entries = a.entries.items; next = next_number a.next } };
+
+    ghost invariant = { λ a. IsNumbered (record { entries = a.entries.items; next = next_number a.next }) };
+}
+
+impl<T> Inflight<T> {
+    ghost use Rattle.md_inflight.specs.Lends.{LendsItem};
+
+    /// The empty list.
+    pub fn new(alloc: Global) -> Self
+        ensures entries { result.entries ≡ [] }
+        ensures next { result.next ≡ 0 }
+    {
+        Inflight {
+            entries: Vec::new(alloc),
+            next: Some(0),
+        }
+    }
+
+    /// The number of entries.
+    pub fn len(&self) -> usize
+        ensures { result ≡ length self.now.entries }
+    {
+        self.entries.len()
+    }
+
+    /// Whether there is no entry.
+    pub fn is_empty(&self) -> bool
+        ensures { IsTrue result ↔ (self.now.entries ≡ []) }
+    {
+        self.entries.is_empty()
+    }
+
+    /// The numbers and items in order of entry.
+    pub fn iter(&self) -> Iter<'_, T>
+        ensures entries { result ≡ self.now.entries }
+        ensures numbered { IsNumbered self.now }
+    {
+        Iter {
+            entries: self.entries.iter(),
+        }
+    }
+
+    /// Enters `item` at the end, or hands it back. `NumbersSpent` comes before `NoMemory`.
+    pub fn push_back(&mut self, item: T) -> Result<Ticket, Refused<T>>
+        // The item stands at the end under the next number, and every other ticket stays good.
+        ensures entries { OnOk result
+            (self.new.entries ≡ self.old.entries ++ (self.old.next, item) ∷ []) }
+        ensures next { OnOk result (self.new.next ≡ self.old.next + 1) }
+        ensures number { IfOk result (λ ticket. ticket.number ≡ self.old.next) }
+        ensures belongs { IfOk result (BelongsTo self.new) }
+        ensures kept { (other : TicketView)
+            → BelongsTo self.old other → BelongsTo self.new other }
+
+        // It is refused where no number is left, and otherwise only for want of memory.
+        ensures spent { self.old.next ≡ 2 ^ 64 → IsErr result }
+        ensures why { IfErr result (λ refused. refused.why ≡
+            (if self.old.next == 2 ^ 64 then PushFault.NumbersSpent else PushFault.NoMemory)) }
+        ensures item { IfErr result (λ refused. refused.item ≡ item) }
+        ensures err { OnErr result (self.new ≡ self.old) }
+    {
+        let Some(number) = self.next else {
+            return Err(Refused {
+                item,
+                why: PushFault::NumbersSpent,
+            });
+        };
+        match self.entries.push((number, item)) {
+            Ok(()) => {
+                self.next = number.checked_add(1);
+                Ok(Ticket { number })
+            }
+            Err(AllocFailed { value: (_, item) }) => Err(Refused {
+                item,
+                why: PushFault::NoMemory,
+            }),
+        }
+    }
+
+    /// The item of `ticket`.
+    pub fn get(&self, ticket: &Ticket) -> &T
+        requires { BelongsTo self.now ticket.now }
+        ensures { lookup self.now.entries ticket.now.number ≡ Some result.now }
+    {
+        let place = place_of(&self.entries, ticket.number);
+        &self.entries[place].1
+    }
+
+    /// The item of `ticket`, for writing.
+    pub fn get_mut(&mut self, ticket: &Ticket) -> &mut T
+        requires { BelongsTo self.old ticket.now }
+        ensures* writes_back { sem 𝓛 (LendsItem T.row self.entry ticket.now.number result) }
+        ensures item { lookup self.old.entries ticket.now.number ≡ Some result.now }
+
+        // Whatever is written, every ticket stays good.
+        ensures kept { (other : TicketView) (written : T)
+            → BelongsTo self.old other
+            → BelongsTo (with_item self.old ticket.now.number written) other }
+    {
+        let place = place_of(&self.entries, ticket.number);
+        let entry = &mut self.entries[place];
+        &mut entry.1
+    }
+
+    /// Takes the entry of `ticket` out and gives its item. The others keep their order and numbers.
+    pub fn remove(&mut self, ticket: Ticket) -> T
+        requires { BelongsTo self.old ticket }
+        ensures item { lookup self.old.entries ticket.number ≡ Some result }
+        ensures entries { self.new.entries ≡ without self.old.entries ticket.number }
+        ensures next { self.new.next ≡ self.old.next }
+
+        // The tickets of the other numbers stay good.
+        ensures kept { (other : TicketView) → other.number ≢ ticket.number
+            → BelongsTo self.old other → BelongsTo self.new other }
+    {
+        let place = place_of(&self.entries, ticket.number);
+        let (_, item) = self.entries.remove(place);
+        item
+    }
+}
+
+impl<T: Span> Inflight<T> {
+    /// The number of the first entry that has one of the `len` sectors from `start` on. The end of
+    /// either may lie past 2^64.
+    pub fn any_meeting(&self, start: u64, len: u64) -> Option<u64>
+        ensures { result ≡ first_meeting T.start T.len self.now.entries start len }
+    {
+        self.entries
+            .iter()
+            .find(|entry| meets(entry.1.start(), entry.1.len(), start, len))
+            .map(|entry| entry.0)
+    }
+}
+
+#[cfg(test)]
+impl<T> Inflight<T> {
+    /// The empty list whose first entry gets the number `next`.
+    pub(crate) fn starting_at(alloc: Global, next: u64) -> Self {
+        Inflight {
+            entries: Vec::new(alloc),
+            next: Some(next),
+        }
+    }
+}
+
+// Where the entry of `number` stands.
+fn place_of<T>(entries: &[(u64, T)], number: u64) -> usize
+    requires { IsSome (lookup entries.now number) }
+    ensures place { result ≡ position_or_len (λ entry. entry.0 == number) entries.now }
+    ensures within { result < length entries.now }
+{
+    position_of(entries, number).unwrap()
+}
+
+fn position_of<T>(entries: &[(u64, T)], number: u64) -> Option<usize>
+    ensures { result ≡ position (λ entry. entry.0 == number) entries.now }
+{
+    entries.iter().position(|entry| entry.0 == number)
+}
