@@ -13,7 +13,8 @@ use Rattle.md_model.proofs.Puts.{by_same, put-at}
 use Rattle.md_model.proofs.Tracked.{IsTracked, IsFewer}
 use Rattle.md_model.proofs.TrackedSteps.{fewer_recorded, fewer_failed, left_off, off_marked, bits_written}
 use Rattle.md_model.proofs.TrackedCalls.{bits_copied}
-use Rattle.md_model.proofs.Contents.{quiet_unmarked, ended_away}
+use Rattle.md_model.proofs.Between.{ended_away}
+use Rattle.md_model.proofs.Contents.{quiet_unmarked}
 
 module _ (g : Geometry) (d : Stored) where
   behind_as : (a b : Content) (w : World) → b ≡ a → IsBehind g a d w → IsBehind g b d w

@@ -65,7 +65,7 @@ module _ (g : Geometry) (small : IsWithinLimits g) (opened : Super) (m : ℕ) wh
       let c = after_event h e r.0 a t all r.1.1 in
       let held : IsHeld g opened (then_in h e r.0) c.0 = record {
         kept = kept_step g small opened h e r.0 t.kept r.1;
-        holds = holds_step g a c.0 h.now e r.0 t.kept.tracked t.holds r.1.1 c.1;
+        holds = holds_step g a c.0 h.now e r.0 t.kept.tracked t.holds r.1 c.1;
       } in
       let more = along_run es (then_in h e r.0) c.0 last held
       (all_step g small opened (λ k _. k < m) (λ h' t' all' k on. let x = t'.recorded.has_super k on in all' k x.0 x.1) h e r.0 t.kept all r.1.1) r.2 in

@@ -31,7 +31,7 @@ module _ (g : Geometry) (small : IsWithinLimits g) (Still : World → Type 0) wh
   held_run opened [] h a last b t r = subst (λ x. IsHeld g opened x b) (sym r.0) (subst (IsHeld g opened h) (sym r.1) t)
   held_run opened (e ∷ es) h a last b t r =
       held_run opened es (then_in h e r.0) r.1 last b
-      (record { kept = kept_step g small opened h e r.0 t.kept r.3; holds = holds_step g a r.1 h.now e r.0 t.kept.tracked t.holds r.3.1 r.4 }) r.5
+      (record { kept = kept_step g small opened h e r.0 t.kept r.3; holds = holds_step g a r.1 h.now e r.0 t.kept.tracked t.holds r.3 r.4 }) r.5
 
   held_again : (opened : Super) (h : History) (a : Content) (first : Super) (next : World) (b : Content) → IsHeld g opened h a → Reopens g opened h first next → BecomesAtOpening g next a b → IsHeld g first (opening next) b
   held_again opened h a first next b t r c = record { kept = kept_opened g first next (start_again g opened h first next small t.kept r); holds = c.holds }
@@ -85,7 +85,7 @@ module _ (g : Geometry) (small : IsWithinLimits g) (d : Stored) where
   behind_run opened [] h a last b t late r = subst (λ (x : History). IsBehind g b d x.now) (sym r.0) (subst (λ x. IsBehind g x d h.now) (sym r.1) late)
   behind_run opened (e ∷ es) h a last b t late r =
       behind_run opened es (then_in h e r.0) r.1 last b
-      (record { kept = kept_step g small opened h e r.0 t.kept r.3; holds = holds_step g a r.1 h.now e r.0 t.kept.tracked t.holds r.3.1 r.4 })
+      (record { kept = kept_step g small opened h e r.0 t.kept r.3; holds = holds_step g a r.1 h.now e r.0 t.kept.tracked t.holds r.3 r.4 })
       (behind_step g d a r.1 h.now e r.0 t.kept.tracked r.2 late r.3.1 r.4) r.5
 
   behind_life : (opened : Super) (h : History) (a : Content) (es : List Event) (rest : List (List Event)) (final : Super) (last : History) (b : Content)
@@ -139,7 +139,7 @@ leaves_behind g opened w a start t es rest final then b life k device after f mo
     let x = held_life g start.small _ opened (opening w) a es rest final then b (held_opened g opened w a start t) life in
     let late = behind_leaving g b then.now x.kept.tracked x.holds k f.in_sync f.event f.it f.world f.step.1 in
     behind_life g start.small device final after b more others newest last c
-    (subst (λ y. IsHeld g final y b) (sym f.gives) (record { kept = kept_step g start.small final then f.event f.world x.kept f.step; holds = holds_step g b b then.now f.event f.world x.kept.tracked x.holds f.step.1 (unchanged g f.event k f.it then.now b) }))
+    (subst (λ y. IsHeld g final y b) (sym f.gives) (record { kept = kept_step g start.small final then f.event f.world x.kept f.step; holds = holds_step g b b then.now f.event f.world x.kept.tracked x.holds f.step (unchanged g f.event k f.it then.now b) }))
     (subst (λ (y : History). IsBehind g b device y.now) (sym f.gives) (behind_with_data g b f.world device (f.world.stored k) f.has late))
     life'
 

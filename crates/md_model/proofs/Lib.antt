@@ -14,6 +14,7 @@ pub mod Safe
 pub mod Lives
 pub mod SmallRun
 pub mod Picked
+pub mod Between
 pub mod Contents
 pub mod BehindSteps
 pub mod ContentLives

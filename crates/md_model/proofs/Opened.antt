@@ -7,11 +7,21 @@ use Rattle.md_model.specs.Devices.{Super, AgreeAt}
 use Rattle.md_model.specs.Worlds.{Request, World, IsInSync}
 use Rattle.md_model.specs.Openings.{IsOpened}
 use Rattle.md_model.specs.Runs.{opening, IsStart}
+use Rattle.md_model.specs.Content.{HoldsInFlight}
 use Rattle.md_model.proofs.Cases.{by_test, never, none_some, is_below, not_below}
 use Rattle.md_model.proofs.Table.{SaysInSync, has_role, found_says, stale_says, recovering_says, role_says}
 use Rattle.md_model.proofs.Recorded.{recorded_in_sync}
 use Rattle.md_model.proofs.Keeps.{IsKept}
 use Rattle.md_model.proofs.OpeningCovers.{accepted-bits}
+use Rattle.md_model.proofs.OpeningCovers as covers
+
+-- nothing is in flight
+pub in_flight_opened : (g : Geometry) (first : Super) (w : World) → IsOpened g first w → HoldsInFlight w
+in_flight_opened g first w o = record {
+  written = λ n p k s e. absurd (none_some p (sym (o.none_in_flight n) ∙ e));
+  apart = λ m n q p s e. absurd (none_some q (sym (o.none_in_flight m) ∙ e));
+  distinct = λ j k a b. o.members.distinct j k (covers.slot_of g first w o j a) (covers.slot_of g first w o k b);
+}
 
 module _ (g : Geometry) (first : Super) (w : World) (start : IsStart g first w) where
   abbrev o : IsOpened g first w
@@ -64,10 +74,8 @@ module _ (g : Geometry) (first : Super) (w : World) (start : IsStart g first w) 
           (o.marks.resynced.0 r);
       resynced = λ n p e. none n p e;
       marked = λ n p s e. none n p e;
-      apart = λ m n q p s e. none m q e;
-      holds = λ n p k s e. none n p e;
       noted = λ n p k s e. none n p e;
-      distinct = λ j k a b. let x = own_of j (recorded_in_sync (w.state j) a) in let y = own_of k (recorded_in_sync (w.state k) b) in distinct j k x.0 y.0 x.1 y.1;
+      in_flight = in_flight_opened g first w o;
     };
     recorded = record {
       number = o.members.number;

@@ -4,6 +4,7 @@ use Rattle.md_model.specs.Sectors.{Geometry, chunk_of}
 use Rattle.md_model.specs.Devices.{AgreeAt}
 use Rattle.md_model.specs.Worlds.{World, IsInSync}
 use Rattle.md_model.specs.Resyncing.{copied, copied_device, made_resynced, made_clean, IsIdle, MayCopy}
+use Rattle.md_model.specs.Content.{HoldsInFlight}
 use Rattle.md_model.proofs.Cases.{none_some}
 use Rattle.md_model.proofs.Puts.{by_same, put-at, put-same, put-hit, put-miss}
 use Rattle.md_model.proofs.Tracked.{IsTracked}
@@ -37,6 +38,9 @@ module _ (g : Geometry) (w : World) (from k s : ℕ) where
       same i a off ∙ sym (same j b off'))
       (λ away. content_copied i x away ∙ all i j a b (sym (listed_copied i x) ∙ off) (sym (listed_copied j x) ∙ off') ∙ sym (content_copied j x away))
 
+  pub in_flight_copied : MayCopy g w from k s → HoldsInFlight w → HoldsInFlight copied_now
+  in_flight_copied may t = record { written = λ n p j x e. absurd (none_some p (sym (may.chunk.idle n) ∙ e)); apart = t.apart; distinct = t.distinct }
+
   pub tracked_copied : MayCopy g w from k s → IsTracked g w → IsTracked g copied_now
   tracked_copied may t =
       record {
@@ -46,11 +50,12 @@ module _ (g : Geometry) (w : World) (from k s : ℕ) where
         quiet = λ r i j x a b q. agree_copied may i j x (λ y z c d. t.quiet r y z x c d q) a b;
         resynced = t.resynced;
         marked = t.marked;
-        apart = t.apart;
-        holds = λ n p j x e. absurd (none_some p (sym (may.chunk.idle n) ∙ e));
         noted = λ n p j x e. absurd (none_some p (sym (may.chunk.idle n) ∙ e));
-        distinct = t.distinct;
+        in_flight = in_flight_copied may t.in_flight;
       }
+
+pub in_flight_resynced : (w : World) (is : Bool) → HoldsInFlight w → HoldsInFlight (made_resynced w is)
+in_flight_resynced w is t = record { written = t.written; apart = t.apart; distinct = t.distinct }
 
 pub tracked_resynced : (g : Geometry) (w : World) (is : Bool) → IsIdle w
     → (is ≡ true → (j k s : ℕ) → IsInSync w j → IsInSync w k → AgreeAt (w.stored j) (w.stored k) s)
@@ -62,11 +67,12 @@ tracked_resynced g w is idle agree t = record {
   quiet = λ r j k s a b _. agree r j k s a b;
   resynced = λ n p e. absurd (none_some p (sym (idle n) ∙ e));
   marked = t.marked;
-  apart = t.apart;
-  holds = t.holds;
   noted = t.noted;
-  distinct = t.distinct;
+  in_flight = in_flight_resynced w is t.in_flight;
 }
+
+pub in_flight_made_clean : (g : Geometry) (w : World) (full : Bool) → HoldsInFlight w → HoldsInFlight (made_clean g w full)
+in_flight_made_clean g w full t = record { written = t.written; apart = t.apart; distinct = t.distinct }
 
 pub tracked_made_clean : (g : Geometry) (w : World) (full : Bool) → IsTracked g w → IsTracked g (made_clean g w full)
 tracked_made_clean g w full t = record {
@@ -76,8 +82,6 @@ tracked_made_clean g w full t = record {
   quiet = t.quiet;
   resynced = t.resynced;
   marked = t.marked;
-  apart = t.apart;
-  holds = t.holds;
   noted = t.noted;
-  distinct = t.distinct;
+  in_flight = in_flight_made_clean g w full t.in_flight;
 }

@@ -12,6 +12,7 @@ use Rattle.md_model.specs.Worlds.{Request, touches, World, IsInSync, IsInFlight,
 use Rattle.md_model.specs.Counts.{risen}
 use Rattle.md_model.specs.Steps.{with_device, touches_chunk, entered, recorded, recorded_device, bits_after, marked_device, marks_stored, written_device, member_written, finished, unmarked, MayBegin, MayWrite, MayFinish, MayClear}
 use Rattle.md_model.specs.Failures.{failed}
+use Rattle.md_model.specs.Content.{HoldsInFlight}
 use Rattle.md_model.proofs.Cases.{by_test, never, both, some-injective, none_some, is_below}
 use Rattle.md_model.proofs.Puts.{by_same, put-at, put-same, put-hit, put-miss}
 use Rattle.md_model.proofs.Tracked.{IsTracked, IsFewer, agree_as}
@@ -49,6 +50,9 @@ fewer_failed g w k left full =
       number = refl;
     }
 
+pub in_flight_risen : (g : Geometry) (w : World) (full : Bool) → HoldsInFlight w → HoldsInFlight (risen g w full)
+in_flight_risen g w full t = record { written = t.written; apart = t.apart; distinct = t.distinct }
+
 pub tracked_risen : (g : Geometry) (w : World) (full : Bool) → IsTracked g w → IsTracked g (risen g w full)
 tracked_risen g w full t =
     record {
@@ -58,10 +62,8 @@ tracked_risen g w full t =
       quiet = t.quiet;
       resynced = t.resynced;
       marked = t.marked;
-      apart = t.apart;
-      holds = t.holds;
       noted = t.noted;
-      distinct = t.distinct;
+      in_flight = in_flight_risen g w full t.in_flight;
     }
 
 -- a request's sectors lie in its chunks
@@ -112,6 +114,32 @@ module _ (g : Geometry) (w : World) (n : ℕ) (p : Request) where
       (λ same. subst (λ (x : Request). touches x s ≡ false) (some-injective p o (sym in_flight ∙ sym (ap w.request same) ∙ e)) away)
       (λ apart. others m o apart e)
 
+  as_p : (q : Request) (s : ℕ) → p ≡ q → touches q s ≡ true → touches p s ≡ true
+  as_p q s same at = subst (λ (o : Request). touches o s ≡ true) (sym same) at
+
+  not_yet : {P : Type 0} (may : MayBegin g w n p) (q : Request) (k : ℕ) → p ≡ q → q.written (w.number k) ≡ true → P
+  not_yet may q k same done = never (p.written (w.number k)) (subst (λ (o : Request). o.written (w.number k) ≡ true) (sym same) done) (may.unwritten (w.number k))
+
+  pub in_flight_entered : MayBegin g w n p → HoldsInFlight w → HoldsInFlight (entered g w n p)
+  in_flight_entered may t =
+      record {
+        written = λ m q k s e a done at. ⊎_elim
+            (λ (x : (m ≡ n) × (p ≡ q)). not_yet may q k x.1 done)
+            (λ (x : (m ≢ n) × IsInFlight w m q). t.written m q k s x.1 a done at)
+            (flights w n p m q e);
+        apart = λ m i q o s e e' at at'. ⊎_elim
+            (λ (x : (m ≡ n) × (p ≡ q)). ⊎_elim
+            (λ (y : (i ≡ n) × (p ≡ o)). x.0 ∙ sym y.0)
+            (λ (y : (i ≢ n) × IsInFlight w i o). never (touches p s) (as_p q s x.1 at) (may.apart i o y.1 s at'))
+            (flights w n p i o e'))
+            (λ (x : (m ≢ n) × IsInFlight w m q). ⊎_elim
+            (λ (y : (i ≡ n) × (p ≡ o)). never (touches p s) (as_p o s y.1 at') (may.apart m q x.1 s at))
+            (λ (y : (i ≢ n) × IsInFlight w i o). t.apart m i q o s x.1 y.1 at at')
+            (flights w n p i o e'))
+            (flights w n p m q e);
+        distinct = t.distinct;
+      }
+
   pub tracked_entered : 0 < g.width → MayBegin g w n p → IsTracked g w → IsTracked g (entered g w n p)
   tracked_entered wide may t =
       record {
@@ -124,32 +152,20 @@ module _ (g : Geometry) (w : World) (n : ℕ) (p : Request) where
             (λ (x : (m ≡ n) × (p ≡ q)). on_right (w.marks (chunk_of g s)) (touches_chunk g p (chunk_of g s)) (touched g wide p s (as_p q s x.1 at)))
             (λ (x : (m ≢ n) × IsInFlight w m q). on_left (w.marks (chunk_of g s)) (touches_chunk g p (chunk_of g s)) (t.marked m q s x.1 at))
             (flights w n p m q e);
-        apart = λ m i q o s e e' at at'. ⊎_elim
-            (λ (x : (m ≡ n) × (p ≡ q)). ⊎_elim
-            (λ (y : (i ≡ n) × (p ≡ o)). x.0 ∙ sym y.0)
-            (λ (y : (i ≢ n) × IsInFlight w i o). never (touches p s) (as_p q s x.1 at) (may.apart i o y.1 s at'))
-            (flights w n p i o e'))
-            (λ (x : (m ≢ n) × IsInFlight w m q). ⊎_elim
-            (λ (y : (i ≡ n) × (p ≡ o)). never (touches p s) (as_p o s y.1 at') (may.apart m q x.1 s at))
-            (λ (y : (i ≢ n) × IsInFlight w i o). t.apart m i q o s x.1 y.1 at at')
-            (flights w n p i o e'))
-            (flights w n p m q e);
-        holds = λ m q k s e a done at. ⊎_elim
-            (λ (x : (m ≡ n) × (p ≡ q)). not_yet q k x.1 done)
-            (λ (x : (m ≢ n) × IsInFlight w m q). t.holds m q k s x.1 a done at)
-            (flights w n p m q e);
         noted = λ m q k s e a done at. ⊎_elim
-            (λ (x : (m ≡ n) × (p ≡ q)). not_yet q k x.1 done)
+            (λ (x : (m ≡ n) × (p ≡ q)). not_yet may q k x.1 done)
             (λ (x : (m ≢ n) × IsInFlight w m q). t.noted m q k s x.1 a done at)
             (flights w n p m q e);
+        in_flight = in_flight_entered may t.in_flight;
+      }
+
+  pub in_flight_finished : HoldsInFlight w → HoldsInFlight (finished w n)
+  in_flight_finished t =
+      record {
+        written = λ m q k s e. t.written m q k s (other_flights w n m q e).1;
+        apart = λ m i q o s e e'. t.apart m i q o s (other_flights w n m q e).1 (other_flights w n i o e').1;
         distinct = t.distinct;
       }
-    where
-      as_p : (q : Request) (s : ℕ) → p ≡ q → touches q s ≡ true → touches p s ≡ true
-      as_p q s same at = subst (λ (o : Request). touches o s ≡ true) (sym same) at
-
-      not_yet : {P : Type 0} (q : Request) (k : ℕ) → p ≡ q → q.written (w.number k) ≡ true → P
-      not_yet q k same done = never (p.written (w.number k)) (subst (λ (o : Request). o.written (w.number k) ≡ true) (sym same) done) (may.unwritten (w.number k))
 
   pub tracked_finished : MayFinish w n p → IsTracked g w → IsTracked g (finished w n)
   tracked_finished may t =
@@ -158,15 +174,16 @@ module _ (g : Geometry) (w : World) (n : ℕ) (p : Request) where
         on_members = t.on_members;
         known = t.known;
         quiet = λ r j k s a b q. by_test (touches p s)
-            (λ at _ _. t.holds n p j s may.in_flight a (may.written j a) at ∙ sym (t.holds n p k s may.in_flight b (may.written k b) at))
+            (λ at _ _. t.in_flight.written n p j s may.in_flight a (may.written j a) at ∙ sym (t.in_flight.written n p k s may.in_flight b (may.written k b) at))
             (λ away. t.quiet r j k s a b (quiet_but s may.in_flight away (λ m o apart e. q m o (put-miss n None w.request m apart ∙ e))));
         resynced = λ m q e. t.resynced m q (other_flights w n m q e).1;
         marked = λ m q s e at. t.marked m q s (other_flights w n m q e).1 at;
-        apart = λ m i q o s e e'. t.apart m i q o s (other_flights w n m q e).1 (other_flights w n i o e').1;
-        holds = λ m q k s e. t.holds m q k s (other_flights w n m q e).1;
         noted = λ m q k s e. t.noted m q k s (other_flights w n m q e).1;
-        distinct = t.distinct;
+        in_flight = in_flight_finished t.in_flight;
       }
+
+pub in_flight_unmarked : (w : World) (c : ℕ) → HoldsInFlight w → HoldsInFlight (unmarked w c)
+in_flight_unmarked w c t = record { written = t.written; apart = t.apart; distinct = t.distinct }
 
 pub tracked_unmarked : (g : Geometry) (w : World) (c : ℕ) → MayClear g w c → IsTracked g w → IsTracked g (unmarked w c)
 tracked_unmarked g w c may t =
@@ -179,10 +196,8 @@ tracked_unmarked g w c may t =
       quiet = t.quiet;
       resynced = t.resynced;
       marked = λ n p s e at. put-miss c false w.marks (chunk_of g s) (λ here. may.idle n p e s at here) ∙ t.marked n p s e at;
-      apart = t.apart;
-      holds = t.holds;
       noted = t.noted;
-      distinct = t.distinct;
+      in_flight = in_flight_unmarked w c t.in_flight;
     }
 
 -- a bit after its sector may have been stored is off: so was the mark, or the bit
@@ -212,6 +227,9 @@ module _ (g : Geometry) (w : World) (k b : ℕ) where
       (λ here. by_bit w b c P (w.stored k).bits from_marks (λ off. from_bits (ap (λ i. (w.stored i).bits c) here ∙ off)))
       (λ _. from_bits)
 
+  pub in_flight_marks_stored : HoldsInFlight w → HoldsInFlight marked_now
+  in_flight_marks_stored t = record { written = λ n p j s e a done at. content_marked j s ∙ t.written n p j s e a done at; apart = t.apart; distinct = t.distinct }
+
   pub tracked_marks_stored : IsTracked g w → IsTracked g marked_now
   tracked_marks_stored t =
       let same : (j i s : ℕ) → AgreeAt (w.stored j) (w.stored i) s → AgreeAt (marked_now.stored j) (marked_now.stored i) s =
@@ -228,12 +246,10 @@ module _ (g : Geometry) (w : World) (k b : ℕ) where
         quiet = λ r j i s a c q. same j i s (t.quiet r j i s a c q);
         resynced = t.resynced;
         marked = t.marked;
-        apart = t.apart;
-        holds = λ n p j s e a done at. content_marked j s ∙ t.holds n p j s e a done at;
         noted = λ n p j s e a done at. put-at k (marked_device w k b) w.stored j (λ (x : Stored). x.bits (chunk_of g s) ≡ true)
             (λ here. bit_on w b (chunk_of g s) (w.stored k).bits (t.marked n p s e at) (subst (λ i. (w.stored i).bits (chunk_of g s) ≡ true) here (t.noted n p j s e a done at)))
             (λ there. t.noted n p j s e a done at);
-        distinct = t.distinct;
+        in_flight = in_flight_marks_stored t.in_flight;
       }
 
 module _ (g : Geometry) (w : World) (n : ℕ) (p : Request) (k : ℕ) (may : MayWrite g w n p k) where
@@ -261,15 +277,37 @@ module _ (g : Geometry) (w : World) (n : ℕ) (p : Request) (k : ℕ) (may : May
       let away : touches p s ≡ false = q n request_now (put-hit n (Some request_now) w.request) in
       (away, quiet_but g w n p s may.in_flight away (λ m o apart e. q m o (put-miss n (Some request_now) w.request m apart ∙ e)))
 
+  -- a request in flight by then was so before, with the same sectors
+  before : (m : ℕ) (q : Request) → IsInFlight written_now m q → (o : Request) × IsInFlight w m o × ((s : ℕ) → touches o s ≡ touches q s)
+  before m q e = ⊎_elim
+      (λ (x : (m ≡ n) × (request_now ≡ q)). (p, subst (λ i. w.request i ≡ Some p) (sym x.0) may.in_flight, λ s. ap (λ (z : Request). touches z s) x.1))
+      (λ (x : (m ≢ n) × IsInFlight w m q). (q, x.1, λ s. refl))
+      (flights w n request_now m q e)
+
+  pub in_flight_written : HoldsInFlight w → HoldsInFlight written_now
+  in_flight_written t =
+      record {
+        written = λ m q j s e a done at. ⊎_elim
+            (λ (x : (m ≡ n) × (request_now ≡ q)).
+            let at_p : touches p s ≡ true = ap (λ (z : Request). touches z s) x.1 ∙ at in
+            let to_q : p.bytes s ≡ q.bytes s = ap (λ (z : Request). z.bytes s) x.1 in
+            let done_now : request_now.written (w.number j) ≡ true = ap (λ (z : Request). z.written (w.number j)) x.1 ∙ done in
+            put-at k (written_device w k p) w.stored j (λ (d : Stored). d.content s ≡ q.bytes s)
+            (λ _. ap (λ b. cond b (p.bytes s) ((w.stored k).content s)) at_p ∙ to_q)
+            (λ apart. t.written n p j s may.in_flight a
+            (sym (put-miss (w.number k) true p.written (w.number j) (λ twin. apart (t.distinct j k a may.in_sync twin))) ∙ done_now) at_p ∙ to_q))
+            (λ (x : (m ≢ n) × IsInFlight w m q).
+            content_written j s (by_test (touches p s) (λ both. absurd (x.0 (t.apart m n q p s x.1 may.in_flight at both))) (λ off. off))
+            ∙ t.written m q j s x.1 a done at)
+            (flights w n request_now m q e);
+        apart = λ m i q o s e e' at at'. let x = before m q e in let y = before i o e' in t.apart m i x.0 y.0 s x.1 y.1 (x.2 s ∙ at) (y.2 s ∙ at');
+        distinct = t.distinct;
+      }
+
   pub tracked_written : IsTracked g w → IsTracked g written_now
   tracked_written t =
       let same : (i j s : ℕ) → touches p s ≡ false → AgreeAt (w.stored i) (w.stored j) s → AgreeAt (written_now.stored i) (written_now.stored j) s =
       λ i j s away. agree_as (w.stored i) (w.stored j) (written_now.stored i) (written_now.stored j) s (content_written i s away) (content_written j s away) (listed_written i s) (listed_written j s) in
-      let before : (m : ℕ) (q : Request) → IsInFlight written_now m q → (o : Request) × IsInFlight w m o × ((s : ℕ) → touches o s ≡ touches q s) =
-      λ m q e. ⊎_elim
-      (λ (x : (m ≡ n) × (request_now ≡ q)). (p, subst (λ i. w.request i ≡ Some p) (sym x.0) may.in_flight, λ s. ap (λ (z : Request). touches z s) x.1))
-      (λ (x : (m ≢ n) × IsInFlight w m q). (q, x.1, λ s. refl))
-      (flights w n request_now m q e) in
       record {
         in_memory = λ i j s a b off. by_test (touches p s)
             (λ at. never (w.marks (chunk_of g s)) (t.marked n p s may.in_flight at) off)
@@ -281,23 +319,9 @@ module _ (g : Geometry) (w : World) (n : ℕ) (p : Request) (k : ℕ) (may : May
         quiet = λ r i j s a b q. let x = quiet_written s q in same i j s x.0 (t.quiet r i j s a b x.1);
         resynced = λ m q e. let o = before m q e in t.resynced m o.0 o.1;
         marked = λ m q s e at. let o = before m q e in t.marked m o.0 s o.1 (o.2 s ∙ at);
-        apart = λ m i q o s e e' at at'. let x = before m q e in let y = before i o e' in t.apart m i x.0 y.0 s x.1 y.1 (x.2 s ∙ at) (y.2 s ∙ at');
-        holds = λ m q j s e a done at. ⊎_elim
-            (λ (x : (m ≡ n) × (request_now ≡ q)).
-            let at_p : touches p s ≡ true = ap (λ (z : Request). touches z s) x.1 ∙ at in
-            let to_q : p.bytes s ≡ q.bytes s = ap (λ (z : Request). z.bytes s) x.1 in
-            let done_now : request_now.written (w.number j) ≡ true = ap (λ (z : Request). z.written (w.number j)) x.1 ∙ done in
-            put-at k (written_device w k p) w.stored j (λ (d : Stored). d.content s ≡ q.bytes s)
-            (λ _. ap (λ b. cond b (p.bytes s) ((w.stored k).content s)) at_p ∙ to_q)
-            (λ apart. t.holds n p j s may.in_flight a
-            (sym (put-miss (w.number k) true p.written (w.number j) (λ twin. apart (t.distinct j k a may.in_sync twin))) ∙ done_now) at_p ∙ to_q))
-            (λ (x : (m ≢ n) × IsInFlight w m q).
-            content_written j s (by_test (touches p s) (λ both. absurd (x.0 (t.apart m n q p s x.1 may.in_flight at both))) (λ off. off))
-            ∙ t.holds m q j s x.1 a done at)
-            (flights w n request_now m q e);
         noted = λ m q j s e a done at. bits_written j (chunk_of g s) ∙ ⊎_elim
             (λ (x : (m ≡ n) × (request_now ≡ q)). sym (t.known j (chunk_of g s) a) ∙ may.marked j s a (ap (λ (z : Request). touches z s) x.1 ∙ at))
             (λ (x : (m ≢ n) × IsInFlight w m q). t.noted m q j s x.1 a done at)
             (flights w n request_now m q e);
-        distinct = t.distinct;
+        in_flight = in_flight_written t.in_flight;
       }

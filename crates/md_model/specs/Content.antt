@@ -3,8 +3,9 @@
 use Rattle.std.specs.Prelude.{◌≡◌, ℕ, ◌<◌, ◌⊎◌, true, false, cond, List, [], ◌∷◌, Option, Some, None}
 use Rattle.md_model.specs.Sectors.{Geometry, chunk_of}
 use Rattle.md_model.specs.Devices.{Super}
-use Rattle.md_model.specs.Worlds.{Request, touches, World, IsInSync, IsQuiet}
+use Rattle.md_model.specs.Worlds.{Request, touches, World, IsInSync, IsInFlight, IsQuiet}
 use Rattle.md_model.specs.Events.{Event, Step}
+use Rattle.md_model.specs.Openings.{IsOpened}
 use Rattle.md_model.specs.Runs.{History, then_in, opening, IsStart}
 use Rattle.md_model.specs.Lives.{Reopens, Life}
 
@@ -47,6 +48,28 @@ HoldsUnmarked g a w =
 pub record Holds (g : Geometry) (a : Content) (w : World) : Type 0 where
   pub at_rest : HoldsAtRest g a w
   pub unmarked : HoldsUnmarked g a w
+
+-- Of the requests in flight: a member in sync that was written has the bytes, and no two of them touch the same sector. No two
+-- members in sync have the same number, by which a request tells who was written.
+pub record HoldsInFlight (w : World) : Type 0 where
+  pub written : (n : ℕ) (p : Request) (k s : ℕ) → IsInFlight w n p → IsInSync w k → p.written (w.number k) ≡ true → touches p s ≡ true → (w.stored k).content s ≡ p.bytes s
+  pub apart : (m n : ℕ) (q p : Request) (s : ℕ) → IsInFlight w m q → IsInFlight w n p → touches q s ≡ true → touches p s ≡ true → m ≡ n
+  pub distinct : (j k : ℕ) → IsInSync w j → IsInSync w k → w.number j ≡ w.number k → j ≡ k
+
+-- what members in sync hold between two events: the content at rest, and what was written of the requests in flight
+pub record HoldsBetween (g : Geometry) (a : Content) (w : World) : Type 0 where
+  pub at_rest : HoldsAtRest g a w
+  pub in_flight : HoldsInFlight w
+
+-- Each event keeps this, whatever led to its world.
+abbrev pub KeepsBetween : Type 0
+KeepsBetween =
+    (g : Geometry) (w : World) (e : Event) (w' : World) (a b : Content) → Step g w e w' → Becomes g e w a b
+    → HoldsBetween g a w → HoldsBetween g b w'
+
+-- an opened world that holds a content begins with it, as nothing is in flight there
+abbrev pub BeginsBetween : Type 0
+BeginsBetween = (g : Geometry) (opened : Super) (w : World) (a : Content) → IsOpened g opened w → Holds g a w → HoldsBetween g a w
 
 -- an opening may change it where each member that is found in sync has the chunk's mark, and nowhere else
 pub record BecomesAtOpening (g : Geometry) (next : World) (a b : Content) : Type 0 where

@@ -3,7 +3,7 @@
 ghost use Rattle.std.specs.Prelude.{◌≡◌, ℕ, ◌<◌, ◌⊎◌, false, true, None, [], ◌∷◌, ◌++◌};
 ghost use Rattle.md_model.specs.Assembly.{IsFound};
 ghost use Rattle.md_model.specs.Behind.{KeepsData, LeavesBehind, MissingBehind};
-ghost use Rattle.md_model.specs.Content.{HasContent, HasContentAlong, KeepsContent};
+ghost use Rattle.md_model.specs.Content.{BeginsBetween, HasContent, HasContentAlong, KeepsBetween, KeepsContent};
 ghost use Rattle.md_model.specs.Devices.{Covered, Stored, Super, is_marked};
 ghost use Rattle.md_model.specs.Events.{Event};
 ghost use Rattle.md_model.specs.Fits.{FitsWhenThere, StepsRun};
@@ -104,6 +104,15 @@ pub fn every_run()
     // content only in marked chunks, as long as some role is empty.
     ensures leaves_behind { LeavesBehind }
     ensures missing_behind { MissingBehind }
+{}
+
+/// What members in sync hold of a content between two events, in sectors at rest and of the requests in flight, each event keeps,
+/// from any world. So a call that is one event can promise it with nothing said of what came before.
+pub fn between_steps()
+    ensures kept { KeepsBetween }
+
+    // An opened world that holds a content begins with it.
+    ensures begins { BeginsBetween }
 {}
 
 /// There is such a content at an opening of devices that are covered, and it goes along every life.
