@@ -10,6 +10,7 @@ pub mod Keeping
 pub mod Listing
 pub mod Roles
 pub mod Opened
+pub mod OwnFields
 pub mod Remembered
 pub mod Resyncing
 pub mod StoredOn

@@ -1,6 +1,7 @@
 pub mod View
 pub mod Members
 pub mod Permitting
+pub mod OwnFields
 pub mod Opening
 pub mod Consistency
 pub mod Fits

@@ -26,6 +26,7 @@ use Rattle.md_writes.specs.Bitmaps.{bitmap_writes}
 use Rattle.md_writes.specs.Writes.{Write, after, IsStopped}
 use Rattle.md_array.specs.View.{Disk, MemberView, ArrayView, MirrorView}
 use Rattle.md_array.specs.Members.{IsMember, IsInSync, IsAlone, NeedsMarks, is_recorded}
+use Rattle.md_array.specs.OwnFields.{kept_superblock}
 
 -- each device was read as a member
 pub record AreRead (disks : List Disk) (infos : List MemberInfo) : Type 0 where
@@ -34,7 +35,7 @@ pub record AreRead (disks : List Disk) (infos : List MemberInfo) : Type 0 where
 
 -- what is kept of a member in this state, of an array at these events. Where its bitmap counts as all marks, all are stored.
 pub record IsKept (events : ℕ) (info : MemberInfo) (state : MemberState) (m : MemberView) : Type 0 where
-  pub superblock : m.superblock ≡ info.superblock
+  pub superblock : m.superblock ≡ kept_superblock info
   pub header : info.header ≡ Some m.header
   pub bad : m.bad ≡ info.bad
   pub state_is : m.state ≡ state

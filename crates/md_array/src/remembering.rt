@@ -12,6 +12,7 @@ use crate::array::Array;
 use crate::copying::copy_superblock;
 use crate::marking::{is_in_sync, needs_marks, united_marks};
 use crate::member::Member;
+use crate::own_fields::stored_next;
 use md_assembly::{Assembly, MemberState};
 use md_bitmap::{Chunks, Marks};
 use md_members::{MemberInfo, accepted};
@@ -94,7 +95,7 @@ fn member_of(
     } = info;
     let due = is_due(state, superblock.events, events);
     let mut member = Member {
-        superblock,
+        superblock: stored_next(superblock, &bad),
         header: header.unwrap(),
         stored: marks.unwrap(),
         bad,
