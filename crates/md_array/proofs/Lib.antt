@@ -4,6 +4,7 @@ pub mod MarksStored
 pub mod MembersRead
 pub mod Counting
 pub mod Clearing
+pub mod Consistent
 pub mod Fitting
 pub mod Geometry
 pub mod Keeping
