@@ -16,7 +16,9 @@ use Rattle.md_array.specs.View.{ArrayView, Disk, MemberView, MirrorView}
 use Rattle.md_array.specs.Members.{IsInSync, IsMember}
 use Rattle.md_array.specs.Fits.{Fits, FitsMember}
 use Rattle.md_array.specs.Consistency.{HasChunks, HasRoles, HasSuper, IsConsistent}
-use Rattle.md_array.specs.Opening.{IsKept, IsMarkedBy, IsOpenedFrom}
+use Rattle.md_array.specs.Kept.{IsKept}
+use Rattle.md_array.specs.Opening.{IsOpenedFrom}
+use Rattle.md_array.specs.Storing.{IsMarkedBy}
 use Rattle.md_array.specs.Worlds.{block_on, super_in, super_of}
 use Rattle.md_array.proofs.Fitting as fitting
 use Rattle.md_array.proofs.WorldsDevice.{super_new}

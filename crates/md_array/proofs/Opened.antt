@@ -13,7 +13,11 @@ use Rattle.md_array.specs.declared.fault.OpenFault.{OpenFault}
 use Rattle.md_array.specs.declared.fault.OpenFault.TheVariants.{Member, Assemble, MetadataFault, NoMemory}
 use Rattle.md_array.specs.View.{Disk, ArrayView, MemberView}
 use Rattle.md_array.specs.Fits.{Fits}
-use Rattle.md_array.specs.Opening.{AreMarked, AreRead, AreSame, EachPair, FailsToStore, IsArrayOf, IsMarked, IsMarkedBy, IsUntouched, RefusesArray, RefusesMarks, RefusesOpen, RefusesRead, StaysHonest, StopsAtMember, StoresMarks, assembly_refusal_of}
+use Rattle.md_array.specs.DeviceChanges.{AreSame, EachPair, IsUntouched, StaysHonest}
+use Rattle.md_array.specs.Opening.{IsArrayOf}
+use Rattle.md_array.specs.Reading.{AreRead, RefusesRead}
+use Rattle.md_array.specs.Refusals.{RefusesArray, RefusesOpen, assembly_refusal_of}
+use Rattle.md_array.specs.Storing.{AreMarked, FailsToStore, IsMarked, IsMarkedBy, RefusesMarks, StopsAtMember, StoresMarks}
 use Rattle.md_array.proofs.InTurn.{same_place}
 
 -- what holds of each pair, in two steps

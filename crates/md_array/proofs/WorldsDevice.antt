@@ -22,7 +22,9 @@ use Rattle.md_badblocks.specs.Runs.{IsBad}
 use Rattle.md_model.specs.Devices.{is_accepted}
 use Rattle.md_array.specs.View.{Disk, ArrayView, MemberView}
 use Rattle.md_array.specs.Members.{NeedsMarks, is_recorded}
-use Rattle.md_array.specs.Opening.{IsKept, IsUnchanged, StoresMarks}
+use Rattle.md_array.specs.DeviceChanges.{IsUnchanged}
+use Rattle.md_array.specs.Kept.{IsKept}
+use Rattle.md_array.specs.Storing.{StoresMarks}
 use Rattle.md_array.specs.OwnFields.{kept_superblock}
 use Rattle.md_writes.specs.Bitmaps.{bitmap_writes}
 use Rattle.md_writes.specs.Writes.{after}

@@ -2,7 +2,9 @@
 ghost use Rattle.std.specs.Prelude.{◌≡◌, IfOk, IfErr, MatchResult, length, map};
 ghost use Rattle.md_array.specs.Consistency.{IsConsistent};
 ghost use Rattle.md_array.specs.View.{disk_of};
-ghost use Rattle.md_array.specs.Opening.{IsArrayOf, IsOpenedFrom, IsUntouched, RefusesArray, RefusesOpen, assembly_refusal_of};
+ghost use Rattle.md_array.specs.DeviceChanges.{IsUntouched};
+ghost use Rattle.md_array.specs.Opening.{IsArrayOf, IsOpenedFrom};
+ghost use Rattle.md_array.specs.Refusals.{RefusesArray, RefusesOpen, assembly_refusal_of};
 
 use crate::array::Array;
 use crate::fault::OpenFault;

@@ -5,7 +5,7 @@ ghost use Rattle.md_assembly.specs.Faults.{NoFault};
 ghost use Rattle.md_assembly.specs.States.{is_in_sync};
 ghost use Rattle.md_bitmap.specs.Marks.{is_set};
 ghost use Rattle.md_array.specs.Members.{is_recorded};
-ghost use Rattle.md_array.specs.Opening.{IsKept, IsRemembered};
+ghost use Rattle.md_array.specs.Kept.{IsKept, IsRemembered};
 ghost use Rattle.md_array.specs.Remembering.{AreKept, AreWhole, HasAccepted, IsAloneIn, IsChunkingOf, IsLastClearedOr, IsWhole};
 
 use crate::array::Array;
