@@ -5,7 +5,7 @@ use Rattle.std.proofs.lemmas.Bool.Decides.{eqb_tells}
 use Rattle.std.proofs.lemmas.List.{get_or_push, get_or_append_left}
 use Rattle.std.proofs.lemmas.Option.{slice_get-get_or, slice_get_within, get_or_from_slice_get, same_Some, slice_get-map}
 use Rattle.md_array.specs.View.{Disk}
-use Rattle.md_array.specs.Opening.{AreSame, EachPair, IsUnchanged, IsUntouched, StaysHonest}
+use Rattle.md_array.specs.DeviceChanges.{AreSame, EachPair, IsUnchanged, IsUntouched, StaysHonest}
 
 -- an element by its index, where the one at k was replaced
 pub at_set_same : {X : Type 0} (xs : List X) (k : ℕ) (y : X) → k < length xs → slice_get (set xs k y) k ≡ Some y

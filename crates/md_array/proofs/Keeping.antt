@@ -6,7 +6,7 @@ use Rattle.std.proofs.lemmas.Option.{slice_get_within}
 use Rattle.md_members.specs.declared.info.MemberInfo.{MemberInfo}
 use Rattle.md_assembly.specs.declared.state.MemberState.{MemberState}
 use Rattle.md_array.specs.View.{MemberView}
-use Rattle.md_array.specs.Opening.{IsKept}
+use Rattle.md_array.specs.Kept.{IsKept}
 use Rattle.md_array.specs.Remembering.{AreKept}
 use Rattle.md_array.proofs.Listing.{listed_push}
 

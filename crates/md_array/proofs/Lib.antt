@@ -4,12 +4,14 @@ pub mod MarksStored
 pub mod MembersRead
 pub mod Counting
 pub mod Clearing
+pub mod Consistent
 pub mod Fitting
 pub mod Geometry
 pub mod Keeping
 pub mod Listing
 pub mod Roles
 pub mod Opened
+pub mod OwnFields
 pub mod Remembered
 pub mod Resyncing
 pub mod StoredOn

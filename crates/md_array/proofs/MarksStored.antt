@@ -4,7 +4,8 @@ use Rattle.std.specs.Prelude.{slice_get, Some}
 use Rattle.std.proofs.lemmas.Option.{slice_get_within}
 use Rattle.md_array.specs.View.{Disk, ArrayView, MemberView}
 use Rattle.md_array.specs.Members.{IsMember, NeedsMarks}
-use Rattle.md_array.specs.Opening.{AreMarked, AreSame, EachPair, FailsToStore, IsMarked, IsMarkedBy, StaysHonest, StopsAtMember}
+use Rattle.md_array.specs.DeviceChanges.{AreSame, EachPair, StaysHonest}
+use Rattle.md_array.specs.Storing.{AreMarked, FailsToStore, IsMarked, IsMarkedBy, StopsAtMember}
 use Rattle.md_array.proofs.InTurn.{at_set_other, at_set_same, each_after, none_touched, still_same}
 use Rattle.md_array.proofs.Listing.{same_listed}
 

@@ -12,7 +12,8 @@ use Rattle.md_members.specs.declared.info.MemberInfo.{MemberInfo}
 use Rattle.md_members.specs.Members.{IsMember, RefusesMember, RefusesRest, by_place, by_bitmap, by_log, sectors_of}
 use Rattle.md_members.specs.Reading.{RefusesSuper, RefusesBitmap, RefusesLog}
 use Rattle.md_array.specs.View.{Disk}
-use Rattle.md_array.specs.Opening.{AreRead, FailsAt, IsUntouched, RefusesMember as RefusesMemberAt, RefusesRead, refusal_of}
+use Rattle.md_array.specs.DeviceChanges.{FailsAt, IsUntouched}
+use Rattle.md_array.specs.Reading.{AreRead, RefusesMember as RefusesMemberAt, RefusesRead, refusal_of}
 use Rattle.md_array.proofs.InTurn.{at_push_before, at_push_last, at_set_same, same_place}
 
 -- those that were read so far, from the first device on

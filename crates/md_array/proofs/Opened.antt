@@ -1,5 +1,5 @@
 -- Devices are opened: the members are read, assembled and remembered, and then marks are stored.
-use Rattle.std.proofs.Common.{◌≡◌, ℕ, ◌*◌, List, length, sym, ap, ◌∙◌, arith, subst, get_or}
+use Rattle.std.proofs.Common.{◌≡◌, ℕ, ◌*◌, ◌≤◌, List, length, sym, ap, ◌∙◌, arith, subst, get_or}
 use Rattle.std.specs.Prelude.{slice_get, Some}
 use Rattle.md_device.specs.Splice.{SameOutside}
 use Rattle.md_members.specs.Areas.{IsPlaced, bitmap_sectors}
@@ -13,7 +13,11 @@ use Rattle.md_array.specs.declared.fault.OpenFault.{OpenFault}
 use Rattle.md_array.specs.declared.fault.OpenFault.TheVariants.{Member, Assemble, MetadataFault, NoMemory}
 use Rattle.md_array.specs.View.{Disk, ArrayView, MemberView}
 use Rattle.md_array.specs.Fits.{Fits}
-use Rattle.md_array.specs.Opening.{AreMarked, AreRead, AreSame, EachPair, FailsToStore, IsArrayOf, IsMarked, IsMarkedBy, IsUntouched, RefusesArray, RefusesMarks, RefusesOpen, RefusesRead, StaysHonest, StopsAtMember, StoresMarks, assembly_refusal_of}
+use Rattle.md_array.specs.DeviceChanges.{AreSame, EachPair, IsUntouched, StaysHonest}
+use Rattle.md_array.specs.Opening.{IsArrayOf}
+use Rattle.md_array.specs.Reading.{AreRead, RefusesRead}
+use Rattle.md_array.specs.Refusals.{RefusesArray, RefusesOpen, assembly_refusal_of}
+use Rattle.md_array.specs.Storing.{AreMarked, FailsToStore, IsMarked, IsMarkedBy, RefusesMarks, StopsAtMember, StoresMarks}
 use Rattle.md_array.proofs.InTurn.{same_place}
 
 -- what holds of each pair, in two steps
@@ -91,6 +95,7 @@ module _ (before mid : List Disk) (untouched : IsUntouched before mid) (a : Arra
         let d = get_or before k x in
         let fit = fits.each k d m was at in
         record {
+          long = subst (λ (c : List ℕ). 16 ≤ sectors_of c) (sym (untouched.content k d x was is)) fit.long;
           has = fit.has;
           placed = subst (λ (c : List ℕ). IsPlaced (sectors_of c) m.superblock (bitmap_sectors m.stored.chunks)) (sym (untouched.content k d x was is)) fit.placed;
           few_chunks = fit.few_chunks;

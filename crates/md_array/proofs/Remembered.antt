@@ -12,7 +12,7 @@ use Rattle.md_assembly.specs.Assembled.{IsAssembled}
 use Rattle.md_assembly.specs.Faults.{NoFault}
 use Rattle.md_array.specs.View.{ArrayView, MemberView}
 use Rattle.md_array.specs.Members.{IsAlone, IsInSync}
-use Rattle.md_array.specs.Opening.{ClearedAt, IsLastCleared, IsRemembered}
+use Rattle.md_array.specs.Kept.{ClearedAt, IsLastCleared, IsRemembered}
 use Rattle.md_array.specs.Remembering.{AreKept, AreWhole, ClearedIn, HaveChunks, IsAloneIn, IsChunkingOf, IsLastClearedOr, IsMarkedIn}
 use Rattle.md_array.proofs.Geometry.{count_of, width_of}
 

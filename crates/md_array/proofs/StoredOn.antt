@@ -7,7 +7,7 @@ use Rattle.md_members.specs.Reading.{BitmapStartsAt}
 use Rattle.md_writes.specs.Bitmaps.{bitmap_writes}
 use Rattle.md_writes.specs.Writes.{MakesWrites}
 use Rattle.md_array.specs.View.{ArrayView, MemberView, disk_of}
-use Rattle.md_array.specs.Opening.{AreMarkWrites, FailsToStore, IsHeaderFor, StoresMarks}
+use Rattle.md_array.specs.Storing.{AreMarkWrites, FailsToStore, IsHeaderFor, StoresMarks}
 
 module _ {D : Type 0} (content : D → List ℕ) (honest : D → Bool) (failures : D → ℕ) (a : ArrayView) (m : MemberView) (start : ℕ) (h : BitmapHeader) (old new : D) (at : BitmapStartsAt m.superblock start) (is : IsHeaderFor a m h)
     (outside : SameOutside (512 * start) (512 * bitmap_sectors m.stored.chunks) (content old) (content new)) where

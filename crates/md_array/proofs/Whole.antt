@@ -7,7 +7,7 @@ use Rattle.md_members.specs.declared.info.MemberInfo.{MemberInfo}
 use Rattle.md_members.specs.Members.{HasBitmap}
 use Rattle.md_assembly.specs.Faults.{NoFault}
 use Rattle.md_array.specs.View.{Disk}
-use Rattle.md_array.specs.Opening.{AreRead}
+use Rattle.md_array.specs.Reading.{AreRead}
 use Rattle.md_array.specs.Remembering.{AreWhole, IsWhole}
 use Rattle.md_array.proofs.Geometry.{has_bitmap}
 use Rattle.md_array.proofs.Listing.{listed_at}

@@ -1,17 +1,18 @@
 -- The bad set that is kept of a member is what its log lists.
-use Rattle.std.proofs.Common.{◌≡◌, ℕ, ◌+◌, ◌*◌, ◌^◌, ◌⊎◌, ◌↔◌, inl, inr, Bool, true, false, true≢false, ◌&&◌, ◌||◌, not, ◌==◌, bit_and, nat_lt, nat_le, int_eq, List, [], ◌∷◌, pos, refl, sym, ap, ◌∙◌, subst, leb-true, le-leb, ltb-true, lt-ltb}
-use Rattle.std.specs.Int.{w32, cast_signed}
+use Rattle.std.proofs.Common.{◌≡◌, ℕ, ◌+◌, ◌*◌, ◌^◌, ◌⊎◌, ◌↔◌, inl, inr, Bool, true, false, true≢false, ◌&&◌, ◌||◌, nat_lt, nat_le, List, [], ◌∷◌, if◌then◌else◌, refl, sym, ap, ◌∙◌, subst, leb-true, le-leb, ltb-true, lt-ltb}
 use Rattle.md_device.specs.Splice.{part}
-use Rattle.md_format.specs.Fields.{number_at}
 use Rattle.md_super.specs.declared.superblock.Superblock.{Superblock}
-use Rattle.md_super.specs.Format.{IsSuper}
+use Rattle.md_super.specs.Log.{has_bad_block_log}
 use Rattle.md_badblocks.specs.declared.run.Run.{Run}
 use Rattle.md_badblocks.specs.Log.{named_runs}
 use Rattle.md_badblocks.specs.Runs.{IsBad, LiesIn}
+use Rattle.md_members.specs.Areas.{has_bad_blocks}
 use Rattle.md_members.specs.Members.{HasBadSet, reads_log}
 use Rattle.md_members.specs.Reading.{ReadsLog}
-use Rattle.md_array.specs.Worlds.{block_on, from_super, has_listed, is_listed, is_logged, lies_in, sector_at}
+use Rattle.md_array.specs.OwnFields.{kept_shift, stored_next}
+use Rattle.md_array.specs.Worlds.{from_super, is_listed, is_logged, lies_in, sector_at}
 use Rattle.md_model.proofs.Cases.{both}
+use Rattle.md_array.proofs.OwnFields.{none_listed, some_listed}
 use Rattle.md_array.proofs.WorldsTests.{and_is}
 
 in_run : (run : Run) (sector : ℕ) → (nat_le run.start sector && nat_lt sector (run.start + run.len)) ≡ true ↔ LiesIn sector run
@@ -39,21 +40,6 @@ test_from_bad (run ∷ runs) sector (inr later) = rw (test_from_bad runs sector 
     or_true true = refl
     or_true false = refl
 
-regroup : (a b c : Bool) → (a && b && c) ≡ (a && (b && c))
-regroup true b c = refl
-regroup false b c = refl
-
--- a log is read where the superblock lists bad blocks in one
-same_test : (block : List ℕ) (v : Superblock) → IsSuper block v → has_listed block ≡ reads_log v
-same_test block v f = rw (f.feature_map, f.bblog_size, f.bblog_offset) (regroup (not (bit_and (number_at 4 8 block) 8 == 0)) (not (number_at 2 186 block == 0)) (not (int_eq (cast_signed w32 (number_at 4 188 block)) (pos 0))))
-
-listed_by_fields : (content : List ℕ) (v : Superblock) (sector : ℕ) → IsSuper (block_on content) v
-    → is_listed content sector ≡ (reads_log v && is_logged content (from_super v.bblog_offset) v.bblog_size v.bblog_shift sector)
-unfolding is_listed
-listed_by_fields content v sector f =
-    ap (λ b. b && is_logged content (from_super (cast_signed w32 (number_at 4 188 (block_on content)))) (number_at 2 186 (block_on content)) (number_at 1 185 (block_on content)) sector) (same_test (block_on content) v f)
-    ∙ rw (f.bblog_offset, f.bblog_size, f.bblog_shift) refl
-
 logged_is : (content : List ℕ) (v : Superblock) (bad : List Run) (sector : ℕ) → ReadsLog content true v bad
     → is_logged content (from_super v.bblog_offset) v.bblog_size v.bblog_shift sector ≡ true ↔ IsBad bad sector
 logged_is content v bad sector r =
@@ -67,15 +53,20 @@ logged_is content v bad sector r =
       (λ h. let p = named.0 h in and_is (nat_lt sector (2 ^ 54)) (lies_in runs sector) (lt-ltb sector (2 ^ 54) p.1) (test_from_bad runs sector p.0)),
     )
 
-pub listed_is_bad : (content : List ℕ) (v : Superblock) (bad : List Run) (sector : ℕ) → IsSuper (block_on content) v → HasBadSet content true v bad → is_listed content sector ≡ true ↔ IsBad bad sector
-listed_is_bad content v bad sector f (inl log) =
-    let is = listed_by_fields content v sector f in
-    let logged = logged_is content v bad sector log.1 in (
-      (λ e. logged.0 (both (reads_log v) _ (sym is ∙ e)).1),
-      (λ h. is ∙ and_is (reads_log v) _ log.0 (logged.1 h)),
+-- the log of a member whose list was read, by the superblock that is kept
+pub listed_is_bad : (content : List ℕ) (v : Superblock) (bad : List Run) (sector : ℕ) → HasBadSet content true v bad → is_listed (stored_next bad v) content sector ≡ true ↔ IsBad bad sector
+unfolding is_listed
+listed_is_bad content v [] sector set = (
+  (λ e. absurd (true≢false (sym (both (has_bad_blocks (stored_next [] v)) (has_bad_block_log v) (both (reads_log (stored_next [] v)) _ e).0).0 ∙ none_listed v))),
+  (λ h. absurd h),
+)
+listed_is_bad content v (run ∷ runs) sector (inl log) =
+    let there = (both (has_bad_blocks v) (has_bad_block_log v) log.0).1 in
+    let read = and_is (has_bad_blocks (stored_next (run ∷ runs) v)) (has_bad_block_log v) (some_listed run runs v) there in
+    let shift : kept_shift v ≡ v.bblog_shift = ap (λ b. if b then v.bblog_shift else 0) log.0 in
+    let same = ap (λ (n : ℕ). is_logged content (from_super v.bblog_offset) v.bblog_size n sector) shift in
+    let logged = logged_is content v (run ∷ runs) sector log.1 in (
+      (λ e. logged.0 (sym same ∙ (both (reads_log (stored_next (run ∷ runs) v)) _ e).1)),
+      (λ h. and_is (reads_log (stored_next (run ∷ runs) v)) _ read (same ∙ logged.1 h)),
     )
-listed_is_bad content v bad sector f (inr none) =
-    let is = listed_by_fields content v sector f in (
-      (λ e. absurd (true≢false (sym (both (reads_log v) _ (sym is ∙ e)).0 ∙ none.0))),
-      (λ h. absurd (subst (λ runs. IsBad runs sector) none.1 h)),
-    )
+listed_is_bad content v (run ∷ runs) sector (inr none) = let empty = none.1 in absurd cc

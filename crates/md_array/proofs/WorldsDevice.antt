@@ -14,25 +14,29 @@ use Rattle.md_bitmap.proofs.Encoded.{length-header_bytes, reads_back}
 use Rattle.md_bitmap.proofs.Limits.{div-lt-div_ceil, div_ceil-sectors}
 use Rattle.md_members.specs.declared.info.MemberInfo.{MemberInfo}
 use Rattle.md_members.specs.Areas.{BitmapIsPlaced, IsPlaced, bitmap_sectors}
-use Rattle.md_members.specs.Reading.{BitmapStartsAt, ReadsSuper, chunks_of}
+use Rattle.md_members.specs.Reading.{BitmapStartsAt, chunks_of}
 use Rattle.md_members.specs.Members as members
-use Rattle.md_members.specs.Members.{HasBadSet, IsAccepted, sectors_of}
+use Rattle.md_members.specs.Members.{IsAccepted, sectors_of}
 use Rattle.md_assembly.specs.States.{is_in_sync, state_of}
 use Rattle.md_badblocks.specs.Runs.{IsBad}
 use Rattle.md_model.specs.Devices.{is_accepted}
 use Rattle.md_array.specs.View.{Disk, ArrayView, MemberView}
 use Rattle.md_array.specs.Members.{NeedsMarks, is_recorded}
-use Rattle.md_array.specs.Opening.{IsKept, IsUnchanged, StoresMarks}
+use Rattle.md_array.specs.DeviceChanges.{IsUnchanged}
+use Rattle.md_array.specs.Kept.{IsKept}
+use Rattle.md_array.specs.Storing.{StoresMarks}
+use Rattle.md_array.specs.OwnFields.{kept_superblock}
 use Rattle.md_writes.specs.Bitmaps.{bitmap_writes}
 use Rattle.md_writes.specs.Writes.{after}
 use Rattle.md_array.specs.Worlds.{block_on, from_super, is_listed, stored_of, super_in, super_of}
+use Rattle.md_array.proofs.OwnFields.{state_same, super_same}
 use Rattle.md_array.proofs.WorldsBad.{listed_is_bad}
 use Rattle.md_array.proofs.WorldsMember.{Fits, accepted_there, by_need, by_accepted, fits_there}
 use Rattle.md_array.proofs.WorldsOutside.{block_stays, data_stays, listed_stays, starts_at}
 use Rattle.md_array.proofs.WorldsRead.{HasRead, header_there, read_of, holds_read, uuid_long, name_long}
 use Rattle.md_model.proofs.Cases.{by_test}
 use Rattle.md_array.proofs.WorldsStates.{in_sync_up_to_date}
-use Rattle.md_array.proofs.WorldsSupers.{block_spells, device_super}
+use Rattle.md_array.proofs.WorldsSupers.{device_super}
 use Rattle.md_array.proofs.WorldsWrites.{HoldsBitmap, holds_written}
 
 -- what a member was opened from
@@ -98,9 +102,6 @@ module _ (a : ArrayView) (m : MemberView) (info : MemberInfo) (old new : Disk) (
   reads : HasRead old.content own m.header info.marks
   reads = read_of old.content info own m.header o.read o.kept.superblock o.kept.header
 
-  super : ReadsSuper old.content true own
-  super = subst (ReadsSuper old.content true) (sym o.kept.superblock) o.read.superblock
-
   starts : BitmapStartsAt own start
   starts = subst (BitmapStartsAt own) (sym (starts_at own reads.bitmap.start reads.bitmap.at)) reads.bitmap.at
 
@@ -122,8 +123,11 @@ module _ (a : ArrayView) (m : MemberView) (info : MemberInfo) (old new : Disk) (
   pub not_fresher_own : own.events ≤ a.shared.events
   not_fresher_own = subst (λ (v : Superblock). v.events ≤ a.shared.events) (sym o.kept.superblock) o.fresh
 
+  super_is : super_of own ≡ super_of info.superblock
+  super_is = ap super_of o.kept.superblock ∙ super_same info.bad info.superblock
+
   pub state_is : m.state ≡ state_of a.shared own
-  state_is = o.kept.state_is ∙ ap (state_of a.shared) (sym o.kept.superblock)
+  state_is = o.kept.state_is ∙ sym (ap (state_of a.shared) o.kept.superblock ∙ state_same info.bad info.superblock a.shared)
 
   pub due_is : m.due ≡ (is_recorded m.state && nat_lt own.events a.shared.events)
   due_is = o.kept.due ∙ ap (λ s. is_recorded s && nat_lt info.superblock.events a.shared.events) (sym o.kept.state_is)
@@ -140,7 +144,7 @@ module _ (a : ArrayView) (m : MemberView) (info : MemberInfo) (old new : Disk) (
   same_block = block_stays own start sectors old.content new.content starts outside bitmap_placed.from_super
 
   pub super_old : super_in (block_on old.content) ≡ Some (super_of own)
-  super_old = device_super old.content own super
+  super_old = device_super old.content info.superblock o.read.superblock ∙ ap Some (sym super_is)
 
   pub super_new : super_in (block_on new.content) ≡ Some (super_of own)
   super_new = ap super_in same_block ∙ super_old
@@ -149,16 +153,15 @@ module _ (a : ArrayView) (m : MemberView) (info : MemberInfo) (old new : Disk) (
   same_data s below =
       data_stays own start sectors old.content new.content starts outside bitmap_placed.from_data placed.data_holds s (subst (λ n. s < n) size_is below)
 
-  pub same_listed : (sector : ℕ) → is_listed new.content sector ≡ is_listed old.content sector
-  same_listed sector =
-      listed_stays own (sectors_of old.content) start sectors old.content new.content sector starts outside (block_spells old.content own super) placed.log bitmap_placed
+  pub same_listed : (sector : ℕ) → is_listed own new.content sector ≡ is_listed own old.content sector
+  same_listed sector = listed_stays own (sectors_of old.content) start sectors old.content new.content sector starts outside placed.log bitmap_placed
 
-  pub bad_is_listed : (sector : ℕ) → is_listed new.content sector ≡ true ↔ IsBad m.bad sector
+  pub bad_is_listed : (sector : ℕ) → is_listed own new.content sector ≡ true ↔ IsBad m.bad sector
   bad_is_listed sector =
-      let set : HasBadSet old.content true own m.bad =
-      subst (λ (v : Superblock). HasBadSet old.content true v m.bad) (sym o.kept.superblock) (subst (HasBadSet old.content true info.superblock) (sym o.kept.bad) o.read.bad) in
-      let is = listed_is_bad old.content own m.bad sector (block_spells old.content own super) set in
-      ((λ e. is.0 (sym (same_listed sector) ∙ e)), (λ h. same_listed sector ∙ is.1 h))
+      let is = listed_is_bad old.content info.superblock info.bad sector o.read.bad in
+      let same : is_listed own new.content sector ≡ is_listed (kept_superblock info) old.content sector =
+      same_listed sector ∙ ap (λ (v : Superblock). is_listed v old.content sector) o.kept.superblock in
+      ((λ e. subst (λ runs. IsBad runs sector) (sym o.kept.bad) (is.0 (sym same ∙ e))), (λ h. same ∙ is.1 (subst (λ runs. IsBad runs sector) o.kept.bad h)))
 
   -- ---- the chunks
   sound_size : IsChunkSize m.header.chunksize
@@ -197,7 +200,7 @@ module _ (a : ArrayView) (m : MemberView) (info : MemberInfo) (old new : Disk) (
       let h = s.are.header in
       let is = s.are.header_is in
       let at : s.start ≡ start = sym (starts_at own s.start s.are.at) in
-      let uuid : length h.uuid ≡ 16 = ap length (is.uuid ∙ sym uuid_is) ∙ uuid_long old.content own super in
+      let uuid : length h.uuid ≡ 16 = ap length (is.uuid ∙ sym o.uuid) ∙ uuid_long old.content info.superblock o.read.superblock in
       let name : length h.cluster_name ≡ 64 = ap length is.cluster_name ∙ name_long old.content own m.header reads.bitmap.header in
       let fits : 512 * (start + sectors) ≤ length old.content = fits_on _ start sectors (length old.content) starts bitmap_placed.within.to in
       let late : a.shared.events ≤ own.events + 1 = in_sync_up_to_date a.shared own (ap is_in_sync (sym state_is) ∙ in_sync) in

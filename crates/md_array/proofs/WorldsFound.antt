@@ -1,6 +1,6 @@
 -- The states of the world's members are those of assembly.
 use Rattle.std.proofs.Common.{◌≡◌, ℕ, true, false, true≢false, ◌&&◌, nat_lt, List, Some, sym, ap, ◌∙◌, subst}
-use Rattle.md_super.specs.declared.superblock.Superblock.{Superblock}
+use Rattle.md_assembly.specs.declared.state.MemberState.{MemberState}
 use Rattle.md_assembly.specs.States.{is_in_sync, role_in, state_of, takes_role}
 use Rattle.md_model.specs.States as model
 use Rattle.md_model.specs.Assembly as model_assembly
@@ -12,6 +12,7 @@ use Rattle.md_array.specs.View.{Disk, ArrayView, MemberView, MirrorView}
 use Rattle.md_array.specs.Members.{IsMember}
 use Rattle.md_array.specs.Opening.{IsOpenedFrom}
 use Rattle.md_array.specs.Worlds.{AreHonest, geometry_of, super_of, kind_of, world_of, none_in_flight}
+use Rattle.md_array.proofs.OwnFields.{state_same}
 use Rattle.md_array.proofs.WorldsDevice.{due_is, state_is}
 use Rattle.md_array.proofs.WorldsShown.{IsShown, at_is, at_past, by_member, in_sync_there, own_is, shown, state_at, state_past}
 use Rattle.md_array.proofs.WorldsSound.{roles_distinct, some_in_sync}
@@ -48,8 +49,14 @@ module _ (before : List Disk) (m : MirrorView) (honest : AreHonest before) (o : 
       let s = seen x.0 mv.0 mv.1 in (
         x.0,
         in_sync_there before m honest o x.0 mv.0 mv.1
-            (ap is_in_sync (state_is a mv.0 s.info s.old s.new s.opened ∙ ap (state_of a.shared) (present.same_info before m honest o x.0 x.1 mv.0 x.2 mv.1)) ∙ x.3),
+            (ap is_in_sync (state_is a mv.0 s.info s.old s.new s.opened ∙ ap (state_of a.shared) (present.same_info before m honest o x.0 x.1 mv.0 x.2 mv.1) ∙ state_same x.1.bad x.1.superblock a.shared) ∙ x.3),
       )
+
+  -- the state by the superblock that was read
+  state_read : (k : ℕ) (mv : MemberView) (is : IsMember a k mv) → state_of a.shared mv.superblock ≡ state_of a.shared (seen k mv is).info.superblock
+  state_read k mv is =
+      let info = (seen k mv is).info in
+      ap (state_of a.shared) (present.superblock_is before m honest o k mv is) ∙ state_same info.bad info.superblock a.shared
 
   -- an active member takes its role
   record IsActive (k : ℕ) : Type 0 where
@@ -72,8 +79,8 @@ module _ (before : List Disk) (m : MirrorView) (honest : AreHonest before) (o : 
       let roles : role_in a.shared y.member.superblock.dev_number ≡ role =
       ap (role_in a.shared) (sym (present.number_here before m honest o k y.member y.is)) ∙ sym same ∙ ap (role_in a.shared) (present.number_here before m honest o j x.member x.is) in
       roles_distinct o.array.infos o.array.assembly a o.array.assembled o.array.sound o.array.remembered j k role s.info t.info s.listed t.listed
-      (subst (λ (v : Superblock). takes_role role (state_of a.shared v) ≡ true) (present.superblock_is before m honest o j x.member x.is) x.takes)
-      (subst (λ (v : Superblock). takes_role role (state_of a.shared v) ≡ true) (present.superblock_is before m honest o k y.member y.is)
+      (subst (λ (s : MemberState). takes_role role s ≡ true) (state_read j x.member x.is) x.takes)
+      (subst (λ (s : MemberState). takes_role role s ≡ true) (state_read k y.member y.is)
       (subst (λ r. takes_role r (state_of a.shared y.member.superblock) ≡ true) roles y.takes))
 
   due : (k : ℕ) (own : Super) → (w.stored k).super ≡ Some own → w.due k ≡ (model.is_recorded (w.state k) && nat_lt own.events first.events)

@@ -117,7 +117,7 @@ module _ (before : List Disk) (m : MirrorView) (honest : AreHonest before) (o : 
   listed_is_kept k mv is s low =
       let t = seen k mv is in
       let bad = bad_is_listed a mv t.info t.old t.new t.opened (mv.superblock.data_offset + s) in
-      let there : (w.stored k).listed s ≡ is_listed t.new.content (mv.superblock.data_offset + s) =
+      let there : (w.stored k).listed s ≡ is_listed mv.superblock t.new.content (mv.superblock.data_offset + s) =
       ap (λ (d : Stored). d.listed s) (stored_after k mv is)
-      ∙ ap (λ b. b && is_listed t.new.content (mv.superblock.data_offset + s)) (lt-ltb s a.chunks.size low) in
+      ∙ ap (λ b. b && is_listed mv.superblock t.new.content (mv.superblock.data_offset + s)) (lt-ltb s a.chunks.size low) in
       ((λ e. bad.0 (sym there ∙ e)), (λ h. there ∙ bad.1 h))

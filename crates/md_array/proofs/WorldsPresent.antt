@@ -10,7 +10,9 @@ use Rattle.md_model.specs.Worlds as worlds
 use Rattle.md_array.specs.View.{Disk, ArrayView, MemberView, MirrorView}
 use Rattle.md_array.specs.Members.{IsMember}
 use Rattle.md_array.specs.Opening.{IsOpenedFrom}
+use Rattle.md_array.specs.OwnFields.{kept_superblock}
 use Rattle.md_array.specs.Worlds.{AreHonest, super_of, world_of, none_in_flight}
+use Rattle.md_array.proofs.OwnFields.{super_same}
 use Rattle.md_array.proofs.WorldsDevice.{not_fresher_own}
 use Rattle.md_array.proofs.WorldsLists.{any_at, at_any, got_within, got_same}
 use Rattle.md_array.proofs.WorldsShown.{IsShown, number_at_member, own_is, shown, stored_past, super_at}
@@ -29,7 +31,7 @@ module _ (before : List Disk) (m : MirrorView) (honest : AreHonest before) (o : 
   abbrev seen : (k : ℕ) (mv : MemberView) → IsMember a k mv → IsShown before m o.array.infos k mv
   seen = shown before m honest o
 
-  pub superblock_is : (k : ℕ) (mv : MemberView) (is : IsMember a k mv) → mv.superblock ≡ (seen k mv is).info.superblock
+  pub superblock_is : (k : ℕ) (mv : MemberView) (is : IsMember a k mv) → mv.superblock ≡ kept_superblock (seen k mv is).info
   superblock_is k mv is = (seen k mv is).opened.kept.superblock
 
   -- ---- the freshest
@@ -39,8 +41,8 @@ module _ (before : List Disk) (m : MirrorView) (honest : AreHonest before) (o : 
       let many = o.array.remembered.as_many in
       got_within a.members k (omega arith)
 
-  pub same_info : (k : ℕ) (info : MemberInfo) (mv : MemberView) → slice_get o.array.infos k ≡ Some info → IsMember a k mv → mv.superblock ≡ info.superblock
-  same_info k info mv e is = superblock_is k mv is ∙ ap (λ (i : MemberInfo). i.superblock) (got_same o.array.infos k _ _ (seen k mv is).listed e)
+  pub same_info : (k : ℕ) (info : MemberInfo) (mv : MemberView) → slice_get o.array.infos k ≡ Some info → IsMember a k mv → mv.superblock ≡ kept_superblock info
+  same_info k info mv e is = superblock_is k mv is ∙ ap kept_superblock (got_same o.array.infos k _ _ (seen k mv is).listed e)
 
   pub freshest : IsFreshest w.stored first
   freshest =
@@ -49,7 +51,7 @@ module _ (before : List Disk) (m : MirrorView) (honest : AreHonest before) (o : 
       let there = member_of at f.0 f.1 in
       record {
         at = at;
-        is = super_at before m honest o at there.0 there.1 ∙ ap (λ v. Some (super_of v)) (same_info at f.0 there.0 f.1 there.1 ∙ f.2);
+        is = super_at before m honest o at there.0 there.1 ∙ ap Some (ap super_of (same_info at f.0 there.0 f.1 there.1) ∙ super_same f.0.bad f.0.superblock ∙ ap super_of f.2);
         greatest = λ k own e.
             let x = own_is before m honest o k own e in
             let s = seen k x.0 x.1 in

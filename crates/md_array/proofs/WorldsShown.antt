@@ -39,12 +39,10 @@ pub record IsShown (before : List Disk) (mirror : MirrorView) (infos : List Memb
   pub is : slice_get mirror.disks k ≡ Some new
   pub opened : IsOpenedMember mirror.array m info old new
 
-module _ (before : List Disk) (m : MirrorView) (honest : AreHonest before) (o : IsOpenedFrom before m) where
-  abbrev pub world : World
-  world = world_of m none_in_flight
-
-  pub shown : (k : ℕ) (mv : MemberView) → IsMember m.array k mv → IsShown before m o.array.infos k mv
-  shown k mv is =
+-- an honest member of any mirror
+module _ (before : List Disk) (m : MirrorView) (o : IsOpenedFrom before m) where
+  pub shown_honest : (k : ℕ) (mv : MemberView) → ((d : Disk) → slice_get before k ≡ Some d → d.honest ≡ true) → IsMember m.array k mv → IsShown before m o.array.infos k mv
+  shown_honest k mv honest is =
       let a = m.array in
       let r = o.array.remembered in
       let low : k < length a.members = slice_get_within a.members k mv is in
@@ -54,7 +52,7 @@ module _ (before : List Disk) (m : MirrorView) (honest : AreHonest before) (o : 
       let info = got_within o.array.infos k (omega arith) in
       let old = got_within before k (omega arith) in
       let new = got_within m.disks k (omega arith) in
-      let honest_old = honest k old.0 old.1 in
+      let honest_old = honest old.0 old.1 in
       let kept = kept_at o.array.infos o.array.assembly a o.array.assembled o.array.sound r k info.0 mv info.1 is in
       let marked = o.marked.each k old.0 new.0 old.1 new.1 mv is in
       record {
@@ -78,6 +76,13 @@ module _ (before : List Disk) (m : MirrorView) (honest : AreHonest before) (o : 
           fresh = not_fresher o.array.infos o.array.assembly a o.array.assembled o.array.sound r k info.0 info.1;
         };
       }
+
+module _ (before : List Disk) (m : MirrorView) (honest : AreHonest before) (o : IsOpenedFrom before m) where
+  abbrev pub world : World
+  world = world_of m none_in_flight
+
+  pub shown : (k : ℕ) (mv : MemberView) → IsMember m.array k mv → IsShown before m o.array.infos k mv
+  shown k mv is = shown_honest before m o k mv (honest k) is
 
   pub stored_at : (k : ℕ) (mv : MemberView) (is : IsMember m.array k mv) → world.stored k ≡ stored_of m.array mv (shown k mv is).new.content
   stored_at k mv is = let s = shown k mv is in stored_is m.array (slice_get m.array.members k) (slice_get m.disks k) mv s.new is s.is

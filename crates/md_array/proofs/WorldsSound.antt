@@ -18,7 +18,7 @@ use Rattle.md_assembly.specs.Listed.{PairAt}
 use Rattle.md_assembly.specs.States.{state_of, states_by, is_in_sync, takes_role}
 use Rattle.md_array.specs.View.{ArrayView, MemberView}
 use Rattle.md_array.specs.Members.{IsMember}
-use Rattle.md_array.specs.Opening.{IsKept, IsRemembered}
+use Rattle.md_array.specs.Kept.{IsKept, IsRemembered}
 use Rattle.md_array.proofs.WorldsLists.{none_without_least, got_in_map, got_within, got_same, at_any, two_counted}
 use Rattle.md_model.proofs.Cases.{by_test}
 

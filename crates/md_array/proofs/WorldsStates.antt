@@ -1,5 +1,5 @@
 -- The states of assembly are those of the model.
-use Rattle.std.proofs.Common.{◌≡◌, ℕ, ◌+◌, ◌≤◌, Bool, true, false, cond, not, ◌==◌, eqb, nat_le, nat_lt, refl, ap, ◌∙◌, arith, eq-eqb}
+use Rattle.std.proofs.Common.{◌≡◌, ℕ, ◌+◌, ◌≤◌, Bool, true, false, cond, not, ◌==◌, ◌<◌, eqb, nat_le, nat_lt, refl, ap, subst, ◌∙◌, arith, eq-eqb, eqb-true}
 use Rattle.std.proofs.lemmas.Bool.Decides.{nat_tests}
 use Rattle.md_super.specs.declared.superblock.Superblock.{Superblock}
 use Rattle.md_assembly.specs.declared.state.MemberState.{MemberState}
@@ -53,6 +53,15 @@ takes_by_tests false false true d role e = absurd cc
 takes_by_tests false false false true role e = eq-eqb role role refl
 takes_by_tests false false false false role e = eq-eqb role role refl
 
+-- a member takes the role that its number has, one below raid_disks
+role_by_tests : (a b c d : Bool) (own role : ℕ) → takes_role role (by_tests a b c d own) ≡ true → (b ≡ false) × (own ≡ role)
+unfolding by_tests
+role_by_tests true b c d own role e = absurd cc
+role_by_tests false true c d own role e = absurd cc
+role_by_tests false false true d own role e = absurd cc
+role_by_tests false false false true own role e = (refl, eqb-true own role e)
+role_by_tests false false false false own role e = (refl, eqb-true own role e)
+
 is_behind : (a b : ℕ) → not (nat_le a b) ≡ nat_lt b a
 is_behind a b = grind (arith, nat_tests)
 
@@ -78,3 +87,11 @@ unfolding state_of by_tests
 active_takes_role first own e =
     let role = role_in first own.dev_number in
     takes_by_tests (role == 0xfffe) (nat_le first.raid_disks role) (not (is_up_to_date first own)) (has_recovery_offset own) role e
+
+pub role_taken : (first own : Superblock) (role : ℕ) → takes_role role (state_of first own) ≡ true → (role_in first own.dev_number ≡ role) × (role < first.raid_disks)
+unfolding state_of by_tests
+role_taken first own role e =
+    let given = role_in first own.dev_number in
+    let x = role_by_tests (given == 0xfffe) (nat_le first.raid_disks given) (not (is_up_to_date first own)) (has_recovery_offset own) given role e in
+    let low : given < first.raid_disks = grind (arith, nat_tests) in
+    (x.1, subst (λ (n : ℕ). n < first.raid_disks) x.1 low)

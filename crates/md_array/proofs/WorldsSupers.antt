@@ -43,7 +43,7 @@ unfolding super_in
 super_shown block v fields sound = rw (no_fault block sound) (ap Some (same_fields block v fields))
 
 -- the superblock on an honest device
-pub block_spells : (content : List ℕ) (v : Superblock) → ReadsSuper content true v → IsSuper (block_on content) v
+block_spells : (content : List ℕ) (v : Superblock) → ReadsSuper content true v → IsSuper (block_on content) v
 block_spells content v r = subst (λ (bytes : List ℕ). IsSuper bytes v) (r.read.from_device refl) r.fields
 
 pub device_super : (content : List ℕ) (v : Superblock) → ReadsSuper content true v → super_in (block_on content) ≡ Some (super_of v)

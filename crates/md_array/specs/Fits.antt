@@ -6,8 +6,9 @@ use Rattle.md_members.specs.Members.{sectors_of}
 use Rattle.md_array.specs.View.{Disk, MemberView, ArrayView}
 use Rattle.md_array.specs.Members.{IsMember}
 
--- a member's bitmap lies on its device, and its chunks fit the size of the array
+-- a member's parts lie on its device, and its chunks fit the size of the array
 pub record FitsMember (a : ArrayView) (m : MemberView) (d : Disk) : Type 0 where
+  pub long : 16 ≤ sectors_of d.content
   pub has : has_bitmap m.superblock ≡ true
   pub placed : IsPlaced (sectors_of d.content) m.superblock (bitmap_sectors m.stored.chunks)
   pub few_chunks : m.stored.chunks ≤ 1048576

@@ -1,7 +1,14 @@
 pub mod View
 pub mod Members
 pub mod Permitting
+pub mod OwnFields
+pub mod DeviceChanges
+pub mod Reading
+pub mod Kept
+pub mod Storing
 pub mod Opening
+pub mod Refusals
+pub mod Consistency
 pub mod Fits
 pub mod Remembering
 pub mod Worlds

@@ -11,7 +11,7 @@ use Rattle.md_members.specs.Members.{IsAccepted}
 use Rattle.md_assembly.specs.declared.state.MemberState.{MemberState}
 use Rattle.md_assembly.specs.States.{is_in_sync}
 use Rattle.md_array.specs.View.{MemberView}
-use Rattle.md_array.specs.Opening.{IsKept}
+use Rattle.md_array.specs.Kept.{IsKept}
 
 -- the member has a bitmap, of as many chunks as the array has by the member's superblock
 pub record IsWhole (info : MemberInfo) : Type 0 where

@@ -18,7 +18,7 @@ disk_of content honest failures d = record { content = content d; honest = hones
 
 -- a member, but for its device
 pub record MemberView : Type 0 where
-  pub superblock : Superblock  -- its own fields count; those of the array are shared
+  pub superblock : Superblock  -- its own fields count, as they are stored next; those of the array are shared
   pub header : BitmapHeader  -- of its bitmap, as it was read
   pub stored : Bitmap  -- the marks that are stored on it
   pub bad : List Run

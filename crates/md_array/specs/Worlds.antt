@@ -1,9 +1,7 @@
 -- The mirror as the array's world: each device's bytes are read for what assembly, marks and data are.
 use Rattle.std.specs.Prelude.{◌≡◌, ℕ, ◌+◌, ◌*◌, Bool, true, false, cond, ◌&&◌, not, ◌==◌, eqb, nat_lt, nat_le, bit_and, ◌-◌, ◌^◌, List, [], length, drop, slice_get, slice_index_or, Option, Some, None, ℤ, pos, negsuc, ◌+ℤ◌, option_map, unwrap_or}
 use Rattle.std.specs.List.{list_any}
-use Rattle.std.specs.Ordering.{int_eq}
 use Rattle.std.specs.Str.{bytes_eq}
-use Rattle.std.specs.Int.{w32, cast_signed}
 use Rattle.md_model.specs.Sectors.{Geometry}
 use Rattle.md_model.specs.States as model
 use Rattle.md_model.specs.Devices.{Super, Stored}
@@ -17,6 +15,7 @@ use Rattle.md_super.specs.Format.{roles_in}
 use Rattle.md_bitmap.specs.Marks.{is_set}
 use Rattle.md_badblocks.specs.declared.run.Run.{Run}
 use Rattle.md_badblocks.specs.Log.{named_runs}
+use Rattle.md_members.specs.Members.{reads_log}
 use Rattle.md_assembly.specs.declared.state.MemberState.{MemberState}
 use Rattle.md_assembly.specs.declared.state.MemberState.TheVariants.{InSync, Recovering, Stale, Spare, Faulty}
 use Rattle.md_assembly.specs.States.{role_in, has_recovery_offset}
@@ -71,16 +70,9 @@ lies_in runs sector = list_any (λ run. nat_le run.start sector && nat_lt sector
 abbrev pub is_logged : List ℕ → ℕ → ℕ → ℕ → ℕ → Bool
 is_logged content start sectors shift sector = nat_lt sector (2 ^ 54) && lies_in (named_runs shift (part content (512 * start) (512 * sectors))) sector
 
--- the superblock in these bytes says that the member has a log, and that it lists bad blocks
-abbrev pub has_listed : List ℕ → Bool
-has_listed block =
-    not (bit_and (number_at 4 8 block) 8 == 0) && not (number_at 2 186 block == 0) && not (int_eq (cast_signed w32 (number_at 4 188 block)) (pos 0))
-
--- a sector of the device is listed in its log
-unfoldable pub is_listed : List ℕ → ℕ → Bool
-is_listed content sector =
-    let block = block_on content in
-    has_listed block && is_logged content (from_super (cast_signed w32 (number_at 4 188 block))) (number_at 2 186 block) (number_at 1 185 block) sector
+-- a sector of the device is listed in the log that this superblock names, if that is to be read
+unfoldable pub is_listed : Superblock → List ℕ → ℕ → Bool
+is_listed v content sector = reads_log v && is_logged content (from_super v.bblog_offset) v.bblog_size v.bblog_shift sector
 
 -- the header of the bitmap at this sector
 abbrev pub header_on : List ℕ → ℕ → List ℕ
@@ -90,14 +82,15 @@ header_on content start = part content (512 * start) 256
 abbrev pub header_fits : ArrayView → List ℕ → Bool
 header_fits a header = bytes_eq (bytes_at 16 8 header) a.shared.set_uuid && (number_at 8 40 header == a.shared.size) && (number_at 4 48 header == 0)
 
--- What a device holds of the array. Where a member's parts stand is by its own fields, which are those that are stored on it.
+-- What a device holds of the array. Where a member's parts stand, and whether its log is read, is by its own fields as they
+-- are stored next, so that a write of its superblock changes no more than `super`.
 abbrev pub stored_of : ArrayView → MemberView → List ℕ → Stored
 stored_of a m content =
     let start : ℕ = from_super m.superblock.bitmap_offset in
     record {
       super = super_in (block_on content);
       content = λ s. cond (nat_lt s a.chunks.size) (part content (512 * (m.superblock.data_offset + s)) 512) [];
-      listed = λ s. nat_lt s a.chunks.size && is_listed content (m.superblock.data_offset + s);
+      listed = λ s. nat_lt s a.chunks.size && is_listed m.superblock content (m.superblock.data_offset + s);
       bits = λ c. nat_lt c a.marks.chunks && is_set (drop (512 * start + 256) content) c;
       bitmap_events = number_at 8 24 (header_on content start);
       bitmap_fits = header_fits a (header_on content start);

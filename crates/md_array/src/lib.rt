@@ -10,6 +10,7 @@ mod member;
 mod mirror;
 mod observing;
 mod opening;
+mod own_fields;
 mod permitting;
 mod reading;
 mod remembering;

@@ -5,8 +5,8 @@ use md_bitmap::{BitmapHeader, Marks};
 use md_super::Superblock;
 use std::marker::Model;
 
-/// A member, but for its device. Of the superblock the member's own fields count; those of the array
-/// are shared.
+/// A member, but for its device. Of the superblock the member's own fields count, as they are stored
+/// next; those of the array are shared.
 #[derive(Debug, Drop)]
 pub(crate) struct Member {
     pub(crate) superblock: Superblock,

@@ -63,7 +63,8 @@ impl<D: Device + Drop> Mirror<D> {
         self.array.members[k].due
     }
 
-    /// The superblock of member k, of which its own fields count: those of the array are `shared`.
+    /// The superblock of member k, of which its own fields count, as they are stored next: those of the
+    /// array are `shared`.
     pub fn own(&self, k: usize) -> &Superblock
         requires { k < length self.now.array.members }
         ensures { option_map (λ m. m.superblock) (slice_get self.now.array.members k) ≡ Some result.now }

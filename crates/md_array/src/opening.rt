@@ -1,7 +1,10 @@
 // Opening devices as a mirror.
 ghost use Rattle.std.specs.Prelude.{◌≡◌, IfOk, IfErr, MatchResult, length, map};
+ghost use Rattle.md_array.specs.Consistency.{IsConsistent};
 ghost use Rattle.md_array.specs.View.{disk_of};
-ghost use Rattle.md_array.specs.Opening.{IsArrayOf, IsOpenedFrom, IsUntouched, RefusesArray, RefusesOpen, assembly_refusal_of};
+ghost use Rattle.md_array.specs.DeviceChanges.{IsUntouched};
+ghost use Rattle.md_array.specs.Opening.{IsArrayOf, IsOpenedFrom};
+ghost use Rattle.md_array.specs.Refusals.{RefusesArray, RefusesOpen, assembly_refusal_of};
 
 use crate::array::Array;
 use crate::fault::OpenFault;
@@ -19,6 +22,7 @@ impl<D: Device + Drop> Mirror<D> {
     pub fn open(alloc: Global, devices: Vec<D>) -> Result<Mirror<D>, (Vec<D>, OpenFault)>
         ensures gives { MatchResult result (λ m. IsOpenedFrom (map (disk_of D.content D.honest D.failures) devices.items) m)
             (λ e. RefusesOpen (map (disk_of D.content D.honest D.failures) devices.items) (map (disk_of D.content D.honest D.failures) e.0.items) e.1) }
+        ensures sound { IfOk result (λ m. IsConsistent m) }
     {
         let mut devices = devices;
         match open_array(alloc, &mut devices) {

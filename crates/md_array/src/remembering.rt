@@ -5,13 +5,14 @@ ghost use Rattle.md_assembly.specs.Faults.{NoFault};
 ghost use Rattle.md_assembly.specs.States.{is_in_sync};
 ghost use Rattle.md_bitmap.specs.Marks.{is_set};
 ghost use Rattle.md_array.specs.Members.{is_recorded};
-ghost use Rattle.md_array.specs.Opening.{IsKept, IsRemembered};
+ghost use Rattle.md_array.specs.Kept.{IsKept, IsRemembered};
 ghost use Rattle.md_array.specs.Remembering.{AreKept, AreWhole, HasAccepted, IsAloneIn, IsChunkingOf, IsLastClearedOr, IsWhole};
 
 use crate::array::Array;
 use crate::copying::copy_superblock;
 use crate::marking::{is_in_sync, needs_marks, united_marks};
 use crate::member::Member;
+use crate::own_fields::stored_next;
 use md_assembly::{Assembly, MemberState};
 use md_bitmap::{Chunks, Marks};
 use md_members::{MemberInfo, accepted};
@@ -94,7 +95,7 @@ fn member_of(
     } = info;
     let due = is_due(state, superblock.events, events);
     let mut member = Member {
-        superblock,
+        superblock: stored_next(superblock, &bad),
         header: header.unwrap(),
         stored: marks.unwrap(),
         bad,

@@ -5,7 +5,8 @@ ghost use Rattle.md_bitmap.specs.Sound.{IsSound};
 ghost use Rattle.md_members.specs.Reading.{BitmapStartsAt};
 ghost use Rattle.md_array.specs.Fits.{Fits, FitsMember};
 ghost use Rattle.md_array.specs.Members.{NeedsMarks};
-ghost use Rattle.md_array.specs.Opening.{AreMarked, FailsToStore, IsHeaderFor, IsMarkedBy, RefusesMarks, StaysHonest, StoresMarks};
+ghost use Rattle.md_array.specs.DeviceChanges.{StaysHonest};
+ghost use Rattle.md_array.specs.Storing.{AreMarked, FailsToStore, IsHeaderFor, IsMarkedBy, RefusesMarks, StoresMarks};
 ghost use Rattle.md_array.specs.View.{disk_of};
 
 use crate::array::Array;

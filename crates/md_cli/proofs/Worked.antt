@@ -2,7 +2,7 @@
 use Rattle.std.proofs.Common.{◌≡◌, ◌∙◌, ℕ, Bool, true, List, length, Option, Result, subst, inl}
 use Rattle.clap.specs.Words.{Text}
 use Rattle.md_array.specs.View.{Disk}
-use Rattle.md_array.specs.Opening.{RefusesOpen}
+use Rattle.md_array.specs.Refusals.{RefusesOpen}
 use Rattle.md_array.specs.declared.fault.OpenFault.{OpenFault}
 use Rattle.md_array.specs.declared.fault.OpenFault.TheVariants as opening
 use Rattle.md_cli.specs.declared.fault.CommandFault.{CommandFault}

@@ -2,7 +2,8 @@
 use Rattle.std.specs.Prelude.{◌≡◌, ◌⊎◌, ℕ, Bool, true, List, length, map, Option, Result, Err, MatchResult}
 use Rattle.clap.specs.Words.{Text}
 use Rattle.md_array.specs.View.{ArrayView, Disk, MirrorView, disk_of}
-use Rattle.md_array.specs.Opening.{IsOpenedFrom, RefusesOpen}
+use Rattle.md_array.specs.Opening.{IsOpenedFrom}
+use Rattle.md_array.specs.Refusals.{RefusesOpen}
 use Rattle.md_array.specs.declared.fault.OpenFault.{OpenFault}
 use Rattle.md_examine.specs.Sink.{Puts}
 use Rattle.md_examine.specs.SummaryReport.{summary_text}

@@ -2,7 +2,8 @@ use Rattle.std.proofs.Common.{arith, rules, ◌≡◌, ℕ, ◌+◌, ◌<◌, �
 use Rattle.std.proofs.lemmas.List.{length_push, map-set}
 use Rattle.md_array.specs.View.{Disk, disk_of}
 use Rattle.md_members.specs.declared.info.MemberInfo.{MemberInfo}
-use Rattle.md_array.specs.Opening.{IsUntouched, RefusesRead, StaysHonest, refusal_of}
+use Rattle.md_array.specs.DeviceChanges.{IsUntouched, StaysHonest}
+use Rattle.md_array.specs.Reading.{RefusesRead, refusal_of}
 use Rattle.md_array.proofs.InTurn.{disk_at, still_untouched}
 use Rattle.md_array.proofs.MembersRead.{AreReadSoFar, read_more, refused_at}
 use Rattle.md_array.proofs.reading.read_members.Goals as goal

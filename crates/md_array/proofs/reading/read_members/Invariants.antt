@@ -1,5 +1,5 @@
 use Rattle.std.proofs.Common.{◌≡◌, ◌≤◌, length, map}
-use Rattle.md_array.specs.Opening.{IsUntouched}
+use Rattle.md_array.specs.DeviceChanges.{IsUntouched}
 use Rattle.md_array.specs.View.{disk_of}
 use Rattle.md_array.proofs.MembersRead.{AreReadSoFar}
 use Rattle.md_array.proofs.reading.read_members.Given as goal

@@ -3,7 +3,7 @@ use Rattle.std.proofs.lemmas.Iterator.Adapters.{YieldsList-from_vec}
 use Rattle.std.proofs.lemmas.Iterator.Consumers.{YieldsList-turn}
 use Rattle.std.proofs.lemmas.Option.{slice_get-get_or, slice_get_read}
 use Rattle.md_assembly.specs.declared.state.MemberState.TheVariants.{InSync}
-use Rattle.md_array.specs.Opening.{IsKept}
+use Rattle.md_array.specs.Kept.{IsKept}
 use Rattle.md_array.proofs.Keeping.{one_more_kept}
 use Rattle.md_array.proofs.remembering.members_of.Goals as goal
 

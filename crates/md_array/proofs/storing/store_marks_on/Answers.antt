@@ -1,6 +1,6 @@
 use Rattle.std.proofs.Common.{OnOk, OnErr, subst, sym}
 use Rattle.md_array.specs.View.{MemberView, disk_of}
-use Rattle.md_array.specs.Opening.{FailsToStore, IsHeaderFor, StoresMarks}
+use Rattle.md_array.specs.Storing.{FailsToStore, IsHeaderFor, StoresMarks}
 use Rattle.md_array.proofs.StoredOn.{fails_to_store, stores}
 use Rattle.md_array.proofs.storing.store_marks_on.Goals as goal
 

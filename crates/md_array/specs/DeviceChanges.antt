@@ -1,0 +1,30 @@
+-- Devices before and after a call.
+use Rattle.std.specs.Prelude.{◌≡◌, ℕ, ◌<◌, ◌≤◌, List, length, slice_get, Some}
+use Rattle.md_array.specs.View.{Disk}
+
+-- a device is what it was
+abbrev pub IsUnchanged : Disk → Disk → Type 0
+IsUnchanged old new = new.content ≡ old.content
+
+-- it stays honest or not, and its failures are counted
+pub record StaysHonest (old new : Disk) : Type 0 where
+  pub honest : new.honest ≡ old.honest
+  pub counted : old.failures ≤ new.failures
+
+-- of each device before and after
+abbrev pub EachPair : (ℕ → Disk → Disk → Type 0) → List Disk → List Disk → Type 0
+EachPair Related before after = (k : ℕ) (d e : Disk) → slice_get before k ≡ Some d → slice_get after k ≡ Some e → Related k d e
+
+-- as many devices, each as honest as it was
+pub record AreSame (before after : List Disk) : Type 0 where
+  pub as_many : length after ≡ length before
+  pub honest : EachPair (λ _. StaysHonest) before after
+
+-- nothing was written
+pub record IsUntouched (before after : List Disk) : Type 0 where
+  pub same : AreSame before after
+  pub content : EachPair (λ _. IsUnchanged) before after
+
+-- a call on device k failed
+abbrev pub FailsAt : List Disk → List Disk → ℕ → Type 0
+FailsAt before after k = (d e : Disk) → slice_get before k ≡ Some d → slice_get after k ≡ Some e → d.failures < e.failures

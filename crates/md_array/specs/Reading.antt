@@ -1,0 +1,35 @@
+-- Devices are read as members, one after another.
+use Rattle.std.specs.Prelude.{◌≡◌, ◌≢◌, ℕ, ◌<◌, List, length, slice_get, Some}
+use Rattle.md_members.specs.declared.fault.MemberFault.{MemberFault}
+use Rattle.md_members.specs.declared.fault.MemberFault.TheVariants as member_fault
+use Rattle.md_members.specs.declared.fault.MemberFault.TheVariants.{NoMemory as NoMemoryOfMember}
+use Rattle.md_members.specs.declared.info.MemberInfo.{MemberInfo}
+use Rattle.md_members.specs.Members as members
+use Rattle.md_array.specs.declared.fault.OpenFault.{OpenFault}
+use Rattle.md_array.specs.declared.fault.OpenFault.TheVariants.{Member, NoMemory}
+use Rattle.md_array.specs.View.{Disk}
+use Rattle.md_array.specs.DeviceChanges.{FailsAt}
+
+-- each device was read as a member
+pub record AreRead (disks : List Disk) (infos : List MemberInfo) : Type 0 where
+  pub as_many : length infos ≡ length disks
+  pub each : (k : ℕ) (d : Disk) (info : MemberInfo) → slice_get disks k ≡ Some d → slice_get infos k ≡ Some info → members.IsMember d.content d.honest info
+
+-- device k is not read as a member for this reason, and all before it are
+pub record RefusesMember (before after : List Disk) (k : ℕ) (fault : MemberFault) : Type 0 where
+  pub disk : Disk
+  pub is : slice_get before k ≡ Some disk
+  pub refused : members.RefusesMember disk.content disk.honest (FailsAt before after k) fault
+  pub memory : fault ≢ member_fault.NoMemory
+  pub earlier : (j : ℕ) (d : Disk) → j < k → slice_get before j ≡ Some d → (info : MemberInfo) × members.IsMember d.content d.honest info
+
+-- the fault of opening, where device k is not read as a member for this reason
+abbrev pub refusal_of : ℕ → MemberFault → OpenFault
+refusal_of k NoMemoryOfMember = NoMemory
+refusal_of k fault = Member k fault
+
+-- why reading them all ends
+abbrev pub RefusesRead : List Disk → List Disk → OpenFault → Type 0
+RefusesRead before after (Member k fault) = RefusesMember before after k fault
+RefusesRead before after NoMemory = Unit {0}
+RefusesRead before after _ = ⊥

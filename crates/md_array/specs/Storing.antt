@@ -1,0 +1,86 @@
+-- Marks are stored on members: which bytes are written, and what stands on the devices after it.
+use Rattle.std.specs.Prelude.{◌≡◌, ℕ, ◌*◌, ◌<◌, true, List, slice_get, Some}
+use Rattle.md_device.specs.Splice.{SameOutside}
+use Rattle.md_bitmap.specs.declared.header.BitmapHeader.{BitmapHeader}
+use Rattle.md_bitmap.specs.Header.{CountsFit, SettingsFit}
+use Rattle.md_members.specs.Areas.{bitmap_sectors}
+use Rattle.md_members.specs.Reading.{BitmapStartsAt}
+use Rattle.md_array.specs.declared.fault.OpenFault.{OpenFault}
+use Rattle.md_array.specs.declared.fault.OpenFault.TheVariants.{MetadataFault}
+use Rattle.md_writes.specs.Bitmaps.{bitmap_writes}
+use Rattle.md_writes.specs.Writes.{Write, after, IsStopped}
+use Rattle.md_array.specs.View.{Disk, MemberView, ArrayView}
+use Rattle.md_array.specs.Members.{IsMember, NeedsMarks}
+use Rattle.md_array.specs.DeviceChanges.{IsUnchanged, EachPair, AreSame}
+
+-- the header that is stored with a member's marks: the array's uuid, size, events and events_cleared, state 0, the rest its
+-- own; its numbers fit their fields
+pub record IsHeaderFor (a : ArrayView) (m : MemberView) (h : BitmapHeader) : Type 0 where
+  pub uuid : h.uuid ≡ a.shared.set_uuid
+  pub events : h.events ≡ a.shared.events
+  pub events_cleared : h.events_cleared ≡ a.events_cleared
+  pub sync_size : h.sync_size ≡ a.shared.size
+  pub state : h.state ≡ 0
+  pub chunksize : h.chunksize ≡ m.header.chunksize
+  pub daemon_sleep : h.daemon_sleep ≡ m.header.daemon_sleep
+  pub write_behind : h.write_behind ≡ m.header.write_behind
+  pub sectors_reserved : h.sectors_reserved ≡ m.header.sectors_reserved
+  pub nodes : h.nodes ≡ m.header.nodes
+  pub cluster_name : h.cluster_name ≡ m.header.cluster_name
+  pub counts_fit : CountsFit h
+  pub settings_fit : SettingsFit h
+
+-- the writes by which a member's marks are stored
+pub record AreMarkWrites (a : ArrayView) (m : MemberView) (start : ℕ) (writes : List Write) : Type 0 where
+  pub at : BitmapStartsAt m.superblock start
+  pub header : BitmapHeader
+  pub header_is : IsHeaderFor a m header
+  pub writes_are : writes ≡ bitmap_writes start header m.stored (bitmap_sectors m.stored.chunks)
+
+-- at most the bitmap's area is written
+abbrev pub IsSameOutsideBitmap : MemberView → ℕ → Disk → Disk → Type 0
+IsSameOutsideBitmap m start old new = SameOutside (512 * start) (512 * bitmap_sectors m.stored.chunks) old.content new.content
+
+-- a device before and after the marks were stored on it
+pub record StoresMarks (a : ArrayView) (m : MemberView) (old new : Disk) : Type 0 where
+  pub start : ℕ
+  pub writes : List Write
+  pub are : AreMarkWrites a m start writes
+  pub done : old.honest ≡ true → new.content ≡ after old.content writes
+  pub outside : IsSameOutsideBitmap m start old new
+
+-- a device before and after storing them failed
+pub record FailsToStore (a : ArrayView) (m : MemberView) (old new : Disk) : Type 0 where
+  pub start : ℕ
+  pub writes : List Write
+  pub are : AreMarkWrites a m start writes
+  pub failed : old.honest ≡ true → old.failures < new.failures
+  pub stopped : old.honest ≡ true → IsStopped old.content writes new.content
+  pub outside : IsSameOutsideBitmap m start old new
+
+-- where marks are to be stored on a member they were, and else its device is as before
+abbrev pub IsMarkedBy : ArrayView → MemberView → Disk → Disk → Type 0
+IsMarkedBy a m d e = (NeedsMarks m → StoresMarks a m d e) × ((NeedsMarks m → ⊥) → IsUnchanged d e)
+
+abbrev pub IsMarked : ArrayView → ℕ → Disk → Disk → Type 0
+IsMarked a k d e = (m : MemberView) → IsMember a k m → IsMarkedBy a m d e
+
+-- so it is on all members
+pub record AreMarked (before after : List Disk) (a : ArrayView) : Type 0 where
+  pub same : AreSame before after
+  pub each : EachPair (IsMarked a) before after
+
+-- storing the marks on member k failed: they are stored on the members before it, and the devices behind it are unchanged
+pub record StopsAtMember (a : ArrayView) (before after : List Disk) (k : ℕ) : Type 0 where
+  pub same : AreSame before after
+  pub member : MemberView
+  pub at : IsMember a k member
+  pub needs : NeedsMarks member
+  pub failed : (d e : Disk) → slice_get before k ≡ Some d → slice_get after k ≡ Some e → FailsToStore a member d e
+  pub earlier : EachPair (λ j d e. j < k → IsMarked a j d e) before after
+  pub later : EachPair (λ j d e. k < j → IsUnchanged d e) before after
+
+-- why storing the marks ends
+abbrev pub RefusesMarks : ArrayView → List Disk → List Disk → OpenFault → Type 0
+RefusesMarks a before after (MetadataFault k) = StopsAtMember a before after k
+RefusesMarks a before after _ = ⊥
