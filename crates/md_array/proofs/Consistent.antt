@@ -1,27 +1,30 @@
 -- A mirror that was opened is consistent.
-use Rattle.std.proofs.Common.{◌≡◌, ℕ, ◌/◌, ◌<◌, ◌≤◌, true, List, length, slice_get, Some, refl, sym, ap, ◌∙◌, subst, arith, inl, inr}
+use Rattle.std.proofs.Common.{◌≡◌, ℕ, ◌<◌, ◌≤◌, true, false, List, length, slice_get, Some, refl, sym, ap, ◌∙◌, subst, arith, inl, inr}
 use Rattle.std.specs.Int.{div_ceil}
 use Rattle.std.proofs.lemmas.Bool.{cases_lt}
 use Rattle.std.proofs.lemmas.Option.{slice_get_within}
 use Rattle.md_super.specs.declared.superblock.Superblock.{Superblock}
+use Rattle.md_bitmap.specs.Marks.{is_set}
 use Rattle.md_bitmap.specs.Sound.{chunk_count}
 use Rattle.md_bitmap.proofs.Limits.{div_ceil-sectors}
 use Rattle.md_members.specs.declared.info.MemberInfo.{MemberInfo}
-use Rattle.md_members.specs.Areas.{IsPlaced, bitmap_sectors}
-use Rattle.md_members.specs.Members.{sectors_of}
 use Rattle.md_assembly.specs.declared.state.MemberState.{MemberState}
 use Rattle.md_assembly.specs.declared.fault.AssembleFault.TheVariants.{TooMany}
 use Rattle.md_assembly.specs.States.{is_in_sync, role_in, state_of, takes_role}
+use Rattle.md_inflight.specs.Inflight.{lookup}
+use Rattle.md_model.proofs.Cases.{by_test, none_some}
+use Rattle.md_array.specs.declared.extent.Extent.{Extent}
 use Rattle.md_array.specs.View.{ArrayView, Disk, MemberView, MirrorView}
 use Rattle.md_array.specs.Members.{IsInSync, IsMember}
-use Rattle.md_array.specs.Fits.{Fits, FitsMember}
-use Rattle.md_array.specs.Consistency.{HasChunks, HasRoles, HasSuper, IsConsistent}
+use Rattle.md_array.specs.Fits.{Fits}
+use Rattle.md_array.specs.Consistency.{HasChunks, HasPlaces, HasRoles, HasSuper, IsConsistent}
 use Rattle.md_array.specs.Kept.{IsKept}
 use Rattle.md_array.specs.Opening.{IsOpenedFrom}
 use Rattle.md_array.specs.Storing.{IsMarkedBy}
 use Rattle.md_array.specs.Worlds.{block_on, super_in, super_of}
 use Rattle.md_array.proofs.Fitting as fitting
-use Rattle.md_array.proofs.WorldsDevice.{super_new}
+use Rattle.md_array.proofs.OneMember.{fits_like, like_itself}
+use Rattle.md_array.proofs.WorldsDevice.{places_new, super_new}
 use Rattle.md_array.proofs.WorldsLists.{got_same, got_within}
 use Rattle.md_array.proofs.WorldsMember.{by_need}
 use Rattle.md_array.proofs.WorldsShown.{shown_honest}
@@ -124,6 +127,12 @@ module _ (before : List Disk) (v : MirrorView) (o : IsOpenedFrom before v) where
       let width = o.array.remembered.width k m is in
       omega arith
 
+  -- a mark is one of a member
+  none_past : (c : ℕ) → a.marks.chunks ≤ c → is_set a.marks.bytes c ≡ false
+  none_past c past = by_test (is_set a.marks.bytes c)
+      (λ marked. let k = (o.array.remembered.marks c).0 marked in let count = o.array.remembered.mark_count k.0 k.1 k.2.member in let low = k.3.0 in absurd (omega arith))
+      (λ clear. clear)
+
   chunks : HasChunks a
   chunks =
       let some = serving in
@@ -131,23 +140,13 @@ module _ (before : List Disk) (v : MirrorView) (o : IsOpenedFrom before v) where
         size = o.array.remembered.size;
         count = counted some.0 some.1 some.2.member;
         wide = wide some.0 some.1 some.2.member;
+        none_past = none_past;
         member_size = member_size;
         member_width = λ k m is. sym (o.array.remembered.width k m is);
         member_count = λ k m is. sym (o.array.remembered.mark_count k m is);
       }
 
   -- ---- the devices
-  fits_new : (a : ArrayView) (m : MemberView) (d e : Disk) → length e.content ≡ length d.content → FitsMember a m d → FitsMember a m e
-  fits_new a m d e long fit =
-      let sectors : sectors_of d.content ≡ sectors_of e.content = ap (λ (n : ℕ). n / 512) (sym long) in
-      record {
-        long = subst (λ (n : ℕ). 16 ≤ n) sectors fit.long;
-        has = fit.has;
-        placed = subst (λ (n : ℕ). IsPlaced n m.superblock (bitmap_sectors m.stored.chunks)) sectors fit.placed;
-        few_chunks = fit.few_chunks;
-        sound = fit.sound;
-      }
-
   fits : Fits v.disks a
   fits =
       let fit = fitting.fits before a o.array in
@@ -155,7 +154,7 @@ module _ (before : List Disk) (v : MirrorView) (o : IsOpenedFrom before v) where
         as_many = o.marked.same.as_many ∙ fit.as_many;
         each = λ k e m at_disk at_member.
             let d = got_within before k (omega (arith, slice_get_within v.disks k e at_disk, o.marked.same.as_many)) in
-            fits_new a m d.0 e (as_long a m d.0 e (o.marked.each k d.0 e d.1 at_disk m at_member)) (fit.each k d.0 m d.1 at_member);
+            fits_like a a m m d.0 e refl (like_itself m) (as_long a m d.0 e (o.marked.each k d.0 e d.1 at_disk m at_member)) (fit.each k d.0 m d.1 at_member);
       }
 
   super : (k : ℕ) (d : Disk) (m : MemberView) → slice_get v.disks k ≡ Some d → IsMember a k m → d.honest ≡ true → HasSuper m d
@@ -163,6 +162,8 @@ module _ (before : List Disk) (v : MirrorView) (o : IsOpenedFrom before v) where
       let s = shown_honest before v o k m (λ old was. sym (o.marked.same.honest k old d was at_disk).honest ∙ honest) at_member in
       record {
         super = super_of m.superblock;
+        number = refl;
+        places = subst (λ (x : Disk). HasPlaces m (block_on x.content)) (got_same v.disks k s.new d s.is at_disk) (places_new a m s.info s.old s.new s.opened);
         is = subst (λ (x : Disk). super_in (block_on x.content) ≡ Some (super_of m.superblock)) (got_same v.disks k s.new d s.is at_disk) (super_new a m s.info s.old s.new s.opened);
         recovering = refl;
       }
@@ -172,5 +173,6 @@ module _ (before : List Disk) (v : MirrorView) (o : IsOpenedFrom before v) where
     fits = fits;
     roles = roles;
     chunks = chunks;
-    supers = λ k d m at_disk at_member recorded honest. super k d m at_disk at_member honest;
+    inside = λ n e listed. absurd (none_some e (subst (λ (entries : List (ℕ × Extent)). lookup entries n ≡ Some e) o.array.remembered.idle listed));
+    supers = λ _ k d m at_disk at_member recorded honest. super k d m at_disk at_member honest;
   }

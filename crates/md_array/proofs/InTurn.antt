@@ -1,24 +1,14 @@
 -- Devices are gone through in their order: what changes where the device at an index does.
-use Rattle.std.proofs.Common.{◌≡◌, ◌≢◌, ℕ, ◌<◌, ◌++◌, ◌∷◌, [], List, length, refl, sym, ap, ◌∙◌, arith, map, set, subst, get_or, get_or-set_same, get_or-set_other, length-set, ⊎_elim}
+use Rattle.std.proofs.Common.{◌≡◌, ◌≢◌, ℕ, ◌<◌, ◌++◌, ◌∷◌, [], List, length, refl, sym, ap, ◌∙◌, arith, map, set, subst, get_or, length-set, ⊎_elim}
 use Rattle.std.specs.Prelude.{slice_get, Some, option_map}
 use Rattle.std.proofs.lemmas.Bool.Decides.{eqb_tells}
 use Rattle.std.proofs.lemmas.List.{get_or_push, get_or_append_left}
 use Rattle.std.proofs.lemmas.Option.{slice_get-get_or, slice_get_within, get_or_from_slice_get, same_Some, slice_get-map}
 use Rattle.md_array.specs.View.{Disk}
+use Rattle.md_array.proofs.WorldsLists.{at_set_same, got_other}
 use Rattle.md_array.specs.DeviceChanges.{AreSame, EachPair, IsUnchanged, IsUntouched, StaysHonest}
 
--- an element by its index, where the one at k was replaced
-pub at_set_same : {X : Type 0} (xs : List X) (k : ℕ) (y : X) → k < length xs → slice_get (set xs k y) k ≡ Some y
-at_set_same xs k y within =
-    let long : k < length (set xs k y) = omega (arith, length-set xs k y) in
-    slice_get-get_or (set xs k y) k y long ∙ ap Some (get_or-set_same xs k y y within)
-
-pub at_set_other : {X : Type 0} (xs : List X) (k j : ℕ) (y x : X) → j ≢ k → slice_get (set xs k y) j ≡ Some x → slice_get xs j ≡ Some x
-at_set_other xs k j y x other is =
-    let within : j < length xs = omega (arith, length-set xs k y, slice_get_within (set xs k y) j x is) in
-    slice_get-get_or xs j x within ∙ ap Some (sym (get_or-set_other xs k j y x other) ∙ get_or_from_slice_get (set xs k y) j x x is)
-
--- and where one was pushed
+-- an element by its index, where one was pushed
 pub at_push_last : {X : Type 0} (xs : List X) (y x : X) (k : ℕ) → length xs ≡ k → slice_get (xs ++ y ∷ []) k ≡ Some x → x ≡ y
 at_push_last xs y x k count is = sym (get_or_from_slice_get (xs ++ y ∷ []) k x x is) ∙ get_or_push xs y x k count
 
@@ -44,7 +34,7 @@ each_after R S before now k d e here each others this = λ j a b was is.
     let found : Some b ≡ Some e = sym is ∙ ap (slice_get (set now k e)) at ∙ at_set_same now k e (slice_get_within now k d here) in
     let found_k : slice_get before k ≡ Some a = ap (slice_get before) (sym at) ∙ was in
     subst (λ (i : ℕ). S i a b) (sym at) (subst (λ (x : Disk). S k a x) (sym (same_Some b e found)) (this a found_k (each k a d found_k here))))
-    (λ other. others j a b other.1 (each j a b was (at_set_other now k j e b other.1 is)))
+    (λ other. others j a b other.1 (each j a b was (sym (got_other now k j e other.1) ∙ is)))
     (eqb_tells j k)
 
 pub none_touched : (disks : List Disk) → IsUntouched disks disks

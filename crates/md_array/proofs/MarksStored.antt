@@ -1,12 +1,13 @@
 -- Marks are stored on one member after another.
-use Rattle.std.proofs.Common.{◌≡◌, ℕ, ◌≤◌, ◌<◌, ◌+◌, List, length, sym, ap, arith, set}
+use Rattle.std.proofs.Common.{◌≡◌, ℕ, ◌≤◌, ◌<◌, ◌+◌, List, length, sym, ap, ◌∙◌, arith, set}
 use Rattle.std.specs.Prelude.{slice_get, Some}
 use Rattle.std.proofs.lemmas.Option.{slice_get_within}
 use Rattle.md_array.specs.View.{Disk, ArrayView, MemberView}
 use Rattle.md_array.specs.Members.{IsMember, NeedsMarks}
 use Rattle.md_array.specs.DeviceChanges.{AreSame, EachPair, StaysHonest}
 use Rattle.md_array.specs.Storing.{AreMarked, FailsToStore, IsMarked, IsMarkedBy, StopsAtMember}
-use Rattle.md_array.proofs.InTurn.{at_set_other, at_set_same, each_after, none_touched, still_same}
+use Rattle.md_array.proofs.InTurn.{each_after, none_touched, still_same}
+use Rattle.md_array.proofs.WorldsLists.{at_set_same, got_other}
 use Rattle.md_array.proofs.Listing.{same_listed}
 
 -- they are on the first k members, and the devices from there on are what they were
@@ -31,7 +32,7 @@ module _ (a : ArrayView) (before now : List Disk) (k : ℕ) (d e : Disk) (to : A
         (λ x was is below n at_n. let same_disk : x ≡ d = same_listed before k x d was (to.rest k d (omega arith) here) in
         let same_member : n ≡ m = same_listed a.members k n m at_n at in
         rw (same_disk, same_member) marked);
-    rest = λ j x from at_j. to.rest j x (omega arith) (at_set_other now k j e x (λ same. absurd (omega arith)) at_j);
+    rest = λ j x from at_j. to.rest j x (omega arith) (sym (got_other now k j e (λ same. absurd (omega arith))) ∙ at_j);
   }
 
   pub stopped_at : (m : MemberView) → IsMember a k m → NeedsMarks m → FailsToStore a m d e → StopsAtMember a before (set now k e) k
@@ -46,7 +47,7 @@ module _ (a : ArrayView) (before now : List Disk) (k : ℕ) (d e : Disk) (to : A
         rw (same_before, same_after) fails;
     earlier = each_after (λ j x y. j < k → IsMarked a j x y) (λ j x y. j < k → IsMarked a j x y) before now k d e here to.earlier (λ j x y other is. is) (λ x was is below. absurd (omega arith));
     later = λ j x y was is behind.
-        let kept : x ≡ y = same_listed before j x y was (to.rest j y (omega arith) (at_set_other now k j e y (λ same. absurd (omega arith)) is)) in
+        let kept : x ≡ y = same_listed before j x y was (to.rest j y (omega arith) (sym (got_other now k j e (λ same. absurd (omega arith))) ∙ is)) in
         ap (λ (z : Disk). z.content) (sym kept);
   }
 

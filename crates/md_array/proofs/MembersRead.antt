@@ -14,7 +14,8 @@ use Rattle.md_members.specs.Reading.{RefusesSuper, RefusesBitmap, RefusesLog}
 use Rattle.md_array.specs.View.{Disk}
 use Rattle.md_array.specs.DeviceChanges.{FailsAt, IsUntouched}
 use Rattle.md_array.specs.Reading.{AreRead, RefusesMember as RefusesMemberAt, RefusesRead, refusal_of}
-use Rattle.md_array.proofs.InTurn.{at_push_before, at_push_last, at_set_same, same_place}
+use Rattle.md_array.proofs.InTurn.{at_push_before, at_push_last, same_place}
+use Rattle.md_array.proofs.WorldsLists.{at_set_same}
 
 -- those that were read so far, from the first device on
 abbrev pub AreReadSoFar : List Disk → List MemberInfo → Type 0

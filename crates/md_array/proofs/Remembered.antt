@@ -1,5 +1,5 @@
 -- What is found in the list of the members is what an array of them keeps.
-use Rattle.std.proofs.Common.{◌≡◌, ◌∙◌, ◌↔◌, ◌⊎◌, ℕ, ◌<◌, true, false, List, length, Some, ap, sym, arith, inl, inr}
+use Rattle.std.proofs.Common.{◌≡◌, ◌∙◌, ◌↔◌, ◌⊎◌, ℕ, ◌<◌, true, false, List, [], length, Some, ap, sym, arith, inl, inr}
 use Rattle.std.specs.Int.{div_ceil}
 use Rattle.std.specs.List.{slice_get}
 use Rattle.std.specs.Option.{option_map}
@@ -70,6 +70,7 @@ pub record IsFound (a : ArrayView) : Type 0 where
   pub cleared : IsLastClearedOr a.shared.events a.members a.events_cleared
   pub synced : (a.resynced ≡ true) ↔ (NoneSetIn a.marks ⊎ IsAloneIn a.members)
   pub running : a.halted ≡ false
+  pub idle : a.requests.entries ≡ []
 
 pub remembered : (infos : List MemberInfo) (assembly : Assembly) (fresh : MemberInfo) (a : ArrayView) → AreWhole infos → NoFault infos → IsAssembled infos assembly → slice_get infos assembly.freshest ≡ Some fresh → a.shared ≡ fresh.superblock → IsChunkingOf fresh a.chunks → AreKept a.shared.events infos assembly.states.items a.members → IsFound a → IsRemembered infos assembly a
 remembered infos assembly fresh a whole sound assembled at_fresh shared chunking kept found =
@@ -85,4 +86,5 @@ remembered infos assembly fresh a whole sound assembled at_fresh shared chunking
       mark_count = λ k m listed. found.count ∙ sym (count k m listed);
       resynced = resynced a found.synced;
       running = found.running;
+      idle = found.idle;
     }

@@ -13,13 +13,14 @@ use Rattle.md_bitmap.specs.Sound.{IsChunkSize, chunk_count}
 use Rattle.md_bitmap.proofs.Encoded.{length-header_bytes, reads_back}
 use Rattle.md_bitmap.proofs.Limits.{div-lt-div_ceil, div_ceil-sectors}
 use Rattle.md_members.specs.declared.info.MemberInfo.{MemberInfo}
-use Rattle.md_members.specs.Areas.{BitmapIsPlaced, IsPlaced, bitmap_sectors}
+use Rattle.md_members.specs.Areas.{BitmapIsPlaced, IsPlaced, bitmap_area, bitmap_sectors}
 use Rattle.md_members.specs.Reading.{BitmapStartsAt, chunks_of}
 use Rattle.md_members.specs.Members as members
 use Rattle.md_members.specs.Members.{IsAccepted, sectors_of}
 use Rattle.md_assembly.specs.States.{is_in_sync, state_of}
 use Rattle.md_badblocks.specs.Runs.{IsBad}
 use Rattle.md_model.specs.Devices.{is_accepted}
+use Rattle.md_array.specs.Consistency.{HasPlaces}
 use Rattle.md_array.specs.View.{Disk, ArrayView, MemberView}
 use Rattle.md_array.specs.Members.{NeedsMarks, is_recorded}
 use Rattle.md_array.specs.DeviceChanges.{IsUnchanged}
@@ -36,7 +37,7 @@ use Rattle.md_array.proofs.WorldsOutside.{block_stays, data_stays, listed_stays,
 use Rattle.md_array.proofs.WorldsRead.{HasRead, header_there, read_of, holds_read, uuid_long, name_long}
 use Rattle.md_model.proofs.Cases.{by_test}
 use Rattle.md_array.proofs.WorldsStates.{in_sync_up_to_date}
-use Rattle.md_array.proofs.WorldsSupers.{device_super}
+use Rattle.md_array.proofs.WorldsSupers.{block_spells, device_super}
 use Rattle.md_array.proofs.WorldsWrites.{HoldsBitmap, holds_written}
 
 -- what a member was opened from
@@ -80,7 +81,7 @@ chunk_within size width bytes count s sound w n below =
     omega arith
 
 -- the sectors of the area lie on the device
-fits_on : (p : ℤ) (start n bytes : ℕ) → pos start ≡ p → (p +ℤ pos n) ≤ℤ pos (bytes / 512) → 512 * (start + n) ≤ bytes
+pub fits_on : (p : ℤ) (start n bytes : ℕ) → pos start ≡ p → (p +ℤ pos n) ≤ℤ pos (bytes / 512) → 512 * (start + n) ≤ bytes
 fits_on p start n bytes e h =
     let sectors : start + n ≤ bytes / 512 = omega (arith, ints) in
     omega arith
@@ -141,7 +142,7 @@ module _ (a : ArrayView) (m : MemberView) (info : MemberInfo) (old new : Disk) (
       (λ none. subst (SameOutside (512 * start) (512 * sectors) old.content) (sym (o.unchanged none)) (record { size = refl; before = refl; after = refl }))
 
   pub same_block : block_on new.content ≡ block_on old.content
-  same_block = block_stays own start sectors old.content new.content starts outside bitmap_placed.from_super
+  same_block = block_stays (bitmap_area own sectors) start (sym starts) old.content new.content outside bitmap_placed.from_super
 
   pub super_old : super_in (block_on old.content) ≡ Some (super_of own)
   super_old = device_super old.content info.superblock o.read.superblock ∙ ap Some (sym super_is)
@@ -149,12 +150,22 @@ module _ (a : ArrayView) (m : MemberView) (info : MemberInfo) (old new : Disk) (
   pub super_new : super_in (block_on new.content) ≡ Some (super_of own)
   super_new = ap super_in same_block ∙ super_old
 
+  pub places_new : HasPlaces m (block_on new.content)
+  places_new =
+      let fields = block_spells old.content info.superblock o.read.superblock in
+      subst (HasPlaces m) (sym same_block) (record {
+        data_offset = sym (ap (λ (v : Superblock). v.data_offset) o.kept.superblock ∙ fields.data_offset);
+        bitmap_offset = sym (ap (λ (v : Superblock). v.bitmap_offset) o.kept.superblock ∙ fields.bitmap_offset);
+        bblog_size = sym (ap (λ (v : Superblock). v.bblog_size) o.kept.superblock ∙ fields.bblog_size);
+        bblog_offset = sym (ap (λ (v : Superblock). v.bblog_offset) o.kept.superblock ∙ fields.bblog_offset);
+      })
+
   pub same_data : (s : ℕ) → s < a.chunks.size → part new.content (512 * (own.data_offset + s)) 512 ≡ part old.content (512 * (own.data_offset + s)) 512
   same_data s below =
-      data_stays own start sectors old.content new.content starts outside bitmap_placed.from_data placed.data_holds s (subst (λ n. s < n) size_is below)
+      data_stays (bitmap_area own sectors) start (sym starts) old.content new.content outside own bitmap_placed.from_data placed.data_holds s (subst (λ n. s < n) size_is below)
 
   pub same_listed : (sector : ℕ) → is_listed own new.content sector ≡ is_listed own old.content sector
-  same_listed sector = listed_stays own (sectors_of old.content) start sectors old.content new.content sector starts outside placed.log bitmap_placed
+  same_listed sector = listed_stays (bitmap_area own sectors) start (sym starts) old.content new.content outside own (sectors_of old.content) placed.log bitmap_placed.from_log sector
 
   pub bad_is_listed : (sector : ℕ) → is_listed own new.content sector ≡ true ↔ IsBad m.bad sector
   bad_is_listed sector =

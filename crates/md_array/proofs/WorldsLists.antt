@@ -1,10 +1,13 @@
 -- Lists by their indices.
-use Rattle.std.proofs.Common.{◌≡◌, ℕ, zero, suc, ◌+◌, ◌<◌, inl, inr, Bool, true, false, cond, ◌||◌, List, [], ◌∷◌, length, map, slice_get, count_by, Some, option_map, sym, ap, ◌∙◌, refl, arith}
-use Rattle.std.specs.List.{list_any}
+use Rattle.std.proofs.Common.{◌≡◌, ◌≢◌, ℕ, zero, suc, ◌+◌, ◌<◌, ◌≤◌, inl, inr, Bool, true, false, cond, ◌||◌, List, [], ◌∷◌, length, map, set, slice_get, count_by, Some, option_map, get_or-set_same, length-set, sym, ap, ◌∙◌, refl, arith, Option, None, unwrap_or}
+use Rattle.std.specs.List.{list_any, range_with_len}
 use Rattle.std.proofs.lemmas.Bool.{cases_lt}
 use Rattle.std.proofs.lemmas.List.Sums.{sum_by-cons}
-use Rattle.std.proofs.lemmas.Option.{same_Some, slice_get-map, slice_get_cases, none-some}
+use Rattle.std.proofs.lemmas.Option.{same_Some, slice_get-get_or, slice_get-map, slice_get_cases, slice_get_within, none-some}
+use Rattle.std.proofs.lemmas.List.FromFn.{get_or-range_with_len, length-range_with_len}
 use Rattle.md_assembly.specs.Listed.{IsLeast}
+use Rattle.md_model.specs.Sectors.{put}
+use Rattle.md_model.proofs.Puts.{put-at}
 
 -- what has no least number has none
 below : (Fact : ℕ → Type 0) → ((n : ℕ) → IsLeast Fact n → ⊥) → (n k : ℕ) → k < n → Fact k → ⊥
@@ -66,3 +69,96 @@ two_counted p (z ∷ xs) zero zero x y h e f s t = absurd (omega arith)
 two_counted p (z ∷ xs) zero (suc k) x y h e f s t = omega (arith, count_by-cons p z xs, hit (p z) (ap p (same_Some z x e) ∙ s), one_counted p xs k y f t)
 two_counted p (z ∷ xs) (suc j) zero x y h e f s t = absurd (omega arith)
 two_counted p (z ∷ xs) (suc j) (suc k) x y h e f s t = omega (arith, count_by-cons p z xs, two_counted p xs j k x y (omega arith) e f s t)
+
+-- ---- a list with one element replaced
+pub at_set_same : {X : Type 0} (xs : List X) (k : ℕ) (y : X) → k < length xs → slice_get (set xs k y) k ≡ Some y
+at_set_same xs k y within =
+    let long : k < length (set xs k y) = omega (arith, length-set xs k y) in
+    slice_get-get_or (set xs k y) k y long ∙ ap Some (get_or-set_same xs k y y within)
+
+pub got_other : {X : Type 0} (xs : List X) (k j : ℕ) (y : X) → j ≢ k → slice_get (set xs k y) j ≡ slice_get xs j
+got_other [] k j y apart = refl
+got_other (x ∷ xs) zero zero y apart = absurd (apart refl)
+got_other (x ∷ xs) zero (suc j) y apart = refl
+got_other (x ∷ xs) (suc k) zero y apart = refl
+got_other (x ∷ xs) (suc k) (suc j) y apart = got_other xs k j y (λ e. apart (ap suc e))
+
+pub got_put : {X : Type 0} (xs : List X) (k : ℕ) (y : X) → k < length xs → (j : ℕ) → slice_get (set xs k y) j ≡ put k (Some y) (slice_get xs) j
+got_put xs k y within j = put-at k (Some y) (slice_get xs) j (λ z. slice_get (set xs k y) j ≡ z)
+    (λ same. ap (slice_get (set xs k y)) same ∙ at_set_same xs k y within)
+    (λ apart. got_other xs k j y apart)
+
+-- the new element passes a test as the old one did
+pub any_kept : {X : Type 0} (p : X → Bool) (xs : List X) (k : ℕ) (x y : X) → slice_get xs k ≡ Some x → p y ≡ p x → list_any p (set xs k y) ≡ list_any p xs
+any_kept p [] k x y e t = refl
+any_kept p (z ∷ xs) zero x y e t = ap (λ b. b || list_any p xs) (t ∙ ap p (sym (same_Some z x e)))
+any_kept p (z ∷ xs) (suc k) x y e t = ap (λ b. p z || b) (any_kept p xs k x y e t)
+
+pub counted_kept : {X : Type 0} (p : X → Bool) (xs : List X) (k : ℕ) (x y : X) → slice_get xs k ≡ Some x → p y ≡ p x → count_by p (set xs k y) ≡ count_by p xs
+counted_kept p [] k x y e t = refl
+counted_kept p (z ∷ xs) zero x y e t =
+    count_by-cons p y xs ∙ ap (λ b. cond b 1 0 + count_by p xs) (t ∙ ap p (sym (same_Some z x e))) ∙ sym (count_by-cons p z xs)
+counted_kept p (z ∷ xs) (suc k) x y e t =
+    count_by-cons p z (set xs k y) ∙ ap (λ n. cond (p z) 1 0 + n) (counted_kept p xs k x y e t) ∙ sym (count_by-cons p z xs)
+
+pub set_itself : {X : Type 0} (xs : List X) (k : ℕ) (x : X) → slice_get xs k ≡ Some x → set xs k x ≡ xs
+set_itself [] k x e = refl
+set_itself (y ∷ xs) zero x e = ap (λ z. z ∷ xs) (sym (same_Some y x e))
+set_itself (y ∷ xs) (suc k) x e = ap (λ zs. y ∷ zs) (set_itself xs k x e)
+
+-- ---- a test that passes less
+at_most : (a b : Bool) → (a ≡ true → b ≡ true) → cond a 1 0 ≤ cond b 1 0
+at_most true b h = rw (h refl) (omega arith)
+at_most false b h = omega arith
+
+none_more : {X : Type 0} (p q : X → Bool) (xs : List X) → ((x : X) → q x ≡ true → p x ≡ true) → count_by q xs ≤ count_by p xs
+none_more p q [] h = omega arith
+none_more p q (y ∷ xs) h = omega (arith, count_by-cons p y xs, count_by-cons q y xs, at_most (q y) (p y) (h y), none_more p q xs h)
+
+missed : (b : Bool) → b ≡ false → cond b 1 0 ≤ 0
+missed b e = rw e (omega arith)
+
+-- this element no more passes
+pub one_fewer : {X : Type 0} (p q : X → Bool) (xs : List X) (k : ℕ) (x : X) → ((y : X) → q y ≡ true → p y ≡ true) → slice_get xs k ≡ Some x → p x ≡ true → q x ≡ false → count_by q xs + 1 ≤ count_by p xs
+one_fewer p q [] k x h e on off = absurd (none-some x e)
+one_fewer p q (y ∷ xs) zero x h e on off =
+    omega (arith, count_by-cons p y xs, count_by-cons q y xs, hit (p y) (ap p (same_Some y x e) ∙ on), missed (q y) (ap q (same_Some y x e) ∙ off), none_more p q xs h)
+one_fewer p q (y ∷ xs) (suc k) x h e on off = omega (arith, count_by-cons p y xs, count_by-cons q y xs, at_most (q y) (p y) (h y), one_fewer p q xs k x h e on off)
+
+pub any_map : {X Y : Type 0} (p : Y → Bool) (f : X → Y) (xs : List X) → list_any p (map f xs) ≡ list_any (λ x. p (f x)) xs
+any_map p f [] = refl
+any_map p f (x ∷ xs) = ap (λ b. p (f x) || b) (any_map p f xs)
+
+pub count_map : {X Y : Type 0} (p : Y → Bool) (f : X → Y) (xs : List X) → count_by p (map f xs) ≡ count_by (λ x. p (f x)) xs
+count_map p f [] = refl
+count_map p f (x ∷ xs) = count_by-cons p (f x) (map f xs) ∙ ap (λ n. cond (p (f x)) 1 0 + n) (count_map p f xs) ∙ sym (count_by-cons (λ y. p (f y)) x xs)
+
+-- what is read of an element of a mapped list, if there is one
+pub read_map : {X Y Z : Type 0} (f : X → Y) (none : Z) (of : Y → Z) (xs : List X) (k : ℕ)
+    → unwrap_or (option_map of (slice_get (map f xs) k)) none ≡ unwrap_or (option_map (λ x. of (f x)) (slice_get xs k)) none
+read_map {X} {Y} f none of xs k = ap (λ o. unwrap_or (option_map of o) none) (slice_get-map f xs k) ∙ by (slice_get xs k)
+  where
+    by : (o : Option X) → unwrap_or (option_map of (option_map f o)) none ≡ unwrap_or (option_map (λ x. of (f x)) o) none
+    by None = refl
+    by (Some x) = refl
+
+-- an element of a mapped list
+pub at_map : {X Y : Type 0} (f : X → Y) (xs : List X) (k : ℕ) (y : Y) → slice_get (map f xs) k ≡ Some y → (x : X) × (slice_get xs k ≡ Some x) × (y ≡ f x)
+at_map {X} f xs k y e = by (slice_get xs k) refl
+  where
+    by : (o : Option X) → slice_get xs k ≡ o → (x : X) × (slice_get xs k ≡ Some x) × (y ≡ f x)
+    by None is = absurd (none-some y (sym (slice_get-map f xs k ∙ ap (option_map f) is) ∙ e))
+    by (Some x) is = (x, is, same_Some y (f x) (sym e ∙ got_in_map f xs k x is))
+
+-- the numbers from 0 on
+pub got_in_range : (n k : ℕ) → k < n → slice_get (range_with_len 0 n) k ≡ Some k
+got_in_range n k low =
+    slice_get-get_or (range_with_len 0 n) k 0 (let count = length-range_with_len 0 n in omega arith)
+    ∙ ap Some (let is = get_or-range_with_len 0 n k 0 low in omega arith)
+
+pub in_range : (n i k : ℕ) → slice_get (range_with_len 0 n) i ≡ Some k → k < n
+in_range n i k e =
+    let count = length-range_with_len 0 n in
+    let within = slice_get_within (range_with_len 0 n) i k e in
+    let same = same_Some k i (sym e ∙ got_in_range n i (omega arith)) in
+    omega arith

@@ -63,12 +63,12 @@ pub record Fits (a : ArrayView) (v : Superblock) (h : BitmapHeader) : Type 0 whe
   pub state : h.state ≡ 0
   pub events : (h.events ≡ v.events) ⊎ (h.events ≡ v.events + 1)
 
-header_fits_there : (a : ArrayView) (v : Superblock) (h : BitmapHeader) (header : List ℕ) → IsHeader header h → Fits a v h → header_fits a header ≡ true
-header_fits_there a v h header is fits =
+pub header_fits_there : (a : ArrayView) (h : BitmapHeader) (header : List ℕ) → IsHeader header h → h.uuid ≡ a.shared.set_uuid → h.sync_size ≡ a.shared.size → h.state ≡ 0 → header_fits a header ≡ true
+header_fits_there a h header is uuid size state =
     all_three _ _ _
-    ((bytes_eq-Decides _ _).1 (sym is.uuid ∙ fits.uuid))
-    (eq-eqb _ _ (sym is.sync_size ∙ fits.size))
-    (eq-eqb _ _ (sym is.state ∙ fits.state))
+    ((bytes_eq-Decides _ _).1 (sym is.uuid ∙ uuid))
+    (eq-eqb _ _ (sym is.sync_size ∙ size))
+    (eq-eqb _ _ (sym is.state ∙ state))
 
 nearby : (x y own : ℕ) → x ≡ y → (x ≡ own) ⊎ (x ≡ own + 1) → (y ≡ own) ⊎ (y ≡ own + 1)
 nearby x y own e (inl h) = inl (sym e ∙ h)
@@ -79,7 +79,7 @@ pub accepted_there : (a : ArrayView) (m : MemberView) (content : List ℕ) (h : 
     → IsHeader (header_on content (from_super m.superblock.bitmap_offset)) h → Fits a m.superblock h → is_accepted (stored_of a m content) ≡ true
 accepted_there a m content h super header fits =
     accepts_when (super_in (block_on content)) (super_of m.superblock) _ _ super
-    (header_fits_there a m.superblock h (header_on content (from_super m.superblock.bitmap_offset)) header fits)
+    (header_fits_there a h (header_on content (from_super m.superblock.bitmap_offset)) header fits.uuid fits.size fits.state)
     (nearby h.events _ m.superblock.events header.events fits.events)
 
 -- ---- and what acceptance says

@@ -25,6 +25,14 @@ same_recorded (Stale role) = refl
 same_recorded Spare = refl
 same_recorded Faulty = refl
 
+-- a member in sync is kept up to date
+pub in_sync_recorded : (s : MemberState) → is_in_sync s ≡ true → is_recorded s ≡ true
+in_sync_recorded (InSync role) e = refl
+in_sync_recorded (Recovering role) e = absurd cc
+in_sync_recorded (Stale role) e = absurd cc
+in_sync_recorded Spare e = absurd cc
+in_sync_recorded Faulty e = absurd cc
+
 -- the state by the answers of the four tests, in their order
 by_tests : Bool → Bool → Bool → Bool → ℕ → MemberState
 by_tests failed without behind recovering role =

@@ -38,12 +38,12 @@ same_fields block v f =
       recovering = not (bit_and (sym f.feature_map i) 2 == 0);
     }
 
-super_shown : (block : List ℕ) (v : Superblock) → IsSuper block v → NoFault block → super_in block ≡ Some (super_of v)
+pub super_shown : (block : List ℕ) (v : Superblock) → IsSuper block v → NoFault block → super_in block ≡ Some (super_of v)
 unfolding super_in
 super_shown block v fields sound = rw (no_fault block sound) (ap Some (same_fields block v fields))
 
 -- the superblock on an honest device
-block_spells : (content : List ℕ) (v : Superblock) → ReadsSuper content true v → IsSuper (block_on content) v
+pub block_spells : (content : List ℕ) (v : Superblock) → ReadsSuper content true v → IsSuper (block_on content) v
 block_spells content v r = subst (λ (bytes : List ℕ). IsSuper bytes v) (r.read.from_device refl) r.fields
 
 pub device_super : (content : List ℕ) (v : Superblock) → ReadsSuper content true v → super_in (block_on content) ≡ Some (super_of v)

@@ -1,5 +1,5 @@
 -- Tests that come out one way.
-use Rattle.std.proofs.Common.{◌≡◌, Bool, true, false, ◌&&◌, refl}
+use Rattle.std.proofs.Common.{◌≡◌, ◌⊎◌, inl, inr, Bool, true, false, ◌&&◌, ◌||◌, refl}
 
 pub and_is : (a b : Bool) → a ≡ true → b ≡ true → (a && b) ≡ true
 and_is a b x y = rw (x, y) refl
@@ -11,3 +11,7 @@ and_same false x y h = refl
 pub true_unless_false : (b : Bool) → (b ≡ true → ⊥) → b ≡ false
 true_unless_false true h = absurd (h refl)
 true_unless_false false h = refl
+
+pub one_is : (a b : Bool) → (a || b) ≡ true → (a ≡ true) ⊎ (b ≡ true)
+one_is true b e = inl refl
+one_is false b e = inr e

@@ -60,7 +60,7 @@ are_written start h m (suc n) old fits =
       behind = λ i l. rest.behind i (omega arith) ∙ part-spliced_after old (512 * (start + n)) block (512 * (start + i)) 512 (omega arith) (omega arith);
     })
 
-slice_index-part : (xs : List ℕ) (at n i : ℕ) → i < n → slice_index (part xs at n) i ≡ slice_index xs (at + i)
+pub slice_index-part : (xs : List ℕ) (at n i : ℕ) → i < n → slice_index (part xs at n) i ≡ slice_index xs (at + i)
 unfolding part
 slice_index-part xs at n i h = get_or-take n (drop at xs) i 0 h ∙ get_or-drop at xs i 0
 

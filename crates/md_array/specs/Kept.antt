@@ -1,5 +1,5 @@
 -- What is kept in memory of the members that were read, and of the array that they make.
-use Rattle.std.specs.Prelude.{◌≡◌, ◌⊎◌, ◌↔◌, ℕ, ◌/◌, ◌≤◌, true, false, ◌&&◌, nat_lt, List, length, map, slice_get, Some}
+use Rattle.std.specs.Prelude.{◌≡◌, ◌⊎◌, ◌↔◌, ℕ, ◌/◌, ◌≤◌, true, false, ◌&&◌, nat_lt, List, [], length, map, slice_get, Some}
 use Rattle.md_bitmap.specs.Marks as marks
 use Rattle.md_bitmap.specs.Marks.{is_set}
 use Rattle.md_bitmap.specs.Sound.{chunk_count}
@@ -50,3 +50,4 @@ pub record IsRemembered (infos : List MemberInfo) (assembly : Assembly) (a : Arr
   pub mark_count : (k : ℕ) (m : MemberView) → IsMember a k m → a.marks.chunks ≡ m.stored.chunks
   pub resynced : (a.resynced ≡ true) ↔ (((c : ℕ) → is_set a.marks.bytes c ≡ false) ⊎ IsAlone a)
   pub running : a.halted ≡ false
+  pub idle : a.requests.entries ≡ []

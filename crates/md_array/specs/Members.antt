@@ -1,5 +1,5 @@
 -- Facts of the members of an array, by their indices.
-use Rattle.std.specs.Prelude.{◌≡◌, ℕ, ◌+◌, ◌==◌, Bool, true, false, not, slice_get, Some}
+use Rattle.std.specs.Prelude.{◌≡◌, ℕ, ◌+◌, ◌-◌, ◌^◌, ◌<◌, ◌==◌, Bool, true, false, not, slice_get, Some}
 use Rattle.std.specs.List.{list_any, range_with_len}
 use Rattle.md_bitmap.specs.Chunks.{InChunk}
 use Rattle.md_badblocks.specs.Runs.{IsBad}
@@ -17,6 +17,17 @@ IsMember a k m = slice_get a.members k ≡ Some m
 pub record IsInSync (a : ArrayView) (k : ℕ) (m : MemberView) : Type 0 where
   pub member : IsMember a k m
   pub in_sync : is_in_sync m.state ≡ true
+
+-- all members in sync have it
+abbrev pub AllInSync : ArrayView → (MemberView → Type 0) → Type 0
+AllInSync a Holds = (i : ℕ) (m : MemberView) → IsInSync a i m → Holds m
+
+-- member j is the first in sync of which it doesn't hold
+pub record IsFirstInSyncWithout (a : ArrayView) (Holds : MemberView → Type 0) (j : ℕ) : Type 0 where
+  pub member : MemberView
+  pub in_sync : IsInSync a j member
+  pub lacks : Holds member → ⊥
+  pub earlier : (i : ℕ) (m : MemberView) → i < j → IsInSync a i m → Holds m
 
 -- its superblock is kept up to date
 abbrev pub is_recorded : MemberState → Bool
@@ -54,3 +65,11 @@ abbrev pub IsPermitted : ArrayView → ℕ → ℕ → Type 0
 IsPermitted a chunk role =
     (k : ℕ) × (m : MemberView) × IsMember a k m × (is_in_sync_as role m.state ≡ true)
     × ((s : ℕ) → InChunk a.chunks.sectors a.chunks.size chunk s → IsBad m.bad (m.superblock.data_offset + s) → ⊥)
+
+-- resync_offset of a clean array
+abbrev pub clean_offset : ℕ
+clean_offset = 2 ^ 64 - 1
+
+-- the role of a device that has failed (MD_DISK_ROLE_FAULTY of md_p.h)
+abbrev pub faulty_role : ℕ
+faulty_role = 0xfffe

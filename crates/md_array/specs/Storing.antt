@@ -1,5 +1,5 @@
 -- Marks are stored on members: which bytes are written, and what stands on the devices after it.
-use Rattle.std.specs.Prelude.{◌≡◌, ℕ, ◌*◌, ◌<◌, true, List, slice_get, Some}
+use Rattle.std.specs.Prelude.{◌≡◌, ℕ, ◌*◌, ◌<◌, true, List, length, slice_get, Some}
 use Rattle.md_device.specs.Splice.{SameOutside}
 use Rattle.md_bitmap.specs.declared.header.BitmapHeader.{BitmapHeader}
 use Rattle.md_bitmap.specs.Header.{CountsFit, SettingsFit}
@@ -27,6 +27,8 @@ pub record IsHeaderFor (a : ArrayView) (m : MemberView) (h : BitmapHeader) : Typ
   pub sectors_reserved : h.sectors_reserved ≡ m.header.sectors_reserved
   pub nodes : h.nodes ≡ m.header.nodes
   pub cluster_name : h.cluster_name ≡ m.header.cluster_name
+  pub uuid_long : length h.uuid ≡ 16
+  pub name_long : length h.cluster_name ≡ 64
   pub counts_fit : CountsFit h
   pub settings_fit : SettingsFit h
 

@@ -5,7 +5,9 @@ use Rattle.md_bitmap.specs.declared.header.BitmapHeader.{BitmapHeader}
 use Rattle.md_bitmap.specs.declared.chunks.Chunks.{Chunks}
 use Rattle.md_bitmap.specs.Marks.{Bitmap}
 use Rattle.md_badblocks.specs.declared.run.Run.{Run}
+use Rattle.md_inflight.specs.Inflight.{InflightList, TicketView}
 use Rattle.md_assembly.specs.declared.state.MemberState.{MemberState}
+use Rattle.md_array.specs.declared.extent.Extent.{Extent}
 
 -- a device: what stands on it, whether it does what it answers, and how many of its calls have failed
 pub record Disk : Type 0 where
@@ -18,7 +20,7 @@ disk_of content honest failures d = record { content = content d; honest = hones
 
 -- a member, but for its device
 pub record MemberView : Type 0 where
-  pub superblock : Superblock  -- its own fields count, as they are stored next; those of the array are shared
+  pub superblock : Superblock  -- its own fields, as they are stored next; those of the array are shared
   pub header : BitmapHeader  -- of its bitmap, as it was read
   pub stored : Bitmap  -- the marks that are stored on it
   pub bad : List Run
@@ -35,6 +37,14 @@ pub record ArrayView : Type 0 where
   pub events_cleared : ℕ
   pub resynced : Bool
   pub halted : Bool
+  pub requests : InflightList Extent  -- those in flight
+
+-- a request in flight, as its caller has it
+pub record PendingView : Type 0 where
+  pub ticket : TicketView
+  pub sector : ℕ  -- the first, of the array
+  pub bytes : List ℕ
+  pub written : List ℕ  -- the dev_numbers of the members that have them
 
 -- the devices stand in the order of the members
 pub record MirrorView : Type 0 where

@@ -20,6 +20,7 @@ use Rattle.md_assembly.specs.declared.state.MemberState.{MemberState}
 use Rattle.md_assembly.specs.declared.state.MemberState.TheVariants.{InSync, Recovering, Stale, Spare, Faulty}
 use Rattle.md_assembly.specs.States.{role_in, has_recovery_offset}
 use Rattle.md_array.specs.View.{Disk, MemberView, ArrayView, MirrorView}
+use Rattle.md_array.specs.Members.{clean_offset}
 
 abbrev pub kind_of : MemberState → model.State
 kind_of (InSync role) = model.State.InSync
@@ -127,7 +128,7 @@ world_on disks a requests =
       present = λ d. list_any (λ m. eqb m.superblock.dev_number d) a.members;
       events = a.shared.events;
       cleared_at = a.events_cleared;
-      clean = a.shared.resync_offset == 2 ^ 64 - 1;
+      clean = a.shared.resync_offset == clean_offset;
       resynced = a.resynced;
       halted = a.halted;
       marks = λ c. nat_lt c a.marks.chunks && is_set a.marks.bytes c;

@@ -1,6 +1,8 @@
 // What is kept in memory of an array.
+use crate::extent::Extent;
 use crate::member::Member;
 use md_bitmap::{Chunks, Marks};
+use md_inflight::Inflight;
 use md_super::Superblock;
 use std::marker::Model;
 
@@ -14,6 +16,7 @@ pub(crate) struct Array {
     pub(crate) events_cleared: u64,
     pub(crate) resynced: bool,
     pub(crate) halted: bool,
+    pub(crate) requests: Inflight<Extent>,
 }
 
 impl Model for Array {
@@ -29,5 +32,6 @@ impl Model for Array {
       events_cleared = a.events_cleared;
       resynced = a.resynced;
       halted = a.halted;
+      requests = a.requests;
     } };
 }

@@ -3,11 +3,15 @@
 ghost use Rattle.std.specs.Prelude.{◌≡◌, ◌+◌, ◌<◌, ◌↔◌, ℕ, List, true};
 ghost use Rattle.md_badblocks.specs.Runs.{IsBad};
 ghost use Rattle.md_model.specs.Devices.{Covered};
+ghost use Rattle.md_model.specs.Lives.{IsCovered};
 ghost use Rattle.md_model.specs.Openings as openings;
+ghost use Rattle.md_model.specs.Stops.{IsSafeAtStop, KeepsOut, StaysOut};
 ghost use Rattle.md_model.specs.Worlds.{IsInSync};
 ghost use Rattle.md_array.specs.Members.{IsMember};
 ghost use Rattle.md_array.specs.View.{Disk, MemberView, MirrorView};
 ghost use Rattle.md_array.specs.Opening.{IsOpenedFrom};
+ghost use Rattle.md_array.specs.Lives.{AtEachMoment};
+ghost use Rattle.md_array.specs.Runs.{ContentGoesAlong, HasContent, KeepsContent};
 ghost use Rattle.md_array.specs.Worlds.{AreHonest, geometry_of, none_in_flight, super_of, world_of, world_on};
 
 /// A mirror that was opened from devices that do what they answer is an opened world of the model, by
@@ -25,4 +29,37 @@ pub fn opening()
     ensures listed { (before : List Disk) (m : MirrorView) → AreHonest before → IsOpenedFrom before m
         → (k : ℕ) (mv : MemberView) → IsMember m.array k mv → (s : ℕ) → s < m.array.chunks.size
         → (((world_of m none_in_flight).stored k).listed s ≡ true) ↔ IsBad mv.bad (mv.superblock.data_offset + s) }
+{}
+
+/// What looks back, at each moment of a mirror's life. It was opened from devices that do what they
+/// answer, whose stored marks covered what they differ in. Calls did events, any of them in any order. It
+/// was stopped between two of them, or within a write of data, and opened again from some of the devices
+/// that were left; and so on.
+///
+/// An event is what a call's contract says of it (`Does`): a step that answered Ok, or a write that failed
+/// and made its member faulty. A refused call is none. Of an opening after a stop this is asked
+/// (`IsReopened`): its superblock is fit, which leaves out a stop while a failure awaits its record; and what
+/// its fields read of each device is what the fields of the mirror before read. Nothing is said of a mirror
+/// once it is halted.
+pub fn every_run()
+    // Wherever two members in sync differ, the marks stored on each of them have the chunk.
+    ensures covered { AtEachMoment IsCovered }
+
+    // A stop leaves devices of which an opening finds only members in sync that were so, whose marks cover
+    // what differs; and all of these, where each has recorded all but the last change.
+    ensures at_stop { AtEachMoment IsSafeAtStop }
+
+    // Once data was let through, a device that the last opening left out is not found in sync beside a
+    // member that was.
+    ensures keeps_out { AtEachMoment KeepsOut }
+
+    // One that the superblock of the last opening calls out of sync stays so, with data or without.
+    ensures stays_out { AtEachMoment StaysOut }
+
+    // There is a content that the members in sync hold at the first opening; any such content goes along the
+    // events from there to a stop, and they hold what it becomes. Only the end of a request changes it, and a
+    // resync in chunks that each of them has marked.
+    ensures has_content { HasContent }
+    ensures content_along { ContentGoesAlong }
+    ensures keeps_content { KeepsContent }
 {}

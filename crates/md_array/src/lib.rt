@@ -2,8 +2,15 @@
 #![tactic(auto)]
 
 mod array;
+mod beginning;
+mod checking;
+mod clearing_marks;
 mod copying;
+mod extent;
+mod failing;
 mod fault;
+mod finishing;
+mod in_sync;
 pub mod laws;
 mod marking;
 mod member;
@@ -11,10 +18,18 @@ mod mirror;
 mod observing;
 mod opening;
 mod own_fields;
+mod pending;
 mod permitting;
 mod reading;
+mod recording;
 mod remembering;
+mod rising;
+mod step_fault;
 mod storing;
+mod storing_marks;
+mod writing_member;
 
 pub use fault::OpenFault;
 pub use mirror::Mirror;
+pub use pending::Pending;
+pub use step_fault::{BeginFault, ClearFault, FinishFault, StoreFault, WriteMemberFault};

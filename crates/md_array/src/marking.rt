@@ -1,5 +1,6 @@
 // The marks of an array and of its members.
-ghost use Rattle.std.specs.Prelude.{◌≡◌, ◌↔◌, ◌||◌, ◌&&◌, ℕ, IsTrue, true, nat_lt, length, IfOk};
+ghost use Rattle.std.specs.Prelude.{◌≡◌, ◌↔◌, ◌||◌, ◌&&◌, ◌+◌, ◌-◌, ◌/◌, ◌<◌, ◌≤◌, ℕ, IsTrue, true, nat_le, nat_lt, length, IfOk};
+ghost use Rattle.std.specs.Int.{div_ceil};
 ghost use Rattle.md_assembly.specs.States.{is_in_sync};
 ghost use Rattle.md_bitmap.specs.Marks.{is_set};
 ghost use Rattle.md_array.specs.Members.{NeedsMarks};
@@ -7,7 +8,7 @@ ghost use Rattle.md_array.specs.Remembering.{HaveChunks, IsMarkedIn};
 
 use crate::member::Member;
 use md_assembly::MemberState;
-use md_bitmap::Marks;
+use md_bitmap::{Chunks, Marks};
 use md_members::accepted;
 use std::alloc::{AllocError, Global};
 
@@ -62,4 +63,49 @@ fn unite(marks: &mut Marks, others: &Marks)
         marks.mark(chunk);
         from = chunk + 1;
     }
+}
+
+/// The first chunk of these sectors, and the one behind the last.
+pub(crate) fn chunks_of(chunks: Chunks, sector: u64, sectors: u64) -> (u32, u32)
+    requires some { 0 < sectors }
+    requires inside { sector + sectors ≤ chunks.size }
+    ensures first { result.0 ≡ sector / chunks.sectors }
+    ensures end { result.1 ≡ ((sector + sectors) - 1) / chunks.sectors + 1 }
+    ensures within { result.1 ≤ div_ceil chunks.size chunks.sectors }
+{
+    let last = sector + sectors - 1;
+    (chunk_of(chunks, sector), chunk_of(chunks, last) + 1)
+}
+
+// The chunk of a sector.
+fn chunk_of(chunks: Chunks, sector: u64) -> u32
+    requires { sector < chunks.size }
+    ensures is { result ≡ sector / chunks.sectors }
+    ensures within { result < div_ceil chunks.size chunks.sectors }
+{
+    (sector / u64::from(chunks.sectors)) as u32
+}
+
+/// Marks the chunks from `first` on and below `end`.
+pub(crate) fn mark_run(marks: &mut Marks, first: u32, end: u32)
+    requires { end ≤ marks.old.chunks }
+    ensures chunks { marks.new.chunks ≡ marks.old.chunks }
+    ensures bits { (c : ℕ) → is_set marks.new.bytes c ≡ (is_set marks.old.bytes c || (nat_le first c && nat_lt c end)) }
+{
+    for chunk in first..end {
+        marks.mark(chunk);
+    }
+}
+
+/// Whether all chunks from `first` on and below `end` are marked.
+pub(crate) fn is_run_marked(marks: &Marks, first: u32, end: u32) -> bool
+    requires { end ≤ marks.now.chunks }
+    ensures { (result ≡ true) ↔ ((c : ℕ) → first ≤ c → c < end → is_set marks.now.bytes c ≡ true) }
+{
+    for chunk in first..end {
+        if !marks.is_marked(chunk) {
+            return false;
+        }
+    }
+    true
 }

@@ -123,6 +123,14 @@ impl<D: Device + Drop> Mirror<D> {
         self.array.halted
     }
 
+    /// The number of the first request in flight, in order of entry, if there is one.
+    pub fn in_flight(&self) -> Option<u64>
+        ensures { result ≡ option_map (λ entry. entry.0) (slice_get self.now.array.requests.entries 0) }
+    {
+        let (number, _) = self.array.requests.iter().next()?;
+        Some(number)
+    }
+
     /// Whether some role has no member in sync.
     pub fn degraded(&self) -> bool
         ensures { result ≡ is_degraded self.now.array }

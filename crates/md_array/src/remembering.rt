@@ -13,8 +13,10 @@ use crate::copying::copy_superblock;
 use crate::marking::{is_in_sync, needs_marks, united_marks};
 use crate::member::Member;
 use crate::own_fields::stored_next;
+use crate::rising::is_recorded;
 use md_assembly::{Assembly, MemberState};
 use md_bitmap::{Chunks, Marks};
+use md_inflight::Inflight;
 use md_members::{MemberInfo, accepted};
 use std::alloc::{AllocError, Global};
 
@@ -45,6 +47,7 @@ impl Array {
             events_cleared,
             resynced,
             halted: false,
+            requests: Inflight::new(alloc),
         })
     }
 }
@@ -114,10 +117,7 @@ fn member_of(
 fn is_due(state: MemberState, own: u64, events: u64) -> bool
     ensures { result ≡ (is_recorded state && nat_lt own events) }
 {
-    match state {
-        MemberState::InSync(_) | MemberState::Recovering(_) | MemberState::Spare => own < events,
-        MemberState::Stale(_) | MemberState::Faulty => false,
-    }
+    is_recorded(state) && own < events
 }
 
 // The greatest events at which an accepted bitmap of a member in sync says that marks were cleared;

@@ -40,12 +40,18 @@ impl Array {
     }
 }
 
-// A header as it is: its numbers fit their fields.
+// A header as it is: what it holds fits its fields.
 fn fitting(header: BitmapHeader) -> BitmapHeader
     ensures same { result ≡ header }
+    ensures uuid { length header.uuid ≡ 16 }
+    ensures name { length header.cluster_name ≡ 64 }
     ensures counts { CountsFit header }
     ensures settings { SettingsFit header }
 {
+    let uuid: &[u8] = header.uuid.as_bytes();
+    let name: &[u8] = &header.cluster_name;
+    prove!(uuid.len() == 16);
+    prove!(name.len() == 64);
     let BitmapHeader {
         events,
         events_cleared,
@@ -117,8 +123,8 @@ pub(crate) fn store_marks_on<D: Device>(
     store_bitmap(device, start, &header, &member.stored)
 }
 
-// The device's sector where the bitmap starts.
-fn bitmap_start(v: &Superblock) -> u32
+/// The device's sector where the bitmap starts.
+pub(crate) fn bitmap_start(v: &Superblock) -> u32
     requires { pos 0 ≤ℤ (pos 8 +ℤ v.now.bitmap_offset) }
     ensures { BitmapStartsAt v.now result }
 {

@@ -1,5 +1,5 @@
 -- Numbers stay in order, and a ticket good, as entries come and go.
-use Rattle.std.proofs.Common.{◌≡◌, ◌≢◌, ℕ, Bool, true, false, not, cond, ◌+◌, ◌<◌, ◌≤◌, ◌^◌, ◌==◌, List, [], ◌∷◌, ◌++◌, Some, IsSome, refl, sym, ap, ◌∙◌, arith}
+use Rattle.std.proofs.Common.{◌≡◌, ◌≢◌, ℕ, Bool, true, false, not, cond, ◌+◌, ◌<◌, ◌≤◌, ◌^◌, ◌==◌, List, [], ◌∷◌, ◌++◌, Some, None, IsSome, refl, sym, ap, ◌∙◌, arith}
 use Rattle.std.specs.List.{filter}
 use Rattle.std.specs.Map.{set_value}
 use Rattle.std.proofs.lemmas.Bool.{eq-eqb, eqb-true, ne_eqb}
@@ -19,6 +19,10 @@ module _ {T : Type 0} where
   rises_lower low lower [] next below rising = omega arith
   rises_lower low lower (entry ∷ entries) next below rising = (omega arith, rising.1)
 
+  rises_within : (low : ℕ) (entries : List (ℕ × T)) (next : ℕ) → RisesFrom low entries next → low ≤ next
+  rises_within low [] next rising = rising
+  rises_within low (entry ∷ entries) next rising = let later = rises_within (entry.0 + 1) entries next rising.1 in let first = rising.0 in omega arith
+
   -- where some go
   pub rises_filter : (test : ℕ × T → Bool) (low : ℕ) (entries : List (ℕ × T)) (next : ℕ) → RisesFrom low entries next → RisesFrom low (filter test entries) next
   rises_filter test low [] next rising = rising
@@ -36,6 +40,16 @@ module _ {T : Type 0} where
       by : (b : Bool) → RisesFrom (entry.0 + 1) (set_value test entries item) next → RisesFrom low (cond b ((entry.0, item) ∷ entries) (entry ∷ set_value test entries item)) next
       by true rest = rising
       by false rest = (rising.0, rest)
+
+  -- no entry has the number that comes
+  none_next : (low : ℕ) (entries : List (ℕ × T)) (next number : ℕ) → RisesFrom low entries next → next ≤ number → lookup entries number ≡ None
+  none_next low [] next number rising above = refl
+  none_next low (entry ∷ entries) next number rising above =
+      let first = rises_within (entry.0 + 1) entries next rising.1 in
+      rw (ne_eqb entry.0 number (λ same. absurd (omega arith))) (none_next (entry.0 + 1) entries next number rising.1 above)
+
+  pub none_fresh : (list : InflightList T) → IsNumbered list → lookup list.entries list.next ≡ None
+  none_fresh list numbered = none_next 0 list.entries list.next list.next numbered.rising (omega arith)
 
   -- the number that comes is found
   pub found_last : (entries : List (ℕ × T)) (number : ℕ) (item : T) → IsSome (lookup (entries ++ (number, item) ∷ []) number)

@@ -80,6 +80,7 @@ impl<T> Inflight<T> {
         ensures next { OnOk result (self.new.next ≡ self.old.next + 1) }
         ensures number { IfOk result (λ ticket. ticket.number ≡ self.old.next) }
         ensures belongs { IfOk result (BelongsTo self.new) }
+        ensures fresh { lookup self.old.entries self.old.next ≡ None }
         ensures kept { (other : TicketView)
             → BelongsTo self.old other → BelongsTo self.new other }
 

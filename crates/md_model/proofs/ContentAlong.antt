@@ -20,7 +20,7 @@ use Rattle.md_model.proofs.Picked.{picked, picked-all, picked-one, has_content_a
 use Rattle.md_model.proofs.ContentLives.{IsHeld, held_opened}
 
 -- the superblocks are those of members
-abbrev IsOfMembers : ℕ → World → Type 0
+abbrev pub IsOfMembers : ℕ → World → Type 0
 IsOfMembers m w = OfAll (λ k _. k < m) w
 
 module _ (g : Geometry) (small : IsWithinLimits g) (opened : Super) (m : ℕ) where
@@ -41,7 +41,7 @@ module _ (g : Geometry) (small : IsWithinLimits g) (opened : Super) (m : ℕ) wh
         },
       )
 
-  after_event : (h : History) (e : Event) (w' : World) (a : Content) → IsHeld g opened h a → IsOfMembers m h.now → Happens g h.now e w' → (b : Content) × Becomes g e h.now a b
+  pub after_event : (h : History) (e : Event) (w' : World) (a : Content) → IsHeld g opened h a → IsOfMembers m h.now → Happens g h.now e w' → (b : Content) × Becomes g e h.now a b
   after_event h (Event.Begin n p) w' a t all s = (a, refl)
   after_event h (Event.Record k) w' a t all s = (a, refl)
   after_event h (Event.StoreMarks k b) w' a t all s = (a, refl)

@@ -25,13 +25,13 @@ pub fn store_bitmap<D: Device>(
     let mut left = sectors_of_bitmap(marks.chunks());
     while left > 0 {
         left -= 1;
-        store_sector(device, start, header, marks, left)?;
+        store_bitmap_sector(device, start, header, marks, left)?;
     }
     Ok(())
 }
 
-// Writes sector `i` of a bitmap.
-fn store_sector<D: Device>(
+/// Writes sector `i` of a bitmap. `start` is the first sector of the bitmap, as in `store_bitmap`.
+pub fn store_bitmap_sector<D: Device>(
     device: &mut D,
     start: u32,
     header: &BitmapHeader,

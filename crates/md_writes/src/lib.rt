@@ -4,5 +4,5 @@
 mod bitmap;
 mod writing;
 
-pub use bitmap::store_bitmap;
+pub use bitmap::{store_bitmap, store_bitmap_sector};
 pub use writing::put;

@@ -1,7 +1,7 @@
 use Rattle.std.proofs.Common.{◌≡◌, ℕ, ◌<◌, ◌+◌, ◌^◌, Option, Some, None, arith, rules}
 use Rattle.std.specs.Option.{SomeIff}
-use Rattle.md_inflight.specs.Inflight.{next_number}
-use Rattle.md_inflight.proofs.Numbers.{IsPushed, numbered_push, belongs_push, belongs_last}
+use Rattle.md_inflight.specs.Inflight.{InflightList, next_number}
+use Rattle.md_inflight.proofs.Numbers.{IsPushed, numbered_push, none_fresh, belongs_push, belongs_last}
 use Rattle.md_inflight.proofs.inflight.Inflight.push_back.Goals as goal
 
 next_after : (result : Option ℕ) (number : ℕ) → number < 2 ^ 64 → SomeIff result (number + 1 < 2 ^ 64) (number + 1) → next_number result ≡ number + 1
@@ -27,3 +27,12 @@ returns-in-Ok-clause-belongs g c = rw (← c.self.view_is, c.in-Some.is) at (bel
 
 pub returns-in-Ok-clause-kept : goal.returns-in-Ok-clause-kept
 returns-in-Ok-clause-kept g c = belongs_push _ _ _ (pushed g c)
+
+pub returns-in_default-clause-fresh : goal.returns-in_default-clause-fresh
+returns-in_default-clause-fresh g c = none_fresh c.args.self.now (rw (← c.self.view_is) c.self.invariant)
+
+pub returns-in-Ok-clause-fresh : goal.returns-in-Ok-clause-fresh
+returns-in-Ok-clause-fresh g c = none_fresh c.args.self.now (rw (← c.self.view_is) c.self.invariant)
+
+pub returns-in-Err-clause-fresh : goal.returns-in-Err-clause-fresh
+returns-in-Err-clause-fresh g c = none_fresh c.args.self.now (rw (← c.self.view_is) c.self.invariant)

@@ -1,0 +1,84 @@
+-- One write to the device of a member.
+use Rattle.std.proofs.Common.{◌≡◌, ◌≢◌, ◌∙◌, ℕ, zero, suc, ◌*◌, ◌<◌, Bool, true, List, [], ◌∷◌, Some, length, get_or, map, set, ap, sym, refl, subst, arith, length-set}
+use Rattle.std.specs.List.{slice_get}
+use Rattle.std.proofs.lemmas.List.{map-set, length-map}
+use Rattle.std.proofs.lemmas.Option.{slice_get_within}
+use Rattle.md_device.specs.Device.{written}
+use Rattle.md_device.specs.Splice.{SameOutside}
+use Rattle.md_writes.specs.Writes.{DoesWrites, StopsInWrites, Write}
+use Rattle.md_array.specs.View.{ArrayView, Disk, MemberView, MirrorView, disk_of}
+use Rattle.md_array.specs.Consistency.{IsConsistent}
+use Rattle.md_array.specs.Fits.{Fits, FitsMember}
+use Rattle.md_array.specs.Members.{IsMember}
+use Rattle.md_array.specs.DeviceChanges.{StaysHonest}
+use Rattle.md_array.specs.DiskWrites.{AtDevice, IsFailed, IsTried, IsWritten}
+use Rattle.md_array.proofs.InTurn.{disk_at}
+use Rattle.md_array.proofs.WorldsLists.{at_set_same}
+use Rattle.md_array.proofs.Listing.{same_listed}
+
+-- an element besides the one that was replaced
+set_elsewhere : {A : Type 0} (xs : List A) (k j : ℕ) (y : A) → j ≢ k → slice_get (set xs k y) j ≡ slice_get xs j
+set_elsewhere [] k j y other = refl
+set_elsewhere (x ∷ xs) zero zero y other = absurd (other refl)
+set_elsewhere (x ∷ xs) zero (suc j) y other = refl
+set_elsewhere (x ∷ xs) (suc k) zero y other = refl
+set_elsewhere (x ∷ xs) (suc k) (suc j) y other = set_elsewhere xs k j y (λ same. other (ap suc same))
+
+-- what holds of the device at k before and after
+at_device : (before : List Disk) (k : ℕ) (d e : Disk) (Related : Disk → Disk → Type 0) → slice_get before k ≡ Some d → Related d e → AtDevice k before (set before k e) Related
+at_device before k d e Related here related x y was is =
+    let first : x ≡ d = same_listed before k x d was here in
+    let second : y ≡ e = same_listed (set before k e) k y e is (at_set_same before k e (slice_get_within before k d here)) in
+    rw (first, second) related
+
+tried : (before : List Disk) (k : ℕ) (d e : Disk) (w : Write) → slice_get before k ≡ Some d → StaysHonest d e → SameOutside (512 * w.sector) (length w.bytes) d.content e.content → IsTried k w before (set before k e)
+tried before k d e w here stays outside = record {
+  as_many = length-set before k e;
+  others = λ j other. set_elsewhere before k j e other;
+  stays = at_device before k d e StaysHonest here stays;
+  outside = at_device before k d e (λ a b. SameOutside (512 * w.sector) (length w.bytes) a.content b.content) here outside;
+}
+
+-- the device at k was read from the list, and is put back after the call
+module _ {D : Type 0} (content : D → List ℕ) (honest : D → Bool) (failures : D → ℕ) (devices : List D) (k : ℕ) (was : D) (read : was ≡ get_or devices k was) where
+  pub here : k < length devices → slice_get (map (disk_of content honest failures) devices) k ≡ Some (disk_of content honest failures was)
+  here within = disk_at (disk_of content honest failures) devices k was within ∙ ap (λ (x : D). Some (disk_of content honest failures x)) (sym read)
+
+  -- it fits its member
+  pub fits_there : (a : ArrayView) (m : MemberView) → k < length devices → Fits (map (disk_of content honest failures) devices) a → IsMember a k m → FitsMember a m (disk_of content honest failures was)
+  fits_there a m within fits at = fits.each k (disk_of content honest failures was) m (here within) at
+
+  module _ (new : D) (w : Write) (within : k < length devices) (outside : SameOutside (512 * w.sector) (length w.bytes) (content was) (content new)) where
+    -- the write was done
+    pub is_written : DoesWrites content honest failures (w ∷ []) was new → IsWritten k w (map (disk_of content honest failures) devices) (map (disk_of content honest failures) (set devices k new))
+    is_written does =
+        let before = map (disk_of content honest failures) devices in
+        let d = disk_of content honest failures was in
+        let e = disk_of content honest failures new in
+        rw (map-set (disk_of content honest failures) devices k new) (record {
+          tried = tried before k d e w (here within) (record { honest = does.kept.honest_kept; counted = does.kept.counted }) outside;
+          done = at_device before k d e (λ a b. a.honest ≡ true → b.content ≡ written a.content w.sector w.bytes) (here within) does.all_done;
+        })
+
+    -- it failed
+    pub is_failed : StopsInWrites content honest failures (w ∷ []) was new → IsFailed k w (map (disk_of content honest failures) devices) (map (disk_of content honest failures) (set devices k new))
+    is_failed stops =
+        let before = map (disk_of content honest failures) devices in
+        let d = disk_of content honest failures was in
+        let e = disk_of content honest failures new in
+        rw (map-set (disk_of content honest failures) devices k new) (record {
+          tried = tried before k d e w (here within) (record { honest = stops.kept.honest_kept; counted = stops.kept.counted }) outside;
+          failed = at_device before k d e (λ a b. a.honest ≡ true → a.failures < b.failures) (here within) stops.failed;
+        })
+
+-- the mirror is consistent, and member k is one of it
+module _ {D : Type 0} (disk : D → Disk) (devices : List D) (a : ArrayView) (old : MirrorView) (k : ℕ) (view : ◌≡◌ {A = MirrorView} (record { disks = map disk devices; array = a }) old)
+    (consistent : IsConsistent old) (inside : k < length old.array.members) where
+  pub fits_now : Fits (map disk devices) a
+  fits_now = let sound = subst IsConsistent (sym view) consistent in sound.fits
+
+  pub within_members : k < length a.members
+  within_members = subst (λ (v : MirrorView). k < length v.array.members) (sym view) inside
+
+  pub within_devices : k < length devices
+  within_devices = let many = fits_now.as_many in let within = within_members in omega (arith, length-map devices disk)

@@ -1,0 +1,58 @@
+-- A write of a superblock fails: where it left the old superblock, the new one or none, that is the model's event.
+use Rattle.std.proofs.Common.{◌≡◌, ℕ, ◌*◌, inl, inr, true, Some, Option, sym, ap, ◌∙◌, subst}
+use Rattle.std.proofs.lemmas.Option.{same_Some}
+use Rattle.md_device.specs.Splice.{SameOutside}
+use Rattle.md_model.specs.Devices.{Stored}
+use Rattle.md_model.specs.Worlds.{Request}
+use Rattle.md_model.specs.Failures.{LeftBySuper}
+use Rattle.md_model.specs.Events.{Event}
+use Rattle.md_writes.specs.Writes.{Write}
+use Rattle.md_array.specs.View.{ArrayView, MemberView, MirrorView}
+use Rattle.md_array.specs.Consistency.{IsConsistent}
+use Rattle.md_array.specs.Events.{HappensIfOldNewOrNone, IsOldNewOrNone}
+use Rattle.md_array.specs.Recording.{FailsToRecord, super_write}
+use Rattle.md_array.specs.Worlds.{stored_of, super_in, world_of, world_on}
+use Rattle.md_array.proofs.OneMember.{stored_there}
+use Rattle.md_array.proofs.PartsApart.{parts_of, super_alone}
+use Rattle.md_array.proofs.SuperRecorded.{readable_super, super_is_for}
+use Rattle.md_array.proofs.WorldsFailed.{IsThere, does_failing, left, member_fails, there_is}
+
+module _ (k : ℕ) (old new : MirrorView) (c : IsConsistent old) (f : FailsToRecord k old new) where
+  abbrev a : ArrayView
+  a = old.array
+
+  abbrev m : MemberView
+  m = f.member
+
+  abbrev w : Write
+  w = super_write a m
+
+  left_by_super : (requests : ℕ → Option Request) (t : IsThere k old.disks new.disks) → t.old.honest ≡ true → IsOldNewOrNone w.bytes t.old t.new
+      → LeftBySuper (world_of old requests) k (left k w old new c f.fails m f.may.at requests)
+  left_by_super requests t honest leaves =
+      let was : (world_of old requests).stored k ≡ stored_of a m t.old.content = stored_there old.disks a k m t.old f.may.at t.was in
+      let is : (world_on new.disks a requests).stored k ≡ stored_of a m t.new.content = stored_there new.disks a k m t.new f.may.at t.is in
+      let has = c.supers f.may.running k t.old m t.was f.may.at f.may.active honest in
+      let outside : SameOutside (512 * 8) 4096 t.old.content t.new.content =
+      subst (λ (n : ℕ). SameOutside (512 * 8) n t.old.content t.new.content) f.may.readable.size (f.fails.disks.tried.outside t.old t.new t.was t.is) in
+      let super_left = ap (λ (s : Stored). s.super) is in
+      record {
+        rest = is ∙ super_alone a m t.old.content t.new.content (parts_of old c k t.old m t.was f.may.at) outside ∙ (λ i. record (sym was i) { super = sym super_left i });
+        super = elim leaves [
+          | inl same ↦ inl (super_left ∙ ap super_in same ∙ sym (ap (λ (s : Stored). s.super) was))
+          | inr other ↦
+              elim other [
+                | inl next ↦ inr (inl (super_left ∙ ap super_in next ∙ readable_super a m f.may.readable ∙ ap Some (super_is_for old.disks a requests k m t.old f.may.at t.was has)))
+                | inr none ↦ inr (inr (super_left ∙ none))
+              ]
+        ];
+      }
+
+  pub record_fails_happens : HappensIfOldNewOrNone k old new
+  record_fails_happens n at leaves honest requests in_flight =
+      let t = there_is old k m w new.disks c f.may.at f.fails.disks.tried in
+      let same : n ≡ m = same_Some n m (sym at ∙ f.may.at) in
+      let whole = subst (λ (x : MemberView). IsOldNewOrNone (super_write a x).bytes t.old t.new) same (leaves t.old t.new t.was t.is) in
+      let by_super = left_by_super requests t (honest k t.old t.was) whole in
+      does_failing k w old new c f.fails m f.may.at requests (Event.RecordFails k) in_flight
+      (f.may.running, (left k w old new c f.fails m f.may.at requests, by_super, member_fails k w old new c f.fails m f.may.at requests f.may.active))

@@ -1,0 +1,144 @@
+-- A member's superblock that is stored is the model's event, and the mirror stays consistent.
+use Rattle.std.proofs.Common.{◌≡◌, ℕ, ◌*◌, Bool, true, false, ◌&&◌, nat_lt, List, slice_get, Option, Some, refl, sym, ap, ◌∙◌, subst, arith}
+use Rattle.std.proofs.lemmas.Option.{slice_get_within}
+use Rattle.md_device.specs.Splice.{SameOutside}
+use Rattle.md_device.proofs.Splices.{part-spliced}
+use Rattle.md_super.specs.declared.superblock.Superblock.{Superblock}
+use Rattle.md_super.specs.Merge.{merged}
+use Rattle.md_bitmap.specs.Marks.{is_set}
+use Rattle.md_assembly.specs.States.{has_recovery_offset}
+use Rattle.md_model.specs.Sectors.{put}
+use Rattle.md_model.specs.States as model
+use Rattle.md_model.specs.Devices.{Stored}
+use Rattle.md_model.specs.Worlds.{Request, World}
+use Rattle.md_model.specs.Steps.{has_bit, recorded, recorded_device, super_for}
+use Rattle.md_model.specs.Events.{Event, Step}
+use Rattle.md_model.proofs.Between.{between_step}
+use Rattle.md_model.proofs.Puts.{put-self}
+use Rattle.md_array.specs.View.{ArrayView, Disk, MemberView, MirrorView, PendingView}
+use Rattle.md_array.specs.Members.{is_recorded}
+use Rattle.md_array.specs.Consistency.{HasPlaces, HasSuper, IsConsistent}
+use Rattle.md_array.specs.Recording.{IsReadable, Records, super_write}
+use Rattle.md_array.specs.Requests.{IsPending}
+use Rattle.md_array.specs.Events.{Happens}
+use Rattle.md_array.specs.Worlds.{block_on, geometry_of, kind_of, stored_of, super_in, super_of, world_of, world_on}
+use Rattle.md_array.proofs.OneMember.{ChangesMember, changed_in_flight, changed_is_consistent, changed_is_pending, changed_world, member_there, stored_there}
+use Rattle.md_array.proofs.PartsApart.{parts_of, super_alone}
+use Rattle.md_array.proofs.WorldsLists.{got_within}
+use Rattle.md_array.proofs.WorldsStates.{same_recorded}
+use Rattle.md_array.proofs.WorldsSupers.{super_shown}
+
+-- ---- a superblock that is read back
+abbrev as_read : (v : Superblock) → IsReadable v → Superblock
+as_read v r = record v { sb_csum = r.sum }
+
+-- what the bytes of a member's superblock say
+pub readable_super : (a : ArrayView) (m : MemberView) (r : IsReadable (merged a.shared m.superblock)) → super_in (super_write a m).bytes ≡ Some (super_of (merged a.shared m.superblock))
+readable_super a m r = super_shown (super_write a m).bytes (as_read (merged a.shared m.superblock) r) r.fields r.sound
+
+-- it is what the model stores, on a device whose superblock has the member's bit 2 of the feature map
+pub super_is_for : (disks : List Disk) (a : ArrayView) (requests : ℕ → Option Request) (k : ℕ) (m : MemberView) (d : Disk) → slice_get a.members k ≡ Some m → slice_get disks k ≡ Some d → HasSuper m d
+    → super_of (merged a.shared m.superblock) ≡ super_for (world_on disks a requests) k
+super_is_for disks a requests k m d at there has =
+    let number = member_there a k m 0 (λ x. x.superblock.dev_number) at in
+    let bit : has_bit ((world_on disks a requests).stored k).super ≡ has_recovery_offset m.superblock =
+    ap (λ (s : Stored). has_bit s.super) (stored_there disks a k m d at there) ∙ ap has_bit has.is ∙ has.recovering in
+    λ i. record {
+      number = sym number i;
+      events = a.shared.events;
+      role = (super_of (merged a.shared m.superblock)).role;
+      recovering = sym bit i;
+    }
+
+module _ (k : ℕ) (old new : MirrorView) (is : IsConsistent old) (r : Records k old new) where
+  abbrev m : MemberView
+  m = r.member
+
+  abbrev n : MemberView
+  n = record r.member { due = false }
+
+  abbrev a : ArrayView
+  a = old.array
+
+  abbrev block : List ℕ
+  block = (super_write a m).bytes
+
+  changes : ChangesMember k m n (super_write a m) old new
+  changes = record {
+    at = r.may.at;
+    like = record { superblock = refl; header = refl; chunks = refl; state = refl };
+    disks = r.disks.tried;
+    array = r.array;
+  }
+
+  on_disk : (d e : Disk) → slice_get old.disks k ≡ Some d → slice_get new.disks k ≡ Some e → d.honest ≡ true → block_on e.content ≡ block
+  on_disk d e before after honest =
+      let long = (is.fits.each k d m before r.may.at).long in
+      ap block_on (r.disks.done d e before after honest) ∙ part-spliced d.content (512 * 8) block 4096 (sym r.may.readable.size) (omega arith)
+
+  has_super : (d e : Disk) → slice_get old.disks k ≡ Some d → slice_get new.disks k ≡ Some e → is_recorded m.state ≡ true → d.honest ≡ true → HasSuper m d → HasSuper n e
+  has_super d e before after _ honest _ =
+      let on = on_disk d e before after honest in
+      let spelled = r.may.readable.fields in
+      record {
+        super = super_of (merged a.shared m.superblock);
+        is = ap super_in on ∙ readable_super a m r.may.readable;
+        number = refl;
+        recovering = refl;
+        places = subst (HasPlaces n) (sym on) (record {
+          data_offset = sym spelled.data_offset;
+          bitmap_offset = sym spelled.bitmap_offset;
+          bblog_size = sym spelled.bblog_size;
+          bblog_offset = sym spelled.bblog_offset;
+        });
+      }
+
+  pub recorded_is_consistent : IsConsistent new
+  recorded_is_consistent = changed_is_consistent k m n (super_write a m) old new changes is has_super
+
+  pub recorded_is_pending : (p : PendingView) → IsPending old.array p → IsPending new.array p
+  recorded_is_pending = changed_is_pending k m n (super_write a m) old new changes
+
+  -- ---- the event
+  module _ (d e : Disk) (before : slice_get old.disks k ≡ Some d) (after : slice_get new.disks k ≡ Some e) (honest : d.honest ≡ true) (requests : ℕ → Option Request) where
+    abbrev w : World
+    w = world_of old requests
+
+    stored_recorded : stored_of a n e.content ≡ recorded_device w k
+    stored_recorded =
+        let has = is.supers r.may.running k d m before r.may.at r.may.active honest in
+        let outside : SameOutside (512 * 8) 4096 d.content e.content =
+        subst (λ (x : ℕ). SameOutside (512 * 8) x d.content e.content) r.may.readable.size (r.disks.tried.outside d e before after) in
+        let super : super_in (block_on e.content) ≡ Some (super_for w k) =
+        ap super_in (on_disk d e before after honest) ∙ readable_super a m r.may.readable ∙ ap Some (super_is_for old.disks a requests k m d r.may.at before has) in
+        super_alone a m d.content e.content (parts_of old is k d m before r.may.at) outside
+        ∙ (λ i. record (sym (stored_there old.disks a k m d r.may.at before) i) { super = super i })
+
+    world_recorded : world_of new requests ≡ recorded w k
+    world_recorded =
+        let known : put k (λ s. nat_lt s a.marks.chunks && is_set m.stored.bytes s) w.known ≡ w.known =
+        ap (λ (f : ℕ → Bool). put k f w.known) (λ i s. sym (member_there a k m false (λ x. nat_lt s a.marks.chunks && is_set x.stored.bytes s) r.may.at) i) ∙ put-self k w.known in
+        let re_added : put k m.re_added w.re_added ≡ w.re_added =
+        ap (λ (b : Bool). put k b w.re_added) (sym (member_there a k m false (λ x. x.re_added) r.may.at)) ∙ put-self k w.re_added in
+        changed_world k m n (super_write a m) old new changes e after requests
+        ∙ (λ i. record w { stored = put k (stored_recorded i) w.stored; due = put k false w.due; known = known i; re_added = re_added i })
+
+    step : Step (geometry_of a) w (Event.Record k) (world_of new requests)
+    step =
+        let active = ap model.is_recorded (member_there a k m model.State.Faulty (λ x. kind_of x.state) r.may.at) ∙ same_recorded m.state ∙ r.may.active in
+        (r.may.running, (active, world_recorded))
+
+  pub record_happens : Happens old (Event.Record k) new
+  record_happens honest requests in_flight =
+      let low = slice_get_within a.members k m r.may.at in
+      let as_many = is.fits.as_many in
+      let many = r.disks.tried.as_many in
+      let d = got_within old.disks k (omega arith) in
+      let e = got_within new.disks k (omega arith) in
+      let happens = step d.0 e.0 d.1 e.1 (honest k d.0 d.1) requests in
+      record {
+        in_flight = changed_in_flight k m n (super_write a m) old new changes requests in_flight;
+        geometry = ap geometry_of r.array;
+        step = happens;
+        content = λ x y holds becomes. between_step (geometry_of a) (world_of old requests) (Event.Record k) (world_of new requests) x y happens becomes holds;
+      }

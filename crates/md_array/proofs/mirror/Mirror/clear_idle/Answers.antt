@@ -1,0 +1,17 @@
+use Rattle.std.proofs.Common.{map, sym, subst}
+use Rattle.md_array.specs.Consistency.{IsConsistent}
+use Rattle.md_array.specs.View.{disk_of}
+use Rattle.md_array.proofs.BeginKeeps.{clear_event, clear_pending, clear_sound}
+use Rattle.md_array.proofs.mirror.Mirror.clear_idle.Goals as goal
+
+pub returns : goal.returns
+returns g c =
+    let disks = map (disk_of g.D.Device.content g.D.Device.honest g.D.Device.failures) c.self.inside.devices.items in
+    let sound = subst IsConsistent (sym c.self.view_is) c.requires.sound in
+    let gives = c.clear_idle.ensures disks in
+    rw (← c.self.view_is) (record {
+      gives = gives;
+      event = clear_event c.args.chunk _ _ sound _ gives;
+      sound = clear_sound c.args.chunk _ _ sound _ gives;
+      pending = clear_pending c.args.chunk _ _ sound _ gives;
+    })

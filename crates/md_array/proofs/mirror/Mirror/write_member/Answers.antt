@@ -1,0 +1,73 @@
+use Rattle.std.proofs.Common.{◌≡◌, ◌∙◌, ◌+◌, ◌*◌, ◌≤◌, List, [], lit<, length, map, subst, sym, ap}
+use Rattle.std.specs.Prelude.{Some, slice_get}
+use Rattle.std.proofs.lemmas.List.{with_items_is}
+use Rattle.md_array.specs.View.{Disk, MemberView, MirrorView, PendingView, disk_of}
+use Rattle.md_array.specs.Consistency.{IsConsistent}
+use Rattle.md_array.specs.Requests.{IsPending}
+use Rattle.md_array.specs.Members.{IsMember}
+use Rattle.md_array.specs.DiskWrites.{IsFailed, IsWritten}
+use Rattle.md_array.specs.WritingMember.{MayWrite, RefusesWriteMember, WritesTo}
+use Rattle.md_array.proofs.Answered.{err_of, ok_of}
+use Rattle.md_array.proofs.DataWritten.{write_member_happens, written_is_consistent, written_is_pending, written_keeps_pending}
+use Rattle.md_array.proofs.WriteKeeps.{refused_write_event, refused_write_pending, refused_write_sound, refused_write_still}
+use Rattle.md_array.proofs.WriteToMember.{fails_to_write, on_device, room_left, writes_to}
+use Rattle.md_array.proofs.mirror.Mirror.write_member.Goals as goal
+
+pub returns-in-Err : goal.returns-in-Err
+returns-in-Err g c =
+    let disks = map (disk_of g.D.Device.content g.D.Device.honest g.D.Device.failures) c.self.inside.devices.items in
+    let sound = subst IsConsistent (sym c.self.view_is) c.requires.sound in
+    let pending = subst (λ (v : MirrorView). IsPending v.array c.args.pending.now) (sym c.self.view_is) c.requires.pending in
+    let gives = c.in-Err.ensures disks in
+    rw (← c.self.view_is) (record {
+      gives = gives;
+      event = refused_write_event c.args.k _ _ _ _ sound pending _ gives;
+      sound = sound;
+      still = pending;
+      pending = λ _ is. is;
+    })
+
+pub put_on-requires-clause-room : goal.put_on-requires-clause-room
+put_on-requires-clause-room g c d at =
+    let v = c.args.self.now in
+    let there : slice_get v.disks c.args.k ≡ Some d = subst (λ (x : MirrorView). slice_get x.disks c.args.k ≡ Some d) c.self.view_is (rw c.deref_mut.ensures.value at at) in
+    subst (λ (p : PendingView). 512 * (c.own-own.result.now.data_offset + p.sector) + length p.bytes ≤ length d.content) (sym c.pending.view_is)
+    (on_device v c.args.k c.args.pending.now c.own-own.result.now c.own-own.ensures c.requires.sound c.requires.pending d there)
+
+pub returns-then-is_err : goal.returns-then-is_err
+returns-then-is_err g c =
+    let disk = disk_of g.D.Device.content g.D.Device.honest g.D.Device.failures in
+    let after : List Disk = map disk c.put_on.new.devices in
+    let failed = err_of c.put_on.result _ _ c.if-is_err.ensures.value c.put_on.ensures in
+    let same = with_items_is c.self.inside.devices c.put_on.new.devices (c.put_on.auto.devices ∙ c.deref_mut.ensures.len) in
+    let refused = fails_to_write _ c.args.self.now _ c.args.pending.now c.self.view_is c.pending.view_is c.args.k c.own-own.result.now c.own-own.ensures (c.in_default.ensures []) after c.write_failed.new.self c.write_failed.result
+    (rw c.deref_mut.ensures.value at failed) c.write_failed.ensures in
+    rw same (record {
+      gives = refused;
+      event = refused_write_event c.args.k _ _ _ _ c.requires.sound c.requires.pending c.write_failed.result refused;
+      sound = refused_write_sound c.args.k _ _ _ _ c.requires.sound c.requires.pending c.write_failed.result refused;
+      still = refused_write_still c.args.k _ _ _ _ c.requires.sound c.requires.pending c.write_failed.result refused;
+      pending = refused_write_pending c.args.k _ _ _ _ c.requires.sound c.requires.pending c.write_failed.result refused;
+    })
+
+pub push-requires : goal.push-requires
+push-requires g c = (
+  lit< tt,
+  room_left _ c.args.self.now _ c.args.pending.now c.self.view_is c.pending.view_is c.args.k c.own-own.result.now c.own-own.ensures (c.in_default.ensures []) c.requires.pending,
+)
+
+pub returns : goal.returns
+returns g c =
+    let disk = disk_of g.D.Device.content g.D.Device.honest g.D.Device.failures in
+    let after : List Disk = map disk c.put_on.new.devices in
+    let done = ok_of c.put_on.result _ _ c.if-is_err.ensures.value c.put_on.ensures in
+    let same = with_items_is c.self.inside.devices c.put_on.new.devices (c.put_on.auto.devices ∙ c.deref_mut.ensures.len) in
+    let written = writes_to _ c.args.self.now _ c.args.pending.now c.self.view_is c.pending.view_is c.args.k c.own-own.result.now c.own-own.ensures (c.in_default.ensures []) after c.push.new.self.items
+    (rw c.deref_mut.ensures.value at done) c.push.ensures.items in
+    rw same (record {
+      gives = written;
+      event = write_member_happens c.args.k _ _ _ _ c.requires.sound c.requires.pending written;
+      sound = written_is_consistent c.args.k _ _ _ _ c.requires.sound c.requires.pending written;
+      still = written_is_pending c.args.k _ _ _ _ c.requires.sound c.requires.pending written;
+      pending = written_keeps_pending c.args.k _ _ _ _ c.requires.sound c.requires.pending written;
+    })

@@ -1,0 +1,28 @@
+-- One write to one of a mirror's devices.
+use Rattle.std.specs.Prelude.{◌≡◌, ◌≢◌, ℕ, ◌*◌, ◌<◌, true, List, length, slice_get, Some}
+use Rattle.md_device.specs.Splice.{SameOutside}
+use Rattle.md_device.specs.Device.{written}
+use Rattle.md_writes.specs.Writes.{Write}
+use Rattle.md_array.specs.View.{Disk}
+use Rattle.md_array.specs.DeviceChanges.{StaysHonest}
+
+-- of device k before and after
+abbrev pub AtDevice : ℕ → List Disk → List Disk → (Disk → Disk → Type 0) → Type 0
+AtDevice k before after Related = (d e : Disk) → slice_get before k ≡ Some d → slice_get after k ≡ Some e → Related d e
+
+-- No device but k was used, and at most the write's range was changed there.
+pub record IsTried (k : ℕ) (w : Write) (before after : List Disk) : Type 0 where
+  pub as_many : length after ≡ length before
+  pub others : (j : ℕ) → j ≢ k → slice_get after j ≡ slice_get before j
+  pub stays : AtDevice k before after StaysHonest
+  pub outside : AtDevice k before after (λ d e. SameOutside (512 * w.sector) (length w.bytes) d.content e.content)
+
+-- the write was done
+pub record IsWritten (k : ℕ) (w : Write) (before after : List Disk) : Type 0 where
+  pub tried : IsTried k w before after
+  pub done : AtDevice k before after (λ d e. d.honest ≡ true → e.content ≡ written d.content w.sector w.bytes)
+
+-- it failed: any bytes may stand in its range
+pub record IsFailed (k : ℕ) (w : Write) (before after : List Disk) : Type 0 where
+  pub tried : IsTried k w before after
+  pub failed : AtDevice k before after (λ d e. d.honest ≡ true → d.failures < e.failures)

@@ -1,0 +1,80 @@
+-- The steps as events of the model: what each makes of the world, where devices do what they answer.
+use Rattle.std.specs.Prelude.{◌≡◌, ◌⊎◌, ⊤, ℕ, List, None, Option, Result, MatchResult}
+use Rattle.md_model.specs.Sectors.{put}
+use Rattle.md_model.specs.Worlds.{Request}
+use Rattle.md_model.specs.Content.{Content, Becomes, HoldsBetween}
+use Rattle.md_model.specs.Events.{Event, Step}
+use Rattle.md_array.specs.declared.step_fault.StoreFault.{StoreFault}
+use Rattle.md_array.specs.declared.step_fault.StoreFault.TheVariants.{MemberFailed}
+use Rattle.md_array.specs.declared.step_fault.WriteMemberFault.{WriteMemberFault}
+use Rattle.md_array.specs.declared.step_fault.WriteMemberFault.TheVariants as write_fault
+use Rattle.md_array.specs.View.{Disk, MemberView, MirrorView, PendingView}
+use Rattle.md_array.specs.Members.{IsMember}
+use Rattle.md_array.specs.DiskWrites.{AtDevice}
+use Rattle.md_array.specs.Recording.{super_write}
+use Rattle.md_array.specs.Requests.{AreInFlight, among, request_of}
+use Rattle.md_array.specs.Worlds.{AreHonest, world_of, geometry_of, super_in, block_on}
+
+-- By the event the mirror goes from its world with these requests in flight to that with those. A content that the members in
+-- sync held before it, they hold after it, changed as the event says.
+pub record Does (old : MirrorView) (before : ℕ → Option Request) (e : Event) (new : MirrorView) (after : ℕ → Option Request) : Type 0 where
+  pub in_flight : AreInFlight new.array after
+  pub geometry : geometry_of new.array ≡ geometry_of old.array
+  pub step : Step (geometry_of old.array) (world_of old before) e (world_of new after)
+  pub content : (a b : Content) → HoldsBetween (geometry_of old.array) a (world_of old before) → Becomes (geometry_of old.array) e (world_of old before) a b
+      → HoldsBetween (geometry_of old.array) b (world_of new after)
+
+-- whatever requests of its list are in flight, before and after this
+abbrev pub Happens : MirrorView → Event → MirrorView → Type 0
+Happens old e new = AreHonest old.disks → (requests : ℕ → Option Request) → AreInFlight old.array requests → Does old requests e new requests
+
+-- A superblock's write that failed left the old superblock, the new one, or one that can't be decoded: the premise on such writes.
+abbrev pub IsOldNewOrNone : List ℕ → Disk → Disk → Type 0
+IsOldNewOrNone bytes d e = (block_on e.content ≡ block_on d.content) ⊎ ((block_on e.content ≡ bytes) ⊎ (super_in (block_on e.content) ≡ None))
+
+abbrev pub HappensIfOldNewOrNone : ℕ → MirrorView → MirrorView → Type 0
+HappensIfOldNewOrNone k old new = (m : MemberView) → IsMember old.array k m
+    → AtDevice k old.disks new.disks (IsOldNewOrNone (super_write old.array m).bytes) → Happens old (Event.RecordFails k) new
+
+-- where the fault is a member's failure
+abbrev pub IfStoringFailed : Type 0 → StoreFault → Type 0
+IfStoringFailed P (MemberFailed j) = P
+IfStoringFailed P _ = ⊤
+
+abbrev pub IfWritingFailed : Type 0 → WriteMemberFault → Type 0
+IfWritingFailed P (write_fault.MemberFailed j) = P
+IfWritingFailed P _ = ⊤
+
+-- record and store_marks
+abbrev pub RecordHappens : ℕ → MirrorView → MirrorView → {T : Type 0} → Result T StoreFault → Type 0
+RecordHappens k old new result = MatchResult result (λ _. Happens old (Event.Record k) new) (IfStoringFailed (HappensIfOldNewOrNone k old new))
+
+abbrev pub StoreMarksHappens : ℕ → ℕ → MirrorView → MirrorView → {T : Type 0} → Result T StoreFault → Type 0
+StoreMarksHappens k block old new result =
+    MatchResult result (λ _. Happens old (Event.StoreMarks k block) new) (IfStoringFailed (Happens old (Event.StoreMarksFails k block) new))
+
+-- clear_idle
+abbrev pub ClearHappens : ℕ → MirrorView → MirrorView → {T E : Type 0} → Result T E → Type 0
+ClearHappens chunk old new result = MatchResult result (λ _. Happens old (Event.ClearIdle chunk) new) (λ _. ⊤)
+
+-- write_member: beside the request may be others
+abbrev pub HappensAmong : MirrorView → PendingView → Event → MirrorView → PendingView → Type 0
+HappensAmong old p e new q =
+    AreHonest old.disks → (others : ℕ → Option Request) → AreInFlight old.array others → Does old (among p others) e new (among q others)
+
+abbrev pub WriteMemberHappens : ℕ → MirrorView → MirrorView → PendingView → PendingView → {T : Type 0} → Result T WriteMemberFault → Type 0
+WriteMemberHappens k old new p q result =
+    MatchResult result (λ _. HappensAmong old p (Event.WriteMember p.ticket.number k) new q)
+    (IfWritingFailed (HappensAmong old p (Event.WriteMemberFails p.ticket.number k) new q))
+
+-- begin: the request is in flight from then on
+abbrev pub BeginHappens : MirrorView → MirrorView → PendingView → Type 0
+BeginHappens old new p =
+    AreHonest old.disks → (others : ℕ → Option Request) → AreInFlight old.array others
+    → Does old others (Event.Begin p.ticket.number (request_of p)) new (among p others)
+
+-- finish: it is in flight no more
+abbrev pub FinishHappens : MirrorView → MirrorView → PendingView → Type 0
+FinishHappens old new p =
+    AreHonest old.disks → (others : ℕ → Option Request) → AreInFlight old.array others
+    → Does old (among p others) (Event.Finish p.ticket.number) new (put p.ticket.number None others)

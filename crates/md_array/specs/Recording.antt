@@ -1,0 +1,54 @@
+-- A member's superblock is stored.
+use Rattle.std.specs.Prelude.{◌≡◌, ◌⊎◌, ℕ, true, false, length, set}
+use Rattle.md_super.specs.declared.superblock.Superblock.{Superblock}
+use Rattle.md_super.specs.Encoding.{super_bytes}
+use Rattle.md_super.specs.Faults.{NoFault}
+use Rattle.md_super.specs.Format.{IsSuper}
+use Rattle.md_super.specs.Merge.{merged}
+use Rattle.md_writes.specs.Writes.{Write}
+use Rattle.md_array.specs.declared.step_fault.StoreFault.{StoreFault}
+use Rattle.md_array.specs.declared.step_fault.StoreFault.TheVariants.{Halted, NotActive, MemberFailed}
+use Rattle.md_array.specs.View.{MemberView, ArrayView, MirrorView}
+use Rattle.md_array.specs.Members.{IsMember, is_recorded}
+use Rattle.md_array.specs.OutOfSync.{IsInactive}
+use Rattle.md_array.specs.DiskWrites.{IsWritten}
+use Rattle.md_array.specs.Trying.{Refuses, RefusesHalted, FailsWriting, HaltsWriting}
+
+-- the array's fields and the member's own, at sector 8
+abbrev pub super_write : ArrayView → MemberView → Write
+super_write a m = record { sector = 8; bytes = super_bytes (merged a.shared m.superblock) }
+
+-- a reader of the bytes that are written for a superblock finds its fields in them, and no fault
+pub record IsReadable (v : Superblock) : Type 0 where
+  pub size : length (super_bytes v) ≡ 4096
+  pub sum : ℕ  -- the checksum in them
+  pub fields : IsSuper (super_bytes v) (record v { sb_csum = sum })
+  pub sound : NoFault (super_bytes v)
+
+-- member k may be recorded
+pub record MayRecord (k : ℕ) (a : ArrayView) (m : MemberView) : Type 0 where
+  pub running : a.halted ≡ false
+  pub at : IsMember a k m
+  pub active : is_recorded m.state ≡ true
+  pub readable : IsReadable (merged a.shared m.superblock)
+
+pub record Records (k : ℕ) (old new : MirrorView) : Type 0 where
+  pub member : MemberView
+  pub may : MayRecord k old.array member
+  pub disks : IsWritten k (super_write old.array member) old.disks new.disks
+  pub array : new.array ≡ record old.array { members = set old.array.members k (record member { due = false }) }
+
+pub record FailsToRecord (k : ℕ) (old new : MirrorView) : Type 0 where
+  pub member : MemberView
+  pub may : MayRecord k old.array member
+  pub fails : FailsWriting k (super_write old.array member) old new
+
+pub record HaltsRecording (k : ℕ) (old new : MirrorView) : Type 0 where
+  pub member : MemberView
+  pub may : MayRecord k old.array member
+  pub halts : HaltsWriting k (super_write old.array member) old new
+
+abbrev pub RefusesRecord : ℕ → MirrorView → MirrorView → StoreFault → Type 0
+RefusesRecord k old new Halted = RefusesHalted old new ⊎ HaltsRecording k old new
+RefusesRecord k old new NotActive = Refuses old new (IsInactive k old.array)
+RefusesRecord k old new (MemberFailed j) = (j ≡ k) × FailsToRecord k old new

@@ -1,0 +1,69 @@
+// Storing a member's superblock.
+ghost use Rattle.std.specs.Prelude.{◌≡◌, ◌<◌, ◌≤◌, ◌*◌, [], ◌∷◌, MatchResult, false, length, set};
+ghost use Rattle.md_device.specs.Splice.{SameOutside};
+ghost use Rattle.md_members.specs.Members.{sectors_of};
+ghost use Rattle.md_super.specs.Merge.{merged};
+ghost use Rattle.md_writes.specs.Writes.{MakesWrites};
+ghost use Rattle.md_array.specs.Consistency.{IsConsistent};
+ghost use Rattle.md_array.specs.Events.{RecordHappens};
+ghost use Rattle.md_array.specs.Members.{IsMember};
+ghost use Rattle.md_array.specs.Recording.{IsReadable, Records, RefusesRecord, super_write};
+ghost use Rattle.md_array.specs.Requests.{IsPending};
+ghost use Rattle.md_array.specs.View.{MemberView, PendingView};
+
+use crate::array::Array;
+use crate::member::Member;
+use crate::mirror::Mirror;
+use crate::step_fault::StoreFault;
+use md_device::{Device, WriteFault};
+use md_super::{SUPER_SECTOR, encode_member};
+use md_writes::put;
+
+impl<D: Device + Drop> Mirror<D> {
+    /// Writes member k's superblock: the array's fields, and its own. It takes no memory. The fault is
+    /// the first in the order of `StoreFault`.
+    pub fn record(&mut self, k: usize) -> Result<(), StoreFault>
+        requires within { k < length self.old.array.members }
+        requires sound { IsConsistent self.old }
+        ensures gives { MatchResult result (λ _. Records k self.old self.new) (RefusesRecord k self.old self.new) }
+        ensures event { RecordHappens k self.old self.new result }
+        ensures sound { IsConsistent self.new }
+        ensures pending { (p : PendingView) → IsPending self.old.array p → IsPending self.new.array p }
+    {
+        self.array.check_active(k)?;
+        let array = &self.array;
+        let member = &array.members[k];
+        if store_superblock(&mut self.devices[k], array, member).is_err() {
+            return Err(self.array.store_failed(k));
+        }
+        self.array.note_recorded(k);
+        Ok(())
+    }
+}
+
+impl Array {
+    // Member k's superblock is stored as it is kept.
+    fn note_recorded(&mut self, k: usize)
+        requires { k < length self.old.members }
+        ensures { (m : MemberView) → IsMember self.old k m → self.new ≡ record self.old { members = set self.old.members k (record m { due = false }) } }
+    {
+        let member = &mut self.members[k];
+        member.due = false;
+    }
+}
+
+// Writes a member's superblock on its device.
+fn store_superblock<D: Device>(
+    device: &mut D,
+    array: &Array,
+    member: &Member,
+) -> Result<(), WriteFault>
+    requires { 16 ≤ sectors_of (D.content device.old) }
+    ensures writes { MakesWrites D.content D.honest D.failures (super_write array.now member.now ∷ []) device.old device.new result }
+    ensures outside { SameOutside (512 * 8) (length (super_write array.now member.now).bytes) (D.content device.old) (D.content device.new) }
+    ensures readable { IsReadable (merged array.now.shared member.now.superblock) }
+{
+    let mut block = [0; 4096];
+    encode_member(&array.shared, &member.superblock, &mut block);
+    put(device, SUPER_SECTOR, &block)
+}
