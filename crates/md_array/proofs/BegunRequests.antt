@@ -1,5 +1,5 @@
 -- A request begins, as the model has it.
-use Rattle.std.proofs.Common.{◌≡◌, ℕ, ◌+◌, ◌-◌, ◌/◌, ◌%◌, ◌<◌, ◌≤◌, ◌↔◌, inl, inr, Bool, true, false, cond, not, ◌&&◌, ◌||◌, ◌==◌, eqb, nat_le, nat_lt, List, [], length, Option, Some, None, IsSome, refl, sym, ap, ◌∙◌, subst, arith, lt-ltb, eqb-true}
+use Rattle.std.proofs.Common.{slice_get, ◌≡◌, ℕ, ◌+◌, ◌-◌, ◌/◌, ◌%◌, ◌<◌, ◌≤◌, ◌↔◌, inl, inr, Bool, true, false, cond, not, ◌&&◌, ◌||◌, ◌==◌, eqb, nat_le, nat_lt, List, [], length, Option, Some, None, IsSome, refl, sym, ap, ◌∙◌, subst, arith, lt-ltb, eqb-true}
 use Rattle.std.proofs.lemmas.Option.{none-some, same_Some}
 use Rattle.std.proofs.lemmas.List.Sums.{count_by-le-length}
 use Rattle.md_model.specs.Sectors.{put}
@@ -21,6 +21,7 @@ use Rattle.md_array.specs.Consistency.{IsConsistent}
 use Rattle.md_array.specs.Events.{BeginHappens}
 use Rattle.md_array.specs.Requests.{AreInFlight, AreInside, IsPending, among, extent_of, lacks, request_of}
 use Rattle.md_array.specs.Worlds.{geometry_of, world_of, world_on}
+use Rattle.md_array.proofs.ReadAsKept.{IsSameArray, counted_like, unwritten_read}
 use Rattle.md_array.proofs.CountedAtBegin.{counted_is_consistent, counted_keeps_pending, marked_counted, range_counted, rises_as_told, same_if, world_counted}
 use Rattle.md_array.proofs.InFlight.{found_either, found_last, found_with_last, is_touched, none_touches}
 use Rattle.md_array.proofs.RemarkedWorlds.{remarked_is_consistent, same_mirror, world_remarked}
@@ -228,10 +229,18 @@ module _ (sector : ℕ) (bytes : List ℕ) (old new : MirrorView) (c : IsConsist
           (entered_in_flight old.disks (counted a) counted_consistent sector sectors new.array.marks range marked number r refl refl others same_number counted_fresh
           (subst (λ (x : InflightList Extent). (n : ℕ) (q : worlds.Request) → others n ≡ Some q → lookup x.entries n ≡ Some (record { start = q.start; sectors = q.sectors })) (sym same_requests) listed))
 
+    same_begun : IsSameArray a new.array
+    same_begun =
+        let like = (counted_like a full (has_to_rise a)).0 in
+        subst (IsSameArray a) (sym begins.array) (record { set_uuid = like.set_uuid; size = like.size; raid_disks = like.raid_disks; sectors = like.sectors; events = like.events })
+
     pub begin_happens : BeginHappens old new p
     begin_happens = subst (BeginHappens old new) (sym begins.pending) (λ honest others listed. record {
       in_flight = in_flight_after others listed;
       geometry = new_geometry others listed;
       step = step others listed;
       content = λ before next holds becomes. between_step (geometry_of a) (world_of old others) (Event.Begin number (request_of begun_request)) (world_of new (among begun_request others)) before next (step others listed) becomes holds;
+      sound = begun_is_consistent;
+      read = λ failed_at. unwritten_read old new failed_at begins.disks same_begun
+          (λ j m is. (counted_like a full (has_to_rise a)).1 j m (sym (ap (λ (x : ArrayView). slice_get x.members j) begins.array) ∙ is));
     })

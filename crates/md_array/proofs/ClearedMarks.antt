@@ -1,5 +1,5 @@
 -- A mark goes from memory, as the model has it.
-use Rattle.std.proofs.Common.{◌≡◌, ℕ, ◌+◌, ◌-◌, ◌*◌, ◌/◌, ◌<◌, ◌≤◌, inl, inr, Bool, true, false, cond, not, ◌&&◌, ◌==◌, nat_lt, true≢false, Option, Some, min, refl, sym, ap, ◌∙◌, subst, arith, lt-ltb}
+use Rattle.std.proofs.Common.{slice_get, ◌≡◌, ℕ, ◌+◌, ◌-◌, ◌*◌, ◌/◌, ◌<◌, ◌≤◌, inl, inr, Bool, true, false, cond, not, ◌&&◌, ◌==◌, nat_lt, true≢false, Option, Some, min, refl, sym, ap, ◌∙◌, subst, arith, lt-ltb}
 use Rattle.std.proofs.Math.Nat.{add-mul, div-mul-le_self, lt-div-mul-add}
 use Rattle.std.proofs.lemmas.Bool.{cases_lt}
 use Rattle.md_model.specs.Worlds as worlds
@@ -13,6 +13,7 @@ use Rattle.md_array.specs.Consistency.{IsConsistent}
 use Rattle.md_array.specs.Events.{Happens}
 use Rattle.md_array.specs.Requests.{AreInFlight, IsPending}
 use Rattle.md_array.specs.Worlds.{geometry_of, world_of}
+use Rattle.md_array.proofs.ReadAsKept.{same_array, same_member, unwritten_read}
 use Rattle.md_array.proofs.InFlight.{is_touched, none_touches}
 use Rattle.md_array.proofs.RemarkedWorlds.{remarked, remarked_is_consistent, same_mirror, world_remarked}
 use Rattle.md_array.proofs.WorldsRisen.{full_when_not_degraded}
@@ -107,4 +108,8 @@ module _ (chunk : ℕ) (old new : MirrorView) (c : IsConsistent old) (clears : C
     geometry = ap geometry_of clears.array;
     step = step requests listed;
     content = λ before next holds becomes. between_step (geometry_of a) (world_of old requests) (Event.ClearIdle chunk) (world_of new requests) before next (step requests listed) becomes holds;
+    sound = cleared_is_consistent;
+    read = λ failed_at. unwritten_read old new failed_at clears.disks
+        (same_array a new.array (ap (λ (x : ArrayView). x.shared) clears.array) (ap (λ (x : ArrayView). x.chunks) clears.array))
+        (λ j m is. (m, sym (ap (λ (x : ArrayView). slice_get x.members j) clears.array) ∙ is, same_member m));
   }

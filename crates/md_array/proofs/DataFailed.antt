@@ -1,5 +1,5 @@
 -- A write of a request's bytes to a member fails: that is the model's event, whatever it left of their sectors.
-use Rattle.std.proofs.Common.{◌≡◌, ℕ, ◌+◌, ◌*◌, Option, sym, ap, ◌∙◌, subst}
+use Rattle.std.proofs.Common.{◌≡◌, ℕ, ◌+◌, ◌*◌, Option, refl, sym, ap, ◌∙◌, subst}
 use Rattle.md_device.specs.Splice.{SameOutside}
 use Rattle.md_model.specs.Devices.{Stored}
 use Rattle.md_model.specs.Worlds.{Request}
@@ -16,7 +16,8 @@ use Rattle.md_array.specs.Worlds.{stored_of, world_of, world_on}
 use Rattle.md_array.proofs.DataWritten.{may_write}
 use Rattle.md_array.proofs.InFlight.{among_in_flight, inside_of, not_touched, whole_of}
 use Rattle.md_array.proofs.OneMember.{stored_there}
-use Rattle.md_array.proofs.PartsApart.{data_alone, data_elsewhere, parts_of}
+use Rattle.md_array.proofs.PartsApart.{block_beside_data, data_alone, data_elsewhere, log_beside_data, parts_of}
+use Rattle.md_array.proofs.ReadAsKept.{own_stays}
 use Rattle.md_array.proofs.WorldsFailed.{IsThere, does_failing, left, member_fails, there_is}
 use Rattle.md_array.proofs.WorldsStates.{in_sync_recorded}
 
@@ -60,4 +61,12 @@ module _ (k : ℕ) (old new : MirrorView) (p q : PendingView) (c : IsConsistent 
       let fails = member_fails k w old new c f.fails m at requests (in_sync_recorded m.state f.may.intent.in_sync.in_sync) in
       subst (λ (x : PendingView). Does old requests e new (among x others)) (sym f.pending)
       (does_failing k w old new c f.fails m at requests e (among_in_flight a p pending others in_flight)
-      (f.may.intent.running, (left k w old new c f.fails m at requests, request_of p, may_write k old p c pending m f.may others, left_by_data others t, fails)))
+      (f.may.intent.running, (left k w old new c f.fails m at requests, request_of p, may_write k old p c pending m f.may others, left_by_data others t, fails))
+      (λ _. refl)
+      (λ d e was is.
+      let parts = parts_of old c k d m was at in
+      let inside = inside_of old p c pending in
+      let outside = subst (λ (n : ℕ). SameOutside (512 * w.sector) n d.content e.content) (whole_of a p pending) (f.fails.disks.tried.outside d e was is) in
+      own_stays a.shared m.superblock d.content e.content
+      (block_beside_data a m d.content e.content parts p.sector (request_sectors p) inside outside)
+      (log_beside_data a m d.content e.content parts p.sector (request_sectors p) inside outside)))

@@ -25,6 +25,7 @@ use Rattle.md_array.specs.Worlds.{geometry_of, stored_of, super_in, world_of}
 use Rattle.md_array.proofs.InFlight.{among_in_flight, inside_of, is_touched, not_touched, whole_of}
 use Rattle.md_array.proofs.OneMember.{ChangesMember, changed_is_consistent, changed_world, member_there, stored_there}
 use Rattle.md_array.proofs.PartsApart.{HasParts, block_beside_data, data_alone, data_elsewhere, parts_of}
+use Rattle.md_array.proofs.ReadAsKept.{changed_read, read_beside_data}
 use Rattle.md_array.proofs.WorldsInSync.{in_sync_is, in_sync_there, number_at}
 use Rattle.md_array.proofs.WorldsLists.{got_within, one_fewer, set_itself}
 use Rattle.md_array.proofs.WorldsTests.{and_is}
@@ -241,4 +242,6 @@ module _ (k : ℕ) (old new : MirrorView) (p q : PendingView) (c : IsConsistent 
         geometry = ap geometry_of t.array;
         step = happens;
         content = λ x y holds becomes. between_step (geometry_of a) (world_of old (among p others)) (Event.WriteMember p.ticket.number k) (world_of new (among q others)) x y happens becomes holds;
+        sound = written_is_consistent;
+        read = λ failed_at. changed_read k m m (data_write m p) old new failed_at changes (λ d' e' was is. read_beside_data a m d'.content e'.content (parts d' was) p.sector n inside (outside d' e' was is) failed_at);
       }

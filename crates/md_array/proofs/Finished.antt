@@ -1,5 +1,5 @@
 -- A request that is finished leaves the list of those in flight, and nothing else changes: that is the model's event.
-use Rattle.std.proofs.Common.{◌≡◌, ◌≢◌, ℕ, true, false, not, ◌==◌, List, Option, Some, None, refl, sym, ap, ◌∙◌, subst}
+use Rattle.std.proofs.Common.{slice_get, ◌≡◌, ◌≢◌, ℕ, true, false, not, ◌==◌, List, Option, Some, None, refl, sym, ap, ◌∙◌, subst}
 use Rattle.std.proofs.lemmas.Bool.{eqb-true, ne_eqb}
 use Rattle.std.proofs.lemmas.Map.Entries.{lookup-filter-keys}
 use Rattle.md_inflight.specs.Inflight.{InflightList, lookup, without}
@@ -18,6 +18,7 @@ use Rattle.md_array.specs.Events.{FinishHappens}
 use Rattle.md_array.specs.Finishing.{Finishes}
 use Rattle.md_array.specs.Requests.{AreInFlight, AreInside, IsPending, among, request_of}
 use Rattle.md_array.specs.Worlds.{geometry_of, world_of, world_on}
+use Rattle.md_array.proofs.ReadAsKept.{same_array, same_member, unwritten_read}
 use Rattle.md_array.proofs.WorldsInSync.{in_sync_is, number_at}
 use Rattle.md_array.proofs.WorldsShown.{at_is}
 
@@ -112,12 +113,16 @@ module _ (old new : MirrorView) (p : PendingView) (f : Finishes old new p) where
     step : Step (geometry_of old.array) before (Event.Finish n) (world_of new (put n None others))
     step = (f.may.running, (request_of p, may_finish, λ i. record (world_on (f.disks i) (f.array i) others) { request = λ m. sym (put-twice n None (Some (request_of p)) others m) i }))
 
-  pub finish_happens : IsPending old.array p → FinishHappens old new p
-  finish_happens pending honest others in_flight =
+  pub finish_happens : IsConsistent old → IsPending old.array p → FinishHappens old new p
+  finish_happens c pending honest others in_flight =
       let s = step pending others in_flight in
       record {
         in_flight = still_in_flight pending others in_flight;
         geometry = ap geometry_of f.array;
         step = s;
         content = λ a b holds becomes. between_step (geometry_of old.array) (world_of old (among p others)) (Event.Finish p.ticket.number) (world_of new (put p.ticket.number None others)) a b s becomes holds;
+        sound = finished_is_consistent c;
+        read = λ failed_at. unwritten_read old new failed_at f.disks
+            (same_array old.array new.array (ap (λ (x : ArrayView). x.shared) f.array) (ap (λ (x : ArrayView). x.chunks) f.array))
+            (λ j m is. (m, sym (ap (λ (x : ArrayView). slice_get x.members j) f.array) ∙ is, same_member m));
       }

@@ -9,7 +9,7 @@ use Rattle.md_array.specs.View.{ArrayView, MemberView, PendingView}
 use Rattle.md_array.specs.Members.{AllInSync, IsFirstInSyncWithout, IsInSync}
 use Rattle.md_array.specs.Finishing.{HasBytesOf}
 use Rattle.md_array.specs.Requests.{has_written, lacks}
-use Rattle.md_array.specs.WritingMember.{IsRecorded}
+use Rattle.md_array.specs.WritingMember.{IsNotDue}
 
 not_false : (b : Bool) → not b ≡ false → b ≡ true
 not_false true e = refl
@@ -84,11 +84,11 @@ module _ (a : ArrayView) (lacks : MemberView → Bool) (Holds : MemberView → T
   ]
 
 -- a superblock that has to be stored
-pub all_recorded : (a : ArrayView) → position (λ m. is_in_sync m.state && m.due) a.members ≡ None → AllInSync a IsRecorded
-all_recorded a = none_lacks a (λ m. m.due) IsRecorded (λ m _ kept. kept)
+pub all_recorded : (a : ArrayView) → position (λ m. is_in_sync m.state && m.due) a.members ≡ None → AllInSync a IsNotDue
+all_recorded a = none_lacks a (λ m. m.due) IsNotDue (λ m _ kept. kept)
 
-pub first_to_record : (a : ArrayView) (j : ℕ) → position (λ m. is_in_sync m.state && m.due) a.members ≡ Some j → IsFirstInSyncWithout a IsRecorded j
-first_to_record a j found = first_lacks a (λ m. m.due) IsRecorded (λ m _ kept. kept) (λ m due kept. cc) j found
+pub first_to_record : (a : ArrayView) (j : ℕ) → position (λ m. is_in_sync m.state && m.due) a.members ≡ Some j → IsFirstInSyncWithout a IsNotDue j
+first_to_record a j found = first_lacks a (λ m. m.due) IsNotDue (λ m _ kept. kept) (λ m due kept. cc) j found
 
 -- a request's bytes
 pub all_reached : (a : ArrayView) (p : PendingView) → position (lacks p) a.members ≡ None → AllInSync a (HasBytesOf p)

@@ -7,6 +7,7 @@ pub mod BlockCopied
 pub mod ClearedMarks
 pub mod Clearing
 pub mod Consistent
+pub mod ContentRuns
 pub mod CountedAtBegin
 pub mod Counting
 pub mod DataFailed
@@ -25,6 +26,7 @@ pub mod MarksFailed
 pub mod MarksStored
 pub mod MembersAt
 pub mod MembersRead
+pub mod MirrorContents
 pub mod MirrorLives
 pub mod MirrorRuns
 pub mod OneMember
@@ -34,8 +36,10 @@ pub mod OwnFields
 pub mod PartsApart
 pub mod Profiles
 pub mod Raised
+pub mod ReadAsKept
 pub mod RemarkedWorlds
 pub mod Remembered
+pub mod Reopened
 pub mod Replaced
 pub mod RequestChunks
 pub mod RequestEntered

@@ -5,6 +5,7 @@ use Rattle.std.proofs.lemmas.Option.{slice_get_within}
 use Rattle.md_device.specs.Splice.{SameOutside}
 use Rattle.md_device.specs.Device.{written}
 use Rattle.md_device.proofs.Splices.{length-part, length-spliced, part-spliced}
+use Rattle.md_format.specs.Fields.{number_at}
 use Rattle.md_bitmap.specs.declared.header.BitmapHeader.{BitmapHeader}
 use Rattle.md_bitmap.specs.Header.{IsHeader, header_bytes}
 use Rattle.md_bitmap.specs.Marks.{Bitmap, is_set}
@@ -21,16 +22,18 @@ use Rattle.md_model.specs.Steps.{bits_after, marked_device, marks_stored}
 use Rattle.md_model.specs.Events.{Event, Step}
 use Rattle.md_model.proofs.Between.{between_step}
 use Rattle.md_model.proofs.Cases.{by_test}
-use Rattle.md_model.proofs.Puts.{put-at, put-self}
+use Rattle.md_model.proofs.Puts.{by_same, put-at, put-self}
 use Rattle.md_array.specs.View.{ArrayView, Disk, MemberView, MirrorView, PendingView}
 use Rattle.md_array.specs.Members.{is_recorded}
 use Rattle.md_array.specs.Consistency.{HasPlaces, HasSuper, IsConsistent}
 use Rattle.md_array.specs.StoringMarks.{StoresMarkSector}
+use Rattle.md_array.specs.ReadAsKept.{HasWidth, IsReadAsKept}
 use Rattle.md_array.specs.Requests.{IsPending}
 use Rattle.md_array.specs.Events.{Happens}
 use Rattle.md_array.specs.Worlds.{block_on, from_super, geometry_of, header_on, kind_of, stored_of, super_in, world_of}
 use Rattle.md_array.proofs.OneMember.{ChangesMember, changed_in_flight, changed_is_consistent, changed_is_pending, changed_world, member_there, stored_there}
-use Rattle.md_array.proofs.PartsApart.{HasParts, bits_elsewhere, block_beside_marks, events_elsewhere, fits_elsewhere, marks_alone, parts_of}
+use Rattle.md_array.proofs.PartsApart.{HasParts, bits_elsewhere, block_beside_marks, events_elsewhere, fits_elsewhere, header_elsewhere, log_beside_marks, marks_alone, parts_of}
+use Rattle.md_array.proofs.ReadAsKept.{changed_read, stays}
 use Rattle.md_array.proofs.WorldsDevice.{fits_on}
 use Rattle.md_array.proofs.WorldsLists.{got_within}
 use Rattle.md_array.proofs.WorldsMember.{header_fits_there}
@@ -238,6 +241,18 @@ module _ (k block : ℕ) (old new : MirrorView) (is : IsConsistent old) (low : b
         let in_sync = ap model.is_in_sync (member_there a k m model.State.Faulty (λ x. kind_of x.state) r.may.in_sync.member) ∙ same_in_sync m.state ∙ r.may.in_sync.in_sync in
         (r.may.running, (in_sync, world_marked))
 
+    -- the header keeps its chunk size
+    width_marked : HasWidth a.chunks.sectors m.superblock d.content → HasWidth a.chunks.sectors m.superblock e.content
+    width_marked was = by_same block 0
+        (λ first. ap (λ (x : ℕ). x / 512) (sym (header_there first).chunksize ∙ r.may.write.header_is.chunksize) ∙ is.chunks.member_width k m r.may.in_sync.member)
+        (λ other. ap (λ (x : List ℕ). number_at 4 52 x / 512) (header_elsewhere a m d.content e.content (has d e before after) block low_of_member (outside d e before after) other) ∙ was)
+
+    read_marked : (failed_at : ℕ) → IsReadAsKept a m failed_at d.content → IsReadAsKept a m failed_at e.content
+    read_marked failed_at = stays a m failed_at d.content e.content
+        (same_block d e before after)
+        (log_beside_marks a m d.content e.content (has d e before after) block low_of_member (outside d e before after))
+        width_marked
+
   pub store_marks_happens : Happens old (Event.StoreMarks k block) new
   store_marks_happens honest requests in_flight =
       let within = slice_get_within a.members k m r.may.in_sync.member in
@@ -251,4 +266,6 @@ module _ (k block : ℕ) (old new : MirrorView) (is : IsConsistent old) (low : b
         geometry = ap geometry_of r.array;
         step = happens;
         content = λ x y holds becomes. between_step (geometry_of a) (world_of old requests) (Event.StoreMarks k block) (world_of new requests) x y happens becomes holds;
+        sound = marks_stored_is_consistent;
+        read = λ failed_at. changed_read k m n r.write old new failed_at changes (λ d' e' before after. read_marked d' e' before after (honest k d' before) requests failed_at);
       }

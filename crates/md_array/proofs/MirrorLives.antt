@@ -11,13 +11,14 @@ use Rattle.md_model.specs.Lives.{Always, IsCovered, Reopens}
 use Rattle.md_model.specs.Openings as openings
 use Rattle.md_model.specs.Runs as runs
 use Rattle.md_model.specs.Stops as stops
-use Rattle.md_model.specs.Worlds as worlds
 use Rattle.md_model.proofs.Cases.{by_option}
 use Rattle.md_model.proofs.OpeningCovers.{slot_of}
 use Rattle.md_model.proofs.Lives.{always_covered, always_out, always_safe, always_stays_out}
 use Rattle.md_array.specs.View.{ArrayView, Disk, MemberView, MirrorView}
+use Rattle.md_array.specs.Consistency.{IsConsistent}
 use Rattle.md_array.specs.Members.{IsMember}
-use Rattle.md_array.specs.Lives.{AtEachMoment, IsLeft, IsReopened, IsTorn, MirrorLife, read_of}
+use Rattle.md_array.specs.Lives.{AtEachMoment, IsLeft, IsReopened, IsTorn, MirrorLife}
+use Rattle.md_array.specs.ReadAsKept.{AreReadAsKept}
 use Rattle.md_array.specs.Requests.{among, request_of, request_sectors}
 use Rattle.md_array.specs.Runs.{MirrorRun, Moment, history_of, opened_as, then_as}
 use Rattle.md_array.specs.Worlds.{geometry_of, none_in_flight, nothing_stored, stored_on, super_of, world_of}
@@ -26,12 +27,14 @@ use Rattle.md_array.proofs.InFlight.{inside_of, not_touched, whole_of}
 use Rattle.md_array.proofs.MirrorRuns.{model_run, starts}
 use Rattle.md_array.proofs.OneMember.{stored_there}
 use Rattle.md_array.proofs.PartsApart.{data_alone, data_elsewhere, parts_of}
+use Rattle.md_array.proofs.Consistent.{consistent}
+use Rattle.md_array.proofs.Reopened.{read_alike, read_of, run_keeps, same_geometry}
 use Rattle.md_array.proofs.WorldsLists.{got_within}
-use Rattle.md_array.proofs.WorldsOpenedFrom.{opened_from}
+use Rattle.md_array.proofs.WorldsOpenedFrom.{opened_from, opened_read}
 use Rattle.md_array.proofs.WorldsShown.{by_member, stored_is}
 
 -- ---- what a stop leaves is what the model's stop leaves
-module _ (t : Moment) (left : List Disk) (torn : IsTorn t left) where
+module _ (t : Moment) (sound : IsConsistent t.mirror) (left : List Disk) (torn : IsTorn t left) where
   abbrev a : ArrayView
   a = t.mirror.array
 
@@ -47,13 +50,13 @@ module _ (t : Moment) (left : List Disk) (torn : IsTorn t left) where
   torn_cut : stops.IsTorn (geometry_of a) (world_of t.mirror (among torn.request torn.others)) (read_of t.mirror left)
   torn_cut =
       let low = slice_get_within a.members k m is_member in
-      let as_many = torn.sound.fits.as_many in
+      let as_many = sound.fits.as_many in
       let many = torn.tried.as_many in
       let d = got_within t.mirror.disks k (omega arith) in
       let e = got_within left k (omega arith) in
-      let parts = parts_of t.mirror torn.sound k d.0 m d.1 is_member in
+      let parts = parts_of t.mirror sound k d.0 m d.1 is_member in
       let n = request_sectors torn.request in
-      let inside = inside_of t.mirror torn.request torn.sound torn.pending in
+      let inside = inside_of t.mirror torn.request sound torn.pending in
       let same = subst (λ (x : ℕ). SameOutside (512 * (m.superblock.data_offset + torn.request.sector)) x d.0.content e.0.content) (whole_of a torn.request torn.pending) (torn.tried.outside d.0 e.0 d.1 e.1) in
       let was = stored_there t.mirror.disks a k m d.0 is_member d.1 in
       let is = stored_is a (slice_get a.members k) (slice_get left k) m e.0 is_member e.1 in
@@ -61,7 +64,7 @@ module _ (t : Moment) (left : List Disk) (torn : IsTorn t left) where
         number = torn.request.ticket.number;
         request = request_of torn.request;
         on = k;
-        let_through = may_write k t.mirror torn.request torn.sound torn.pending m torn.may torn.others;
+        let_through = may_write k t.mirror torn.request sound torn.pending m torn.may torn.others;
         others = λ j apart. ap (stored_on a (slice_get a.members j)) (torn.tried.others j apart);
         rest = is ∙ data_alone a m d.0.content e.0.content parts torn.request.sector n inside same
             ∙ (λ i. record (sym was i) { content = ap (λ (x : Stored). x.content) (sym is) i });
@@ -70,12 +73,12 @@ module _ (t : Moment) (left : List Disk) (torn : IsTorn t left) where
             ∙ sym (ap (λ (x : Stored). x.content s) was);
       }
 
-is_cut : (t : Moment) (left : List Disk) → IsLeft t left → stops.IsCut (geometry_of t.mirror.array) (history_of t).now (read_of t.mirror left)
-is_cut t left (inl same) = inl (ap (read_of t.mirror) same)
-is_cut t left (inr torn) = inr (subst (λ r. stops.IsTorn (geometry_of t.mirror.array) (world_of t.mirror r) (read_of t.mirror left)) (sym torn.in_flight) (torn_cut t left torn))
+is_cut : (t : Moment) (left : List Disk) → IsConsistent t.mirror → IsLeft t left → stops.IsCut (geometry_of t.mirror.array) (history_of t).now (read_of t.mirror left)
+is_cut t left sound (inl same) = inl (ap (read_of t.mirror) same)
+is_cut t left sound (inr torn) = inr (subst (λ r. stops.IsTorn (geometry_of t.mirror.array) (world_of t.mirror r) (read_of t.mirror left)) (sym torn.in_flight) (torn_cut t sound left torn))
 
 -- ---- the next opening is one of the model
-module _ (opened : MirrorView) (t : Moment) (next : MirrorView) (r : IsReopened opened t next) where
+module _ (opened : MirrorView) (t : Moment) (sound : IsConsistent t.mirror) (are : AreReadAsKept t.mirror t.failed_at) (next : MirrorView) (r : IsReopened opened t next) where
   abbrev g : Geometry
   g = geometry_of t.mirror.array
 
@@ -95,14 +98,14 @@ module _ (opened : MirrorView) (t : Moment) (next : MirrorView) (r : IsReopened 
   are_left : stops.IsLeft g (history_of t).now made_of
   are_left = (
     read_of t.mirror r.left,
-    is_cut t r.left r.is_left,
+    is_cut t r.left sound r.is_left,
     λ k. by_option (r.at k)
         (λ gone. inr (ap (λ (x : Stored). x.super) (at_none k gone)))
-        (λ j is. inl (subst (stops.IsHalfOpened (read_of t.mirror r.left k)) (sym (at_some k j is)) (r.read_alike k j is))),
+        (λ j is. inl (subst (stops.IsHalfOpened g (read_of t.mirror r.left k)) (sym (at_some k j is)) (read_alike opened t sound are next r k j is))),
   )
 
   opens : openings.IsOpenedFrom g read (super_of next.array.shared) (world_of next none_in_flight)
-  opens = subst (λ x. openings.IsOpenedFrom x read (super_of next.array.shared) (world_of next none_in_flight)) r.geometry (opened_from r.before next r.honest r.opens)
+  opens = subst (λ x. openings.IsOpenedFrom x read (super_of next.array.shared) (world_of next none_in_flight)) (same_geometry opened t sound are next r) (opened_from r.before next r.honest r.opens)
 
   -- each member of it is one that was left
   as_read : (j : ℕ) → j < length next.array.members → made_of (r.from j) ≡ read j
@@ -136,33 +139,35 @@ module _ (opened : MirrorView) (t : Moment) (next : MirrorView) (r : IsReopened 
         ∙ sym (ap (λ x. is_marked x (chunk_of g s)) (as_read (opens.at j) (member_at j (slot_of g (super_of next.array.shared) (world_of next none_in_flight) opens.opened j on))));
   }
 
-  reopens : Reopens g (super_of opened.array.shared) (history_of t) (super_of next.array.shared) (world_of next none_in_flight)
+  pub reopens : Reopens g (super_of opened.array.shared) (history_of t) (super_of next.array.shared) (world_of next none_in_flight)
   reopens = record { left = made_of; is_left = are_left; fit = r.fit; opens = opens_again }
 
 -- ---- lives
-geometry_kept : (es : List Event) (t last : Moment) → MirrorRun t es last → geometry_of last.mirror.array ≡ geometry_of t.mirror.array
+pub geometry_kept : (es : List Event) (t last : Moment) → MirrorRun t es last → geometry_of last.mirror.array ≡ geometry_of t.mirror.array
 geometry_kept [] t last r = ap (λ (x : Moment). geometry_of x.mirror.array) r
 geometry_kept (e ∷ es) t last r = geometry_kept es (then_as t e r.0 r.1) last r.3 ∙ r.2.geometry
 
-model_life : (g : Geometry) (m : MirrorView) (es : List Event) (rest : List (List Event)) (final : MirrorView) (last : Moment) → geometry_of m.array ≡ g → MirrorLife m es rest final last
-    → lives.Life g (super_of m.array.shared) (world_of m none_in_flight) es rest (super_of final.array.shared) (history_of last)
-model_life g m es [] final last same life = (ap (λ (x : MirrorView). super_of x.array.shared) life.0, model_run g es (opened_as m) last same life.1)
-model_life g m es (more ∷ rest) final last same life =
+model_life : (g : Geometry) (m : MirrorView) (es : List Event) (rest : List (List Event)) (final : MirrorView) (last : Moment) → geometry_of m.array ≡ g → IsConsistent m → AreReadAsKept m 0
+    → MirrorLife m es rest final last → lives.Life g (super_of m.array.shared) (world_of m none_in_flight) es rest (super_of final.array.shared) (history_of last)
+model_life g m es [] final last same sound are life = (ap (λ (x : MirrorView). super_of x.array.shared) life.0, model_run g es (opened_as m) last same life.1)
+model_life g m es (more ∷ rest) final last same sound are life =
     let t = life.0 in
     let next = life.1 in
-    let kept = geometry_kept es (opened_as m) t life.2 ∙ same in (
+    let kept = geometry_kept es (opened_as m) t life.2 ∙ same in
+    let along = run_keeps es (opened_as m) t life.2 sound are in
+    let again = life.3 in (
       history_of t,
       super_of next.array.shared,
       world_of next none_in_flight,
       model_run g es (opened_as m) t same life.2,
-      subst (λ x. Reopens x (super_of m.array.shared) (history_of t) (super_of next.array.shared) (world_of next none_in_flight)) kept (reopens m t next life.3),
-      model_life g next more rest final last (life.3.geometry ∙ kept) life.4,
+      subst (λ x. Reopens x (super_of m.array.shared) (history_of t) (super_of next.array.shared) (world_of next none_in_flight)) kept (reopens m t along.0 along.1 next again),
+      model_life g next more rest final last (same_geometry m t along.0 along.1 next again ∙ kept) (consistent again.before next again.opens) (opened_read again.before next again.honest again.opens) life.4,
     )
 
 at_each : (P : Geometry → Super → runs.History → Type 0) → Always P → AtEachMoment P
 at_each P always before m start es rest final last life =
     always (geometry_of m.array) (super_of m.array.shared) (world_of m none_in_flight) (starts before m start) es rest (super_of final.array.shared) (history_of last)
-    (model_life (geometry_of m.array) m es rest final last refl life)
+    (model_life (geometry_of m.array) m es rest final last refl (consistent before m start.opened) (opened_read before m start.honest start.opened) life)
 
 pub life_covered : AtEachMoment IsCovered
 life_covered = at_each IsCovered always_covered

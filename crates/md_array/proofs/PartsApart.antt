@@ -7,6 +7,8 @@ use Rattle.std.proofs.lemmas.Int.{ints}
 use Rattle.md_device.specs.Splice.{part, SameOutside}
 use Rattle.md_device.proofs.Splices.{part_before, part_after}
 use Rattle.md_format.specs.Fields.{number_at}
+use Rattle.md_super.specs.declared.superblock.Superblock.{Superblock}
+use Rattle.md_super.specs.Log.{has_bad_block_log}
 use Rattle.md_bitmap.specs.Marks.{is_set}
 use Rattle.md_members.specs.declared.area.Area.{Area}
 use Rattle.md_members.specs.Areas.{BitmapIsPlaced, IsPlaced, IsApartFromLog, AreApart, bitmap_area, bitmap_sectors, data_area, log_area, super_area}
@@ -18,7 +20,7 @@ use Rattle.md_array.specs.View.{ArrayView, Disk, MemberView, MirrorView}
 use Rattle.md_array.specs.Members.{IsMember}
 use Rattle.md_array.specs.Consistency.{IsConsistent}
 use Rattle.md_array.specs.Worlds.{block_on, from_super, header_fits, header_on, stored_of, super_in}
-use Rattle.md_array.proofs.WorldsOutside.{LiesIn, apart_either_way, apart_from_part, bit_stays, block_stays, byte_stays, data_stays, header_stays, listed_stays, sector_at_is}
+use Rattle.md_array.proofs.WorldsOutside.{LiesIn, apart_either_way, apart_from_part, bit_stays, block_stays, byte_stays, data_stays, header_stays, listed_stays, log_stays, sector_at_is}
 use Rattle.md_array.proofs.WorldsTests.{and_same}
 use Rattle.md_array.proofs.WorldsWrites.{is_set-same, within_area}
 
@@ -38,6 +40,10 @@ parts_of v c k d m at_disk at_member =
       size = c.chunks.member_size k m at_member ∙ sym c.chunks.size;
       count = c.chunks.member_count k m at_member;
     }
+
+-- the log, where there is one, holds what it held
+abbrev pub IsLogKept : Superblock → List ℕ → List ℕ → Type 0
+IsLogKept v old new = has_bad_block_log v ≡ true → part new (512 * from_super v.bblog_offset) (512 * v.bblog_size) ≡ part old (512 * from_super v.bblog_offset) (512 * v.bblog_size)
 
 same_if : {A : Type 0} (b : Bool) (x y z : A) → (b ≡ true → x ≡ y) → cond b x z ≡ cond b y z
 same_if true x y z h = h refl
@@ -100,6 +106,9 @@ module _ (a : ArrayView) (m : MemberView) (old new : List ℕ) (has : HasParts a
         (nat_lt s a.chunks.size
         && listed_stays written start at old new same m.superblock (sectors_of old) has.placed.log h (m.superblock.data_offset + s) i)
 
+    log_kept : IsApartFromLog m.superblock written → IsLogKept m.superblock old new
+    log_kept h there = log_stays written start at old new same m.superblock (h there) (has.placed.log there).within.from
+
     bits_kept : AreApart bitmap written → is.bits ≡ was.bits
     bits_kept h = λ i c.
         and_same (nat_lt c a.marks.chunks) (is_set (drop (512 * first + 256) new) c) (is_set (drop (512 * first + 256) old) c)
@@ -123,6 +132,32 @@ module _ (a : ArrayView) (m : MemberView) (old new : List ℕ) (has : HasParts a
           bitmap_fits = header_fits a (header i);
         }
 
+    -- nor the log, nor the header of the bitmap
+    pub log_beside_super : IsLogKept m.superblock old new
+    log_beside_super = log_kept super_area 8 refl same (λ there. apart_either_way super_area (log_area m.superblock) (has.placed.log there).from_super)
+
+    pub header_beside_super : header_on new first ≡ header_on old first
+    header_beside_super = header_kept super_area 8 refl same (apart_either_way super_area bitmap has.bitmap.from_super)
+
+  -- ---- the bitmap is written
+  module _ (same : SameOutside (512 * first) (512 * width) old new) where
+    pub block_beside_bitmap : block_on new ≡ block_on old
+    block_beside_bitmap = block_kept bitmap first bitmap_first same has.bitmap.from_super
+
+    pub log_beside_bitmap : IsLogKept m.superblock old new
+    log_beside_bitmap = log_kept bitmap first bitmap_first same has.bitmap.from_log
+
+    -- no more than the bitmap changes
+    pub bitmap_alone : is ≡ record was { bits = is.bits; bitmap_events = is.bitmap_events; bitmap_fits = is.bitmap_fits }
+    bitmap_alone = λ i. record {
+      super = super_in (block_beside_bitmap i);
+      content = content_kept bitmap first bitmap_first same has.bitmap.from_data i;
+      listed = listed_kept bitmap first bitmap_first same has.bitmap.from_log i;
+      bits = is.bits;
+      bitmap_events = is.bitmap_events;
+      bitmap_fits = is.bitmap_fits;
+    }
+
   -- ---- a sector of the bitmap is written
   module _ (block : ℕ) (low : block < width) (same : SameOutside (512 * (first + block)) 512 old new) where
     abbrev sector : Area
@@ -134,6 +169,9 @@ module _ (a : ArrayView) (m : MemberView) (old new : List ℕ) (has : HasParts a
     -- the superblock stays
     pub block_beside_marks : block_on new ≡ block_on old
     block_beside_marks = block_kept sector (first + block) refl same (apart_from_part super_area bitmap sector sector_lies has.bitmap.from_super)
+
+    pub log_beside_marks : IsLogKept m.superblock old new
+    log_beside_marks = log_kept sector (first + block) refl same (λ there. apart_from_part (log_area m.superblock) bitmap sector sector_lies (has.bitmap.from_log there))
 
     -- no more than the bitmap changes
     pub marks_alone : is ≡ record was { bits = is.bits; bitmap_events = is.bitmap_events; bitmap_fits = is.bitmap_fits }
@@ -174,17 +212,29 @@ module _ (a : ArrayView) (m : MemberView) (old new : List ℕ) (has : HasParts a
     pub block_beside_data : block_on new ≡ block_on old
     block_beside_data = block_kept sectors (m.superblock.data_offset + s) refl same (apart_from_part super_area (data_area m.superblock) sectors sectors_lie has.placed.data_apart)
 
+    from_bitmap : AreApart bitmap sectors
+    from_bitmap = apart_from_part bitmap (data_area m.superblock) sectors sectors_lie (apart_either_way (data_area m.superblock) bitmap has.bitmap.from_data)
+
+    from_log : IsApartFromLog m.superblock sectors
+    from_log there =
+        apart_from_part (log_area m.superblock) (data_area m.superblock) sectors sectors_lie
+        (apart_either_way (data_area m.superblock) (log_area m.superblock) (has.placed.log there).from_data)
+
+    pub log_beside_data : IsLogKept m.superblock old new
+    log_beside_data = log_kept sectors (m.superblock.data_offset + s) refl same from_log
+
+    pub header_beside_data : header_on new first ≡ header_on old first
+    header_beside_data = header_kept sectors (m.superblock.data_offset + s) refl same from_bitmap
+
     -- no more than the data changes
     pub data_alone : is ≡ record was { content = is.content }
     data_alone =
         let at = m.superblock.data_offset + s in
-        let from_bitmap : AreApart bitmap sectors = apart_from_part bitmap (data_area m.superblock) sectors sectors_lie (apart_either_way (data_area m.superblock) bitmap has.bitmap.from_data) in
-        let header = header_kept sectors at refl same from_bitmap in
+        let header = header_beside_data in
         λ i. record {
           super = super_in (block_beside_data i);
           content = is.content;
-          listed = listed_kept sectors at refl same (λ there. apart_from_part (log_area m.superblock) (data_area m.superblock) sectors sectors_lie
-              (apart_either_way (data_area m.superblock) (log_area m.superblock) (has.placed.log there).from_data)) i;
+          listed = listed_kept sectors at refl same from_log i;
           bits = bits_kept sectors at refl same from_bitmap i;
           bitmap_events = number_at 8 24 (header i);
           bitmap_fits = header_fits a (header i);

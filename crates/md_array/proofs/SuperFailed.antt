@@ -1,21 +1,25 @@
 -- A write of a superblock fails: where it left the old superblock, the new one or none, that is the model's event.
-use Rattle.std.proofs.Common.{◌≡◌, ℕ, ◌*◌, inl, inr, true, Some, Option, sym, ap, ◌∙◌, subst}
+use Rattle.std.proofs.Common.{◌≡◌, ℕ, ◌*◌, inl, inr, true, Some, slice_get, Option, refl, sym, ap, ◌∙◌, subst}
 use Rattle.std.proofs.lemmas.Option.{same_Some}
 use Rattle.md_device.specs.Splice.{SameOutside}
 use Rattle.md_model.specs.Devices.{Stored}
 use Rattle.md_model.specs.Worlds.{Request}
 use Rattle.md_model.specs.Failures.{LeftBySuper}
 use Rattle.md_model.specs.Events.{Event}
+use Rattle.md_model.proofs.Cases.{none_some}
 use Rattle.md_writes.specs.Writes.{Write}
-use Rattle.md_array.specs.View.{ArrayView, MemberView, MirrorView}
+use Rattle.md_array.specs.View.{ArrayView, Disk, MemberView, MirrorView}
 use Rattle.md_array.specs.Consistency.{IsConsistent}
 use Rattle.md_array.specs.Events.{HappensIfOldNewOrNone, IsOldNewOrNone}
+use Rattle.md_array.specs.ReadAsKept.{HasOwnSuper}
 use Rattle.md_array.specs.Recording.{FailsToRecord, super_write}
-use Rattle.md_array.specs.Worlds.{stored_of, super_in, world_of, world_on}
+use Rattle.md_array.specs.Worlds.{block_on, stored_of, super_in, super_of, world_of, world_on}
 use Rattle.md_array.proofs.OneMember.{stored_there}
-use Rattle.md_array.proofs.PartsApart.{parts_of, super_alone}
+use Rattle.md_array.proofs.PartsApart.{log_beside_super, parts_of, super_alone}
+use Rattle.md_array.proofs.ReadAsKept.{own_stays, own_written}
 use Rattle.md_array.proofs.SuperRecorded.{readable_super, super_is_for}
 use Rattle.md_array.proofs.WorldsFailed.{IsThere, does_failing, left, member_fails, there_is}
+use Rattle.md_array.proofs.WorldsSupers.{super_shown}
 
 module _ (k : ℕ) (old new : MirrorView) (c : IsConsistent old) (f : FailsToRecord k old new) where
   abbrev a : ArrayView
@@ -48,6 +52,21 @@ module _ (k : ℕ) (old new : MirrorView) (c : IsConsistent old) (f : FailsToRec
         ];
       }
 
+  -- a superblock that is read there is still the member's
+  own_left : (d e : Disk) → slice_get old.disks k ≡ Some d → slice_get new.disks k ≡ Some e → IsOldNewOrNone w.bytes d e
+      → HasOwnSuper a.shared m.superblock d.content → HasOwnSuper a.shared m.superblock e.content
+  own_left d e was is leaves has =
+      let outside : SameOutside (512 * 8) 4096 d.content e.content =
+      subst (λ (n : ℕ). SameOutside (512 * 8) n d.content e.content) f.may.readable.size (f.fails.disks.tried.outside d e was is) in
+      elim leaves [
+        | inl same ↦ own_stays a.shared m.superblock d.content e.content same (log_beside_super a m d.content e.content (parts_of old c k d m was f.may.at) outside) has
+        | inr other ↦
+            elim other [
+              | inl next ↦ own_written a m e.content f.may.readable next
+              | inr none ↦ λ v on. absurd (none_some (super_of v) (sym none ∙ super_shown (block_on e.content) v on.fields on.sound))
+            ]
+      ]
+
   pub record_fails_happens : HappensIfOldNewOrNone k old new
   record_fails_happens n at leaves honest requests in_flight =
       let t = there_is old k m w new.disks c f.may.at f.fails.disks.tried in
@@ -56,3 +75,5 @@ module _ (k : ℕ) (old new : MirrorView) (c : IsConsistent old) (f : FailsToRec
       let by_super = left_by_super requests t (honest k t.old t.was) whole in
       does_failing k w old new c f.fails m f.may.at requests (Event.RecordFails k) in_flight
       (f.may.running, (left k w old new c f.fails m f.may.at requests, by_super, member_fails k w old new c f.fails m f.may.at requests f.may.active))
+      (λ _. refl)
+      (λ d e was is. own_left d e was is (subst (λ (x : MemberView). IsOldNewOrNone (super_write a x).bytes d e) same (leaves d e was is)))

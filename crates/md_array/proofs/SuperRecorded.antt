@@ -1,8 +1,9 @@
 -- A member's superblock that is stored is the model's event, and the mirror stays consistent.
-use Rattle.std.proofs.Common.{◌≡◌, ℕ, ◌*◌, Bool, true, false, ◌&&◌, nat_lt, List, slice_get, Option, Some, refl, sym, ap, ◌∙◌, subst, arith}
+use Rattle.std.proofs.Common.{◌≡◌, ℕ, ◌*◌, ◌/◌, inl, inr, Bool, true, false, true≢false, ◌&&◌, nat_lt, List, slice_get, Option, Some, refl, sym, ap, ◌∙◌, subst, arith}
 use Rattle.std.proofs.lemmas.Option.{slice_get_within}
 use Rattle.md_device.specs.Splice.{SameOutside}
 use Rattle.md_device.proofs.Splices.{part-spliced}
+use Rattle.md_format.specs.Fields.{number_at}
 use Rattle.md_super.specs.declared.superblock.Superblock.{Superblock}
 use Rattle.md_super.specs.Merge.{merged}
 use Rattle.md_bitmap.specs.Marks.{is_set}
@@ -18,12 +19,14 @@ use Rattle.md_model.proofs.Puts.{put-self}
 use Rattle.md_array.specs.View.{ArrayView, Disk, MemberView, MirrorView, PendingView}
 use Rattle.md_array.specs.Members.{is_recorded}
 use Rattle.md_array.specs.Consistency.{HasPlaces, HasSuper, IsConsistent}
+use Rattle.md_array.specs.ReadAsKept.{IsReadAsKept}
 use Rattle.md_array.specs.Recording.{IsReadable, Records, super_write}
 use Rattle.md_array.specs.Requests.{IsPending}
 use Rattle.md_array.specs.Events.{Happens}
 use Rattle.md_array.specs.Worlds.{block_on, geometry_of, kind_of, stored_of, super_in, super_of, world_of, world_on}
 use Rattle.md_array.proofs.OneMember.{ChangesMember, changed_in_flight, changed_is_consistent, changed_is_pending, changed_world, member_there, stored_there}
-use Rattle.md_array.proofs.PartsApart.{parts_of, super_alone}
+use Rattle.md_array.proofs.PartsApart.{header_beside_super, parts_of, super_alone}
+use Rattle.md_array.proofs.ReadAsKept.{changed_read, own_written}
 use Rattle.md_array.proofs.WorldsLists.{got_within}
 use Rattle.md_array.proofs.WorldsStates.{same_recorded}
 use Rattle.md_array.proofs.WorldsSupers.{super_shown}
@@ -99,6 +102,18 @@ module _ (k : ℕ) (old new : MirrorView) (is : IsConsistent old) (r : Records k
   pub recorded_is_pending : (p : PendingView) → IsPending old.array p → IsPending new.array p
   recorded_is_pending = changed_is_pending k m n (super_write a m) old new changes
 
+  read_recorded : (failed_at : ℕ) → (d e : Disk) → slice_get old.disks k ≡ Some d → slice_get new.disks k ≡ Some e → d.honest ≡ true → IsReadAsKept a m failed_at d.content → IsReadAsKept a m failed_at e.content
+  read_recorded failed_at d e before after honest was =
+      let outside : SameOutside (512 * 8) 4096 d.content e.content =
+      subst (λ (x : ℕ). SameOutside (512 * 8) x d.content e.content) r.may.readable.size (r.disks.tried.outside d e before after) in
+      record {
+        super = own_written a m e.content r.may.readable (on_disk d e before after honest);
+        header = elim was.header [
+          | inl width ↦ inl (ap (λ (h : List ℕ). number_at 4 52 h / 512) (header_beside_super a m d.content e.content (parts_of old is k d m before r.may.at) outside) ∙ width)
+          | inr gone ↦ absurd (true≢false (sym r.may.active ∙ gone.0))
+        ];
+      }
+
   -- ---- the event
   module _ (d e : Disk) (before : slice_get old.disks k ≡ Some d) (after : slice_get new.disks k ≡ Some e) (honest : d.honest ≡ true) (requests : ℕ → Option Request) where
     abbrev w : World
@@ -141,4 +156,6 @@ module _ (k : ℕ) (old new : MirrorView) (is : IsConsistent old) (r : Records k
         geometry = ap geometry_of r.array;
         step = happens;
         content = λ x y holds becomes. between_step (geometry_of a) (world_of old requests) (Event.Record k) (world_of new requests) x y happens becomes holds;
+        sound = recorded_is_consistent;
+        read = λ failed_at. changed_read k m n (super_write a m) old new failed_at changes (λ d' e' before after. read_recorded failed_at d' e' before after (honest k d' before));
       }

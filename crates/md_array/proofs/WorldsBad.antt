@@ -11,7 +11,7 @@ use Rattle.md_members.specs.Members.{HasBadSet, reads_log}
 use Rattle.md_members.specs.Reading.{ReadsLog}
 use Rattle.md_array.specs.OwnFields.{kept_shift, stored_next}
 use Rattle.md_array.specs.Worlds.{from_super, is_listed, is_logged, lies_in, sector_at}
-use Rattle.md_model.proofs.Cases.{both}
+use Rattle.md_model.proofs.Cases.{both, by_test, never}
 use Rattle.md_array.proofs.OwnFields.{none_listed, some_listed}
 use Rattle.md_array.proofs.WorldsTests.{and_is}
 
@@ -53,6 +53,19 @@ logged_is content v bad sector r =
       (λ h. let p = named.0 h in and_is (nat_lt sector (2 ^ 54)) (lies_in runs sector) (lt-ltb sector (2 ^ 54) p.1) (test_from_bad runs sector p.0)),
     )
 
+-- the log of a member whose list was read, by the superblock that was read
+listed_as_read : (content : List ℕ) (v : Superblock) (bad : List Run) (sector : ℕ) → HasBadSet content true v bad → is_listed v content sector ≡ true ↔ IsBad bad sector
+unfolding is_listed
+listed_as_read content v bad sector (inl log) =
+    let logged = logged_is content v bad sector log.1 in (
+      (λ e. logged.0 (both (reads_log v) _ e).1),
+      (λ h. and_is (reads_log v) _ log.0 (logged.1 h)),
+    )
+listed_as_read content v bad sector (inr none) = (
+  (λ e. never (reads_log v) (both (reads_log v) _ e).0 none.0),
+  (λ h. absurd (subst (λ (runs : List Run). IsBad runs sector) none.1 h)),
+)
+
 -- the log of a member whose list was read, by the superblock that is kept
 pub listed_is_bad : (content : List ℕ) (v : Superblock) (bad : List Run) (sector : ℕ) → HasBadSet content true v bad → is_listed (stored_next bad v) content sector ≡ true ↔ IsBad bad sector
 unfolding is_listed
@@ -70,3 +83,12 @@ listed_is_bad content v (run ∷ runs) sector (inl log) =
       (λ h. and_is (reads_log (stored_next (run ∷ runs) v)) _ read (same ∙ logged.1 h)),
     )
 listed_is_bad content v (run ∷ runs) sector (inr none) = let empty = none.1 in absurd cc
+
+same_test : {P : Type 0} (a b : Bool) → (a ≡ true ↔ P) → (b ≡ true ↔ P) → a ≡ b
+same_test a b f g = by_test b
+    (λ is. f.1 (g.0 is) ∙ sym is)
+    (λ isnt. by_test a (λ is. absurd (true≢false (sym (g.1 (f.0 is)) ∙ isnt))) (λ neither. neither ∙ sym isnt))
+
+-- both list the same
+pub same_listed : (content : List ℕ) (v : Superblock) (bad : List Run) (sector : ℕ) → HasBadSet content true v bad → is_listed (stored_next bad v) content sector ≡ is_listed v content sector
+same_listed content v bad sector set = same_test _ _ (listed_is_bad content v bad sector set) (listed_as_read content v bad sector set)

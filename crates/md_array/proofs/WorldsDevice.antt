@@ -1,5 +1,5 @@
 -- The device of a member, before and after the opening.
-use Rattle.std.proofs.Common.{◌≡◌, ℕ, ◌+◌, ◌*◌, ◌/◌, ◌<◌, ◌≤◌, ◌⊎◌, inl, inr, true, false, nat_lt, length, drop, Some, ℤ, pos, ◌+ℤ◌, ◌≤ℤ◌, refl, sym, ap, ◌∙◌, subst, arith, add-mul, lt_of_mul-lt-mul_right, lt-ltb, ◌&&◌, ◌↔◌}
+use Rattle.std.proofs.Common.{◌≡◌, ℕ, ◌+◌, ◌*◌, ◌/◌, ◌<◌, ◌≤◌, ◌⊎◌, inl, inr, true, false, nat_lt, List, length, drop, Some, ℤ, pos, ◌+ℤ◌, ◌≤ℤ◌, refl, sym, ap, ◌∙◌, subst, arith, add-mul, lt_of_mul-lt-mul_right, lt-ltb, ◌&&◌, ◌↔◌}
 use Rattle.std.specs.Int.{div_ceil}
 use Rattle.std.proofs.lemmas.Bool.{cases_lt}
 use Rattle.std.proofs.lemmas.Grind.{div_ceil_times}
@@ -25,12 +25,16 @@ use Rattle.md_array.specs.View.{Disk, ArrayView, MemberView}
 use Rattle.md_array.specs.Members.{NeedsMarks, is_recorded}
 use Rattle.md_array.specs.DeviceChanges.{IsUnchanged}
 use Rattle.md_array.specs.Kept.{IsKept}
+use Rattle.md_array.specs.ReadAsKept.{HasOwnSuper, HasWidth, IsReadAsKept, chunk_size_on}
 use Rattle.md_array.specs.Storing.{StoresMarks}
 use Rattle.md_array.specs.OwnFields.{kept_superblock}
 use Rattle.md_writes.specs.Bitmaps.{bitmap_writes}
 use Rattle.md_writes.specs.Writes.{after}
 use Rattle.md_array.specs.Worlds.{block_on, from_super, is_listed, stored_of, super_in, super_of}
 use Rattle.md_array.proofs.OwnFields.{state_same, super_same}
+use Rattle.md_array.proofs.PartsApart.{HasParts, log_beside_bitmap}
+use Rattle.md_array.proofs.ReadAsKept.{own_stays, same_log}
+use Rattle.md_array.proofs.WorldsBad as bad
 use Rattle.md_array.proofs.WorldsBad.{listed_is_bad}
 use Rattle.md_array.proofs.WorldsMember.{Fits, accepted_there, by_need, by_accepted, fits_there}
 use Rattle.md_array.proofs.WorldsOutside.{block_stays, data_stays, listed_stays, starts_at}
@@ -48,6 +52,7 @@ pub record IsOpenedMember (a : ArrayView) (m : MemberView) (info : MemberInfo) (
   pub stored : NeedsMarks m → StoresMarks a m old new
   pub unchanged : (NeedsMarks m → ⊥) → IsUnchanged old new
   pub uuid : info.superblock.set_uuid ≡ a.shared.set_uuid
+  pub raid_disks : info.superblock.raid_disks ≡ a.shared.raid_disks
   pub size : info.superblock.size ≡ a.shared.size
   pub array_size : a.chunks.size ≡ a.shared.size
   pub width : a.chunks.sectors ≡ m.header.chunksize / 512
@@ -191,6 +196,7 @@ module _ (a : ArrayView) (m : MemberView) (info : MemberInfo) (old new : Disk) (
   record HasFitting : Type 0 where
     header : BitmapHeader
     fits : Fits a own header
+    chunk_size : header.chunksize ≡ m.header.chunksize
     holds : HoldsBitmap new.content start header m.stored
 
   accepted_fits : IsAccepted own m.header → Fits a own m.header
@@ -204,6 +210,7 @@ module _ (a : ArrayView) (m : MemberView) (info : MemberInfo) (old new : Disk) (
       record {
         header = m.header;
         fits = accepted_fits acc;
+        chunk_size = refl;
         holds = subst (λ content. HoldsBitmap content start m.header m.stored) (sym (o.unchanged none))
             (subst (HoldsBitmap old.content start m.header) (same_Some reads.stored m.stored same) (holds_read old.content own m.header reads.stored start reads.bitmap starts));
       })
@@ -218,6 +225,7 @@ module _ (a : ArrayView) (m : MemberView) (info : MemberInfo) (old new : Disk) (
       record {
         header = h;
         fits = record { uuid = is.uuid; size = is.sync_size; state = is.state; events = near h.events a.shared.events own.events is.events not_fresher_own late };
+        chunk_size = is.chunksize;
         holds = holds_written start h m.stored old.content new.content (length-header_bytes h uuid name) (reads_back h uuid name is.counts_fit is.settings_fit) fits
             (s.done o.honest ∙ ap (after old.content) (s.are.writes_are ∙ ap (λ (at : ℕ). bitmap_writes at h m.stored sectors) at));
       })
@@ -227,6 +235,45 @@ module _ (a : ArrayView) (m : MemberView) (info : MemberInfo) (old new : Disk) (
 
   pub bits_new : is_in_sync m.state ≡ true → (c : ℕ) → c < a.marks.chunks → is_set (drop (512 * start + 256) new.content) c ≡ is_set m.stored.bytes c
   bits_new in_sync c low = (fitting in_sync).holds.bits c (subst (λ n. c < n) o.count low)
+
+  -- ---- an opening would read what is kept
+  parts : HasParts a m old.content
+  parts = record { placed = placed; bitmap = bitmap_placed; size = sym size_is; count = sym o.count }
+
+  own_old : HasOwnSuper a.shared own old.content
+  own_old v on =
+      let info_on = block_spells old.content info.superblock o.read.superblock in
+      let spelled = on.fields in
+      let kept = o.kept.superblock in
+      record {
+        set_uuid = spelled.set_uuid ∙ sym info_on.set_uuid ∙ o.uuid;
+        size = spelled.size ∙ sym info_on.size ∙ o.size;
+        raid_disks = spelled.raid_disks ∙ sym info_on.raid_disks ∙ o.raid_disks;
+        data_offset = spelled.data_offset ∙ sym info_on.data_offset ∙ sym (ap (λ (x : Superblock). x.data_offset) kept);
+        bitmap_offset = spelled.bitmap_offset ∙ sym info_on.bitmap_offset ∙ sym (ap (λ (x : Superblock). x.bitmap_offset) kept);
+        bblog_size = spelled.bblog_size ∙ sym info_on.bblog_size ∙ sym (ap (λ (x : Superblock). x.bblog_size) kept);
+        bblog_offset = spelled.bblog_offset ∙ sym info_on.bblog_offset ∙ sym (ap (λ (x : Superblock). x.bblog_offset) kept);
+        listed = λ sector.
+            same_log v info.superblock old.content sector
+            (spelled.feature_map ∙ sym info_on.feature_map) (spelled.bblog_shift ∙ sym info_on.bblog_shift) (spelled.bblog_size ∙ sym info_on.bblog_size) (spelled.bblog_offset ∙ sym info_on.bblog_offset)
+            ∙ sym (bad.same_listed old.content info.superblock info.bad sector o.read.bad)
+            ∙ sym (ap (λ (x : Superblock). is_listed x old.content sector) kept);
+        no_newer = let same : v.events ≡ info.superblock.events = spelled.events ∙ sym info_on.events in let fresh = o.fresh in omega arith;
+      }
+
+  pub width_old : HasWidth a.chunks.sectors own old.content
+  width_old = ap (λ (n : ℕ). n / 512) (sym (header_there old.content own m.header start reads.bitmap.header starts).chunksize) ∙ sym o.width
+
+  width_new : HasWidth a.chunks.sectors own new.content
+  width_new = by_need m
+      (λ need. let f = fitting need.in_sync in ap (λ (n : ℕ). n / 512) (sym f.holds.header.chunksize ∙ f.chunk_size) ∙ sym o.width)
+      (λ none. ap (λ (content : List ℕ). chunk_size_on own content / 512) (o.unchanged none) ∙ width_old)
+
+  pub read_new : IsReadAsKept a m 0 new.content
+  read_new = record {
+    super = own_stays a.shared own old.content new.content same_block (log_beside_bitmap a m old.content new.content parts outside) own_old;
+    header = inl width_new;
+  }
 
   -- a bitmap that the world accepts before is accepted in memory
   accepted_before : is_accepted (stored_of a m old.content) ≡ true → IsAccepted own m.header

@@ -1,5 +1,5 @@
 -- A member that failed by a write is the model's failed one, whatever the write left of its device.
-use Rattle.std.proofs.Common.{◌≡◌, ℕ, ◌↔◌, Bool, true, not, List, slice_get, Some, Option, sym, ap, ◌∙◌, subst, arith}
+use Rattle.std.proofs.Common.{◌≡◌, ℕ, ◌+◌, ◌↔◌, Bool, true, not, List, slice_get, Some, Option, sym, ap, ◌∙◌, subst, arith}
 use Rattle.std.specs.List.{list_any, range_with_len}
 use Rattle.std.proofs.lemmas.List.{map-set}
 use Rattle.std.proofs.lemmas.Option.{same_Some, slice_get_within}
@@ -12,19 +12,22 @@ use Rattle.md_model.specs.Failures as failures
 use Rattle.md_model.specs.Failures.{MayFail}
 use Rattle.md_model.specs.Events as events
 use Rattle.md_model.specs.Events.{Event, Step}
+use Rattle.md_model.specs.Runs.{failed_after}
 use Rattle.md_model.proofs.Between.{between_step}
 use Rattle.md_writes.specs.Writes.{Write}
 use Rattle.md_array.specs.View.{ArrayView, Disk, MemberView, MirrorView}
 use Rattle.md_array.specs.Members.{IsMember, is_degraded, is_in_sync_as, is_recorded}
 use Rattle.md_array.specs.Consistency.{IsConsistent}
-use Rattle.md_array.specs.DiskWrites.{IsTried}
+use Rattle.md_array.specs.DiskWrites.{AtDevice, IsTried}
 use Rattle.md_array.specs.Events.{Does}
+use Rattle.md_array.specs.ReadAsKept.{AreReadAsKept, HasOwnSuper}
 use Rattle.md_array.specs.Requests.{AreInFlight}
 use Rattle.md_array.specs.Rising.{failed, made_due, made_faulty, risen, without}
 use Rattle.md_array.specs.Trying.{FailsWriting}
 use Rattle.md_array.specs.Worlds.{geometry_of, kind_of, world_of, world_on}
 use Rattle.md_array.proofs.AfterFailure.{failed_is_consistent}
 use Rattle.md_array.proofs.OneMember.{member_there}
+use Rattle.md_array.proofs.ReadAsKept.{failed_read}
 use Rattle.md_array.proofs.WorldsInSync.{in_sync_there}
 use Rattle.md_array.proofs.WorldsLists.{got_in_map, got_within}
 use Rattle.md_array.proofs.WorldsRisen.{full_as_told, same_degraded, world_risen}
@@ -101,10 +104,17 @@ module _ (k : ℕ) (w : Write) (old new : MirrorView) (is : IsConsistent old) (f
       member_fails = (full, may_fail, full_failed, world_failed)
 
     -- by such an event the mirror goes to its next world
-    pub does_failing : (e : Event) → AreInFlight a requests → Step (geometry_of a) before e (world_of new requests) → Does old requests e new requests
-    does_failing e in_flight step = record {
+    pub does_failing : (e : Event) → AreInFlight a requests → Step (geometry_of a) before e (world_of new requests)
+        → ((failed_at : ℕ) → failed_after e (world_of new requests) failed_at ≡ new.array.shared.events)
+        → AtDevice k old.disks new.disks (λ d n. HasOwnSuper a.shared m.superblock d.content → HasOwnSuper a.shared m.superblock n.content)
+        → Does old requests e new requests
+    does_failing e in_flight step after keeps = record {
       in_flight = subst (λ (x : ArrayView). AreInFlight x requests) (sym array_failed) in_flight;
       geometry = geometry_failed;
       step = step;
       content = λ x y holds becomes. between_step (geometry_of a) before e (world_of new requests) x y step becomes holds;
+      sound = failed_is_consistent k w old new is fails;
+      read = λ failed_at are. subst (AreReadAsKept new) (sym (after failed_at ∙ ap (λ (x : ArrayView). x.shared.events) array_failed))
+          (subst (λ (x : ArrayView). AreReadAsKept (record { disks = new.disks; array = x }) (a.shared.events + 1)) (sym array_failed)
+          (failed_read a k m w old.disks new.disks failed_at at fails.disks.tried keeps are));
     }

@@ -1,5 +1,5 @@
 -- What the opening changed: all marks are stored where the bitmap was not accepted, and all else is as it was.
-use Rattle.std.proofs.Common.{◌≡◌, ℕ, ◌+◌, ◌<◌, ◌≤◌, ◌↔◌, inl, inr, true, cond, ◌&&◌, nat_lt, List, [], length, slice_get, Some, sym, ap, ◌∙◌, arith, lt-ltb}
+use Rattle.std.proofs.Common.{◌≡◌, ℕ, ◌+◌, ◌<◌, ◌≤◌, ◌↔◌, inl, inr, true, cond, ◌&&◌, nat_lt, List, [], length, slice_get, Some, sym, ap, ◌∙◌, subst, arith, lt-ltb}
 use Rattle.std.proofs.lemmas.Option.{none-some, slice_get_past, slice_get_within}
 use Rattle.md_badblocks.specs.Runs.{IsBad}
 use Rattle.md_model.specs.Devices.{AgreeAt, Covered, Stored, Super, is_marked}
@@ -10,8 +10,10 @@ use Rattle.md_model.proofs.OpeningCovers.{accepted-bits}
 use Rattle.md_array.specs.View.{Disk, ArrayView, MemberView, MirrorView}
 use Rattle.md_array.specs.Members.{IsMember}
 use Rattle.md_array.specs.Opening.{IsOpenedFrom}
+use Rattle.md_array.specs.ReadAsKept.{AreReadAsKept, IsReadAsKept}
 use Rattle.md_array.specs.Worlds.{AreHonest, geometry_of, is_listed, nothing_stored, stored_of, stored_on, super_of, world_of, world_on, none_in_flight}
-use Rattle.md_array.proofs.WorldsDevice.{all_or_same, bad_is_listed, bits_new, chunk_of_sector, is_accepted_new, same_data, same_listed, super_old}
+use Rattle.md_array.proofs.WorldsDevice.{all_or_same, bad_is_listed, bits_new, chunk_of_sector, is_accepted_new, read_new, same_data, same_listed, super_old}
+use Rattle.md_array.proofs.WorldsLists.{got_same}
 use Rattle.md_array.proofs.WorldsOpened.{opened}
 use Rattle.md_array.proofs.WorldsShown.{IsShown, by_member, in_sync_is, own_is, shown, stored_at, stored_is, super_at}
 use Rattle.md_array.proofs.WorldsTests.{and_is}
@@ -121,3 +123,9 @@ module _ (before : List Disk) (m : MirrorView) (honest : AreHonest before) (o : 
       ap (λ (d : Stored). d.listed s) (stored_after k mv is)
       ∙ ap (λ b. b && is_listed mv.superblock t.new.content (mv.superblock.data_offset + s)) (lt-ltb s a.chunks.size low) in
       ((λ e. bad.0 (sym there ∙ e)), (λ h. there ∙ bad.1 h))
+
+  -- an opening would read what is kept
+  pub opened_read : AreReadAsKept m 0
+  opened_read k d mv at_disk is =
+      let t = seen k mv is in
+      subst (λ (x : Disk). IsReadAsKept a mv 0 x.content) (got_same m.disks k t.new d t.is at_disk) (read_new a mv t.info t.old t.new t.opened)

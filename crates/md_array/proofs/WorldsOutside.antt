@@ -70,7 +70,7 @@ module _ (written : Area) (start : ℕ) (at : written.start ≡ pos start) (old 
         → part new (512 * (v.data_offset + s)) 512 ≡ part old (512 * (v.data_offset + s)) 512
     data_stays h holds s below = stays (data_area v) v.data_offset refl h (512 * (v.data_offset + s)) 512 (omega arith) (omega arith)
 
-    log_stays : AreApart (log_area v) written → pos 0 ≤ℤ (log_area v).start
+    pub log_stays : AreApart (log_area v) written → pos 0 ≤ℤ (log_area v).start
         → part new (512 * from_super v.bblog_offset) (512 * v.bblog_size) ≡ part old (512 * from_super v.bblog_offset) (512 * v.bblog_size)
     log_stays h from =
         stays (log_area v) (from_super v.bblog_offset) (sector_at_is (log_area v).start from) h

@@ -14,7 +14,7 @@ use Rattle.md_array.specs.Opening.{IsOpenedFrom}
 use Rattle.md_array.specs.Worlds.{AreHonest, at_member, none_in_flight, nothing_stored, stored_of, stored_on, super_of, kind_of, world_of}
 use Rattle.md_array.proofs.WorldsDevice.{IsOpenedMember, super_new}
 use Rattle.md_array.proofs.WorldsLists.{got_within}
-use Rattle.md_array.proofs.WorldsSound.{kept_at, not_fresher, size_shared, uuid_shared}
+use Rattle.md_array.proofs.WorldsSound.{disks_shared, kept_at, not_fresher, size_shared, uuid_shared}
 use Rattle.md_array.proofs.WorldsStates.{same_in_sync}
 
 pub at_is : {A : Type 0} (a : ArrayView) (k : ℕ) (none : A) (of : MemberView → A) (m : MemberView) → IsMember a k m → at_member a k none of ≡ of m
@@ -69,6 +69,7 @@ module _ (before : List Disk) (m : MirrorView) (o : IsOpenedFrom before m) where
           stored = marked.0;
           unchanged = marked.1;
           uuid = uuid_shared o.array.infos o.array.assembly a o.array.assembled o.array.sound r k info.0 info.1;
+          raid_disks = disks_shared o.array.infos o.array.assembly a o.array.assembled o.array.sound r k info.0 info.1;
           size = size_shared o.array.infos o.array.assembly a o.array.assembled o.array.sound r k info.0 info.1;
           array_size = r.size;
           width = r.width k mv is;

@@ -46,12 +46,15 @@ module _ (infos : List MemberInfo) (sound : NoFault infos) where
   no_double_role : (role : ℕ) → IsDoubleRole infos role → ⊥
   no_double_role role = none_without_least (IsDoubleRole infos) (λ n least. sound (DoubleRole n) (omega arith) least) role
 
-  -- all have the uuid and the size of the first
+  -- all have the uuid, the size and the raid disks of the first
   same_uuid : (k : ℕ) (first info : MemberInfo) → slice_get infos 0 ≡ Some first → slice_get infos k ≡ Some info → info.superblock.set_uuid ≡ first.superblock.set_uuid
   same_uuid k first info e f = same_bytes_unless_other _ _ (λ other. no_stranger k (pair_at IsStranger infos 0 k first info e f other))
 
   same_size : (k : ℕ) (first info : MemberInfo) → slice_get infos 0 ≡ Some first → slice_get infos k ≡ Some info → info.superblock.size ≡ first.superblock.size
   same_size k first info e f = same_unless_other _ _ (λ other. no_other_geometry k (pair_at HasOtherGeometry infos 0 k first info e f (inl other)))
+
+  same_disks : (k : ℕ) (first info : MemberInfo) → slice_get infos 0 ≡ Some first → slice_get infos k ≡ Some info → info.superblock.raid_disks ≡ first.superblock.raid_disks
+  same_disks k first info e f = same_unless_other _ _ (λ other. no_other_geometry k (pair_at HasOtherGeometry infos 0 k first info e f (inr (inl other))))
 
   first_of : (k : ℕ) (info : MemberInfo) → slice_get infos k ≡ Some info → (first : MemberInfo) × (slice_get infos 0 ≡ Some first)
   first_of k info e = got_within infos 0 (some infos k info e)
@@ -65,6 +68,9 @@ module _ (infos : List MemberInfo) (sound : NoFault infos) where
 
   pub sizes_same : (j k : ℕ) (x y : MemberInfo) → slice_get infos j ≡ Some x → slice_get infos k ≡ Some y → x.superblock.size ≡ y.superblock.size
   sizes_same j k x y e f = let first = first_of j x e in same_size j first.0 x first.1 e ∙ sym (same_size k first.0 y first.1 f)
+
+  pub disks_same : (j k : ℕ) (x y : MemberInfo) → slice_get infos j ≡ Some x → slice_get infos k ≡ Some y → x.superblock.raid_disks ≡ y.superblock.raid_disks
+  disks_same j k x y e f = let first = first_of j x e in same_disks j first.0 x first.1 e ∙ sym (same_disks k first.0 y first.1 f)
 
   -- their numbers are distinct
   pub numbers_distinct : (j k : ℕ) (x y : MemberInfo) → slice_get infos j ≡ Some x → slice_get infos k ≡ Some y → x.superblock.dev_number ≡ y.superblock.dev_number → j ≡ k
@@ -112,6 +118,9 @@ module _ (infos : List MemberInfo) (assembly : Assembly) (a : ArrayView) (assemb
 
   pub size_shared : (k : ℕ) (info : MemberInfo) → slice_get infos k ≡ Some info → info.superblock.size ≡ a.shared.size
   size_shared k info e = let f = freshest_at in sizes_same infos sound k assembly.freshest info f.0 e f.1 ∙ ap (λ (v : Superblock). v.size) f.2
+
+  pub disks_shared : (k : ℕ) (info : MemberInfo) → slice_get infos k ≡ Some info → info.superblock.raid_disks ≡ a.shared.raid_disks
+  disks_shared k info e = let f = freshest_at in disks_same infos sound k assembly.freshest info f.0 e f.1 ∙ ap (λ (v : Superblock). v.raid_disks) f.2
 
   by_freshest : (Fact : List MemberState → Type 0) → Fact (states_by a.shared (superblocks infos)) → ByFreshest Fact (superblocks infos)
   by_freshest Fact holds = record { index = assembly.freshest; superblock = a.shared; freshest = freshest; holds = holds }

@@ -74,7 +74,7 @@ module _ (old new : MirrorView) (p : PendingView) (c : IsConsistent old) (pendin
   Finishing result = MatchResult result (λ _. Finishes old new p) (λ e. (e.0 ≡ p) × RefusesFinish old new p e.1)
 
   pub finish_event : (result : Result T (PendingView × FinishFault)) → Finishing result → OnOk result (FinishHappens old new p)
-  finish_event (Ok x) f = finish_happens old new p f pending
+  finish_event (Ok x) f = finish_happens old new p f c pending
   finish_event (Err e) r = tt
 
   pub finish_sound : (result : Result T (PendingView × FinishFault)) → Finishing result → IsConsistent new

@@ -37,7 +37,7 @@ pub record HasMarked (a : ArrayView) (sector sectors : ℕ) (new : Bitmap) : Typ
   pub chunks : new.chunks ≡ a.marks.chunks
   pub bits : (c : ℕ) → is_set new.bytes c ≡ (is_set a.marks.bytes c || has_sector_of a sector sectors c)
 
--- the array at the count that the request has
+-- the array after the rise, where there is one
 abbrev pub counted : ArrayView → ArrayView
 counted a = cond (has_to_rise a) (risen a (not (is_degraded a))) a
 
@@ -93,7 +93,7 @@ pub record HasSpentNumbers (a : ArrayView) (sector sectors : ℕ) : Type 0 where
   pub may : MayBeginAt a sector sectors
   pub spent : a.requests.next ≡ 2 ^ 64
 
--- memory alone is short
+-- Nothing else refuses it. That memory was short is not said.
 pub record LacksMemory (a : ArrayView) (sector sectors : ℕ) : Type 0 where
   pub may : MayBeginAt a sector sectors
   pub unspent : a.requests.next ≢ 2 ^ 64

@@ -4,25 +4,30 @@ use Rattle.md_model.specs.Sectors.{put}
 use Rattle.md_model.specs.Worlds.{Request}
 use Rattle.md_model.specs.Content.{Content, Becomes, HoldsBetween}
 use Rattle.md_model.specs.Events.{Event, Step}
+use Rattle.md_model.specs.Runs.{failed_after}
 use Rattle.md_array.specs.declared.step_fault.StoreFault.{StoreFault}
 use Rattle.md_array.specs.declared.step_fault.StoreFault.TheVariants.{MemberFailed}
 use Rattle.md_array.specs.declared.step_fault.WriteMemberFault.{WriteMemberFault}
 use Rattle.md_array.specs.declared.step_fault.WriteMemberFault.TheVariants as write_fault
 use Rattle.md_array.specs.View.{Disk, MemberView, MirrorView, PendingView}
 use Rattle.md_array.specs.Members.{IsMember}
+use Rattle.md_array.specs.Consistency.{IsConsistent}
 use Rattle.md_array.specs.DiskWrites.{AtDevice}
+use Rattle.md_array.specs.ReadAsKept.{AreReadAsKept}
 use Rattle.md_array.specs.Recording.{super_write}
 use Rattle.md_array.specs.Requests.{AreInFlight, among, request_of}
 use Rattle.md_array.specs.Worlds.{AreHonest, world_of, geometry_of, super_in, block_on}
 
 -- By the event the mirror goes from its world with these requests in flight to that with those. A content that the members in
--- sync held before it, they hold after it, changed as the event says.
+-- sync held before it, they hold after it, changed as the event says. And an opening reads what is kept, if it did before.
 pub record Does (old : MirrorView) (before : ℕ → Option Request) (e : Event) (new : MirrorView) (after : ℕ → Option Request) : Type 0 where
   pub in_flight : AreInFlight new.array after
   pub geometry : geometry_of new.array ≡ geometry_of old.array
   pub step : Step (geometry_of old.array) (world_of old before) e (world_of new after)
   pub content : (a b : Content) → HoldsBetween (geometry_of old.array) a (world_of old before) → Becomes (geometry_of old.array) e (world_of old before) a b
       → HoldsBetween (geometry_of old.array) b (world_of new after)
+  pub sound : IsConsistent new
+  pub read : (failed_at : ℕ) → AreReadAsKept old failed_at → AreReadAsKept new (failed_after e (world_of new after) failed_at)
 
 -- whatever requests of its list are in flight, before and after this
 abbrev pub Happens : MirrorView → Event → MirrorView → Type 0

@@ -7,7 +7,7 @@ use Rattle.md_array.specs.View.{MemberView, ArrayView, MirrorView, PendingView}
 use Rattle.md_array.specs.Requests.{has_written}
 use Rattle.md_array.specs.Trying.{Refuses, RefusesHalted}
 use Rattle.md_array.specs.Members.{AllInSync, IsFirstInSyncWithout}
-use Rattle.md_array.specs.WritingMember.{IsRecorded}
+use Rattle.md_array.specs.WritingMember.{IsNotDue}
 
 abbrev pub HasBytesOf : PendingView → MemberView → Type 0
 HasBytesOf p m = has_written p m.superblock.dev_number ≡ true
@@ -15,7 +15,7 @@ HasBytesOf p m = has_written p m.superblock.dev_number ≡ true
 pub record MayFinish (a : ArrayView) (p : PendingView) : Type 0 where
   pub running : a.halted ≡ false
   pub written : AllInSync a (HasBytesOf p)
-  pub recorded : AllInSync a IsRecorded
+  pub recorded : AllInSync a IsNotDue
 
 pub record Finishes (old new : MirrorView) (p : PendingView) : Type 0 where
   pub may : MayFinish old.array p
@@ -27,11 +27,11 @@ pub record LacksBytes (k : ℕ) (a : ArrayView) (p : PendingView) : Type 0 where
   pub running : a.halted ≡ false
   pub first : IsFirstInSyncWithout a (HasBytesOf p) k
 
--- a failure is not yet recorded on member k
+-- member k's superblock has to be stored first: it may have to tell of a failure
 pub record LacksRecordToFinish (k : ℕ) (a : ArrayView) (p : PendingView) : Type 0 where
   pub running : a.halted ≡ false
   pub written : AllInSync a (HasBytesOf p)
-  pub first : IsFirstInSyncWithout a IsRecorded k
+  pub first : IsFirstInSyncWithout a IsNotDue k
 
 abbrev pub RefusesFinish : MirrorView → MirrorView → PendingView → FinishFault → Type 0
 RefusesFinish old new p Halted = RefusesHalted old new

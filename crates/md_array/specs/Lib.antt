@@ -25,6 +25,7 @@ pub mod Failing
 pub mod Finishing
 pub mod ClearingMarks
 pub mod Beginning
+pub mod ReadAsKept
 pub mod Events
 pub mod Runs
 pub mod Lives

@@ -1,23 +1,26 @@
 -- One opening of a mirror's devices after another: runs, each but the last ended by a stop, and what the next mirror is made of.
-use Rattle.std.specs.Prelude.{◌≡◌, ◌⊎◌, ℕ, ◌<◌, List, [], ◌∷◌, length, Option, slice_get, Some}
-use Rattle.md_model.specs.Sectors.{Geometry}
-use Rattle.md_model.specs.Devices.{Stored, Super}
+use Rattle.std.specs.Prelude.{◌≡◌, ◌⊎◌, ℕ, ◌*◌, ◌<◌, false, List, [], ◌∷◌, length, Option, slice_get, Some}
+use Rattle.md_model.specs.Sectors.{Geometry, chunk_of}
+use Rattle.md_device.specs.Splice.{SameOutside}
+use Rattle.md_members.specs.Areas.{bitmap_sectors}
+use Rattle.md_model.specs.Devices.{Super, is_marked}
 use Rattle.md_model.specs.Events.{Event}
+use Rattle.md_model.specs.Content.{Content, BecomesAtOpening, Holds}
 use Rattle.md_model.specs.Runs.{History}
-use Rattle.md_model.specs.Stops.{IsFit, IsHalfOpened}
+use Rattle.md_model.specs.Stops.{IsFit}
 use Rattle.md_model.specs.Worlds.{Request}
-use Rattle.md_array.specs.View.{Disk, MemberView, MirrorView, PendingView}
-use Rattle.md_array.specs.Consistency.{IsConsistent}
+use Rattle.md_array.specs.View.{ArrayView, Disk, MemberView, MirrorView, PendingView}
+use Rattle.md_array.specs.Members.{IsMember}
 use Rattle.md_array.specs.DiskWrites.{IsTried}
 use Rattle.md_array.specs.Opening.{IsOpenedFrom}
+use Rattle.md_array.specs.ReadAsKept.{chunk_size_on}
 use Rattle.md_array.specs.Requests.{IsPending, among}
-use Rattle.md_array.specs.Runs.{IsStart, MirrorRun, Moment, history_of, opened_as}
-use Rattle.md_array.specs.Worlds.{AreHonest, geometry_of, stored_on, super_of}
+use Rattle.md_array.specs.Runs.{IsStart, MirrorRun, MirrorRunWith, Moment, history_of, opened_as}
+use Rattle.md_array.specs.Worlds.{AreHonest, from_super, geometry_of, none_in_flight, stored_of, super_of, world_of}
 use Rattle.md_array.specs.WritingMember.{MayWrite, data_write}
 
 -- a write of a request's data that the stop broke off: any bytes may stand in its range
 pub record IsTorn (t : Moment) (left : List Disk) : Type 0 where
-  pub sound : IsConsistent t.mirror
   pub request : PendingView
   pub others : ℕ → Option Request
   pub in_flight : t.requests ≡ among request others
@@ -31,12 +34,24 @@ pub record IsTorn (t : Moment) (left : List Disk) : Type 0 where
 abbrev pub IsLeft : Moment → List Disk → Type 0
 IsLeft t left = (left ≡ t.mirror.disks) ⊎ IsTorn t left
 
--- what this array's fields read of device k
-abbrev pub read_of : MirrorView → List Disk → ℕ → Stored
-read_of m disks k = stored_on m.array (slice_get m.array.members k) (slice_get disks k)
+-- A device is as it was left; but openings that were themselves stopped may have written its bitmap. Then no chunk lost its
+-- mark, and the header has the chunk size that it had.
+pub record IsAsLeft (a : ArrayView) (m : MemberView) (left now : List ℕ) : Type 0 where
+  pub outside : SameOutside (512 * from_super m.superblock.bitmap_offset) (512 * bitmap_sectors m.stored.chunks) left now
+  pub chunk_size : chunk_size_on m.superblock now ≡ chunk_size_on m.superblock left
+  pub marks : (s : ℕ) → s < a.chunks.size → is_marked (stored_of a m now) (chunk_of (geometry_of a) s) ≡ false → is_marked (stored_of a m left) (chunk_of (geometry_of a) s) ≡ false
 
--- The next mirror is made of some of these devices, in any order, by a superblock that is fit. What its fields read of each is
--- what those of the mirror before read; an opening that was itself stopped may have stored all marks between.
+-- device k of those that were left is device j of these
+pub record IsFoundAgain (a : ArrayView) (left now : List Disk) (k j : ℕ) : Type 0 where
+  pub member : MemberView
+  pub is_member : IsMember a k member
+  pub disk_left : Disk
+  pub at_left : slice_get left k ≡ Some disk_left
+  pub disk_now : Disk
+  pub at_now : slice_get now j ≡ Some disk_now
+  pub as_left : IsAsLeft a member disk_left.content disk_now.content
+
+-- The next mirror is made of some of these devices, in any order, by a superblock that is fit.
 pub record IsReopened (opened : MirrorView) (t : Moment) (next : MirrorView) : Type 0 where
   pub left : List Disk
   pub is_left : IsLeft t left
@@ -45,10 +60,9 @@ pub record IsReopened (opened : MirrorView) (t : Moment) (next : MirrorView) : T
   pub from : ℕ → ℕ  -- which of those that were left each is
   pub at : ℕ → Option ℕ  -- and where each of those is now, if it is there
   pub found : (j : ℕ) → j < length before → at (from j) ≡ Some j
-  pub read_alike : (k j : ℕ) → at k ≡ Some j → IsHalfOpened (read_of t.mirror left k) (read_of next before j)
+  pub again : (k j : ℕ) → at k ≡ Some j → IsFoundAgain t.mirror.array left before k j
   pub opens : IsOpenedFrom before next
   pub fit : IsFit (super_of opened.array.shared) (super_of next.array.shared) t.failed_at
-  pub geometry : geometry_of next.array ≡ geometry_of t.mirror.array
 
 -- A mirror's life: events, a stop and an opening, events again, and so on. The last opening gave the mirror final.
 abbrev pub MirrorLife : MirrorView → List Event → List (List Event) → MirrorView → Moment → Type 0
@@ -62,3 +76,26 @@ AtEachMoment Holds =
     (before : List Disk) (m : MirrorView) → IsStart before m
     → (es : List Event) (rest : List (List Event)) (final : MirrorView) (last : Moment) → MirrorLife m es rest final last
     → Holds (geometry_of m.array) (super_of final.array.shared) (history_of last)
+
+-- the same with the array's content. An opening may change it where each member that is found in sync has the chunk's mark,
+-- and nowhere else.
+abbrev pub MirrorLifeWith : MirrorView → Content → List Event → List (List Event) → MirrorView → Moment → Content → Type 0
+MirrorLifeWith m a es [] final last b = (final ≡ m) × MirrorRunWith (opened_as m) a es last b
+MirrorLifeWith m a es (more ∷ rest) final last b =
+    (t : Moment) × (next : MirrorView) × (c d : Content)
+    × MirrorRunWith (opened_as m) a es t c × IsReopened m t next × BecomesAtOpening (geometry_of next.array) (world_of next none_in_flight) c d
+    × MirrorLifeWith next d more rest final last b
+
+-- A content that the members in sync hold at the first opening goes along every life,
+abbrev pub ContentGoesAlong : Type 0
+ContentGoesAlong =
+    (before : List Disk) (m : MirrorView) (a : Content) → IsStart before m → Holds (geometry_of m.array) a (world_of m none_in_flight)
+    → (es : List Event) (rest : List (List Event)) (final : MirrorView) (last : Moment) → MirrorLife m es rest final last
+    → (b : Content) × MirrorLifeWith m a es rest final last b
+
+-- and they hold it wherever it went.
+abbrev pub KeepsContent : Type 0
+KeepsContent =
+    (before : List Disk) (m : MirrorView) (a : Content) → IsStart before m → Holds (geometry_of m.array) a (world_of m none_in_flight)
+    → (es : List Event) (rest : List (List Event)) (final : MirrorView) (last : Moment) (b : Content) → MirrorLifeWith m a es rest final last b
+    → Holds (geometry_of m.array) b (world_of last.mirror last.requests)

@@ -30,7 +30,7 @@ pub record MayRecord (k : ℕ) (a : ArrayView) (m : MemberView) : Type 0 where
   pub running : a.halted ≡ false
   pub at : IsMember a k m
   pub active : is_recorded m.state ≡ true
-  pub readable : IsReadable (merged a.shared m.superblock)
+  pub readable : IsReadable (merged a.shared m.superblock)  -- no condition: so it is of every superblock that is kept
 
 pub record Records (k : ℕ) (old new : MirrorView) : Type 0 where
   pub member : MemberView

@@ -44,10 +44,10 @@ request_of p =
       written = has_written p;
     }
 
--- requests of the model that are in the mirror's list
+-- Requests of the model that are in the mirror's list. The list may have more: one that was dropped is known to it alone.
 abbrev pub AreInFlight : ArrayView → (ℕ → Option Request) → Type 0
 AreInFlight a requests = (n : ℕ) (p : Request) → requests n ≡ Some p → lookup a.requests.entries n ≡ Some (record { start = p.start; sectors = p.sectors })
 
--- this one and others
+-- the others, and this one under its number
 abbrev pub among : PendingView → (ℕ → Option Request) → ℕ → Option Request
 among p others = put p.ticket.number (Some (request_of p)) others

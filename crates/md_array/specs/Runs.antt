@@ -51,17 +51,3 @@ pub record IsStart (before : List Disk) (m : MirrorView) : Type 0 where
 abbrev pub HasContent : Type 0
 HasContent =
     (before : List Disk) (m : MirrorView) → IsStart before m → (a : Content) × Holds (geometry_of m.array) a (world_of m none_in_flight)
-
--- One that they hold there goes along every list of events,
-abbrev pub ContentGoesAlong : Type 0
-ContentGoesAlong =
-    (before : List Disk) (m : MirrorView) (a : Content) → IsStart before m → Holds (geometry_of m.array) a (world_of m none_in_flight)
-    → (es : List Event) (last : Moment) → MirrorRun (opened_as m) es last
-    → (b : Content) × MirrorRunWith (opened_as m) a es last b
-
--- and they hold it wherever it went.
-abbrev pub KeepsContent : Type 0
-KeepsContent =
-    (before : List Disk) (m : MirrorView) (a : Content) → IsStart before m → Holds (geometry_of m.array) a (world_of m none_in_flight)
-    → (es : List Event) (last : Moment) (b : Content) → MirrorRunWith (opened_as m) a es last b
-    → Holds (geometry_of m.array) b (world_of last.mirror last.requests)

@@ -18,7 +18,7 @@ pub record FailsWriting (k : ℕ) (w : Write) (old new : MirrorView) : Type 0 wh
   pub disks : IsFailed k w old.disks new.disks
   pub array : Fails k old.array new.array
 
--- the write fails on member k, which can't be said of it, so that the mirror is halted
+-- the write fails on member k, which can't be made faulty, so that the mirror is halted
 pub record HaltsWriting (k : ℕ) (w : Write) (old new : MirrorView) : Type 0 where
   pub disks : IsFailed k w old.disks new.disks
   pub array : Halts k old.array new.array

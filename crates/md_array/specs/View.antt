@@ -22,7 +22,7 @@ disk_of content honest failures d = record { content = content d; honest = hones
 pub record MemberView : Type 0 where
   pub superblock : Superblock  -- its own fields, as they are stored next; those of the array are shared
   pub header : BitmapHeader  -- of its bitmap, as it was read
-  pub stored : Bitmap  -- the marks that are stored on it
+  pub stored : Bitmap  -- the marks on its device, as far as the mirror knows
   pub bad : List Run
   pub state : MemberState
   pub due : Bool  -- its superblock has to be stored
@@ -33,10 +33,10 @@ pub record ArrayView : Type 0 where
   pub members : List MemberView
   pub shared : Superblock  -- the array's fields
   pub chunks : Chunks
-  pub marks : Bitmap
+  pub marks : Bitmap  -- those in memory
   pub events_cleared : ℕ
-  pub resynced : Bool
-  pub halted : Bool
+  pub resynced : Bool  -- members in sync agree, but where requests are in flight
+  pub halted : Bool  -- a failure can't be recorded: no call does anything any more
   pub requests : InflightList Extent  -- those in flight
 
 -- a request in flight, as its caller has it

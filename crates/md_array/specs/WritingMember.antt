@@ -23,15 +23,15 @@ HasMarksOf a p m = (s : ℕ) → p.sector ≤ s → s < p.sector + request_secto
 abbrev pub HasMarksFrom : ℕ → ℕ → MemberView → Type 0
 HasMarksFrom first end m = (c : ℕ) → first ≤ c → c < end → is_set m.stored.bytes c ≡ true
 
-abbrev pub IsRecorded : MemberView → Type 0
-IsRecorded m = m.due ≡ false
+abbrev pub IsNotDue : MemberView → Type 0
+IsNotDue m = m.due ≡ false
 
 -- Member k is in sync, and the request's marks and all records are stored: data come last.
 pub record HasIntentStored (k : ℕ) (a : ArrayView) (p : PendingView) (m : MemberView) : Type 0 where
   pub running : a.halted ≡ false
   pub in_sync : IsInSync a k m
   pub marked : AllInSync a (HasMarksOf a p)
-  pub recorded : AllInSync a IsRecorded
+  pub recorded : AllInSync a IsNotDue
 
 -- and it lacks the bytes
 pub record MayWrite (k : ℕ) (a : ArrayView) (p : PendingView) (m : MemberView) : Type 0 where
@@ -70,7 +70,7 @@ pub record LacksRecord (k j : ℕ) (a : ArrayView) (p : PendingView) : Type 0 wh
   pub member : MemberView
   pub in_sync : IsInSync a k member
   pub marked : AllInSync a (HasMarksOf a p)
-  pub first : IsFirstInSyncWithout a IsRecorded j
+  pub first : IsFirstInSyncWithout a IsNotDue j
 
 pub record HasBytes (k : ℕ) (a : ArrayView) (p : PendingView) : Type 0 where
   pub member : MemberView

@@ -14,7 +14,7 @@ use md_device::Device;
 
 impl<D: Device + Drop> Mirror<D> {
     /// Takes a chunk's mark away, in memory alone: `store_marks` stores that later. The fault is the
-    /// first in the order of `ClearFault`.
+    /// first in the order of `ClearFault`. It takes no memory.
     pub fn clear_idle(&mut self, chunk: u32) -> Result<(), ClearFault>
         requires within { chunk < div_ceil self.old.array.chunks.size self.old.array.chunks.sectors }
         requires sound { IsConsistent self.old }

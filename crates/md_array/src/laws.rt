@@ -10,8 +10,8 @@ ghost use Rattle.md_model.specs.Worlds.{IsInSync};
 ghost use Rattle.md_array.specs.Members.{IsMember};
 ghost use Rattle.md_array.specs.View.{Disk, MemberView, MirrorView};
 ghost use Rattle.md_array.specs.Opening.{IsOpenedFrom};
-ghost use Rattle.md_array.specs.Lives.{AtEachMoment};
-ghost use Rattle.md_array.specs.Runs.{ContentGoesAlong, HasContent, KeepsContent};
+ghost use Rattle.md_array.specs.Lives.{AtEachMoment, ContentGoesAlong, KeepsContent};
+ghost use Rattle.md_array.specs.Runs.{HasContent};
 ghost use Rattle.md_array.specs.Worlds.{AreHonest, geometry_of, none_in_flight, super_of, world_of, world_on};
 
 /// A mirror that was opened from devices that do what they answer is an opened world of the model, by
@@ -37,10 +37,10 @@ pub fn opening()
 /// that were left; and so on.
 ///
 /// An event is what a call's contract says of it (`Does`): a step that answered Ok, or a write that failed
-/// and made its member faulty. A refused call is none. Of an opening after a stop this is asked
-/// (`IsReopened`): its superblock is fit, which leaves out a stop while a failure awaits its record; and what
-/// its fields read of each device is what the fields of the mirror before read. Nothing is said of a mirror
-/// once it is halted.
+/// and made its member faulty. A refused call is none. An opening after a stop is of devices that were left,
+/// in any order, some of them missing (`IsReopened`). Its superblock is fit, which leaves out a stop while a
+/// failure awaits its record. Openings that were themselves stopped may have written bitmaps between, if no
+/// chunk lost its mark and the header kept its chunk size. Nothing is said of a mirror once it is halted.
 pub fn every_run()
     // Wherever two members in sync differ, the marks stored on each of them have the chunk.
     ensures covered { AtEachMoment IsCovered }
@@ -57,8 +57,8 @@ pub fn every_run()
     ensures stays_out { AtEachMoment StaysOut }
 
     // There is a content that the members in sync hold at the first opening; any such content goes along the
-    // events from there to a stop, and they hold what it becomes. Only the end of a request changes it, and a
-    // resync in chunks that each of them has marked.
+    // life, and they hold what it becomes. Only the end of a request changes it, and a resync or an opening in
+    // chunks that each of them has marked.
     ensures has_content { HasContent }
     ensures content_along { ContentGoesAlong }
     ensures keeps_content { KeepsContent }

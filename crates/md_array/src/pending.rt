@@ -1,18 +1,17 @@
 // A request in flight, as its caller has it.
 ghost use Rattle.std.specs.Prelude.{◌≡◌};
+ghost use Rattle.md_array.specs.Requests.{has_written, request_sectors};
 
 use arrayvec::ArrayVec;
 use md_inflight::Ticket;
 use std::marker::Model;
 
-/// The most members of an array.
-pub(crate) const MAX_MEMBERS: usize = 64;
-
 /// A write to the array that began and is not finished: its place in the list of those in flight, its
 /// bytes, and which members have them. These are kept by their `dev_number`, so that the removal of
-/// another member changes nothing.
+/// another member changes nothing; there is room for as many as an array has members.
 ///
-/// One that is dropped stays in flight: its chunks stay marked, and its sectors taken.
+/// One that is dropped stays in flight: its chunks stay marked, and its sectors taken. So does one of a
+/// mirror that is halted, whose `finish` only hands it back.
 #[derive(Drop)]
 pub struct Pending<'a> {
     pub(crate) ticket: Ticket,
@@ -37,21 +36,17 @@ impl<'a> Pending<'a> {
         self.ticket.number()
     }
 
-    // Whether the member of this number has the bytes.
-    ghost use Rattle.md_array.specs.Requests.{has_written};
-
-    pub(crate) fn has_written(&self, dev_number: u32) -> bool
-        ensures { result ≡ has_written self.now dev_number }
-    {
-        self.written.contains(&dev_number)
-    }
-
-    ghost use Rattle.md_array.specs.Requests.{request_sectors};
-
     /// How many sectors it has.
     pub fn sectors(&self) -> u64
         ensures { result ≡ request_sectors self.now }
     {
         self.bytes.len() as u64 / 512
+    }
+
+    // Whether the member of this number has the bytes.
+    pub(crate) fn has_written(&self, dev_number: u32) -> bool
+        ensures { result ≡ has_written self.now dev_number }
+    {
+        self.written.contains(&dev_number)
     }
 }

@@ -22,6 +22,9 @@ use md_writes::put;
 impl<D: Device + Drop> Mirror<D> {
     /// Writes member k's superblock: the array's fields, and its own. It takes no memory. The fault is
     /// the first in the order of `StoreFault`.
+    ///
+    /// Of a member in sync sector 0 of its bitmap is to be stored right before: a bitmap whose header is
+    /// older than the superblock is refused at the next opening, and then every chunk counts as marked.
     pub fn record(&mut self, k: usize) -> Result<(), StoreFault>
         requires within { k < length self.old.array.members }
         requires sound { IsConsistent self.old }

@@ -68,7 +68,7 @@ module _ (g : Geometry) (small : IsWithinLimits g) (opened : Super) (h : History
           let l = leaves g small opened h t.kept r.left r.is_left in
           let safe = safe_at_stop g small opened h t.kept r.left first r.is_left (freshest_left g r.left first next r.opens opened) r.fit in
           let f = found g r.left first next r.opens i x in
-          has (r.opens.at i) s low (safe.among (r.opens.at i) f) off (l.bits (r.opens.at i) (chunk_of g s) f.own f.is (sym (r.opens.bits i s low x) ∙ bit))
+          has (r.opens.at i) s low (safe.among (r.opens.at i) f) off (l.bits (r.opens.at i) s f.own low f.is (sym (r.opens.bits i s low x) ∙ bit))
           ∙ sym (c.unmarked i s low x bit)
 
   stays_behind : (d : Stored) → IsBehind g a d h.now → IsBehind g b d next
@@ -107,8 +107,8 @@ behind_with_data g a w device other same late = record {
 pub keeps_data : KeepsData
 keeps_data g opened h first next r k low =
     let x = r.opens.opened.members.filled k low in
-    let half : IsHalfOpened (r.is_left.0 (r.opens.at k)) (r.left (r.opens.at k)) =
-    ⊎_elim (λ (is : IsHalfOpened (r.is_left.0 (r.opens.at k)) (r.left (r.opens.at k))). is)
+    let half : IsHalfOpened g (r.is_left.0 (r.opens.at k)) (r.left (r.opens.at k)) =
+    ⊎_elim (λ (is : IsHalfOpened g (r.is_left.0 (r.opens.at k)) (r.left (r.opens.at k))). is)
     (λ (gone : (r.left (r.opens.at k)).super ≡ None). absurd (none_some x.0 (sym gone ∙ r.opens.super k x.0 x.1)))
     (r.is_left.2 (r.opens.at k)) in
     record {

@@ -137,7 +137,7 @@ shuts_out_torn = (
       away = record { no_newer = omega arith; away = refl };
       before = refl;
       left = put 0 torn v3.stored;
-      is_left = (put 0 torn v3.stored, inr is_torn, λ k. inl (record { super = refl; content = refl; listed = refl; marks = λ _ off. off }));
+      is_left = (put 0 torn v3.stored, inr is_torn, λ k. inl (record { super = refl; content = refl; listed = refl; marks = λ _ _ off. off }));
       first = super_for v2 0;
       freshest = record { whose = inl (0, refl); greatest = no_newer torn refl };
       fit = record { recorded = omega arith; newer = inl (omega arith) };

@@ -48,8 +48,8 @@ module _ (g : Geometry) (left : ℕ → Stored) (first : Super) (w : World) (o :
       (sym (o.bits i s low a) ∙ sym (accepted-bits (w.stored i) (chunk_of g s) (o.opened.marks.accepted i a)) ∙ off))
 
 -- openings that were stopped leave covered what was so
-module _ (g : Geometry) (before left : ℕ → Stored) (first : Super) (half : (k : ℕ) → IsHalfOpened (before k) (left k) ⊎ ((left k).super ≡ None)) where
-  there : (k : ℕ) → IsFound g left first k → IsHalfOpened (before k) (left k)
+module _ (g : Geometry) (before left : ℕ → Stored) (first : Super) (half : (k : ℕ) → IsHalfOpened g (before k) (left k) ⊎ ((left k).super ≡ None)) where
+  there : (k : ℕ) → IsFound g left first k → IsHalfOpened g (before k) (left k)
   there k f = ⊎_elim (λ h. h) (λ gone. absurd (none_some f.own (sym gone ∙ f.is))) (half k)
 
   found_before : (k : ℕ) → IsFound g left first k → IsFound g before first k
@@ -61,4 +61,4 @@ module _ (g : Geometry) (before left : ℕ → Stored) (first : Super) (half : (
       let z = there k c in
       agree_as (before j) (before k) (left j) (left k) s
       (ap (λ (f : ℕ → _). f s) y.content) (ap (λ (f : ℕ → _). f s) z.content) (ap (λ (f : ℕ → _). f s) y.listed) (ap (λ (f : ℕ → _). f s) z.listed)
-      (covered i j k s low (found_before i a) (found_before j b) (found_before k c) ((there i a).marks (chunk_of g s) off))
+      (covered i j k s low (found_before i a) (found_before j b) (found_before k c) ((there i a).marks s low off))

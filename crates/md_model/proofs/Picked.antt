@@ -99,7 +99,7 @@ reopened_holds g opened h t a first next r start holds i k s low x on clear off 
     let fk = found g r.left first next r.opens k on in
     let in_i = safe.among (r.opens.at i) fi in
     let in_k = safe.among (r.opens.at k) fk in
-    let bit = l.bits (r.opens.at i) (chunk_of g s) fi.own fi.is (sym (r.opens.bits i s low x) ∙ off) in
+    let bit = l.bits (r.opens.at i) s fi.own low fi.is (sym (r.opens.bits i s low x) ∙ off) in
     let slot = slot_of g first next r.opens.opened k on in
     r.opens.content k s low slot ∙ l.content (r.opens.at i) (r.opens.at k) s fk.own fk.is in_i bit
     ∙ holds (r.opens.at i) (r.opens.at k) s low in_i in_k (sym (l.listed (r.opens.at k) s fk.own fk.is) ∙ sym (r.opens.listed k s low slot) ∙ clear) bit

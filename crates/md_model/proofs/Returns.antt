@@ -138,12 +138,14 @@ module _ (g : Geometry) (opened : Super) (w : World) (start : IsStart g opened w
           (λ past. back_then k past f)
 
       -- no bit went
-      unmarked_before : (k c : ℕ) → IsFound g now first k → is_marked (now k) c ≡ false → is_marked (then k) c ≡ false
-      unmarked_before k c f off = by_test (nat_lt k m)
+      unmarked_before : (k s : ℕ) → s < g.size → IsFound g now first k → is_marked (now k) (chunk_of g s) ≡ false → is_marked (then k) (chunk_of g s) ≡ false
+      unmarked_before k s inside f off =
+          let c = chunk_of g s in
+          by_test (nat_lt k m)
           (λ low.
           let on = was_in_sync k low f in
           let own_here = ap (λ (d : Stored). d.super) (sym (here_is m left back k low)) ∙ f.is in
-          let bit = l.bits k c f.own own_here (sym (ap (λ (d : Stored). is_marked d c) (here_is m left back k low)) ∙ off) in
+          let bit = l.bits k s f.own inside own_here (sym (ap (λ (d : Stored). is_marked d c) (here_is m left back k low)) ∙ off) in
           ap (λ (d : Stored). is_marked d c) (here_is m w.stored back k low)
           ∙ accepted-bits (w.stored k) c (start.opening.marks.accepted k (untouched.in_sync k on)) ∙ untouched.bits k c on bit)
           (λ past. ap (λ (d : Stored). is_marked d c) (back_is m w.stored back k past) ∙ sym (ap (λ (d : Stored). is_marked d c) (back_is m left back k past)) ∙ off)
@@ -160,9 +162,9 @@ module _ (g : Geometry) (opened : Super) (w : World) (start : IsStart g opened w
       uncut = ⊎_elim (λ (whole : is_left.0 ≡ last.now.stored). whole)
           (λ (t : IsTorn g last.now is_left.0). absurd (untried (inr (t.number, t.request, t.on, t.let_through)))) is_left.1
 
-      left_is : (k : ℕ) → nat_lt k m ≡ true → IsFound g now first k → IsHalfOpened (last.now.stored k) (left k)
-      left_is k low f = subst (λ (d : ℕ → Stored). IsHalfOpened (d k) (left k)) uncut
-          (⊎_elim (λ (x : IsHalfOpened (is_left.0 k) (left k)). x)
+      left_is : (k : ℕ) → nat_lt k m ≡ true → IsFound g now first k → IsHalfOpened g (last.now.stored k) (left k)
+      left_is k low f = subst (λ (d : ℕ → Stored). IsHalfOpened g (d k) (left k)) uncut
+          (⊎_elim (λ (x : IsHalfOpened g (is_left.0 k) (left k)). x)
           (λ (gone : (left k).super ≡ None). absurd (none_some f.own (sym gone ∙ ap (λ (d : Stored). d.super) (sym (here_is m left back k low)) ∙ f.is)))
           (is_left.2 k))
 
@@ -196,7 +198,7 @@ module _ (g : Geometry) (opened : Super) (w : World) (start : IsStart g opened w
       with_absent i j k s inside a b c off clear_j clear_k =
           let x = before j s b clear_j in
           let y = before k s c clear_k in
-          x.is ∙ away.covered i x.by y.by s inside (found_before i a) x.found y.found (unmarked_before i (chunk_of g s) a off) x.clear y.clear ∙ sym y.is
+          x.is ∙ away.covered i x.by y.by s inside (found_before i a) x.found y.found (unmarked_before i s inside a off) x.clear y.clear ∙ sym y.is
 
     -- one of the three was absent, or all are members
     as_new : Covered g now (IsFound g now first)

@@ -35,7 +35,7 @@ as_opened {g} first opened own count role says = record {
 -- after a stop a member has the superblock and the bits that it had, and where one of those in sync has no bit, its data
 pub record Leaves (g : Geometry) (w : World) (left : ℕ → Stored) : Type 0 where
   pub super : (k : ℕ) (own : Super) → (left k).super ≡ Some own → (w.stored k).super ≡ Some own
-  pub bits : (k c : ℕ) (own : Super) → (left k).super ≡ Some own → is_marked (left k) c ≡ false → (w.stored k).bits c ≡ false
+  pub bits : (k s : ℕ) (own : Super) → s < g.size → (left k).super ≡ Some own → is_marked (left k) (chunk_of g s) ≡ false → (w.stored k).bits (chunk_of g s) ≡ false
   pub listed : (k s : ℕ) (own : Super) → (left k).super ≡ Some own → (left k).listed s ≡ (w.stored k).listed s
   pub content : (i k s : ℕ) (own : Super) → (left k).super ≡ Some own → IsInSync w i → (w.stored i).bits (chunk_of g s) ≡ false → (left k).content s ≡ (w.stored k).content s
 
@@ -84,11 +84,11 @@ module _ (g : Geometry) (small : IsWithinLimits g) (opened : Super) (h : History
   pub leaves : (left : ℕ → Stored) → IsLeft g h.now left → Leaves g h.now left
   leaves left is =
       let c = cuts is.0 is.1 in
-      let there : (k : ℕ) (own : Super) → (left k).super ≡ Some own → IsHalfOpened (is.0 k) (left k) =
-      λ k own e. ⊎_elim (λ (x : IsHalfOpened (is.0 k) (left k)). x) (λ (gone : (left k).super ≡ None). absurd (none_some own (sym gone ∙ e))) (is.2 k) in
+      let there : (k : ℕ) (own : Super) → (left k).super ≡ Some own → IsHalfOpened g (is.0 k) (left k) =
+      λ k own e. ⊎_elim (λ (x : IsHalfOpened g (is.0 k) (left k)). x) (λ (gone : (left k).super ≡ None). absurd (none_some own (sym gone ∙ e))) (is.2 k) in
       record {
         super = λ k own e. sym (c.super k) ∙ sym (there k own e).super ∙ e;
-        bits = λ k x own e off. sym (c.bits k x) ∙ unmarked-bits (is.0 k) x ((there k own e).marks x off);
+        bits = λ k s own low e off. sym (c.bits k (chunk_of g s)) ∙ unmarked-bits (is.0 k) (chunk_of g s) ((there k own e).marks s low off);
         listed = λ k s own e. ap (λ (f : ℕ → _). f s) (there k own e).listed ∙ c.listed k s;
         content = λ i k s own e a off. ap (λ (f : ℕ → _). f s) (there k own e).content ∙ c.content i k s a off;
       }
@@ -163,8 +163,8 @@ module _ (g : Geometry) (small : IsWithinLimits g) (opened : Super) (h : History
     pub safe_after : IsSafe g h left first
     safe_after = record {
       among = among;
-      covered = λ i j k s _ a b c off.
-          let bit = l.bits i (chunk_of g s) a.own a.is off in
+      covered = λ i j k s low a b c off.
+          let bit = l.bits i s a.own low a.is off in
           let in_i = among i a in
           agree_as (h.now.stored j) (h.now.stored k) (left j) (left k) s
           (l.content i j s b.own b.is in_i bit) (l.content i k s c.own c.is in_i bit) (l.listed j s b.own b.is) (l.listed k s c.own c.is)

@@ -258,7 +258,7 @@ can_fail_copy = fails_after (beginning ++ data_written) (at w8 true) (Event.Copy
 
 -- a stop leaves the devices as they are
 pub as_it_was : (w : World) → IsLeft small_geometry w w.stored
-as_it_was w = (w.stored, inl refl, λ k. inl (record { super = refl; content = refl; listed = refl; marks = λ _ off. off }))
+as_it_was w = (w.stored, inl refl, λ k. inl (record { super = refl; content = refl; listed = refl; marks = λ _ _ off. off }))
 
 -- it may be stopped and opened again
 pub reopens : Reopens small_geometry (small_super 0) (opening small_world) (small_super 0) small_world

@@ -17,7 +17,7 @@ pub record Stored : Type 0 where
   pub bitmap_events : ℕ
   pub bitmap_fits : Bool  -- its uuid and size are the array's, and its state is 0
 
--- A bitmap is accepted that is as old as the superblock beside it or one event newer (this project's own rule).
+-- A bitmap is accepted whose events are those of the superblock beside it, or one more (this project's own rule).
 abbrev pub accepts : Option Super → ℕ → Bool → Bool
 accepts None events fits = false
 accepts (Some own) events fits = fits && (eqb events own.events || eqb events (own.events + 1))

@@ -23,7 +23,7 @@ without w k =
 abbrev pub failed : Geometry → World → ℕ → Bool → World
 failed g w k full = without (risen g w full) k
 
--- It is in use, and another member is in sync: where the last one fails the mirror is halted instead (own), and no
+-- It is in use, and another member is in sync: where the last one fails the mirror is halted instead (this project's own), and no
 -- event comes after that.
 pub record MayFail (w : World) (k : ℕ) : Type 0 where
   pub in_use : is_recorded (w.state k) ≡ true

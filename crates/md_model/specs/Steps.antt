@@ -49,7 +49,7 @@ recorded_device w k = record (w.stored k) { super = Some (super_for w k) }
 abbrev pub recorded : World → ℕ → World
 recorded w k = record w { stored = put k (recorded_device w k) w.stored; due = put k false w.due }
 
--- store_marks (md_bitmap_unplug): one sector of a member's bitmap is stored, as the marks in memory are; the first has the header
+-- store_marks (md_bitmap_unplug; the header as in md_bitmap_update_sb, a cleared bit as in md_bitmap_daemon_work): one sector of a member's bitmap is stored, as the marks in memory are; the first has the header
 abbrev pub bits_after : World → ℕ → (ℕ → Bool) → ℕ → Bool
 bits_after w b bits c = cond (eqb (block_of c) b) (w.marks c) (bits c)
 
@@ -76,7 +76,7 @@ member_written w n p k =
       request = put n (Some (record p { written = put (w.number k) true p.written })) w.request;
     }
 
--- Data comes last: by then each member in sync has the request's marks stored, accepted or not, and its superblock too.
+-- Data comes last: by then each member in sync has the request's marks stored, whether or not its bitmap is accepted, and its superblock too.
 pub record MayWrite (g : Geometry) (w : World) (n : ℕ) (p : Request) (k : ℕ) : Type 0 where
   pub in_flight : IsInFlight w n p
   pub in_sync : IsInSync w k
@@ -84,7 +84,7 @@ pub record MayWrite (g : Geometry) (w : World) (n : ℕ) (p : Request) (k : ℕ)
   pub recorded : (j : ℕ) → IsInSync w j → w.due j ≡ false
   pub unwritten : p.written (w.number k) ≡ false
 
--- finish (md_bitmap_endwrite): a request leaves that every member in sync has
+-- finish (md_bitmap_endwrite): a request whose bytes every member in sync has is no longer in flight
 abbrev pub finished : World → ℕ → World
 finished w n = record w { request = put n None w.request }
 

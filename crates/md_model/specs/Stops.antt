@@ -1,6 +1,6 @@
 -- A stop, and what the next opening may find (this project's own).
 use Rattle.std.specs.Prelude.{◌≡◌, ◌≢◌, ℕ, ◌+◌, ◌<◌, ◌≤◌, ◌⊎◌, true, false, Some, None}
-use Rattle.md_model.specs.Sectors.{Geometry}
+use Rattle.md_model.specs.Sectors.{Geometry, chunk_of}
 use Rattle.md_model.specs.States.{is_in_sync}
 use Rattle.md_model.specs.Devices.{Super, Stored, is_marked, Covered}
 use Rattle.md_model.specs.Worlds.{Request, touches, World, IsInSync}
@@ -8,7 +8,7 @@ use Rattle.md_model.specs.Assembly.{state_by, IsFound}
 use Rattle.md_model.specs.Steps.{MayWrite}
 use Rattle.md_model.specs.Runs.{History}
 
--- a write of data that the stop broke off: any of its sectors are new
+-- a write of data that the stop broke off: its sectors may hold anything
 pub record IsTorn (g : Geometry) (w : World) (cut : ℕ → Stored) : Type 0 where
   pub number : ℕ
   pub request : Request
@@ -23,15 +23,15 @@ abbrev pub IsCut : Geometry → World → (ℕ → Stored) → Type 0
 IsCut g w cut = (cut ≡ w.stored) ⊎ IsTorn g w cut
 
 -- Openings that were themselves stopped may have stored all marks on it, or some sectors of them under a bitmap that is not accepted.
-pub record IsHalfOpened (cut left : Stored) : Type 0 where
+pub record IsHalfOpened (g : Geometry) (cut left : Stored) : Type 0 where
   pub super : left.super ≡ cut.super
   pub content : left.content ≡ cut.content
   pub listed : left.listed ≡ cut.listed
-  pub marks : (c : ℕ) → is_marked left c ≡ false → is_marked cut c ≡ false
+  pub marks : (s : ℕ) → s < g.size → is_marked left (chunk_of g s) ≡ false → is_marked cut (chunk_of g s) ≡ false
 
 -- the devices of which the next opening is made: any of them may be missing
 abbrev pub IsLeft : Geometry → World → (ℕ → Stored) → Type 0
-IsLeft g w left = (cut : ℕ → Stored) × IsCut g w cut × ((k : ℕ) → IsHalfOpened (cut k) (left k) ⊎ ((left k).super ≡ None))
+IsLeft g w left = (cut : ℕ → Stored) × IsCut g w cut × ((k : ℕ) → IsHalfOpened g (cut k) (left k) ⊎ ((left k).super ≡ None))
 
 -- The superblock that it goes by is fit: it has recorded the last failure, and is newer than the one of the opening before, or
 -- as new with the same roles.
@@ -44,7 +44,8 @@ pub record IsAbsent (opened : Super) (w : World) (own : Super) : Type 0 where
   pub no_newer : own.events ≤ opened.events
   pub away : w.present own.number ≡ false
 
--- the freshest superblock of these devices, and perhaps of others that the opening before left out
+-- The freshest superblock of these devices, and perhaps of others that the opening before left out: it is of one of these, or is
+-- no newer than that opening.
 pub record IsFreshestWithAbsent (opened : Super) (left : ℕ → Stored) (first : Super) : Type 0 where
   pub whose : ((k : ℕ) × ((left k).super ≡ Some first)) ⊎ (first.events ≤ opened.events)
   pub greatest : (k : ℕ) (own : Super) → (left k).super ≡ Some own → own.events ≤ first.events

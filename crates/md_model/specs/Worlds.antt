@@ -29,9 +29,9 @@ pub record World : Type 0 where
   pub events : ℕ
   pub cleared_at : ℕ  -- events_cleared
   pub clean : Bool  -- resync_offset is all ones
-  pub resynced : Bool
+  pub resynced : Bool  -- members in sync agree, but where requests are in flight: no resync is needed
   pub halted : Bool  -- nothing happens any more
-  pub marks : ℕ → Bool
+  pub marks : ℕ → Bool  -- those in memory
   pub request : ℕ → Option Request  -- those in flight, by their numbers
 
 abbrev pub IsInSync : World → ℕ → Type 0

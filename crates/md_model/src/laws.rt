@@ -41,7 +41,7 @@ pub fn opening_covers()
 
     // They stay covered too where an opening is stopped before it ends, the first one as well; some may be missing after it.
     ensures stopped { (g : Geometry) (before left : ℕ → Stored) (freshest : Super)
-        → ((k : ℕ) → IsHalfOpened (before k) (left k) ⊎ ((left k).super ≡ None))
+        → ((k : ℕ) → IsHalfOpened g (before k) (left k) ⊎ ((left k).super ≡ None))
         → Covered g before (IsFound g before freshest)
         → Covered g left (IsFound g left freshest) }
 

@@ -10,15 +10,29 @@ mod commands;
 #[cfg(test)]
 mod commands_on_arrays;
 #[cfg(test)]
+mod every_order;
+#[cfg(test)]
 mod examine_report;
 #[cfg(test)]
+mod expected_steps;
+#[cfg(test)]
 mod fault_texts;
+#[cfg(test)]
+mod lone_members;
+#[cfg(test)]
+mod members_in_step;
 #[cfg(test)]
 mod mirrors;
 #[cfg(test)]
 mod new_members;
 #[cfg(test)]
 mod sinks;
+#[cfg(test)]
+mod step_faults;
+#[cfg(test)]
+mod stepping;
+#[cfg(test)]
+mod steps_in_order;
 #[cfg(test)]
 mod superblocks;
 #[cfg(test)]

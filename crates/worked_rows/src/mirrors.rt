@@ -1,4 +1,7 @@
 // Mirrors, opened from the images of a small array.
+ghost use Rattle.std.specs.Prelude.{IfOk};
+ghost use Rattle.md_array.specs.Consistency.{IsConsistent};
+
 use crate::bitmap_and_log_reports::bitmap;
 use crate::vault::{image, put, vault};
 use md_array::{Mirror, OpenFault};
@@ -48,7 +51,9 @@ fn pair(alloc: Global, bitmap_events: u64) -> Result<Vec<MemDevice>, Fail> {
     Ok(devices)
 }
 
-fn open<D: Device + Drop>(alloc: Global, devices: Vec<D>) -> Result<Mirror<D>, Fail> {
+pub(crate) fn open<D: Device + Drop>(alloc: Global, devices: Vec<D>) -> Result<Mirror<D>, Fail>
+    ensures { IfOk result (λ m. IsConsistent m) }
+{
     match Mirror::open(alloc, devices) {
         Ok(mirror) => Ok(mirror),
         Err((_, fault)) => Err(Fail::from(fault)),

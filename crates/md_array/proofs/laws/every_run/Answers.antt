@@ -1,5 +1,5 @@
+use Rattle.md_array.proofs.MirrorContents as contents
 use Rattle.md_array.proofs.MirrorLives as lives
-use Rattle.md_array.proofs.MirrorRuns as runs
 use Rattle.md_array.proofs.laws.every_run.Goals as goal
 
 pub returns : goal.returns
@@ -8,7 +8,7 @@ returns c = record {
   at_stop = lives.life_safe;
   keeps_out = lives.life_keeps_out;
   stays_out = lives.life_stays_out;
-  has_content = runs.content_at_first;
-  content_along = runs.content_along;
-  keeps_content = runs.content_kept;
+  has_content = contents.content_at_first;
+  content_along = contents.content_along;
+  keeps_content = contents.content_kept;
 }

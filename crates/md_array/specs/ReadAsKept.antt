@@ -1,0 +1,53 @@
+-- What an opening would read of the members' devices is what the mirror keeps of them.
+use Rattle.std.specs.Prelude.{◌≡◌, ◌⊎◌, ℕ, ◌/◌, ◌<◌, ◌≤◌, false, List, slice_get, Some}
+use Rattle.md_format.specs.Fields.{number_at}
+use Rattle.md_super.specs.declared.superblock.Superblock.{Superblock}
+use Rattle.md_super.specs.Faults.{NoFault}
+use Rattle.md_super.specs.Format.{IsSuper}
+use Rattle.md_array.specs.View.{Disk, MemberView, ArrayView, MirrorView}
+use Rattle.md_array.specs.Members.{IsMember, is_recorded}
+use Rattle.md_array.specs.Worlds.{block_on, from_super, header_on, is_listed}
+
+-- this superblock is read on a device
+pub record IsSuperOn (content : List ℕ) (v : Superblock) : Type 0 where
+  pub fields : IsSuper (block_on content) v
+  pub sound : NoFault (block_on content)
+
+-- It is of the array, and no newer. It places a member's parts where the own fields that are kept do, and its log lists the
+-- same sectors.
+pub record IsOwnSuper (shared own : Superblock) (content : List ℕ) (v : Superblock) : Type 0 where
+  pub set_uuid : v.set_uuid ≡ shared.set_uuid
+  pub size : v.size ≡ shared.size
+  pub raid_disks : v.raid_disks ≡ shared.raid_disks
+  pub data_offset : v.data_offset ≡ own.data_offset
+  pub bitmap_offset : v.bitmap_offset ≡ own.bitmap_offset
+  pub bblog_size : v.bblog_size ≡ own.bblog_size
+  pub bblog_offset : v.bblog_offset ≡ own.bblog_offset
+  pub listed : (sector : ℕ) → is_listed v content sector ≡ is_listed own content sector
+  pub no_newer : v.events ≤ shared.events
+
+-- so is any superblock that is read there
+abbrev pub HasOwnSuper : Superblock → Superblock → List ℕ → Type 0
+HasOwnSuper shared own content = (v : Superblock) → IsSuperOn content v → IsOwnSuper shared own content v
+
+-- the chunk size in the header of a member's bitmap, in bytes
+abbrev pub chunk_size_on : Superblock → List ℕ → ℕ
+chunk_size_on own content = number_at 4 52 (header_on content (from_super own.bitmap_offset))
+
+-- it is that of chunks of so many sectors
+abbrev pub HasWidth : ℕ → Superblock → List ℕ → Type 0
+HasWidth sectors own content = chunk_size_on own content / 512 ≡ sectors
+
+-- any superblock that is read there is from before this count
+abbrev pub IsFromBefore : ℕ → List ℕ → Type 0
+IsFromBefore count content = (v : Superblock) → IsSuperOn content v → v.events < count
+
+-- A member that failed since the opening may have any header.
+pub record IsReadAsKept (a : ArrayView) (m : MemberView) (failed_at : ℕ) (content : List ℕ) : Type 0 where
+  pub super : HasOwnSuper a.shared m.superblock content
+  pub header : HasWidth a.chunks.sectors m.superblock content ⊎ ((is_recorded m.state ≡ false) × IsFromBefore failed_at content)
+
+-- failed_at is the count after the last failure, or 0
+abbrev pub AreReadAsKept : MirrorView → ℕ → Type 0
+AreReadAsKept v failed_at =
+    (k : ℕ) (d : Disk) (m : MemberView) → slice_get v.disks k ≡ Some d → IsMember v.array k m → IsReadAsKept v.array m failed_at d.content
