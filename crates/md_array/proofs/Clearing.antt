@@ -6,9 +6,6 @@ use Rattle.md_array.specs.View.{MemberView}
 use Rattle.md_array.specs.Remembering.{ClearedIn, HasAccepted, IsLastClearedIn, IsLastClearedOr}
 use Rattle.md_array.proofs.Listing.{cases_more}
 
-pub none_cleared : (members : List MemberView) → IsLastClearedIn members 0 None
-none_cleared members e h = let early = h.early in absurd (omega arith)
-
 later : (members : List MemberView) (n e : ℕ) → ClearedIn members n e → ClearedIn members (n + 1) e
 later members n e h = let early = h.early in record { at = h.at; member = h.member; early = omega arith; listed = h.listed; accepted = h.accepted; is = h.is }
 

@@ -10,9 +10,6 @@ use Rattle.md_array.specs.Kept.{IsKept}
 use Rattle.md_array.specs.Remembering.{AreKept}
 use Rattle.md_array.proofs.Listing.{listed_push}
 
-pub none_kept : (events : ℕ) (states : List MemberState) → AreKept events [] states []
-none_kept events states = record { as_many = refl; each = λ k info state m e f g. absurd cc }
-
 -- one more member
 pub one_more_kept : (events : ℕ) (infos : List MemberInfo) (states : List MemberState) (members : List MemberView) (info : MemberInfo) (state : MemberState) (m : MemberView) → AreKept events infos states members → slice_get states (length members) ≡ Some state → IsKept events info state m → AreKept events (infos ++ info ∷ []) states (members ++ m ∷ [])
 one_more_kept events infos states members info state m kept at_state is_kept =

@@ -16,6 +16,7 @@ pub mod Finished
 pub mod FirstLacking
 pub mod Fitting
 pub mod Geometry
+pub mod HalfOpened
 pub mod InFlight
 pub mod InTurn
 pub mod Keeping
@@ -65,6 +66,7 @@ pub mod WorldsOpenedFrom
 pub mod WorldsOutside
 pub mod WorldsPresent
 pub mod WorldsRead
+pub mod WorldsReadMember
 pub mod WorldsRisen
 pub mod WorldsShown
 pub mod WorldsSound

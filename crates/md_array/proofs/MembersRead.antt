@@ -76,10 +76,6 @@ read_more before now infos k d info count here untouched read is = λ j a x was 
     read j a x was (at_push_before infos info x j within at))
     (eqb_tells j k)
 
--- all of them
-pub all_read : (before now : List Disk) (infos : List MemberInfo) → IsUntouched before now → AreReadSoFar before infos → length infos ≡ length now → AreRead before infos
-all_read before now infos untouched read count = record { as_many = count ∙ untouched.same.as_many; each = read }
-
 -- device k is refused, and those before it were read
 refused_member : (before now : List Disk) (infos : List MemberInfo) (k : ℕ) (d e : Disk) (fault : MemberFault) → length infos ≡ k → slice_get now k ≡ Some d → IsUntouched before now
     → AreReadSoFar before infos → RefusesMember d.content d.honest (d.failures < e.failures) fault → fault ≢ NoMemory → RefusesMemberAt before (set now k e) k fault

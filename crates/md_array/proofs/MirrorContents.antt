@@ -13,13 +13,12 @@ use Rattle.md_model.proofs.Picked.{has_content_again}
 use Rattle.md_array.specs.Consistency.{IsConsistent}
 use Rattle.md_array.specs.Lives.{ContentGoesAlong, IsReopened, KeepsContent, MirrorLife, MirrorLifeWith}
 use Rattle.md_array.specs.ReadAsKept.{AreReadAsKept}
-use Rattle.md_array.specs.Runs.{HasContent, MirrorRun, Moment, history_of, opened_as}
-use Rattle.md_array.specs.View.{MirrorView}
+use Rattle.md_array.specs.Runs.{HasContent, IsStart, MirrorRun, Moment, history_of, opened_as}
+use Rattle.md_array.specs.View.{Disk, MirrorView}
 use Rattle.md_array.specs.Worlds.{geometry_of, none_in_flight, super_of, world_of}
 use Rattle.md_array.proofs.Consistent.{consistent}
 use Rattle.md_array.proofs.MirrorLives.{geometry_kept, reopens}
 use Rattle.md_array.proofs.ContentRuns as run
-use Rattle.md_array.proofs.MirrorRuns.{starts}
 use Rattle.md_array.proofs.MirrorRuns as mirror_runs
 use Rattle.md_array.proofs.Reopened.{run_keeps, same_geometry}
 use Rattle.md_array.proofs.WorldsOpenedFrom.{opened_read}
@@ -29,6 +28,9 @@ record Begins (m : MirrorView) : Type 0 where
   start : runs.IsStart (geometry_of m.array) (super_of m.array.shared) (world_of m none_in_flight)
   sound : IsConsistent m
   read : AreReadAsKept m 0
+
+begins_first : (before : List Disk) (m : MirrorView) → IsStart before m → Begins m
+begins_first before m start = record { start = mirror_runs.starts before m start; sound = consistent before m start.opened; read = opened_read before m start.honest start.opened }
 
 -- ---- the next opening
 module _ (m : MirrorView) (begins : Begins m) (es : List Event) (t : Moment) (r : MirrorRun (opened_as m) es t) (next : MirrorView) (again : IsReopened m t next)
@@ -49,7 +51,7 @@ module _ (m : MirrorView) (begins : Begins m) (es : List Event) (t : Moment) (r 
   along = run_keeps es (opened_as m) t r begins.sound begins.read
 
   same : geometry_of next.array ≡ g
-  same = same_geometry m t along.0 along.1 next again ∙ geometry_kept es (opened_as m) t r
+  same = same_geometry m t along.0 along.1 again.before next.array again.devices again.opens.array ∙ geometry_kept es (opened_as m) t r
 
   of_model : Reopens g opened (history_of t) first w
   of_model = subst (λ x. Reopens x opened (history_of t) first w) (geometry_kept es (opened_as m) t r) (reopens m t along.0 along.1 next again)
@@ -61,7 +63,7 @@ module _ (m : MirrorView) (begins : Begins m) (es : List Event) (t : Moment) (r 
   begins_again = record {
     start = subst (λ x. runs.IsStart x first w) (sym same) start_of_model;
     sound = consistent again.before next again.opens;
-    read = opened_read again.before next again.honest again.opens;
+    read = opened_read again.before next again.devices.honest again.opens;
   }
 
   content_again : (b : Content) × BecomesAtOpening (geometry_of next.array) w a b
@@ -100,9 +102,7 @@ pub content_at_first : HasContent
 content_at_first = mirror_runs.content_at_first
 
 pub content_along : ContentGoesAlong
-content_along before m a start holds =
-    life_along m a (record { start = starts before m start; sound = consistent before m start.opened; read = opened_read before m start.honest start.opened }) holds
+content_along before m a start holds = life_along m a (begins_first before m start) holds
 
 pub content_kept : KeepsContent
-content_kept before m a start holds =
-    life_held m a (record { start = starts before m start; sound = consistent before m start.opened; read = opened_read before m start.honest start.opened }) holds
+content_kept before m a start holds = life_held m a (begins_first before m start) holds

@@ -87,33 +87,33 @@ module _ (opened : MirrorView) (t : Moment) (sound : IsConsistent t.mirror) (are
 
   -- the devices of which the next mirror is made
   abbrev made_of : ℕ → Stored
-  made_of k = unwrap_or (option_map read (r.at k)) nothing_stored
+  made_of k = unwrap_or (option_map read (r.devices.at k)) nothing_stored
 
-  at_some : (k j : ℕ) → r.at k ≡ Some j → made_of k ≡ read j
+  at_some : (k j : ℕ) → r.devices.at k ≡ Some j → made_of k ≡ read j
   at_some k j is = ap (λ o. unwrap_or (option_map read o) nothing_stored) is
 
-  at_none : (k : ℕ) → r.at k ≡ None → made_of k ≡ nothing_stored
+  at_none : (k : ℕ) → r.devices.at k ≡ None → made_of k ≡ nothing_stored
   at_none k is = ap (λ o. unwrap_or (option_map read o) nothing_stored) is
 
   are_left : stops.IsLeft g (history_of t).now made_of
   are_left = (
-    read_of t.mirror r.left,
-    is_cut t r.left sound r.is_left,
-    λ k. by_option (r.at k)
+    read_of t.mirror r.devices.left,
+    is_cut t r.devices.left sound r.devices.is_left,
+    λ k. by_option (r.devices.at k)
         (λ gone. inr (ap (λ (x : Stored). x.super) (at_none k gone)))
-        (λ j is. inl (subst (stops.IsHalfOpened g (read_of t.mirror r.left k)) (sym (at_some k j is)) (read_alike opened t sound are next r k j is))),
+        (λ j is. inl (subst (stops.IsHalfOpened g (read_of t.mirror r.devices.left k)) (sym (at_some k j is)) (read_alike opened t sound are r.before next.array r.devices r.opens.array k j is))),
   )
 
   opens : openings.IsOpenedFrom g read (super_of next.array.shared) (world_of next none_in_flight)
-  opens = subst (λ x. openings.IsOpenedFrom x read (super_of next.array.shared) (world_of next none_in_flight)) (same_geometry opened t sound are next r) (opened_from r.before next r.honest r.opens)
+  opens = subst (λ x. openings.IsOpenedFrom x read (super_of next.array.shared) (world_of next none_in_flight)) (same_geometry opened t sound are r.before next.array r.devices r.opens.array) (opened_from r.before next r.devices.honest r.opens)
 
   -- each member of it is one that was left
-  as_read : (j : ℕ) → j < length next.array.members → made_of (r.from j) ≡ read j
+  as_read : (j : ℕ) → j < length next.array.members → made_of (r.devices.from j) ≡ read j
   as_read j low =
       let of_array = r.opens.array in
       let read_many = of_array.read.as_many in
       let members_many = of_array.remembered.as_many in
-      at_some (r.from j) j (r.found j (omega arith))
+      at_some (r.devices.from j) j (r.devices.found j (omega arith))
 
   -- a superblock is a member's
   of_member : (j : ℕ) (own : Super) → (read j).super ≡ Some own → j < length next.array.members
@@ -127,9 +127,9 @@ module _ (opened : MirrorView) (t : Moment) (sound : IsConsistent t.mirror) (are
   opens_again : openings.IsOpenedFrom g made_of (super_of next.array.shared) (world_of next none_in_flight)
   opens_again = record {
     opened = opens.opened;
-    at = λ j. r.from (opens.at j);
+    at = λ j. r.devices.from (opens.at j);
     super = λ j own e. let was = opens.super j own e in ap (λ (x : Stored). x.super) (as_read (opens.at j) (of_member (opens.at j) own was)) ∙ was;
-    all = λ k own e. by_option (r.at k)
+    all = λ k own e. by_option (r.devices.at k)
         (λ gone. absurd (none-some own (sym (ap (λ (x : Stored). x.super) (at_none k gone)) ∙ e)))
         (λ j is. opens.all j own (sym (ap (λ (x : Stored). x.super) (at_some k j is)) ∙ e));
     content = λ j s low in_. opens.content j s low in_ ∙ sym (ap (λ (x : Stored). x.content s) (as_read (opens.at j) (member_at j in_)));
@@ -140,7 +140,7 @@ module _ (opened : MirrorView) (t : Moment) (sound : IsConsistent t.mirror) (are
   }
 
   pub reopens : Reopens g (super_of opened.array.shared) (history_of t) (super_of next.array.shared) (world_of next none_in_flight)
-  reopens = record { left = made_of; is_left = are_left; fit = r.fit; opens = opens_again }
+  reopens = record { left = made_of; is_left = are_left; fit = r.devices.fit; opens = opens_again }
 
 -- ---- lives
 pub geometry_kept : (es : List Event) (t last : Moment) → MirrorRun t es last → geometry_of last.mirror.array ≡ geometry_of t.mirror.array
@@ -161,7 +161,7 @@ model_life g m es (more ∷ rest) final last same sound are life =
       world_of next none_in_flight,
       model_run g es (opened_as m) t same life.2,
       subst (λ x. Reopens x (super_of m.array.shared) (history_of t) (super_of next.array.shared) (world_of next none_in_flight)) kept (reopens m t along.0 along.1 next again),
-      model_life g next more rest final last (same_geometry m t along.0 along.1 next again ∙ kept) (consistent again.before next again.opens) (opened_read again.before next again.honest again.opens) life.4,
+      model_life g next more rest final last (same_geometry m t along.0 along.1 again.before next.array again.devices again.opens.array ∙ kept) (consistent again.before next again.opens) (opened_read again.before next again.devices.honest again.opens) life.4,
     )
 
 at_each : (P : Geometry → Super → runs.History → Type 0) → Always P → AtEachMoment P

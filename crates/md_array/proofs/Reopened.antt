@@ -1,4 +1,4 @@
--- What the fields of the next mirror read of the devices that a stop left is what those of the mirror before read.
+-- What the fields of the next array read of the devices that a stop left is what those of the mirror before read.
 use Rattle.std.proofs.Common.{◌≡◌, ℕ, ◌+◌, ◌*◌, ◌/◌, ◌≤◌, inl, inr, true, cond, ◌&&◌, ◌==◌, nat_lt, List, [], ◌∷◌, length, drop, slice_get, Some, refl, sym, ap, ◌∙◌, subst, arith, bytes_eq}
 use Rattle.std.specs.Int.{div_ceil}
 use Rattle.std.proofs.lemmas.Option.{same_Some, slice_get_within}
@@ -7,6 +7,7 @@ use Rattle.md_format.specs.Fields.{number_at, bytes_at}
 use Rattle.md_super.specs.declared.superblock.Superblock.{Superblock}
 use Rattle.md_super.specs.Faults.{NoFault}
 use Rattle.md_bitmap.specs.Marks.{is_set}
+use Rattle.md_bitmap.proofs.Limits.{div_ceil-sectors}
 use Rattle.md_members.specs.declared.info.MemberInfo.{MemberInfo}
 use Rattle.md_members.specs.Areas.{BitmapIsPlaced, IsPlaced, bitmap_sectors}
 use Rattle.md_members.specs.Members.{sectors_of}
@@ -19,21 +20,20 @@ use Rattle.md_model.proofs.Puts.{by_same}
 use Rattle.md_array.specs.View.{ArrayView, Disk, MemberView, MirrorView}
 use Rattle.md_array.specs.Members.{IsMember}
 use Rattle.md_array.specs.Consistency.{IsConsistent}
-use Rattle.md_array.specs.Lives.{IsFoundAgain, IsLeft, IsReopened, IsTorn}
-use Rattle.md_array.specs.ReadAsKept.{AreReadAsKept, HasWidth, IsOwnSuper, IsReadAsKept, IsSuperOn}
-use Rattle.md_array.specs.OwnFields.{stored_next}
+use Rattle.md_array.specs.Lives.{AreFoundAgain, IsFoundAgain, IsLeft, IsTorn}
+use Rattle.md_array.specs.ReadAsKept.{AreReadAsKept, IsOwnSuper, IsReadAsKept, IsSuperOn}
+use Rattle.md_array.specs.Opening.{IsArrayOf}
 use Rattle.md_array.specs.Requests.{request_sectors}
 use Rattle.md_array.specs.Runs.{MirrorRun, Moment, then_as}
 use Rattle.md_array.specs.Worlds.{block_on, from_super, geometry_of, header_on, is_listed, stored_of, stored_on, super_in}
-use Rattle.md_array.proofs.Consistent.{consistent}
 use Rattle.md_array.proofs.InFlight.{inside_of, whole_of}
 use Rattle.md_array.proofs.OneMember.{stored_there}
 use Rattle.md_array.proofs.PartsApart.{HasParts, bitmap_alone, block_beside_bitmap, log_beside_bitmap, parts_of}
 use Rattle.md_array.proofs.ReadAsKept.{read_beside_data, stays}
 use Rattle.md_array.proofs.WorldsBad.{same_listed}
-use Rattle.md_array.proofs.WorldsDevice.{width_old}
+use Rattle.md_array.proofs.WorldsReadMember.{IsReadMember, count_is, sound_size, width_old}
 use Rattle.md_array.proofs.WorldsLists.{got_same, got_within}
-use Rattle.md_array.proofs.WorldsShown.{IsShown, shown}
+use Rattle.md_array.proofs.WorldsShown.{read_at}
 use Rattle.md_array.proofs.WorldsSound.{freshest_at}
 use Rattle.md_array.proofs.WorldsSupers.{block_spells}
 
@@ -99,166 +99,169 @@ module _ (t : Moment) (sound : IsConsistent t.mirror) (are : AreReadAsKept t.mir
 super_on : (content : List ℕ) (v : Superblock) → ReadsSuper content true v → IsSuperOn content v
 super_on content v r = record { fields = block_spells content v r; sound = subst NoFault (r.read.from_device refl) r.sound }
 
--- ---- the next mirror
-module _ (opened : MirrorView) (t : Moment) (sound : IsConsistent t.mirror) (are : AreReadAsKept t.mirror t.failed_at) (next : MirrorView) (r : IsReopened opened t next) where
+-- ---- devices that are found again, and the array that they make
+module _ (opened : MirrorView) (t : Moment) (sound : IsConsistent t.mirror) (are : AreReadAsKept t.mirror t.failed_at) (before : List Disk) (is : ArrayView)
+    (r : AreFoundAgain opened t before is.shared) (o : IsArrayOf before is) where
   abbrev was : ArrayView
   was = t.mirror.array
 
-  abbrev is : ArrayView
-  is = next.array
-
-  -- device k, that is j now, as the member that the next mirror makes of it
-  record IsMemberAgain (k j : ℕ) : Type 0 where
-    found : IsFoundAgain was r.left r.before k j
-    member : MemberView
-    is_member : IsMember is j member
-    seen : IsShown r.before next r.opens.array.infos j member
-    same : seen.old ≡ found.disk_now
-    alike : stored_of was found.member found.disk_now.content ≡ record (stored_of was found.member found.disk_left.content) {
-      bits = (stored_of was found.member found.disk_now.content).bits;
-      bitmap_events = (stored_of was found.member found.disk_now.content).bitmap_events;
-      bitmap_fits = (stored_of was found.member found.disk_now.content).bitmap_fits;
+  -- a device that is found again, as the member that the array makes of it
+  pub record IsMemberAgain (k j : ℕ) (f : IsFoundAgain was r.left before k j) (n : MemberView) : Type 0 where
+    pub info : MemberInfo
+    pub listed : slice_get o.infos j ≡ Some info
+    pub seen : IsReadMember is n info f.disk_now.content
+    pub parts : HasParts was f.member f.disk_now.content
+    pub alike : stored_of was f.member f.disk_now.content ≡ record (stored_of was f.member f.disk_left.content) {
+      bits = (stored_of was f.member f.disk_now.content).bits;
+      bitmap_events = (stored_of was f.member f.disk_now.content).bitmap_events;
+      bitmap_fits = (stored_of was f.member f.disk_now.content).bitmap_fits;
     }
-    read : IsReadAsKept was found.member t.failed_at found.disk_now.content
+    pub read : IsReadAsKept was f.member t.failed_at f.disk_now.content
 
-  member_again : (k j : ℕ) → r.at k ≡ Some j → IsMemberAgain k j
-  member_again k j at =
-      let f = r.again k j at in
-      let low = slice_get_within r.before j f.disk_now f.at_now in
-      let read_many = r.opens.array.read.as_many in
-      let members_many = r.opens.array.remembered.as_many in
-      let n = got_within is.members j (omega arith) in
-      let s = shown r.before next r.honest r.opens j n.0 n.1 in
-      let d = left_device t sound are r.left r.is_left k f.disk_left f.member f.at_left f.is_member in
-      let old = f.disk_left.content in
-      let new = f.disk_now.content in
-      record {
-        found = f;
-        member = n.0;
-        is_member = n.1;
-        seen = s;
-        same = got_same r.before j s.old f.disk_now s.was f.at_now;
-        alike = bitmap_alone was f.member old new d.parts f.as_left.outside;
-        read = stays was f.member t.failed_at old new (block_beside_bitmap was f.member old new d.parts f.as_left.outside) (log_beside_bitmap was f.member old new d.parts f.as_left.outside)
-            (λ width. ap (λ (n : ℕ). n / 512) f.as_left.chunk_size ∙ width) d.read;
-      }
+  member_at : (k j : ℕ) → IsFoundAgain was r.left before k j → (n : MemberView) × IsMember is j n
+  member_at k j f =
+      let low = slice_get_within before j f.disk_now f.at_now in
+      let read_many = o.read.as_many in
+      let members_many = o.remembered.as_many in
+      got_within is.members j (omega arith)
 
-  module _ (k j : ℕ) (x : IsMemberAgain k j) where
+  module _ (k j : ℕ) (f : IsFoundAgain was r.left before k j) (n : MemberView) (is_member : IsMember is j n) where
     abbrev content : List ℕ
-    content = x.found.disk_now.content
+    content = f.disk_now.content
 
     abbrev own : Superblock
-    own = x.found.member.superblock
+    own = f.member.superblock
 
-    reads : ReadsSuper content true x.seen.info.superblock
-    reads = subst (λ (d : Disk). ReadsSuper d.content true x.seen.info.superblock) x.same x.seen.opened.read.superblock
+    pub again : IsMemberAgain k j f n
+    again =
+        let s = read_at before is o j n (r.honest j) is_member in
+        let d = left_device t sound are r.left r.is_left k f.disk_left f.member f.at_left f.is_member in
+        let old = f.disk_left.content in
+        record {
+          info = s.info;
+          listed = s.listed;
+          seen = subst (λ (x : Disk). IsReadMember is n s.info x.content) (got_same before j s.disk f.disk_now s.at f.at_now) s.member;
+          parts = parts_on was f.member old content f.as_left.outside.size d.parts;
+          alike = bitmap_alone was f.member old content d.parts f.as_left.outside;
+          read = stays was f.member t.failed_at old content (block_beside_bitmap was f.member old content d.parts f.as_left.outside) (log_beside_bitmap was f.member old content d.parts f.as_left.outside)
+              (λ width. ap (λ (bytes : ℕ). bytes / 512) f.as_left.chunk_size ∙ width) d.read;
+        }
 
-    is_own : IsOwnSuper was.shared own content x.seen.info.superblock
-    is_own = x.read.super x.seen.info.superblock (super_on content x.seen.info.superblock reads)
+    abbrev info : MemberInfo
+    info = again.info
 
-    data_offset : x.member.superblock.data_offset ≡ own.data_offset
-    data_offset = ap (λ (v : Superblock). v.data_offset) x.seen.opened.kept.superblock ∙ is_own.data_offset
+    is_own : IsOwnSuper was.shared own content info.superblock
+    is_own = again.read.super info.superblock (super_on content info.superblock again.seen.read.superblock)
 
-    bitmap_offset : x.member.superblock.bitmap_offset ≡ own.bitmap_offset
-    bitmap_offset = ap (λ (v : Superblock). v.bitmap_offset) x.seen.opened.kept.superblock ∙ is_own.bitmap_offset
+    data_offset : n.superblock.data_offset ≡ own.data_offset
+    data_offset = ap (λ (v : Superblock). v.data_offset) again.seen.kept.superblock ∙ is_own.data_offset
+
+    pub bitmap_offset : n.superblock.bitmap_offset ≡ own.bitmap_offset
+    bitmap_offset = ap (λ (v : Superblock). v.bitmap_offset) again.seen.kept.superblock ∙ is_own.bitmap_offset
 
     set_uuid : is.shared.set_uuid ≡ was.shared.set_uuid
-    set_uuid = sym x.seen.opened.uuid ∙ is_own.set_uuid
+    set_uuid = sym again.seen.uuid ∙ is_own.set_uuid
 
     size : is.shared.size ≡ was.shared.size
-    size = sym x.seen.opened.size ∙ is_own.size
+    size = sym again.seen.size ∙ is_own.size
 
     raid_disks : is.shared.raid_disks ≡ was.shared.raid_disks
-    raid_disks = sym x.seen.opened.raid_disks ∙ is_own.raid_disks
+    raid_disks = sym again.seen.raid_disks ∙ is_own.raid_disks
 
     chunks_size : is.chunks.size ≡ was.chunks.size
-    chunks_size = x.seen.opened.array_size ∙ size ∙ sym sound.chunks.size
+    chunks_size = again.seen.array_size ∙ size ∙ sym sound.chunks.size
 
-    listed : (sector : ℕ) → is_listed x.member.superblock content sector ≡ is_listed own content sector
+    listed : (sector : ℕ) → is_listed n.superblock content sector ≡ is_listed own content sector
     listed sector =
-        ap (λ (v : Superblock). is_listed v content sector) x.seen.opened.kept.superblock
-        ∙ subst (λ (d : Disk). is_listed (stored_next x.seen.info.bad x.seen.info.superblock) d.content sector ≡ is_listed x.seen.info.superblock d.content sector) x.same
-        (same_listed x.seen.old.content x.seen.info.superblock x.seen.info.bad sector x.seen.opened.read.bad)
+        ap (λ (v : Superblock). is_listed v content sector) again.seen.kept.superblock
+        ∙ same_listed content info.superblock info.bad sector again.seen.read.bad
         ∙ is_own.listed sector
 
     -- its header's chunks are as wide as the array's, if the superblock is from after the last failure
-    width : t.failed_at ≤ x.seen.info.superblock.events → is.chunks.sectors ≡ was.chunks.sectors
+    width : t.failed_at ≤ info.superblock.events → is.chunks.sectors ≡ was.chunks.sectors
     width fresh =
-        sym (subst (λ (d : Disk). HasWidth is.chunks.sectors x.member.superblock d.content) x.same (width_old is x.member x.seen.info x.seen.old x.seen.new x.seen.opened))
+        sym (width_old is n info content again.seen)
         ∙ (λ i. number_at 4 52 (header_on content (from_super (bitmap_offset i))) / 512)
-        ∙ elim x.read.header [
+        ∙ elim again.read.header [
           | inl has ↦ has
-          | inr gone ↦ let old = gone.1 x.seen.info.superblock (super_on content x.seen.info.superblock reads) in absurd (omega arith)
+          | inr gone ↦ let old = gone.1 info.superblock (super_on content info.superblock again.seen.read.superblock) in absurd (omega arith)
         ]
 
   -- ---- the array is as it was
-  abbrev infos : List MemberInfo
-  infos = r.opens.array.infos
-
-  first : (info : MemberInfo) × (slice_get infos r.opens.array.assembly.freshest ≡ Some info) × (info.superblock ≡ is.shared)
-  first = freshest_at infos r.opens.array.assembly is r.opens.array.assembled r.opens.array.sound r.opens.array.remembered
+  first : (info : MemberInfo) × (slice_get o.infos o.assembly.freshest ≡ Some info) × (info.superblock ≡ is.shared)
+  first = freshest_at o.infos o.assembly is o.assembled o.sound o.remembered
 
   abbrev at_first : ℕ
-  at_first = r.opens.array.assembly.freshest
+  at_first = o.assembly.freshest
 
-  first_again : IsMemberAgain (r.from at_first) at_first
-  first_again =
-      let low = slice_get_within infos at_first first.0 first.1 in
-      let many = r.opens.array.read.as_many in
-      member_again (r.from at_first) at_first (r.found at_first (omega arith))
+  found_first : IsFoundAgain was r.left before (r.from at_first) at_first
+  found_first =
+      let low = slice_get_within o.infos at_first first.0 first.1 in
+      let many = o.read.as_many in
+      r.again (r.from at_first) at_first (r.found at_first (omega arith))
+
+  abbrev at_member : ℕ
+  at_member = r.from at_first
+
+  first_member : (n : MemberView) × IsMember is at_first n
+  first_member = member_at at_member at_first found_first
 
   same_width : is.chunks.sectors ≡ was.chunks.sectors
   same_width =
-      let x = first_again in
-      let same : x.seen.info ≡ first.0 = got_same infos at_first x.seen.info first.0 x.seen.listed first.1 in
-      let events : x.seen.info.superblock.events ≡ is.shared.events = ap (λ (info : MemberInfo). info.superblock.events) same ∙ ap (λ (v : Superblock). v.events) first.2 in
+      let n = first_member in
+      let x = again at_member at_first found_first n.0 n.1 in
+      let same : x.info ≡ first.0 = got_same o.infos at_first x.info first.0 x.listed first.1 in
+      let events : x.info.superblock.events ≡ is.shared.events = ap (λ (info : MemberInfo). info.superblock.events) same ∙ ap (λ (v : Superblock). v.events) first.2 in
       let recorded : t.failed_at ≤ is.shared.events = r.fit.recorded in
-      width (r.from at_first) at_first x (omega arith)
+      width at_member at_first found_first n.0 n.1 (omega arith)
+
+  same_size : is.chunks.size ≡ was.chunks.size
+  same_size = let n = first_member in chunks_size at_member at_first found_first n.0 n.1
 
   pub same_geometry : geometry_of is ≡ geometry_of was
-  same_geometry =
-      let x = first_again in
-      λ i. record { raid_disks = raid_disks (r.from at_first) at_first x i; width = same_width i; size = chunks_size (r.from at_first) at_first x i }
+  same_geometry = let n = first_member in λ i. record { raid_disks = raid_disks at_member at_first found_first n.0 n.1 i; width = same_width i; size = same_size i }
 
-  same_count : is.marks.chunks ≡ was.marks.chunks
+  pub same_count : is.marks.chunks ≡ was.marks.chunks
   same_count =
-      let x = first_again in
-      (consistent r.before next r.opens).chunks.count
-      ∙ (λ i. div_ceil (chunks_size (r.from at_first) at_first x i) (same_width i))
+      let n = first_member in
+      let x = again at_member at_first found_first n.0 n.1 in
+      count_is is n.0 x.info found_first.disk_now.content x.seen
+      ∙ sym (div_ceil-sectors is.chunks.size n.0.header.chunksize (sound_size is n.0 x.info found_first.disk_now.content x.seen))
+      ∙ ap (div_ceil is.chunks.size) (sym x.seen.width)
+      ∙ (λ i. div_ceil (same_size i) (same_width i))
       ∙ sym sound.chunks.count
 
   -- ---- and so is what is read of each device
-  same_stored : (k j : ℕ) (x : IsMemberAgain k j) → stored_of is x.member x.found.disk_now.content ≡ stored_of was x.found.member x.found.disk_now.content
-  same_stored k j x =
-      let bytes = x.found.disk_now.content in
-      let n = x.member.superblock in
-      let m = x.found.member.superblock in
-      let at = data_offset k j x in
-      let start = bitmap_offset k j x in
-      let limit = chunks_size k j x in
-      let lists : (s : ℕ) → is_listed n bytes (n.data_offset + s) ≡ is_listed m bytes (m.data_offset + s) =
-      λ s. listed k j x (n.data_offset + s) ∙ ap (λ (o : ℕ). is_listed m bytes (o + s)) at in
+  pub same_stored : (k j : ℕ) (f : IsFoundAgain was r.left before k j) (n : MemberView) (is_member : IsMember is j n) → stored_of is n f.disk_now.content ≡ stored_of was f.member f.disk_now.content
+  same_stored k j f n is_member =
+      let bytes = f.disk_now.content in
+      let m = f.member.superblock in
+      let at = data_offset k j f n is_member in
+      let start = bitmap_offset k j f n is_member in
+      let lists : (s : ℕ) → is_listed n.superblock bytes (n.superblock.data_offset + s) ≡ is_listed m bytes (m.data_offset + s) =
+      λ s. listed k j f n is_member (n.superblock.data_offset + s) ∙ ap (λ (x : ℕ). is_listed m bytes (x + s)) at in
       λ i. let header = header_on bytes (from_super (start i)) in
       record {
         super = super_in (block_on bytes);
-        content = λ s. cond (nat_lt s (limit i)) (part bytes (512 * (at i + s)) 512) [];
-        listed = λ s. nat_lt s (limit i) && lists s i;
+        content = λ s. cond (nat_lt s (same_size i)) (part bytes (512 * (at i + s)) 512) [];
+        listed = λ s. nat_lt s (same_size i) && lists s i;
         bits = λ c. nat_lt c (same_count i) && is_set (drop (512 * from_super (start i) + 256) bytes) c;
         bitmap_events = number_at 8 24 header;
-        bitmap_fits = bytes_eq (bytes_at 16 8 header) (set_uuid k j x i) && (number_at 8 40 header == size k j x i) && (number_at 4 48 header == 0);
+        bitmap_fits = bytes_eq (bytes_at 16 8 header) (set_uuid k j f n is_member i) && (number_at 8 40 header == size k j f n is_member i) && (number_at 4 48 header == 0);
       }
 
-  pub read_alike : (k j : ℕ) → r.at k ≡ Some j → stops.IsHalfOpened (geometry_of was) (read_of t.mirror r.left k) (read_of next r.before j)
+  pub read_alike : (k j : ℕ) → r.at k ≡ Some j
+      → stops.IsHalfOpened (geometry_of was) (read_of t.mirror r.left k) (stored_on is (slice_get is.members j) (slice_get before j))
   read_alike k j at =
-      let x = member_again k j at in
-      let f = x.found in
-      let before = stored_there r.left was k f.member f.disk_left f.is_member f.at_left in
-      let after = stored_there r.before is j x.member f.disk_now x.is_member f.at_now ∙ same_stored k j x in
-      let both = after ∙ x.alike in
+      let f = r.again k j at in
+      let n = member_at k j f in
+      let left = stored_there r.left was k f.member f.disk_left f.is_member f.at_left in
+      let now = stored_there before is j n.0 f.disk_now n.1 f.at_now ∙ same_stored k j f n.0 n.1 in
+      let both = now ∙ (again k j f n.0 n.1).alike in
       record {
-        super = ap (λ (s : Stored). s.super) both ∙ sym (ap (λ (s : Stored). s.super) before);
-        content = ap (λ (s : Stored). s.content) both ∙ sym (ap (λ (s : Stored). s.content) before);
-        listed = ap (λ (s : Stored). s.listed) both ∙ sym (ap (λ (s : Stored). s.listed) before);
+        super = ap (λ (s : Stored). s.super) both ∙ sym (ap (λ (s : Stored). s.super) left);
+        content = ap (λ (s : Stored). s.content) both ∙ sym (ap (λ (s : Stored). s.content) left);
+        listed = ap (λ (s : Stored). s.listed) both ∙ sym (ap (λ (s : Stored). s.listed) left);
         marks = λ s low clear. let c = chunk_of (geometry_of was) s in
-            ap (λ (d : Stored). is_marked d c) before ∙ f.as_left.marks s low (sym (ap (λ (d : Stored). is_marked d c) after) ∙ clear);
+            ap (λ (d : Stored). is_marked d c) left ∙ f.as_left.marks s low (sym (ap (λ (d : Stored). is_marked d c) now) ∙ clear);
       }

@@ -13,7 +13,7 @@ use Rattle.md_array.specs.Members.{IsMember}
 use Rattle.md_array.specs.Opening.{IsOpenedFrom}
 use Rattle.md_array.specs.Worlds.{AreHonest, geometry_of, super_of, kind_of, world_of, none_in_flight}
 use Rattle.md_array.proofs.OwnFields.{state_same}
-use Rattle.md_array.proofs.WorldsDevice.{due_is, state_is}
+use Rattle.md_array.proofs.WorldsReadMember.{due_is, state_is}
 use Rattle.md_array.proofs.WorldsShown.{IsShown, at_is, at_past, by_member, in_sync_there, own_is, shown, state_at, state_past}
 use Rattle.md_array.proofs.WorldsSound.{roles_distinct, some_in_sync}
 use Rattle.md_array.proofs.WorldsStates.{active_takes_role, same_recorded, same_state}
@@ -35,7 +35,7 @@ module _ (before : List Disk) (m : MirrorView) (honest : AreHonest before) (o : 
   state_here : (k : ℕ) (mv : MemberView) → IsMember a k mv → w.state k ≡ kind_of (state_of a.shared mv.superblock)
   state_here k mv is =
       let s = seen k mv is in
-      state_at before m honest o k mv is ∙ ap kind_of (state_is a mv s.info s.old s.new s.opened)
+      state_at before m honest o k mv is ∙ ap kind_of (state_is a mv s.info s.old.content s.opened.member)
 
   by_table : (k : ℕ) (own : Super) → (w.stored k).super ≡ Some own → w.state k ≡ model_assembly.state_by (geometry_of a) first own
   by_table k own e =
@@ -49,7 +49,7 @@ module _ (before : List Disk) (m : MirrorView) (honest : AreHonest before) (o : 
       let s = seen x.0 mv.0 mv.1 in (
         x.0,
         in_sync_there before m honest o x.0 mv.0 mv.1
-            (ap is_in_sync (state_is a mv.0 s.info s.old s.new s.opened ∙ ap (state_of a.shared) (present.same_info before m honest o x.0 x.1 mv.0 x.2 mv.1) ∙ state_same x.1.bad x.1.superblock a.shared) ∙ x.3),
+            (ap is_in_sync (state_is a mv.0 s.info s.old.content s.opened.member ∙ ap (state_of a.shared) (present.same_info before m honest o x.0 x.1 mv.0 x.2 mv.1) ∙ state_same x.1.bad x.1.superblock a.shared) ∙ x.3),
       )
 
   -- the state by the superblock that was read
@@ -88,13 +88,13 @@ module _ (before : List Disk) (m : MirrorView) (honest : AreHonest before) (o : 
       let x = own_is before m honest o k own e in
       let s = seen k x.0 x.1 in
       at_is a k false (λ mv. mv.due) x.0 x.1
-      ∙ due_is a x.0 s.info s.old s.new s.opened
+      ∙ due_is a x.0 s.info s.old.content s.opened.member
       ∙ ap (λ b. b && nat_lt x.0.superblock.events a.shared.events) (sym (same_recorded x.0.state) ∙ ap model.is_recorded (sym (state_at before m honest o k x.0 x.1)))
       ∙ ap (λ (v : Super). model.is_recorded (w.state k) && nat_lt v.events first.events) x.2
 
   re_added : (k : ℕ) → w.re_added k ≡ false
   re_added k = by_member a k
-      (λ mv is. at_is a k false (λ x. x.re_added) mv is ∙ (seen k mv is).opened.kept.re_added)
+      (λ mv is. at_is a k false (λ x. x.re_added) mv is ∙ (seen k mv is).opened.member.kept.re_added)
       (λ past. at_past a k false (λ x. x.re_added) past)
 
   pub has_states : HasStates (geometry_of a) first w

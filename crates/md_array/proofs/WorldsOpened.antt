@@ -8,7 +8,7 @@ use Rattle.md_array.specs.View.{Disk, ArrayView, MemberView, MirrorView}
 use Rattle.md_array.specs.Members.{IsMember}
 use Rattle.md_array.specs.Opening.{IsOpenedFrom}
 use Rattle.md_array.specs.Worlds.{AreHonest, geometry_of, nothing_stored, stored_of, super_of, world_of, none_in_flight}
-use Rattle.md_array.proofs.WorldsDevice.{none_past}
+use Rattle.md_array.proofs.WorldsReadMember.{none_past}
 use Rattle.md_array.proofs.WorldsShown.{IsShown, by_member, shown, stored_at, stored_past}
 use Rattle.md_model.proofs.Cases.{not_below-nat_lt}
 use Rattle.md_array.proofs.WorldsPresent as present
@@ -42,7 +42,7 @@ module _ (before : List Disk) (m : MirrorView) (honest : AreHonest before) (o : 
   ends : (k : ℕ) → EndsWith (geometry_of a) (w.stored k)
   ends k = by_member a k
       (λ mv is. let s = seen k mv is in
-      subst (EndsWith (geometry_of a)) (sym (stored_at before m honest o k mv is)) (stored_ends a mv s.new.content (none_past a mv s.info s.old s.new s.opened)))
+      subst (EndsWith (geometry_of a)) (sym (stored_at before m honest o k mv is)) (stored_ends a mv s.new.content (none_past a mv s.info s.old.content s.opened.member)))
       (λ past. subst (EndsWith (geometry_of a)) (sym (stored_past before m honest o k past)) (nothing_ends a))
 
   pub opened : IsOpened (geometry_of a) first w

@@ -12,7 +12,8 @@ use Rattle.md_array.specs.Members.{IsMember}
 use Rattle.md_array.specs.Opening.{IsOpenedFrom}
 use Rattle.md_array.specs.ReadAsKept.{AreReadAsKept, IsReadAsKept}
 use Rattle.md_array.specs.Worlds.{AreHonest, geometry_of, is_listed, nothing_stored, stored_of, stored_on, super_of, world_of, world_on, none_in_flight}
-use Rattle.md_array.proofs.WorldsDevice.{all_or_same, bad_is_listed, bits_new, chunk_of_sector, is_accepted_new, read_new, same_data, same_listed, super_old}
+use Rattle.md_array.proofs.WorldsDevice.{all_or_same, bad_is_listed, bits_new, is_accepted_new, read_new, same_data, same_listed}
+use Rattle.md_array.proofs.WorldsReadMember.{chunk_of_sector, super_old}
 use Rattle.md_array.proofs.WorldsLists.{got_same}
 use Rattle.md_array.proofs.WorldsOpened.{opened}
 use Rattle.md_array.proofs.WorldsShown.{IsShown, by_member, in_sync_is, own_is, shown, stored_at, stored_is, super_at}
@@ -42,7 +43,7 @@ module _ (before : List Disk) (m : MirrorView) (honest : AreHonest before) (o : 
   stored_after = stored_at before m honest o
 
   super_before : (k : ℕ) (mv : MemberView) → IsMember a k mv → (was.stored k).super ≡ Some (super_of mv.superblock)
-  super_before k mv is = let s = seen k mv is in ap (λ (d : Stored). d.super) (stored_before k mv is) ∙ super_old a mv s.info s.old s.new s.opened
+  super_before k mv is = let s = seen k mv is in ap (λ (d : Stored). d.super) (stored_before k mv is) ∙ super_old a mv s.info s.old.content s.opened.member
 
   none_before : (k : ℕ) → length a.members ≤ k → was.stored k ≡ nothing_stored
   none_before k past = ap (λ x. stored_on a x (slice_get before k)) (slice_get_past a.members k past)
@@ -84,7 +85,7 @@ module _ (before : List Disk) (m : MirrorView) (honest : AreHonest before) (o : 
       let c = chunk_of (geometry_of a) s in
       let x = in_sync_is before m honest o k i in
       let t = seen k x.0 x.1 in
-      let below : c < a.marks.chunks = chunk_of_sector a x.0 t.info t.old t.new t.opened s low in
+      let below : c < a.marks.chunks = chunk_of_sector a x.0 t.info t.old.content t.opened.member s low in
       ap (λ (d : Stored). d.bits c) (stored_after k x.0 x.1)
       ∙ elim (all_or_same a x.0 t.info t.old t.new t.opened) [
         | inl marked ↦

@@ -13,7 +13,7 @@ use Rattle.md_array.specs.Opening.{IsOpenedFrom}
 use Rattle.md_array.specs.OwnFields.{kept_superblock}
 use Rattle.md_array.specs.Worlds.{AreHonest, super_of, world_of, none_in_flight}
 use Rattle.md_array.proofs.OwnFields.{super_same}
-use Rattle.md_array.proofs.WorldsDevice.{not_fresher_own}
+use Rattle.md_array.proofs.WorldsReadMember.{not_fresher_own}
 use Rattle.md_array.proofs.WorldsLists.{any_at, at_any, got_within, got_same}
 use Rattle.md_array.proofs.WorldsShown.{IsShown, number_at_member, own_is, shown, stored_past, super_at}
 use Rattle.md_array.proofs.WorldsSound.{freshest_at, numbers_distinct}
@@ -32,7 +32,7 @@ module _ (before : List Disk) (m : MirrorView) (honest : AreHonest before) (o : 
   seen = shown before m honest o
 
   pub superblock_is : (k : ℕ) (mv : MemberView) (is : IsMember a k mv) → mv.superblock ≡ kept_superblock (seen k mv is).info
-  superblock_is k mv is = (seen k mv is).opened.kept.superblock
+  superblock_is k mv is = (seen k mv is).opened.member.kept.superblock
 
   -- ---- the freshest
   pub member_of : (k : ℕ) (info : MemberInfo) → slice_get o.array.infos k ≡ Some info → (mv : MemberView) × (IsMember a k mv)
@@ -55,7 +55,7 @@ module _ (before : List Disk) (m : MirrorView) (honest : AreHonest before) (o : 
         greatest = λ k own e.
             let x = own_is before m honest o k own e in
             let s = seen k x.0 x.1 in
-            subst (λ (v : Super). v.events ≤ a.shared.events) x.2 (not_fresher_own a x.0 s.info s.old s.new s.opened);
+            subst (λ (v : Super). v.events ≤ a.shared.events) x.2 (not_fresher_own a x.0 s.info s.old.content s.opened.member);
       }
 
   -- ---- the members

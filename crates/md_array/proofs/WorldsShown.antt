@@ -10,10 +10,11 @@ use Rattle.md_model.specs.Worlds as worlds
 use Rattle.md_model.specs.Worlds.{World}
 use Rattle.md_array.specs.View.{Disk, ArrayView, MemberView, MirrorView}
 use Rattle.md_array.specs.Members.{IsMember}
-use Rattle.md_array.specs.Opening.{IsOpenedFrom}
+use Rattle.md_array.specs.Opening.{IsArrayOf, IsOpenedFrom}
 use Rattle.md_array.specs.Worlds.{AreHonest, at_member, none_in_flight, nothing_stored, stored_of, stored_on, super_of, kind_of, world_of}
 use Rattle.md_array.proofs.WorldsDevice.{IsOpenedMember, super_new}
 use Rattle.md_array.proofs.WorldsLists.{got_within}
+use Rattle.md_array.proofs.WorldsReadMember.{IsReadMember}
 use Rattle.md_array.proofs.WorldsSound.{disks_shared, kept_at, not_fresher, size_shared, uuid_shared}
 use Rattle.md_array.proofs.WorldsStates.{same_in_sync}
 
@@ -29,6 +30,43 @@ stored_is a x y m d e f = rw (e, f) refl
 pub by_member : {P : Type 0} (a : ArrayView) (k : ℕ) → ((m : MemberView) → IsMember a k m → P) → (length a.members ≤ k → P) → P
 by_member a k is isnt = elim (slice_get_cases a.members k).1 [ inl there ↦ is there.0 there.2 | inr past ↦ isnt past.0 ]
 
+-- a member with what was read of it
+pub record IsReadAt (before : List Disk) (a : ArrayView) (infos : List MemberInfo) (k : ℕ) (m : MemberView) : Type 0 where
+  pub info : MemberInfo
+  pub listed : slice_get infos k ≡ Some info
+  pub disk : Disk
+  pub at : slice_get before k ≡ Some disk
+  pub honest : disk.honest ≡ true
+  pub member : IsReadMember a m info disk.content
+
+pub read_at : (before : List Disk) (a : ArrayView) (o : IsArrayOf before a) (k : ℕ) (m : MemberView) → ((d : Disk) → slice_get before k ≡ Some d → d.honest ≡ true) → IsMember a k m → IsReadAt before a o.infos k m
+read_at before a o k m honest is =
+    let r = o.remembered in
+    let low : k < length a.members = slice_get_within a.members k m is in
+    let members_many = r.as_many in
+    let infos_many = o.read.as_many in
+    let info = got_within o.infos k (omega arith) in
+    let d = got_within before k (omega arith) in
+    let honest_d = honest d.0 d.1 in
+    record {
+      info = info.0;
+      listed = info.1;
+      disk = d.0;
+      at = d.1;
+      honest = honest_d;
+      member = record {
+        read = subst (λ h. members.IsMember d.0.content h info.0) honest_d (o.read.each k d.0 info.0 d.1 info.1);
+        kept = kept_at o.infos o.assembly a o.assembled o.sound r k info.0 m info.1 is;
+        uuid = uuid_shared o.infos o.assembly a o.assembled o.sound r k info.0 info.1;
+        raid_disks = disks_shared o.infos o.assembly a o.assembled o.sound r k info.0 info.1;
+        size = size_shared o.infos o.assembly a o.assembled o.sound r k info.0 info.1;
+        array_size = r.size;
+        width = r.width k m is;
+        count = r.mark_count k m is;
+        fresh = not_fresher o.infos o.assembly a o.assembled o.sound r k info.0 info.1;
+      };
+    }
+
 -- a member with what it was opened from
 pub record IsShown (before : List Disk) (mirror : MirrorView) (infos : List MemberInfo) (k : ℕ) (m : MemberView) : Type 0 where
   pub info : MemberInfo
@@ -43,39 +81,19 @@ pub record IsShown (before : List Disk) (mirror : MirrorView) (infos : List Memb
 module _ (before : List Disk) (m : MirrorView) (o : IsOpenedFrom before m) where
   pub shown_honest : (k : ℕ) (mv : MemberView) → ((d : Disk) → slice_get before k ≡ Some d → d.honest ≡ true) → IsMember m.array k mv → IsShown before m o.array.infos k mv
   shown_honest k mv honest is =
-      let a = m.array in
-      let r = o.array.remembered in
-      let low : k < length a.members = slice_get_within a.members k mv is in
-      let members_many = r.as_many in
-      let infos_many = o.array.read.as_many in
+      let r = read_at before m.array o.array k mv honest is in
       let disks_many = o.marked.same.as_many in
-      let info = got_within o.array.infos k (omega arith) in
-      let old = got_within before k (omega arith) in
+      let low = slice_get_within before k r.disk r.at in
       let new = got_within m.disks k (omega arith) in
-      let honest_old = honest old.0 old.1 in
-      let kept = kept_at o.array.infos o.array.assembly a o.array.assembled o.array.sound r k info.0 mv info.1 is in
-      let marked = o.marked.each k old.0 new.0 old.1 new.1 mv is in
+      let marked = o.marked.each k r.disk new.0 r.at new.1 mv is in
       record {
-        info = info.0;
-        listed = info.1;
-        old = old.0;
+        info = r.info;
+        listed = r.listed;
+        old = r.disk;
         new = new.0;
-        was = old.1;
+        was = r.at;
         is = new.1;
-        opened = record {
-          honest = honest_old;
-          read = subst (λ h. members.IsMember old.0.content h info.0) honest_old (o.array.read.each k old.0 info.0 old.1 info.1);
-          kept = kept;
-          stored = marked.0;
-          unchanged = marked.1;
-          uuid = uuid_shared o.array.infos o.array.assembly a o.array.assembled o.array.sound r k info.0 info.1;
-          raid_disks = disks_shared o.array.infos o.array.assembly a o.array.assembled o.array.sound r k info.0 info.1;
-          size = size_shared o.array.infos o.array.assembly a o.array.assembled o.array.sound r k info.0 info.1;
-          array_size = r.size;
-          width = r.width k mv is;
-          count = r.mark_count k mv is;
-          fresh = not_fresher o.array.infos o.array.assembly a o.array.assembled o.array.sound r k info.0 info.1;
-        };
+        opened = record { honest = r.honest; member = r.member; stored = marked.0; unchanged = marked.1 };
       }
 
 module _ (before : List Disk) (m : MirrorView) (honest : AreHonest before) (o : IsOpenedFrom before m) where

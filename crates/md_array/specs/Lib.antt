@@ -26,6 +26,7 @@ pub mod Finishing
 pub mod ClearingMarks
 pub mod Beginning
 pub mod ReadAsKept
+pub mod HalfOpened
 pub mod Events
 pub mod Runs
 pub mod Lives

@@ -2,6 +2,7 @@
 use Rattle.std.specs.Prelude.{◌≡◌, ◌⊎◌, ℕ, ◌*◌, ◌<◌, false, List, [], ◌∷◌, length, Option, slice_get, Some}
 use Rattle.md_model.specs.Sectors.{Geometry, chunk_of}
 use Rattle.md_device.specs.Splice.{SameOutside}
+use Rattle.md_super.specs.declared.superblock.Superblock.{Superblock}
 use Rattle.md_members.specs.Areas.{bitmap_sectors}
 use Rattle.md_model.specs.Devices.{Super, is_marked}
 use Rattle.md_model.specs.Events.{Event}
@@ -12,7 +13,8 @@ use Rattle.md_model.specs.Worlds.{Request}
 use Rattle.md_array.specs.View.{ArrayView, Disk, MemberView, MirrorView, PendingView}
 use Rattle.md_array.specs.Members.{IsMember}
 use Rattle.md_array.specs.DiskWrites.{IsTried}
-use Rattle.md_array.specs.Opening.{IsOpenedFrom}
+use Rattle.md_array.specs.HalfOpened.{IsHalfMarked}
+use Rattle.md_array.specs.Opening.{IsArrayOf, IsOpenedFrom}
 use Rattle.md_array.specs.ReadAsKept.{chunk_size_on}
 use Rattle.md_array.specs.Requests.{IsPending, among}
 use Rattle.md_array.specs.Runs.{IsStart, MirrorRun, MirrorRunWith, Moment, history_of, opened_as}
@@ -51,18 +53,22 @@ pub record IsFoundAgain (a : ArrayView) (left now : List Disk) (k j : ℕ) : Typ
   pub at_now : slice_get now j ≡ Some disk_now
   pub as_left : IsAsLeft a member disk_left.content disk_now.content
 
--- The next mirror is made of some of these devices, in any order, by a superblock that is fit.
-pub record IsReopened (opened : MirrorView) (t : Moment) (next : MirrorView) : Type 0 where
+-- These are some of the devices that were left, in any order, and this superblock of an array of them is fit.
+pub record AreFoundAgain (opened : MirrorView) (t : Moment) (before : List Disk) (shared : Superblock) : Type 0 where
   pub left : List Disk
   pub is_left : IsLeft t left
-  pub before : List Disk
   pub honest : AreHonest before
   pub from : ℕ → ℕ  -- which of those that were left each is
   pub at : ℕ → Option ℕ  -- and where each of those is now, if it is there
   pub found : (j : ℕ) → j < length before → at (from j) ≡ Some j
   pub again : (k j : ℕ) → at k ≡ Some j → IsFoundAgain t.mirror.array left before k j
+  pub fit : IsFit (super_of opened.array.shared) (super_of shared) t.failed_at
+
+-- The next mirror is made of such devices.
+pub record IsReopened (opened : MirrorView) (t : Moment) (next : MirrorView) : Type 0 where
+  pub before : List Disk
+  pub devices : AreFoundAgain opened t before next.array.shared
   pub opens : IsOpenedFrom before next
-  pub fit : IsFit (super_of opened.array.shared) (super_of next.array.shared) t.failed_at
 
 -- A mirror's life: events, a stop and an opening, events again, and so on. The last opening gave the mirror final.
 abbrev pub MirrorLife : MirrorView → List Event → List (List Event) → MirrorView → Moment → Type 0
@@ -99,3 +105,12 @@ KeepsContent =
     (before : List Disk) (m : MirrorView) (a : Content) → IsStart before m → Holds (geometry_of m.array) a (world_of m none_in_flight)
     → (es : List Event) (rest : List (List Event)) (final : MirrorView) (last : Moment) (b : Content) → MirrorLifeWith m a es rest final last b
     → Holds (geometry_of m.array) b (world_of last.mirror last.requests)
+
+-- An opening of such devices that came to no end leaves each as it was left.
+abbrev pub StaysAsLeft : Type 0
+StaysAsLeft =
+    (before : List Disk) (m : MirrorView) → IsStart before m
+    → (es : List Event) (rest : List (List Event)) (final : MirrorView) (last : Moment) → MirrorLife m es rest final last
+    → (found : List Disk) (a : ArrayView) (devices : AreFoundAgain final last found a.shared) → IsArrayOf found a
+    → (k j : ℕ) (at : devices.at k ≡ Some j) (n : MemberView) (new : Disk) → IsMember a j n → IsHalfMarked a n (devices.again k j at).disk_now new
+    → IsAsLeft last.mirror.array (devices.again k j at).member (devices.again k j at).disk_left.content new.content

@@ -10,7 +10,7 @@ ghost use Rattle.md_model.specs.Worlds.{IsInSync};
 ghost use Rattle.md_array.specs.Members.{IsMember};
 ghost use Rattle.md_array.specs.View.{Disk, MemberView, MirrorView};
 ghost use Rattle.md_array.specs.Opening.{IsOpenedFrom};
-ghost use Rattle.md_array.specs.Lives.{AtEachMoment, ContentGoesAlong, KeepsContent};
+ghost use Rattle.md_array.specs.Lives.{AtEachMoment, ContentGoesAlong, KeepsContent, StaysAsLeft};
 ghost use Rattle.md_array.specs.Runs.{HasContent};
 ghost use Rattle.md_array.specs.Worlds.{AreHonest, geometry_of, none_in_flight, super_of, world_of, world_on};
 
@@ -40,7 +40,8 @@ pub fn opening()
 /// and made its member faulty. A refused call is none. An opening after a stop is of devices that were left,
 /// in any order, some of them missing (`IsReopened`). Its superblock is fit, which leaves out a stop while a
 /// failure awaits its record. Openings that were themselves stopped may have written bitmaps between, if no
-/// chunk lost its mark and the header kept its chunk size. Nothing is said of a mirror once it is halted.
+/// chunk lost its mark and the header kept its chunk size (`half_opening`). Nothing is said of a mirror once
+/// it is halted.
 pub fn every_run()
     // Wherever two members in sync differ, the marks stored on each of them have the chunk.
     ensures covered { AtEachMoment IsCovered }
@@ -62,4 +63,11 @@ pub fn every_run()
     ensures has_content { HasContent }
     ensures content_along { ContentGoesAlong }
     ensures keeps_content { KeepsContent }
+{}
+
+/// An opening of a mirror's devices that came to no end, at any moment of its life, leaves each as it was
+/// left, so that the next one may find it. It was stopped between two of its writes, or one of them failed;
+/// where that was the write of a bitmap's first sector, it is asked that it left the header.
+pub fn half_opening()
+    ensures as_left { StaysAsLeft }
 {}

@@ -1,0 +1,28 @@
+-- What an opening leaves that came to no end: it was stopped while it stored marks, or one of these writes failed.
+use Rattle.std.specs.Prelude.{◌≡◌, ◌⊎◌, ℕ, List, ◌++◌}
+use Rattle.md_writes.specs.Writes.{Write, after}
+use Rattle.md_array.specs.View.{Disk, MemberView, ArrayView}
+use Rattle.md_array.specs.Members.{NeedsMarks}
+use Rattle.md_array.specs.DeviceChanges.{IsUnchanged}
+use Rattle.md_array.specs.Storing.{AreMarkWrites, FailsToStore}
+use Rattle.md_array.specs.Worlds.{from_super, header_on}
+
+-- the first of the writes by which a member's marks are stored were done, and no other
+pub record StopsStoring (a : ArrayView) (m : MemberView) (old new : Disk) : Type 0 where
+  pub start : ℕ
+  pub writes : List Write
+  pub are : AreMarkWrites a m start writes
+  pub done : List Write
+  pub rest : List Write
+  pub order : writes ≡ done ++ rest
+  pub content : new.content ≡ after old.content done
+
+-- the header of the bitmap is as it was
+abbrev pub IsHeaderKept : MemberView → Disk → Disk → Type 0
+IsHeaderKept m old new =
+    header_on new.content (from_super m.superblock.bitmap_offset) ≡ header_on old.content (from_super m.superblock.bitmap_offset)
+
+-- A member's device before and after. Of a failed write of the bitmap's first sector it is asked that it left the header.
+pub record IsHalfMarked (a : ArrayView) (m : MemberView) (old new : Disk) : Type 0 where
+  pub stored : NeedsMarks m → StopsStoring a m old new ⊎ (FailsToStore a m old new × IsHeaderKept m old new)
+  pub unchanged : (NeedsMarks m → ⊥) → IsUnchanged old new
