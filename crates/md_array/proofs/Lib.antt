@@ -77,3 +77,4 @@ pub mod WorldsWithout
 pub mod WorldsWrites
 pub mod WriteKeeps
 pub mod WriteToMember
+pub mod StopsAtSteps

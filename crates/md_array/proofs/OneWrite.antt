@@ -5,13 +5,15 @@ use Rattle.std.proofs.lemmas.List.{map-set, length-map}
 use Rattle.std.proofs.lemmas.Option.{slice_get_within}
 use Rattle.md_device.specs.Device.{written}
 use Rattle.md_device.specs.Splice.{SameOutside}
-use Rattle.md_writes.specs.Writes.{DoesWrites, StopsInWrites, Write}
+use Rattle.md_device.specs.declared.device.Device.{Ghosts}
+use Rattle.md_writes.specs.Writes.{DoesWrites, IsAnyIn, IsCutShort, StopsInWrites, Write}
+use Rattle.md_writes.proofs.Runs.{stops_in_one}
 use Rattle.md_array.specs.View.{ArrayView, Disk, MemberView, MirrorView, disk_of}
 use Rattle.md_array.specs.Consistency.{IsConsistent}
 use Rattle.md_array.specs.Fits.{Fits, FitsMember}
 use Rattle.md_array.specs.Members.{IsMember}
 use Rattle.md_array.specs.DeviceChanges.{StaysHonest}
-use Rattle.md_array.specs.DiskWrites.{AtDevice, IsFailed, IsTried, IsWritten}
+use Rattle.md_array.specs.DiskWrites.{AtDevice, IsFailed, LeavesOn, IsTried, IsWritten}
 use Rattle.md_array.proofs.InTurn.{disk_at}
 use Rattle.md_array.proofs.WorldsLists.{at_set_same}
 use Rattle.md_array.proofs.Listing.{same_listed}
@@ -40,35 +42,37 @@ tried before k d e w here stays outside = record {
 }
 
 -- the device at k was read from the list, and is put back after the call
-module _ {D : Type 0} (content : D → List ℕ) (honest : D → Bool) (failures : D → ℕ) (devices : List D) (k : ℕ) (was : D) (read : was ≡ get_or devices k was) where
-  pub here : k < length devices → slice_get (map (disk_of content honest failures) devices) k ≡ Some (disk_of content honest failures was)
-  here within = disk_at (disk_of content honest failures) devices k was within ∙ ap (λ (x : D). Some (disk_of content honest failures x)) (sym read)
+module _ {D : Type 0} (g : Ghosts D) (devices : List D) (k : ℕ) (was : D) (read : was ≡ get_or devices k was) where
+  pub here : k < length devices → slice_get (map (disk_of g) devices) k ≡ Some (disk_of g was)
+  here within = disk_at (disk_of g) devices k was within ∙ ap (λ (x : D). Some (disk_of g x)) (sym read)
 
   -- it fits its member
-  pub fits_there : (a : ArrayView) (m : MemberView) → k < length devices → Fits (map (disk_of content honest failures) devices) a → IsMember a k m → FitsMember a m (disk_of content honest failures was)
-  fits_there a m within fits at = fits.each k (disk_of content honest failures was) m (here within) at
+  pub fits_there : (a : ArrayView) (m : MemberView) → k < length devices → Fits (map (disk_of g) devices) a → IsMember a k m → FitsMember a m (disk_of g was)
+  fits_there a m within fits at = fits.each k (disk_of g was) m (here within) at
 
-  module _ (new : D) (w : Write) (within : k < length devices) (outside : SameOutside (512 * w.sector) (length w.bytes) (content was) (content new)) where
+  module _ (new : D) (w : Write) (within : k < length devices) (outside : SameOutside (512 * w.sector) (length w.bytes) (g.content was) (g.content new)) where
     -- the write was done
-    pub is_written : DoesWrites content honest failures (w ∷ []) was new → IsWritten k w (map (disk_of content honest failures) devices) (map (disk_of content honest failures) (set devices k new))
+    pub is_written : DoesWrites g (w ∷ []) was new → IsWritten k w (map (disk_of g) devices) (map (disk_of g) (set devices k new))
     is_written does =
-        let before = map (disk_of content honest failures) devices in
-        let d = disk_of content honest failures was in
-        let e = disk_of content honest failures new in
-        rw (map-set (disk_of content honest failures) devices k new) (record {
+        let before = map (disk_of g) devices in
+        let d = disk_of g was in
+        let e = disk_of g new in
+        rw (map-set (disk_of g) devices k new) (record {
           tried = tried before k d e w (here within) (record { honest = does.kept.honest_kept; counted = does.kept.counted }) outside;
           done = at_device before k d e (λ a b. a.honest ≡ true → b.content ≡ written a.content w.sector w.bytes) (here within) does.all_done;
+          within = at_device before k d e (λ a b. a.honest ≡ true → LeavesOn (IsCutShort a.content (w ∷ [])) a b) (here within) does.within;
         })
 
     -- it failed
-    pub is_failed : StopsInWrites content honest failures (w ∷ []) was new → IsFailed k w (map (disk_of content honest failures) devices) (map (disk_of content honest failures) (set devices k new))
+    pub is_failed : StopsInWrites g (w ∷ []) was new → IsFailed k w (map (disk_of g) devices) (map (disk_of g) (set devices k new))
     is_failed stops =
-        let before = map (disk_of content honest failures) devices in
-        let d = disk_of content honest failures was in
-        let e = disk_of content honest failures new in
-        rw (map-set (disk_of content honest failures) devices k new) (record {
+        let before = map (disk_of g) devices in
+        let d = disk_of g was in
+        let e = disk_of g new in
+        rw (map-set (disk_of g) devices k new) (record {
           tried = tried before k d e w (here within) (record { honest = stops.kept.honest_kept; counted = stops.kept.counted }) outside;
           failed = at_device before k d e (λ a b. a.honest ≡ true → a.failures < b.failures) (here within) stops.failed;
+          within = at_device before k d e (λ a b. a.honest ≡ true → LeavesOn (IsAnyIn w a.content) a b) (here within) (stops_in_one g w was new stops);
         })
 
 -- the mirror is consistent, and member k is one of it

@@ -1,14 +1,19 @@
 -- One write to one of a mirror's devices.
-use Rattle.std.specs.Prelude.{◌≡◌, ◌≢◌, ℕ, ◌*◌, ◌<◌, true, List, length, slice_get, Some}
+use Rattle.std.specs.Prelude.{◌≡◌, ◌≢◌, ℕ, ◌*◌, ◌<◌, true, List, [], ◌∷◌, length, slice_get, Some}
 use Rattle.md_device.specs.Splice.{SameOutside}
 use Rattle.md_device.specs.Device.{written}
-use Rattle.md_writes.specs.Writes.{Write}
+use Rattle.md_device.specs.Stops.{LeavesMore}
+use Rattle.md_writes.specs.Writes.{IsAnyIn, IsCutShort, Write}
 use Rattle.md_array.specs.View.{Disk}
 use Rattle.md_array.specs.DeviceChanges.{StaysHonest}
 
 -- of device k before and after
 abbrev pub AtDevice : ℕ → List Disk → List Disk → (Disk → Disk → Type 0) → Type 0
 AtDevice k before after Related = (d e : Disk) → slice_get before k ≡ Some d → slice_get after k ≡ Some e → Related d e
+
+-- between them a stop leaves what has P
+abbrev pub LeavesOn : (List ℕ → Type 0) → Disk → Disk → Type 0
+LeavesOn P d e = LeavesMore d.stops e.stops P
 
 -- No device but k was used, and at most the write's range was changed there.
 pub record IsTried (k : ℕ) (w : Write) (before after : List Disk) : Type 0 where
@@ -17,12 +22,14 @@ pub record IsTried (k : ℕ) (w : Write) (before after : List Disk) : Type 0 whe
   pub stays : AtDevice k before after StaysHonest
   pub outside : AtDevice k before after (λ d e. SameOutside (512 * w.sector) (length w.bytes) d.content e.content)
 
--- the write was done
+-- The write was done. Within it a stop leaves device k before it, after it, or with some of its sectors written.
 pub record IsWritten (k : ℕ) (w : Write) (before after : List Disk) : Type 0 where
   pub tried : IsTried k w before after
   pub done : AtDevice k before after (λ d e. d.honest ≡ true → e.content ≡ written d.content w.sector w.bytes)
+  pub within : AtDevice k before after (λ d e. d.honest ≡ true → LeavesOn (IsCutShort d.content (w ∷ [])) d e)
 
--- it failed: any bytes may stand in its range
+-- it failed: any bytes may stand in its range, and a stop within it leaves so
 pub record IsFailed (k : ℕ) (w : Write) (before after : List Disk) : Type 0 where
   pub tried : IsTried k w before after
   pub failed : AtDevice k before after (λ d e. d.honest ≡ true → d.failures < e.failures)
+  pub within : AtDevice k before after (λ d e. d.honest ≡ true → LeavesOn (IsAnyIn w d.content) d e)

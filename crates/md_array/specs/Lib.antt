@@ -30,3 +30,4 @@ pub mod HalfOpened
 pub mod Events
 pub mod Runs
 pub mod Lives
+pub mod StopsWithin

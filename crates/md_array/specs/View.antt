@@ -1,5 +1,6 @@
 -- A mirror as contracts see it: its devices, and what it keeps in memory of the array and of each member.
 use Rattle.std.specs.Prelude.{ℕ, Bool, List}
+use Rattle.md_device.specs.declared.device.Device.{Ghosts}
 use Rattle.md_super.specs.declared.superblock.Superblock.{Superblock}
 use Rattle.md_bitmap.specs.declared.header.BitmapHeader.{BitmapHeader}
 use Rattle.md_bitmap.specs.declared.chunks.Chunks.{Chunks}
@@ -9,14 +10,20 @@ use Rattle.md_inflight.specs.Inflight.{InflightList, TicketView}
 use Rattle.md_assembly.specs.declared.state.MemberState.{MemberState}
 use Rattle.md_array.specs.declared.extent.Extent.{Extent}
 
--- a device: what stands on it, whether it does what it answers, and how many of its calls have failed
+-- a device: what stands on it, whether it does what it answers, how many of its calls have failed, and what stops within its
+-- calls might have left
 pub record Disk : Type 0 where
   pub content : List ℕ
   pub honest : Bool
   pub failures : ℕ
+  pub stops : List (List ℕ)
 
-abbrev pub disk_of : {D : Type 0} → (D → List ℕ) → (D → Bool) → (D → ℕ) → D → Disk
-disk_of content honest failures d = record { content = content d; honest = honest d; failures = failures d }
+abbrev pub disk_of : {D : Type 0} → Ghosts D → D → Disk
+disk_of g d = record { content = g.content d; honest = g.honest d; failures = g.failures d; stops = g.stops d }
+
+-- a disk is its own view
+abbrev pub of_disks : Ghosts Disk
+of_disks = record { content = λ d. d.content; honest = λ d. d.honest; failures = λ d. d.failures; stops = λ d. d.stops }
 
 -- a member, but for its device
 pub record MemberView : Type 0 where

@@ -12,6 +12,7 @@ ghost use Rattle.md_array.specs.View.{Disk, MemberView, MirrorView};
 ghost use Rattle.md_array.specs.Opening.{IsOpenedFrom};
 ghost use Rattle.md_array.specs.Lives.{AtEachMoment, ContentGoesAlong, KeepsContent, StaysAsLeft};
 ghost use Rattle.md_array.specs.Runs.{HasContent};
+ghost use Rattle.md_array.specs.StopsWithin.{StopsAtFailure, StopsAtSector, StopsAtWrite};
 ghost use Rattle.md_array.specs.Worlds.{AreHonest, geometry_of, none_in_flight, super_of, world_of, world_on};
 
 /// A mirror that was opened from devices that do what they answer is an opened world of the model, by
@@ -70,4 +71,11 @@ pub fn every_run()
 /// where that was the write of a bitmap's first sector, it is asked that it left the header.
 pub fn half_opening()
     ensures as_left { StaysAsLeft }
+{}
+
+/// What a stop at any moment of a step leaves, where the step makes a write to one device.
+pub fn stops_at_steps()
+    ensures written { StopsAtWrite }
+    ensures sector { StopsAtSector }
+    ensures failed { StopsAtFailure }
 {}

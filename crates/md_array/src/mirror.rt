@@ -28,7 +28,7 @@ impl<D: Device + Drop> Model for Mirror<D> {
 
     ghost Value = { MirrorView };
 
-    ghost view = { λ m. record { disks = map (disk_of D.content D.honest D.failures) m.devices.items; array = m.array } };
+    ghost view = { λ m. record { disks = map (disk_of D.Device) m.devices.items; array = m.array } };
 }
 
 impl<D: Device + Drop> Mirror<D> {
@@ -149,7 +149,7 @@ impl<D: Device + Drop> Mirror<D> {
 
     /// The devices, in the order of the members. Takes no memory.
     pub fn into_devices(self) -> Vec<D>
-        ensures { map (disk_of D.content D.honest D.failures) result.items ≡ self.disks }
+        ensures { map (disk_of D.Device) result.items ≡ self.disks }
     {
         self.devices
     }

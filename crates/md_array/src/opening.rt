@@ -20,8 +20,8 @@ impl<D: Device + Drop> Mirror<D> {
     /// bitmap does not tell of the array, before anything else is written. The fault is the first in
     /// the order of `OpenFault`; the devices are given back with it.
     pub fn open(alloc: Global, devices: Vec<D>) -> Result<Mirror<D>, (Vec<D>, OpenFault)>
-        ensures gives { MatchResult result (λ m. IsOpenedFrom (map (disk_of D.content D.honest D.failures) devices.items) m)
-            (λ e. RefusesOpen (map (disk_of D.content D.honest D.failures) devices.items) (map (disk_of D.content D.honest D.failures) e.0.items) e.1) }
+        ensures gives { MatchResult result (λ m. IsOpenedFrom (map (disk_of D.Device) devices.items) m)
+            (λ e. RefusesOpen (map (disk_of D.Device) devices.items) (map (disk_of D.Device) e.0.items) e.1) }
         ensures sound { IfOk result (λ m. IsConsistent m) }
     {
         let mut devices = devices;
@@ -34,8 +34,8 @@ impl<D: Device + Drop> Mirror<D> {
 
 // The array that the devices make, whose marks are stored where they have to be.
 fn open_array<D: Device>(alloc: Global, devices: &mut [D]) -> Result<Array, OpenFault>
-    ensures ok { IfOk result (λ a. IsOpenedFrom (map (disk_of D.content D.honest D.failures) devices.old) (record { disks = map (disk_of D.content D.honest D.failures) devices.new; array = a })) }
-    ensures err { IfErr result (RefusesOpen (map (disk_of D.content D.honest D.failures) devices.old) (map (disk_of D.content D.honest D.failures) devices.new)) }
+    ensures ok { IfOk result (λ a. IsOpenedFrom (map (disk_of D.Device) devices.old) (record { disks = map (disk_of D.Device) devices.new; array = a })) }
+    ensures err { IfErr result (RefusesOpen (map (disk_of D.Device) devices.old) (map (disk_of D.Device) devices.new)) }
     ensures len { length devices.new ≡ length devices.old }
 {
     let array = match array_of(alloc, devices) {
@@ -50,9 +50,9 @@ fn open_array<D: Device>(alloc: Global, devices: &mut [D]) -> Result<Array, Open
 
 // The array that the devices make, as it is kept.
 fn array_of<D: Device>(alloc: Global, devices: &mut [D]) -> Result<Array, OpenFault>
-    ensures untouched { IsUntouched (map (disk_of D.content D.honest D.failures) devices.old) (map (disk_of D.content D.honest D.failures) devices.new) }
-    ensures ok { IfOk result (IsArrayOf (map (disk_of D.content D.honest D.failures) devices.old)) }
-    ensures err { IfErr result (RefusesArray (map (disk_of D.content D.honest D.failures) devices.old) (map (disk_of D.content D.honest D.failures) devices.new)) }
+    ensures untouched { IsUntouched (map (disk_of D.Device) devices.old) (map (disk_of D.Device) devices.new) }
+    ensures ok { IfOk result (IsArrayOf (map (disk_of D.Device) devices.old)) }
+    ensures err { IfErr result (RefusesArray (map (disk_of D.Device) devices.old) (map (disk_of D.Device) devices.new)) }
 {
     let infos = match read_members(alloc, devices) {
         Ok(infos) => infos,

@@ -14,9 +14,9 @@ pub(crate) fn read_members<D: Device>(
     alloc: Global,
     devices: &mut [D],
 ) -> Result<Vec<MemberInfo>, OpenFault>
-    ensures untouched { IsUntouched (map (disk_of D.content D.honest D.failures) devices.old) (map (disk_of D.content D.honest D.failures) devices.new) }
-    ensures read { MatchResult result (λ infos. AreRead (map (disk_of D.content D.honest D.failures) devices.old) infos.items)
-        (RefusesRead (map (disk_of D.content D.honest D.failures) devices.old) (map (disk_of D.content D.honest D.failures) devices.new)) }
+    ensures untouched { IsUntouched (map (disk_of D.Device) devices.old) (map (disk_of D.Device) devices.new) }
+    ensures read { MatchResult result (λ infos. AreRead (map (disk_of D.Device) devices.old) infos.items)
+        (RefusesRead (map (disk_of D.Device) devices.old) (map (disk_of D.Device) devices.new)) }
 {
     let mut infos = Vec::with_capacity(alloc, devices.len())?;
     for k in 0..devices.len() {

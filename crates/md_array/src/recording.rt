@@ -62,7 +62,7 @@ fn store_superblock<D: Device>(
     member: &Member,
 ) -> Result<(), WriteFault>
     requires { 16 ≤ sectors_of (D.content device.old) }
-    ensures writes { MakesWrites D.content D.honest D.failures (super_write array.now member.now ∷ []) device.old device.new result }
+    ensures writes { MakesWrites D.Device (super_write array.now member.now ∷ []) device.old device.new result }
     ensures outside { SameOutside (512 * 8) (length (super_write array.now member.now).bytes) (D.content device.old) (D.content device.new) }
     ensures readable { IsReadable (merged array.now.shared member.now.superblock) }
 {

@@ -76,9 +76,9 @@ pub(crate) fn store_needed_marks<D: Device>(
     devices: &mut [D],
     array: &Array,
 ) -> Result<(), OpenFault>
-    requires { Fits (map (disk_of D.content D.honest D.failures) devices.old) array.now }
-    ensures { MatchResult result (λ _. AreMarked (map (disk_of D.content D.honest D.failures) devices.old) (map (disk_of D.content D.honest D.failures) devices.new) array.now)
-        (RefusesMarks array.now (map (disk_of D.content D.honest D.failures) devices.old) (map (disk_of D.content D.honest D.failures) devices.new)) }
+    requires { Fits (map (disk_of D.Device) devices.old) array.now }
+    ensures { MatchResult result (λ _. AreMarked (map (disk_of D.Device) devices.old) (map (disk_of D.Device) devices.new) array.now)
+        (RefusesMarks array.now (map (disk_of D.Device) devices.old) (map (disk_of D.Device) devices.new)) }
 {
     for k in 0..devices.len() {
         let member = &array.members[k];
@@ -94,11 +94,11 @@ fn store_where_needed<D: Device>(
     array: &Array,
     member: &Member,
 ) -> Result<(), WriteFault>
-    requires { FitsMember array.now member.now (disk_of D.content D.honest D.failures device.old) }
-    ensures stays { StaysHonest (disk_of D.content D.honest D.failures device.old) (disk_of D.content D.honest D.failures device.new) }
-    ensures ok { OnOk result (IsMarkedBy array.now member.now (disk_of D.content D.honest D.failures device.old) (disk_of D.content D.honest D.failures device.new)) }
+    requires { FitsMember array.now member.now (disk_of D.Device device.old) }
+    ensures stays { StaysHonest (disk_of D.Device device.old) (disk_of D.Device device.new) }
+    ensures ok { OnOk result (IsMarkedBy array.now member.now (disk_of D.Device device.old) (disk_of D.Device device.new)) }
     ensures needs { OnErr result (NeedsMarks member.now) }
-    ensures fails { OnErr result (FailsToStore array.now member.now (disk_of D.content D.honest D.failures device.old) (disk_of D.content D.honest D.failures device.new)) }
+    ensures fails { OnErr result (FailsToStore array.now member.now (disk_of D.Device device.old) (disk_of D.Device device.new)) }
 {
     if needs_marks(member) {
         store_marks_on(device, array, member)
@@ -113,10 +113,10 @@ pub(crate) fn store_marks_on<D: Device>(
     array: &Array,
     member: &Member,
 ) -> Result<(), WriteFault>
-    requires { FitsMember array.now member.now (disk_of D.content D.honest D.failures device.old) }
-    ensures stays { StaysHonest (disk_of D.content D.honest D.failures device.old) (disk_of D.content D.honest D.failures device.new) }
-    ensures ok { OnOk result (StoresMarks array.now member.now (disk_of D.content D.honest D.failures device.old) (disk_of D.content D.honest D.failures device.new)) }
-    ensures fails { OnErr result (FailsToStore array.now member.now (disk_of D.content D.honest D.failures device.old) (disk_of D.content D.honest D.failures device.new)) }
+    requires { FitsMember array.now member.now (disk_of D.Device device.old) }
+    ensures stays { StaysHonest (disk_of D.Device device.old) (disk_of D.Device device.new) }
+    ensures ok { OnOk result (StoresMarks array.now member.now (disk_of D.Device device.old) (disk_of D.Device device.new)) }
+    ensures fails { OnErr result (FailsToStore array.now member.now (disk_of D.Device device.old) (disk_of D.Device device.new)) }
 {
     let start = bitmap_start(&member.superblock);
     let header = array.header_for(member);

@@ -69,9 +69,9 @@ fn store_block<D: Device>(
     member: &Member,
     block: u32,
 ) -> Result<(), WriteFault>
-    requires fits { FitsMember array.now member.now (disk_of D.content D.honest D.failures device.old) }
+    requires fits { FitsMember array.now member.now (disk_of D.Device device.old) }
     requires block { block < bitmap_sectors member.now.stored.chunks }
-    ensures { (w : Write) × IsMarkWrite array.now member.now block w × MakesWrites D.content D.honest D.failures (w ∷ []) device.old device.new result
+    ensures { (w : Write) × IsMarkWrite array.now member.now block w × MakesWrites D.Device (w ∷ []) device.old device.new result
         × SameOutside (512 * w.sector) (length w.bytes) (D.content device.old) (D.content device.new) }
 {
     let start = bitmap_start(&member.superblock);

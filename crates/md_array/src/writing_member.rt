@@ -88,9 +88,9 @@ fn put_on<D: Device>(
 ) -> Result<(), WriteFault>
     requires within { k < length devices.old }
     requires whole { length bytes.now % 512 ≡ 0 }
-    requires room { (d : Disk) → slice_get (map (disk_of D.content D.honest D.failures) devices.old) k ≡ Some d → 512 * (data_offset + sector) + length bytes.now ≤ length d.content }
-    ensures { MatchResult result (λ _. IsWritten k (record { sector = data_offset + sector; bytes = bytes.now }) (map (disk_of D.content D.honest D.failures) devices.old) (map (disk_of D.content D.honest D.failures) devices.new))
-        (λ _. IsFailed k (record { sector = data_offset + sector; bytes = bytes.now }) (map (disk_of D.content D.honest D.failures) devices.old) (map (disk_of D.content D.honest D.failures) devices.new)) }
+    requires room { (d : Disk) → slice_get (map (disk_of D.Device) devices.old) k ≡ Some d → 512 * (data_offset + sector) + length bytes.now ≤ length d.content }
+    ensures { MatchResult result (λ _. IsWritten k (record { sector = data_offset + sector; bytes = bytes.now }) (map (disk_of D.Device) devices.old) (map (disk_of D.Device) devices.new))
+        (λ _. IsFailed k (record { sector = data_offset + sector; bytes = bytes.now }) (map (disk_of D.Device) devices.old) (map (disk_of D.Device) devices.new)) }
 {
     let device = &mut devices[k];
     let start = sector_on(device, data_offset, sector);

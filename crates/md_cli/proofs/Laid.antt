@@ -1,4 +1,5 @@
 -- Members that are laid out on their devices one by one.
+use Rattle.md_device.specs.declared.device.Device.{Ghosts}
 use Rattle.std.proofs.Common.{◌≡◌, ◌≢◌, ◌⊎◌, ◌∙◌, ◌+◌, ◌<◌, ◌≤◌, ℕ, zero, suc, Bool, List, [], ◌∷◌, length, map, set, Some, refl, sym, ap, subst, inl, inr, arith, length-set, option_map, Result, Ok, Err, MatchResult, is_err, true, false, true≢false}
 use Rattle.std.specs.Prelude.{slice_get, slice_index_or}
 use Rattle.std.proofs.lemmas.Option.{same_Some, slice_get-get_or, slice_get-map, slice_get_within}
@@ -78,19 +79,19 @@ pub all_laid : (before now : List Disk) (members : List NewMember) (n : ℕ) →
 all_laid before now members n so = record { as_many = so.as_many; each = so.each; later = λ k lt. so.rest k (omega (arith, lt)) }
 
 -- what a call says of a device it says of the device as contracts see it
-module _ {D : Type 0} (content : D → List ℕ) (honest : D → Bool) (failures : D → ℕ) (d e : D) (m : NewMember) where
-  pub does_on_disk : DoesWrites content honest failures (writes_of m) d e → LaysOut (disk_of content honest failures d) (disk_of content honest failures e) m
-  does_on_disk h = record { kept = record { size = h.kept.size; honest_kept = h.kept.honest_kept; counted = h.kept.counted }; all_done = h.all_done }
+module _ {D : Type 0} (g : Ghosts D) (d e : D) (m : NewMember) where
+  pub does_on_disk : DoesWrites g (writes_of m) d e → LaysOut (disk_of g d) (disk_of g e) m
+  does_on_disk h = record { kept = record { size = h.kept.size; honest_kept = h.kept.honest_kept; counted = h.kept.counted }; unfailing = h.unfailing; all_done = h.all_done; within = h.within }
 
-  pub stops_on_disk : StopsInWrites content honest failures (writes_of m) d e → FailsToLayOut (disk_of content honest failures d) (disk_of content honest failures e) m
-  stops_on_disk h = record { kept = record { size = h.kept.size; honest_kept = h.kept.honest_kept; counted = h.kept.counted }; stopped = h.stopped; failed = h.failed }
+  pub stops_on_disk : StopsInWrites g (writes_of m) d e → FailsToLayOut (disk_of g d) (disk_of g e) m
+  stops_on_disk h = record { kept = record { size = h.kept.size; honest_kept = h.kept.honest_kept; counted = h.kept.counted }; failed = h.failed; done = h.done; tried = h.tried; rest = h.rest; order = h.order; outside = h.outside; within = h.within }
 
 -- the first list of devices with one that was written to
-pub with_disk : {D : Type 0} (content : D → List ℕ) (honest : D → Bool) (failures : D → ℕ) (devices : List D) (n : ℕ) (e : D) → map (disk_of content honest failures) (set devices n e) ≡ set (map (disk_of content honest failures) devices) n (disk_of content honest failures e)
-with_disk content honest failures devices n e = map-set (disk_of content honest failures) devices n e
+pub with_disk : {D : Type 0} (g : Ghosts D) (devices : List D) (n : ℕ) (e : D) → map (disk_of g) (set devices n e) ≡ set (map (disk_of g) devices) n (disk_of g e)
+with_disk g devices n e = map-set (disk_of g) devices n e
 
-pub disk_at : {D : Type 0} (content : D → List ℕ) (honest : D → Bool) (failures : D → ℕ) (devices : List D) (n : ℕ) (d : D) → n < length devices → slice_get (map (disk_of content honest failures) devices) n ≡ Some (disk_of content honest failures (slice_index_or devices n d))
-disk_at content honest failures devices n d lt = slice_get-map (disk_of content honest failures) devices n ∙ ap (option_map (disk_of content honest failures)) (slice_get-get_or devices n d lt)
+pub disk_at : {D : Type 0} (g : Ghosts D) (devices : List D) (n : ℕ) (d : D) → n < length devices → slice_get (map (disk_of g) devices) n ≡ Some (disk_of g (slice_index_or devices n d))
+disk_at g devices n d lt = slice_get-map (disk_of g) devices n ∙ ap (option_map (disk_of g)) (slice_get-get_or devices n d lt)
 
 -- what a call that did not fail says, and one that did
 pub did : {T E : Type 0} (r : Result T E) (b : Bool) (P Q : Type 0) → b ≡ is_err r → b ≡ false → MatchResult r (λ _. P) (λ _. Q) → P

@@ -1,4 +1,5 @@
 -- The sizes of devices by the image words, one word at a time.
+use Rattle.md_device.specs.declared.device.Device.{Ghosts}
 use Rattle.std.proofs.Common.{◌≡◌, ◌∙◌, ◌+◌, ◌*◌, ◌/◌, ◌<◌, ◌≤◌, ℕ, zero, suc, Bool, true, false, cond, List, [], ◌∷◌, ◌++◌, drop, length, map, Option, Some, None, refl, sym, ap, subst, arith, append_assoc, append-nil}
 use Rattle.std.specs.Prelude.{slice_get, slice_index_or}
 use Rattle.std.specs.Borrow.{Bor}
@@ -70,16 +71,16 @@ all_sized names disks sizes place next past so =
     sym (append-nil sizes) ∙ ap (λ rest. sizes ++ rest) (sym none) ∙ so
 
 -- the next device, and that there is none
-pub size_at : {D : Type 0} (content : D → List ℕ) (honest : D → Bool) (failures : D → ℕ) (devices : List D) (n : ℕ) (d : D) (sectors : ℕ) → slice_get devices n ≡ Some d → length (content d) ≡ 512 * sectors → Some sectors ≡ first_size (drop n (map (disk_of content honest failures) devices))
-size_at content honest failures [] n d sectors there long = absurd cc
-size_at content honest failures (x ∷ devices) zero d sectors there long =
+pub size_at : {D : Type 0} (g : Ghosts D) (devices : List D) (n : ℕ) (d : D) (sectors : ℕ) → slice_get devices n ≡ Some d → length (g.content d) ≡ 512 * sectors → Some sectors ≡ first_size (drop n (map (disk_of g) devices))
+size_at g [] n d sectors there long = absurd cc
+size_at g (x ∷ devices) zero d sectors there long =
     let same : x ≡ d = cc in
-    let quotient : length (content x) / 512 ≡ sectors = ap (λ y. length (content y) / 512) same ∙ ap (λ (m : ℕ). m / 512) (long ∙ omega arith) ∙ div-mul-add sectors 512 0 (omega arith) in
+    let quotient : length (g.content x) / 512 ≡ sectors = ap (λ y. length (g.content y) / 512) same ∙ ap (λ (m : ℕ). m / 512) (long ∙ omega arith) ∙ div-mul-add sectors 512 0 (omega arith) in
     ap (λ (m : ℕ). Some m) (sym quotient)
-size_at content honest failures (x ∷ devices) (suc n) d sectors there long = size_at content honest failures devices n d sectors there long
+size_at g (x ∷ devices) (suc n) d sectors there long = size_at g devices n d sectors there long
 
-pub no_size_at : {D : Type 0} (content : D → List ℕ) (honest : D → Bool) (failures : D → ℕ) (devices : List D) (n : ℕ) → slice_get devices n ≡ None → None ≡ first_size (drop n (map (disk_of content honest failures) devices))
-no_size_at content honest failures [] zero none = refl
-no_size_at content honest failures [] (suc n) none = refl
-no_size_at content honest failures (x ∷ devices) zero none = absurd cc
-no_size_at content honest failures (x ∷ devices) (suc n) none = no_size_at content honest failures devices n none
+pub no_size_at : {D : Type 0} (g : Ghosts D) (devices : List D) (n : ℕ) → slice_get devices n ≡ None → None ≡ first_size (drop n (map (disk_of g) devices))
+no_size_at g [] zero none = refl
+no_size_at g [] (suc n) none = refl
+no_size_at g (x ∷ devices) zero none = absurd cc
+no_size_at g (x ∷ devices) (suc n) none = no_size_at g devices n none

@@ -1,4 +1,5 @@
 -- Devices that are taken out of their images, worked on and put back.
+use Rattle.md_device.specs.declared.device.Device.{Ghosts}
 use Rattle.std.proofs.Common.{◌≡◌, ◌∙◌, ℕ, Bool, true, List, length, Option, Result, subst, inl}
 use Rattle.clap.specs.Words.{Text}
 use Rattle.md_array.specs.View.{Disk}
@@ -13,10 +14,10 @@ module _ {D : Type 0} where
   together : (before mid after : Text → Option D) (names : List Text) (n : ℕ) (taken given : List D) → AreOut before mid names n taken → ArePut mid after names n given → ArePut before after names n given
   together before mid after names n taken given out put = record { back = put.back; others = λ other h. put.others other h ∙ out.others other h }
 
-  pub used : {S : Type 0} (content : D → List ℕ) (honest : D → Bool) (failures : D → ℕ) (Does : Work S) (Unchanged : Type 0) (known now : Bool) (before mid after : Text → Option D) (words : List Word) (taken given : List D) (old new : S) (result : Result (Unit {0}) CommandFault)
-      → TakesImages known before mid words taken → now ≡ known → length given ≡ length taken → (now ≡ true → ArePut mid after (names_of words) (length given) given) → Does (disks content honest failures taken) (disks content honest failures given) old new result
-      → UsesImages content honest failures Does Unchanged known before after words old new result
-  used content honest failures Does Unchanged known now before mid after words taken given old new result takes kept many put done = inl (record {
+  pub used : {S : Type 0} (g : Ghosts D) (Does : Work S) (Unchanged : Type 0) (known now : Bool) (before mid after : Text → Option D) (words : List Word) (taken given : List D) (old new : S) (result : Result (Unit {0}) CommandFault)
+      → TakesImages known before mid words taken → now ≡ known → length given ≡ length taken → (now ≡ true → ArePut mid after (names_of words) (length given) given) → Does (disks g taken) (disks g given) old new result
+      → UsesImages g Does Unchanged known before after words old new result
+  used g Does Unchanged known now before mid after words taken given old new result takes kept many put done = inl (record {
     taken = taken;
     given = given;
     distinct = takes.distinct;

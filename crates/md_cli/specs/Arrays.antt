@@ -1,4 +1,5 @@
 -- What the commands that open a whole array give.
+use Rattle.md_device.specs.declared.device.Device.{Ghosts}
 use Rattle.std.specs.Prelude.{◌≡◌, ◌⊎◌, ℕ, Bool, true, List, length, map, Option, Result, Err, MatchResult}
 use Rattle.clap.specs.Words.{Text}
 use Rattle.md_array.specs.View.{ArrayView, Disk, MirrorView, disk_of}
@@ -46,11 +47,11 @@ module _ {S : Type 0} (contents : S → Option (List ℕ)) (failed : S → Bool)
 abbrev pub Work : Type 0 → Type 1
 Work S = List Disk → List Disk → S → S → Result (Unit {0}) CommandFault → Type 0
 
-module _ {D : Type 0} (content : D → List ℕ) (honest : D → Bool) (failures : D → ℕ) where
+module _ {D : Type 0} (g : Ghosts D) where
   abbrev pub disks : List D → List Disk
-  disks = map (disk_of content honest failures)
+  disks = map (disk_of g)
 
-module _ {D S : Type 0} (content : D → List ℕ) (honest : D → Bool) (failures : D → ℕ) where
+module _ {D S : Type 0} (g : Ghosts D) where
   -- The devices of all words are taken out of their images, worked on, and put back under their names. Where it is known
   -- which devices there are, they are those under the names, and all other names keep theirs.
   pub record WorksOnImages (Does : Work S) (known : Bool) (before after : Text → Option D) (words : List Word) (old new : S) (result : Result (Unit {0}) CommandFault) : Type 0 where
@@ -59,7 +60,7 @@ module _ {D S : Type 0} (content : D → List ℕ) (honest : D → Bool) (failur
     pub distinct : IsDistinct (names_of words) (length words)
     pub were : known ≡ true → AreUnder before (names_of words) (length words) taken
     pub put : known ≡ true → ArePut before after (names_of words) (length words) given
-    pub done : Does (disks content honest failures taken) (disks content honest failures given) old new result
+    pub done : Does (disks g taken) (disks g given) old new result
 
   -- an image is refused, or there is no memory for the list of devices: nothing else is done
   pub record RefusesWords (Unchanged : Type 0) (known : Bool) (before after : Text → Option D) (words : List Word) (old new : S) (result : Result (Unit {0}) CommandFault) : Type 0 where

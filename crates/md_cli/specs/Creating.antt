@@ -8,7 +8,7 @@ use Rattle.md_create.specs.Writes.{DoesWrites, StopsInWrites}
 use Rattle.md_create.specs.declared.params.CreateParams.{CreateParams}
 use Rattle.md_create.specs.declared.params.NewMember.{NewMember}
 use Rattle.md_create.specs.declared.fault.CreateFault.TheVariants.{BadGeometry, NoMemory}
-use Rattle.md_array.specs.View.{Disk}
+use Rattle.md_array.specs.View.{Disk, of_disks}
 use Rattle.md_cli.specs.declared.array_report.ArrayReport.TheVariants.{Summary}
 use Rattle.md_cli.specs.declared.fault.CommandFault.{CommandFault}
 use Rattle.md_cli.specs.declared.fault.CommandFault.TheVariants as fault
@@ -38,10 +38,10 @@ At Related before after members k =
 
 -- a member is laid out on a device, or a write of it failed
 abbrev pub LaysOut : Disk → Disk → NewMember → Type 0
-LaysOut d e m = DoesWrites (λ x. x.content) (λ x. x.honest) (λ x. x.failures) (writes_of m) d e
+LaysOut d e m = DoesWrites of_disks (writes_of m) d e
 
 abbrev pub FailsToLayOut : Disk → Disk → NewMember → Type 0
-FailsToLayOut d e m = StopsInWrites (λ x. x.content) (λ x. x.honest) (λ x. x.failures) (writes_of m) d e
+FailsToLayOut d e m = StopsInWrites of_disks (writes_of m) d e
 
 -- the first n members are laid out, each on its device, and nothing is done to the devices behind the n-th
 pub record AreLaidOut (before after : List Disk) (members : List NewMember) (n : ℕ) : Type 0 where

@@ -1,4 +1,5 @@
 -- What the commands that show one image give.
+use Rattle.md_device.specs.declared.device.Device.{Ghosts}
 use Rattle.std.specs.Prelude.{◌≡◌, ◌≢◌, ◌⊎◌, ℕ, ◌<◌, Bool, true, List, Option, Some, None, Result, Err, MatchResult}
 use Rattle.md_super.specs.declared.superblock.Superblock.{Superblock as SuperblockValue}
 use Rattle.md_bitmap.specs.declared.header.BitmapHeader.{BitmapHeader}
@@ -46,15 +47,15 @@ OthersStay old new name = (other : List ℕ) → other ≢ name → new other �
 
 -- the one image's device is taken out, read and put back. Where it is known which devices there are, it is the one under
 -- the name.
-pub record ExaminesDevice {D S : Type 0} (report : Report) (content : D → List ℕ) (honest : D → Bool) (failures : D → ℕ) (contents : S → Option (List ℕ)) (failed : S → Bool) (known : Bool) (before after : List ℕ → Option D) (name : List ℕ) (old new : S) (result : Result (Unit {0}) CommandFault) : Type 0 where
+pub record ExaminesDevice {D S : Type 0} (report : Report) (g : Ghosts D) (contents : S → Option (List ℕ)) (failed : S → Bool) (known : Bool) (before after : List ℕ → Option D) (name : List ℕ) (old new : S) (result : Result (Unit {0}) CommandFault) : Type 0 where
   pub taken : D
   pub given : D
   pub was : known ≡ true → before name ≡ Some taken
   pub back : known ≡ true → after name ≡ Some given
   pub others : known ≡ true → OthersStay before after name
-  pub kept : content given ≡ content taken
-  pub stays_honest : honest given ≡ honest taken
-  pub gives : Examines report contents failed old new (content taken) (honest taken) (failures taken < failures given) result
+  pub kept : g.content given ≡ g.content taken
+  pub stays_honest : g.honest given ≡ g.honest taken
+  pub gives : Examines report contents failed old new (g.content taken) (g.honest taken) (g.failures taken < g.failures given) result
 
 -- the image can't be opened
 pub record RefusesImage {D S : Type 0} (known : Bool) (before after : List ℕ → Option D) (name : List ℕ) (old new : S) (result : Result (Unit {0}) CommandFault) : Type 0 where
@@ -64,7 +65,7 @@ pub record RefusesImage {D S : Type 0} (known : Bool) (before after : List ℕ �
   pub others : known ≡ true → OthersStay before after name
   pub unwritten : new ≡ old
 
-abbrev pub ExaminesOne : {D S : Type 0} → Report → (D → List ℕ) → (D → Bool) → (D → ℕ) → (S → Option (List ℕ)) → (S → Bool) → Bool → (List ℕ → Option D) → (List ℕ → Option D) → List ℕ → S → S → Result (Unit {0}) CommandFault → Type 0
-ExaminesOne report content honest failures contents failed known before after name old new result =
-    ExaminesDevice report content honest failures contents failed known before after name old new result
+abbrev pub ExaminesOne : {D S : Type 0} → Report → Ghosts D → (S → Option (List ℕ)) → (S → Bool) → Bool → (List ℕ → Option D) → (List ℕ → Option D) → List ℕ → S → S → Result (Unit {0}) CommandFault → Type 0
+ExaminesOne report g contents failed known before after name old new result =
+    ExaminesDevice report g contents failed known before after name old new result
     ⊎ RefusesImage known before after name old new result

@@ -1,4 +1,5 @@
 -- What one run gives.
+use Rattle.md_device.specs.declared.device.Device.{Ghosts}
 use Rattle.std.specs.Prelude.{◌≡◌, ◌≢◌, ◌⊎◌, ℕ, Bool, true, false, List, [], ◌∷◌, length, Option, Some, None, Result, Ok, Err}
 use Rattle.clap.specs.Words.{Text}
 use Rattle.md_create.specs.declared.params.CreateParams.{CreateParams}
@@ -23,11 +24,11 @@ status_of (Err _) = 1
 abbrev pub IsIdle : {I S : Type 0} → I → I → S → S → Type 0
 IsIdle before after old new = (after ≡ before) × (new ≡ old)
 
-module _ {I D S : Type 0} (content : D → List ℕ) (honest : D → Bool) (failures : D → ℕ) (contents : S → Option (List ℕ)) (failed : S → Bool) (known : I → Bool) (device_at : I → Text → Option D) where
+module _ {I D S : Type 0} (g : Ghosts D) (contents : S → Option (List ℕ)) (failed : S → Bool) (known : I → Bool) (device_at : I → Text → Option D) where
   -- a report on one image
   pub record Examines (report : Report) (words : List Text) (before after : I) (old new : S) (result : Result (Unit {0}) CommandFault) : Type 0 where
     pub count : length words ≢ 1 → (result ≡ Err fault.BadCount) × IsIdle before after old new
-    pub one : (name : Text) → words ≡ name ∷ [] → ExaminesOne report content honest failures contents failed (known before) (device_at before) (device_at after) name old new result
+    pub one : (name : Text) → words ≡ name ∷ [] → ExaminesOne report g contents failed (known before) (device_at before) (device_at after) name old new result
 
   -- an array is made: the options are refused, or they say what it is made from
   pub record RefusesOptions (o : Options) (words : List Text) (before after : I) (old new : S) (result : Result (Unit {0}) CommandFault) : Type 0 where
@@ -40,14 +41,14 @@ module _ {I D S : Type 0} (content : D → List ℕ) (honest : D → Bool) (fail
     pub sound : option_fault o (length words) ≡ None
     pub params : CreateParams
     pub planned : IsPlan o params
-    pub done : UsesImages content honest failures (CreatesOn contents failed params words) (after ≡ before) (known before) (device_at before) (device_at after) (image_list true words) old new result
+    pub done : UsesImages g (CreatesOn contents failed params words) (after ≡ before) (known before) (device_at before) (device_at after) (image_list true words) old new result
 
   -- what each command does with the images that its words name
   abbrev pub Does : Ask → List Text → I → I → S → S → Result (Unit {0}) CommandFault → Type 0
   Does (examines report) words before after old new result = Examines report words before after old new result
   Does (creates o) words before after old new result = RefusesOptions o words before after old new result ⊎ Creates o words before after old new result
-  Does assembles words before after old new result = UsesImages content honest failures (OpensDevices contents failed Summary) (after ≡ before) (known before) (device_at before) (device_at after) (image_list false words) old new result
-  Does details words before after old new result = UsesImages content honest failures (OpensDevices contents failed Detail) (after ≡ before) (known before) (device_at before) (device_at after) (image_list false words) old new result
+  Does assembles words before after old new result = UsesImages g (OpensDevices contents failed Summary) (after ≡ before) (known before) (device_at before) (device_at after) (image_list false words) old new result
+  Does details words before after old new result = UsesImages g (OpensDevices contents failed Detail) (after ≡ before) (known before) (device_at before) (device_at after) (image_list false words) old new result
 
   -- the command's own answer, whose status this is
   pub record DoesCommand (ask : Ask) (words : List Text) (before after : I) (old new : S) (status : ℕ) : Type 0 where

@@ -39,7 +39,7 @@ pub(crate) fn show_devices<D: Device + Drop, S: Sink>(
     out: &mut S,
 ) -> (Vec<D>, Result<(), CommandFault>)
     ensures as_many { length result.0.items ≡ length devices.items }
-    ensures gives { OpensDevices S.contents S.failed report (map (disk_of D.content D.honest D.failures) devices.items) (map (disk_of D.content D.honest D.failures) result.0.items) out.old out.new result.1 }
+    ensures gives { OpensDevices S.contents S.failed report (map (disk_of D.Device) devices.items) (map (disk_of D.Device) result.0.items) out.old out.new result.1 }
 {
     match Mirror::open(alloc, devices) {
         Ok(mirror) => {
@@ -58,7 +58,7 @@ pub(crate) fn show_images<I: Images, S: Sink>(
     names: &[&str],
     out: &mut S,
 ) -> Result<(), CommandFault>
-    ensures { UsesImages I.Dev.content I.Dev.honest I.Dev.failures (OpensDevices S.contents S.failed report) (images.new ≡ images.old) (I.known images.old) (I.device_at images.old) (I.device_at images.new) (image_list false (map (λ s. s.now) names.now)) out.old out.new result }
+    ensures { UsesImages I.Dev.Device (OpensDevices S.contents S.failed report) (images.new ≡ images.old) (I.known images.old) (I.device_at images.old) (I.device_at images.new) (image_list false (map (λ s. s.now) names.now)) out.old out.new result }
 {
     let Ok(list) = image_list(alloc, names, false) else {
         return Err(CommandFault::NoMemory);

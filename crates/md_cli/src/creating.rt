@@ -31,7 +31,7 @@ fn create_on<D: Device + Drop, S: Sink>(
     requires words { map word_of words.now ≡ image_list true (map (λ s. s.now) names.now) }
     requires as_many { length devices.items ≡ length words.now }
     ensures as_many { length result.0.items ≡ length devices.items }
-    ensures gives { CreatesOn S.contents S.failed params.now (map (λ s. s.now) names.now) (map (disk_of D.content D.honest D.failures) devices.items) (map (disk_of D.content D.honest D.failures) result.0.items) out.old out.new result.1 }
+    ensures gives { CreatesOn S.contents S.failed params.now (map (λ s. s.now) names.now) (map (disk_of D.Device) devices.items) (map (disk_of D.Device) result.0.items) out.old out.new result.1 }
 {
     let Ok(sizes) = sizes_of(alloc, names, devices.as_slice()) else {
         return (devices, Err(CommandFault::NoMemory));
@@ -58,7 +58,7 @@ pub(crate) fn create_images<I: Images, S: Sink>(
     names: &[&str],
     out: &mut S,
 ) -> Result<(), CommandFault>
-    ensures { UsesImages I.Dev.content I.Dev.honest I.Dev.failures (CreatesOn S.contents S.failed params.now (map (λ s. s.now) names.now)) (images.new ≡ images.old) (I.known images.old) (I.device_at images.old) (I.device_at images.new) (image_list true (map (λ s. s.now) names.now)) out.old out.new result }
+    ensures { UsesImages I.Dev.Device (CreatesOn S.contents S.failed params.now (map (λ s. s.now) names.now)) (images.new ≡ images.old) (I.known images.old) (I.device_at images.old) (I.device_at images.new) (image_list true (map (λ s. s.now) names.now)) out.old out.new result }
 {
     let Ok(list) = image_list(alloc, names, true) else {
         return Err(CommandFault::NoMemory);

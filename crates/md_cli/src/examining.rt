@@ -102,7 +102,7 @@ pub(crate) fn examine_images<I: Images, S: Sink>(
     out: &mut S,
 ) -> Result<(), CommandFault>
     ensures count { length names.now ≢ 1 → (result ≡ Err CommandFault.BadCount) × (images.new ≡ images.old) × (out.new ≡ out.old) }
-    ensures one { (name : List ℕ) → map (λ s. s.now) names.now ≡ name ∷ [] → ExaminesOne report I.Dev.content I.Dev.honest I.Dev.failures S.contents S.failed (I.known images.old) (I.device_at images.old) (I.device_at images.new) name out.old out.new result }
+    ensures one { (name : List ℕ) → map (λ s. s.now) names.now ≡ name ∷ [] → ExaminesOne report I.Dev.Device S.contents S.failed (I.known images.old) (I.device_at images.old) (I.device_at images.new) name out.old out.new result }
 {
     if names.len() != 1 {
         return Err(CommandFault::BadCount);

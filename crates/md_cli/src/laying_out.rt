@@ -10,10 +10,10 @@ use md_device::Device;
 /// the number of devices where there is none.
 pub(crate) fn lay_out_each<D: Device>(devices: &mut [D], members: &[NewMember]) -> usize
     requires as_many { length members.now ≡ length devices.old }
-    requires room { (k : ℕ) (d : Disk) → slice_get (map (disk_of D.content D.honest D.failures) devices.old) k ≡ Some d → 512 * 2048 ≤ length d.content }
+    requires room { (k : ℕ) (d : Disk) → slice_get (map (disk_of D.Device) devices.old) k ≡ Some d → 512 * 2048 ≤ length d.content }
     ensures few { result ≤ length devices.old }
-    ensures laid_out { AreLaidOut (map (disk_of D.content D.honest D.failures) devices.old) (map (disk_of D.content D.honest D.failures) devices.new) members.now result }
-    ensures stopped { result < length devices.old → At FailsToLayOut (map (disk_of D.content D.honest D.failures) devices.old) (map (disk_of D.content D.honest D.failures) devices.new) members.now result }
+    ensures laid_out { AreLaidOut (map (disk_of D.Device) devices.old) (map (disk_of D.Device) devices.new) members.now result }
+    ensures stopped { result < length devices.old → At FailsToLayOut (map (disk_of D.Device) devices.old) (map (disk_of D.Device) devices.new) members.now result }
 {
     for place in 0..devices.len() {
         if lay_out(&mut devices[place], &members[place]).is_err() {

@@ -15,7 +15,7 @@ use md_super::SUPER_SECTOR;
 /// that no stop leaves an old superblock over an emptied log. It takes no memory.
 pub fn lay_out<D: Device>(device: &mut D, member: &NewMember) -> Result<(), WriteFault>
     requires { 512 * 2048 ≤ length (D.content device.old) }
-    ensures writes { MakesWrites D.content D.honest D.failures (writes_of member.now) device.old device.new result }
+    ensures writes { MakesWrites D.Device (writes_of member.now) device.old device.new result }
     ensures laid_out { OnOk result (D.honest device.old ≡ true → IsLaidOut (D.content device.old) member.now (D.content device.new)) }
 {
     put(device, SUPER_SECTOR, &[0; 4096])?;
@@ -30,7 +30,7 @@ pub fn lay_out<D: Device>(device: &mut D, member: &NewMember) -> Result<(), Writ
 fn put<D: Device>(device: &mut D, sector: u64, bytes: &[u8]) -> Result<(), WriteFault>
     requires whole { length bytes.now % 512 ≡ 0 }
     requires within { 512 * sector + length bytes.now ≤ length (D.content device.old) }
-    ensures { MakesWrites D.content D.honest D.failures (record { sector = sector; bytes = bytes.now } ∷ []) device.old device.new result }
+    ensures { MakesWrites D.Device (record { sector = sector; bytes = bytes.now } ∷ []) device.old device.new result }
 {
     device.write(sector, bytes)
 }
@@ -43,7 +43,7 @@ fn put_bitmap<D: Device>(
 ) -> Result<(), WriteFault>
     requires room { 512 * 2048 ≤ length (D.content device.old) }
     requires few_chunks { marks.now.chunks ≤ 1048576 }
-    ensures { MakesWrites D.content D.honest D.failures (bitmap_writes header.now marks.now (bitmap_sectors marks.now.chunks)) device.old device.new result }
+    ensures { MakesWrites D.Device (bitmap_writes header.now marks.now (bitmap_sectors marks.now.chunks)) device.old device.new result }
 {
     let mut left = sectors_of_bitmap(marks.chunks());
     while left > 0 {

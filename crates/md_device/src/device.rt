@@ -2,6 +2,7 @@
 ghost use Rattle.std.specs.Prelude.{◌≡◌, ◌+◌, ◌*◌, ◌%◌, ◌^◌, ◌<◌, ◌≤◌, Bool, List, ℕ, length, true, OnOk, OnErr};
 ghost use Rattle.md_device.specs.Splice.{SameOutside};
 ghost use Rattle.md_device.specs.Device.{held, written};
+ghost use Rattle.md_device.specs.Stops.{LeavesMore, WithinWrite};
 
 use thiserror::Error;
 
@@ -32,6 +33,10 @@ pub trait Device {
     /// How many calls have failed. On an honest device a call fails only where the count rises.
     ghost failures: { Self → ℕ };
 
+    /// What stops so far might have left, within calls and between two, in their order. Only what can't
+    /// be left is promised: a device that never stops has none.
+    ghost stops: { Self → List (List ℕ) };
+
     /// The number of sectors.
     fn sectors(&self) -> u64
         ensures size { length (content self.now) ≡ 512 * result }
@@ -39,7 +44,8 @@ pub trait Device {
 
     /// Fills `buf` with the bytes from `sector` on.
     ///
-    /// After a `ReadFault` any bytes may stand in `buf`; the device's content is as before.
+    /// After a `ReadFault` any bytes may stand in `buf`; the device's content is as before, and a stop
+    /// leaves nothing else.
     fn read(&mut self, sector: u64, buf: &mut [u8]) -> Result<(), ReadFault>
         requires whole { length buf.old % 512 ≡ 0 }
         requires within { 512 * sector + length buf.old ≤ length (content self.old) }
@@ -48,11 +54,14 @@ pub trait Device {
         ensures honest { honest self.new ≡ honest self.old }
         ensures ok { OnOk result (honest self.old ≡ true → buf.new ≡ held (content self.old) sector (length buf.old)) }
         ensures err { OnErr result (honest self.old ≡ true → failures self.old < failures self.new) }
-        ensures counted { failures self.old ≤ failures self.new };
+        ensures counted { failures self.old ≤ failures self.new }
+        ensures unfailing { OnOk result (failures self.new ≡ failures self.old) }
+        ensures within { honest self.old ≡ true → LeavesMore (stops self.old) (stops self.new) (λ left. left ≡ content self.old) };
 
     /// Writes `bytes` from `sector` on. `Ok` means that they are on stable storage.
     ///
-    /// A failed write leaves any bytes in its range, and no others changed.
+    /// A failed write leaves any bytes in its range, and no others changed. So does a stop within it; a
+    /// stop within one that answers `Ok` leaves each of its sectors as it was or as written.
     fn write(&mut self, sector: u64, bytes: &[u8]) -> Result<(), WriteFault>
         requires whole { length bytes.now % 512 ≡ 0 }
         requires within { 512 * sector + length bytes.now ≤ length (content self.old) }
@@ -61,5 +70,7 @@ pub trait Device {
         ensures honest { honest self.new ≡ honest self.old }
         ensures ok { OnOk result (honest self.old ≡ true → content self.new ≡ written (content self.old) sector bytes.now) }
         ensures err { OnErr result (honest self.old ≡ true → failures self.old < failures self.new) }
-        ensures counted { failures self.old ≤ failures self.new };
+        ensures counted { failures self.old ≤ failures self.new }
+        ensures unfailing { OnOk result (failures self.new ≡ failures self.old) }
+        ensures within { honest self.old ≡ true → LeavesMore (stops self.old) (stops self.new) (WithinWrite result sector bytes.now (content self.old)) };
 }

@@ -2,6 +2,7 @@
 ghost use Rattle.std.specs.Prelude.{◌≡◌, ◌+◌, ◌*◌, ◌%◌, ◌<◌, ◌≤◌, length, true, false, OnOk, OnErr, IsErr};
 ghost use Rattle.md_device.specs.Splice.{SameOutside};
 ghost use Rattle.md_device.specs.Device.{held, written};
+ghost use Rattle.md_device.specs.Stops.{LeavesMore, WithinWrite};
 ghost use Rattle.md_device.specs.Faults.{touches, first_half, fails_read, fails_write, next_write};
 
 use crate::device::{Device, ReadFault, WriteFault};
@@ -68,6 +69,8 @@ impl<D: Device> Device for FaultDevice<D> {
 
     ghost failures = { λ d. d.failed + D.failures d.inner };
 
+    ghost stops = { λ d. D.stops d.inner };
+
     fn sectors(&self) -> u64 {
         self.inner.sectors()
     }
@@ -81,6 +84,8 @@ impl<D: Device> Device for FaultDevice<D> {
         ensures ok { OnOk result (D.honest self.old.inner ≡ true → buf.new ≡ held (D.content self.old.inner) sector (length buf.old)) }
         ensures err { OnErr result (D.honest self.old.inner ≡ true → self.old.failed + D.failures self.old.inner < self.new.failed + D.failures self.new.inner) }
         ensures counted { self.old.failed + D.failures self.old.inner ≤ self.new.failed + D.failures self.new.inner }
+        ensures unfailing { OnOk result (self.new.failed + D.failures self.new.inner ≡ self.old.failed + D.failures self.old.inner) }
+        ensures within { D.honest self.old.inner ≡ true → LeavesMore (D.stops self.old.inner) (D.stops self.new.inner) (λ left. left ≡ D.content self.old.inner) }
 
         // A read that is made to fail changes the count alone; no other fails but by the device below.
         ensures bad { fails_read self.old sector (length buf.old) ≡ true → IsErr result × (buf.new ≡ buf.old) × (self.new ≡ record self.old { failed = self.old.failed + 1 }) }
@@ -93,6 +98,7 @@ impl<D: Device> Device for FaultDevice<D> {
         self.inner.read(sector, buf)
     }
 
+    #[tactic(auto, using(crate::proofs::Leaving::leaves_none))]
     fn write(&mut self, sector: u64, bytes: &[u8]) -> Result<(), WriteFault>
         requires whole { length bytes.now % 512 ≡ 0 }
         requires within { 512 * sector + length bytes.now ≤ length (D.content self.old.inner) }
@@ -102,6 +108,8 @@ impl<D: Device> Device for FaultDevice<D> {
         ensures ok { OnOk result (D.honest self.old.inner ≡ true → D.content self.new.inner ≡ written (D.content self.old.inner) sector bytes.now) }
         ensures err { OnErr result (D.honest self.old.inner ≡ true → self.old.failed + D.failures self.old.inner < self.new.failed + D.failures self.new.inner) }
         ensures counted { self.old.failed + D.failures self.old.inner ≤ self.new.failed + D.failures self.new.inner }
+        ensures unfailing { OnOk result (self.new.failed + D.failures self.new.inner ≡ self.old.failed + D.failures self.old.inner) }
+        ensures within { D.honest self.old.inner ≡ true → LeavesMore (D.stops self.old.inner) (D.stops self.new.inner) (WithinWrite result sector bytes.now (D.content self.old.inner)) }
 
         // A write that is made to fail is counted; no other fails but by the device below.
         ensures bad { fails_write self.old ≡ true → IsErr result × (self.new ≡ record self.old { inner = self.new.inner; writes = next_write self.old; failed = self.old.failed + 1 }) }
@@ -143,6 +151,7 @@ fn write_half<D: Device>(device: &mut D, sector: u64, bytes: &[u8])
     ensures half_outside { SameOutside (512 * sector) (length (first_half bytes.now)) (D.content device.old) (D.content device.new) }
     ensures honest { D.honest device.new ≡ D.honest device.old }
     ensures counted { D.failures device.old ≤ D.failures device.new }
+    ensures within { D.honest device.old ≡ true → LeavesMore (D.stops device.old) (D.stops device.new) (SameOutside (512 * sector) (length bytes.now) (D.content device.old)) }
     ensures half { D.honest device.old ≡ true → D.failures device.new ≡ D.failures device.old → D.content device.new ≡ written (D.content device.old) sector (first_half bytes.now) }
 {
     let half = bytes.len() / 1024 * 512;

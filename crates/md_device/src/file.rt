@@ -1,5 +1,5 @@
 // A device in a file or a block device.
-ghost use Rattle.std.specs.Prelude.{◌≡◌, ◌*◌, ◌^◌, ◌≤◌, ◌↔◌, ◌⊎◌, ℕ, false, replicate, IfOk, IsOk, IsErrOf, IsTrue};
+ghost use Rattle.std.specs.Prelude.{◌≡◌, ◌*◌, ◌^◌, ◌≤◌, ◌↔◌, ◌⊎◌, ℕ, false, replicate, IfOk, IsOk, IsErrOf, IsTrue, []};
 ghost use Rattle.std.specs.Fs.{file_type, IsDir, IsFile};
 
 use crate::device::{Device, ReadFault, WriteFault};
@@ -94,6 +94,8 @@ impl Device for FileDevice {
     ghost honest = { λ _. false };
 
     ghost failures = { λ _. 0 };
+
+    ghost stops = { λ _. [] };
 
     fn sectors(&self) -> u64 {
         self.sectors

@@ -1,5 +1,5 @@
 // A device in memory.
-ghost use Rattle.std.specs.Prelude.{◌≡◌, ◌+◌, ◌*◌, ◌%◌, ◌^◌, ◌≤◌, List, ℕ, length, true, replicate, IfOk, vec_len};
+ghost use Rattle.std.specs.Prelude.{◌≡◌, ◌+◌, ◌*◌, ◌%◌, ◌^◌, ◌≤◌, List, ℕ, length, true, [], replicate, IfOk, vec_len};
 ghost use Rattle.md_device.specs.Splice.{spliced};
 
 use crate::device::{Device, ReadFault, WriteFault};
@@ -55,6 +55,9 @@ impl Device for MemDevice {
     ghost honest = { λ _. true };
 
     ghost failures = { λ _. 0 };
+
+    // This device never stops, so nothing is kept. What contracts say of stops is of every device.
+    ghost stops = { λ _. [] };
 
     fn sectors(&self) -> u64 {
         self.bytes.len() as u64 / 512

@@ -1,106 +1,205 @@
 -- Writes in their order, some of them made.
-use Rattle.std.proofs.Common.{◌≡◌, ℕ, ◌*◌, ◌<◌, ◌≤◌, Bool, true, false, List, [], ◌∷◌, ◌++◌, length, append_assoc, OnOk, OnErr, IsErr, refl, ap, sym, ◌∙◌, arith, Result, Ok, Err}
+use Rattle.std.proofs.Common.{◌≡◌, ◌⊎◌, ⊎_elim, inl, inr, subst, ℕ, ◌*◌, ◌<◌, ◌≤◌, true, false, List, [], ◌∷◌, ◌++◌, length, append_assoc, OnOk, OnErr, IsErr, refl, ap, sym, ◌∙◌, arith, Result, Ok, Err}
 use Rattle.std.proofs.lemmas.List.{append-nil}
 use Rattle.std.proofs.lemmas.List.Sums.{fold-append}
+use Rattle.md_device.specs.declared.device.Device.{Ghosts}
 use Rattle.md_device.specs.Splice.{SameOutside}
 use Rattle.md_device.specs.Device.{written}
-use Rattle.md_writes.specs.Writes.{Write, IsStopped, IsKept, DoesWrites, StopsInWrites, MakesWrites, after}
+use Rattle.md_device.specs.Stops.{IsMixed, WithinWrite}
+use Rattle.md_device.proofs.Leaving as leaving
+use Rattle.md_device.proofs.Leaving.{leaves_less, leaves_none, mixed_none}
+use Rattle.md_writes.specs.Writes.{Write, IsStopped, IsKept, IsCutShort, IsNextMixed, IsAnyIn, DoesWrites, StopsInWrites, MakesWrites, LeavesOnly, after}
 
 pub after-append : (old : List ℕ) (writes more : List Write) → after old (writes ++ more) ≡ after (after old writes) more
 after-append old writes more = fold-append (λ before (w : Write). written before w.sector w.bytes) old writes more
 
-stopped_front : (old new : List ℕ) (writes more : List Write) → IsStopped old writes new → IsStopped old (writes ++ more) new
-stopped_front old new writes more stop = record {
-  done = stop.done;
-  failed = stop.failed;
-  rest = stop.rest ++ more;
-  order = ap (λ ws. ws ++ more) stop.order ∙ append_assoc stop.done (stop.failed ∷ stop.rest) more;
-  outside = stop.outside;
+-- what a stop leaves of the first writes, it leaves of more of them
+cut_front : (old left : List ℕ) (writes more : List Write) → IsCutShort old writes left → IsCutShort old (writes ++ more) left
+cut_front old left writes more cut = by cut.rest cut.order cut.mixed
+  where
+    by : (rest : List Write) → writes ≡ cut.done ++ rest → IsNextMixed rest (after old cut.done) left → IsCutShort old (writes ++ more) left
+    by [] order same = next more refl
+      where
+        all : after old cut.done ≡ after old writes
+        all = ap (after old) (sym (append-nil cut.done) ∙ sym order)
+
+        next : (ws : List Write) → more ≡ ws → IsCutShort old (writes ++ more) left
+        next [] none = record { done = writes ++ more; rest = []; order = sym (append-nil (writes ++ more)); mixed = same ∙ all ∙ ap (after old) (sym (append-nil writes) ∙ ap (λ xs. writes ++ xs) (sym none)) }
+        next (w ∷ ws) some = record { done = writes; rest = w ∷ ws; order = ap (λ xs. writes ++ xs) some; mixed = subst (λ xs. IsMixed w.sector w.bytes xs left) all (subst (λ xs. IsMixed w.sector w.bytes (after old cut.done) xs) (sym same) (mixed_none w.sector w.bytes (after old cut.done))) }
+    by (w ∷ rest) order mixed = record {
+      done = cut.done;
+      rest = w ∷ (rest ++ more);
+      order = ap (λ ws. ws ++ more) order ∙ append_assoc cut.done (w ∷ rest) more;
+      mixed = mixed;
+    }
+
+-- what it leaves of later ones
+cut_back : (old mid left : List ℕ) (writes more : List Write) → mid ≡ after old writes → IsCutShort mid more left → IsCutShort old (writes ++ more) left
+cut_back old mid left writes more is cut = record {
+  done = writes ++ cut.done;
+  rest = cut.rest;
+  order = ap (λ ws. writes ++ ws) cut.order ∙ sym (append_assoc writes cut.done cut.rest);
+  mixed = subst (λ xs. IsNextMixed cut.rest xs left) (ap (λ xs. after xs cut.done) is ∙ sym (after-append old writes cut.done)) cut.mixed;
 }
 
-stopped_back : (old new : List ℕ) (writes more : List Write) → IsStopped (after old writes) more new → IsStopped old (writes ++ more) new
-stopped_back old new writes more stop = record {
-  done = writes ++ stop.done;
-  failed = stop.failed;
-  rest = stop.rest;
-  order = ap (λ ws. writes ++ ws) stop.order ∙ sym (append_assoc writes stop.done (stop.failed ∷ stop.rest));
-  outside = rw (after-append old writes stop.done) stop.outside;
-}
+-- of no writes a stop leaves what was there
+cut_none : (old left : List ℕ) → IsCutShort old [] left → left ≡ old
+cut_none old left cut = by cut.done cut.rest cut.order cut.mixed
+  where
+    by : (done rest : List Write) → [] ≡ done ++ rest → IsNextMixed rest (after old done) left → left ≡ old
+    by [] [] order mixed = mixed
+    by [] (w ∷ rest) order mixed = absurd (let e : ◌≡◌ {A = List Write} [] (w ∷ rest) = order in cc)
+    by (w ∷ done) rest order mixed = absurd (let e : ◌≡◌ {A = List Write} [] (w ∷ (done ++ rest)) = order in cc)
 
-module _ {D : Type 0} (content : D → List ℕ) (honest : D → Bool) (failures : D → ℕ) where
-  kept_none : (old : D) → IsKept content honest failures old old
+-- of a single write it leaves the content after it, or it cuts it short
+pub cut_one : (old left : List ℕ) (w : Write) → IsCutShort old (w ∷ []) left → (left ≡ written old w.sector w.bytes) ⊎ IsMixed w.sector w.bytes old left
+cut_one old left w cut = by cut.done cut.rest cut.order cut.mixed
+  where
+    by : (done rest : List Write) → w ∷ [] ≡ done ++ rest → IsNextMixed rest (after old done) left → (left ≡ written old w.sector w.bytes) ⊎ IsMixed w.sector w.bytes old left
+    by [] [] order mixed = absurd (let e : ◌≡◌ {A = List Write} (w ∷ []) [] = order in cc)
+    by [] (x ∷ rest) order mixed =
+        let same : x ≡ w = let e : w ∷ [] ≡ x ∷ rest = order in cc in
+        inr (subst (λ (y : Write). IsMixed y.sector y.bytes old left) same mixed)
+    by (x ∷ []) [] order mixed =
+        let same : x ≡ w = let e : w ∷ [] ≡ x ∷ [] = order in cc in
+        inl (subst (λ (y : Write). left ≡ written old y.sector y.bytes) same mixed)
+    by (x ∷ []) (y ∷ rest) order mixed = absurd (let e : w ∷ [] ≡ x ∷ (y ∷ rest) = order in cc)
+    by (x ∷ y ∷ done) rest order mixed = absurd (let e : w ∷ [] ≡ x ∷ (y ∷ (done ++ rest)) = order in cc)
+
+any_of_none : (old left : List ℕ) (w : Write) → IsCutShort old [] left → IsAnyIn w old left
+any_of_none old left w cut = subst (λ xs. IsAnyIn w old xs) (sym (cut_none old left cut)) (record { size = refl; before = refl; after = refl })
+
+any_back : (old mid new : List ℕ) (writes done : List Write) (w : Write) → mid ≡ after old writes → IsAnyIn w (after mid done) new → IsAnyIn w (after old (writes ++ done)) new
+any_back old mid new writes done w is any = subst (λ xs. IsAnyIn w xs new) (ap (λ xs. after xs done) is ∙ sym (after-append old writes done)) any
+
+module _ {D : Type 0} (g : Ghosts D) where
+  kept_none : (old : D) → IsKept g old old
   kept_none old = record { size = refl; honest_kept = refl; counted = omega arith }
 
-  kept_then : (old mid new : D) → IsKept content honest failures old mid → IsKept content honest failures mid new → IsKept content honest failures old new
+  kept_then : (old mid new : D) → IsKept g old mid → IsKept g mid new → IsKept g old new
   kept_then old mid new first second = record {
     size = second.size ∙ first.size;
     honest_kept = second.honest_kept ∙ first.honest_kept;
     counted = omega (arith, first.counted, second.counted);
   }
 
-  pub does_none : (old : D) → DoesWrites content honest failures [] old old
-  does_none old = record { kept = kept_none old; all_done = λ _. refl }
+  -- more calls, each of which leaves less
+  leaves_then : (old mid new : D) (P Q R : List ℕ → Type 0) → ((left : List ℕ) → P left → R left) → ((left : List ℕ) → Q left → R left) → LeavesOnly g old mid P → LeavesOnly g mid new Q → LeavesOnly g old new R
+  leaves_then old mid new P Q R p q first second =
+      leaving.leaves_then (g.stops old) (g.stops mid) (g.stops new) R (leaves_less (g.stops old) (g.stops mid) P R p first) (leaves_less (g.stops mid) (g.stops new) Q R q second)
 
-  pub does_then : (writes more : List Write) (old mid new : D) → DoesWrites content honest failures writes old mid → DoesWrites content honest failures more mid new → DoesWrites content honest failures (writes ++ more) old new
+  pub does_none : (old : D) → DoesWrites g [] old old
+  does_none old = record { kept = kept_none old; unfailing = refl; all_done = λ _. refl; within = λ _. leaves_none (g.stops old) (IsCutShort (g.content old) []) }
+
+  pub does_then : (writes more : List Write) (old mid new : D) → DoesWrites g writes old mid → DoesWrites g more mid new → DoesWrites g (writes ++ more) old new
   does_then writes more old mid new first second = record {
     kept = kept_then old mid new first.kept second.kept;
-    all_done = λ h. second.all_done (first.kept.honest_kept ∙ h) ∙ ap (λ xs. after xs more) (first.all_done h) ∙ sym (after-append (content old) writes more);
+    unfailing = second.unfailing ∙ first.unfailing;
+    all_done = λ h. second.all_done (first.kept.honest_kept ∙ h) ∙ ap (λ xs. after xs more) (first.all_done h) ∙ sym (after-append (g.content old) writes more);
+    within = λ h. leaves_then old mid new (IsCutShort (g.content old) writes) (IsCutShort (g.content mid) more) (IsCutShort (g.content old) (writes ++ more))
+        (λ c cut. cut_front (g.content old) c writes more cut) (λ c cut. cut_back (g.content old) (g.content mid) c writes more (first.all_done h) cut)
+        (first.within h) (second.within (first.kept.honest_kept ∙ h));
   }
 
-  pub stops_then : (writes more : List Write) (old mid new : D) → DoesWrites content honest failures writes old mid → StopsInWrites content honest failures more mid new → StopsInWrites content honest failures (writes ++ more) old new
+  pub stops_then : (writes more : List Write) (old mid new : D) → DoesWrites g writes old mid → StopsInWrites g more mid new → StopsInWrites g (writes ++ more) old new
   stops_then writes more old mid new first second = record {
     kept = kept_then old mid new first.kept second.kept;
-    stopped = λ h. stopped_back (content old) (content new) writes more (rw (← first.all_done h) (second.stopped (first.kept.honest_kept ∙ h)));
     failed = λ h. omega (arith, first.kept.counted, second.failed (first.kept.honest_kept ∙ h));
+    done = writes ++ second.done;
+    tried = second.tried;
+    rest = second.rest;
+    order = ap (λ ws. writes ++ ws) second.order ∙ sym (append_assoc writes second.done (second.tried ∷ second.rest));
+    outside = λ h. any_back (g.content old) (g.content mid) (g.content new) writes second.done second.tried (first.all_done h) (second.outside (first.kept.honest_kept ∙ h));
+    within = λ h. leaves_then old mid new (IsCutShort (g.content old) writes) (λ left. IsCutShort (g.content mid) second.done left ⊎ IsAnyIn second.tried (after (g.content mid) second.done) left)
+        (λ left. IsCutShort (g.content old) (writes ++ second.done) left ⊎ IsAnyIn second.tried (after (g.content old) (writes ++ second.done)) left)
+        (λ c cut. inl (cut_front (g.content old) c writes second.done cut))
+        (λ c left. ⊎_elim (λ cut. inl (cut_back (g.content old) (g.content mid) c writes second.done (first.all_done h) cut))
+            (λ any. inr (any_back (g.content old) (g.content mid) c writes second.done second.tried (first.all_done h) any)) left)
+        (first.within h) (second.within (first.kept.honest_kept ∙ h));
   }
 
-  pub stops_front : (writes more : List Write) (old new : D) → StopsInWrites content honest failures writes old new → StopsInWrites content honest failures (writes ++ more) old new
+  pub stops_front : (writes more : List Write) (old new : D) → StopsInWrites g writes old new → StopsInWrites g (writes ++ more) old new
   stops_front writes more old new stop = record {
     kept = stop.kept;
-    stopped = λ h. stopped_front (content old) (content new) writes more (stop.stopped h);
     failed = stop.failed;
+    done = stop.done;
+    tried = stop.tried;
+    rest = stop.rest ++ more;
+    order = ap (λ ws. ws ++ more) stop.order ∙ append_assoc stop.done (stop.tried ∷ stop.rest) more;
+    outside = stop.outside;
+    within = stop.within;
   }
+
+  -- what stands on the device at the end
+  pub is_stopped : (writes : List Write) (old new : D) → StopsInWrites g writes old new → g.honest old ≡ true → IsStopped (g.content old) writes (g.content new)
+  is_stopped writes old new stop h = record { done = stop.done; failed = stop.tried; rest = stop.rest; order = stop.order; outside = stop.outside h }
 
   -- the first of the writes were made, and these are left
   pub record AreLeft (writes left : List Write) (old new : D) : Type 0 where
     pub made : List Write
     pub order : writes ≡ made ++ left
-    pub does : DoesWrites content honest failures made old new
+    pub does : DoesWrites g made old new
 
   pub all_left : (writes : List Write) (old : D) → AreLeft writes writes old old
   all_left writes old = record { made = []; order = refl; does = does_none old }
 
-  pub fewer_left : (writes more left : List Write) (old mid new : D) → AreLeft writes (more ++ left) old mid → DoesWrites content honest failures more mid new → AreLeft writes left old new
+  pub fewer_left : (writes more left : List Write) (old mid new : D) → AreLeft writes (more ++ left) old mid → DoesWrites g more mid new → AreLeft writes left old new
   fewer_left writes more left old mid new before does = record {
     made = before.made ++ more;
     order = before.order ∙ sym (append_assoc before.made more left);
     does = does_then before.made more old mid new before.does does;
   }
 
-  pub none_left : (writes : List Write) (old new : D) → AreLeft writes [] old new → DoesWrites content honest failures writes old new
+  pub none_left : (writes : List Write) (old new : D) → AreLeft writes [] old new → DoesWrites g writes old new
   none_left writes old new before = rw (before.order ∙ append-nil before.made) before.does
 
-  pub stops_in_left : (writes more left : List Write) (old mid new : D) → AreLeft writes (more ++ left) old mid → StopsInWrites content honest failures more mid new → StopsInWrites content honest failures writes old new
+  pub stops_in_left : (writes more left : List Write) (old mid new : D) → AreLeft writes (more ++ left) old mid → StopsInWrites g more mid new → StopsInWrites g writes old new
   stops_in_left writes more left old mid new before stop =
       rw before.order (stops_then before.made (more ++ left) old mid new before.does (stops_front more left mid new stop))
 
   -- one write
-  pub one_write : {T E : Type 0} (w : Write) (old new : D) (result : Result T E) → SameOutside (512 * w.sector) (length w.bytes) (content old) (content new) → honest new ≡ honest old → OnOk result (honest old ≡ true → content new ≡ written (content old) w.sector w.bytes) → OnErr result (honest old ≡ true → failures old < failures new) → failures old ≤ failures new → MakesWrites content honest failures (w ∷ []) old new result
-  one_write w old new (Ok x) outside kept ok err counted = record { kept = record { size = outside.size; honest_kept = kept; counted = counted }; all_done = ok }
-  one_write w old new (Err e) outside kept ok err counted = record {
+  pub one_write : {T E : Type 0} (w : Write) (old new : D) (result : Result T E) → SameOutside (512 * w.sector) (length w.bytes) (g.content old) (g.content new) → g.honest new ≡ g.honest old → OnOk result (g.honest old ≡ true → g.content new ≡ written (g.content old) w.sector w.bytes) → OnErr result (g.honest old ≡ true → g.failures old < g.failures new) → g.failures old ≤ g.failures new
+      → OnOk result (g.failures new ≡ g.failures old) → (g.honest old ≡ true → LeavesOnly g old new (WithinWrite result w.sector w.bytes (g.content old))) → MakesWrites g (w ∷ []) old new result
+  one_write w old new (Ok x) outside kept ok err counted unfailing within = record {
     kept = record { size = outside.size; honest_kept = kept; counted = counted };
-    stopped = λ _. record { done = []; failed = w; rest = []; order = refl; outside = outside };
+    unfailing = unfailing;
+    all_done = ok;
+    within = λ h. leaves_less (g.stops old) (g.stops new) (IsMixed w.sector w.bytes (g.content old)) (IsCutShort (g.content old) (w ∷ []))
+        (λ c mixed. record { done = []; rest = w ∷ []; order = refl; mixed = mixed }) (within h);
+  }
+  one_write w old new (Err e) outside kept ok err counted unfailing within = record {
+    kept = record { size = outside.size; honest_kept = kept; counted = counted };
     failed = err;
+    done = [];
+    tried = w;
+    rest = [];
+    order = refl;
+    outside = λ _. outside;
+    within = λ h. leaves_less (g.stops old) (g.stops new) (IsAnyIn w (g.content old)) (λ left. IsCutShort (g.content old) [] left ⊎ IsAnyIn w (g.content old) left)
+        (λ c any. inr any) (within h);
   }
 
-  pub stops_any : {T E : Type 0} (writes : List Write) (old new : D) (result : Result T E) → StopsInWrites content honest failures writes old new → IsErr result → MakesWrites content honest failures writes old new result
+  -- a single write that failed: any bytes in its range at each moment
+  pub stops_in_one : (w : Write) (old new : D) → StopsInWrites g (w ∷ []) old new → g.honest old ≡ true → LeavesOnly g old new (IsAnyIn w (g.content old))
+  stops_in_one w old new stop h = by stop.done stop.tried stop.rest stop.order (stop.within h)
+    where
+      by : (done : List Write) (tried : Write) (rest : List Write) → w ∷ [] ≡ done ++ tried ∷ rest
+          → LeavesOnly g old new (λ left. IsCutShort (g.content old) done left ⊎ IsAnyIn tried (after (g.content old) done) left) → LeavesOnly g old new (IsAnyIn w (g.content old))
+      by [] tried rest order leaves =
+          let same : tried ≡ w = cc in
+          leaves_less (g.stops old) (g.stops new) (λ left. IsCutShort (g.content old) [] left ⊎ IsAnyIn tried (g.content old) left) (IsAnyIn w (g.content old))
+          (λ c left. ⊎_elim (λ cut. any_of_none (g.content old) c w cut) (λ any. subst (λ x. IsAnyIn x (g.content old) c) same any) left) leaves
+      by (x ∷ []) tried rest order leaves = absurd (let e : w ∷ [] ≡ x ∷ (tried ∷ rest) = order in cc)
+      by (x ∷ y ∷ done) tried rest order leaves = absurd (let e : w ∷ [] ≡ x ∷ (y ∷ (done ++ tried ∷ rest)) = order in cc)
+
+  pub stops_any : {T E : Type 0} (writes : List Write) (old new : D) (result : Result T E) → StopsInWrites g writes old new → IsErr result → MakesWrites g writes old new result
   stops_any writes old new (Ok x) stop err = absurd (let e : false ≡ true = err in cc)
   stops_any writes old new (Err e) stop err = stop
 
-  pub does_any : {T E : Type 0} (writes more : List Write) (old mid new : D) (result : Result T E) → DoesWrites content honest failures writes old mid → MakesWrites content honest failures more mid new result → MakesWrites content honest failures (writes ++ more) old new result
+  pub does_any : {T E : Type 0} (writes more : List Write) (old mid new : D) (result : Result T E) → DoesWrites g writes old mid → MakesWrites g more mid new result → MakesWrites g (writes ++ more) old new result
   does_any writes more old mid new (Ok x) first then = does_then writes more old mid new first then
   does_any writes more old mid new (Err e) first then = stops_then writes more old mid new first then
 
-  pub all_done_of : {T E : Type 0} (writes : List Write) (old new : D) (result : Result T E) {P : Type 0} → MakesWrites content honest failures writes old new result → (DoesWrites content honest failures writes old new → P) → OnOk result P
+  pub all_done_of : {T E : Type 0} (writes : List Write) (old new : D) (result : Result T E) {P : Type 0} → MakesWrites g writes old new result → (DoesWrites g writes old new → P) → OnOk result P
   all_done_of writes old new (Ok x) does then = then does
   all_done_of writes old new (Err e) stop then = tt

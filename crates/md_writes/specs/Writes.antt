@@ -1,7 +1,9 @@
--- Writes to a device in their order, and what stands on it where one of them fails.
-use Rattle.std.specs.Prelude.{◌≡◌, ℕ, ◌*◌, ◌<◌, ◌≤◌, Bool, true, List, ◌∷◌, ◌++◌, length, fold, Result, MatchResult}
+-- Writes to a device in their order: what stands on it where one of them fails, and what a stop leaves.
+use Rattle.std.specs.Prelude.{◌≡◌, ◌⊎◌, ℕ, ◌*◌, ◌<◌, ◌≤◌, true, List, [], ◌∷◌, ◌++◌, length, fold, Result, MatchResult}
+use Rattle.md_device.specs.declared.device.Device.{Ghosts}
 use Rattle.md_device.specs.Splice.{SameOutside}
 use Rattle.md_device.specs.Device.{written}
+use Rattle.md_device.specs.Stops.{IsMixed, LeavesMore}
 
 -- bytes that are written from a sector on
 pub record Write : Type 0 where
@@ -21,23 +23,51 @@ pub record IsStopped (old : List ℕ) (writes : List Write) (new : List ℕ) : T
   pub order : writes ≡ done ++ failed ∷ rest
   pub outside : SameOutside (512 * failed.sector) (length failed.bytes) (after old done) new
 
-module _ {D : Type 0} (content : D → List ℕ) (honest : D → Bool) (failures : D → ℕ) where
+-- a write's range may hold any bytes
+abbrev pub IsAnyIn : Write → List ℕ → List ℕ → Type 0
+IsAnyIn w old new = SameOutside (512 * w.sector) (length w.bytes) old new
+
+-- the next of these writes was cut short; where there is none, nothing was done
+abbrev pub IsNextMixed : List Write → List ℕ → List ℕ → Type 0
+IsNextMixed [] old left = left ≡ old
+IsNextMixed (w ∷ rest) old left = IsMixed w.sector w.bytes old left
+
+-- What a stop leaves: the first of these writes were done, and the next one was cut short.
+pub record IsCutShort (old : List ℕ) (writes : List Write) (left : List ℕ) : Type 0 where
+  pub done : List Write
+  pub rest : List Write
+  pub order : writes ≡ done ++ rest
+  pub mixed : IsNextMixed rest (after old done) left
+
+module _ {D : Type 0} (g : Ghosts D) where
   -- what holds of every device, honest or not
   pub record IsKept (old new : D) : Type 0 where
-    pub size : length (content new) ≡ length (content old)
-    pub honest_kept : honest new ≡ honest old
-    pub counted : failures old ≤ failures new
+    pub size : length (g.content new) ≡ length (g.content old)
+    pub honest_kept : g.honest new ≡ g.honest old
+    pub counted : g.failures old ≤ g.failures new
 
-  -- all writes were done
+  -- between old and new a stop leaves what has P
+  abbrev pub LeavesOnly : D → D → (List ℕ → Type 0) → Type 0
+  LeavesOnly old new P = LeavesMore (g.stops old) (g.stops new) P
+
+  -- All writes were done. At each moment a stop leaves the content after the first of them, with the next one cut short.
   pub record DoesWrites (writes : List Write) (old new : D) : Type 0 where
     pub kept : IsKept old new
-    pub all_done : honest old ≡ true → content new ≡ after (content old) writes
+    pub unfailing : g.failures new ≡ g.failures old
+    pub all_done : g.honest old ≡ true → g.content new ≡ after (g.content old) writes
+    pub within : g.honest old ≡ true → LeavesOnly old new (IsCutShort (g.content old) writes)
 
-  -- one of them failed, and none was made after it
+  -- One of them failed, and none was made after it. A stop within those before it leaves what it leaves of them; within it any
+  -- bytes may stand in its range, and so at its end.
   pub record StopsInWrites (writes : List Write) (old new : D) : Type 0 where
     pub kept : IsKept old new
-    pub stopped : honest old ≡ true → IsStopped (content old) writes (content new)
-    pub failed : honest old ≡ true → failures old < failures new
+    pub failed : g.honest old ≡ true → g.failures old < g.failures new
+    pub done : List Write
+    pub tried : Write
+    pub rest : List Write
+    pub order : writes ≡ done ++ tried ∷ rest
+    pub outside : g.honest old ≡ true → IsAnyIn tried (after (g.content old) done) (g.content new)
+    pub within : g.honest old ≡ true → LeavesOnly old new (λ left. IsCutShort (g.content old) done left ⊎ IsAnyIn tried (after (g.content old) done) left)
 
   -- the writes are made up to the first that fails, and the answer is whether one has
   abbrev pub MakesWrites : List Write → D → D → {T E : Type 0} → Result T E → Type 0

@@ -19,7 +19,7 @@ pub fn store_bitmap<D: Device>(
 ) -> Result<(), WriteFault>
     requires few_chunks { marks.now.chunks ≤ 1048576 }
     requires room { 512 * (start + bitmap_sectors marks.now.chunks) ≤ length (D.content device.old) }
-    ensures writes { MakesWrites D.content D.honest D.failures (bitmap_writes start header.now marks.now (bitmap_sectors marks.now.chunks)) device.old device.new result }
+    ensures writes { MakesWrites D.Device (bitmap_writes start header.now marks.now (bitmap_sectors marks.now.chunks)) device.old device.new result }
     ensures outside { SameOutside (512 * start) (512 * bitmap_sectors marks.now.chunks) (D.content device.old) (D.content device.new) }
 {
     let mut left = sectors_of_bitmap(marks.chunks());
@@ -39,7 +39,7 @@ pub fn store_bitmap_sector<D: Device>(
     i: u32,
 ) -> Result<(), WriteFault>
     requires { 512 * (start + i) + 512 ≤ length (D.content device.old) }
-    ensures writes { MakesWrites D.content D.honest D.failures (bitmap_write start header.now marks.now i ∷ []) device.old device.new result }
+    ensures writes { MakesWrites D.Device (bitmap_write start header.now marks.now i ∷ []) device.old device.new result }
     ensures outside { SameOutside (512 * (start + i)) 512 (D.content device.old) (D.content device.new) }
 {
     let sector = sector_of_bitmap(header, marks, i);

@@ -9,7 +9,7 @@ use md_device::{Device, WriteFault};
 pub fn put<D: Device>(device: &mut D, sector: u64, bytes: &[u8]) -> Result<(), WriteFault>
     requires whole { length bytes.now % 512 ≡ 0 }
     requires within { 512 * sector + length bytes.now ≤ length (D.content device.old) }
-    ensures writes { MakesWrites D.content D.honest D.failures (record { sector = sector; bytes = bytes.now } ∷ []) device.old device.new result }
+    ensures writes { MakesWrites D.Device (record { sector = sector; bytes = bytes.now } ∷ []) device.old device.new result }
     ensures outside { SameOutside (512 * sector) (length bytes.now) (D.content device.old) (D.content device.new) }
 {
     device.write(sector, bytes)

@@ -8,7 +8,7 @@ use Rattle.md_array.proofs.opening.array_of.Goals as goal
 
 pub remember-requires-clause-whole : goal.remember-requires-clause-whole
 remember-requires-clause-whole g c =
-    let disks = map (disk_of g.D.Device.content g.D.Device.honest g.D.Device.failures) in
+    let disks = map (disk_of g.D.Device) in
     are_whole (disks c.args.devices.now) c.in-Ok.infos.items c.in-Ok.ensures.read (subst NoFault c.deref.ensures.value c.in-Ok-assemble.ensures.sound)
 
 pub returns-in-Ok-remember-clause-ok : goal.returns-in-Ok-remember-clause-ok

@@ -16,7 +16,7 @@ untouched disk before devices k x new within same stays kept =
 
 pub returns-in-Err : goal.returns-in-Err
 returns-in-Err g c =
-    let disk = disk_of g.D.Device.content g.D.Device.honest g.D.Device.failures in
+    let disk = disk_of g.D.Device in
     let was = get_or c.loop-k.devices c.loop-k.k c.index-devices-k.result in
     record {
       untouched = untouched disk (map disk c.args.devices.now) c.loop-k.devices c.loop-k.k c.index-devices-k.result c.read_member.new.device (omega arith) c.loop-k.invariant.untouched
@@ -30,7 +30,7 @@ returns-in-Err g c =
 
 pub loop-k-preserved : goal.loop-k-preserved
 loop-k-preserved g c =
-    let disk = disk_of g.D.Device.content g.D.Device.honest g.D.Device.failures in
+    let disk = disk_of g.D.Device in
     let was = get_or c.loop-k.devices c.loop-k.k c.index-devices-k.result in
     let pushed : length c.push_reserved.new.self.items ≡ length c.loop-k.infos.items + 1 = ap length c.push_reserved.ensures.items ∙ length_push c.loop-k.infos.items c.in-Ok.info in
     record {

@@ -6,7 +6,7 @@ use Rattle.md_array.proofs.reading.read_members.Given as goal
 
 abbrev pub invariant-loop-k : goal.invariant-loop-k
 invariant-loop-k g l =
-    let disks = map (disk_of g.D.Device.content g.D.Device.honest g.D.Device.failures) in
+    let disks = map (disk_of g.D.Device) in
     record {
       untouched : IsUntouched (disks l.fn.devices) (disks l.devices);
       read : AreReadSoFar (disks l.fn.devices) l.infos.items;

@@ -17,7 +17,7 @@ member_at a b k n m same count within is =
 
 pub store_where_needed-requires : goal.store_where_needed-requires
 store_where_needed-requires g c =
-    let disk = disk_of g.D.Device.content g.D.Device.honest g.D.Device.failures in
+    let disk = disk_of g.D.Device in
     let d = disk (get_or c.loop-k.devices c.loop-k.k c.index-devices-k.result) in
     let here = disk_at disk c.loop-k.devices c.loop-k.k c.index-devices-k.result (omega arith) in
     let many = sym (length-map c.args.devices.now disk) ∙ c.requires.as_many in
@@ -26,7 +26,7 @@ store_where_needed-requires g c =
 
 pub returns-then-is_err : goal.returns-then-is_err
 returns-then-is_err g c =
-    let disk = disk_of g.D.Device.content g.D.Device.honest g.D.Device.failures in
+    let disk = disk_of g.D.Device in
     let a = c.args.array.now in
     let m = c.index-member.result.now in
     let d = disk (get_or c.loop-k.devices c.loop-k.k c.index-devices-k.result) in
@@ -41,7 +41,7 @@ returns-then-is_err g c =
 
 pub loop-k-preserved : goal.loop-k-preserved
 loop-k-preserved g c =
-    let disk = disk_of g.D.Device.content g.D.Device.honest g.D.Device.failures in
+    let disk = disk_of g.D.Device in
     let a = c.args.array.now in
     let m = c.index-member.result.now in
     let d = disk (get_or c.loop-k.devices c.loop-k.k c.index-devices-k.result) in
@@ -57,9 +57,9 @@ loop-k-preserved g c =
     }
 
 pub loop-k-init : goal.loop-k-init
-loop-k-init g c = record { stored = stored_none c.args.array.now (map (disk_of g.D.Device.content g.D.Device.honest g.D.Device.failures) c.args.devices.now); size = refl }
+loop-k-init g c = record { stored = stored_none c.args.array.now (map (disk_of g.D.Device) c.args.devices.now); size = refl }
 
 pub returns : goal.returns
 returns g c =
-    let disk = disk_of g.D.Device.content g.D.Device.honest g.D.Device.failures in
+    let disk = disk_of g.D.Device in
     stored_all c.args.array.now (map disk c.args.devices.now) (map disk c.loop-k.devices) c.loop-k.k c.loop-k.invariant.stored (omega (arith, length-map c.loop-k.devices disk))

@@ -5,7 +5,7 @@ use Rattle.md_array.proofs.storing.store_needed_marks.Given as goal
 
 abbrev pub invariant-loop-k : goal.invariant-loop-k
 invariant-loop-k g l =
-    let disks = map (disk_of g.D.Device.content g.D.Device.honest g.D.Device.failures) in
+    let disks = map (disk_of g.D.Device) in
     record {
       stored : AreStoredTo l.array (disks l.fn.devices) (disks l.devices) l.k;
       size : length l.devices ≡ length l.fn.devices;

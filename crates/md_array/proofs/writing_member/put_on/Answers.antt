@@ -13,7 +13,7 @@ sector_on-start-requires g c =
     let content = g.D.Device.content in
     let x = c.index-devices-k.result in
     let room : 512 * (c.args.data_offset + c.args.sector) + length c.args.bytes.now ≤ length (content x) =
-    c.requires.room _ (here content g.D.Device.honest g.D.Device.failures c.args.devices.now c.args.k x c.index-devices-k.is c.requires.within) in
+    c.requires.room _ (here g.D.Device c.args.devices.now c.args.k x c.index-devices-k.is c.requires.within) in
     subst (λ d. 512 * (c.args.data_offset + c.args.sector) ≤ length (content d)) c.index-devices-k.is (omega arith)
 
 pub put-requires-clause-within : goal.put-requires-clause-within
@@ -21,7 +21,7 @@ put-requires-clause-within g c =
     let content = g.D.Device.content in
     let x = c.index-devices-k.result in
     let room : 512 * (c.args.data_offset + c.args.sector) + length c.args.bytes.now ≤ length (content x) =
-    c.requires.room _ (here content g.D.Device.honest g.D.Device.failures c.args.devices.now c.args.k x c.index-devices-k.is c.requires.within) in
+    c.requires.room _ (here g.D.Device c.args.devices.now c.args.k x c.index-devices-k.is c.requires.within) in
     rw c.sector_on-start.ensures (subst (λ d. 512 * (c.args.data_offset + c.args.sector) + length c.args.bytes.now ≤ length (content d)) c.index-devices-k.is room)
 
 pub returns : goal.returns
@@ -30,6 +30,6 @@ returns g c =
     let w : Write = record { sector = c.args.data_offset + c.args.sector; bytes = c.args.bytes.now } in
     let outside = rw (← c.index-devices-k.is, c.sector_on-start.ensures) at c.put.ensures.outside in
     by_answer c.put.result _ _ _ _
-    (is_written g.D.Device.content g.D.Device.honest g.D.Device.failures c.args.devices.now c.args.k x c.index-devices-k.is c.put.new.device w c.requires.within outside)
-    (is_failed g.D.Device.content g.D.Device.honest g.D.Device.failures c.args.devices.now c.args.k x c.index-devices-k.is c.put.new.device w c.requires.within outside)
+    (is_written g.D.Device c.args.devices.now c.args.k x c.index-devices-k.is c.put.new.device w c.requires.within outside)
+    (is_failed g.D.Device c.args.devices.now c.args.k x c.index-devices-k.is c.put.new.device w c.requires.within outside)
     (rw (← c.index-devices-k.is, c.sector_on-start.ensures) at c.put.ensures.writes)

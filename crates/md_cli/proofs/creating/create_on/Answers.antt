@@ -13,7 +13,7 @@ use Rattle.md_cli.proofs.creating.create_on.Goals as goal
 
 pub lay_out_each-place-requires-clause-as_many : goal.lay_out_each-place-requires-clause-as_many
 lay_out_each-place-requires-clause-as_many g c =
-    let disk = disk_of g.D.Device.content g.D.Device.honest g.D.Device.failures in
+    let disk = disk_of g.D.Device in
     let names = map (λ s. s.now) c.args.names.now in
     let before = map disk c.args.devices.items in
     let many = length-map c.args.devices.items disk ∙ c.requires.as_many ∙ sym (length-map c.args.words.now word_of) ∙ ap length c.requires.words in
@@ -23,7 +23,7 @@ lay_out_each-place-requires-clause-as_many g c =
 
 pub lay_out_each-place-requires-clause-room : goal.lay_out_each-place-requires-clause-room
 lay_out_each-place-requires-clause-room g c = λ k d is.
-    let disk = disk_of g.D.Device.content g.D.Device.honest g.D.Device.failures in
+    let disk = disk_of g.D.Device in
     let names = map (λ s. s.now) c.args.names.now in
     let before = map disk c.args.devices.items in
     let many = length-map c.args.devices.items disk ∙ c.requires.as_many ∙ sym (length-map c.args.words.now word_of) ∙ ap length c.requires.words in
@@ -33,7 +33,7 @@ lay_out_each-place-requires-clause-room g c = λ k d is.
 
 pub returns-then-place-len-clause-gives : goal.returns-then-place-len-clause-gives
 returns-then-place-len-clause-gives g c =
-    let disk = disk_of g.D.Device.content g.D.Device.honest g.D.Device.failures in
+    let disk = disk_of g.D.Device in
     let names = map (λ s. s.now) c.args.names.now in
     let before = map disk c.args.devices.items in
     let many = length-map c.args.devices.items disk ∙ c.requires.as_many ∙ sym (length-map c.args.words.now word_of) ∙ ap length c.requires.words in
@@ -61,7 +61,7 @@ returns-then-place-len-clause-gives g c =
 
 pub returns-clause-gives : goal.returns-clause-gives
 returns-clause-gives g c =
-    let disk = disk_of g.D.Device.content g.D.Device.honest g.D.Device.failures in
+    let disk = disk_of g.D.Device in
     let names = map (λ s. s.now) c.args.names.now in
     let before = map disk c.args.devices.items in
     let many = length-map c.args.devices.items disk ∙ c.requires.as_many ∙ sym (length-map c.args.words.now word_of) ∙ ap length c.requires.words in

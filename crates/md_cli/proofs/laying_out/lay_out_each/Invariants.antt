@@ -5,5 +5,5 @@ use Rattle.md_cli.proofs.laying_out.lay_out_each.Given as goal
 
 abbrev pub invariant-loop-place : goal.invariant-loop-place
 invariant-loop-place g l =
-    let disks = map (disk_of g.D.Device.content g.D.Device.honest g.D.Device.failures) in
+    let disks = map (disk_of g.D.Device) in
     IsLaidTo (disks l.fn.devices) (disks l.devices) l.members l.place

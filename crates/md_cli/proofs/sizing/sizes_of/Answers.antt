@@ -5,7 +5,7 @@ use Rattle.md_cli.proofs.sizing.sizes_of.Goals as goal
 
 pub loop-place-preserved-then-is_missing : goal.loop-place-preserved-then-is_missing
 loop-place-preserved-then-is_missing g c =
-    let disks = map (disk_of g.D.Device.content g.D.Device.honest g.D.Device.failures) c.args.devices.now in
+    let disks = map (disk_of g.D.Device) c.args.devices.now in
     let so = c.loop-place.invariant in (
       subst (λ sizes. IsSizedTo c.args.names.now disks sizes (c.loop-place.place + 1) c.loop-place.next) (sym c.in_ok-push.ensures.items)
           (none_sized c.args.names.now disks c.loop-place.sizes.items c.loop-place.place c.loop-place.next c.loop-place-test.true so.0 (sym c.is_missing.ensures ∙ c.if-is_missing.true)),
@@ -14,7 +14,7 @@ loop-place-preserved-then-is_missing g c =
 
 pub loop-place-preserved : goal.loop-place-preserved
 loop-place-preserved g c =
-    let disks = map (disk_of g.D.Device.content g.D.Device.honest g.D.Device.failures) c.args.devices.now in
+    let disks = map (disk_of g.D.Device) c.args.devices.now in
     let so = c.loop-place.invariant in (
       subst (λ sizes. IsSizedTo c.args.names.now disks sizes (c.loop-place.place + 1) (c.loop-place.next + 1)) (sym (c.in_ok-push-2.ensures.items ∙ ap (λ size. c.loop-place.sizes.items ++ size ∷ []) c.next_size.ensures))
           (one_sized c.args.names.now disks c.loop-place.sizes.items c.loop-place.place c.loop-place.next c.loop-place-test.true so.0 (sym c.is_missing.ensures ∙ c.if-is_missing.false)),
@@ -23,4 +23,4 @@ loop-place-preserved g c =
 
 pub returns : goal.returns
 returns g c =
-    all_sized c.args.names.now (map (disk_of g.D.Device.content g.D.Device.honest g.D.Device.failures) c.args.devices.now) c.loop-place.sizes.items c.loop-place.place c.loop-place.next c.loop-place-test.false c.loop-place.invariant.0
+    all_sized c.args.names.now (map (disk_of g.D.Device) c.args.devices.now) c.loop-place.sizes.items c.loop-place.place c.loop-place.next c.loop-place-test.false c.loop-place.invariant.0

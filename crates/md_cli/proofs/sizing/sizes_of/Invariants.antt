@@ -5,4 +5,4 @@ use Rattle.md_cli.proofs.sizing.sizes_of.Given as goal
 
 abbrev pub invariant-loop-place : goal.invariant-loop-place
 invariant-loop-place g l =
-    IsSizedTo l.names (map (disk_of g.D.Device.content g.D.Device.honest g.D.Device.failures) l.devices) l.sizes.items l.place l.next × (l.next ≤ l.place)
+    IsSizedTo l.names (map (disk_of g.D.Device) l.devices) l.sizes.items l.place l.next × (l.next ≤ l.place)

@@ -18,9 +18,9 @@ loop-left-preserved g c =
     let left = writes_from h m c.loop-left.left i (omega arith) in
     record {
       left = omega arith;
-      writes = fewer_left g.D.Device.content g.D.Device.honest g.D.Device.failures _ (bitmap_write h m i ∷ []) (bitmap_writes h m i) _ c.loop-left.device _
-          (subst (λ (ws : List Write). AreLeft g.D.Device.content g.D.Device.honest g.D.Device.failures (bitmap_writes h m c.sectors_of_bitmap-left.result) ws c.args.device.now c.loop-left.device) left c.loop-left.invariant.writes)
-          (subst (λ (w : Write). DoesWrites g.D.Device.content g.D.Device.honest g.D.Device.failures (w ∷ []) c.loop-left.device c.put.new.device) this c.in_ok-put.ensures);
+      writes = fewer_left g.D.Device _ (bitmap_write h m i ∷ []) (bitmap_writes h m i) _ c.loop-left.device _
+          (subst (λ (ws : List Write). AreLeft g.D.Device (bitmap_writes h m c.sectors_of_bitmap-left.result) ws c.args.device.now c.loop-left.device) left c.loop-left.invariant.writes)
+          (subst (λ (w : Write). DoesWrites g.D.Device (w ∷ []) c.loop-left.device c.put.new.device) this c.in_ok-put.ensures);
     }
 
 pub returns-in_err-put : goal.returns-in_err-put
@@ -31,11 +31,11 @@ returns-in_err-put g c =
     let this = write_is h m i c.from.result c.sector_of_bitmap-sector.result c.from.ensures c.sector_of_bitmap-sector.ensures in
     let left = writes_from h m c.loop-left.left i (omega arith) in
     let total = c.sectors_of_bitmap-left.ensures.sectors ∙ ap bitmap_sectors c.chunks.ensures in
-    let stop = stops_in_left g.D.Device.content g.D.Device.honest g.D.Device.failures (bitmap_writes h m c.sectors_of_bitmap-left.result) (bitmap_write h m i ∷ []) (bitmap_writes h m i) c.args.device.now c.loop-left.device c.put.new.device
-    (subst (λ (ws : List Write). AreLeft g.D.Device.content g.D.Device.honest g.D.Device.failures (bitmap_writes h m c.sectors_of_bitmap-left.result) ws c.args.device.now c.loop-left.device) left c.loop-left.invariant.writes)
-    (subst (λ (w : Write). StopsInWrites g.D.Device.content g.D.Device.honest g.D.Device.failures (w ∷ []) c.loop-left.device c.put.new.device) this c.in_err-put.ensures) in
-    stops_any g.D.Device.content g.D.Device.honest g.D.Device.failures (bitmap_writes h m (bitmap_sectors m.chunks)) c.args.device.now c.put.new.device c.from_residual.result
-    (subst (λ (n : ℕ). StopsInWrites g.D.Device.content g.D.Device.honest g.D.Device.failures (bitmap_writes h m n) c.args.device.now c.put.new.device) total stop)
+    let stop = stops_in_left g.D.Device (bitmap_writes h m c.sectors_of_bitmap-left.result) (bitmap_write h m i ∷ []) (bitmap_writes h m i) c.args.device.now c.loop-left.device c.put.new.device
+    (subst (λ (ws : List Write). AreLeft g.D.Device (bitmap_writes h m c.sectors_of_bitmap-left.result) ws c.args.device.now c.loop-left.device) left c.loop-left.invariant.writes)
+    (subst (λ (w : Write). StopsInWrites g.D.Device (w ∷ []) c.loop-left.device c.put.new.device) this c.in_err-put.ensures) in
+    stops_any g.D.Device (bitmap_writes h m (bitmap_sectors m.chunks)) c.args.device.now c.put.new.device c.from_residual.result
+    (subst (λ (n : ℕ). StopsInWrites g.D.Device (bitmap_writes h m n) c.args.device.now c.put.new.device) total stop)
     c.from_residual.ensures.0
 
 pub returns : goal.returns
@@ -44,6 +44,6 @@ returns g c =
     let m = c.args.marks.now in
     let total = c.sectors_of_bitmap-left.ensures.sectors ∙ ap bitmap_sectors c.chunks.ensures in
     let none : c.loop-left.left ≡ 0 = omega arith in
-    subst (λ (n : ℕ). DoesWrites g.D.Device.content g.D.Device.honest g.D.Device.failures (bitmap_writes h m n) c.args.device.now c.loop-left.device) total
-    (none_left g.D.Device.content g.D.Device.honest g.D.Device.failures (bitmap_writes h m c.sectors_of_bitmap-left.result) c.args.device.now c.loop-left.device
-    (subst (λ (n : ℕ). AreLeft g.D.Device.content g.D.Device.honest g.D.Device.failures (bitmap_writes h m c.sectors_of_bitmap-left.result) (bitmap_writes h m n) c.args.device.now c.loop-left.device) none c.loop-left.invariant.writes))
+    subst (λ (n : ℕ). DoesWrites g.D.Device (bitmap_writes h m n) c.args.device.now c.loop-left.device) total
+    (none_left g.D.Device (bitmap_writes h m c.sectors_of_bitmap-left.result) c.args.device.now c.loop-left.device
+    (subst (λ (n : ℕ). AreLeft g.D.Device (bitmap_writes h m c.sectors_of_bitmap-left.result) (bitmap_writes h m n) c.args.device.now c.loop-left.device) none c.loop-left.invariant.writes))

@@ -6,7 +6,7 @@ use Rattle.md_create.proofs.laying_out.put_bitmap.Given as goal
 abbrev pub invariant-loop-left : goal.invariant-loop-left
 invariant-loop-left g l = record {
   left : l.left ≤ l.initial.left;
-  writes : AreLeft g.D.Device.content g.D.Device.honest g.D.Device.failures (bitmap_writes l.header l.marks l.initial.left) (bitmap_writes l.header l.marks l.left) l.initial.device l.device;
+  writes : AreLeft g.D.Device (bitmap_writes l.header l.marks l.initial.left) (bitmap_writes l.header l.marks l.left) l.initial.device l.device;
 }
 
 abbrev pub decreases-loop-left : goal.decreases-loop-left

@@ -20,8 +20,8 @@ loop-left-preserved g c =
     let i = c.loop-left.left - 1 in
     record {
       left = omega arith;
-      writes = fewer_left g.D.Device.content g.D.Device.honest g.D.Device.failures (bitmap_writes s h m c.sectors_of_bitmap-left.result) (bitmap_write s h m i ∷ []) (bitmap_writes s h m i) c.args.device.now c.loop-left.device c.store_bitmap_sector.new.device
-          (subst (λ (ws : List Write). AreLeft g.D.Device.content g.D.Device.honest g.D.Device.failures (bitmap_writes s h m c.sectors_of_bitmap-left.result) ws c.args.device.now c.loop-left.device)
+      writes = fewer_left g.D.Device (bitmap_writes s h m c.sectors_of_bitmap-left.result) (bitmap_write s h m i ∷ []) (bitmap_writes s h m i) c.args.device.now c.loop-left.device c.store_bitmap_sector.new.device
+          (subst (λ (ws : List Write). AreLeft g.D.Device (bitmap_writes s h m c.sectors_of_bitmap-left.result) ws c.args.device.now c.loop-left.device)
           (writes_from s h m c.loop-left.left i (omega arith)) c.loop-left.invariant.writes)
           c.in_ok-store_bitmap_sector.ensures.writes;
       outside = within s c.sectors_of_bitmap-left.result i (g.D.Device.content c.args.device.now) (g.D.Device.content c.loop-left.device) (g.D.Device.content c.store_bitmap_sector.new.device)
@@ -35,10 +35,10 @@ returns-in_err-store_bitmap_sector-clause-writes g c =
     let m = c.args.marks.now in
     let i = c.loop-left.left - 1 in
     let total = c.sectors_of_bitmap-left.ensures.sectors ∙ ap bitmap_sectors c.chunks.ensures in
-    subst (λ (n : ℕ). MakesWrites g.D.Device.content g.D.Device.honest g.D.Device.failures (bitmap_writes s h m n) c.args.device.now c.store_bitmap_sector.new.device c.from_residual.result) total
-    (stops_any g.D.Device.content g.D.Device.honest g.D.Device.failures (bitmap_writes s h m c.sectors_of_bitmap-left.result) c.args.device.now c.store_bitmap_sector.new.device c.from_residual.result
-    (stops_in_left g.D.Device.content g.D.Device.honest g.D.Device.failures (bitmap_writes s h m c.sectors_of_bitmap-left.result) (bitmap_write s h m i ∷ []) (bitmap_writes s h m i) c.args.device.now c.loop-left.device c.store_bitmap_sector.new.device
-    (subst (λ (ws : List Write). AreLeft g.D.Device.content g.D.Device.honest g.D.Device.failures (bitmap_writes s h m c.sectors_of_bitmap-left.result) ws c.args.device.now c.loop-left.device)
+    subst (λ (n : ℕ). MakesWrites g.D.Device (bitmap_writes s h m n) c.args.device.now c.store_bitmap_sector.new.device c.from_residual.result) total
+    (stops_any g.D.Device (bitmap_writes s h m c.sectors_of_bitmap-left.result) c.args.device.now c.store_bitmap_sector.new.device c.from_residual.result
+    (stops_in_left g.D.Device (bitmap_writes s h m c.sectors_of_bitmap-left.result) (bitmap_write s h m i ∷ []) (bitmap_writes s h m i) c.args.device.now c.loop-left.device c.store_bitmap_sector.new.device
+    (subst (λ (ws : List Write). AreLeft g.D.Device (bitmap_writes s h m c.sectors_of_bitmap-left.result) ws c.args.device.now c.loop-left.device)
     (writes_from s h m c.loop-left.left i (omega arith)) c.loop-left.invariant.writes)
     c.in_err-store_bitmap_sector.ensures.writes)
     c.from_residual.ensures.0)
@@ -57,6 +57,6 @@ returns-clause-writes g c =
     let m = c.args.marks.now in
     let total = c.sectors_of_bitmap-left.ensures.sectors ∙ ap bitmap_sectors c.chunks.ensures in
     let none : c.loop-left.left ≡ 0 = omega arith in
-    subst (λ (n : ℕ). DoesWrites g.D.Device.content g.D.Device.honest g.D.Device.failures (bitmap_writes s h m n) c.args.device.now c.loop-left.device) total
-    (none_left g.D.Device.content g.D.Device.honest g.D.Device.failures (bitmap_writes s h m c.sectors_of_bitmap-left.result) c.args.device.now c.loop-left.device
-    (subst (λ (n : ℕ). AreLeft g.D.Device.content g.D.Device.honest g.D.Device.failures (bitmap_writes s h m c.sectors_of_bitmap-left.result) (bitmap_writes s h m n) c.args.device.now c.loop-left.device) none c.loop-left.invariant.writes))
+    subst (λ (n : ℕ). DoesWrites g.D.Device (bitmap_writes s h m n) c.args.device.now c.loop-left.device) total
+    (none_left g.D.Device (bitmap_writes s h m c.sectors_of_bitmap-left.result) c.args.device.now c.loop-left.device
+    (subst (λ (n : ℕ). AreLeft g.D.Device (bitmap_writes s h m c.sectors_of_bitmap-left.result) (bitmap_writes s h m n) c.args.device.now c.loop-left.device) none c.loop-left.invariant.writes))

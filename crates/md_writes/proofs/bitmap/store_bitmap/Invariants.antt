@@ -7,7 +7,7 @@ use Rattle.md_writes.proofs.bitmap.store_bitmap.Given as goal
 abbrev pub invariant-loop-left : goal.invariant-loop-left
 invariant-loop-left g l = record {
   left : l.left ≤ l.initial.left;
-  writes : AreLeft g.D.Device.content g.D.Device.honest g.D.Device.failures (bitmap_writes l.start l.header l.marks l.initial.left) (bitmap_writes l.start l.header l.marks l.left) l.initial.device l.device;
+  writes : AreLeft g.D.Device (bitmap_writes l.start l.header l.marks l.initial.left) (bitmap_writes l.start l.header l.marks l.left) l.initial.device l.device;
   outside : SameOutside (512 * l.start) (512 * l.initial.left) (g.D.Device.content l.initial.device) (g.D.Device.content l.device);
 }
 

@@ -3,5 +3,5 @@ use Rattle.md_writes.proofs.writing.put.Goals as goal
 
 pub returns-clause-writes : goal.returns-clause-writes
 returns-clause-writes g c =
-    one_write g.D.Device.content g.D.Device.honest g.D.Device.failures (record { sector = c.args.sector; bytes = c.args.bytes.now }) c.args.device.now c.write.new.self c.write.result
-    c.write.ensures.outside c.write.ensures.honest c.write.ensures.ok c.write.ensures.err c.write.ensures.counted
+    one_write g.D.Device (record { sector = c.args.sector; bytes = c.args.bytes.now }) c.args.device.now c.write.new.self c.write.result
+    c.write.ensures.outside c.write.ensures.honest c.write.ensures.ok c.write.ensures.err c.write.ensures.counted c.write.ensures.unfailing c.write.ensures.within

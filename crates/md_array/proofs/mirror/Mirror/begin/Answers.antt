@@ -6,7 +6,7 @@ use Rattle.md_array.proofs.mirror.Mirror.begin.Goals as goal
 
 pub returns : goal.returns
 returns g c =
-    let disks = map (disk_of g.D.Device.content g.D.Device.honest g.D.Device.failures) c.self.inside.devices.items in
+    let disks = map (disk_of g.D.Device) c.self.inside.devices.items in
     let sound = subst IsConsistent (sym c.self.view_is) c.requires.sound in
     let gives = c.begin.ensures disks in
     rw (← c.self.view_is) (record {

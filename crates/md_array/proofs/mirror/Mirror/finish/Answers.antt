@@ -7,7 +7,7 @@ use Rattle.md_array.proofs.mirror.Mirror.finish.Goals as goal
 
 pub returns : goal.returns
 returns g c =
-    let disks = map (disk_of g.D.Device.content g.D.Device.honest g.D.Device.failures) c.self.inside.devices.items in
+    let disks = map (disk_of g.D.Device) c.self.inside.devices.items in
     let sound = subst IsConsistent (sym c.self.view_is) c.requires.sound in
     let pending = subst (λ (v : MirrorView). IsPending v.array c.args.pending) (sym c.self.view_is) c.requires.pending in
     let gives = c.finish.ensures disks in

@@ -7,6 +7,6 @@ use Rattle.md_array.proofs.mirror.Mirror.open.Goals as goal
 
 pub returns-in-Ok-clause-sound : goal.returns-in-Ok-clause-sound
 returns-in-Ok-clause-sound g c =
-    let disk = disk_of g.D.Device.content g.D.Device.honest g.D.Device.failures in
+    let disk = disk_of g.D.Device in
     let same = with_items_is c.args.devices c.open_array.new.devices (omega (arith, c.open_array.ensures.len, c.deref_mut.ensures.len, c.args.devices.ok.0)) in
     subst (λ devices. IsConsistent (record { disks = map disk devices; array = c.in-Ok.array })) (sym same) (consistent _ _ c.in-Ok.ensures.ok)

@@ -15,19 +15,19 @@ use Rattle.md_array.proofs.mirror.Mirror.record.Goals as goal
 use Rattle.md_array.proofs.mirror.Mirror.record.Goals.{After-index_mut, After-store_superblock}
 
 on_device : (g : given.Over) (c : After-index_mut g) → c.args.k < length c.self.inside.devices.items
-on_device g c = within_devices (disk_of g.D.Device.content g.D.Device.honest g.D.Device.failures) c.self.inside.devices.items c.self.inside.array c.args.self.now c.args.k c.self.view_is c.requires.sound c.requires.within
+on_device g c = within_devices (disk_of g.D.Device) c.self.inside.devices.items c.self.inside.array c.args.self.now c.args.k c.self.view_is c.requires.sound c.requires.within
 
 member : (g : given.Over) (c : After-index_mut g) → IsMember c.self.inside.array c.args.k c.index-member.result.now
 member g c =
     member_read c.self.inside.array _ c.args.k c.index-member.result.now c.array.view_is
-    (within_members (disk_of g.D.Device.content g.D.Device.honest g.D.Device.failures) c.self.inside.devices.items c.self.inside.array c.args.self.now c.args.k c.self.view_is c.requires.sound c.requires.within)
+    (within_members (disk_of g.D.Device) c.self.inside.devices.items c.self.inside.array c.args.self.now c.args.k c.self.view_is c.requires.sound c.requires.within)
     c.index-member.ensures
 
 pub store_superblock-requires : goal.store_superblock-requires
 store_superblock-requires g c =
-    let disk = disk_of g.D.Device.content g.D.Device.honest g.D.Device.failures in
+    let disk = disk_of g.D.Device in
     let at = (goal.at.store_superblock-requires g c).After-index_mut in
-    (fits_there g.D.Device.content g.D.Device.honest g.D.Device.failures c.self.inside.devices.items c.args.k c.index_mut.result.now c.index_mut.ensures.value c.self.inside.array c.index-member.result.now (on_device g at)
+    (fits_there g.D.Device c.self.inside.devices.items c.args.k c.index_mut.result.now c.index_mut.ensures.value c.self.inside.array c.index-member.result.now (on_device g at)
     (fits_now disk c.self.inside.devices.items c.self.inside.array c.args.self.now c.args.k c.self.view_is c.requires.sound c.requires.within) (member g at)).long
 
 may : (g : given.Over) (c : After-store_superblock g) → MayRecord c.args.k c.self.inside.array c.index-member.result.now
@@ -38,14 +38,14 @@ may g c =
 
 pub returns : goal.returns
 returns g c =
-    let disk = disk_of g.D.Device.content g.D.Device.honest g.D.Device.failures in
+    let disk = disk_of g.D.Device in
     let at = (goal.at.returns g c).After-index_mut in
     let m = c.index-member.result.now in
     let new : MirrorView = record { disks = map disk (set c.self.inside.devices.items c.args.k c.store_superblock.new.device); array = c.note_recorded.new.self } in
     let stored : Records c.args.k c.args.self.now new = subst (λ (old : MirrorView). Records c.args.k old new) c.self.view_is (record {
       member = m;
       may = may g (goal.at.returns g c).After-store_superblock;
-      disks = is_written g.D.Device.content g.D.Device.honest g.D.Device.failures c.self.inside.devices.items c.args.k c.index_mut.result.now c.index_mut.ensures.value c.store_superblock.new.device
+      disks = is_written g.D.Device c.self.inside.devices.items c.args.k c.index_mut.result.now c.index_mut.ensures.value c.store_superblock.new.device
           (super_write c.self.inside.array m) (on_device g at) c.store_superblock.ensures.outside (ok_of c.store_superblock.result _ _ c.if-is_err.ensures.value c.store_superblock.ensures.writes);
       array = c.note_recorded.ensures m (member g at);
     }) in
@@ -58,13 +58,13 @@ returns g c =
 
 pub returns-then-is_err : goal.returns-then-is_err
 returns-then-is_err g c =
-    let disk = disk_of g.D.Device.content g.D.Device.honest g.D.Device.failures in
+    let disk = disk_of g.D.Device in
     let at = (goal.at.returns-then-is_err g c).After-index_mut in
     let m = c.index-member.result.now in
     let new : MirrorView = record { disks = map disk (set c.self.inside.devices.items c.args.k c.store_superblock.new.device); array = c.store_failed.new.self } in
     let refused : RefusesRecord c.args.k c.args.self.now new c.store_failed.result = subst (λ (old : MirrorView). RefusesRecord c.args.k old new c.store_failed.result) c.self.view_is
     (record_failed c.args.k _ new m c.store_failed.result (may g (goal.at.returns-then-is_err g c).After-store_superblock)
-    (is_failed g.D.Device.content g.D.Device.honest g.D.Device.failures c.self.inside.devices.items c.args.k c.index_mut.result.now c.index_mut.ensures.value c.store_superblock.new.device
+    (is_failed g.D.Device c.self.inside.devices.items c.args.k c.index_mut.result.now c.index_mut.ensures.value c.store_superblock.new.device
     (super_write c.self.inside.array m) (on_device g at) c.store_superblock.ensures.outside (err_of c.store_superblock.result _ _ c.if-is_err.ensures.value c.store_superblock.ensures.writes))
     c.store_failed.ensures) in
     record {

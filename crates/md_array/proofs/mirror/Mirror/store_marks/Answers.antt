@@ -19,18 +19,18 @@ use Rattle.md_array.proofs.mirror.Mirror.store_marks.Goals as goal
 use Rattle.md_array.proofs.mirror.Mirror.store_marks.Goals.{After-index_mut, After-store_block}
 
 on_device : (g : given.Over) (c : After-index_mut g) → c.args.k < length c.self.inside.devices.items
-on_device g c = within_devices (disk_of g.D.Device.content g.D.Device.honest g.D.Device.failures) c.self.inside.devices.items c.self.inside.array c.args.self.now c.args.k c.self.view_is c.requires.sound c.requires.within
+on_device g c = within_devices (disk_of g.D.Device) c.self.inside.devices.items c.self.inside.array c.args.self.now c.args.k c.self.view_is c.requires.sound c.requires.within
 
 member : (g : given.Over) (c : After-index_mut g) → IsMember c.self.inside.array c.args.k c.index-member.result.now
 member g c =
     member_read c.self.inside.array _ c.args.k c.index-member.result.now c.array.view_is
-    (within_members (disk_of g.D.Device.content g.D.Device.honest g.D.Device.failures) c.self.inside.devices.items c.self.inside.array c.args.self.now c.args.k c.self.view_is c.requires.sound c.requires.within)
+    (within_members (disk_of g.D.Device) c.self.inside.devices.items c.self.inside.array c.args.self.now c.args.k c.self.view_is c.requires.sound c.requires.within)
     c.index-member.ensures
 
-fits : (g : given.Over) (c : After-index_mut g) → FitsMember c.self.inside.array c.index-member.result.now (disk_of g.D.Device.content g.D.Device.honest g.D.Device.failures c.index_mut.result.now)
+fits : (g : given.Over) (c : After-index_mut g) → FitsMember c.self.inside.array c.index-member.result.now (disk_of g.D.Device c.index_mut.result.now)
 fits g c =
-    fits_there g.D.Device.content g.D.Device.honest g.D.Device.failures c.self.inside.devices.items c.args.k c.index_mut.result.now c.index_mut.ensures.value c.self.inside.array c.index-member.result.now (on_device g c)
-    (fits_now (disk_of g.D.Device.content g.D.Device.honest g.D.Device.failures) c.self.inside.devices.items c.self.inside.array c.args.self.now c.args.k c.self.view_is c.requires.sound c.requires.within) (member g c)
+    fits_there g.D.Device c.self.inside.devices.items c.args.k c.index_mut.result.now c.index_mut.ensures.value c.self.inside.array c.index-member.result.now (on_device g c)
+    (fits_now (disk_of g.D.Device) c.self.inside.devices.items c.self.inside.array c.args.self.now c.args.k c.self.view_is c.requires.sound c.requires.within) (member g c)
 
 -- a member's marks are of as many chunks as those in memory
 alike : (g : given.Over) (c : After-index_mut g) (m : MemberView) → IsMember c.self.inside.array c.args.k m → m.stored.chunks ≡ c.self.inside.array.marks.chunks
@@ -55,7 +55,7 @@ note_stored-requires g c =
     let at = (goal.at.note_stored-requires g c).After-index_mut in
     let f = fits g at in
     record {
-      within = within_members (disk_of g.D.Device.content g.D.Device.honest g.D.Device.failures) c.self.inside.devices.items c.self.inside.array c.args.self.now c.args.k c.self.view_is c.requires.sound c.requires.within;
+      within = within_members (disk_of g.D.Device) c.self.inside.devices.items c.self.inside.array c.args.self.now c.args.k c.self.view_is c.requires.sound c.requires.within;
       few = few c.args.block c.index-member.result.now.stored.chunks (inside g at) f.few_chunks;
       alike = alike g at;
     }
@@ -68,7 +68,7 @@ may g c w write =
 
 pub returns : goal.returns
 returns g c =
-    let disk = disk_of g.D.Device.content g.D.Device.honest g.D.Device.failures in
+    let disk = disk_of g.D.Device in
     let at = (goal.at.returns g c).After-index_mut in
     let m = c.index-member.result.now in
     let tries = c.store_block.ensures in
@@ -78,7 +78,7 @@ returns g c =
       member = m;
       write = tries.0;
       may = may g (goal.at.returns g c).After-store_block tries.0 tries.1;
-      disks = is_written g.D.Device.content g.D.Device.honest g.D.Device.failures c.self.inside.devices.items c.args.k c.index_mut.result.now c.index_mut.ensures.value c.store_block.new.device
+      disks = is_written g.D.Device c.self.inside.devices.items c.args.k c.index_mut.result.now c.index_mut.ensures.value c.store_block.new.device
           tries.0 (on_device g at) tries.3 (ok_of c.store_block.result _ _ c.if-is_err.ensures.value tries.2);
       stored = stored.stored;
       has_stored = stored.has_stored;
@@ -93,14 +93,14 @@ returns g c =
 
 pub returns-then-is_err : goal.returns-then-is_err
 returns-then-is_err g c =
-    let disk = disk_of g.D.Device.content g.D.Device.honest g.D.Device.failures in
+    let disk = disk_of g.D.Device in
     let at = (goal.at.returns-then-is_err g c).After-index_mut in
     let m = c.index-member.result.now in
     let tries = c.store_block.ensures in
     let new : MirrorView = record { disks = map disk (set c.self.inside.devices.items c.args.k c.store_block.new.device); array = c.store_failed.new.self } in
     let refused : RefusesMarkSector c.args.k c.args.block c.args.self.now new c.store_failed.result = subst (λ (old : MirrorView). RefusesMarkSector c.args.k c.args.block old new c.store_failed.result) c.self.view_is
     (store_marks_failed c.args.k c.args.block _ new m tries.0 c.store_failed.result (may g (goal.at.returns-then-is_err g c).After-store_block tries.0 tries.1)
-    (is_failed g.D.Device.content g.D.Device.honest g.D.Device.failures c.self.inside.devices.items c.args.k c.index_mut.result.now c.index_mut.ensures.value c.store_block.new.device
+    (is_failed g.D.Device c.self.inside.devices.items c.args.k c.index_mut.result.now c.index_mut.ensures.value c.store_block.new.device
     tries.0 (on_device g at) tries.3 (err_of c.store_block.result _ _ c.if-is_err.ensures.value tries.2))
     c.store_failed.ensures) in
     record {

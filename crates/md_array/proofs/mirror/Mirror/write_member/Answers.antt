@@ -15,7 +15,7 @@ use Rattle.md_array.proofs.mirror.Mirror.write_member.Goals as goal
 
 pub returns-in-Err : goal.returns-in-Err
 returns-in-Err g c =
-    let disks = map (disk_of g.D.Device.content g.D.Device.honest g.D.Device.failures) c.self.inside.devices.items in
+    let disks = map (disk_of g.D.Device) c.self.inside.devices.items in
     let sound = subst IsConsistent (sym c.self.view_is) c.requires.sound in
     let pending = subst (λ (v : MirrorView). IsPending v.array c.args.pending.now) (sym c.self.view_is) c.requires.pending in
     let gives = c.in-Err.ensures disks in
@@ -36,7 +36,7 @@ put_on-requires-clause-room g c d at =
 
 pub returns-then-is_err : goal.returns-then-is_err
 returns-then-is_err g c =
-    let disk = disk_of g.D.Device.content g.D.Device.honest g.D.Device.failures in
+    let disk = disk_of g.D.Device in
     let after : List Disk = map disk c.put_on.new.devices in
     let failed = err_of c.put_on.result _ _ c.if-is_err.ensures.value c.put_on.ensures in
     let same = with_items_is c.self.inside.devices c.put_on.new.devices (c.put_on.auto.devices ∙ c.deref_mut.ensures.len) in
@@ -58,7 +58,7 @@ push-requires g c = (
 
 pub returns : goal.returns
 returns g c =
-    let disk = disk_of g.D.Device.content g.D.Device.honest g.D.Device.failures in
+    let disk = disk_of g.D.Device in
     let after : List Disk = map disk c.put_on.new.devices in
     let done = ok_of c.put_on.result _ _ c.if-is_err.ensures.value c.put_on.ensures in
     let same = with_items_is c.self.inside.devices c.put_on.new.devices (c.put_on.auto.devices ∙ c.deref_mut.ensures.len) in
