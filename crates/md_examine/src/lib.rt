@@ -3,6 +3,7 @@
 
 mod badblocks_report;
 mod bitmap_report;
+mod buffered;
 mod columns;
 mod detail_report;
 mod lines;
@@ -14,6 +15,7 @@ mod values;
 
 pub use badblocks_report::examine_badblocks;
 pub use bitmap_report::examine_bitmap;
+pub use buffered::Buffered;
 pub use detail_report::detail;
 pub use sink::{Output, Sink, SinkFault};
 pub use summary_report::summary;
