@@ -1,0 +1,78 @@
+# Completion of mdcli for bash.
+# SPDX-License-Identifier: MIT OR Apache-2.0
+
+_mdcli_commands() {
+  printf '%s\n' examine examine-bitmap examine-badblocks assemble detail create help
+}
+
+# The options of a command, beside --help. A value follows one that ends in =.
+_mdcli_options() {
+  case $1 in
+    create) printf '%s\n' --level= --raid-devices= --uuid= --name= --bitmap-chunk= --size= --time= --assume-clean ;;
+    assemble | detail) printf '%s\n' --readonly ;;
+  esac
+}
+
+# The values of an option, where there are few.
+_mdcli_values() {
+  case $1 in
+    --level) printf '%s\n' raid1 mirror 1 ;;
+  esac
+}
+
+# Offers those of the words on standard input that begin with the current one.
+_mdcli_offer() {
+  local word
+  while IFS= read -r word; do
+    if [[ $word == "$1"* ]]; then COMPREPLY+=("$word"); fi
+  done
+}
+
+_mdcli() {
+  local current=${COMP_WORDS[COMP_CWORD]} previous=${COMP_WORDS[COMP_CWORD - 1]} command=${COMP_WORDS[1]}
+  local option ended= word given=' '
+  COMPREPLY=()
+
+  # Readline parts a word at its =.
+  if [ "$current" = = ]; then
+    current=
+  elif [ "$previous" = = ]; then
+    previous=${COMP_WORDS[COMP_CWORD - 2]}
+  fi
+
+  if [ "$COMP_CWORD" -le 1 ]; then
+    _mdcli_offer "$current" < <(_mdcli_commands && printf '%s\n' --help --version)
+    return
+  fi
+  if [ "$command" = help ]; then
+    _mdcli_offer "$current" < <(_mdcli_commands)
+    return
+  fi
+
+  for word in "${COMP_WORDS[@]:2:COMP_CWORD-2}"; do
+    if [ "$word" = -- ]; then ended=yes; fi
+    given+="$word "
+  done
+  if [ -z "$ended" ]; then
+    while IFS= read -r option; do
+      if [ "$option" = "$previous=" ]; then
+        _mdcli_offer "$current" < <(_mdcli_values "$previous")
+        return
+      fi
+    done < <(_mdcli_options "$command")
+    if [[ $current == -* ]]; then
+      # No option may be given twice.
+      while IFS= read -r option; do
+        option=${option%=}
+        if [[ $given != *" $option "* ]]; then _mdcli_offer "$current" <<<"$option"; fi
+      done < <(_mdcli_options "$command" && printf '%s\n' --help)
+      return
+    fi
+  fi
+
+  compopt -o filenames 2>/dev/null
+  if [ "$command" = create ]; then _mdcli_offer "$current" <<<missing; fi
+  _mdcli_offer '' < <(compgen -f -- "$current")
+}
+
+complete -F _mdcli mdcli

@@ -1,0 +1,79 @@
+"""The commands and options of the built program, as its `--help` lists them."""
+
+import re
+import subprocess
+
+import support
+
+SECONDS = 20
+
+# In a list of options: the short name where there is one, the long name, and the value's.
+OPTION = re.compile(r"^ +(?:-\w, |    )--([a-z-]+)(?: <([^>]+)>)?(?:  |$)")
+COMMAND = re.compile(r"^  ([a-z-]+)(?:  |$)")
+# Options of every command.
+COMMON = {"help", "version"}
+
+
+class Option:
+    def __init__(self, name, value, required):
+        self.name = name
+        self.value = value
+        self.required = required
+
+    def shown(self):
+        return "--" + self.name + (" " + self.value if self.value else "")
+
+
+class Command:
+    def __init__(self, name, options):
+        self.name = name
+        self.options = options
+
+
+def help_of(words):
+    """Help is status 2, with its text on standard error."""
+    done = subprocess.run(
+        [str(support.PROGRAM)] + words + ["--help"],
+        stdin=subprocess.DEVNULL,
+        stdout=subprocess.PIPE,
+        stderr=subprocess.PIPE,
+        timeout=SECONDS,
+    )
+    return done.stderr.decode("utf-8").splitlines()
+
+
+def section(lines, title):
+    """The lines below a title, up to an empty one."""
+    if title not in lines:
+        return []
+    below = lines[lines.index(title) + 1 :]
+    return below[: below.index("")] if "" in below else below
+
+
+def commands():
+    listed = [COMMAND.match(line) for line in section(help_of([]), "Commands:")]
+    names = [found.group(1) for found in listed if found and found.group(1) != "help"]
+    return {name: command(name) for name in names}
+
+
+def command(name):
+    lines = help_of([name])
+    usage = next(line for line in lines if line.startswith("Usage: "))
+    found = [OPTION.match(line) for line in section(lines, "Options:")]
+    options = [
+        Option(one.group(1), one.group(2), ("--%s <" % one.group(1)) in usage)
+        for one in found
+        if one and one.group(1) not in COMMON
+    ]
+    return Command(name, options)
+
+
+def version():
+    done = subprocess.run(
+        [str(support.PROGRAM), "--version"],
+        stdin=subprocess.DEVNULL,
+        stdout=subprocess.PIPE,
+        stderr=subprocess.PIPE,
+        timeout=SECONDS,
+    )
+    return done.stderr.decode("utf-8").split()[1]
