@@ -1,15 +1,17 @@
 -- A list of reports is taken.
-use Rattle.std.proofs.Common.{◌≡◌, ℕ, ◌+◌, ◌*◌, ◌==◌, ◌&&◌, ◌||◌, not, cond, Bool, true, false, List, [], ◌∷◌, ◌++◌, inl, inr, Option, Some, None, refl, ap, sym, ◌∙◌, arith, append_assoc, append-nil, subst}
+use Rattle.std.proofs.Common.{◌≡◌, ℕ, length, ◌+◌, ◌*◌, ◌==◌, ◌&&◌, ◌||◌, not, cond, Bool, true, false, List, [], ◌∷◌, ◌++◌, inl, inr, Option, Some, None, refl, ap, sym, ◌∙◌, arith, append_assoc, append-nil, subst}
 use Rattle.std.proofs.Math.Bool.{or_comm, or-false}
+use Rattle.std.proofs.lemmas.List.{length_push}
 use Rattle.md_device.specs.Splice.{SameOutside}
 use Rattle.md_collect.specs.Places.{start_of, bytes_of}
 use Rattle.std.proofs.lemmas.List.Folds.{list_any-append}
 use Rattle.std.proofs.lemmas.Bool.Decides.{nat_tests}
-use Rattle.md_bitmap.specs.Marks.{is_set}
+use Rattle.md_bitmap.specs.Marks.{is_set, count_set}
 use Rattle.md_collect.specs.declared.refusal.Refusal.{Refusal}
 use Rattle.md_collect.specs.declared.refusal.Refusal.TheVariants.{Spoiled, Stranger, Double, Length, TargetFault}
 use Rattle.md_collect.specs.Reports.{ReportView, Copying, is_among, is_planned, has_length, counts, counted, counted_after, with_report, with_all}
-use Rattle.md_collect.specs.Collecting.{CollectorView, copying, refusal_of}
+use Rattle.md_collect.specs.Collecting.{CollectorView, copying, refusal_of, reports_of}
+use Rattle.md_collect.proofs.Counts.{count_set-none, count_set-more}
 use Rattle.md_collect.specs.Lists.{Copied, IsTaken, IsSpoilt, Takes, TakesAll, HoldsCounted, HoldsUpTo, HoldsReports, EveryList}
 
 counted_more_after : (copy : Copying) (earlier reports : List ReportView) (r : ReportView)
@@ -47,6 +49,13 @@ none_stands false false double long e = cc
 none_stands false true true long e = cc
 none_stands false true false false e = cc
 none_stands false true false true e = refl
+
+not_double : (spoiled planned double long : Bool) → first_of spoiled planned double long ≡ None → double ≡ false
+unfolding first_of
+not_double true planned double long e = cc
+not_double false false double long e = cc
+not_double false true true long e = cc
+not_double false true false long e = refl
 
 one_stands : (why : Refusal) (planned double long : Bool) → first_of false planned double long ≡ Some why → (planned && (not double && long)) ≡ false
 unfolding first_of
@@ -94,12 +103,23 @@ module _ {copy : Copying} {target : List ℕ} where
   does_not : (done : List ReportView) (s : Copied) (r : ReportView) (why : Refusal) → HoldsCounted copy target done s → refusal_of s.collector r ≡ Some why → counts copy (counted copy done) r ≡ false
   does_not done s r why at some = one_stands why _ _ _ (ap (λ b. first_of b (is_planned copy.slots r.chunk r.source) (is_among (counted copy done) r.chunk) (has_length copy.chunks r)) (sym at.whole) ∙ sym (asked done s r at) ∙ some)
 
+  unset : (done : List ReportView) (s : Copied) (r : ReportView) → HoldsCounted copy target done s → refusal_of s.collector r ≡ None → is_set s.collector.reported.bytes r.chunk ≡ false
+  unset done s r at none = at.reported r.chunk ∙ not_double s.collector.spoiled _ _ _ (sym (asked done s r at) ∙ none)
+
+  one_more : (done : List ReportView) (s mid : Copied) (r : ReportView) → HoldsCounted copy target done s → IsTaken s r mid → reports_of mid.collector ≡ length (counted copy done) + 1
+  one_more done s mid r at is =
+      let more = count_set-more s.collector.reported.bytes mid.collector.reported.bytes r.chunk s.collector.reported.chunks is.counted.within (unset done s r at is.first) is.counted.reported in
+      let before = at.number in
+      let e : reports_of mid.collector ≡ count_set mid.collector.reported.bytes s.collector.reported.chunks = ap (count_set mid.collector.reported.bytes) is.counted.chunks in
+      e ∙ omega (arith, more, before)
+
   taken : (done : List ReportView) (s mid : Copied) (r : ReportView) → HoldsCounted copy target done s → IsTaken s r mid → HoldsCounted copy target (done ++ (r ∷ [])) mid
   taken done s mid r at is =
       let longer : counted copy (done ++ (r ∷ [])) ≡ counted copy done ++ (r ∷ []) = counted_more copy done r ∙ ap (λ b. cond b (counted copy done ++ (r ∷ [])) (counted copy done)) (does_count done s r at is.first) in
       record {
         same_copy = ap copying is.counted.kept ∙ at.same_copy;
         reported = λ c. is.counted.reported c ∙ ap (λ b. c == r.chunk || b) (at.reported c) ∙ sym (among_more (counted copy done) r c) ∙ ap (λ xs. is_among xs c) (sym longer);
+        number = one_more done s mid r at is ∙ sym (length_push (counted copy done) r) ∙ sym (ap (λ (xs : List ReportView). length xs) longer);
         holds = is.target ∙ ap (λ c. with_report c s.target r) at.same_copy ∙ ap (λ t. with_report copy t r) at.holds ∙ sym (with_more copy target (counted copy done) r) ∙ ap (with_all copy target) (sym longer);
         whole = ap (λ (v : CollectorView). v.spoiled) is.counted.kept ∙ at.whole;
       }
@@ -110,6 +130,7 @@ module _ {copy : Copying} {target : List ℕ} where
       record {
         same_copy = ap (λ (x : Copied). copying x.collector) same ∙ at.same_copy;
         reported = λ c. ap (λ (x : Copied). is_set x.collector.reported.bytes c) same ∙ at.reported c ∙ ap (λ xs. is_among xs c) (sym shorter);
+        number = ap (λ (x : Copied). reports_of x.collector) same ∙ at.number ∙ sym (ap (λ (xs : List ReportView). length xs) shorter);
         holds = ap (λ (x : Copied). x.target) same ∙ at.holds ∙ ap (with_all copy target) (sym shorter);
         whole = ap (λ (x : Copied). x.collector.spoiled) same ∙ at.whole;
       }
@@ -120,6 +141,7 @@ module _ {copy : Copying} {target : List ℕ} where
       record {
         counts = does_count done s r at is.first;
         reported = λ c. ap (λ (v : CollectorView). is_set v.reported.bytes c) is.spoilt ∙ at.reported c;
+        number = ap reports_of is.spoilt ∙ at.number;
         outside = subst (λ c. Outside c (with_all copy target (counted copy done))) at.same_copy (subst (λ t. Outside (copying s.collector) t) at.holds is.outside);
         spoiled = ap (λ (v : CollectorView). v.spoiled) is.spoilt;
       }
@@ -149,4 +171,4 @@ module _ {copy : Copying} {target : List ℕ} where
 pub every_list : EveryList
 unfolding with_all counted_after
 every_list v target reports last fresh all =
-    from {copy = copying v} {target = target} [] reports (record { collector = v; target = target }) last (record { same_copy = refl; reported = λ c. fresh.none c; holds = refl; whole = fresh.whole }) all
+    from {copy = copying v} {target = target} [] reports (record { collector = v; target = target }) last (record { same_copy = refl; reported = λ c. fresh.none c; number = count_set-none v.reported.bytes v.reported.chunks fresh.none; holds = refl; whole = fresh.whole }) all

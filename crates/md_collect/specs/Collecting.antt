@@ -4,7 +4,7 @@ use Rattle.std.specs.List.{All}
 use Rattle.md_cert.specs.declared.slots.Slot.{Slot}
 use Rattle.md_cert.specs.Plans.{SlotsRise}
 use Rattle.md_bitmap.specs.declared.chunks.Chunks.{Chunks}
-use Rattle.md_bitmap.specs.Marks.{Bitmap, is_set}
+use Rattle.md_bitmap.specs.Marks.{Bitmap, count_set, is_set}
 use Rattle.md_collect.specs.declared.refusal.Refusal.{Refusal}
 use Rattle.md_collect.specs.declared.refusal.Refusal.TheVariants.{Spoiled, Stranger, Double, Length}
 use Rattle.md_collect.specs.Places.{IsChunk}
@@ -35,6 +35,10 @@ pub record IsFresh (v : CollectorView) : Type 0 where
   pub none : (c : ℕ) → is_set v.reported.bytes c ≡ false
   pub whole : v.spoiled ≡ false
 
+-- how many reports counted
+abbrev pub reports_of : CollectorView → ℕ
+reports_of v = count_set v.reported.bytes v.reported.chunks
+
 -- why a report does not count: the first reason that stands
 abbrev pub refusal_of : CollectorView → ReportView → Option Refusal
 refusal_of v r =
@@ -46,5 +50,6 @@ refusal_of v r =
 -- a collector before and after a report that counts
 pub record IsCounted (chunk : ℕ) (old new : CollectorView) : Type 0 where
   pub kept : new ≡ record old { reported = new.reported }
+  pub within : chunk < old.reported.chunks
   pub chunks : new.reported.chunks ≡ old.reported.chunks
   pub reported : (c : ℕ) → is_set new.reported.bytes c ≡ (c == chunk || is_set old.reported.bytes c)

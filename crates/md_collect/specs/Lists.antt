@@ -1,12 +1,12 @@
 -- A list of reports, taken one after another by a collector whose target is honest.
-use Rattle.std.specs.Prelude.{◌≡◌, ℕ, ◌+◌, ◌*◌, ◌⊎◌, true, false, List, [], ◌∷◌, ◌++◌, Option, Some, None}
+use Rattle.std.specs.Prelude.{◌≡◌, ℕ, ◌+◌, ◌*◌, ◌⊎◌, true, false, List, [], ◌∷◌, ◌++◌, length, Option, Some, None}
 use Rattle.md_device.specs.Splice.{SameOutside}
 use Rattle.md_bitmap.specs.Marks.{is_set}
 use Rattle.md_collect.specs.declared.refusal.Refusal.{Refusal}
 use Rattle.md_collect.specs.declared.refusal.Refusal.TheVariants.{TargetFault}
 use Rattle.md_collect.specs.Places.{start_of, bytes_of}
 use Rattle.md_collect.specs.Reports.{ReportView, Copying, is_among, counts, counted, with_report, with_all}
-use Rattle.md_collect.specs.Collecting.{CollectorView, copying, refusal_of, IsCounted, IsFresh}
+use Rattle.md_collect.specs.Collecting.{CollectorView, copying, refusal_of, reports_of, IsCounted, IsFresh}
 
 -- a collector, and what its target holds
 pub record Copied : Type 0 where
@@ -40,6 +40,7 @@ TakesAll s (r ∷ rs) last = (answer : Option Refusal) × (mid : Copied) × Take
 pub record HoldsCounted (copy : Copying) (target : List ℕ) (reports : List ReportView) (s : Copied) : Type 0 where
   pub same_copy : copying s.collector ≡ copy
   pub reported : (c : ℕ) → is_set s.collector.reported.bytes c ≡ is_among (counted copy reports) c
+  pub number : reports_of s.collector ≡ length (counted copy reports)
   pub holds : s.target ≡ with_all copy target (counted copy reports)
   pub whole : s.collector.spoiled ≡ false
 
@@ -47,6 +48,7 @@ pub record HoldsCounted (copy : Copying) (target : List ℕ) (reports : List Rep
 pub record HoldsUpTo (copy : Copying) (target : List ℕ) (front : List ReportView) (r : ReportView) (s : Copied) : Type 0 where
   pub counts : counts copy (counted copy front) r ≡ true
   pub reported : (c : ℕ) → is_set s.collector.reported.bytes c ≡ is_among (counted copy front) c
+  pub number : reports_of s.collector ≡ length (counted copy front)
   pub outside : SameOutside (512 * (copy.offset + start_of copy.chunks r.chunk)) (bytes_of copy.chunks r.chunk) (with_all copy target (counted copy front)) s.target
   pub spoiled : s.collector.spoiled ≡ true
 

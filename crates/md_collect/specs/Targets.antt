@@ -11,6 +11,12 @@ use Rattle.md_collect.specs.Lists.{Copied}
 abbrev pub stage : CollectorView → List ℕ → Copied
 stage v target = record { collector = v; target = target }
 
+-- what is copied and where to stays, whatever the answer
+pub record KeepsCopy (old new : CollectorView) : Type 0 where
+  pub slots : new.slots ≡ old.slots
+  pub chunks : new.chunks ≡ old.chunks
+  pub offset : new.offset ≡ old.offset
+
 -- neither the collector nor the target changed
 abbrev pub IsUntouched : {D : Type 0} → CollectorView → CollectorView → D → D → Type 0
 IsUntouched old new before after = (new ≡ old) × (after ≡ before)

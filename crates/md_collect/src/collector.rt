@@ -1,13 +1,12 @@
 // What is delivered of planned chunks goes to the target, each chunk once.
 ghost use Rattle.std.specs.Prelude.{◌≡◌, ◌≤◌, ℕ, Err, IfNone, IfOk, None, OnOk, Some, true};
 ghost use Rattle.std.specs.Result.{result_err};
-ghost use Rattle.md_bitmap.specs.Marks.{count_set};
 ghost use Rattle.md_collect.specs.Places.{HasRoom, IsChunk};
 ghost use Rattle.md_collect.specs.Reports.{has_length, with_report};
 ghost use Rattle.md_collect.specs.Reading.{Fails};
-ghost use Rattle.md_collect.specs.Collecting.{ArePlanned, CollectorView, IsCounted, IsFresh, copying, refusal_of};
+ghost use Rattle.md_collect.specs.Collecting.{ArePlanned, CollectorView, IsCounted, IsFresh, copying, refusal_of, reports_of};
 ghost use Rattle.md_collect.specs.Lists.{Takes};
-ghost use Rattle.md_collect.specs.Targets.{ChangesChunk, IsUntouched, LeavesBesideChunk, stage};
+ghost use Rattle.md_collect.specs.Targets.{ChangesChunk, IsUntouched, KeepsCopy, LeavesBesideChunk, stage};
 
 use crate::planned::is_planned;
 use crate::refusal::Refusal;
@@ -79,6 +78,7 @@ impl Collector {
         ensures failed { result ≡ Err Refusal.TargetFault → Fails D.Device target.old target.new }
         ensures takes { D.honest target.old ≡ true → Takes (stage self.old (D.content target.old)) report (result_err result) (stage self.new (D.content target.new)) }
 
+        ensures kept { KeepsCopy self.old self.new }
         ensures outside { ChangesChunk self.old report.chunk (D.content target.old) (D.content target.new) }
         ensures honest { D.honest target.new ≡ D.honest target.old }
         ensures counted { D.failures target.old ≤ D.failures target.new }
@@ -102,6 +102,7 @@ impl Collector {
         ensures failed { result ≡ Err Refusal.TargetFault → Fails D.Device target.old target.new }
         ensures takes { D.honest target.old ≡ true → Takes (stage self.old (D.content target.old)) report.now (result_err result) (stage self.new (D.content target.new)) }
 
+        ensures kept { KeepsCopy self.old self.new }
         ensures outside { ChangesChunk self.old report.now.chunk (D.content target.old) (D.content target.new) }
         ensures honest { D.honest target.new ≡ D.honest target.old }
         ensures counted { D.failures target.old ≤ D.failures target.new }
@@ -146,7 +147,7 @@ impl Collector {
 
     /// How many reports counted. It takes no memory.
     pub fn reports(&self) -> u32
-        ensures { result ≡ count_set self.now.reported.bytes self.now.reported.chunks }
+        ensures { result ≡ reports_of self.now }
     {
         self.reported.count()
     }

@@ -62,6 +62,7 @@ impl Report {
     pub fn into_bytes(self) -> Option<Vec<u8>>
         ensures { option_map (λ bytes. bytes.items) result ≡ self.bytes }
     {
-        self.bytes
+        let Report { bytes, .. } = self;
+        bytes
     }
 }

@@ -7,3 +7,4 @@ pub mod BitmapReport
 pub mod BadblocksReport
 pub mod SummaryReport
 pub mod DetailReport
+pub mod PlanReport
