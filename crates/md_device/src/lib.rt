@@ -5,11 +5,13 @@
 #![tactic(auto)]
 
 mod access;
+mod count;
 mod device;
 mod fault;
 mod file;
 mod image_fault;
 mod memory;
+mod overlay;
 #[cfg(test)]
 mod tests;
 
@@ -19,3 +21,4 @@ pub use fault::FaultDevice;
 pub use file::FileDevice;
 pub use image_fault::ImageFault;
 pub use memory::MemDevice;
+pub use overlay::OverlayDevice;
