@@ -69,10 +69,10 @@ held_over blocks below sector read bytes fits is size each =
     let whole : length (held (laid_over blocks below) sector (length read)) ≡ length read = simp (length-take, length-drop, length-laid_over) (omega arith) in
     same_number_lists bytes (held (laid_over blocks below) sector (length read)) (size ∙ sym whole)
     (λ k inside.
-        let k_fits : k < length read = omega (arith, inside, size) in
-        each k k_fits
-        ∙ ap (byte_over blocks (512 * sector + k)) (ap (λ xs. get_or xs k 0) is ∙ get_or-part below (512 * sector) (length read) k k_fits)
-        ∙ sym (get_or-part (laid_over blocks below) (512 * sector) (length read) k k_fits ∙ get_or-laid_over blocks below (512 * sector + k) (omega (arith, k_fits, fits))))
+    let k_fits : k < length read = omega (arith, inside, size) in
+    each k k_fits
+    ∙ ap (byte_over blocks (512 * sector + k)) (ap (λ xs. get_or xs k 0) is ∙ get_or-part below (512 * sector) (length read) k k_fits)
+    ∙ sym (get_or-part (laid_over blocks below) (512 * sector) (length read) k k_fits ∙ get_or-laid_over blocks below (512 * sector + k) (omega (arith, k_fits, fits))))
 
 -- ---- what a write leaves, by the look-ups
 
@@ -105,13 +105,13 @@ module _ (old new : BTreeMap ℕ (List ℕ)) (below : List ℕ) (sector : ℕ) (
     before = same_number_lists (take (512 * sector) (laid_over new below)) (take (512 * sector) (laid_over old below))
         (simp (length-take, length-laid_over) refl)
         (λ k inside.
-            let k_fits : k < 512 * sector = let h : length (take (512 * sector) (laid_over new below)) ≡ 512 * sector = simp (length-take, length-laid_over) (omega (arith, fits)) in omega (arith, h, inside) in
-            get_or-take (512 * sector) (laid_over new below) k 0 k_fits ∙ apart_at k (omega (arith, k_fits, fits)) (inl k_fits) ∙ sym (get_or-take (512 * sector) (laid_over old below) k 0 k_fits));
+        let k_fits : k < 512 * sector = let h : length (take (512 * sector) (laid_over new below)) ≡ 512 * sector = simp (length-take, length-laid_over) (omega (arith, fits)) in omega (arith, h, inside) in
+        get_or-take (512 * sector) (laid_over new below) k 0 k_fits ∙ apart_at k (omega (arith, k_fits, fits)) (inl k_fits) ∙ sym (get_or-take (512 * sector) (laid_over old below) k 0 k_fits));
     after = same_number_lists (drop (512 * sector + length bytes) (laid_over new below)) (drop (512 * sector + length bytes) (laid_over old below))
         (simp (length-drop, length-laid_over) refl)
         (λ k inside.
-            let k_fits : k + (512 * sector + length bytes) < length below = let h : length (drop (512 * sector + length bytes) (laid_over new below)) ≡ length below - (512 * sector + length bytes) = simp (length-drop, length-laid_over) refl in omega (arith, h, inside) in
-            get_or-drop (512 * sector + length bytes) (laid_over new below) k 0 ∙ apart_at (512 * sector + length bytes + k) (omega (arith, k_fits)) (inr (omega arith)) ∙ sym (get_or-drop (512 * sector + length bytes) (laid_over old below) k 0));
+        let k_fits : k + (512 * sector + length bytes) < length below = let h : length (drop (512 * sector + length bytes) (laid_over new below)) ≡ length below - (512 * sector + length bytes) = simp (length-drop, length-laid_over) refl in omega (arith, h, inside) in
+        get_or-drop (512 * sector + length bytes) (laid_over new below) k 0 ∙ apart_at (512 * sector + length bytes + k) (omega (arith, k_fits)) (inr (omega arith)) ∙ sym (get_or-drop (512 * sector + length bytes) (laid_over old below) k 0));
   }
 
   pub laid_written : ((i : ℕ) → 512 * i < length bytes → get nat_cmp new (sector + i) ≡ Some (part bytes (512 * i) 512)) → laid_over new below ≡ written (laid_over old below) sector bytes
@@ -121,20 +121,20 @@ module _ (old new : BTreeMap ℕ (List ℕ)) (below : List ℕ) (sector : ℕ) (
       let size : length (written (laid_over old below) sector bytes) ≡ length (laid_over old below) = length-spliced (laid_over old below) (512 * sector) bytes (omega (arith, fits, length-laid_over old below)) in
       same_number_lists (laid_over new below) (written (laid_over old below) sector bytes) (length-laid_over new below ∙ sym (size ∙ length-laid_over old below))
       (λ k inside.
-          let k_fits : k < length below = omega (arith, inside, length-laid_over new below) in
-          ⊎_elim
-          (λ before. apart_at k k_fits (inl before) ∙ sym (get_or-spliced_before (laid_over old below) (512 * sector) bytes k room before))
-          (λ rest. ⊎_elim
-              (λ within.
-                  let here : 512 * sector + (k - 512 * sector) ≡ k = omega (arith, rest) in
-                  let j_fits : k - 512 * sector < length bytes = omega (arith, rest, within) in
-                  get_or-laid_over new below k k_fits
-                  ∙ ap (λ i. byte_over new i (get_or below k 0)) (sym here)
-                  ∙ new_byte new sector bytes (k - 512 * sector) (get_or below k 0) (kept ((k - 512 * sector) / 512) (omega (arith, j_fits)))
-                  ∙ sym (ap (λ i. get_or (written (laid_over old below) sector bytes) i 0) (sym here) ∙ get_or-spliced_within (laid_over old below) (512 * sector) bytes (k - 512 * sector) room j_fits))
-              (λ after. apart_at k k_fits (inr after) ∙ sym (get_or-spliced_after (laid_over old below) (512 * sector) bytes k room after))
-              (cases_lt k (512 * sector + length bytes)))
-          (cases_lt k (512 * sector)))
+      let k_fits : k < length below = omega (arith, inside, length-laid_over new below) in
+      ⊎_elim
+      (λ before. apart_at k k_fits (inl before) ∙ sym (get_or-spliced_before (laid_over old below) (512 * sector) bytes k room before))
+      (λ rest. ⊎_elim
+      (λ within.
+      let here : 512 * sector + (k - 512 * sector) ≡ k = omega (arith, rest) in
+      let j_fits : k - 512 * sector < length bytes = omega (arith, rest, within) in
+      get_or-laid_over new below k k_fits
+      ∙ ap (λ i. byte_over new i (get_or below k 0)) (sym here)
+      ∙ new_byte new sector bytes (k - 512 * sector) (get_or below k 0) (kept ((k - 512 * sector) / 512) (omega (arith, j_fits)))
+      ∙ sym (ap (λ i. get_or (written (laid_over old below) sector bytes) i 0) (sym here) ∙ get_or-spliced_within (laid_over old below) (512 * sector) bytes (k - 512 * sector) room j_fits))
+      (λ after. apart_at k k_fits (inr after) ∙ sym (get_or-spliced_after (laid_over old below) (512 * sector) bytes k room after))
+      (cases_lt k (512 * sector + length bytes)))
+      (cases_lt k (512 * sector)))
 
 -- the bytes that reads see, outside a write that may have failed
 pub seen_outside : (old new : BTreeMap ℕ (List ℕ)) (below seen : List ℕ) (sector : ℕ) (bytes : List ℕ) → laid_over old below ≡ seen → 512 * sector + length bytes ≤ length seen → length bytes % 512 ≡ 0
@@ -153,15 +153,15 @@ lay_step blocks sector i start mid next done rest inside outside k below =
     ⊎_elim
     (λ before. outside k (inl before) ∙ done k before)
     (λ here.
-        let j : ℕ = k - 512 * i in
-        let back : 512 * i + (k - 512 * i) ≡ k = omega (arith, here) in
-        let place : (512 * sector + k) / 512 ≡ sector + i = omega (arith, here, below) in
-        let offset : (512 * sector + k) % 512 ≡ k - 512 * i = omega (arith, here, below) in
-        ap (λ n. get_or next n 0) (sym back)
-        ∙ inside (k - 512 * i) (omega (arith, here, below))
-        ∙ ap (λ b. unwrap_or (option_map (λ block. get_or block (k - 512 * i) 0) (get nat_cmp blocks (sector + i))) b) (ap (λ n. get_or mid n 0) back ∙ rest k here)
-        ∙ ap (λ n. unwrap_or (option_map (λ block. get_or block (k - 512 * i) 0) (get nat_cmp blocks n)) (get_or start k 0)) (sym place)
-        ∙ ap (λ n. unwrap_or (option_map (λ block. get_or block n 0) (get nat_cmp blocks ((512 * sector + k) / 512))) (get_or start k 0)) (sym offset))
+    let j : ℕ = k - 512 * i in
+    let back : 512 * i + (k - 512 * i) ≡ k = omega (arith, here) in
+    let place : (512 * sector + k) / 512 ≡ sector + i = omega (arith, here, below) in
+    let offset : (512 * sector + k) % 512 ≡ k - 512 * i = omega (arith, here, below) in
+    ap (λ n. get_or next n 0) (sym back)
+    ∙ inside (k - 512 * i) (omega (arith, here, below))
+    ∙ ap (λ b. unwrap_or (option_map (λ block. get_or block (k - 512 * i) 0) (get nat_cmp blocks (sector + i))) b) (ap (λ n. get_or mid n 0) back ∙ rest k here)
+    ∙ ap (λ n. unwrap_or (option_map (λ block. get_or block (k - 512 * i) 0) (get nat_cmp blocks n)) (get_or start k 0)) (sym place)
+    ∙ ap (λ n. unwrap_or (option_map (λ block. get_or block n 0) (get nat_cmp blocks ((512 * sector + k) / 512))) (get_or start k 0)) (sym offset))
     (cases_lt k (512 * i))
 
 -- the lemmas for the device, to pass to `using`

@@ -5,6 +5,7 @@
 #![tactic(auto)]
 
 mod access;
+mod block_device;
 mod count;
 mod device;
 mod fault;
