@@ -25,8 +25,10 @@ impl<'a> Images for FileImages<'a> {
 
     ghost device_at = { λ _ _. None };
 
-    fn get(&mut self, name: &str) -> Result<FileDevice, ImageFault> {
-        FileDevice::open(self.rt, name, Access::ChangeOrLook)
+    ghost changeable = { λ _ _. false };
+
+    fn get(&mut self, name: &str, access: Access) -> Result<FileDevice, ImageFault> {
+        FileDevice::open(self.rt, name, access)
     }
 
     fn put(&mut self, _name: &str, _device: FileDevice) {}
