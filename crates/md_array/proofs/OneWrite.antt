@@ -12,8 +12,8 @@ use Rattle.md_array.specs.View.{ArrayView, Disk, MemberView, MirrorView, disk_of
 use Rattle.md_array.specs.Consistency.{IsConsistent}
 use Rattle.md_array.specs.Fits.{Fits, FitsMember}
 use Rattle.md_array.specs.Members.{IsMember}
-use Rattle.md_array.specs.DeviceChanges.{StaysHonest}
-use Rattle.md_array.specs.DiskWrites.{AtDevice, IsFailed, LeavesOn, IsTried, IsWritten}
+use Rattle.md_array.specs.DeviceChanges.{LeavesOn, StaysHonest}
+use Rattle.md_array.specs.DiskWrites.{AtDevice, IsFailed, IsTried, IsWritten}
 use Rattle.md_array.proofs.InTurn.{disk_at}
 use Rattle.md_array.proofs.WorldsLists.{at_set_same}
 use Rattle.md_array.proofs.Listing.{same_listed}
