@@ -1,5 +1,5 @@
 -- Devices that do what they answer do so after a call.
-use Rattle.std.proofs.Common.{◌≡◌, ℕ, length, List, slice_get, Some, sym, ap, ◌∙◌, subst, arith}
+use Rattle.std.proofs.Common.{◌≡◌, ℕ, List, slice_get, Some, sym, ap, ◌∙◌, arith}
 use Rattle.std.proofs.lemmas.Option.{slice_get_within}
 use Rattle.md_model.proofs.Puts.{by_same}
 use Rattle.md_writes.specs.Writes.{Write}

@@ -13,7 +13,7 @@ use Rattle.md_members.specs.Members.{IsMember, RefusesMember, RefusesRest, by_pl
 use Rattle.md_members.specs.Reading.{RefusesSuper, RefusesBitmap, RefusesLog}
 use Rattle.md_array.specs.View.{Disk}
 use Rattle.md_array.specs.DeviceChanges.{FailsAt, IsUntouched}
-use Rattle.md_array.specs.Reading.{AreRead, RefusesMember as RefusesMemberAt, RefusesRead, refusal_of}
+use Rattle.md_array.specs.Reading.{RefusesMember as RefusesMemberAt, RefusesRead, refusal_of}
 use Rattle.md_array.proofs.InTurn.{at_push_before, at_push_last, same_place}
 use Rattle.md_array.proofs.WorldsLists.{at_set_same}
 

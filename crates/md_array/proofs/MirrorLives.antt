@@ -158,7 +158,6 @@ module _ (t : Moment) (sound : IsConsistent t.mirror) (are : AreReadAsKept t.mir
       → Reopens g (super_of opened.array.shared) (history_of t) (super_of next.array.shared) (world_of next none_in_flight)
   reopens opened fit = record { left = made_of; is_left = are_left; fit = fit; opens = opens_again }
 
-
 -- ---- lives
 pub geometry_kept : (es : List Event) (t last : Moment) → MirrorRun t es last → geometry_of last.mirror.array ≡ geometry_of t.mirror.array
 geometry_kept [] t last r = ap (λ (x : Moment). geometry_of x.mirror.array) r

@@ -1,5 +1,5 @@
 -- What a stop within a step leaves.
-use Rattle.std.proofs.Common.{◌≡◌, ◌≢◌, ◌∙◌, ◌⊎◌, ⊎_elim, inl, inr, ℕ, suc, ◌<◌, true, List, [], ◌∷◌, ◌++◌, drop, length, get_or, Some, sym, ap, refl, subst, arith}
+use Rattle.std.proofs.Common.{◌≡◌, ◌∙◌, ⊎_elim, inr, ℕ, suc, ◌<◌, List, [], ◌∷◌, drop, length, get_or, Some, sym, ap, refl, subst, arith}
 use Rattle.std.specs.Prelude.{map, option_map, slice_get}
 use Rattle.std.proofs.lemmas.List.{drop_at, length-drop, length-map}
 use Rattle.std.proofs.lemmas.Option.{get_or_from_slice_get, same_Some, slice_get-get_or, slice_get-map, slice_get_within}
@@ -9,7 +9,7 @@ use Rattle.md_writes.specs.Writes.{IsAnyIn, IsCutShort, Write}
 use Rattle.md_writes.proofs.Runs.{cut_one}
 use Rattle.md_array.specs.View.{Disk}
 use Rattle.md_array.proofs.WorldsLists.{got_within}
-use Rattle.md_array.specs.DiskWrites.{IsFailed, IsTried, IsWritten}
+use Rattle.md_array.specs.DiskWrites.{IsTried}
 use Rattle.md_array.specs.StopsWithin.{IsLeftBut, MayAllBeLeft, MayBeLeft, StopsAtFailure, StopsAtSector, StopsAtWrite, StopsInMemory}
 
 -- what is listed since, has what is said of all that is new
@@ -40,7 +40,7 @@ pub stops_at_write : StopsAtWrite
 stops_at_write k w before after left honest written may =
     left_but k w before after left (λ old c. IsCutShort old (w ∷ []) c) written.tried may
     (λ d e c was is. ⊎_elim (λ same. record { done = []; rest = w ∷ []; order = refl; mixed = rw same (mixed_none w.sector w.bytes d.content) })
-        (λ new. new_has d.stops e.stops (λ x. IsCutShort d.content (w ∷ []) x) (written.within d e was is (honest k d was)) new.0 c new.1))
+    (λ new. new_has d.stops e.stops (λ x. IsCutShort d.content (w ∷ []) x) (written.within d e was is (honest k d was)) new.0 c new.1))
 
 pub stops_at_sector : StopsAtSector
 stops_at_sector k w before after left one honest written may =
@@ -55,7 +55,7 @@ pub stops_at_failure : StopsAtFailure
 stops_at_failure k w before after left honest failed may =
     left_but k w before after left (IsAnyIn w) failed.tried may
     (λ d e c was is. ⊎_elim (λ same. rw same (record { size = refl; before = refl; after = refl }))
-        (λ new. new_has d.stops e.stops (IsAnyIn w d.content) (failed.within d e was is (honest k d was)) new.0 c new.1))
+    (λ new. new_has d.stops e.stops (IsAnyIn w d.content) (failed.within d e was is (honest k d was)) new.0 c new.1))
 
 -- lists with the same elements at each place
 same_lists : {X : Type 0} (xs ys : List X) → length ys ≡ length xs → ((k : ℕ) (x y : X) → slice_get xs k ≡ Some x → slice_get ys k ≡ Some y → y ≡ x) → ys ≡ xs
