@@ -1,5 +1,5 @@
 -- Stops over several calls that only read.
-use Rattle.std.proofs.Common.{◌≡◌, Bool, true, List, ℕ, ◌∙◌, subst}
+use Rattle.std.proofs.Common.{◌≡◌, Bool, true, List, ℕ, ◌∙◌}
 use Rattle.md_device.specs.Stops.{LeavesMore}
 use Rattle.md_device.proofs.Leaving.{leaves_less, leaves_then}
 
