@@ -7,7 +7,10 @@ use Rattle.std.proofs.lemmas.List.{length-append, length-map, get_or-map}
 use Rattle.std.proofs.lemmas.Slice.Eq.{bytes_eq-Decides}
 use Rattle.clap.specs.Words.{Text}
 use Rattle.md_cli.specs.declared.image_word.ImageWord.{ImageWord}
-use Rattle.md_cli.specs.Taking.{AreOut, ArePut, IsBad, IsDistinct, IsOther, name_at, names_of, word_of}
+use Rattle.md_device.specs.declared.image_fault.ImageFault.{ImageFault}
+use Rattle.md_cli.specs.declared.image_refusal.ImageRefusal.TheVariants.{Unopened}
+use Rattle.md_cli.specs.Images.{IsRefused}
+use Rattle.md_cli.specs.Taking.{AreOut, ArePut, IsBad, IsDistinct, IsOther, IsThere, Repeats, TakesFirst, name_at, names_of, word_of}
 
 -- two texts are the same or not
 pub same_text : (a b : Text) → (a ≡ b) ⊎ (a ≢ b)
@@ -82,6 +85,12 @@ some_before (w ∷ words) (suc k) name e = by (bears name w) refl (some_before w
         let found = later (sym (ap (λ b. b || list_any (bears name) (take k words)) is) ∙ e) in
         (suc found.0, omega (arith, found.1), found.2)
 
+-- then the name repeats an earlier one
+pub repeated_bad : (words : List ImageWord) (k : ℕ) (name : Text) → name_at (names_in words) k ≡ name → list_any (bears name) (take k words) ≡ true → Repeats (names_in words) k
+repeated_bad words k name here e =
+    let found = some_before words k name e in
+    (found.0, found.1, found.2 ∙ sym here)
+
 -- the next name repeats none of the first, so that these and it are distinct
 distinct_more : (names : List Text) (k : ℕ) → IsDistinct names k → ((i : ℕ) → i < k → name_at names i ≢ name_at names k) → IsDistinct names (k + 1)
 distinct_more names k distinct fresh i j less lt = elim (below_next j k lt) [
@@ -145,16 +154,17 @@ module _ {D : Type 0} where
       others = λ other h. only other (h k (omega arith)) ∙ so.others other (λ i less. h i (omega (arith, less)));
     }
 
-    -- the next one is refused
-    pub refused_was : AreOut before mid names k devices → IsFresh → mid (name_at names k) ≡ None → before (name_at names k) ≡ None
-    refused_was so fresh none = sym (so.others (name_at names k) (fresh_other fresh)) ∙ none
+    -- what stood under the next name before
+    pub next_was : AreOut before mid names k devices → IsFresh → mid (name_at names k) ≡ before (name_at names k)
+    next_was so fresh = so.others (name_at names k) (fresh_other fresh)
 
-    pub refused_out : AreOut before mid names k devices → IsFresh → mid (name_at names k) ≡ None → after (name_at names k) ≡ None → OnlyAt → AreOut before after names k devices
-    refused_out so fresh none gone only = record {
+    -- the next one is refused
+    pub refused_out : AreOut before mid names k devices → IsFresh → after (name_at names k) ≡ mid (name_at names k) → OnlyAt → AreOut before after names k devices
+    refused_out so fresh stays only = record {
       were = so.were;
       out = λ i less. only (name_at names i) (fresh i less) ∙ so.out i less;
       others = λ other h. elim (same_text other (name_at names k)) [
-        | inl same ↦ ap after same ∙ gone ∙ sym none ∙ ap mid (sym same) ∙ so.others other h
+        | inl same ↦ ap after same ∙ stays ∙ ap mid (sym same) ∙ so.others other h
         | inr not ↦ only other not ∙ so.others other h
       ];
     }
@@ -205,41 +215,42 @@ module _ {D : Type 0} where
         | inr other ↦ back.others text other ∙ taken.others text other
       ]
 
-  -- each device that was taken was there
-  pub was_there : (before mid : Text → Option D) (names : List Text) (n : ℕ) (devices : List D) → AreOut before mid names n devices → (k : ℕ) → k < n → before (name_at names k) ≢ None
-  was_there before mid names n devices taken k lt none =
-      let past : length devices ≤ k = none_past devices k (sym (taken.were.each k lt) ∙ none) in
-      absurd (omega (arith, past, lt, taken.were.many))
-    where
-      none_past : (xs : List D) (i : ℕ) → slice_get xs i ≡ None → length xs ≤ i
-      none_past [] i e = omega arith
-      none_past (x ∷ xs) zero e = absurd cc
-      none_past (x ∷ xs) (suc i) e = omega (arith, none_past xs i e)
+  not_none : (o : Option D) (d : D) → o ≡ Some d → o ≢ None
+  not_none o d e none = absurd cc
 
--- Images while devices are taken out of them, or put back. `known`, `holds` and `at` are what contracts see of them.
-module _ {I D : Type 0} (known : I → Bool) (holds : I → Text → Bool) (at : I → Text → Option D) where
+-- Images while devices are taken out of them, or put back. `known`, `holds`, `at` and `allowed` are what contracts see of
+-- them; the last is whether the image under a name may be had.
+module _ {I D : Type 0} (known : I → Bool) (holds : I → Text → Bool) (at : I → Text → Option D) (allowed : I → Text → Bool) where
   -- what a call for the device under a name changes, and what it leaves
   pub record Calls (name : Text) (old new : I) : Type 0 where
     pub known_kept : known new ≡ known old
     pub places : known old ≡ true → (n : Text) → holds new n ≡ holds old n
+    pub rights : known old ≡ true → (n : Text) → allowed new n ≡ allowed old n
     pub others : known old ≡ true → (other : Text) → other ≢ name → at new other ≡ at old other
 
   -- the devices of the first k words are out
   pub record Taking (names : List Text) (before now : I) (k : ℕ) (devices : List D) : Type 0 where
     pub known_kept : known now ≡ known before
-    pub many : length devices ≡ k
-    pub distinct : IsDistinct names k
+    pub took : TakesFirst (known before) (allowed before) (at before) (at now) names k devices
     pub held : known before ≡ true → (i : ℕ) → i < k → holds now (name_at names i) ≡ true
-    pub out : known before ≡ true → AreOut (at before) (at now) names k devices
+    pub rights : known before ≡ true → (n : Text) → allowed now n ≡ allowed before n
 
   pub taking_none : (names : List Text) (images : I) (devices : List D) → devices ≡ [] → Taking names images images 0 devices
   taking_none names images devices e = record {
     known_kept = refl;
-    many = ap length e;
-    distinct = λ i k less lt. absurd (omega (arith, lt));
+    took = record {
+      distinct = λ i k less lt. absurd (omega (arith, lt));
+      many = ap length e;
+      taken = λ is. none_out (at images) names devices e;
+      there = λ is i lt. absurd (omega (arith, lt));
+    };
     held = λ is i lt. absurd (omega (arith, lt));
-    out = λ is. none_out (at images) names devices e;
+    rights = λ is n. refl;
   }
+
+  -- as many were taken as there are devices
+  pub all_taken : (names : List Text) (before now : I) (k : ℕ) (devices : List D) → Taking names before now k devices → Taking names before now (length devices) devices
+  all_taken names before now k devices so = subst (λ (n : ℕ). Taking names before now n devices) (sym so.took.many) so
 
   module _ (words : List ImageWord) (before now after : I) (k : ℕ) (devices : List D) (name : Text) (lt : k < length words) (here : name_at (names_in words) k ≡ name) (so : Taking (names_in words) before now k devices) (calls : Calls name now after) where
     fresh : list_any (bears name) (take k words) ≡ false → (i : ℕ) → i < k → name_at (names_in words) i ≢ name_at (names_in words) k
@@ -248,34 +259,52 @@ module _ {I D : Type 0} (known : I → Bool) (holds : I → Text → Bool) (at :
     only : known before ≡ true → (other : Text) → other ≢ name_at (names_in words) k → at after other ≡ at now other
     only is other h = calls.others (so.known_kept ∙ is) other (λ same. h (same ∙ sym here))
 
-    pub taking_more : (d : D) → list_any (bears name) (take k words) ≡ false → (known now ≡ true → (holds now name ≡ true) × (at now name ≡ Some d)) → (known now ≡ true → at after name ≡ None) → Taking (names_in words) before after (k + 1) (devices ++ d ∷ [])
-    taking_more d none gives gone = record {
+    -- what stood under the name before the first call
+    was : (is : known before ≡ true) → list_any (bears name) (take k words) ≡ false → at before (name_at (names_in words) k) ≡ at now name
+    was is none = sym (next_was (at before) (at now) (at after) (names_in words) k devices (so.took.taken is) (fresh none)) ∙ ap (at now) here
+
+    might : (is : known before ≡ true) → allowed before (name_at (names_in words) k) ≡ allowed now name
+    might is = ap (allowed before) here ∙ sym (so.rights is name)
+
+    pub taking_more : (d : D) → list_any (bears name) (take k words) ≡ false → (known now ≡ true → (holds now name ≡ true) × (at now name ≡ Some d)) → (known now ≡ true → allowed now name ≡ true) → (known now ≡ true → at after name ≡ None) → Taking (names_in words) before after (k + 1) (devices ++ d ∷ [])
+    taking_more d none gives may gone = record {
       known_kept = calls.known_kept ∙ so.known_kept;
-      many = length-append devices (d ∷ []) ∙ ap (λ (n : ℕ). n + 1) so.many;
-      distinct = distinct_more (names_in words) k so.distinct (fresh none);
+      took = record {
+        distinct = distinct_more (names_in words) k so.took.distinct (fresh none);
+        many = length-append devices (d ∷ []) ∙ ap (λ (n : ℕ). n + 1) so.took.many;
+        taken = λ is.
+            one_out (at before) (at now) (at after) (names_in words) k devices d (so.took.taken is) (fresh none) (ap (at now) here ∙ (gives (so.known_kept ∙ is)).1) (ap (at after) here ∙ gone (so.known_kept ∙ is)) (only is);
+        there = λ is i less. elim (below_next i k less) [
+          | inl inside ↦ so.took.there is i inside
+          | inr last ↦ subst (λ (j : ℕ). IsThere (allowed before) (at before) (names_in words) j) (sym last)
+              (not_none _ d (was is none ∙ (gives (so.known_kept ∙ is)).1), might is ∙ may (so.known_kept ∙ is))
+        ];
+      };
       held = λ is i less. elim (below_next i k less) [
         | inl inside ↦ calls.places (so.known_kept ∙ is) (name_at (names_in words) i) ∙ so.held is i inside
         | inr last ↦ calls.places (so.known_kept ∙ is) (name_at (names_in words) i) ∙ ap (λ (j : ℕ). holds now (name_at (names_in words) j)) last ∙ ap (holds now) here ∙ (gives (so.known_kept ∙ is)).0
       ];
-      out = λ is. one_out (at before) (at now) (at after) (names_in words) k devices d (so.out is) (fresh none) (ap (at now) here ∙ (gives (so.known_kept ∙ is)).1) (ap (at after) here ∙ gone (so.known_kept ∙ is)) (only is);
+      rights = λ is n. calls.rights (so.known_kept ∙ is) n ∙ so.rights is n;
     }
 
-    pub taking_refused : list_any (bears name) (take k words) ≡ false → (known now ≡ true → at now name ≡ None) → (known now ≡ true → at after name ≡ None) → Taking (names_in words) before after k devices
-    taking_refused none missing gone = record {
+    pub taking_refused : list_any (bears name) (take k words) ≡ false → (known now ≡ true → at after name ≡ at now name) → Taking (names_in words) before after k devices
+    taking_refused none stays = record {
       known_kept = calls.known_kept ∙ so.known_kept;
-      many = so.many;
-      distinct = so.distinct;
+      took = record {
+        distinct = so.took.distinct;
+        many = so.took.many;
+        taken = λ is. refused_out (at before) (at now) (at after) (names_in words) k devices (so.took.taken is) (fresh none) (ap (at after) here ∙ stays (so.known_kept ∙ is) ∙ sym (ap (at now) here)) (only is);
+        there = so.took.there;
+      };
       held = λ is i less. calls.places (so.known_kept ∙ is) (name_at (names_in words) i) ∙ so.held is i less;
-      out = λ is. refused_out (at before) (at now) (at after) (names_in words) k devices (so.out is) (fresh none) (ap (at now) here ∙ missing (so.known_kept ∙ is)) (ap (at after) here ∙ gone (so.known_kept ∙ is)) (only is);
+      rights = λ is n. calls.rights (so.known_kept ∙ is) n ∙ so.rights is n;
     }
 
-    pub refused_bad : list_any (bears name) (take k words) ≡ false → (known now ≡ true → at now name ≡ None) → IsBad (known before) (at before) (names_in words) k
-    refused_bad none missing = inr (λ is. refused_was (at before) (at now) (at after) (names_in words) k devices (so.out is) (fresh none) (ap (at now) here ∙ missing (so.known_kept ∙ is)))
-
-  pub repeated_bad : (words : List ImageWord) (before : I) (k : ℕ) (name : Text) → name_at (names_in words) k ≡ name → list_any (bears name) (take k words) ≡ true → IsBad (known before) (at before) (names_in words) k
-  repeated_bad words before k name here e =
-      let found = some_before words k name e in
-      inl (found.0, found.1, found.2 ∙ sym here)
+    pub refused_bad : (fault : ImageFault) → list_any (bears name) (take k words) ≡ false → (known now ≡ true → IsRefused (at now name) (allowed now name) fault) → IsBad (known before) (allowed before) (at before) (names_in words) k (Unopened fault)
+    refused_bad fault none refused = λ is. elim (refused (so.known_kept ∙ is)) [
+      | inl missing ↦ inl (was is none ∙ missing)
+      | inr forbidden ↦ inr (might is ∙ forbidden.0, forbidden.1)
+    ]
 
   -- of all devices those behind the ones that are left are back
   pub record Putting (names : List Text) (before now : I) (all left : List D) : Type 0 where

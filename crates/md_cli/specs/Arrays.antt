@@ -1,6 +1,6 @@
 -- What the commands that open a whole array give.
 use Rattle.md_device.specs.declared.device.Device.{Ghosts}
-use Rattle.std.specs.Prelude.{◌≡◌, ◌⊎◌, ℕ, Bool, true, List, length, map, Option, Result, Err, MatchResult}
+use Rattle.std.specs.Prelude.{◌≡◌, ◌⊎◌, ◌<◌, ℕ, Bool, true, List, length, map, Option, Result, Err, MatchResult}
 use Rattle.clap.specs.Words.{Text}
 use Rattle.md_array.specs.View.{ArrayView, Disk, MirrorView, disk_of}
 use Rattle.md_array.specs.Opening.{IsOpenedFrom}
@@ -13,7 +13,7 @@ use Rattle.md_cli.specs.declared.array_report.ArrayReport.{ArrayReport}
 use Rattle.md_cli.specs.declared.array_report.ArrayReport.TheVariants.{Summary, Detail}
 use Rattle.md_cli.specs.declared.fault.CommandFault.{CommandFault}
 use Rattle.md_cli.specs.declared.fault.CommandFault.TheVariants.{Open, OutputFault}
-use Rattle.md_cli.specs.Taking.{ArePut, AreUnder, IsDistinct, RefusesImages, Word, names_of}
+use Rattle.md_cli.specs.Taking.{ArePut, AreUnder, IsDistinct, IsThere, RefusesImages, Word, names_of}
 
 abbrev pub array_text : ArrayReport → ArrayView → List ℕ
 array_text Summary a = summary_text a
@@ -53,22 +53,24 @@ module _ {D : Type 0} (g : Ghosts D) where
 
 module _ {D S : Type 0} (g : Ghosts D) where
   -- The devices of all words are taken out of their images, worked on, and put back under their names. Where it is known
-  -- which devices there are, they are those under the names, and all other names keep theirs.
-  pub record WorksOnImages (Does : Work S) (known : Bool) (before after : Text → Option D) (words : List Word) (old new : S) (result : Result (Unit {0}) CommandFault) : Type 0 where
+  -- which devices there are, they are those under the names, each of which may be had, and all other names keep theirs.
+  pub record WorksOnImages (Does : Work S) (known : Bool) (allowed : Text → Bool) (before after : Text → Option D) (words : List Word) (old new : S) (result : Result (Unit {0}) CommandFault) : Type 0 where
     pub taken : List D
     pub given : List D
     pub distinct : IsDistinct (names_of words) (length words)
     pub were : known ≡ true → AreUnder before (names_of words) (length words) taken
+    pub there : known ≡ true → (k : ℕ) → k < length words → IsThere allowed before (names_of words) k
     pub put : known ≡ true → ArePut before after (names_of words) (length words) given
     pub done : Does (disks g taken) (disks g given) old new result
 
   -- an image is refused, or there is no memory for the list of devices: nothing else is done
-  pub record RefusesWords (Unchanged : Type 0) (known : Bool) (before after : Text → Option D) (words : List Word) (old new : S) (result : Result (Unit {0}) CommandFault) : Type 0 where
+  pub record RefusesWords (Unchanged : Type 0) (known : Bool) (allowed : Text → Bool) (before after : Text → Option D) (words : List Word) (old new : S) (result : Result (Unit {0}) CommandFault) : Type 0 where
     pub fault : CommandFault
     pub is : result ≡ Err fault
-    pub refused : RefusesImages Unchanged known before after words fault
+    pub refused : RefusesImages Unchanged known allowed before after words fault
     pub unwritten : new ≡ old
 
-  abbrev pub UsesImages : Work S → Type 0 → Bool → (Text → Option D) → (Text → Option D) → List Word → S → S → Result (Unit {0}) CommandFault → Type 0
-  UsesImages Does Unchanged known before after words old new result =
-      WorksOnImages Does known before after words old new result ⊎ RefusesWords Unchanged known before after words old new result
+  -- `allowed` says which images may be had for what the command does
+  abbrev pub UsesImages : Work S → Type 0 → Bool → (Text → Bool) → (Text → Option D) → (Text → Option D) → List Word → S → S → Result (Unit {0}) CommandFault → Type 0
+  UsesImages Does Unchanged known allowed before after words old new result =
+      WorksOnImages Does known allowed before after words old new result ⊎ RefusesWords Unchanged known allowed before after words old new result

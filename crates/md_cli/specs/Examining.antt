@@ -13,7 +13,9 @@ use Rattle.md_examine.specs.BitmapReport.{bitmap_report}
 use Rattle.md_examine.specs.BadblocksReport.{badblocks_report}
 use Rattle.md_cli.specs.declared.report.Report.{Report}
 use Rattle.md_cli.specs.declared.report.Report.TheVariants.{Superblock, Bitmap, BadBlocks}
+use Rattle.md_device.specs.declared.image_fault.ImageFault.{ImageFault}
 use Rattle.md_cli.specs.declared.fault.CommandFault.{CommandFault}
+use Rattle.md_cli.specs.declared.image_refusal.ImageRefusal.TheVariants.{Unopened}
 use Rattle.md_cli.specs.declared.fault.CommandFault.TheVariants.{BadImage, Member, NoBitmap, OutputFault}
 
 -- the text that a device of this content is shown by
@@ -59,7 +61,8 @@ pub record ExaminesDevice {D S : Type 0} (report : Report) (g : Ghosts D) (conte
 
 -- the image can't be opened
 pub record RefusesImage {D S : Type 0} (known : Bool) (before after : List ℕ → Option D) (name : List ℕ) (old new : S) (result : Result (Unit {0}) CommandFault) : Type 0 where
-  pub refused : result ≡ Err (BadImage 0)
+  pub fault : ImageFault
+  pub refused : result ≡ Err (BadImage 0 (Unopened fault))
   pub was : known ≡ true → before name ≡ None
   pub stays : known ≡ true → after name ≡ None
   pub others : known ≡ true → OthersStay before after name

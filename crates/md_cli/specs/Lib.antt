@@ -2,6 +2,7 @@ pub mod Arrays
 pub mod Asked
 pub mod Creating
 pub mod Examining
+pub mod Images
 pub mod MemImages
 pub mod MemPlaces
 pub mod Planning

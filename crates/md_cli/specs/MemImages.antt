@@ -1,19 +1,21 @@
 -- Images in memory: names, each with the device that stands under it.
-use Rattle.std.specs.Prelude.{ℕ, Bool, List, Option, option_and_then, refl}
+use Rattle.std.specs.Prelude.{ℕ, Bool, List, Option, false, option_and_then, option_map, unwrap_or, refl}
 use Rattle.std.specs.List.{find}
 use Rattle.std.specs.Option.{is_some}
 use Rattle.std.specs.Str.{bytes_eq}
-use Rattle.std.specs.Coded.{Coded, code_by, coded×, coded_ℕ, coded_list, coded_option}
+use Rattle.std.specs.Coded.{Coded, code_by, coded×, coded_ℕ, coded_bool, coded_list, coded_option}
 
--- a place for a device, which is none while it is taken out
+-- a place for a device, which is none while it is taken out, and whether the device may be changed
 pub record Named (D : Type 0) : Type 0 where
   pub name : List ℕ
   pub device : Option D
+  pub changeable : Bool
 
--- it is stored as the pair of its fields
+-- it is stored as the tuple of its fields
 abbrev pub named_code : {D : Type 0} → Coded D → Coded (Named D)
 named_code {D} code =
-    code_by (List ℕ × Option D) (coded× (coded_list coded_ℕ) (coded_option code)) (λ p. (p.name, p.device)) (λ p. record { name = p.0; device = p.1 }) (λ _. refl)
+    code_by (List ℕ × (Option D × Bool)) (coded× (coded_list coded_ℕ) (coded× (coded_option code) coded_bool)) (λ p. (p.name, (p.device, p.changeable)))
+    (λ p. record { name = p.0; device = p.1.0; changeable = p.1.1 }) (λ _. refl)
 
 module _ {D : Type 0} where
   -- whether it is the place of this name
@@ -27,6 +29,10 @@ module _ {D : Type 0} where
   -- whether a place has the name
   abbrev pub holds_in : List (Named D) → List ℕ → Bool
   holds_in places name = is_some (place_of places name)
+
+  -- whether the device under a name may be changed
+  abbrev pub changeable_in : List (Named D) → List ℕ → Bool
+  changeable_in places name = unwrap_or (option_map (λ p. p.changeable) (place_of places name)) false
 
   -- the device under a name
   abbrev pub device_in : List (Named D) → List ℕ → Option D

@@ -5,7 +5,7 @@ use Rattle.md_cli.specs.declared.memory_images.Place.{Place}
 use Rattle.md_cli.specs.MemImages.{Named}
 
 abbrev pub named : {D : Type 0} → Place D → Named D
-named place = record { name = string_bytes place.name; device = place.device }
+named place = record { name = string_bytes place.name; device = place.device; changeable = place.changeable }
 
 abbrev pub named_places : {D : Type 0} → List (Place D) → List (Named D)
 named_places = map named

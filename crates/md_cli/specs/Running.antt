@@ -2,6 +2,8 @@
 use Rattle.md_device.specs.declared.device.Device.{Ghosts}
 use Rattle.std.specs.Prelude.{◌≡◌, ◌≢◌, ◌⊎◌, ℕ, Bool, true, false, List, [], ◌∷◌, length, Option, Some, None, Result, Ok, Err}
 use Rattle.clap.specs.Words.{Text}
+use Rattle.md_device.specs.declared.access.Access.{Access}
+use Rattle.md_device.specs.declared.access.Access.TheVariants.{Change, ChangeOrLook}
 use Rattle.md_create.specs.declared.params.CreateParams.{CreateParams}
 use Rattle.md_cli.specs.declared.fault.CommandFault.{CommandFault}
 use Rattle.md_cli.specs.declared.fault.CommandFault.TheVariants as fault
@@ -12,6 +14,7 @@ use Rattle.md_cli.specs.Asked.{Ask, Options, examines, creates, assembles, detai
 use Rattle.md_cli.specs.Arrays.{OpensDevices, UsesImages}
 use Rattle.md_cli.specs.Creating.{CreatesOn}
 use Rattle.md_cli.specs.Examining.{ExaminesOne}
+use Rattle.md_cli.specs.Images.{allows}
 use Rattle.md_cli.specs.Planning.{IsPlan, option_fault}
 use Rattle.md_cli.specs.Taking.{image_list}
 
@@ -24,7 +27,11 @@ status_of (Err _) = 1
 abbrev pub IsIdle : {I S : Type 0} → I → I → S → S → Type 0
 IsIdle before after old new = (after ≡ before) × (new ≡ old)
 
-module _ {I D S : Type 0} (g : Ghosts D) (contents : S → Option (List ℕ)) (failed : S → Bool) (known : I → Bool) (device_at : I → Text → Option D) where
+module _ {I D S : Type 0} (g : Ghosts D) (contents : S → Option (List ℕ)) (failed : S → Bool) (known : I → Bool) (device_at : I → Text → Option D) (changeable : I → Text → Bool) where
+  -- whether the image under a name may be had
+  abbrev may : Access → I → Text → Bool
+  may access images name = allows access (changeable images name)
+
   -- a report on one image
   pub record Examines (report : Report) (words : List Text) (before after : I) (old new : S) (result : Result (Unit {0}) CommandFault) : Type 0 where
     pub count : length words ≢ 1 → (result ≡ Err fault.BadCount) × IsIdle before after old new
@@ -41,14 +48,14 @@ module _ {I D S : Type 0} (g : Ghosts D) (contents : S → Option (List ℕ)) (f
     pub sound : option_fault o (length words) ≡ None
     pub params : CreateParams
     pub planned : IsPlan o params
-    pub done : UsesImages g (CreatesOn contents failed params words) (after ≡ before) (known before) (device_at before) (device_at after) (image_list true words) old new result
+    pub done : UsesImages g (CreatesOn contents failed params words) (after ≡ before) (known before) (may Change before) (device_at before) (device_at after) (image_list true words) old new result
 
   -- what each command does with the images that its words name
   abbrev pub Does : Ask → List Text → I → I → S → S → Result (Unit {0}) CommandFault → Type 0
   Does (examines report) words before after old new result = Examines report words before after old new result
   Does (creates o) words before after old new result = RefusesOptions o words before after old new result ⊎ Creates o words before after old new result
-  Does assembles words before after old new result = UsesImages g (OpensDevices contents failed Summary) (after ≡ before) (known before) (device_at before) (device_at after) (image_list false words) old new result
-  Does details words before after old new result = UsesImages g (OpensDevices contents failed Detail) (after ≡ before) (known before) (device_at before) (device_at after) (image_list false words) old new result
+  Does assembles words before after old new result = UsesImages g (OpensDevices contents failed Summary) (after ≡ before) (known before) (may ChangeOrLook before) (device_at before) (device_at after) (image_list false words) old new result
+  Does details words before after old new result = UsesImages g (OpensDevices contents failed Detail) (after ≡ before) (known before) (may ChangeOrLook before) (device_at before) (device_at after) (image_list false words) old new result
 
   -- the command's own answer, whose status this is
   pub record DoesCommand (ask : Ask) (words : List Text) (before after : I) (old new : S) (status : ℕ) : Type 0 where

@@ -6,6 +6,9 @@ use Rattle.clap.specs.Words.{Text}
 use Rattle.md_cli.specs.declared.image_word.ImageWord.{ImageWord}
 use Rattle.md_cli.specs.declared.fault.CommandFault.{CommandFault}
 use Rattle.md_cli.specs.declared.fault.CommandFault.TheVariants.{BadImage, NoMemory}
+use Rattle.md_cli.specs.declared.image_refusal.ImageRefusal.{ImageRefusal}
+use Rattle.md_cli.specs.declared.image_refusal.ImageRefusal.TheVariants.{Repeated, Unopened}
+use Rattle.md_cli.specs.Images.{IsRefused}
 
 -- a word that names an image, with its place among the image words
 abbrev pub Word : Type 0
@@ -64,28 +67,38 @@ module _ {D : Type 0} where
     pub back : AreUnder after names n devices
     pub others : OthersKeep before after names n
 
-  -- name k repeats an earlier one or has no device. Of images of which it is not known which there are only the first can
-  -- be said.
-  abbrev pub IsBad : Bool → (Text → Option D) → List Text → ℕ → Type 0
-  IsBad known before names k = Repeats names k ⊎ (known ≡ true → before (name_at names k) ≡ None)
+  -- Why name k is refused: it repeats an earlier one, or its image is not had. Of images of which it is not known which
+  -- there are only the first can be said.
+  abbrev pub IsBad : Bool → (Text → Bool) → (Text → Option D) → List Text → ℕ → ImageRefusal → Type 0
+  IsBad known allowed before names k Repeated = Repeats names k
+  IsBad known allowed before names k (Unopened fault) = known ≡ true → IsRefused (before (name_at names k)) (allowed (name_at names k)) fault
+
+  -- the image under name k is there, and may be had
+  abbrev pub IsThere : (Text → Bool) → (Text → Option D) → List Text → ℕ → Type 0
+  IsThere allowed before names k = (before (name_at names k) ≢ None) × (allowed (name_at names k) ≡ true)
 
   -- the word with this index is the first that is bad
-  pub record IsFirstBad (known : Bool) (before : Text → Option D) (words : List Word) (index : ℕ) : Type 0 where
+  pub record IsFirstBad (known : Bool) (allowed : Text → Bool) (before : Text → Option D) (words : List Word) (index : ℕ) (why : ImageRefusal) : Type 0 where
     pub place : ℕ
     pub within : place < length words
     pub index_is : (slice_index_or words place (0, [])).0 ≡ index
-    pub bad : IsBad known before (names_of words) place
+    pub bad : IsBad known allowed before (names_of words) place why
     pub distinct : IsDistinct (names_of words) place
-    pub earlier : known ≡ true → (k : ℕ) → k < place → before (name_at (names_of words) k) ≢ None
+    pub earlier : known ≡ true → (k : ℕ) → k < place → IsThere allowed before (names_of words) k
 
-  -- The devices of all words were taken out of their images.
-  pub record TakesImages (known : Bool) (before after : Text → Option D) (words : List Word) (devices : List D) : Type 0 where
-    pub distinct : IsDistinct (names_of words) (length words)
-    pub many : length devices ≡ length words
-    pub taken : known ≡ true → AreOut before after (names_of words) (length words) devices
+  -- The devices under the first n names were taken out of their images, each of which may be had.
+  pub record TakesFirst (known : Bool) (allowed : Text → Bool) (before after : Text → Option D) (names : List Text) (n : ℕ) (devices : List D) : Type 0 where
+    pub distinct : IsDistinct names n
+    pub many : length devices ≡ n
+    pub taken : known ≡ true → AreOut before after names n devices
+    pub there : known ≡ true → (k : ℕ) → k < n → IsThere allowed before names k
+
+  -- those of all words were
+  abbrev pub TakesImages : Bool → (Text → Bool) → (Text → Option D) → (Text → Option D) → List Word → List D → Type 0
+  TakesImages known allowed before after words devices = TakesFirst known allowed before after (names_of words) (length words) devices
 
   -- They were not: what was taken out of an image is back in it.
-  abbrev pub RefusesImages : Type 0 → Bool → (Text → Option D) → (Text → Option D) → List Word → CommandFault → Type 0
-  RefusesImages Unchanged known before after words (BadImage index) = IsFirstBad known before words index × (known ≡ true → (name : Text) → after name ≡ before name)
-  RefusesImages Unchanged known before after words NoMemory = Unchanged
-  RefusesImages Unchanged known before after words _ = ⊥
+  abbrev pub RefusesImages : Type 0 → Bool → (Text → Bool) → (Text → Option D) → (Text → Option D) → List Word → CommandFault → Type 0
+  RefusesImages Unchanged known allowed before after words (BadImage index why) = IsFirstBad known allowed before words index why × (known ≡ true → (name : Text) → after name ≡ before name)
+  RefusesImages Unchanged known allowed before after words NoMemory = Unchanged
+  RefusesImages Unchanged known allowed before after words _ = ⊥

@@ -2,6 +2,7 @@
 ghost use Rattle.std.specs.Prelude.{◌≡◌, length, map, false};
 ghost use Rattle.md_array.specs.View.{disk_of};
 ghost use Rattle.md_cli.specs.Arrays.{OpensDevices, UsesImages, WritesText, array_text};
+ghost use Rattle.md_cli.specs.Images.{allows};
 ghost use Rattle.md_cli.specs.Taking.{image_list};
 
 use crate::array_report::ArrayReport;
@@ -10,7 +11,7 @@ use crate::image_word::image_list;
 use crate::images::Images;
 use crate::taking::{put_back, take_images};
 use md_array::Mirror;
-use md_device::Device;
+use md_device::{Access, Device};
 use md_examine::{Sink, detail, summary};
 use std::alloc::Global;
 
@@ -58,13 +59,13 @@ pub(crate) fn show_images<I: Images, S: Sink>(
     names: &[&str],
     out: &mut S,
 ) -> Result<(), CommandFault>
-    ensures { UsesImages I.Dev.Device (OpensDevices S.contents S.failed report) (images.new ≡ images.old) (I.known images.old) (I.device_at images.old) (I.device_at images.new) (image_list false (map (λ s. s.now) names.now)) out.old out.new result }
+    ensures { UsesImages I.Dev.Device (OpensDevices S.contents S.failed report) (images.new ≡ images.old) (I.known images.old) (λ n. allows Access.ChangeOrLook (I.changeable images.old n)) (I.device_at images.old) (I.device_at images.new) (image_list false (map (λ s. s.now) names.now)) out.old out.new result }
 {
     let Ok(list) = image_list(alloc, names, false) else {
         return Err(CommandFault::NoMemory);
     };
     let words = list.as_slice();
-    let devices = take_images(alloc, images, words)?;
+    let devices = take_images(alloc, Access::ChangeOrLook, images, words)?;
     let (devices, result) = show_devices(alloc, report, devices, out);
     put_back(images, words, devices);
     result

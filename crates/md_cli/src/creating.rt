@@ -3,6 +3,7 @@ ghost use Rattle.std.specs.Prelude.{◌≡◌, ℕ, length, map, true};
 ghost use Rattle.md_array.specs.View.{disk_of};
 ghost use Rattle.md_cli.specs.Arrays.{UsesImages};
 ghost use Rattle.md_cli.specs.Creating.{CreatesOn};
+ghost use Rattle.md_cli.specs.Images.{allows};
 ghost use Rattle.md_cli.specs.Taking.{image_list, word_of};
 
 use crate::array_report::ArrayReport;
@@ -14,7 +15,7 @@ use crate::laying_out::lay_out_each;
 use crate::sizing::sizes_of;
 use crate::taking::{put_back, take_images};
 use md_create::{CreateParams, create};
-use md_device::Device;
+use md_device::{Access, Device};
 use md_examine::Sink;
 use std::alloc::Global;
 
@@ -58,13 +59,13 @@ pub(crate) fn create_images<I: Images, S: Sink>(
     names: &[&str],
     out: &mut S,
 ) -> Result<(), CommandFault>
-    ensures { UsesImages I.Dev.Device (CreatesOn S.contents S.failed params.now (map (λ s. s.now) names.now)) (images.new ≡ images.old) (I.known images.old) (I.device_at images.old) (I.device_at images.new) (image_list true (map (λ s. s.now) names.now)) out.old out.new result }
+    ensures { UsesImages I.Dev.Device (CreatesOn S.contents S.failed params.now (map (λ s. s.now) names.now)) (images.new ≡ images.old) (I.known images.old) (λ n. allows Access.Change (I.changeable images.old n)) (I.device_at images.old) (I.device_at images.new) (image_list true (map (λ s. s.now) names.now)) out.old out.new result }
 {
     let Ok(list) = image_list(alloc, names, true) else {
         return Err(CommandFault::NoMemory);
     };
     let words = list.as_slice();
-    let devices = take_images(alloc, images, words)?;
+    let devices = take_images(alloc, Access::Change, images, words)?;
     let (devices, result) = create_on(alloc, params, names, words, devices, out);
     put_back(images, words, devices);
     result

@@ -4,9 +4,10 @@ ghost use Rattle.md_cli.specs.Examining.{Examines, ExaminesOne};
 ghost use Rattle.md_cli.specs.declared.report.Report.TheVariants.{Superblock, Bitmap, BadBlocks};
 
 use crate::fault::CommandFault;
+use crate::image_refusal::ImageRefusal;
 use crate::images::Images;
 use crate::report::Report;
-use md_device::Device;
+use md_device::{Access, Device};
 use md_examine::{Sink, examine, examine_badblocks, examine_bitmap};
 use md_members::{read_member, read_super};
 use std::alloc::Global;
@@ -93,7 +94,7 @@ fn show<D: Device, S: Sink>(
     }
 }
 
-/// Writes the report on the one image that is named.
+/// Writes the report on the one image that is named, which is only looked at.
 pub(crate) fn examine_images<I: Images, S: Sink>(
     alloc: Global,
     report: Report,
@@ -108,8 +109,9 @@ pub(crate) fn examine_images<I: Images, S: Sink>(
         return Err(CommandFault::BadCount);
     }
     let name = names[0];
-    let Ok(mut device) = images.get(name) else {
-        return Err(CommandFault::BadImage(0));
+    let mut device = match images.get(name, Access::Look) {
+        Ok(device) => device,
+        Err(fault) => return Err(CommandFault::BadImage(0, ImageRefusal::Unopened(fault))),
     };
     let result = show(alloc, report, &mut device, out);
     images.put(name, device);

@@ -1,5 +1,6 @@
 // Why a command is refused. A message is the fault's name and its values, one space between them:
 // the program shows it behind its own name.
+use crate::image_refusal::ImageRefusal;
 use crate::option_fault::OptionFault;
 use md_array::OpenFault;
 use md_create::CreateFault;
@@ -7,15 +8,15 @@ use md_members::MemberFault;
 use thiserror::Error;
 
 /// Why a command whose words were taken is refused.
-#[derive(Clone, Copy, Debug, PartialEq, Eq, Error)]
+#[derive(Debug, Drop, Error)]
 pub enum CommandFault {
     /// A command on one image is given another number of them.
     #[error("BadCount")]
     BadCount,
     /// The image word with this index, counted from 0, is the same as an earlier one, or its image
-    /// can't be opened.
+    /// can't be opened in the way that the command needs.
     #[error("BadImage {0}")]
-    BadImage(usize),
+    BadImage(usize, ImageRefusal),
     /// The options of `create` are refused.
     #[error("{0}")]
     Options(OptionFault),

@@ -1,7 +1,8 @@
 // Images by name.
-ghost use Rattle.std.specs.Prelude.{◌≡◌, ◌≢◌, ℕ, List, Bool, true, Option, Some, None, MatchResult};
+ghost use Rattle.std.specs.Prelude.{◌≡◌, ◌≢◌, ℕ, List, Bool, true, Option, Some, None, IfOk, MatchResult};
+ghost use Rattle.md_cli.specs.Images.{IsRefused, allows};
 
-use md_device::{Device, ImageFault};
+use md_device::{Access, Device, ImageFault};
 
 /// Devices that are taken out and put back under their names.
 pub trait Images {
@@ -16,15 +17,23 @@ pub trait Images {
     /// The device in the place under a name.
     ghost device_at: { Self → List ℕ → Option Self.Dev };
 
-    /// Takes out the device under a name. A name that has none, since it is unknown or its device is
-    /// out already, is refused, and so is one whose device can't be opened.
-    fn get(&mut self, name: &str) -> Result<Self::Dev, ImageFault>
+    /// Whether the image under a name may be changed. No call changes this.
+    ghost changeable: { Self → List ℕ → Bool };
+
+    /// Takes out the device under a name, to look at it or to change it. A name that has none, since
+    /// it is unknown or its device is out already, is refused, and so is one whose device can't be
+    /// opened in that way. A refusal leaves the device in its place.
+    fn get(&mut self, name: &str, access: Access) -> Result<Self::Dev, ImageFault>
         ensures known { known self.new ≡ known self.old }
         ensures places { known self.old ≡ true → (n : List ℕ) → holds self.new n ≡ holds self.old n }
+        ensures rights { known self.old ≡ true → (n : List ℕ) → changeable self.new n ≡ changeable self.old n }
         ensures gives { known self.old ≡ true → MatchResult result
             (λ d. (holds self.old name.now ≡ true) × (device_at self.old name.now ≡ Some d))
-            (λ _. device_at self.old name.now ≡ None) }
-        ensures gone { known self.old ≡ true → device_at self.new name.now ≡ None }
+            (IsRefused (device_at self.old name.now) (allows access (changeable self.old name.now))) }
+        ensures allowed { known self.old ≡ true → IfOk result (λ _. allows access (changeable self.old name.now) ≡ true) }
+        ensures gone { known self.old ≡ true → MatchResult result
+            (λ _. device_at self.new name.now ≡ None)
+            (λ _. device_at self.new name.now ≡ device_at self.old name.now) }
         ensures others { known self.old ≡ true → (other : List ℕ) → other ≢ name.now
             → device_at self.new other ≡ device_at self.old other };
 
@@ -33,6 +42,7 @@ pub trait Images {
         requires { known self.old ≡ true → holds self.old name.now ≡ true }
         ensures known { known self.new ≡ known self.old }
         ensures places { known self.old ≡ true → (n : List ℕ) → holds self.new n ≡ holds self.old n }
+        ensures rights { known self.old ≡ true → (n : List ℕ) → changeable self.new n ≡ changeable self.old n }
         ensures back { known self.old ≡ true → device_at self.new name.now ≡ Some device }
         ensures others { known self.old ≡ true → (other : List ℕ) → other ≢ name.now
             → device_at self.new other ≡ device_at self.old other };

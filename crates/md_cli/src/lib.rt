@@ -7,6 +7,7 @@ mod command_line;
 mod creating;
 mod examining;
 mod fault;
+mod image_refusal;
 mod image_word;
 mod images;
 mod laying_out;
@@ -22,6 +23,7 @@ mod sizing;
 mod taking;
 
 pub use fault::CommandFault;
+pub use image_refusal::ImageRefusal;
 pub use images::Images;
 pub use memory_images::MemImages;
 pub use option_fault::OptionFault;

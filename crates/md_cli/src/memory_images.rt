@@ -1,15 +1,17 @@
 // Images in memory.
-ghost use Rattle.std.specs.Prelude.{◌≡◌, ◌++◌, ◌∷◌, [], true, OnOk, OnErr, option_copied, position, string_bytes};
+ghost use Rattle.std.specs.Prelude.{◌≡◌, ◌++◌, ◌∷◌, [], false, true, OnOk, OnErr, option_copied, position, string_bytes};
 ghost use Rattle.std.specs.Str.{bytes_eq};
-ghost use Rattle.md_cli.specs.MemImages.{device_in, holds_in};
+ghost use Rattle.md_cli.specs.Images.{allows};
+ghost use Rattle.md_cli.specs.MemImages.{changeable_in, device_in, holds_in};
 
 use crate::images::Images;
-use md_device::{Device, ImageFault};
+use md_device::{Access, Device, ImageFault};
 use std::alloc::{AllocError, Global};
 use std::marker::Model;
 
 /// Images in memory, for tests and for whoever gives commands without files. Contracts see the
-/// places in order, each with its name and the device in it. Of places of one name the first counts.
+/// places in order, each with its name, the device in it, and whether that may be changed. Of places
+/// of one name the first counts.
 #[derive(Drop)]
 pub struct MemImages<D> {
     places: Vec<Place<D>>,
@@ -20,6 +22,7 @@ pub struct MemImages<D> {
 struct Place<D> {
     name: String,
     device: Option<D>,
+    changeable: bool,
 }
 
 impl<D> Model for MemImages<D> {
@@ -46,16 +49,40 @@ impl<D> MemImages<D> {
         }
     }
 
-    /// Adds a place with a device, behind the others.
+    /// Adds a place with a device that may be changed, after the others.
     pub fn add(&mut self, name: &str, device: D) -> Result<(), AllocError>
     where
         D: Drop,
-        ensures ok { OnOk result (self.new ≡ self.old ++ record { name = name.now; device = Some device } ∷ []) }
+        ensures ok { OnOk result (self.new ≡ self.old ++ record { name = name.now; device = Some device; changeable = true } ∷ []) }
+        ensures err { OnErr result (self.new ≡ self.old) }
+    {
+        self.add_place(name, device, true)
+    }
+
+    /// Adds a place with a device that may only be looked at, after the others. Whoever gets it can
+    /// still write to it: it is the request to change it that is refused.
+    pub fn add_protected(&mut self, name: &str, device: D) -> Result<(), AllocError>
+    where
+        D: Drop,
+        ensures ok { OnOk result (self.new ≡ self.old ++ record { name = name.now; device = Some device; changeable = false } ∷ []) }
+        ensures err { OnErr result (self.new ≡ self.old) }
+    {
+        self.add_place(name, device, false)
+    }
+
+    fn add_place(&mut self, name: &str, device: D, changeable: bool) -> Result<(), AllocError>
+    where
+        D: Drop,
+        ensures ok { OnOk result (self.new ≡ self.old ++ record { name = name.now; device = Some device; changeable = changeable } ∷ []) }
         ensures err { OnErr result (self.new ≡ self.old) }
     {
         let name = String::from_str(*self.places.allocator(), name)?;
         let device = Some(device);
-        self.places.push(Place { name, device })?;
+        self.places.push(Place {
+            name,
+            device,
+            changeable,
+        })?;
         Ok(())
     }
 
@@ -77,17 +104,31 @@ impl<D: Device + Drop + Send> Images for MemImages<D> {
 
     ghost device_at = { device_in };
 
-    fn get(&mut self, name: &str) -> Result<D, ImageFault> {
-        match place_of(self.places.as_slice(), name) {
-            Some(at) => self.places[at].device.take().ok_or(ImageFault::Missing),
-            None => Err(ImageFault::Missing),
+    ghost changeable = { changeable_in };
+
+    fn get(&mut self, name: &str, access: Access) -> Result<D, ImageFault> {
+        let Some(at) = place_of(self.places.as_slice(), name) else {
+            return Err(ImageFault::Missing);
+        };
+        if !is_allowed(access, self.places[at].changeable) {
+            return Err(ImageFault::NotWritable);
         }
+        self.places[at].device.take().ok_or(ImageFault::Missing)
     }
 
     fn put(&mut self, name: &str, device: D) {
         if let Some(at) = place_of(self.places.as_slice(), name) {
             drop(self.places[at].device.replace(device));
         }
+    }
+}
+
+fn is_allowed(access: Access, changeable: bool) -> bool
+    ensures { result ≡ allows access changeable }
+{
+    match access {
+        Access::Change => changeable,
+        Access::Look | Access::ChangeOrLook => true,
     }
 }
 

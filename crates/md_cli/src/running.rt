@@ -37,7 +37,7 @@ pub fn run<'a, I: Images, S: Sink, E: Write>(
     ensures refused { fault_of mdcli (map (λ s. s.now) words.entry.now) ≢ [] → (result ≡ 2) × IsIdle images.old images.new out.old out.new }
     ensures taken { fault_of mdcli (map (λ s. s.now) words.entry.now) ≡ [] →
         ((result ≡ 2) × IsIdle images.old images.new out.old out.new)
-        ⊎ DoesCommand I.Dev.Device S.contents S.failed I.known I.device_at (asked (map (λ s. s.now) words.entry.now)) (image_words (map (λ s. s.now) words.entry.now)) images.old images.new out.old out.new result }
+        ⊎ DoesCommand I.Dev.Device S.contents S.failed I.known I.device_at I.changeable (asked (map (λ s. s.now) words.entry.now)) (image_words (map (λ s. s.now) words.entry.now)) images.old images.new out.old out.new result }
 {
     let request = match parse(alloc, words) {
         Ok(request) => request,
@@ -64,7 +64,7 @@ fn act<I: Images, S: Sink>(
     names: &[&str],
     out: &mut S,
 ) -> Result<(), CommandFault>
-    ensures { Does I.Dev.Device S.contents S.failed I.known I.device_at (ask_of action.entry) (map (λ s. s.now) names.now) images.old images.new out.old out.new result }
+    ensures { Does I.Dev.Device S.contents S.failed I.known I.device_at I.changeable (ask_of action.entry) (map (λ s. s.now) names.now) images.old images.new out.old out.new result }
 {
     match action {
         Action::Examine(report) => examine_images(alloc, report, images, names, out),
@@ -82,7 +82,7 @@ fn create_array<I: Images, S: Sink>(
     names: &[&str],
     out: &mut S,
 ) -> Result<(), CommandFault>
-    ensures { Does I.Dev.Device S.contents S.failed I.known I.device_at (creates (options_of options.entry)) (map (λ s. s.now) names.now) images.old images.new out.old out.new result }
+    ensures { Does I.Dev.Device S.contents S.failed I.known I.device_at I.changeable (creates (options_of options.entry)) (map (λ s. s.now) names.now) images.old images.new out.old out.new result }
 {
     match plan(&options, names.len()) {
         Ok(params) => create_images(alloc, &params, images, names, out),

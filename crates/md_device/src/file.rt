@@ -1,38 +1,19 @@
 // A device in a file or a block device.
-ghost use Rattle.std.specs.Prelude.{◌≡◌, ◌*◌, ◌^◌, ◌≤◌, ◌↔◌, ◌⊎◌, ℕ, false, replicate, IfOk, IsOk, IsErrOf, IsTrue, []};
+ghost use Rattle.std.specs.Prelude.{◌≡◌, ◌≢◌, ◌+◌, ◌*◌, ◌^◌, ◌≤◌, ◌↔◌, ◌⊎◌, [], length, true, false, replicate, IfOk, IsOk, IsErr, IsErrOf, OnOk, IsTrue};
 ghost use Rattle.std.specs.Fs.{file_type, IsDir, IsFile};
+ghost use Rattle.md_device.specs.declared.access.Access.TheVariants.{Look, Change};
 
+use crate::access::Access;
 use crate::device::{Device, ReadFault, WriteFault};
+use crate::image_fault::ImageFault;
 use std::fs::{File, Files, Metadata, OpenOptions, TryLockError};
 use std::io::{ErrorKind, Seek, SeekFrom};
 use std::marker::Model;
 use std::os::unix::fs::{FileExt, FileTypeExt};
 use std::{fs, io};
-use thiserror::Error;
 
-/// Why an image can't be opened.
-#[derive(Debug, Drop, Error)]
-pub enum ImageFault {
-    #[error("no such file: check the path, or create the image first")]
-    Missing,
-    #[error("this is a directory: name an image file or a block device")]
-    Directory,
-    #[error("this is a pipe: name an image file or a block device")]
-    Fifo,
-    #[error("this is a socket: name an image file or a block device")]
-    Socket,
-    #[error("this is a character device: name an image file or a block device")]
-    CharacterDevice,
-    #[error("no permission: ask its owner for leave to read it, or run as a user who may")]
-    NoPermission,
-    #[error("in use by another program, or named twice: close it there, or name it once")]
-    Locked,
-    #[error("{0}")]
-    Io(io::Error),
-}
-
-/// A device whose sectors are those of a regular file or of a block device. Contracts see it as its
-/// number of sectors.
+/// A device whose sectors are those of a regular file or of a block device. Contracts see its number
+/// of sectors, whether it can be written, and whether it has failed for good.
 ///
 /// Nothing is known of a file: no clause says which bytes a read gives, what a write leaves, or when
 /// either fails. So it is a device that is not honest, and zeros stand for its content. What they
@@ -44,20 +25,23 @@ pub enum ImageFault {
 pub struct FileDevice {
     file: File,
     sectors: u64,
+    writable: bool,
+    sync_failed: bool,
 }
 
 impl Model for FileDevice {
-    ghost Value = { ℕ };
+    ghost use Rattle.std.specs.Prelude.{◌^◌, ◌≤◌};
+    ghost use Rattle.md_device.specs.File.{Opened};
 
-    ghost view = { λ device. device.sectors };
+    ghost Value = { Opened };
+
+    ghost view = { λ device. record { sectors = device.sectors; writable = device.writable; sync_failed = device.sync_failed } };
 
     ghost invariant = { λ device. device.sectors ≤ 2 ^ 54 };
 }
 
 impl FileDevice {
-    /// Opens an image for reading and writing, or for reading alone where writing is not permitted,
-    /// its file system is read-only, or it is a program that is running. Each write of one sector or
-    /// more then answers `WriteFault`.
+    /// Opens an image to look at it or to change it.
     ///
     /// Only whole sectors are counted, and at most 2^54 of them. The size is the file's at this
     /// call: what it gains later is not seen, and where it loses sectors their reads fail.
@@ -71,25 +55,38 @@ impl FileDevice {
     /// it is opened, and again of what was opened.
     ///
     /// Each variant of `ImageFault` but the last comes where its message says. `Io` has the system's
-    /// words for what else went wrong.
-    pub fn open<R: Files<File = File>>(rt: &R, path: &str) -> Result<FileDevice, ImageFault>
-        ensures { IfOk result (λ sectors. sectors ≤ 2 ^ 54) }
+    /// words for what else went wrong. To look, an image is never refused as `NotWritable` or `InUse`.
+    pub fn open<R: Files<File = File> + AllocGlobal>(
+        rt: &R,
+        path: &str,
+        access: Access,
+    ) -> Result<FileDevice, ImageFault>
+        ensures size { IfOk result (λ device. device.sectors ≤ 2 ^ 54) }
+        ensures look { access ≡ Look → IfOk result (λ device. device.writable ≡ false) }
+        ensures change { access ≡ Change → IfOk result (λ device. device.writable ≡ true) }
+        ensures fresh { IfOk result (λ device. device.sync_failed ≡ false) }
     {
-        check_kind(&fs::metadata(rt, path).map_err(fault_of)?)?;
-        let mut file = open_locked(rt, path)?;
-        check_kind(&file.metadata().map_err(fault_of)?)?;
+        match access {
+            Access::Look => open_to_look(rt, path),
+            Access::Change => open_to_change(rt, path),
+            Access::ChangeOrLook => match open_to_change(rt, path) {
+                Err(ImageFault::NotWritable | ImageFault::InUse) => open_to_look(rt, path),
+                opened => opened,
+            },
+        }
+    }
 
-        // A block device says its length only so: its metadata has 0.
-        let len = file.seek(SeekFrom::End(0)).map_err(fault_of)?;
-        Ok(FileDevice {
-            file,
-            sectors: (len / 512).min(1 << 54),
-        })
+    /// Whether it was opened to be written. Where not, each write of one sector or more answers
+    /// `WriteFault`.
+    pub fn is_writable(&self) -> bool
+        ensures { result ≡ self.now.writable }
+    {
+        self.writable
     }
 }
 
 impl Device for FileDevice {
-    ghost content = { λ sectors. replicate (512 * sectors) 0 };
+    ghost content = { λ device. replicate (512 * device.sectors) 0 };
 
     ghost honest = { λ _. false };
 
@@ -101,7 +98,14 @@ impl Device for FileDevice {
         self.sectors
     }
 
-    fn read(&mut self, sector: u64, buf: &mut [u8]) -> Result<(), ReadFault> {
+    fn read(&mut self, sector: u64, buf: &mut [u8]) -> Result<(), ReadFault>
+        requires within { 512 * sector + length buf.old ≤ 512 * self.old.sectors }
+        ensures same { self.new ≡ self.old }
+        ensures refused { self.old.sync_failed ≡ true → IsErr result }
+    {
+        if self.sync_failed {
+            return Err(ReadFault);
+        }
         if buf.is_empty() {
             return Ok(());
         }
@@ -109,16 +113,30 @@ impl Device for FileDevice {
         file.read_exact_at(buf, 512 * sector).map_err(|_| ReadFault)
     }
 
-    fn write(&mut self, sector: u64, bytes: &[u8]) -> Result<(), WriteFault> {
+    fn write(&mut self, sector: u64, bytes: &[u8]) -> Result<(), WriteFault>
+        requires within { 512 * sector + length bytes.now ≤ 512 * self.old.sectors }
+        ensures same { self.new ≡ record self.old { sync_failed = self.new.sync_failed } }
+        ensures refused { self.old.sync_failed ≡ true → IsErr result × (self.new ≡ self.old) }
+        ensures read_only { self.old.writable ≡ false → bytes.now ≢ [] → IsErr result }
+    {
+        if self.sync_failed {
+            return Err(WriteFault);
+        }
         if bytes.is_empty() {
             return Ok(());
+        }
+        if !self.writable {
+            return Err(WriteFault);
         }
         let file = &self.file;
         file.write_all_at(bytes, 512 * sector)
             .map_err(|_| WriteFault)?;
 
-        // The bytes may be in the system's memory alone until now.
-        file.sync_data().map_err(|_| WriteFault)
+        // The bytes may be in the system's memory alone until now. Where they can't leave it, they stay
+        // there all the same: a read would give what the disk doesn't have, so none is answered.
+        let synced = file.sync_data();
+        self.sync_failed = synced.is_err();
+        synced.map_err(|_| WriteFault)
     }
 }
 
@@ -150,20 +168,52 @@ fn check_kind(metadata: &Metadata) -> Result<(), ImageFault>
     Err(ImageFault::Io(io::Error::new(ErrorKind::InvalidInput, message)))
 }
 
-// Opens and locks a file: for writing and against all others, or else for reading and against writers.
-fn open_locked<R: Files<File = File>>(rt: &R, path: &str) -> Result<File, ImageFault> {
+// Opens and locks a file for reading, beside others that only read it.
+fn open_to_look<R: Files<File = File>>(rt: &R, path: &str) -> Result<FileDevice, ImageFault>
+    ensures { IfOk result (λ device. (device.sectors ≤ 2 ^ 54) × (device.writable ≡ false) × (device.sync_failed ≡ false)) }
+{
+    check_kind(&fs::metadata(rt, path).map_err(fault_of)?)?;
+    let file = File::open(rt, path).map_err(fault_of)?;
+    file.try_lock_shared().map_err(lock_fault)?;
+    device_of(file, false)
+}
+
+// Opens and locks a file for reading and writing, against all others.
+fn open_to_change<R: Files<File = File> + AllocGlobal>(
+    rt: &R,
+    path: &str,
+) -> Result<FileDevice, ImageFault>
+    ensures { IfOk result (λ device. (device.sectors ≤ 2 ^ 54) × (device.writable ≡ true) × (device.sync_failed ≡ false)) }
+{
+    check_kind(&fs::metadata(rt, path).map_err(fault_of)?)?;
     match OpenOptions::new().read(true).write(true).open(rt, path) {
         Ok(file) => {
             file.try_lock().map_err(lock_fault)?;
-            Ok(file)
+            device_of(file, true)
         }
         Err(error) if is_write_refused(error.kind()) => {
-            let file = File::open(rt, path).map_err(fault_of)?;
-            file.try_lock_shared().map_err(lock_fault)?;
-            Ok(file)
+            // What can't be read either is refused as such.
+            File::open(rt, path).map_err(fault_of)?;
+            Err(ImageFault::NotWritable)
         }
         Err(error) => Err(fault_of(error)),
     }
+}
+
+// The device in a file that was opened.
+fn device_of(mut file: File, writable: bool) -> Result<FileDevice, ImageFault>
+    ensures { IfOk result (λ device. (device.sectors ≤ 2 ^ 54) × (device.writable ≡ writable) × (device.sync_failed ≡ false)) }
+{
+    check_kind(&file.metadata().map_err(fault_of)?)?;
+
+    // A block device says its length only so: its metadata has 0.
+    let len = file.seek(SeekFrom::End(0)).map_err(fault_of)?;
+    Ok(FileDevice {
+        file,
+        sectors: (len / 512).min(1 << 54),
+        writable,
+        sync_failed: false,
+    })
 }
 
 // Whether a file that can't be opened for writing may still be read.

@@ -4,14 +4,18 @@
 //! of its calls have failed.
 #![tactic(auto)]
 
+mod access;
 mod device;
 mod fault;
 mod file;
+mod image_fault;
 mod memory;
 #[cfg(test)]
 mod tests;
 
+pub use access::Access;
 pub use device::{Device, ReadFault, WriteFault};
 pub use fault::FaultDevice;
-pub use file::{FileDevice, ImageFault};
+pub use file::FileDevice;
+pub use image_fault::ImageFault;
 pub use memory::MemDevice;

@@ -1,4 +1,6 @@
-use crate::{Device, FaultDevice, FileDevice, ImageFault, MemDevice, ReadFault, WriteFault};
+use crate::{
+    Access, Device, FaultDevice, FileDevice, ImageFault, MemDevice, ReadFault, WriteFault,
+};
 use std::alloc::Global;
 use std::os::unix::fs::PermissionsExt;
 use std::test::Fail;
@@ -46,12 +48,12 @@ fn file_keeps_what_is_written(rt: HostRuntime) -> Result<(), Fail> {
     let path = path_of(&rt, "written")?;
     fs::write(&rt, path.as_str(), [0; 2048].as_slice())?;
 
-    let mut device = FileDevice::open(&rt, path.as_str())?;
+    let mut device = FileDevice::open(&rt, path.as_str(), Access::Change)?;
     assert_eq!(rt; device.sectors(), 4);
     device.write(2, &[7; 512])?;
     drop(device);
 
-    let mut device = FileDevice::open(&rt, path.as_str())?;
+    let mut device = FileDevice::open(&rt, path.as_str(), Access::Change)?;
     assert_eq!(rt; device.sectors(), 4);
     let mut back = [1; 512];
     device.read(1, &mut back)?;
@@ -74,7 +76,7 @@ fn file_counts_whole_sectors(rt: HostRuntime) -> Result<(), Fail> {
             .write(true)
             .open(&rt, path.as_str())?
             .set_len(len)?;
-        let device = FileDevice::open(&rt, path.as_str())?;
+        let device = FileDevice::open(&rt, path.as_str(), Access::Change)?;
         assert_eq!(rt; device.sectors(), sectors, "of {len} bytes");
     }
     fs::remove_file(&rt, path.as_str())?;
@@ -86,11 +88,11 @@ fn file_is_locked_while_open(rt: HostRuntime) -> Result<(), Fail> {
     let path = path_of(&rt, "locked")?;
     fs::write(&rt, path.as_str(), [0; 512].as_slice())?;
 
-    let first = FileDevice::open(&rt, path.as_str())?;
-    let second = FileDevice::open(&rt, path.as_str());
+    let first = FileDevice::open(&rt, path.as_str(), Access::Change)?;
+    let second = FileDevice::open(&rt, path.as_str(), Access::Change);
     assert!(rt; matches!(second, Err(ImageFault::Locked)));
     drop(first);
-    assert!(rt; FileDevice::open(&rt, path.as_str()).is_ok());
+    assert!(rt; FileDevice::open(&rt, path.as_str(), Access::Change).is_ok());
     fs::remove_file(&rt, path.as_str())?;
     Ok(())
 }
@@ -102,7 +104,7 @@ fn file_without_leave_to_write_is_opened(rt: HostRuntime) -> Result<(), Fail> {
     fs::write(&rt, path.as_str(), [5; 512].as_slice())?;
     fs::set_permissions(&rt, path.as_str(), fs::Permissions::from_mode(0o444))?;
 
-    let mut device = FileDevice::open(&rt, path.as_str())?;
+    let mut device = FileDevice::open(&rt, path.as_str(), Access::Change)?;
     assert_eq!(rt; device.sectors(), 1);
     let mut back = [0; 512];
     device.read(0, &mut back)?;
@@ -115,12 +117,12 @@ fn file_without_leave_to_write_is_opened(rt: HostRuntime) -> Result<(), Fail> {
 #[test]
 fn what_is_no_image_is_refused_by_name(rt: HostRuntime) -> Result<(), Fail> {
     let folder = env::temp_dir(&rt)?;
-    let opened = FileDevice::open(&rt, folder.as_str());
+    let opened = FileDevice::open(&rt, folder.as_str(), Access::Look);
     assert!(rt; matches!(opened, Err(ImageFault::Directory)));
-    let opened = FileDevice::open(&rt, "/dev/null");
+    let opened = FileDevice::open(&rt, "/dev/null", Access::Look);
     assert!(rt; matches!(opened, Err(ImageFault::CharacterDevice)));
     let path = path_of(&rt, "missing")?;
-    let opened = FileDevice::open(&rt, path.as_str());
+    let opened = FileDevice::open(&rt, path.as_str(), Access::Change);
     assert!(rt; matches!(opened, Err(ImageFault::Missing)));
     Ok(())
 }

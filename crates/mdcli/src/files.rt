@@ -2,7 +2,7 @@
 ghost use Rattle.std.specs.Prelude.{false, None};
 
 use md_cli::Images;
-use md_device::{FileDevice, ImageFault};
+use md_device::{Access, FileDevice, ImageFault};
 
 /// Images under their paths. A device that is put back is closed.
 #[derive(Drop)]
@@ -25,8 +25,10 @@ impl<'a> Images for FileImages<'a> {
 
     ghost device_at = { λ _ _. None };
 
-    fn get(&mut self, name: &str) -> Result<FileDevice, ImageFault> {
-        FileDevice::open(self.rt, name)
+    ghost changeable = { λ _ _. false };
+
+    fn get(&mut self, name: &str, access: Access) -> Result<FileDevice, ImageFault> {
+        FileDevice::open(self.rt, name, access)
     }
 
     fn put(&mut self, _name: &str, _device: FileDevice) {}

@@ -2,7 +2,7 @@
 use crate::commands::{is_kept, run_words};
 use crate::vault::{image, put, vault, zeros};
 use md_cli::{Images, MemImages, run};
-use md_device::FaultDevice;
+use md_device::{Access, FaultDevice};
 use md_examine::Output;
 use std::test::Fail;
 
@@ -80,7 +80,7 @@ fn bad_sector(rt: HostRuntime) -> Result<(), Fail> {
     assert_eq!(rt; answer.status, 1);
     assert_eq!(rt; answer.err.as_slice(), b"mdcli: ReadFault\n".as_slice());
     assert!(rt; answer.out.is_empty());
-    let device = images.get("a")?.into_inner();
+    let device = images.get("a", Access::Look)?.into_inner();
     assert_eq!(rt; device.bytes(), image(alloc, &vault())?.bytes());
     Ok(())
 }

@@ -21,10 +21,10 @@ loop-device-preserved g c =
     let place : c.len.result ≡ length c.pop.new.self.items = c.len.ensures ∙ c.pop.new.self.ok.0 in
     let longer : length c.loop-device.devices.items ≡ length c.pop.new.self.items + 1 = ap length c.in-Some.ensures.items ∙ length-append c.pop.new.self.items (c.in-Some.device ∷ []) in
     let inside : c.len.result < length c.args.words.now = omega (arith, place, longer, so.shorter, c.requires.few) in
-    putting_more g.I.Images.known g.I.Images.holds g.I.Images.device_at (names_in c.args.words.now) c.args.images.now c.loop-device.images c.put.new.self c.args.devices.items c.loop-device.devices.items c.pop.new.self.items c.in-Some.device
+    putting_more g.I.Images.known g.I.Images.holds g.I.Images.device_at g.I.Images.changeable (names_in c.args.words.now) c.args.images.now c.loop-device.images c.put.new.self c.args.devices.items c.loop-device.devices.items c.pop.new.self.items c.in-Some.device
     (slice_index_or c.args.words.now c.len.result no_word).name.now so c.requires.distinct c.in-Some.ensures.items
     (ap (name_at (names_in c.args.words.now)) (sym place) ∙ name_of_word c.args.words.now c.len.result inside)
-    (record { known_kept = c.put.ensures.known; places = c.put.ensures.places; others = c.put.ensures.others })
+    (record { known_kept = c.put.ensures.known; places = c.put.ensures.places; rights = c.put.ensures.rights; others = c.put.ensures.others })
     c.put.ensures.back
 
 pub returns-clause-back : goal.returns-clause-back

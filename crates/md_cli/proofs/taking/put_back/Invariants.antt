@@ -4,7 +4,7 @@ use Rattle.md_cli.proofs.Taken.{Putting}
 use Rattle.md_cli.proofs.taking.put_back.Given as goal
 
 abbrev pub invariant-loop-device : goal.invariant-loop-device
-invariant-loop-device g l = Putting g.I.Images.known g.I.Images.holds g.I.Images.device_at (names_of (map word_of l.words)) l.fn.images l.images l.fn.devices.items l.devices.items
+invariant-loop-device g l = Putting g.I.Images.known g.I.Images.holds g.I.Images.device_at g.I.Images.changeable (names_of (map word_of l.words)) l.fn.images l.images l.fn.devices.items l.devices.items
 
 abbrev pub decreases-loop-device : goal.decreases-loop-device
 decreases-loop-device g l = length l.devices.items

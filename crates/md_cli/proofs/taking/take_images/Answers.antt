@@ -1,22 +1,24 @@
-use Rattle.std.proofs.Common.{◌∙◌, ◌<◌, length, sym, subst, arith}
+use Rattle.std.proofs.Common.{◌≡◌, ◌∙◌, ◌<◌, ℕ, length, ap, sym, subst}
+use Rattle.std.specs.Prelude.{slice_index_or}
 use Rattle.std.proofs.lemmas.List.{length-map}
 use Rattle.md_cli.specs.Taking.{word_of}
-use Rattle.md_cli.proofs.Taken.{index_of_word, names_in, restored, was_there}
+use Rattle.md_cli.proofs.Taken.{index_of_word, names_in, no_word, restored}
 use Rattle.md_cli.proofs.taking.take_images.Goals as goal
 
-pub returns-clause-gives : goal.returns-clause-gives
-returns-clause-gives g c =
-    let took = c.take_each-place.ensures in
+pub returns-in-Err-clause-gives : goal.returns-in-Err-clause-gives
+returns-in-Err-clause-gives g c =
     let at = g.I.Images.device_at in
-    let place = c.take_each-place.result in
-    let lt : place < length c.args.words.now = omega (arith, took.few, c.if-place-words.false) in (
+    let devices = c.take_each.new.devices.items in
+    let place : c.len-place.result ≡ length devices = c.len-place.ensures ∙ c.take_each.new.devices.ok.0 in
+    let stopped = c.in-Err.ensures.stopped in
+    let took = c.in-Err.ensures.took in (
       record {
-        place = place;
-        within = subst (λ n. place < n) (sym (length-map c.args.words.now word_of)) lt;
-        index_is = index_of_word c.args.words.now place lt;
-        bad = took.stopped lt;
+        place = length devices;
+        within = subst (λ (n : ℕ). length devices < n) (sym (length-map c.args.words.now word_of)) stopped.0;
+        index_is = index_of_word c.args.words.now (length devices) stopped.0 ∙ ap (λ (n : ℕ). (slice_index_or c.args.words.now n no_word).index) (sym place);
+        bad = stopped.1;
         distinct = took.distinct;
-        earlier = λ is k less. was_there (at c.args.images.now) (at c.take_each-place.new.images) (names_in c.args.words.now) place c.take_each-place.new.devices.items (took.out is) k less;
+        earlier = took.there;
       },
-      λ is name. restored (at c.args.images.now) (at c.take_each-place.new.images) (at c.put_back.new.images) (names_in c.args.words.now) place c.take_each-place.new.devices.items (took.out is) (c.put_back.ensures.back (took.known ∙ is)) name,
+      λ is name. restored (at c.args.images.now) (at c.take_each.new.images) (at c.put_back.new.images) (names_in c.args.words.now) (length devices) devices (took.taken is) (c.put_back.ensures.back (c.take_each.ensures.known ∙ is)) name,
     )

@@ -6,6 +6,9 @@ use Rattle.md_cli.proofs.memory_images.MemImagesImages.put.Goals as goal
 pub returns-in-Some-clause-places : goal.returns-in-Some-clause-places
 returns-in-Some-clause-places g c known = (sets_device c.args.self.now c.self.inside.places.items c.as_slice.result.now c.args.name.now c.in-Some.at c.index_mut.result.now c.replace.new.self c.self.view_is c.as_slice.ensures.value c.in-Some.ensures c.index_mut.ensures.value).places
 
+pub returns-in-Some-clause-rights : goal.returns-in-Some-clause-rights
+returns-in-Some-clause-rights g c known = (sets_device c.args.self.now c.self.inside.places.items c.as_slice.result.now c.args.name.now c.in-Some.at c.index_mut.result.now c.replace.new.self c.self.view_is c.as_slice.ensures.value c.in-Some.ensures c.index_mut.ensures.value).rights
+
 pub returns-in-Some-clause-back : goal.returns-in-Some-clause-back
 returns-in-Some-clause-back g c known = (sets_device c.args.self.now c.self.inside.places.items c.as_slice.result.now c.args.name.now c.in-Some.at c.index_mut.result.now c.replace.new.self c.self.view_is c.as_slice.ensures.value c.in-Some.ensures c.index_mut.ensures.value).after ∙ c.replace.ensures.after
 
