@@ -1,9 +1,10 @@
 // A device in a file or a block device.
-ghost use Rattle.std.specs.Prelude.{◌≡◌, ◌≢◌, ◌+◌, ◌*◌, ◌^◌, ◌≤◌, ◌↔◌, ◌⊎◌, [], length, true, false, replicate, IfOk, IsOk, IsErr, IsErrOf, OnOk, IsTrue};
+ghost use Rattle.std.specs.Prelude.{◌≡◌, ◌≢◌, ◌+◌, ◌*◌, ◌^◌, ◌≤◌, ◌↔◌, ◌⊎◌, [], length, true, false, replicate, None, Ok, IfOk, IsErr, IsErrOf, OnOk, OnErr, IsTrue};
 ghost use Rattle.std.specs.Fs.{file_type, IsDir, IsFile};
 ghost use Rattle.md_device.specs.declared.access.Access.TheVariants.{Look, Change};
 
 use crate::access::Access;
+use crate::block_device::BlockDevice;
 use crate::device::{Device, ReadFault, WriteFault};
 use crate::image_fault::ImageFault;
 use std::fs::{File, Files, Metadata, OpenOptions, TryLockError};
@@ -24,7 +25,10 @@ use std::{fs, io};
 #[derive(Drop)]
 pub struct FileDevice {
     file: File,
+    // The lock that all nodes of a block device share. It is here to be held.
+    _lock: Option<File>,
     sectors: u64,
+    is_block_device: bool,
     writable: bool,
     sync_failed: bool,
 }
@@ -43,19 +47,26 @@ impl Model for FileDevice {
 impl FileDevice {
     /// Opens an image to look at it or to change it.
     ///
-    /// Only whole sectors are counted, and at most 2^54 of them. The size is the file's at this
-    /// call: what it gains later is not seen, and where it loses sectors their reads fail.
+    /// Only whole sectors are counted, and at most 2^54 of them. The size is the file's at this call:
+    /// what it gains later is not seen. Where it loses sectors their reads fail, and so do their writes,
+    /// so that a file is not grown again.
     ///
     /// An advisory lock is held as long as the device: an exclusive one where it can be written, a
     /// shared one where not. So no two of these devices change one image at once, be it in two
-    /// programs or in one under two names. Two nodes of one block device have a lock each. Where the
-    /// file system can't lock it answers `Io`: without the lock nothing would stop two writers.
+    /// programs or in one under two names, as two nodes of one block device. A loop device and the file
+    /// behind it have a lock each, and so have two nodes where there is no /sys. Where the file system
+    /// can't lock it answers `Io`: without the lock nothing would stop two writers.
+    ///
+    /// A block device that the system uses is not opened to be changed, as far as /proc and /sys tell:
+    /// what they don't tell, as where they are absent, counts as not in use. They tell of the mounts of
+    /// this process's own mount namespace.
     ///
     /// It doesn't wait for the other end of a pipe: what kind of file a path names is asked before
     /// it is opened, and again of what was opened.
     ///
     /// Each variant of `ImageFault` but the last comes where its message says. `Io` has the system's
     /// words for what else went wrong. To look, an image is never refused as `NotWritable` or `InUse`.
+    /// It takes memory for a block device alone; where that runs out it answers `Io`.
     pub fn open<R: Files<File = File> + AllocGlobal>(
         rt: &R,
         path: &str,
@@ -82,6 +93,33 @@ impl FileDevice {
         ensures { result ≡ self.now.writable }
     {
         self.writable
+    }
+}
+
+impl FileDevice {
+    // Whether the file no longer has so many bytes. A write there would grow it again, with zeros between.
+    fn is_cut_before(&self, end: u64) -> bool {
+        if self.is_block_device {
+            return false;
+        }
+        let file = &self.file;
+        file.metadata()
+            .map_or(true, |metadata| metadata.len() < end)
+    }
+
+    // Brings what was written to stable storage. What could not be brought there is still in the
+    // system's memory, and is not tried again: a read would give what the disk doesn't have, and the
+    // next sync would answer that all is well.
+    fn sync(&mut self) -> Result<(), WriteFault>
+        ensures ok { OnOk result (self.new ≡ self.old) }
+        ensures err { OnErr result (self.new ≡ record self.old { sync_failed = true }) }
+    {
+        let file = &self.file;
+        if file.sync_data().is_err() {
+            self.sync_failed = true;
+            return Err(WriteFault);
+        }
+        Ok(())
     }
 }
 
@@ -125,35 +163,32 @@ impl Device for FileDevice {
         if bytes.is_empty() {
             return Ok(());
         }
-        if !self.writable {
+        let end = 512 * sector + bytes.len() as u64;
+        if !self.writable || self.is_cut_before(end) {
             return Err(WriteFault);
         }
         let file = &self.file;
         file.write_all_at(bytes, 512 * sector)
             .map_err(|_| WriteFault)?;
 
-        // The bytes may be in the system's memory alone until now. Where they can't leave it, they stay
-        // there all the same: a read would give what the disk doesn't have, so none is answered.
-        let synced = file.sync_data();
-        self.sync_failed = synced.is_err();
-        synced.map_err(|_| WriteFault)
+        self.sync()
     }
 }
 
-// Refuses what is neither a regular file nor a block device.
-fn check_kind(metadata: &Metadata) -> Result<(), ImageFault>
-    ensures file { IsFile (file_type metadata.now) → IsOk result }
+// Refuses what is neither a regular file nor a block device, and tells which block device it is.
+fn check_kind(metadata: &Metadata) -> Result<Option<BlockDevice>, ImageFault>
+    ensures file { IsFile (file_type metadata.now) → result ≡ Ok None }
     ensures directory { IsErrOf result ImageFault.Directory ↔ IsDir (file_type metadata.now) }
 {
     let kind = metadata.file_type();
     if kind.is_file() {
-        return Ok(());
+        return Ok(None);
     }
     if kind.is_dir() {
         return Err(ImageFault::Directory);
     }
-    if kind.is_block_device() {
-        return Ok(());
+    if let Some(device) = BlockDevice::of_node(metadata) {
+        return Ok(Some(device));
     }
     if kind.is_fifo() {
         return Err(ImageFault::Fifo);
@@ -169,13 +204,16 @@ fn check_kind(metadata: &Metadata) -> Result<(), ImageFault>
 }
 
 // Opens and locks a file for reading, beside others that only read it.
-fn open_to_look<R: Files<File = File>>(rt: &R, path: &str) -> Result<FileDevice, ImageFault>
+fn open_to_look<R: Files<File = File> + AllocGlobal>(
+    rt: &R,
+    path: &str,
+) -> Result<FileDevice, ImageFault>
     ensures { IfOk result (λ device. (device.sectors ≤ 2 ^ 54) × (device.writable ≡ false) × (device.sync_failed ≡ false)) }
 {
-    check_kind(&fs::metadata(rt, path).map_err(fault_of)?)?;
+    let block_device = check_kind(&fs::metadata(rt, path).map_err(fault_of)?)?;
     let file = File::open(rt, path).map_err(fault_of)?;
     file.try_lock_shared().map_err(lock_fault)?;
-    device_of(file, false)
+    device_of(rt, file, block_device, false)
 }
 
 // Opens and locks a file for reading and writing, against all others.
@@ -185,11 +223,16 @@ fn open_to_change<R: Files<File = File> + AllocGlobal>(
 ) -> Result<FileDevice, ImageFault>
     ensures { IfOk result (λ device. (device.sectors ≤ 2 ^ 54) × (device.writable ≡ true) × (device.sync_failed ≡ false)) }
 {
-    check_kind(&fs::metadata(rt, path).map_err(fault_of)?)?;
+    let block_device = check_kind(&fs::metadata(rt, path).map_err(fault_of)?)?;
+
+    // Before it is opened, since closing what could be written is an event to udev.
+    if let Some(device) = block_device {
+        check_unused(rt, device)?;
+    }
     match OpenOptions::new().read(true).write(true).open(rt, path) {
         Ok(file) => {
             file.try_lock().map_err(lock_fault)?;
-            device_of(file, true)
+            device_of(rt, file, block_device, true)
         }
         Err(error) if is_write_refused(error.kind()) => {
             // What can't be read either is refused as such.
@@ -200,20 +243,63 @@ fn open_to_change<R: Files<File = File> + AllocGlobal>(
     }
 }
 
-// The device in a file that was opened.
-fn device_of(mut file: File, writable: bool) -> Result<FileDevice, ImageFault>
+// Refuses a block device that is read-only or that the system uses.
+fn check_unused<R: Files + AllocGlobal>(rt: &R, device: BlockDevice) -> Result<(), ImageFault> {
+    if device.is_read_only(rt).map_err(ImageFault::Io)? {
+        return Err(ImageFault::NotWritable);
+    }
+    if device.is_in_use(rt).map_err(ImageFault::Io)? {
+        return Err(ImageFault::InUse);
+    }
+    Ok(())
+}
+
+// The device in a file that was opened and locked.
+fn device_of<R: Files<File = File> + AllocGlobal>(
+    rt: &R,
+    mut file: File,
+    block_device: Option<BlockDevice>,
+    writable: bool,
+) -> Result<FileDevice, ImageFault>
     ensures { IfOk result (λ device. (device.sectors ≤ 2 ^ 54) × (device.writable ≡ writable) × (device.sync_failed ≡ false)) }
 {
-    check_kind(&file.metadata().map_err(fault_of)?)?;
+    if check_kind(&file.metadata().map_err(fault_of)?)? != block_device {
+        let message = "another file took its place while it was opened";
+        return Err(ImageFault::Io(io::Error::new(ErrorKind::Other, message)));
+    }
+    let lock = match block_device {
+        Some(device) => lock_all_nodes(rt, device, writable)?,
+        None => None,
+    };
 
     // A block device says its length only so: its metadata has 0.
     let len = file.seek(SeekFrom::End(0)).map_err(fault_of)?;
     Ok(FileDevice {
         file,
+        _lock: lock,
         sectors: (len / 512).min(1 << 54),
+        is_block_device: block_device.is_some(),
         writable,
         sync_failed: false,
     })
+}
+
+// Locks what all nodes of a block device share, where there is such a file.
+fn lock_all_nodes<R: Files<File = File> + AllocGlobal>(
+    rt: &R,
+    device: BlockDevice,
+    writable: bool,
+) -> Result<Option<File>, ImageFault> {
+    let Some(file) = device.open_common(rt).map_err(ImageFault::Io)? else {
+        return Ok(None);
+    };
+    let locked = if writable {
+        file.try_lock()
+    } else {
+        file.try_lock_shared()
+    };
+    locked.map_err(lock_fault)?;
+    Ok(Some(file))
 }
 
 // Whether a file that can't be opened for writing may still be read.

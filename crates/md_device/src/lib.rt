@@ -5,11 +5,14 @@
 #![tactic(auto)]
 
 mod access;
+mod block_device;
+mod count;
 mod device;
 mod fault;
 mod file;
 mod image_fault;
 mod memory;
+mod overlay;
 #[cfg(test)]
 mod tests;
 
@@ -19,3 +22,4 @@ pub use fault::FaultDevice;
 pub use file::FileDevice;
 pub use image_fault::ImageFault;
 pub use memory::MemDevice;
+pub use overlay::OverlayDevice;

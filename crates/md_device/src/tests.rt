@@ -1,5 +1,7 @@
+use crate::block_device::BlockDevice;
 use crate::{
-    Access, Device, FaultDevice, FileDevice, ImageFault, MemDevice, ReadFault, WriteFault,
+    Access, Device, FaultDevice, FileDevice, ImageFault, MemDevice, OverlayDevice, ReadFault,
+    WriteFault,
 };
 use std::alloc::Global;
 use std::os::unix::fs::PermissionsExt;
@@ -97,6 +99,74 @@ fn file_is_locked_while_open(rt: HostRuntime) -> Result<(), Fail> {
     Ok(())
 }
 
+#[test]
+fn those_who_look_share_an_image(rt: HostRuntime) -> Result<(), Fail> {
+    let path = path_of(&rt, "looked_at")?;
+    fs::write(&rt, path.as_str(), [5; 512].as_slice())?;
+
+    let mut first = FileDevice::open(&rt, path.as_str(), Access::Look)?;
+    let second = FileDevice::open(&rt, path.as_str(), Access::Look)?;
+    assert!(rt; !first.is_writable());
+    assert_eq!(rt; first.write(0, &[6; 512]), Err(WriteFault));
+    let mut back = [0; 512];
+    first.read(0, &mut back)?;
+    assert_eq!(rt; back, [5; 512]);
+    for access in [Access::Change, Access::ChangeOrLook] {
+        let third = FileDevice::open(&rt, path.as_str(), access);
+        assert!(rt; matches!(third, Err(ImageFault::Locked)));
+    }
+    drop(first);
+    drop(second);
+
+    let changed = FileDevice::open(&rt, path.as_str(), Access::ChangeOrLook)?;
+    assert!(rt; changed.is_writable());
+    let looked_at = FileDevice::open(&rt, path.as_str(), Access::Look);
+    assert!(rt; matches!(looked_at, Err(ImageFault::Locked)));
+    fs::remove_file(&rt, path.as_str())?;
+    Ok(())
+}
+
+#[test]
+fn a_file_that_was_cut_is_not_grown_again(rt: HostRuntime) -> Result<(), Fail> {
+    let path = path_of(&rt, "cut")?;
+    fs::write(&rt, path.as_str(), [0; 2048].as_slice())?;
+    let mut device = FileDevice::open(&rt, path.as_str(), Access::Change)?;
+    fs::OpenOptions::new()
+        .write(true)
+        .open(&rt, path.as_str())?
+        .set_len(1500)?;
+
+    assert_eq!(rt; device.write(1, &[7; 512]), Ok(()));
+    assert_eq!(rt; device.write(2, &[7; 512]), Err(WriteFault));
+    assert_eq!(rt; device.write(3, &[7; 512]), Err(WriteFault));
+    assert_eq!(rt; fs::metadata(&rt, path.as_str())?.len(), 1500);
+    fs::remove_file(&rt, path.as_str())?;
+    Ok(())
+}
+
+#[test]
+fn block_devices_are_read_by_their_numbers(rt: HostRuntime) -> Result<(), Fail> {
+    let device = BlockDevice {
+        major: 259,
+        minor: 1_048_575,
+    };
+    assert_eq!(rt; BlockDevice::parse("259:1048575"), Some(device));
+    for text in [
+        "",
+        ":",
+        "8",
+        "8:",
+        ":1",
+        "8:1:",
+        "8:x",
+        "4294967296:0",
+        "8: 1",
+    ] {
+        assert_eq!(rt; BlockDevice::parse(text), None, "of {text}");
+    }
+    Ok(())
+}
+
 // A user who may write every file opens it for writing, so only what is read of it is looked at.
 #[test]
 fn file_without_leave_to_write_is_opened(rt: HostRuntime) -> Result<(), Fail> {
@@ -104,7 +174,7 @@ fn file_without_leave_to_write_is_opened(rt: HostRuntime) -> Result<(), Fail> {
     fs::write(&rt, path.as_str(), [5; 512].as_slice())?;
     fs::set_permissions(&rt, path.as_str(), fs::Permissions::from_mode(0o444))?;
 
-    let mut device = FileDevice::open(&rt, path.as_str(), Access::Change)?;
+    let mut device = FileDevice::open(&rt, path.as_str(), Access::ChangeOrLook)?;
     assert_eq!(rt; device.sectors(), 1);
     let mut back = [0; 512];
     device.read(0, &mut back)?;
@@ -177,5 +247,28 @@ fn writes_fail_by_their_number(rt: HostRuntime) -> Result<(), Fail> {
         assert_eq!(rt; device.read(2, &mut back), Ok(()));
         assert_eq!(rt; back, [1; 512]);
     }
+    Ok(())
+}
+
+#[test]
+fn what_is_written_over_a_device_stays_in_memory(rt: HostRuntime) -> Result<(), Fail> {
+    let bytes = vec![in rt.alloc(); 9; 2048]?;
+    let bad = vec![in rt.alloc(); 3; 1]?;
+    let below = FaultDevice::new(MemDevice::from_bytes(bytes), bad, 1, u64::MAX, false);
+    let mut device = OverlayDevice::new(rt.alloc(), below);
+    assert_eq!(rt; device.sectors(), 4);
+
+    assert_eq!(rt; device.write(1, &[7; 1024]), Ok(()));
+    assert_eq!(rt; device.write(2, &[8; 512]), Ok(()));
+    let mut back = [0; 1536];
+    assert_eq!(rt; device.read(0, &mut back), Ok(()));
+    assert_eq!(rt; &back[..512], [9; 512].as_slice());
+    assert_eq!(rt; &back[512..1024], [7; 512].as_slice());
+    assert_eq!(rt; &back[1024..], [8; 512].as_slice());
+    assert_eq!(rt; device.read(3, &mut [0; 512]), Err(ReadFault));
+    assert_eq!(rt; device.write(4, &[]), Ok(()));
+
+    let bytes = device.into_inner().into_inner();
+    assert_eq!(rt; bytes.bytes(), [9; 2048].as_slice());
     Ok(())
 }

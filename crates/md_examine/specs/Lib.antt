@@ -1,8 +1,10 @@
 pub mod Sink
 pub mod Output
+pub mod Buffered
 pub mod Lines
 pub mod SuperblockReport
 pub mod BitmapReport
 pub mod BadblocksReport
 pub mod SummaryReport
 pub mod DetailReport
+pub mod PlanReport

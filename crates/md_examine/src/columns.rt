@@ -1,5 +1,5 @@
-// Text in columns.
-ghost use Rattle.std.specs.Prelude.{◌≡◌, ◌≤◌, replicate};
+// Numbers after a text, and text in columns.
+ghost use Rattle.std.specs.Prelude.{◌≡◌, ◌≤◌, ◌++◌, replicate};
 ghost use Rattle.md_examine.specs.Sink.{PutsOrFails};
 ghost use Rattle.md_examine.specs.Lines.{right_aligned};
 
@@ -11,7 +11,22 @@ const WIDEST: usize = 12;
 
 static SPACES: [u8; WIDEST] = [b' '; WIDEST];
 
-// A text that ends with its column. One that is longer goes past it.
+/// A text and a number.
+#[tactic(auto, using(crate::proofs::Puts::puts_then))]
+pub(crate) fn number_after<S: Sink, I: Integer>(
+    out: &mut S,
+    text: &[u8],
+    n: I,
+) -> Result<(), SinkFault>
+    ensures { PutsOrFails S.contents S.failed out.old out.new (text.now ++ I.text n) result }
+{
+    let mut buffer = Buffer::new();
+    out.put(text)?;
+    out.put(buffer.format(n).as_bytes())?;
+    Ok(())
+}
+
+/// A text that ends with its column. One that is longer goes past it.
 #[tactic(auto, unfolding(crate::specs::Lines::right_aligned), using(crate::proofs::Puts::puts_then))]
 pub(crate) fn right_aligned<S: Sink>(
     out: &mut S,
@@ -26,7 +41,7 @@ pub(crate) fn right_aligned<S: Sink>(
     Ok(())
 }
 
-// A number that ends with its column.
+/// A number that ends with its column.
 pub(crate) fn right_aligned_number<S: Sink, I: Integer>(
     out: &mut S,
     width: usize,

@@ -1,8 +1,8 @@
 // Where a report goes.
-ghost use Rattle.std.specs.Prelude.{◌≡◌, Option, List, ℕ, Bool, false};
-ghost use Rattle.md_examine.specs.Sink.{PutsOrFails};
+ghost use Rattle.std.specs.Prelude.{◌≡◌, Option, List, ℕ, Bool, OnErr, OnOk, false, is_ok, true, ⊤};
+ghost use Rattle.md_examine.specs.Sink.{FlushesOrFails, PutsOrFails};
 
-use std::io::Write;
+use std::io::{self, Write};
 use thiserror::Error;
 
 /// The output can't be written: a writer's only fault.
@@ -13,15 +13,22 @@ pub struct SinkFault;
 /// A destination of bytes that says whether it has failed. A writer of std says nothing of its
 /// errors, so a body that gives up for no reason would meet any contract over one.
 pub trait Sink {
-    /// The bytes that it holds, where they are known.
+    /// The bytes that it took, where they are known.
     ghost contents: { Self → Option (List ℕ) };
 
     /// Whether a call has failed.
     ghost failed: { Self → Bool };
 
+    /// It holds nothing back of what it took.
+    ghost is_flushed: { Self → Type 0 };
+
     /// Takes all the bytes, or fails. Which of them a failed call has taken is left open.
     fn put(&mut self, bytes: &[u8]) -> Result<(), SinkFault>
         ensures { PutsOrFails contents failed self.old self.new bytes.now result };
+
+    /// Passes on what it holds back of the bytes that it took, or fails.
+    fn flush(&mut self) -> Result<(), SinkFault>
+        ensures { FlushesOrFails contents failed is_flushed self.old self.new result };
 }
 
 /// A writer of std as a sink. It has failed where the writer answered an error once; that it does
@@ -52,6 +59,20 @@ impl<W> Output<W> {
     {
         self.writer
     }
+
+    // Keeps in mind that the writer failed.
+    fn noted(&mut self, outcome: io::Result<()>) -> Result<(), SinkFault>
+        ensures variant { is_ok result ≡ is_ok outcome }
+        ensures writer { writer_of self.new ≡ writer_of self.old }
+        ensures ok { OnOk result (has_failed self.new ≡ has_failed self.old) }
+        ensures err { OnErr result (has_failed self.new ≡ true) }
+    {
+        if outcome.is_err() {
+            self.failed = true;
+            return Err(SinkFault);
+        }
+        Ok(())
+    }
 }
 
 impl<W: Write> Sink for Output<W> {
@@ -59,13 +80,16 @@ impl<W: Write> Sink for Output<W> {
 
     ghost failed = { λ o. o.failed };
 
+    ghost is_flushed = { λ _. ⊤ };
+
     fn put(&mut self, bytes: &[u8]) -> Result<(), SinkFault> {
-        match self.writer.write_all(bytes) {
-            Ok(()) => Ok(()),
-            Err(_) => {
-                self.failed = true;
-                Err(SinkFault)
-            }
-        }
+        let written = self.writer.write_all(bytes);
+        self.noted(written)
+    }
+
+    /// Flushes the writer. No clause of std says what a writer holds back.
+    fn flush(&mut self) -> Result<(), SinkFault> {
+        let flushed = self.writer.flush();
+        self.noted(flushed)
     }
 }

@@ -1,11 +1,11 @@
 // An array in one line.
-ghost use Rattle.std.specs.Prelude.{◌≡◌, ◌++◌};
+ghost use Rattle.std.specs.Prelude.{◌≡◌};
 ghost use Rattle.md_examine.specs.Sink.{PutsOrFails};
 ghost use Rattle.md_assembly.specs.States.{is_in_sync};
 ghost use Rattle.md_examine.specs.SummaryReport.{in_sync_members, summary_text};
 
+use crate::columns::number_after;
 use crate::sink::{Sink, SinkFault};
-use itoa::{Buffer, Integer};
 use md_array::Mirror;
 use md_assembly::MemberState;
 use md_device::Device;
@@ -16,22 +16,11 @@ use md_device::Device;
 pub fn summary<S: Sink, D: Device + Drop>(out: &mut S, mirror: &Mirror<D>) -> Result<(), SinkFault>
     ensures { PutsOrFails S.contents S.failed out.old out.new (summary_text mirror.now.array) result }
 {
-    number_behind(out, b"in sync ", members_in_sync(mirror))?;
-    number_behind(out, b" of ", mirror.shared().raid_disks)?;
-    number_behind(out, b", events ", mirror.events())?;
-    number_behind(out, b", marked ", mirror.marks().count())?;
+    number_after(out, b"in sync ", members_in_sync(mirror))?;
+    number_after(out, b" of ", mirror.shared().raid_disks)?;
+    number_after(out, b", events ", mirror.events())?;
+    number_after(out, b", marked ", mirror.marks().count())?;
     out.put(b"\n")?;
-    Ok(())
-}
-
-// A text and a number.
-#[tactic(auto, using(crate::proofs::Puts::puts_then))]
-fn number_behind<S: Sink, I: Integer>(out: &mut S, text: &[u8], n: I) -> Result<(), SinkFault>
-    ensures { PutsOrFails S.contents S.failed out.old out.new (text.now ++ I.text n) result }
-{
-    let mut buffer = Buffer::new();
-    out.put(text)?;
-    out.put(buffer.format(n).as_bytes())?;
     Ok(())
 }
 

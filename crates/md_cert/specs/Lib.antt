@@ -1,0 +1,5 @@
+pub mod Assignments
+pub mod Plans
+pub mod Sources
+pub mod Tables
+pub mod Verdicts

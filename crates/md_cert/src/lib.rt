@@ -1,0 +1,27 @@
+//! Tables of chunks with the sources that may give each of them, plans that say when each chunk is
+//! read from where, and a checker that says whether a plan has as few rounds as any.
+#![tactic(auto)]
+
+mod checker;
+mod chunk_list;
+mod coverage;
+pub mod laws;
+mod no_memory;
+mod plan;
+mod rising;
+mod rounds;
+mod seek;
+mod short_set;
+mod slots;
+mod sources;
+mod table;
+mod verdict;
+
+pub use checker::check;
+pub use chunk_list::ChunkList;
+pub use no_memory::NoMemory;
+pub use plan::{Certificate, Plan};
+pub use slots::{Slot, Slots};
+pub use sources::{has_source, source_count};
+pub use table::{Row, Table};
+pub use verdict::Verdict;

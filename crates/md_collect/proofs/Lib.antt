@@ -1,0 +1,4 @@
+pub mod Search
+pub mod Counts
+pub mod Lists
+pub mod Stops

@@ -1,0 +1,168 @@
+// What is delivered of planned chunks goes to the target, each chunk once.
+ghost use Rattle.std.specs.Prelude.{◌≡◌, ◌≤◌, ℕ, Err, IfNone, IfOk, None, OnOk, Some, true};
+ghost use Rattle.std.specs.Result.{result_err};
+ghost use Rattle.md_collect.specs.Places.{HasRoom, IsChunk};
+ghost use Rattle.md_collect.specs.Reports.{has_length, with_report};
+ghost use Rattle.md_collect.specs.Reading.{Fails};
+ghost use Rattle.md_collect.specs.Collecting.{ArePlanned, CollectorView, IsCounted, IsFresh, copying, refusal_of, reports_of};
+ghost use Rattle.md_collect.specs.Lists.{Takes};
+ghost use Rattle.md_collect.specs.Targets.{ChangesChunk, IsUntouched, KeepsCopy, LeavesBesideChunk, stage};
+
+use crate::planned::is_planned;
+use crate::refusal::Refusal;
+use crate::report::Report;
+use md_bitmap::{Chunks, Marks};
+use md_cert::{Plan, Slot};
+use md_device::Device;
+use std::alloc::{AllocError, Global};
+use std::marker::Model;
+
+/// Writes what is delivered of planned chunks to the target, each chunk once.
+#[derive(Debug, Drop)]
+pub struct Collector {
+    slots: Vec<Slot>,
+    chunks: Chunks,
+    offset: u64,
+    reported: Marks,
+    spoiled: bool,
+}
+
+impl Model for Collector {
+    ghost use Rattle.std.specs.Prelude.{◌≡◌};
+    ghost use Rattle.std.specs.Int.{div_ceil};
+    ghost use Rattle.md_collect.specs.Collecting.{CollectorView, ArePlanned};
+
+    ghost Value = { CollectorView };
+
+    ghost view = { λ c. record { slots = c.slots.items; chunks = c.chunks; offset = c.offset; reported = c.reported; spoiled = c.spoiled } };
+
+    ghost invariant = { λ c. (c.reported.chunks ≡ div_ceil c.chunks.size c.chunks.sectors) × ArePlanned c.chunks c.slots.items };
+}
+
+impl Collector {
+    /// A collector for the chunks of a plan. The target's data start at sector `offset` of its device.
+    pub fn new(
+        alloc: Global,
+        plan: &Plan,
+        chunks: Chunks,
+        offset: u64,
+    ) -> Result<Collector, AllocError>
+        requires { ArePlanned chunks plan.now.slots }
+        ensures slots { IfOk result (λ c. c.slots ≡ plan.now.slots) }
+        ensures chunks { IfOk result (λ c. c.chunks ≡ chunks) }
+        ensures offset { IfOk result (λ c. c.offset ≡ offset) }
+        ensures fresh { IfOk result IsFresh }
+    {
+        Ok(Collector {
+            slots: Vec::from_slice(alloc, plan.slots.as_slice())?,
+            chunks,
+            offset,
+            reported: Marks::none(alloc, chunks.count())?,
+            spoiled: false,
+        })
+    }
+
+    /// Takes a report. Where it counts, its bytes are written to the target. It takes no memory.
+    ///
+    /// A refusal changes nothing, but for `TargetFault`: after it the chunk may hold any bytes, and
+    /// no later report counts.
+    pub fn take<D: Device>(&mut self, target: &mut D, report: Report) -> Result<(), Refusal>
+        requires { HasRoom (D.content target.old) self.old.offset self.old.chunks }
+
+        ensures refused { (why : Refusal) → refusal_of self.old report ≡ Some why → (result ≡ Err why) × IsUntouched self.old self.new target.old target.new }
+        ensures counts { OnOk result (refusal_of self.old report ≡ None) }
+        ensures ok { OnOk result (IsCounted report.chunk self.old self.new) }
+        ensures bytes { OnOk result (D.honest target.old ≡ true → D.content target.new ≡ with_report (copying self.old) (D.content target.old) report) }
+        ensures unwritten { report.bytes ≡ None → target.new ≡ target.old }
+        ensures fault { result ≡ Err Refusal.TargetFault → (refusal_of self.old report ≡ None) × (self.new ≡ record self.old { spoiled = true }) }
+        ensures failed { result ≡ Err Refusal.TargetFault → Fails D.Device target.old target.new }
+        ensures takes { D.honest target.old ≡ true → Takes (stage self.old (D.content target.old)) report (result_err result) (stage self.new (D.content target.new)) }
+
+        ensures kept { KeepsCopy self.old self.new }
+        ensures outside { ChangesChunk self.old report.chunk (D.content target.old) (D.content target.new) }
+        ensures honest { D.honest target.new ≡ D.honest target.old }
+        ensures counted { D.failures target.old ≤ D.failures target.new }
+        ensures unfailing { OnOk result (D.failures target.new ≡ D.failures target.old) }
+        ensures within { LeavesBesideChunk D.Device self.old report.chunk target.old target.new }
+    {
+        self.take_ref(target, &report)
+    }
+
+    /// The same for a report whose memory is to be used again.
+    #[tactic(auto, unfolding(crate::specs::Places::with_chunk), using(crate::proofs::Stops::leaves_none, crate::proofs::Stops::leaves_beside))]
+    pub fn take_ref<D: Device>(&mut self, target: &mut D, report: &Report) -> Result<(), Refusal>
+        requires { HasRoom (D.content target.old) self.old.offset self.old.chunks }
+
+        ensures refused { (why : Refusal) → refusal_of self.old report.now ≡ Some why → (result ≡ Err why) × IsUntouched self.old self.new target.old target.new }
+        ensures counts { OnOk result (refusal_of self.old report.now ≡ None) }
+        ensures ok { OnOk result (IsCounted report.now.chunk self.old self.new) }
+        ensures bytes { OnOk result (D.honest target.old ≡ true → D.content target.new ≡ with_report (copying self.old) (D.content target.old) report.now) }
+        ensures unwritten { report.now.bytes ≡ None → target.new ≡ target.old }
+        ensures fault { result ≡ Err Refusal.TargetFault → (refusal_of self.old report.now ≡ None) × (self.new ≡ record self.old { spoiled = true }) }
+        ensures failed { result ≡ Err Refusal.TargetFault → Fails D.Device target.old target.new }
+        ensures takes { D.honest target.old ≡ true → Takes (stage self.old (D.content target.old)) report.now (result_err result) (stage self.new (D.content target.new)) }
+
+        ensures kept { KeepsCopy self.old self.new }
+        ensures outside { ChangesChunk self.old report.now.chunk (D.content target.old) (D.content target.new) }
+        ensures honest { D.honest target.new ≡ D.honest target.old }
+        ensures counted { D.failures target.old ≤ D.failures target.new }
+        ensures unfailing { OnOk result (D.failures target.new ≡ D.failures target.old) }
+        ensures within { LeavesBesideChunk D.Device self.old report.now.chunk target.old target.new }
+    {
+        if let Some(why) = self.refusal(report) {
+            return Err(why);
+        }
+        if let Some(bytes) = &report.bytes {
+            let _limit = target.sectors();
+            let (start, _) = self.chunks.range(report.chunk);
+            if target.write(self.offset + start, bytes.as_slice()).is_err() {
+                self.spoiled = true;
+                return Err(Refusal::TargetFault);
+            }
+        }
+        self.reported.mark(report.chunk);
+        Ok(())
+    }
+
+    // Why a report does not count.
+    fn refusal(&self, report: &Report) -> Option<Refusal>
+        ensures first { result ≡ refusal_of self.now report.now }
+        ensures chunk { IfNone result (IsChunk self.now.chunks report.now.chunk) }
+    {
+        if self.spoiled {
+            return Some(Refusal::Spoiled);
+        }
+        let slots = self.slots.as_slice();
+        if !is_planned(slots, self.chunks, report.chunk, report.source) {
+            return Some(Refusal::Stranger);
+        }
+        if self.reported.is_marked(report.chunk) {
+            return Some(Refusal::Double);
+        }
+        if !has_length(self.chunks, report) {
+            return Some(Refusal::Length);
+        }
+        None
+    }
+
+    /// How many reports counted. It takes no memory.
+    pub fn reports(&self) -> u32
+        ensures { result ≡ reports_of self.now }
+    {
+        self.reported.count()
+    }
+}
+
+// Whether delivered bytes are as many as the chunk has.
+fn has_length(chunks: Chunks, report: &Report) -> bool
+    requires { IsChunk chunks report.now.chunk }
+    ensures { result ≡ has_length chunks report.now }
+{
+    match &report.bytes {
+        Some(bytes) => {
+            let (_, sectors) = chunks.range(report.chunk);
+            bytes.len() as u64 == 512 * sectors
+        }
+        None => true,
+    }
+}

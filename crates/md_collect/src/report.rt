@@ -1,0 +1,68 @@
+// What came of reading a chunk.
+ghost use Rattle.std.specs.Prelude.{◌≡◌, None, Some, is_none, option_map};
+ghost use Rattle.md_collect.specs.Reports.{ReportView};
+
+use std::marker::Model;
+
+/// A chunk's bytes from a source, or that the source could not be read.
+#[derive(Debug, Drop)]
+pub struct Report {
+    pub(crate) chunk: u32,
+    pub(crate) source: u8,
+    pub(crate) bytes: Option<Vec<u8>>,
+}
+
+impl Model for Report {
+    ghost use Rattle.std.specs.Prelude.{option_map};
+    ghost use Rattle.md_collect.specs.Reports.{ReportView};
+
+    ghost Value = { ReportView };
+
+    ghost view = { λ r. record { chunk = r.chunk; source = r.source; bytes = option_map (λ bytes. bytes.items) r.bytes } };
+}
+
+impl Report {
+    /// The source gave these bytes. It takes no memory.
+    pub fn delivered(chunk: u32, source: u8, bytes: Vec<u8>) -> Report
+        ensures { result ≡ record { chunk = chunk; source = source; bytes = Some bytes.items } }
+    {
+        Report {
+            chunk,
+            source,
+            bytes: Some(bytes),
+        }
+    }
+
+    /// The source could not be read. It takes no memory.
+    pub fn failed(chunk: u32, source: u8) -> Report
+        ensures { result ≡ record { chunk = chunk; source = source; bytes = None } }
+    {
+        Report {
+            chunk,
+            source,
+            bytes: None,
+        }
+    }
+
+    /// The chunk that was read.
+    pub fn chunk(&self) -> u32
+        ensures { result ≡ self.now.chunk }
+    {
+        self.chunk
+    }
+
+    /// Whether the source could not be read.
+    pub fn is_failed(&self) -> bool
+        ensures { result ≡ is_none self.now.bytes }
+    {
+        self.bytes.is_none()
+    }
+
+    /// The bytes, if there are any, so that their memory can be used again. It takes no memory.
+    pub fn into_bytes(self) -> Option<Vec<u8>>
+        ensures { option_map (λ bytes. bytes.items) result ≡ self.bytes }
+    {
+        let Report { bytes, .. } = self;
+        bytes
+    }
+}

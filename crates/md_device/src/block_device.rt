@@ -1,0 +1,160 @@
+// What the system tells of a block device.
+use std::fs::{Files, Metadata};
+use std::io::ErrorKind;
+use std::os::unix::fs::{FileTypeExt, MetadataExt};
+use std::{fs, io, str};
+
+/// A block device, by the two numbers that its nodes have.
+#[derive(Clone, Copy, Debug, PartialEq, Eq)]
+pub(crate) struct BlockDevice {
+    pub(crate) major: u32,
+    pub(crate) minor: u32,
+}
+
+impl BlockDevice {
+    /// The block device of a node. Its metadata has both numbers packed into one, as makedev(3) does.
+    pub(crate) fn of_node(node: &Metadata) -> Option<BlockDevice> {
+        if !node.file_type().is_block_device() {
+            return None;
+        }
+        let packed = node.rdev();
+        Some(BlockDevice {
+            major: ((packed >> 32) & 0xffff_f000) as u32 | ((packed >> 8) & 0xfff) as u32,
+            minor: ((packed >> 12) & 0xffff_ff00) as u32 | (packed & 0xff) as u32,
+        })
+    }
+
+    /// The block device whose numbers a text has, as `8:1`.
+    pub(crate) fn parse(text: &str) -> Option<BlockDevice> {
+        let (major, minor) = text.split_once(':')?;
+        Some(BlockDevice {
+            major: major.parse().ok()?,
+            minor: minor.parse().ok()?,
+        })
+    }
+
+    /// Opens a file of the system's that stands for the device whatever node it is reached by.
+    pub(crate) fn open_common<R: Files + AllocGlobal>(self, rt: &R) -> io::Result<Option<R::File>> {
+        let path = self.path(rt, "dev")?;
+        told(fs::open(rt, path.as_str()))
+    }
+
+    /// Whether the system lets nobody write to it.
+    pub(crate) fn is_read_only<R: Files + AllocGlobal>(self, rt: &R) -> io::Result<bool> {
+        let path = self.path(rt, "ro")?;
+        let flag = read(rt, path.as_str())?;
+        Ok(flag.first() == Some(&b'1'))
+    }
+
+    /// Whether the system uses it: it is mounted, swapped on or held by another driver, as by device
+    /// mapper or md; or one of its partitions is, or the disk of which it is a partition.
+    pub(crate) fn is_in_use<R: Files + AllocGlobal>(self, rt: &R) -> io::Result<bool> {
+        let devices = self.with_partitions_or_disk(rt)?;
+        let mounts = read(rt, "/proc/self/mountinfo")?;
+        let swaps = read(rt, "/proc/swaps")?;
+        for device in &devices {
+            if device.has_holder(rt)? {
+                return Ok(true);
+            }
+        }
+        Ok(
+            names_one_of(rt, mounts.as_slice(), &devices)
+                || names_one_of(rt, swaps.as_slice(), &devices),
+        )
+    }
+
+    fn path<R: AllocGlobal>(self, rt: &R, name: &str) -> io::Result<String> {
+        let (major, minor) = (self.major, self.minor);
+        Ok(format!(in rt.alloc(); "/sys/dev/block/{major}:{minor}/{name}")?)
+    }
+
+    fn with_partitions_or_disk<R: Files + AllocGlobal>(
+        self,
+        rt: &R,
+    ) -> io::Result<Vec<BlockDevice>> {
+        let mut devices = vec![in rt.alloc(); self; 1]?;
+        let folder = self.path(rt, "")?;
+        if let Some(disk) = disk_of(rt, folder.as_str())? {
+            devices.push(disk)?;
+            return Ok(devices);
+        }
+        let Some(entries) = told(fs::read_dir(&rt, folder.as_str()))? else {
+            return Ok(devices);
+        };
+        for entry in entries {
+            if let Some(entry) = told(entry)?
+                && let Some(partition) = partition_in(rt, entry.path().as_str())?
+            {
+                devices.push(partition)?;
+            }
+        }
+        Ok(devices)
+    }
+
+    fn has_holder<R: Files + AllocGlobal>(self, rt: &R) -> io::Result<bool> {
+        let path = self.path(rt, "holders")?;
+        let Some(mut holders) = told(fs::read_dir(&rt, path.as_str()))? else {
+            return Ok(false);
+        };
+        Ok(holders.next().is_some())
+    }
+}
+
+// The disk of which the device in a folder of the system's is a partition.
+fn disk_of<R: Files + AllocGlobal>(rt: &R, folder: &str) -> io::Result<Option<BlockDevice>> {
+    if partition_in(rt, folder)?.is_none() {
+        return Ok(None);
+    }
+    device_in(rt, format!(in rt.alloc(); "{folder}/..")?.as_str())
+}
+
+// The partition in a folder of the system's, where it is one.
+fn partition_in<R: Files + AllocGlobal>(rt: &R, folder: &str) -> io::Result<Option<BlockDevice>> {
+    let number = format!(in rt.alloc(); "{folder}/partition")?;
+    if read(rt, number.as_str())?.is_empty() {
+        return Ok(None);
+    }
+    device_in(rt, folder)
+}
+
+fn device_in<R: Files + AllocGlobal>(rt: &R, folder: &str) -> io::Result<Option<BlockDevice>> {
+    let path = format!(in rt.alloc(); "{folder}/dev")?;
+    let text = read(rt, path.as_str())?;
+    Ok(
+        str::from_utf8(text.as_slice())
+            .ok()
+            .and_then(|numbers| BlockDevice::parse(numbers.trim_end())),
+    )
+}
+
+// Whether a word of a text names one of the devices. The system's list of mounts has the numbers of
+// what is mounted, and its node, which alone tells where a file system has numbers of its own, as
+// btrfs. The list of swap spaces has nodes.
+fn names_one_of<R: Files>(rt: &R, text: &[u8], devices: &[BlockDevice]) -> bool {
+    text.split(|byte| byte.is_ascii_whitespace())
+        .filter_map(|word| device_named(rt, word))
+        .any(|device| devices.contains(&device))
+}
+
+// The block device that a word names, by its numbers or by a node.
+fn device_named<R: Files>(rt: &R, word: &[u8]) -> Option<BlockDevice> {
+    let word = str::from_utf8(word).ok()?;
+    if word.starts_with("/dev/") {
+        return BlockDevice::of_node(&fs::metadata(rt, word).ok()?);
+    }
+    BlockDevice::parse(word)
+}
+
+// The bytes of a file, none where it can't be read.
+fn read<R: Files + AllocGlobal>(rt: &R, path: &str) -> io::Result<Vec<u8>> {
+    Ok(told(fs::read(rt, path))?.unwrap_or(Vec::new(rt.alloc())))
+}
+
+// What the system doesn't tell is passed over. Out of memory, nothing is known.
+fn told<T>(answer: io::Result<T>) -> io::Result<Option<T>> {
+    match answer {
+        Ok(told) => Ok(Some(told)),
+        Err(error) if error.kind() == ErrorKind::OutOfMemory => Err(error),
+        Err(_) => Ok(None),
+    }
+}
