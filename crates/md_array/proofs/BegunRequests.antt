@@ -8,7 +8,7 @@ use Rattle.md_model.specs.Worlds.{touches}
 use Rattle.md_model.specs.Counts as counts
 use Rattle.md_model.specs.Events.{Event, Step}
 use Rattle.md_model.specs.Steps.{begun, entered, touches_chunk, MayBegin}
-use Rattle.md_model.proofs.Between.{between_step}
+use Rattle.md_model.proofs.Between.{between_step, in_flight_step}
 use Rattle.md_model.proofs.Cases.{both, by_option, by_test, is_at_most}
 use Rattle.md_inflight.specs.Inflight.{InflightList, lookup}
 use Rattle.md_bitmap.specs.Marks.{Bitmap, is_set}
@@ -20,7 +20,7 @@ use Rattle.md_array.specs.Beginning.{Begins, HasMarked, IsInRange, active_offset
 use Rattle.md_array.specs.Consistency.{IsConsistent}
 use Rattle.md_array.specs.Events.{BeginHappens}
 use Rattle.md_array.specs.Requests.{AreInFlight, AreInside, IsPending, among, extent_of, lacks, request_of}
-use Rattle.md_array.specs.Worlds.{geometry_of, world_of, world_on}
+use Rattle.md_array.specs.Worlds.{AreHonest, geometry_of, world_of, world_on}
 use Rattle.md_array.proofs.ReadAsKept.{IsSameArray, counted_like, unwritten_read}
 use Rattle.md_array.proofs.CountedAtBegin.{counted_is_consistent, counted_keeps_pending, marked_counted, range_counted, rises_as_told, same_if, world_counted}
 use Rattle.md_array.proofs.InFlight.{found_either, found_last, found_with_last, is_touched, none_touches}
@@ -236,10 +236,13 @@ module _ (sector : ℕ) (bytes : List ℕ) (old new : MirrorView) (c : IsConsist
 
     pub begin_happens : BeginHappens old new p
     begin_happens = subst (BeginHappens old new) (sym begins.pending) (λ honest others listed. record {
+      honest = subst AreHonest (sym begins.disks) honest;
+      writes = begins.disks;
       in_flight = in_flight_after others listed;
       geometry = new_geometry others listed;
       step = step others listed;
       content = λ before next holds becomes. between_step (geometry_of a) (world_of old others) (Event.Begin number (request_of begun_request)) (world_of new (among begun_request others)) before next (step others listed) becomes holds;
+      written = in_flight_step (geometry_of a) (world_of old others) (Event.Begin number (request_of begun_request)) (world_of new (among begun_request others)) (step others listed);
       sound = begun_is_consistent;
       read = λ failed_at. unwritten_read old new failed_at begins.disks same_begun
           (λ j m is. (counted_like a full (has_to_rise a)).1 j m (sym (ap (λ (x : ArrayView). slice_get x.members j) begins.array) ∙ is));

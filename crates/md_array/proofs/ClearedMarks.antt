@@ -5,14 +5,14 @@ use Rattle.std.proofs.lemmas.Bool.{cases_lt}
 use Rattle.md_model.specs.Worlds as worlds
 use Rattle.md_model.specs.Events.{Event, Step}
 use Rattle.md_model.specs.Steps as steps
-use Rattle.md_model.proofs.Between.{between_step}
+use Rattle.md_model.proofs.Between.{between_step, in_flight_step}
 use Rattle.md_bitmap.specs.Marks.{is_set}
 use Rattle.md_array.specs.View.{ArrayView, MirrorView, PendingView}
 use Rattle.md_array.specs.ClearingMarks.{Clears}
 use Rattle.md_array.specs.Consistency.{IsConsistent}
 use Rattle.md_array.specs.Events.{Happens}
 use Rattle.md_array.specs.Requests.{AreInFlight, IsPending}
-use Rattle.md_array.specs.Worlds.{geometry_of, world_of}
+use Rattle.md_array.specs.Worlds.{AreHonest, geometry_of, world_of}
 use Rattle.md_array.proofs.ReadAsKept.{same_array, same_member, unwritten_read}
 use Rattle.md_array.proofs.InFlight.{is_touched, none_touches}
 use Rattle.md_array.proofs.RemarkedWorlds.{remarked, remarked_is_consistent, same_mirror, world_remarked}
@@ -104,10 +104,13 @@ module _ (chunk : ℕ) (old new : MirrorView) (c : IsConsistent old) (clears : C
 
   pub clear_idle_happens : Happens old (Event.ClearIdle chunk) new
   clear_idle_happens honest requests listed = record {
+    honest = subst AreHonest (sym clears.disks) honest;
+    writes = clears.disks;
     in_flight = subst (λ (x : ArrayView). AreInFlight x requests) (sym clears.array) listed;
     geometry = ap geometry_of clears.array;
     step = step requests listed;
     content = λ before next holds becomes. between_step (geometry_of a) (world_of old requests) (Event.ClearIdle chunk) (world_of new requests) before next (step requests listed) becomes holds;
+    written = in_flight_step (geometry_of a) (world_of old requests) (Event.ClearIdle chunk) (world_of new requests) (step requests listed);
     sound = cleared_is_consistent;
     read = λ failed_at. unwritten_read old new failed_at clears.disks
         (same_array a new.array (ap (λ (x : ArrayView). x.shared) clears.array) (ap (λ (x : ArrayView). x.chunks) clears.array))

@@ -11,7 +11,7 @@ use Rattle.md_members.specs.declared.info.MemberInfo.{MemberInfo}
 use Rattle.md_assembly.specs.declared.state.MemberState.{MemberState}
 use Rattle.md_assembly.specs.declared.fault.AssembleFault.TheVariants.{TooMany}
 use Rattle.md_assembly.specs.States.{is_in_sync, role_in, state_of, takes_role}
-use Rattle.md_inflight.specs.Inflight.{lookup}
+use Rattle.md_inflight.specs.Inflight.{InflightList, lookup}
 use Rattle.md_model.proofs.Cases.{by_test, none_some}
 use Rattle.md_array.specs.declared.extent.Extent.{Extent}
 use Rattle.md_array.specs.View.{ArrayView, Disk, MemberView, MirrorView}
@@ -173,6 +173,6 @@ module _ (before : List Disk) (v : MirrorView) (o : IsOpenedFrom before v) where
     fits = fits;
     roles = roles;
     chunks = chunks;
-    inside = λ n e listed. absurd (none_some e (subst (λ (entries : List (ℕ × Extent)). lookup entries n ≡ Some e) o.array.remembered.idle listed));
+    inside = λ n e listed. absurd (none_some e (subst (λ (r : InflightList Extent). lookup r.entries n ≡ Some e) o.array.remembered.idle listed));
     supers = λ _ k d m at_disk at_member recorded honest. super k d m at_disk at_member honest;
   }

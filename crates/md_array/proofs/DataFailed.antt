@@ -60,7 +60,7 @@ module _ (k : ℕ) (old new : MirrorView) (p q : PendingView) (c : IsConsistent 
       let t = there_is old k m w new.disks c at f.fails.disks.tried in
       let fails = member_fails k w old new c f.fails m at requests (in_sync_recorded m.state f.may.intent.in_sync.in_sync) in
       subst (λ (x : PendingView). Does old requests e new (among x others)) (sym f.pending)
-      (does_failing k w old new c f.fails m at requests e (among_in_flight a p pending others in_flight)
+      (does_failing k w old new c f.fails m at requests e honest (w, f.fails.disks) (among_in_flight a p pending others in_flight)
       (f.may.intent.running, (left k w old new c f.fails m at requests, request_of p, may_write k old p c pending m f.may others, left_by_data others t, fails))
       (λ _. refl)
       (λ d e was is.

@@ -13,7 +13,7 @@ use Rattle.md_model.specs.Devices.{Stored}
 use Rattle.md_model.specs.Events.{Event, Step}
 use Rattle.md_model.specs.Steps as steps
 use Rattle.md_model.specs.Worlds.{Request, World, touches}
-use Rattle.md_model.proofs.Between.{between_step}
+use Rattle.md_model.proofs.Between.{between_step, in_flight_step}
 use Rattle.md_model.proofs.Cases.{below-nat_lt, by_test}
 use Rattle.md_model.proofs.Puts.{put-hit, put-self, put-twice}
 use Rattle.md_array.specs.View.{ArrayView, Disk, MemberView, MirrorView, PendingView}
@@ -22,6 +22,7 @@ use Rattle.md_array.specs.Events.{HappensAmong}
 use Rattle.md_array.specs.Requests.{AreInFlight, IsPending, among, has_written, lacks, request_of, request_sectors}
 use Rattle.md_array.specs.WritingMember.{MayWrite, WritesTo, data_write}
 use Rattle.md_array.specs.Worlds.{geometry_of, stored_of, super_in, world_of}
+use Rattle.md_array.proofs.Honesty.{tried_honest}
 use Rattle.md_array.proofs.InFlight.{among_in_flight, inside_of, is_touched, not_touched, whole_of}
 use Rattle.md_array.proofs.OneMember.{ChangesMember, changed_is_consistent, changed_world, member_there, stored_there}
 use Rattle.md_array.proofs.PartsApart.{HasParts, block_beside_data, data_alone, data_elsewhere, parts_of}
@@ -238,10 +239,13 @@ module _ (k : ℕ) (old new : MirrorView) (p q : PendingView) (c : IsConsistent 
       let e = got_within new.disks k (omega arith) in
       let happens = step d.0 e.0 d.1 e.1 (honest k d.0 d.1) others in
       record {
+        honest = tried_honest k (data_write m p) old.disks new.disks t.disks.tried honest;
+        writes = (data_write m p, t.disks);
         in_flight = among_in_flight new.array q written_is_pending others (subst (λ (x : ArrayView). AreInFlight x others) (sym t.array) in_flight);
         geometry = ap geometry_of t.array;
         step = happens;
         content = λ x y holds becomes. between_step (geometry_of a) (world_of old (among p others)) (Event.WriteMember p.ticket.number k) (world_of new (among q others)) x y happens becomes holds;
+        written = in_flight_step (geometry_of a) (world_of old (among p others)) (Event.WriteMember p.ticket.number k) (world_of new (among q others)) happens;
         sound = written_is_consistent;
         read = λ failed_at. changed_read k m m (data_write m p) old new failed_at changes (λ d' e' was is. read_beside_data a m d'.content e'.content (parts d' was) p.sector n inside (outside d' e' was is) failed_at);
       }

@@ -8,7 +8,7 @@ use Rattle.md_model.specs.Events.{Event, Step}
 use Rattle.md_model.specs.Sectors.{put}
 use Rattle.md_model.specs.Steps as steps
 use Rattle.md_model.specs.Worlds.{Request, World}
-use Rattle.md_model.proofs.Between.{between_step}
+use Rattle.md_model.proofs.Between.{between_step, in_flight_step}
 use Rattle.md_model.proofs.Cases.{none_some}
 use Rattle.md_model.proofs.Puts.{by_same, put-hit, put-miss, put-twice}
 use Rattle.md_array.specs.declared.extent.Extent.{Extent}
@@ -17,7 +17,7 @@ use Rattle.md_array.specs.Consistency.{IsConsistent}
 use Rattle.md_array.specs.Events.{FinishHappens}
 use Rattle.md_array.specs.Finishing.{Finishes}
 use Rattle.md_array.specs.Requests.{AreInFlight, AreInside, IsPending, among, request_of}
-use Rattle.md_array.specs.Worlds.{geometry_of, world_of, world_on}
+use Rattle.md_array.specs.Worlds.{AreHonest, geometry_of, world_of, world_on}
 use Rattle.md_array.proofs.ReadAsKept.{same_array, same_member, unwritten_read}
 use Rattle.md_array.proofs.WorldsInSync.{in_sync_is, number_at}
 use Rattle.md_array.proofs.WorldsShown.{at_is}
@@ -117,10 +117,13 @@ module _ (old new : MirrorView) (p : PendingView) (f : Finishes old new p) where
   finish_happens c pending honest others in_flight =
       let s = step pending others in_flight in
       record {
+        honest = subst AreHonest (sym f.disks) honest;
+        writes = f.disks;
         in_flight = still_in_flight pending others in_flight;
         geometry = ap geometry_of f.array;
         step = s;
         content = λ a b holds becomes. between_step (geometry_of old.array) (world_of old (among p others)) (Event.Finish p.ticket.number) (world_of new (put p.ticket.number None others)) a b s becomes holds;
+        written = in_flight_step (geometry_of old.array) (world_of old (among p others)) (Event.Finish p.ticket.number) (world_of new (put p.ticket.number None others)) s;
         sound = finished_is_consistent c;
         read = λ failed_at. unwritten_read old new failed_at f.disks
             (same_array old.array new.array (ap (λ (x : ArrayView). x.shared) f.array) (ap (λ (x : ArrayView). x.chunks) f.array))

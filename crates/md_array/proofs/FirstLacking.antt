@@ -1,12 +1,12 @@
 -- The first member in sync that lacks something, found by a test of each.
-use Rattle.std.proofs.Common.{◌≡◌, ◌∙◌, ℕ, zero, suc, ◌+◌, ◌<◌, ◌≤◌, ◌&&◌, Bool, true, false, not, cond, nat_lt, List, [], ◌∷◌, length, get_or, Option, Some, None, refl, sym, ap, subst, arith, inl, inr}
+use Rattle.std.proofs.Common.{◌≡◌, ◌∙◌, ℕ, zero, suc, ◌+◌, ◌<◌, ◌≤◌, ◌&&◌, Bool, true, false, not, cond, List, [], ◌∷◌, length, get_or, Some, None, refl, sym, ap, subst, arith, inl, inr}
 use Rattle.std.specs.List.{position, position_or_len, slice_get}
 use Rattle.std.proofs.lemmas.Bool.{and_parts, and_from, cond-true, cond-false, le-ltb, lt-ltb, cases_lt, false_from_ne_true}
-use Rattle.std.proofs.lemmas.Option.{slice_get-get_or, slice_get_within, get_or_from_slice_get, same_Some, slice_get_cases}
+use Rattle.std.proofs.lemmas.Option.{slice_get_within, get_or_from_slice_get, same_Some, slice_get_cases}
 use Rattle.std.proofs.lemmas.List.Quantifiers.{position-Some}
 use Rattle.md_assembly.specs.States.{is_in_sync}
 use Rattle.md_array.specs.View.{ArrayView, MemberView, PendingView}
-use Rattle.md_array.specs.Members.{AllInSync, IsFirstInSyncWithout, IsInSync}
+use Rattle.md_array.specs.Members.{AllInSync, IsFirstInSyncWithout}
 use Rattle.md_array.specs.Finishing.{HasBytesOf}
 use Rattle.md_array.specs.Requests.{has_written, lacks}
 use Rattle.md_array.specs.WritingMember.{IsNotDue}

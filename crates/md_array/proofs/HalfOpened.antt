@@ -22,7 +22,7 @@ use Rattle.md_array.specs.View.{ArrayView, Disk, MemberView, MirrorView}
 use Rattle.md_array.specs.Members.{IsMember, NeedsMarks}
 use Rattle.md_array.specs.Consistency.{IsConsistent}
 use Rattle.md_array.specs.HalfOpened.{IsHalfMarked, IsHeaderKept, StopsStoring}
-use Rattle.md_array.specs.Lives.{AreFoundAgain, IsAsLeft, IsFoundAgain, MirrorLife, StaysAsLeft}
+use Rattle.md_array.specs.Lives.{AreFoundAgain, IsAsLeft, IsFoundAgain, IsReadAsKeptInLives, MirrorLife, StaysAsLeft}
 use Rattle.md_array.specs.Opening.{IsArrayOf}
 use Rattle.md_array.specs.ReadAsKept.{AreReadAsKept, chunk_size_on}
 use Rattle.md_array.specs.Runs.{Moment, opened_as}
@@ -119,8 +119,8 @@ module _ (a : ArrayView) (m : MemberView) (old new : Disk) (room : 512 * (from_s
   ]
 
 -- ---- it is as it was left
-module _ (opened : MirrorView) (t : Moment) (sound : IsConsistent t.mirror) (are : AreReadAsKept t.mirror t.failed_at) (before : List Disk) (is : ArrayView)
-    (r : AreFoundAgain opened t before is.shared) (o : IsArrayOf before is)
+module _ (t : Moment) (sound : IsConsistent t.mirror) (are : AreReadAsKept t.mirror t.failed_at) (before : List Disk) (is : ArrayView)
+    (r : AreFoundAgain t before is.shared) (o : IsArrayOf before is)
     (k j : ℕ) (f : IsFoundAgain t.mirror.array r.left before k j) (n : MemberView) (is_member : IsMember is j n) (new : Disk) (half : IsHalfMarked is n f.disk_now new) where
   abbrev was : ArrayView
   was = t.mirror.array
@@ -129,16 +129,16 @@ module _ (opened : MirrorView) (t : Moment) (sound : IsConsistent t.mirror) (are
   m = f.member
 
   abbrev info : MemberInfo
-  info = (again opened t sound are before is r o k j f n is_member).info
+  info = (again t sound are before is r o k j f n is_member).info
 
   abbrev seen : IsReadMember is n info f.disk_now.content
-  seen = (again opened t sound are before is r o k j f n is_member).seen
+  seen = (again t sound are before is r o k j f n is_member).seen
 
   at : n.superblock.bitmap_offset ≡ m.superblock.bitmap_offset
-  at = bitmap_offset opened t sound are before is r o k j f n is_member
+  at = bitmap_offset t sound are before is r o k j f n is_member
 
   count : is.marks.chunks ≡ was.marks.chunks
-  count = same_count opened t sound are before is r o
+  count = same_count t sound are before is r o
 
   -- the same area
   same_chunks : n.stored.chunks ≡ m.stored.chunks
@@ -159,7 +159,7 @@ module _ (opened : MirrorView) (t : Moment) (sound : IsConsistent t.mirror) (are
     -- before it counted as all marked
     refused : is_accepted (stored_of was m f.disk_now.content) ≡ false
     refused =
-        ap is_accepted (sym (same_stored opened t sound are before is r o k j f n is_member))
+        ap is_accepted (sym (same_stored t sound are before is r o k j f n is_member))
         ∙ by_test (is_accepted (stored_of is n f.disk_now.content)) (λ e. absurd (need.refused (read.accepted_before is n info f.disk_now.content seen e))) (λ e. e)
 
     opened_member : StoresMarks is n f.disk_now new → IsOpenedMember is n info f.disk_now new
@@ -190,7 +190,7 @@ module _ (opened : MirrorView) (t : Moment) (sound : IsConsistent t.mirror) (are
 
       still_refused : is_accepted (stored_of was m new.content) ≡ false
       still_refused =
-          let alone = bitmap_alone was m f.disk_now.content new.content (again opened t sound are before is r o k j f n is_member).parts outside in
+          let alone = bitmap_alone was m f.disk_now.content new.content (again t sound are before is r o k j f n is_member).parts outside in
           (λ i. accepts (alone i).super (number_at 8 24 (header_kept i)) (header_fits was (header_kept i)))
           ∙ refused
 
@@ -229,7 +229,11 @@ life_keeps m es (more ∷ rest) final last sound are life =
     let next = life.3 in
     life_keeps life.1 more rest final last (consistent next.before life.1 next.opens) (opened_read next.before life.1 next.devices.honest next.opens) life.4
 
+pub read_as_kept : IsReadAsKeptInLives
+read_as_kept before m start es rest final last life =
+    (life_keeps m es rest final last (consistent before m start.opened) (opened_read before m start.honest start.opened) life).1
+
 pub stays_as_left : StaysAsLeft
 stays_as_left before m start es rest final last life found a devices of k j at n new is_member half =
     let kept = life_keeps m es rest final last (consistent before m start.opened) (opened_read before m start.honest start.opened) life in
-    as_left final last kept.0 kept.1 found a devices of k j (devices.again k j at) n is_member new half
+    as_left last kept.0 kept.1 found a devices of k j (devices.again k j at) n is_member new half

@@ -17,6 +17,7 @@ pub mod FirstLacking
 pub mod Fitting
 pub mod Geometry
 pub mod HalfOpened
+pub mod Honesty
 pub mod InFlight
 pub mod InTurn
 pub mod Keeping

@@ -14,13 +14,14 @@ use Rattle.md_bitmap.proofs.Padded.{length-padded, slice_index-padded}
 use Rattle.md_members.specs.Areas.{bitmap_sectors}
 use Rattle.md_writes.specs.Bitmaps.{bitmap_sector}
 use Rattle.md_writes.specs.Writes.{Write}
+use Rattle.md_writes.proofs.Sectors.{length-bitmap_sector}
 use Rattle.md_model.specs.Sectors.{block_of, put}
 use Rattle.md_model.specs.States as model
 use Rattle.md_model.specs.Devices.{Stored}
 use Rattle.md_model.specs.Worlds.{Request, World}
 use Rattle.md_model.specs.Steps.{bits_after, marked_device, marks_stored}
 use Rattle.md_model.specs.Events.{Event, Step}
-use Rattle.md_model.proofs.Between.{between_step}
+use Rattle.md_model.proofs.Between.{between_step, in_flight_step}
 use Rattle.md_model.proofs.Cases.{by_test}
 use Rattle.md_model.proofs.Puts.{by_same, put-at, put-self}
 use Rattle.md_array.specs.View.{ArrayView, Disk, MemberView, MirrorView, PendingView}
@@ -31,6 +32,7 @@ use Rattle.md_array.specs.ReadAsKept.{HasWidth, IsReadAsKept}
 use Rattle.md_array.specs.Requests.{IsPending}
 use Rattle.md_array.specs.Events.{Happens}
 use Rattle.md_array.specs.Worlds.{block_on, from_super, geometry_of, header_on, kind_of, stored_of, super_in, world_of}
+use Rattle.md_array.proofs.Honesty.{tried_honest}
 use Rattle.md_array.proofs.OneMember.{ChangesMember, changed_in_flight, changed_is_consistent, changed_is_pending, changed_world, member_there, stored_there}
 use Rattle.md_array.proofs.PartsApart.{HasParts, bits_elsewhere, block_beside_marks, events_elsewhere, fits_elsewhere, header_elsewhere, log_beside_marks, marks_alone, parts_of}
 use Rattle.md_array.proofs.ReadAsKept.{changed_read, stays}
@@ -262,10 +264,13 @@ module _ (k block : ℕ) (old new : MirrorView) (is : IsConsistent old) (low : b
       let e = got_within new.disks k (omega arith) in
       let happens = step d.0 e.0 d.1 e.1 (honest k d.0 d.1) requests in
       record {
+        honest = tried_honest k r.write old.disks new.disks r.disks.tried honest;
+        writes = (r.write, ap (λ (x : Write). length x.bytes) r.may.write.is ∙ length-bitmap_sector r.may.write.header a.marks block, r.disks);
         in_flight = changed_in_flight k m n r.write old new changes requests in_flight;
         geometry = ap geometry_of r.array;
         step = happens;
         content = λ x y holds becomes. between_step (geometry_of a) (world_of old requests) (Event.StoreMarks k block) (world_of new requests) x y happens becomes holds;
+        written = in_flight_step (geometry_of a) (world_of old requests) (Event.StoreMarks k block) (world_of new requests) happens;
         sound = marks_stored_is_consistent;
         read = λ failed_at. changed_read k m n r.write old new failed_at changes (λ d' e' before after. read_marked d' e' before after (honest k d' before) requests failed_at);
       }

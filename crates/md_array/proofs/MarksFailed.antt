@@ -70,7 +70,7 @@ module _ (k block : ℕ) (old new : MirrorView) (c : IsConsistent old) (f : Fail
   pub store_marks_fails_happens : Happens old (Event.StoreMarksFails k block) new
   store_marks_fails_happens honest requests in_flight =
       let t = there_is old k m w new.disks c at f.fails.disks.tried in
-      does_failing k w old new c f.fails m at requests (Event.StoreMarksFails k block) in_flight
+      does_failing k w old new c f.fails m at requests (Event.StoreMarksFails k block) honest (w, f.fails.disks) in_flight
       (f.may.running, (left k w old new c f.fails m at requests, in_sync_there old.disks a requests k m f.may.in_sync, left_by_marks requests t, member_fails k w old new c f.fails m at requests (in_sync_recorded m.state f.may.in_sync.in_sync)))
       (λ _. refl)
       (λ d e was is.

@@ -13,7 +13,7 @@ use Rattle.md_members.specs.Members.{IsMember, RefusesMember, RefusesRest, by_pl
 use Rattle.md_members.specs.Reading.{RefusesSuper, RefusesBitmap, RefusesLog}
 use Rattle.md_array.specs.View.{Disk}
 use Rattle.md_array.specs.DeviceChanges.{FailsAt, IsUntouched}
-use Rattle.md_array.specs.Reading.{AreRead, RefusesMember as RefusesMemberAt, RefusesRead, refusal_of}
+use Rattle.md_array.specs.Reading.{RefusesMember as RefusesMemberAt, RefusesRead, refusal_of}
 use Rattle.md_array.proofs.InTurn.{at_push_before, at_push_last, same_place}
 use Rattle.md_array.proofs.WorldsLists.{at_set_same}
 
@@ -56,7 +56,7 @@ log_more honest v NoMemory f r = r
 rest_more : (content : List ℕ) (honest : Bool) {F G : Type 0} (v : Superblock) (fault : MemberFault) → (F → G) → RefusesRest content honest F v fault → RefusesRest content honest G v fault
 rest_more content honest v fault f (by_place is unplaced) = by_place is unplaced
 rest_more content honest v fault f (by_bitmap placed has r) = by_bitmap placed has (bitmap_more content honest (sectors_of content) v fault f r)
-rest_more content honest v fault f (by_log h m has reads r) = by_log h m has reads (log_more honest v fault f r)
+rest_more content honest v fault f (by_log placed h m has reads r) = by_log placed h m has reads (log_more honest v fault f r)
 
 refuses_more : (content : List ℕ) (honest : Bool) {F G : Type 0} (fault : MemberFault) → (F → G) → RefusesMember content honest F fault → RefusesMember content honest G fault
 refuses_more content honest fault f r =

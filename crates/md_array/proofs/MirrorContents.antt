@@ -51,10 +51,10 @@ module _ (m : MirrorView) (begins : Begins m) (es : List Event) (t : Moment) (r 
   along = run_keeps es (opened_as m) t r begins.sound begins.read
 
   same : geometry_of next.array ≡ g
-  same = same_geometry m t along.0 along.1 again.before next.array again.devices again.opens.array ∙ geometry_kept es (opened_as m) t r
+  same = same_geometry t along.0 along.1 again.before next.array again.devices again.opens.array ∙ geometry_kept es (opened_as m) t r
 
   of_model : Reopens g opened (history_of t) first w
-  of_model = subst (λ x. Reopens x opened (history_of t) first w) (geometry_kept es (opened_as m) t r) (reopens m t along.0 along.1 next again)
+  of_model = subst (λ x. Reopens x opened (history_of t) first w) (geometry_kept es (opened_as m) t r) (reopens t along.0 along.1 next again.before again.devices again.opens m again.fit)
 
   start_of_model : runs.IsStart g first w
   start_of_model = start_again g opened (history_of t) first w begins.start.small held.kept of_model

@@ -5,19 +5,23 @@ use Rattle.std.proofs.lemmas.Option.{none-some, slice_get_past, slice_get_within
 use Rattle.md_device.specs.Splice.{SameOutside}
 use Rattle.md_model.specs.Sectors.{Geometry, chunk_of}
 use Rattle.md_model.specs.Devices.{Stored, Super, is_marked}
+use Rattle.md_model.specs.Assembly.{IsFreshest}
 use Rattle.md_model.specs.Events.{Event}
 use Rattle.md_model.specs.Lives as lives
 use Rattle.md_model.specs.Lives.{Always, IsCovered, Reopens}
 use Rattle.md_model.specs.Openings as openings
 use Rattle.md_model.specs.Runs as runs
 use Rattle.md_model.specs.Stops as stops
+use Rattle.md_model.specs.Stops.{IsFit}
 use Rattle.md_model.proofs.Cases.{by_option}
 use Rattle.md_model.proofs.OpeningCovers.{slot_of}
+use Rattle.md_model.proofs.Fits as fits
 use Rattle.md_model.proofs.Lives.{always_covered, always_out, always_safe, always_stays_out}
 use Rattle.md_array.specs.View.{ArrayView, Disk, MemberView, MirrorView}
 use Rattle.md_array.specs.Consistency.{IsConsistent}
 use Rattle.md_array.specs.Members.{IsMember}
-use Rattle.md_array.specs.Lives.{AtEachMoment, IsLeft, IsReopened, IsTorn, MirrorLife}
+use Rattle.md_array.specs.Lives.{AreFoundAgain, AtEachMoment, FitsWhenThere, IsLeft, IsTorn, KeepsGeometry, MirrorLife}
+use Rattle.md_array.specs.Opening.{IsOpenedFrom}
 use Rattle.md_array.specs.ReadAsKept.{AreReadAsKept}
 use Rattle.md_array.specs.Requests.{among, request_of, request_sectors}
 use Rattle.md_array.specs.Runs.{MirrorRun, Moment, history_of, opened_as, then_as}
@@ -78,48 +82,49 @@ is_cut t left sound (inl same) = inl (ap (read_of t.mirror) same)
 is_cut t left sound (inr torn) = inr (subst (λ r. stops.IsTorn (geometry_of t.mirror.array) (world_of t.mirror r) (read_of t.mirror left)) (sym torn.in_flight) (torn_cut t sound left torn))
 
 -- ---- the next opening is one of the model
-module _ (opened : MirrorView) (t : Moment) (sound : IsConsistent t.mirror) (are : AreReadAsKept t.mirror t.failed_at) (next : MirrorView) (r : IsReopened opened t next) where
+module _ (t : Moment) (sound : IsConsistent t.mirror) (are : AreReadAsKept t.mirror t.failed_at) (next : MirrorView)
+    (before : List Disk) (devices : AreFoundAgain t before next.array.shared) (from_these : IsOpenedFrom before next) where
   abbrev g : Geometry
   g = geometry_of t.mirror.array
 
   abbrev read : ℕ → Stored
-  read = read_of next r.before
+  read = read_of next before
 
   -- the devices of which the next mirror is made
   abbrev made_of : ℕ → Stored
-  made_of k = unwrap_or (option_map read (r.devices.at k)) nothing_stored
+  made_of k = unwrap_or (option_map read (devices.at k)) nothing_stored
 
-  at_some : (k j : ℕ) → r.devices.at k ≡ Some j → made_of k ≡ read j
+  at_some : (k j : ℕ) → devices.at k ≡ Some j → made_of k ≡ read j
   at_some k j is = ap (λ o. unwrap_or (option_map read o) nothing_stored) is
 
-  at_none : (k : ℕ) → r.devices.at k ≡ None → made_of k ≡ nothing_stored
+  at_none : (k : ℕ) → devices.at k ≡ None → made_of k ≡ nothing_stored
   at_none k is = ap (λ o. unwrap_or (option_map read o) nothing_stored) is
 
   are_left : stops.IsLeft g (history_of t).now made_of
   are_left = (
-    read_of t.mirror r.devices.left,
-    is_cut t r.devices.left sound r.devices.is_left,
-    λ k. by_option (r.devices.at k)
+    read_of t.mirror devices.left,
+    is_cut t devices.left sound devices.is_left,
+    λ k. by_option (devices.at k)
         (λ gone. inr (ap (λ (x : Stored). x.super) (at_none k gone)))
-        (λ j is. inl (subst (stops.IsHalfOpened g (read_of t.mirror r.devices.left k)) (sym (at_some k j is)) (read_alike opened t sound are r.before next.array r.devices r.opens.array k j is))),
+        (λ j is. inl (subst (stops.IsHalfOpened g (read_of t.mirror devices.left k)) (sym (at_some k j is)) (read_alike t sound are before next.array devices from_these.array k j is))),
   )
 
   opens : openings.IsOpenedFrom g read (super_of next.array.shared) (world_of next none_in_flight)
-  opens = subst (λ x. openings.IsOpenedFrom x read (super_of next.array.shared) (world_of next none_in_flight)) (same_geometry opened t sound are r.before next.array r.devices r.opens.array) (opened_from r.before next r.devices.honest r.opens)
+  opens = subst (λ x. openings.IsOpenedFrom x read (super_of next.array.shared) (world_of next none_in_flight)) (same_geometry t sound are before next.array devices from_these.array) (opened_from before next devices.honest from_these)
 
   -- each member of it is one that was left
-  as_read : (j : ℕ) → j < length next.array.members → made_of (r.devices.from j) ≡ read j
+  as_read : (j : ℕ) → j < length next.array.members → made_of (devices.from j) ≡ read j
   as_read j low =
-      let of_array = r.opens.array in
+      let of_array = from_these.array in
       let read_many = of_array.read.as_many in
       let members_many = of_array.remembered.as_many in
-      at_some (r.devices.from j) j (r.devices.found j (omega arith))
+      at_some (devices.from j) j (devices.found j (omega arith))
 
   -- a superblock is a member's
   of_member : (j : ℕ) (own : Super) → (read j).super ≡ Some own → j < length next.array.members
   of_member j own e = by_member next.array j
       (λ n is. slice_get_within next.array.members j n is)
-      (λ past. absurd (none-some own (sym (ap (λ o. (stored_on next.array o (slice_get r.before j)).super) (slice_get_past next.array.members j past)) ∙ e)))
+      (λ past. absurd (none-some own (sym (ap (λ o. (stored_on next.array o (slice_get before j)).super) (slice_get_past next.array.members j past)) ∙ e)))
 
   member_at : (j : ℕ) → j < length next.array.members → opens.at j < length next.array.members
   member_at j low = let own = opens.opened.members.filled j low in of_member (opens.at j) own.0 (opens.super j own.0 own.1)
@@ -127,9 +132,9 @@ module _ (opened : MirrorView) (t : Moment) (sound : IsConsistent t.mirror) (are
   opens_again : openings.IsOpenedFrom g made_of (super_of next.array.shared) (world_of next none_in_flight)
   opens_again = record {
     opened = opens.opened;
-    at = λ j. r.devices.from (opens.at j);
+    at = λ j. devices.from (opens.at j);
     super = λ j own e. let was = opens.super j own e in ap (λ (x : Stored). x.super) (as_read (opens.at j) (of_member (opens.at j) own was)) ∙ was;
-    all = λ k own e. by_option (r.devices.at k)
+    all = λ k own e. by_option (devices.at k)
         (λ gone. absurd (none-some own (sym (ap (λ (x : Stored). x.super) (at_none k gone)) ∙ e)))
         (λ j is. opens.all j own (sym (ap (λ (x : Stored). x.super) (at_some k j is)) ∙ e));
     content = λ j s low in_. opens.content j s low in_ ∙ sym (ap (λ (x : Stored). x.content s) (as_read (opens.at j) (member_at j in_)));
@@ -139,8 +144,19 @@ module _ (opened : MirrorView) (t : Moment) (sound : IsConsistent t.mirror) (are
         ∙ sym (ap (λ x. is_marked x (chunk_of g s)) (as_read (opens.at j) (member_at j (slot_of g (super_of next.array.shared) (world_of next none_in_flight) opens.opened j on))));
   }
 
-  pub reopens : Reopens g (super_of opened.array.shared) (history_of t) (super_of next.array.shared) (world_of next none_in_flight)
-  reopens = record { left = made_of; is_left = are_left; fit = r.devices.fit; opens = opens_again }
+  -- so that the superblock is the freshest of these
+  freshest : IsFreshest made_of (super_of next.array.shared)
+  freshest =
+      let fresh = opens_again.opened.freshest in
+      record {
+        at = opens_again.at fresh.at;
+        is = opens_again.super fresh.at (super_of next.array.shared) fresh.is;
+        greatest = λ k own e. let j = opens_again.all k own e in fresh.greatest j.0 own j.1;
+      }
+
+  pub reopens : (opened : MirrorView) → IsFit (super_of opened.array.shared) (super_of next.array.shared) t.failed_at
+      → Reopens g (super_of opened.array.shared) (history_of t) (super_of next.array.shared) (world_of next none_in_flight)
+  reopens opened fit = record { left = made_of; is_left = are_left; fit = fit; opens = opens_again }
 
 -- ---- lives
 pub geometry_kept : (es : List Event) (t last : Moment) → MirrorRun t es last → geometry_of last.mirror.array ≡ geometry_of t.mirror.array
@@ -160,9 +176,38 @@ model_life g m es (more ∷ rest) final last same sound are life =
       super_of next.array.shared,
       world_of next none_in_flight,
       model_run g es (opened_as m) t same life.2,
-      subst (λ x. Reopens x (super_of m.array.shared) (history_of t) (super_of next.array.shared) (world_of next none_in_flight)) kept (reopens m t along.0 along.1 next again),
-      model_life g next more rest final last (same_geometry m t along.0 along.1 again.before next.array again.devices again.opens.array ∙ kept) (consistent again.before next again.opens) (opened_read again.before next again.devices.honest again.opens) life.4,
+      subst (λ x. Reopens x (super_of m.array.shared) (history_of t) (super_of next.array.shared) (world_of next none_in_flight)) kept (reopens t along.0 along.1 next again.before again.devices again.opens m again.fit),
+      model_life g next more rest final last (same_geometry t along.0 along.1 again.before next.array again.devices again.opens.array ∙ kept) (consistent again.before next again.opens) (opened_read again.before next again.devices.honest again.opens) life.4,
     )
+
+-- ---- the array is as it was at the first opening
+pub life_geometry : (m : MirrorView) (es : List Event) (rest : List (List Event)) (final : MirrorView) (last : Moment) → IsConsistent m → AreReadAsKept m 0
+    → MirrorLife m es rest final last → geometry_of last.mirror.array ≡ geometry_of m.array
+life_geometry m es [] final last sound are life = geometry_kept es (opened_as m) last life.1
+life_geometry m es (more ∷ rest) final last sound are life =
+    let t = life.0 in
+    let next = life.1 in
+    let along = run_keeps es (opened_as m) t life.2 sound are in
+    let again = life.3 in
+    life_geometry next more rest final last (consistent again.before next again.opens) (opened_read again.before next again.devices.honest again.opens) life.4
+    ∙ same_geometry t along.0 along.1 again.before next.array again.devices again.opens.array
+    ∙ geometry_kept es (opened_as m) t life.2
+
+pub keeps_geometry : KeepsGeometry
+keeps_geometry before m start es rest final last life =
+    life_geometry m es rest final last (consistent before m start.opened) (opened_read before m start.honest start.opened) life
+
+-- ---- and when the next superblock is fit
+pub fits_when_there : FitsWhenThere
+fits_when_there before m start one es t r found next devices opens late =
+    let along = run_keeps es (opened_as m) t r (consistent before m start.opened) (opened_read before m start.honest start.opened) in
+    let g = geometry_of m.array in
+    let same = geometry_kept es (opened_as m) t r in
+    fits.fits_when_there g (super_of m.array.shared) (world_of m none_in_flight) (starts before m start) one es (history_of t)
+    (model_run g es (opened_as m) t refl r)
+    (made_of t along.0 along.1 next found devices opens) (super_of next.array.shared)
+    (subst (λ x. stops.IsLeft x (history_of t).now (made_of t along.0 along.1 next found devices opens)) same (are_left t along.0 along.1 next found devices opens))
+    (freshest t along.0 along.1 next found devices opens) late devices.recorded
 
 at_each : (P : Geometry → Super → runs.History → Type 0) → Always P → AtEachMoment P
 at_each P always before m start es rest final last life =

@@ -1,5 +1,5 @@
 -- One write to the device of a member.
-use Rattle.std.proofs.Common.{◌≡◌, ◌≢◌, ◌∙◌, ℕ, zero, suc, ◌*◌, ◌<◌, Bool, true, List, [], ◌∷◌, Some, length, get_or, map, set, ap, sym, refl, subst, arith, length-set}
+use Rattle.std.proofs.Common.{◌≡◌, ◌≢◌, ◌∙◌, ℕ, zero, suc, ◌*◌, ◌<◌, true, List, [], ◌∷◌, Some, length, get_or, map, set, ap, sym, refl, subst, arith, length-set}
 use Rattle.std.specs.List.{slice_get}
 use Rattle.std.proofs.lemmas.List.{map-set, length-map}
 use Rattle.std.proofs.lemmas.Option.{slice_get_within}
@@ -12,8 +12,8 @@ use Rattle.md_array.specs.View.{ArrayView, Disk, MemberView, MirrorView, disk_of
 use Rattle.md_array.specs.Consistency.{IsConsistent}
 use Rattle.md_array.specs.Fits.{Fits, FitsMember}
 use Rattle.md_array.specs.Members.{IsMember}
-use Rattle.md_array.specs.DeviceChanges.{StaysHonest}
-use Rattle.md_array.specs.DiskWrites.{AtDevice, IsFailed, LeavesOn, IsTried, IsWritten}
+use Rattle.md_array.specs.DeviceChanges.{LeavesOn, StaysHonest}
+use Rattle.md_array.specs.DiskWrites.{AtDevice, IsFailed, IsTried, IsWritten}
 use Rattle.md_array.proofs.InTurn.{disk_at}
 use Rattle.md_array.proofs.WorldsLists.{at_set_same}
 use Rattle.md_array.proofs.Listing.{same_listed}

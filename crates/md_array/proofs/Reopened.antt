@@ -100,8 +100,8 @@ super_on : (content : List ℕ) (v : Superblock) → ReadsSuper content true v �
 super_on content v r = record { fields = block_spells content v r; sound = subst NoFault (r.read.from_device refl) r.sound }
 
 -- ---- devices that are found again, and the array that they make
-module _ (opened : MirrorView) (t : Moment) (sound : IsConsistent t.mirror) (are : AreReadAsKept t.mirror t.failed_at) (before : List Disk) (is : ArrayView)
-    (r : AreFoundAgain opened t before is.shared) (o : IsArrayOf before is) where
+module _ (t : Moment) (sound : IsConsistent t.mirror) (are : AreReadAsKept t.mirror t.failed_at) (before : List Disk) (is : ArrayView)
+    (r : AreFoundAgain t before is.shared) (o : IsArrayOf before is) where
   abbrev was : ArrayView
   was = t.mirror.array
 
@@ -212,7 +212,7 @@ module _ (opened : MirrorView) (t : Moment) (sound : IsConsistent t.mirror) (are
       let x = again at_member at_first found_first n.0 n.1 in
       let same : x.info ≡ first.0 = got_same o.infos at_first x.info first.0 x.listed first.1 in
       let events : x.info.superblock.events ≡ is.shared.events = ap (λ (info : MemberInfo). info.superblock.events) same ∙ ap (λ (v : Superblock). v.events) first.2 in
-      let recorded : t.failed_at ≤ is.shared.events = r.fit.recorded in
+      let recorded : t.failed_at ≤ is.shared.events = r.recorded in
       width at_member at_first found_first n.0 n.1 (omega arith)
 
   same_size : is.chunks.size ≡ was.chunks.size

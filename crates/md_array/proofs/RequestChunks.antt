@@ -1,8 +1,8 @@
 -- The chunks of a request's sectors.
-use Rattle.std.proofs.Common.{◌≡◌, ◌∙◌, ℕ, ◌+◌, ◌-◌, ◌*◌, ◌/◌, ◌<◌, ◌≤◌, true, arith, sym, ap, subst, inl, inr}
+use Rattle.std.proofs.Common.{◌≡◌, ℕ, ◌+◌, ◌-◌, ◌*◌, ◌/◌, ◌<◌, ◌≤◌, arith, subst, inl, inr}
 use Rattle.std.proofs.Math.Nat.{div-mul-le_self, le-div_iff_mul-le, mul-div_left}
 use Rattle.std.proofs.lemmas.Bool.{cases_lt}
-use Rattle.md_array.specs.View.{ArrayView, MemberView, PendingView}
+use Rattle.md_array.specs.View.{ArrayView, PendingView}
 use Rattle.md_array.specs.Members.{AllInSync, IsFirstInSyncWithout}
 use Rattle.md_array.specs.Requests.{request_sectors}
 use Rattle.md_array.specs.WritingMember.{HasMarksFrom, HasMarksOf}

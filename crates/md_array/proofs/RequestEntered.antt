@@ -1,5 +1,5 @@
 -- A request is entered: what becomes of the array step by step.
-use Rattle.std.proofs.Common.{◌≡◌, ◌∙◌, ℕ, ◌+◌, ◌^◌, ◌==◌, Bool, true, false, cond, not, List, [], ◌∷◌, ◌++◌, Option, Some, None, refl, sym, ap, subst, inl, inr}
+use Rattle.std.proofs.Common.{◌≡◌, ◌∙◌, ℕ, ◌+◌, ◌^◌, ◌==◌, Bool, true, false, cond, not, List, [], ◌∷◌, ◌++◌, refl, sym, ap, inl, inr}
 use Rattle.std.proofs.lemmas.Bool.{cond-false, cond-true, eq-eqb, ne_eqb}
 use Rattle.std.proofs.lemmas.Bool.Decides.{eqb_tells}
 use Rattle.md_bitmap.specs.Marks.{Bitmap}
@@ -9,9 +9,9 @@ use Rattle.md_super.specs.declared.superblock.Superblock.{Superblock}
 use Rattle.md_array.specs.declared.extent.Extent.{Extent}
 use Rattle.md_array.specs.declared.step_fault.BeginFault.{BeginFault}
 use Rattle.md_array.specs.declared.step_fault.BeginFault.TheVariants.{NoMemory, NumbersSpent}
-use Rattle.md_array.specs.View.{ArrayView, Disk, MirrorView}
+use Rattle.md_array.specs.View.{ArrayView, Disk}
 use Rattle.md_array.specs.Members.{clean_offset, is_degraded}
-use Rattle.md_array.specs.Rising.{HasSpentEvents, risen}
+use Rattle.md_array.specs.Rising.{risen}
 use Rattle.md_array.proofs.Profiles.{same_profile}
 use Rattle.md_array.specs.Beginning.{HasMarked, IsInRange, MayBeginAt, RefusesBegin, active_offset, counted, has_to_rise, with_request}
 

@@ -1,5 +1,5 @@
 -- A member's marks are stored by the writes of its bitmap.
-use Rattle.std.proofs.Common.{ℕ, ◌*◌, Bool, List, Result, Ok, Err, OnOk, OnErr, refl}
+use Rattle.std.proofs.Common.{ℕ, ◌*◌, Result, Ok, Err, OnOk, OnErr, refl}
 use Rattle.md_device.specs.declared.device.Device.{Ghosts}
 use Rattle.md_device.specs.Splice.{SameOutside}
 use Rattle.md_bitmap.specs.declared.header.BitmapHeader.{BitmapHeader}

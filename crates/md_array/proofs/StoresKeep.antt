@@ -1,6 +1,6 @@
 -- A mirror stays consistent, and its requests its own, where storing something on a member is refused or fails; and where it fails,
 -- that is the model's event.
-use Rattle.std.proofs.Common.{◌≡◌, ◌<◌, ℕ, inl, inr, sym, subst}
+use Rattle.std.proofs.Common.{◌<◌, ℕ, inl, inr, sym, subst}
 use Rattle.md_members.specs.Areas.{bitmap_sectors}
 use Rattle.md_model.specs.Events.{Event}
 use Rattle.md_array.specs.declared.step_fault.StoreFault.{StoreFault}
@@ -11,7 +11,7 @@ use Rattle.md_array.specs.Events.{Happens, HappensIfOldNewOrNone, IfStoringFaile
 use Rattle.md_array.specs.Recording.{RefusesRecord, super_write}
 use Rattle.md_array.specs.Requests.{IsPending}
 use Rattle.md_array.specs.StoringMarks.{RefusesMarkSector}
-use Rattle.md_array.specs.Trying.{Refuses, FailsWriting, HaltsWriting}
+use Rattle.md_array.specs.Trying.{Refuses}
 use Rattle.md_array.proofs.AfterFailure.{failed_is_consistent, failed_is_pending, halted_is_consistent, halted_is_pending}
 use Rattle.md_array.proofs.MarksFailed.{store_marks_fails_happens}
 use Rattle.md_array.proofs.SuperFailed.{record_fails_happens}

@@ -14,7 +14,7 @@ use Rattle.md_model.specs.Devices.{Stored}
 use Rattle.md_model.specs.Worlds.{Request, World}
 use Rattle.md_model.specs.Steps.{has_bit, recorded, recorded_device, super_for}
 use Rattle.md_model.specs.Events.{Event, Step}
-use Rattle.md_model.proofs.Between.{between_step}
+use Rattle.md_model.proofs.Between.{between_step, in_flight_step}
 use Rattle.md_model.proofs.Puts.{put-self}
 use Rattle.md_array.specs.View.{ArrayView, Disk, MemberView, MirrorView, PendingView}
 use Rattle.md_array.specs.Members.{is_recorded}
@@ -24,6 +24,7 @@ use Rattle.md_array.specs.Recording.{IsReadable, Records, super_write}
 use Rattle.md_array.specs.Requests.{IsPending}
 use Rattle.md_array.specs.Events.{Happens}
 use Rattle.md_array.specs.Worlds.{block_on, geometry_of, kind_of, stored_of, super_in, super_of, world_of, world_on}
+use Rattle.md_array.proofs.Honesty.{tried_honest}
 use Rattle.md_array.proofs.OneMember.{ChangesMember, changed_in_flight, changed_is_consistent, changed_is_pending, changed_world, member_there, stored_there}
 use Rattle.md_array.proofs.PartsApart.{header_beside_super, parts_of, super_alone}
 use Rattle.md_array.proofs.ReadAsKept.{changed_read, own_written}
@@ -152,10 +153,13 @@ module _ (k : ℕ) (old new : MirrorView) (is : IsConsistent old) (r : Records k
       let e = got_within new.disks k (omega arith) in
       let happens = step d.0 e.0 d.1 e.1 (honest k d.0 d.1) requests in
       record {
+        honest = tried_honest k (super_write a m) old.disks new.disks r.disks.tried honest;
+        writes = (super_write a m, r.disks);
         in_flight = changed_in_flight k m n (super_write a m) old new changes requests in_flight;
         geometry = ap geometry_of r.array;
         step = happens;
         content = λ x y holds becomes. between_step (geometry_of a) (world_of old requests) (Event.Record k) (world_of new requests) x y happens becomes holds;
+        written = in_flight_step (geometry_of a) (world_of old requests) (Event.Record k) (world_of new requests) happens;
         sound = recorded_is_consistent;
         read = λ failed_at. changed_read k m n (super_write a m) old new failed_at changes (λ d' e' before after. read_recorded failed_at d' e' before after (honest k d' before));
       }

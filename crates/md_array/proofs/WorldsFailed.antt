@@ -13,18 +13,19 @@ use Rattle.md_model.specs.Failures.{MayFail}
 use Rattle.md_model.specs.Events as events
 use Rattle.md_model.specs.Events.{Event, Step}
 use Rattle.md_model.specs.Runs.{failed_after}
-use Rattle.md_model.proofs.Between.{between_step}
+use Rattle.md_model.proofs.Between.{between_step, in_flight_step}
 use Rattle.md_writes.specs.Writes.{Write}
 use Rattle.md_array.specs.View.{ArrayView, Disk, MemberView, MirrorView}
 use Rattle.md_array.specs.Members.{IsMember, is_degraded, is_in_sync_as, is_recorded}
 use Rattle.md_array.specs.Consistency.{IsConsistent}
 use Rattle.md_array.specs.DiskWrites.{AtDevice, IsTried}
-use Rattle.md_array.specs.Events.{Does}
+use Rattle.md_array.specs.Events.{Does, WritesOnce}
 use Rattle.md_array.specs.ReadAsKept.{AreReadAsKept, HasOwnSuper}
 use Rattle.md_array.specs.Requests.{AreInFlight}
 use Rattle.md_array.specs.Rising.{failed, made_due, made_faulty, risen, without}
 use Rattle.md_array.specs.Trying.{FailsWriting}
-use Rattle.md_array.specs.Worlds.{geometry_of, kind_of, world_of, world_on}
+use Rattle.md_array.specs.Worlds.{AreHonest, geometry_of, kind_of, world_of, world_on}
+use Rattle.md_array.proofs.Honesty.{tried_honest}
 use Rattle.md_array.proofs.AfterFailure.{failed_is_consistent}
 use Rattle.md_array.proofs.OneMember.{member_there}
 use Rattle.md_array.proofs.ReadAsKept.{failed_read}
@@ -104,15 +105,18 @@ module _ (k : ℕ) (w : Write) (old new : MirrorView) (is : IsConsistent old) (f
       member_fails = (full, may_fail, full_failed, world_failed)
 
     -- by such an event the mirror goes to its next world
-    pub does_failing : (e : Event) → AreInFlight a requests → Step (geometry_of a) before e (world_of new requests)
+    pub does_failing : (e : Event) → AreHonest old.disks → WritesOnce e old.disks new.disks → AreInFlight a requests → Step (geometry_of a) before e (world_of new requests)
         → ((failed_at : ℕ) → failed_after e (world_of new requests) failed_at ≡ new.array.shared.events)
         → AtDevice k old.disks new.disks (λ d n. HasOwnSuper a.shared m.superblock d.content → HasOwnSuper a.shared m.superblock n.content)
         → Does old requests e new requests
-    does_failing e in_flight step after keeps = record {
+    does_failing e honest writes in_flight step after keeps = record {
+      honest = tried_honest k w old.disks new.disks fails.disks.tried honest;
+      writes = writes;
       in_flight = subst (λ (x : ArrayView). AreInFlight x requests) (sym array_failed) in_flight;
       geometry = geometry_failed;
       step = step;
       content = λ x y holds becomes. between_step (geometry_of a) before e (world_of new requests) x y step becomes holds;
+      written = in_flight_step (geometry_of a) before e (world_of new requests) step;
       sound = failed_is_consistent k w old new is fails;
       read = λ failed_at are. subst (AreReadAsKept new) (sym (after failed_at ∙ ap (λ (x : ArrayView). x.shared.events) array_failed))
           (subst (λ (x : ArrayView). AreReadAsKept (record { disks = new.disks; array = x }) (a.shared.events + 1)) (sym array_failed)

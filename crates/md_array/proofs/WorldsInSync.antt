@@ -1,6 +1,5 @@
 -- The members in sync of an array are those of its world.
-use Rattle.std.proofs.Common.{◌≡◌, ℕ, true, true≢false, sym, ap, ◌∙◌, List, Option}
-use Rattle.md_assembly.specs.States.{is_in_sync}
+use Rattle.std.proofs.Common.{◌≡◌, ℕ, true≢false, sym, ap, ◌∙◌, List, Option}
 use Rattle.md_model.specs.States as model
 use Rattle.md_model.specs.Worlds as worlds
 use Rattle.md_array.specs.View.{Disk, ArrayView, MemberView}

@@ -8,14 +8,12 @@ use Rattle.md_array.specs.declared.step_fault.WriteMemberFault.TheVariants.{Halt
 use Rattle.md_model.specs.Events.{Event}
 use Rattle.md_array.specs.View.{MirrorView, PendingView}
 use Rattle.md_array.specs.Consistency.{IsConsistent}
-use Rattle.md_array.specs.Events.{FinishHappens, HappensAmong, IfWritingFailed, WriteMemberHappens}
+use Rattle.md_array.specs.Events.{FinishHappens, HappensAmong, IfWritingFailed}
 use Rattle.md_array.specs.Finishing.{Finishes, RefusesFinish}
 use Rattle.md_array.specs.Requests.{IsPending}
-use Rattle.md_array.specs.Trying.{Refuses}
-use Rattle.md_array.specs.WritingMember.{RefusesWriteMember, WritesTo, data_write}
+use Rattle.md_array.specs.WritingMember.{RefusesWriteMember, data_write}
 use Rattle.md_array.proofs.AfterFailure.{failed_is_consistent, failed_is_pending, halted_is_consistent, halted_is_pending}
 use Rattle.md_array.proofs.DataFailed.{write_member_fails_happens}
-use Rattle.md_array.proofs.DataWritten.{write_member_happens, written_is_consistent, written_is_pending, written_keeps_pending}
 use Rattle.md_array.proofs.Finished.{finish_happens, finished_is_consistent, finished_keeps_pending}
 use Rattle.md_array.proofs.StoresKeep.{refused_is_consistent, refused_is_pending}
 

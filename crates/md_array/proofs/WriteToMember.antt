@@ -1,10 +1,9 @@
 -- A request's bytes go to a member.
-use Rattle.std.proofs.Common.{◌≡◌, ◌∙◌, ℕ, ◌+◌, ◌*◌, ◌/◌, ◌%◌, ◌<◌, ◌≤◌, ◌&&◌, Bool, true, false, not, cond, List, [], ◌∷◌, ◌++◌, length, Option, Some, None, zero, suc, arith, refl, sym, ap, subst, inl, inr}
+use Rattle.std.proofs.Common.{◌≡◌, ℕ, ◌+◌, ◌*◌, ◌<◌, ◌≤◌, true, not, List, [], ◌∷◌, ◌++◌, length, Option, Some, None, arith, refl, sym, ap, subst, inr}
 use Rattle.std.specs.Prelude.{option_map, slice_get}
 use Rattle.std.proofs.lemmas.Bool.{and_from}
 use Rattle.std.proofs.lemmas.Option.{same_Some}
 use Rattle.md_super.specs.declared.superblock.Superblock.{Superblock}
-use Rattle.md_inflight.specs.Inflight.{lookup}
 use Rattle.md_array.specs.declared.step_fault.WriteMemberFault.{WriteMemberFault}
 use Rattle.md_array.specs.declared.step_fault.WriteMemberFault.TheVariants.{AlreadyWritten, Halted, MemberFailed, NotActive, NotMarked, NotRecorded}
 use Rattle.md_array.specs.View.{ArrayView, Disk, MemberView, MirrorView, PendingView}
@@ -13,7 +12,7 @@ use Rattle.md_array.specs.Members.{IsMember}
 use Rattle.md_array.specs.Consistency.{IsConsistent}
 use Rattle.md_array.specs.DiskWrites.{IsFailed, IsWritten}
 use Rattle.md_array.specs.Failing.{AnswersWrite}
-use Rattle.md_array.specs.Requests.{IsPending, lacks, request_sectors}
+use Rattle.md_array.specs.Requests.{IsPending, lacks}
 use Rattle.md_array.specs.WritingMember.{MayWrite, RefusesWriteMember, WritesTo}
 
 -- the superblock is that of member k

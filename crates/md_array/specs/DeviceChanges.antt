@@ -1,10 +1,19 @@
 -- Devices before and after a call.
-use Rattle.std.specs.Prelude.{◌≡◌, ℕ, ◌<◌, ◌≤◌, List, length, slice_get, Some}
+use Rattle.std.specs.Prelude.{◌≡◌, ℕ, ◌<◌, ◌≤◌, true, List, length, slice_get, Some}
+use Rattle.md_device.specs.Stops.{LeavesMore}
 use Rattle.md_array.specs.View.{Disk}
 
 -- a device is what it was
 abbrev pub IsUnchanged : Disk → Disk → Type 0
 IsUnchanged old new = new.content ≡ old.content
+
+-- between two moments of it a stop leaves what has P
+abbrev pub LeavesOn : (List ℕ → Type 0) → Disk → Disk → Type 0
+LeavesOn P d e = LeavesMore d.stops e.stops P
+
+-- and nothing but what it was
+abbrev pub LeavesAsWas : Disk → Disk → Type 0
+LeavesAsWas d e = d.honest ≡ true → LeavesOn (λ left. left ≡ d.content) d e
 
 -- it stays honest or not, and its failures are counted
 pub record StaysHonest (old new : Disk) : Type 0 where
@@ -20,10 +29,11 @@ pub record AreSame (before after : List Disk) : Type 0 where
   pub as_many : length after ≡ length before
   pub honest : EachPair (λ _. StaysHonest) before after
 
--- nothing was written
+-- nothing was written, and a stop leaves each as it was
 pub record IsUntouched (before after : List Disk) : Type 0 where
   pub same : AreSame before after
   pub content : EachPair (λ _. IsUnchanged) before after
+  pub within : EachPair (λ _. LeavesAsWas) before after
 
 -- a call on device k failed
 abbrev pub FailsAt : List Disk → List Disk → ℕ → Type 0

@@ -2,18 +2,13 @@
 use Rattle.std.specs.Prelude.{◌≡◌, ◌≢◌, ℕ, ◌*◌, ◌<◌, true, List, [], ◌∷◌, length, slice_get, Some}
 use Rattle.md_device.specs.Splice.{SameOutside}
 use Rattle.md_device.specs.Device.{written}
-use Rattle.md_device.specs.Stops.{LeavesMore}
 use Rattle.md_writes.specs.Writes.{IsAnyIn, IsCutShort, Write}
 use Rattle.md_array.specs.View.{Disk}
-use Rattle.md_array.specs.DeviceChanges.{StaysHonest}
+use Rattle.md_array.specs.DeviceChanges.{LeavesOn, StaysHonest}
 
 -- of device k before and after
 abbrev pub AtDevice : ℕ → List Disk → List Disk → (Disk → Disk → Type 0) → Type 0
 AtDevice k before after Related = (d e : Disk) → slice_get before k ≡ Some d → slice_get after k ≡ Some e → Related d e
-
--- between them a stop leaves what has P
-abbrev pub LeavesOn : (List ℕ → Type 0) → Disk → Disk → Type 0
-LeavesOn P d e = LeavesMore d.stops e.stops P
 
 -- No device but k was used, and at most the write's range was changed there.
 pub record IsTried (k : ℕ) (w : Write) (before after : List Disk) : Type 0 where

@@ -1,8 +1,8 @@
 -- The steps as events of the model: what each makes of the world, where devices do what they answer.
-use Rattle.std.specs.Prelude.{◌≡◌, ◌⊎◌, ⊤, ℕ, List, None, Option, Result, MatchResult}
+use Rattle.std.specs.Prelude.{◌≡◌, ◌⊎◌, ⊤, ℕ, List, length, None, Option, Result, MatchResult}
 use Rattle.md_model.specs.Sectors.{put}
 use Rattle.md_model.specs.Worlds.{Request}
-use Rattle.md_model.specs.Content.{Content, Becomes, HoldsBetween}
+use Rattle.md_model.specs.Content.{Content, Becomes, HoldsBetween, HoldsInFlight}
 use Rattle.md_model.specs.Events.{Event, Step}
 use Rattle.md_model.specs.Runs.{failed_after}
 use Rattle.md_array.specs.declared.step_fault.StoreFault.{StoreFault}
@@ -12,20 +12,44 @@ use Rattle.md_array.specs.declared.step_fault.WriteMemberFault.TheVariants as wr
 use Rattle.md_array.specs.View.{Disk, MemberView, MirrorView, PendingView}
 use Rattle.md_array.specs.Members.{IsMember}
 use Rattle.md_array.specs.Consistency.{IsConsistent}
-use Rattle.md_array.specs.DiskWrites.{AtDevice}
+use Rattle.md_writes.specs.Writes.{Write}
+use Rattle.md_array.specs.DiskWrites.{AtDevice, IsFailed, IsWritten}
 use Rattle.md_array.specs.ReadAsKept.{AreReadAsKept}
 use Rattle.md_array.specs.Recording.{super_write}
 use Rattle.md_array.specs.Requests.{AreInFlight, among, request_of}
 use Rattle.md_array.specs.Worlds.{AreHonest, world_of, geometry_of, super_in, block_on}
 
+-- The devices before and after an event: one is written at most, and once. Of a resync's events no call is made yet.
+abbrev pub WritesOnce : Event → List Disk → List Disk → Type 0
+WritesOnce (Event.Record k) before after = (w : Write) × IsWritten k w before after
+WritesOnce (Event.StoreMarks k b) before after = (w : Write) × (length w.bytes ≡ 512) × IsWritten k w before after
+WritesOnce (Event.WriteMember n k) before after = (w : Write) × IsWritten k w before after
+WritesOnce (Event.RecordFails k) before after = (w : Write) × IsFailed k w before after
+WritesOnce (Event.StoreMarksFails k b) before after = (w : Write) × IsFailed k w before after
+WritesOnce (Event.WriteMemberFails n k) before after = (w : Write) × IsFailed k w before after
+WritesOnce (Event.CopyFails k c) before after = Unit {0}
+WritesOnce (Event.Copy from k s) before after = Unit {0}
+WritesOnce Event.Resynced before after = Unit {0}
+WritesOnce Event.Unresynced before after = Unit {0}
+WritesOnce Event.MakeClean before after = after ≡ before
+WritesOnce (Event.Begin n p) before after = after ≡ before
+WritesOnce (Event.Finish n) before after = after ≡ before
+WritesOnce (Event.ClearIdle c) before after = after ≡ before
+WritesOnce (Event.Fail k) before after = after ≡ before
+
 -- By the event the mirror goes from its world with these requests in flight to that with those. A content that the members in
--- sync held before it, they hold after it, changed as the event says. And an opening reads what is kept, if it did before.
+-- sync held before it, they hold after it, changed as the event says; and who was written of a request in flight has its bytes.
+-- An opening reads what is kept, if it did before. The devices do what they answer still, and one is written at most: what a
+-- stop within that leaves is of its write (`stops_at_steps`).
 pub record Does (old : MirrorView) (before : ℕ → Option Request) (e : Event) (new : MirrorView) (after : ℕ → Option Request) : Type 0 where
+  pub honest : AreHonest new.disks
+  pub writes : WritesOnce e old.disks new.disks
   pub in_flight : AreInFlight new.array after
   pub geometry : geometry_of new.array ≡ geometry_of old.array
   pub step : Step (geometry_of old.array) (world_of old before) e (world_of new after)
   pub content : (a b : Content) → HoldsBetween (geometry_of old.array) a (world_of old before) → Becomes (geometry_of old.array) e (world_of old before) a b
       → HoldsBetween (geometry_of old.array) b (world_of new after)
+  pub written : HoldsInFlight (world_of old before) → HoldsInFlight (world_of new after)
   pub sound : IsConsistent new
   pub read : (failed_at : ℕ) → AreReadAsKept old failed_at → AreReadAsKept new (failed_after e (world_of new after) failed_at)
 

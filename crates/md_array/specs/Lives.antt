@@ -1,11 +1,12 @@
 -- One opening of a mirror's devices after another: runs, each but the last ended by a stop, and what the next mirror is made of.
-use Rattle.std.specs.Prelude.{◌≡◌, ◌⊎◌, ℕ, ◌*◌, ◌<◌, false, List, [], ◌∷◌, length, Option, slice_get, Some}
+use Rattle.std.specs.Prelude.{◌≡◌, ◌⊎◌, ℕ, ◌*◌, ◌<◌, ◌≤◌, false, List, [], ◌∷◌, length, Option, slice_get, Some}
 use Rattle.md_model.specs.Sectors.{Geometry, chunk_of}
 use Rattle.md_device.specs.Splice.{SameOutside}
 use Rattle.md_super.specs.declared.superblock.Superblock.{Superblock}
 use Rattle.md_members.specs.Areas.{bitmap_sectors}
 use Rattle.md_model.specs.Devices.{Super, is_marked}
 use Rattle.md_model.specs.Events.{Event}
+use Rattle.md_model.specs.Fits.{HasOneView}
 use Rattle.md_model.specs.Content.{Content, BecomesAtOpening, Holds}
 use Rattle.md_model.specs.Runs.{History}
 use Rattle.md_model.specs.Stops.{IsFit}
@@ -15,7 +16,7 @@ use Rattle.md_array.specs.Members.{IsMember}
 use Rattle.md_array.specs.DiskWrites.{IsTried}
 use Rattle.md_array.specs.HalfOpened.{IsHalfMarked}
 use Rattle.md_array.specs.Opening.{IsArrayOf, IsOpenedFrom}
-use Rattle.md_array.specs.ReadAsKept.{chunk_size_on}
+use Rattle.md_array.specs.ReadAsKept.{AreReadAsKept, chunk_size_on}
 use Rattle.md_array.specs.Requests.{IsPending, among}
 use Rattle.md_array.specs.Runs.{IsStart, MirrorRun, MirrorRunWith, Moment, history_of, opened_as}
 use Rattle.md_array.specs.Worlds.{AreHonest, from_super, geometry_of, none_in_flight, stored_of, super_of, world_of}
@@ -53,8 +54,9 @@ pub record IsFoundAgain (a : ArrayView) (left now : List Disk) (k j : ℕ) : Typ
   pub at_now : slice_get now j ≡ Some disk_now
   pub as_left : IsAsLeft a member disk_left.content disk_now.content
 
--- These are some of the devices that were left, in any order, and this superblock of an array of them is fit.
-pub record AreFoundAgain (opened : MirrorView) (t : Moment) (before : List Disk) (shared : Superblock) : Type 0 where
+-- These are some of the devices that were left, in any order, and this superblock of an array of them has recorded the last
+-- failure.
+pub record AreFoundAgain (t : Moment) (before : List Disk) (shared : Superblock) : Type 0 where
   pub left : List Disk
   pub is_left : IsLeft t left
   pub honest : AreHonest before
@@ -62,13 +64,14 @@ pub record AreFoundAgain (opened : MirrorView) (t : Moment) (before : List Disk)
   pub at : ℕ → Option ℕ  -- and where each of those is now, if it is there
   pub found : (j : ℕ) → j < length before → at (from j) ≡ Some j
   pub again : (k j : ℕ) → at k ≡ Some j → IsFoundAgain t.mirror.array left before k j
-  pub fit : IsFit (super_of opened.array.shared) (super_of shared) t.failed_at
+  pub recorded : t.failed_at ≤ shared.events
 
--- The next mirror is made of such devices.
+-- The next mirror is made of such devices, and its superblock is fit.
 pub record IsReopened (opened : MirrorView) (t : Moment) (next : MirrorView) : Type 0 where
   pub before : List Disk
-  pub devices : AreFoundAgain opened t before next.array.shared
+  pub devices : AreFoundAgain t before next.array.shared
   pub opens : IsOpenedFrom before next
+  pub fit : IsFit (super_of opened.array.shared) (super_of next.array.shared) t.failed_at
 
 -- A mirror's life: events, a stop and an opening, events again, and so on. The last opening gave the mirror final.
 abbrev pub MirrorLife : MirrorView → List Event → List (List Event) → MirrorView → Moment → Type 0
@@ -106,11 +109,35 @@ KeepsContent =
     → (es : List Event) (rest : List (List Event)) (final : MirrorView) (last : Moment) (b : Content) → MirrorLifeWith m a es rest final last b
     → Holds (geometry_of m.array) b (world_of last.mirror last.requests)
 
--- An opening of such devices that came to no end leaves each as it was left.
+-- At each moment of each life an opening would read of the devices what the mirror keeps of them, and the array has the chunks
+-- and the roles of the first opening.
+abbrev pub IsReadAsKeptInLives : Type 0
+IsReadAsKeptInLives =
+    (before : List Disk) (m : MirrorView) → IsStart before m
+    → (es : List Event) (rest : List (List Event)) (final : MirrorView) (last : Moment) → MirrorLife m es rest final last
+    → AreReadAsKept last.mirror last.failed_at
+
+abbrev pub KeepsGeometry : Type 0
+KeepsGeometry =
+    (before : List Disk) (m : MirrorView) → IsStart before m
+    → (es : List Event) (rest : List (List Event)) (final : MirrorView) (last : Moment) → MirrorLife m es rest final last
+    → geometry_of last.mirror.array ≡ geometry_of m.array
+
+-- The next superblock is fit where it is as new as the one of the opening before and has recorded the last failure, if no two
+-- superblocks of that opening were as new and told of other roles.
+abbrev pub FitsWhenThere : Type 0
+FitsWhenThere =
+    (before : List Disk) (m : MirrorView) → IsStart before m → HasOneView (super_of m.array.shared) (world_of m none_in_flight).stored
+    → (es : List Event) (t : Moment) → MirrorRun (opened_as m) es t
+    → (found : List Disk) (next : MirrorView) → AreFoundAgain t found next.array.shared → IsOpenedFrom found next
+    → m.array.shared.events ≤ next.array.shared.events
+    → IsFit (super_of m.array.shared) (super_of next.array.shared) t.failed_at
+
+-- An opening of such devices that came to no end leaves each as it was left, if its superblock has recorded the last failure.
 abbrev pub StaysAsLeft : Type 0
 StaysAsLeft =
     (before : List Disk) (m : MirrorView) → IsStart before m
     → (es : List Event) (rest : List (List Event)) (final : MirrorView) (last : Moment) → MirrorLife m es rest final last
-    → (found : List Disk) (a : ArrayView) (devices : AreFoundAgain final last found a.shared) → IsArrayOf found a
+    → (found : List Disk) (a : ArrayView) (devices : AreFoundAgain last found a.shared) → IsArrayOf found a
     → (k j : ℕ) (at : devices.at k ≡ Some j) (n : MemberView) (new : Disk) → IsMember a j n → IsHalfMarked a n (devices.again k j at).disk_now new
     → IsAsLeft last.mirror.array (devices.again k j at).member (devices.again k j at).disk_left.content new.content

@@ -1,5 +1,5 @@
 -- What a stop within a call leaves of a mirror's devices.
-use Rattle.std.specs.Prelude.{◌≡◌, ◌≢◌, ◌⊎◌, ℕ, List, [], ◌∷◌, drop, length, slice_get, Some}
+use Rattle.std.specs.Prelude.{◌≡◌, ◌≢◌, ◌⊎◌, ℕ, List, [], ◌∷◌, drop, length, map, slice_get, Some}
 use Rattle.md_device.specs.Device.{written}
 use Rattle.md_writes.specs.Writes.{IsAnyIn, IsCutShort, Write}
 use Rattle.md_array.specs.View.{Disk}
@@ -20,6 +20,11 @@ pub record IsLeftBut (k : ℕ) (P : List ℕ → List ℕ → Type 0) (before : 
   pub as_many : length left ≡ length before
   pub others : (j : ℕ) → j ≢ k → (d : Disk) (c : List ℕ) → slice_get before j ≡ Some d → slice_get left j ≡ Some c → c ≡ d.content
   pub this : (d : Disk) (c : List ℕ) → slice_get before k ≡ Some d → slice_get left k ≡ Some c → P d.content c
+
+-- A stop at any moment of a call that uses no device leaves each as it was.
+abbrev pub StopsInMemory : Type 0
+StopsInMemory =
+    (disks : List Disk) (left : List (List ℕ)) → MayAllBeLeft disks disks left → left ≡ map (λ d. d.content) disks
 
 -- A stop at any moment of a step that writes to device k leaves every other as it was, and k with each sector of the write as it
 -- was or as written;

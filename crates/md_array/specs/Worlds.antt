@@ -1,5 +1,5 @@
 -- The mirror as the array's world: each device's bytes are read for what assembly, marks and data are.
-use Rattle.std.specs.Prelude.{◌≡◌, ℕ, ◌+◌, ◌*◌, Bool, true, false, cond, ◌&&◌, not, ◌==◌, eqb, nat_lt, nat_le, bit_and, ◌-◌, ◌^◌, List, [], length, drop, slice_get, slice_index_or, Option, Some, None, ℤ, pos, negsuc, ◌+ℤ◌, option_map, unwrap_or}
+use Rattle.std.specs.Prelude.{◌≡◌, ℕ, ◌+◌, ◌*◌, Bool, true, false, cond, ◌&&◌, not, ◌==◌, eqb, nat_lt, nat_le, bit_and, ◌^◌, List, [], length, drop, slice_get, slice_index_or, Option, Some, None, ℤ, pos, negsuc, ◌+ℤ◌, option_map, unwrap_or}
 use Rattle.std.specs.List.{list_any}
 use Rattle.std.specs.Str.{bytes_eq}
 use Rattle.md_model.specs.Sectors.{Geometry}

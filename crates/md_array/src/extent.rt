@@ -1,7 +1,8 @@
 // What a request in flight holds of the array.
-ghost use Rattle.std.specs.Prelude.{◌≡◌};
+ghost use Rattle.std.specs.Prelude.{◌≡◌, []};
 
-use md_inflight::Span;
+use md_inflight::{Inflight, Span};
+use std::alloc::Global;
 
 /// The sectors of the array that a request writes.
 #[derive(Clone, Copy, Debug)]
@@ -26,4 +27,11 @@ impl Span for Extent {
     {
         self.sectors
     }
+}
+
+/// No request in flight. The first one gets the number 0.
+pub(crate) fn no_requests(alloc: Global) -> Inflight<Extent>
+    ensures { result ≡ record { entries = []; next = 0 } }
+{
+    Inflight::new(alloc)
 }

@@ -10,9 +10,10 @@ ghost use Rattle.md_model.specs.Worlds.{IsInSync};
 ghost use Rattle.md_array.specs.Members.{IsMember};
 ghost use Rattle.md_array.specs.View.{Disk, MemberView, MirrorView};
 ghost use Rattle.md_array.specs.Opening.{IsOpenedFrom};
-ghost use Rattle.md_array.specs.Lives.{AtEachMoment, ContentGoesAlong, KeepsContent, StaysAsLeft};
+ghost use Rattle.md_array.specs.ReadAsKept.{AreReadAsKept};
+ghost use Rattle.md_array.specs.Lives.{AtEachMoment, ContentGoesAlong, FitsWhenThere, IsReadAsKeptInLives, KeepsContent, KeepsGeometry, StaysAsLeft};
 ghost use Rattle.md_array.specs.Runs.{HasContent};
-ghost use Rattle.md_array.specs.StopsWithin.{StopsAtFailure, StopsAtSector, StopsAtWrite};
+ghost use Rattle.md_array.specs.StopsWithin.{StopsAtFailure, StopsAtSector, StopsAtWrite, StopsInMemory};
 ghost use Rattle.md_array.specs.Worlds.{AreHonest, geometry_of, none_in_flight, super_of, world_of, world_on};
 
 /// A mirror that was opened from devices that do what they answer is an opened world of the model, by
@@ -30,6 +31,8 @@ pub fn opening()
     ensures listed { (before : List Disk) (m : MirrorView) → AreHonest before → IsOpenedFrom before m
         → (k : ℕ) (mv : MemberView) → IsMember m.array k mv → (s : ℕ) → s < m.array.chunks.size
         → (((world_of m none_in_flight).stored k).listed s ≡ true) ↔ IsBad mv.bad (mv.superblock.data_offset + s) }
+    ensures read { (before : List Disk) (m : MirrorView) → AreHonest before → IsOpenedFrom before m → AreReadAsKept m 0 }
+    ensures honest { (before : List Disk) (m : MirrorView) → AreHonest before → IsOpenedFrom before m → AreHonest m.disks }
 {}
 
 /// What looks back, at each moment of a mirror's life. It was opened from devices that do what they
@@ -64,17 +67,32 @@ pub fn every_run()
     ensures has_content { HasContent }
     ensures content_along { ContentGoesAlong }
     ensures keeps_content { KeepsContent }
+
+    // An opening would read of the devices what the mirror keeps of them; chunks and roles are those of the
+    // first opening.
+    ensures read_as_kept { IsReadAsKeptInLives }
+    ensures keeps_geometry { KeepsGeometry }
+{}
+
+/// When the superblock of the next opening is fit: it is enough that one of its devices is as new as the opening
+/// before and has recorded the last failure, if no two superblocks of that opening were as new and told of
+/// other roles.
+pub fn fitness()
+    ensures fits { FitsWhenThere }
 {}
 
 /// An opening of a mirror's devices that came to no end, at any moment of its life, leaves each as it was
 /// left, so that the next one may find it. It was stopped between two of its writes, or one of them failed;
-/// where that was the write of a bitmap's first sector, it is asked that it left the header.
+/// where that was the write of a bitmap's first sector, it is asked that it left the header. Of the superblock
+/// that it went by it is asked that it has recorded the last failure.
 pub fn half_opening()
     ensures as_left { StaysAsLeft }
 {}
 
-/// What a stop at any moment of a step leaves, where the step makes a write to one device.
+/// What a stop at any moment of a step leaves, where the step makes a write to one device, or none. Each event
+/// is of such a step (`Does`).
 pub fn stops_at_steps()
+    ensures memory { StopsInMemory }
     ensures written { StopsAtWrite }
     ensures sector { StopsAtSector }
     ensures failed { StopsAtFailure }

@@ -10,13 +10,13 @@ ghost use Rattle.md_array.specs.Remembering.{AreKept, AreWhole, HasAccepted, IsA
 
 use crate::array::Array;
 use crate::copying::copy_superblock;
+use crate::extent::no_requests;
 use crate::marking::{is_in_sync, needs_marks, united_marks};
 use crate::member::Member;
 use crate::own_fields::stored_next;
 use crate::rising::is_recorded;
 use md_assembly::{Assembly, MemberState};
 use md_bitmap::{Chunks, Marks};
-use md_inflight::Inflight;
 use md_members::{MemberInfo, accepted};
 use std::alloc::{AllocError, Global};
 
@@ -47,7 +47,7 @@ impl Array {
             events_cleared,
             resynced,
             halted: false,
-            requests: Inflight::new(alloc),
+            requests: no_requests(alloc),
         })
     }
 }

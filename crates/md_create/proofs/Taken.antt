@@ -127,7 +127,7 @@ module _ (member : NewMember) (old new : List ℕ) (spelled : IsSuper (super_byt
   rest_refused : (v : Superblock) → ReadsSuper new true v → (fault : MemberFault) → RefusesRest new true ⊥ v fault → fault ≡ NoMemory
   rest_refused v read fault (by_place is none) = absurd (none (placed_in v read 1 (omega arith)))
   rest_refused v read fault (by_bitmap placed has refused) = bitmap_refused v read fault refused
-  rest_refused v read fault (by_log h m has listed refused) = let none = no_log member old new spelled header_is long laid v read in absurd cc
+  rest_refused v read fault (by_log placed h m has listed refused) = let none = no_log member old new spelled header_is long laid v read in absurd cc
 
   pub only_memory : (fault : MemberFault) → RefusesMember new true ⊥ fault → fault ≡ NoMemory
   only_memory fault (inl refused) = super_refused fault refused

@@ -1,3 +1,3 @@
 pub mod Headers
-pub mod ReadAnswers
 pub mod Refusals
+pub mod Untouched

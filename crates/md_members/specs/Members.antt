@@ -42,7 +42,7 @@ pub record IsMember (content : List ℕ) (honest : Bool) (info : MemberInfo) : T
 pub data RefusesRest (content : List ℕ) (honest : Bool) (Failed : Type 0) (v : Superblock) (fault : MemberFault) : Type 0 where
   by_place : fault ≡ Region → (IsPlaced (sectors_of content) v 1 → ⊥) → RefusesRest content honest Failed v fault
   by_bitmap : IsPlaced (sectors_of content) v 1 → has_bitmap v ≡ true → RefusesBitmap content honest Failed (sectors_of content) v fault → RefusesRest content honest Failed v fault
-  by_log : (h : Option BitmapHeader) (m : Option Bitmap) → HasBitmap content honest v h m → reads_log v ≡ true → RefusesLog honest Failed v fault → RefusesRest content honest Failed v fault
+  by_log : IsPlaced (sectors_of content) v 1 → (h : Option BitmapHeader) (m : Option Bitmap) → HasBitmap content honest v h m → reads_log v ≡ true → RefusesLog honest Failed v fault → RefusesRest content honest Failed v fault
 
 -- the superblock is refused, or the rest of a member whose superblock was read
 abbrev pub RefusesMember : List ℕ → Bool → Type 0 → MemberFault → Type 0

@@ -1,6 +1,7 @@
 -- What reading a member of a device gives. An honest device gives its content; of another one it is only known that some
 -- bytes were read.
-use Rattle.std.specs.Prelude.{◌≡◌, ◌≢◌, ◌⊎◌, ℕ, ◌+◌, ◌*◌, ◌<◌, ◌≤◌, Bool, true, List, length, drop, Result, MatchResult, pos, ◌+ℤ◌}
+use Rattle.std.specs.Prelude.{◌≡◌, ◌≢◌, ◌⊎◌, ℕ, ◌+◌, ◌*◌, ◌<◌, ◌≤◌, Bool, true, List, length, drop, Result, Err, MatchResult, pos, ◌+ℤ◌}
+use Rattle.std.specs.List.{All}
 use Rattle.md_device.specs.Device.{held}
 use Rattle.md_super.specs.declared.superblock.Superblock.{Superblock}
 use Rattle.md_super.specs.declared.fault.SuperFault.{SuperFault}
@@ -26,7 +27,14 @@ use Rattle.md_badblocks.specs.Log.{IsReadAs}
 -- n bytes that were read at a sector: those of the content, where the device is honest
 pub record IsRead (content : List ℕ) (honest : Bool) (sector n : ℕ) (bytes : List ℕ) : Type 0 where
   pub within : 512 * sector + n ≤ length content
+  pub size : length bytes ≡ n
+  pub are_bytes : All (λ byte. byte < 256) bytes
   pub from_device : honest ≡ true → bytes ≡ held content sector n
+
+-- this holds, unless the answer is that a read failed: no read is tried again
+abbrev pub UnlessReadFault : {T : Type 0} → Result T MemberFault → Type 0 → Type 0
+UnlessReadFault (Err ReadFault) Holds = Unit {0}
+UnlessReadFault _ Holds = Holds
 
 -- it has the sectors up to the superblock's end
 abbrev pub IsLong : List ℕ → Type 0
@@ -118,7 +126,8 @@ RefusesBitmap content honest Failed sectors v (BitmapRefused f) =
     ⊎ (f ≡ TooManyChunks) × (h : BitmapHeader) × ReadsHeader content honest v h × (1048576 < chunks_of v h)
 RefusesBitmap content honest Failed sectors v Region =
     (h : BitmapHeader) × ReadsHeader content honest v h × (chunks_of v h ≤ 1048576) × (IsPlaced sectors v (bitmap_sectors (chunks_of v h)) → ⊥)
-RefusesBitmap content honest Failed sectors v NoMemory = Unit {0}
+RefusesBitmap content honest Failed sectors v NoMemory =
+    (h : BitmapHeader) × ReadsHeader content honest v h × (chunks_of v h ≤ 1048576) × IsPlaced sectors v (bitmap_sectors (chunks_of v h))
 RefusesBitmap content honest Failed sectors v _ = ⊥
 
 abbrev pub GivesBitmap : List ℕ → Bool → Type 0 → ℕ → Superblock → Result (BitmapHeader × Bitmap) MemberFault → Type 0
@@ -129,8 +138,9 @@ GivesBitmap content honest Failed sectors v result =
 abbrev pub LogStartsAt : Superblock → ℕ → Type 0
 LogStartsAt v sector = pos sector ≡ pos 8 +ℤ v.bblog_offset
 
--- the bad set in the log's area
+-- the bad set in the log's area, whose units are at most 512 sectors
 pub record ReadsLog (content : List ℕ) (honest : Bool) (v : Superblock) (bad : List Run) : Type 0 where
+  pub shift : v.bblog_shift ≤ 9
   pub start : ℕ
   pub at : LogStartsAt v start
   pub area : List ℕ

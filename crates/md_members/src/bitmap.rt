@@ -1,10 +1,12 @@
 // The bitmap of a member.
 ghost use Rattle.std.specs.Prelude.{◌≡◌, ◌<◌, ◌≤◌, ◌+◌, ◌*◌, ◌/◌, ◌^◌, length, true, IfOk};
+ghost use Rattle.md_device.specs.Stops.{LeavesMore};
 ghost use Rattle.md_members.specs.Areas.{IsPlaced, bitmap_sectors, has_bitmap};
-ghost use Rattle.md_members.specs.Reading.{BitmapStartsAt, GivesBitmap, GivesMarks};
+ghost use Rattle.md_members.specs.Reading.{BitmapStartsAt, GivesBitmap, GivesMarks, UnlessReadFault};
 
 use crate::fault::MemberFault;
 use crate::placing::{is_placed, sectors_of_bitmap};
+use crate::reading::read_sectors;
 use md_bitmap::{BitmapFault, BitmapHeader, Chunks, Marks, has_few_chunks};
 use md_device::Device;
 use md_format::array_at;
@@ -22,13 +24,15 @@ pub(crate) fn read_bitmap<D: Device>(
     ensures kept { D.content device.new ≡ D.content device.old }
     ensures honest { D.honest device.new ≡ D.honest device.old }
     ensures counted { D.failures device.old ≤ D.failures device.new }
+    ensures unfailing { UnlessReadFault result (D.failures device.new ≡ D.failures device.old) }
+    ensures within { D.honest device.old ≡ true → LeavesMore (D.stops device.old) (D.stops device.new) (λ left. left ≡ D.content device.old) }
     ensures reads { GivesBitmap (D.content device.old) (D.honest device.old) (D.failures device.old < D.failures device.new) (length (D.content device.old) / 512) v.now result }
 {
     let device_sectors = device.sectors();
     let start = start_of_bitmap(v, device_sectors);
     let mut sector = [0; 512];
-    if device.read(start, &mut sector).is_err() {
-        return Err(MemberFault::ReadFault);
+    if let Err(fault) = read_sectors(device, start, &mut sector) {
+        return Err(fault);
     }
     let header = match BitmapHeader::decode(&array_at(&sector, 0)) {
         Ok(header) => header,
@@ -71,13 +75,15 @@ fn read_marks<D: Device>(
     ensures kept { D.content device.new ≡ D.content device.old }
     ensures honest { D.honest device.new ≡ D.honest device.old }
     ensures counted { D.failures device.old ≤ D.failures device.new }
+    ensures unfailing { UnlessReadFault result (D.failures device.new ≡ D.failures device.old) }
+    ensures within { D.honest device.old ≡ true → LeavesMore (D.stops device.old) (D.stops device.new) (λ left. left ≡ D.content device.old) }
     ensures reads { GivesMarks (D.content device.old) (D.honest device.old) (D.failures device.old < D.failures device.new) start chunks sectors result }
 {
     let Ok(mut area) = zeros(alloc, 512 * sectors as usize) else {
         return Err(MemberFault::NoMemory);
     };
-    if device.read(start, &mut area).is_err() {
-        return Err(MemberFault::ReadFault);
+    if let Err(fault) = read_sectors(device, start, &mut area) {
+        return Err(fault);
     }
     match Marks::from_bytes(alloc, chunks, &area[256..]) {
         Ok(marks) => Ok(marks),

@@ -1,10 +1,12 @@
 // The bad block log of a member.
 ghost use Rattle.std.specs.Prelude.{◌≡◌, ◌<◌, ◌≤◌, ◌+◌, ◌*◌, ◌/◌, ◌^◌, length, true};
+ghost use Rattle.md_device.specs.Stops.{LeavesMore};
 ghost use Rattle.md_members.specs.Areas.{IsPlaced, has_bad_blocks};
-ghost use Rattle.md_members.specs.Reading.{GivesLog, LogStartsAt};
+ghost use Rattle.md_members.specs.Reading.{GivesLog, LogStartsAt, UnlessReadFault};
 ghost use Rattle.md_super.specs.Log.{has_bad_block_log};
 
 use crate::fault::MemberFault;
+use crate::reading::read_sectors;
 use md_badblocks::{BadSet, LogFault};
 use md_device::Device;
 use md_super::{SUPER_SECTOR, Superblock};
@@ -24,13 +26,15 @@ pub(crate) fn read_log<D: Device>(
     ensures kept { D.content device.new ≡ D.content device.old }
     ensures honest { D.honest device.new ≡ D.honest device.old }
     ensures counted { D.failures device.old ≤ D.failures device.new }
+    ensures unfailing { UnlessReadFault result (D.failures device.new ≡ D.failures device.old) }
+    ensures within { D.honest device.old ≡ true → LeavesMore (D.stops device.old) (D.stops device.new) (λ left. left ≡ D.content device.old) }
     ensures reads { GivesLog (D.content device.old) (D.honest device.old) (D.failures device.old < D.failures device.new) v.now result }
 {
     let start = start_of_log(v, device.sectors());
     let mut buffer = [0; MOST_BYTES];
     let area = &mut buffer[..512 * v.bblog_size as usize];
-    if device.read(start, area).is_err() {
-        return Err(MemberFault::ReadFault);
+    if let Err(fault) = read_sectors(device, start, area) {
+        return Err(fault);
     }
     match BadSet::from_log(alloc, area, v.bblog_shift) {
         Ok(bad) => Ok(bad),

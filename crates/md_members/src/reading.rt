@@ -1,6 +1,7 @@
-// The superblock and the bitmap of a device.
-ghost use Rattle.std.specs.Prelude.{◌≡◌, ◌<◌, ◌≤◌};
-ghost use Rattle.md_members.specs.Reading.{GivesSuper};
+// Reading a device's sectors, and its superblock.
+ghost use Rattle.std.specs.Prelude.{◌≡◌, ◌<◌, ◌≤◌, ◌+◌, ◌*◌, ◌%◌, true, length, IfErr, OnOk};
+ghost use Rattle.md_device.specs.Stops.{LeavesMore};
+ghost use Rattle.md_members.specs.Reading.{GivesSuper, IsRead, UnlessReadFault};
 
 use crate::fault::MemberFault;
 use md_device::Device;
@@ -10,19 +11,21 @@ use std::alloc::Global;
 // The sectors up to the superblock's end.
 const LEAST_SECTORS: u64 = 16;
 
-/// Reads sectors 8 to 15 of a device, and nothing else.
+/// Reads sectors 8 to 15 of a device, once, and nothing else.
 pub fn read_super<D: Device>(alloc: Global, device: &mut D) -> Result<Superblock, MemberFault>
     ensures kept { D.content device.new ≡ D.content device.old }
     ensures honest { D.honest device.new ≡ D.honest device.old }
     ensures counted { D.failures device.old ≤ D.failures device.new }
+    ensures unfailing { UnlessReadFault result (D.failures device.new ≡ D.failures device.old) }
+    ensures within { D.honest device.old ≡ true → LeavesMore (D.stops device.old) (D.stops device.new) (λ left. left ≡ D.content device.old) }
     ensures reads { GivesSuper (D.content device.old) (D.honest device.old) (D.failures device.old < D.failures device.new) result }
 {
     if device.sectors() < LEAST_SECTORS {
         return Err(MemberFault::TooShort);
     }
     let mut block = [0; 4096];
-    if device.read(SUPER_SECTOR, &mut block).is_err() {
-        return Err(MemberFault::ReadFault);
+    if let Err(fault) = read_sectors(device, SUPER_SECTOR, &mut block) {
+        return Err(fault);
     }
     match decode(alloc, &block) {
         Ok(v) => Ok(v),
@@ -30,5 +33,27 @@ pub fn read_super<D: Device>(alloc: Global, device: &mut D) -> Result<Superblock
             SuperFault::NoMemory => Err(MemberFault::NoMemory),
             _ => Err(MemberFault::Super(fault)),
         },
+    }
+}
+
+// Fills `buf` with the bytes from `sector` on, by one read.
+pub(crate) fn read_sectors<D: Device>(
+    device: &mut D,
+    sector: u64,
+    buf: &mut [u8],
+) -> Result<(), MemberFault>
+    requires whole { length buf.old % 512 ≡ 0 }
+    requires within { 512 * sector + length buf.old ≤ length (D.content device.old) }
+    ensures kept { D.content device.new ≡ D.content device.old }
+    ensures honest { D.honest device.new ≡ D.honest device.old }
+    ensures counted { D.failures device.old ≤ D.failures device.new }
+    ensures unfailing { OnOk result (D.failures device.new ≡ D.failures device.old) }
+    ensures within { D.honest device.old ≡ true → LeavesMore (D.stops device.old) (D.stops device.new) (λ left. left ≡ D.content device.old) }
+    ensures ok { OnOk result (IsRead (D.content device.old) (D.honest device.old) sector (length buf.old) buf.new) }
+    ensures failed { IfErr result (λ fault. (fault ≡ MemberFault.ReadFault) × (D.honest device.old ≡ true → D.failures device.old < D.failures device.new)) }
+{
+    match device.read(sector, buf) {
+        Ok(()) => Ok(()),
+        Err(_) => Err(MemberFault::ReadFault),
     }
 }

@@ -9,7 +9,7 @@ use Rattle.md_model.specs.Steps.{entered, begun, with_device, recorded, marks_st
 use Rattle.md_model.specs.Failures.{failed}
 use Rattle.md_model.specs.Resyncing.{copied, made_resynced, made_clean, MayCopy}
 use Rattle.md_model.specs.Events.{Event, Fails, Happens}
-use Rattle.md_model.specs.Content.{Content, with_request, IsSettled, Becomes, HoldsBetween, KeepsBetween, BeginsBetween}
+use Rattle.md_model.specs.Content.{Content, with_request, IsSettled, Becomes, HoldsBetween, HoldsInFlight, KeepsBetween, KeepsInFlight, BeginsBetween}
 use Rattle.md_model.proofs.Cases.{by_test, none_some}
 use Rattle.md_model.proofs.Puts.{by_same, put-miss}
 use Rattle.md_model.proofs.Tracked.{IsFewer, in_flight_fewer}
@@ -130,6 +130,35 @@ module _ (g : Geometry) (a : Content) where
   between b w Event.Resynced w' s c t = subst (HoldsBetween g b) (sym s.1) (between_resynced w b c t)
   between b w Event.Unresynced w' s c t = same b w' c (subst (HoldsBetween g a) (sym s.1) (between_unresynced w t))
   between b w Event.MakeClean w' s c t = same b w' c (subst (HoldsBetween g a) (sym s.3) (between_made_clean w s.0 t))
+
+-- what was written of the requests in flight goes along by itself
+module _ (g : Geometry) where
+  flight_fails : (w : World) (k : ℕ) (left : Stored) (w' : World) → Fails g w k left w' → HoldsInFlight w → HoldsInFlight w'
+  flight_fails w k left w' f t = subst HoldsInFlight (sym f.3) (in_flight_fewer w (failed g (with_device w k left) k f.0) (fewer_failed g w k left f.0) t)
+
+  flight_begun : (w : World) (n : ℕ) (p : Request) (rises full : Bool) → MayBegin g w n p → HoldsInFlight w → HoldsInFlight (begun g w n p rises full)
+  flight_begun w n p true full may t = in_flight_entered g (risen g w full) n p (begin_after g w n p true full may) (in_flight_risen g w full t)
+  flight_begun w n p false full may t = in_flight_entered g w n p may t
+
+  flight : (w : World) (e : Event) (w' : World) → Happens g w e w' → HoldsInFlight w → HoldsInFlight w'
+  flight w (Event.Begin n p) w' s t = subst HoldsInFlight (sym s.5) (flight_begun w n p s.0 s.1 s.2 t)
+  flight w (Event.Record k) w' s t = subst HoldsInFlight (sym s.1) (in_flight_fewer w (recorded w k) (fewer_recorded w k) t)
+  flight w (Event.StoreMarks k x) w' s t = subst HoldsInFlight (sym s.1) (in_flight_marks_stored g w k x t)
+  flight w (Event.WriteMember n k) w' s t = subst HoldsInFlight (sym s.2) (in_flight_written g w n s.0 k s.1 t)
+  flight w (Event.Finish n) w' s t = subst HoldsInFlight (sym s.2) (in_flight_finished g w n s.0 t)
+  flight w (Event.ClearIdle x) w' s t = subst HoldsInFlight (sym s.1) (in_flight_unmarked w x t)
+  flight w (Event.Fail k) w' s t = flight_fails w k (w.stored k) w' s.1 t
+  flight w (Event.RecordFails k) w' s t = flight_fails w k s.0 w' s.2 t
+  flight w (Event.StoreMarksFails k x) w' s t = flight_fails w k s.0 w' s.3 t
+  flight w (Event.WriteMemberFails n k) w' s t = flight_fails w k s.0 w' s.4 t
+  flight w (Event.CopyFails k x) w' s t = flight_fails w k s.0 w' s.4 t
+  flight w (Event.Copy from k x) w' s t = subst HoldsInFlight (sym s.1) (in_flight_copied g w from k x s.0 t)
+  flight w Event.Resynced w' s t = subst HoldsInFlight (sym s.1) (in_flight_resynced w true t)
+  flight w Event.Unresynced w' s t = subst HoldsInFlight (sym s.1) (in_flight_resynced w false t)
+  flight w Event.MakeClean w' s t = subst HoldsInFlight (sym s.3) (in_flight_made_clean g w s.0 t)
+
+pub in_flight_step : KeepsInFlight
+in_flight_step g w e w' step = flight g w e w' step.1
 
 pub between_step : KeepsBetween
 between_step g w e w' a b step = between g a b w e w' step.1

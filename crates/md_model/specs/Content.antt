@@ -67,6 +67,14 @@ KeepsBetween =
     (g : Geometry) (w : World) (e : Event) (w' : World) (a b : Content) → Step g w e w' → Becomes g e w a b
     → HoldsBetween g a w → HoldsBetween g b w'
 
+-- What was written of the requests in flight it keeps by itself, whatever the content at rest is.
+abbrev pub KeepsInFlight : Type 0
+KeepsInFlight = (g : Geometry) (w : World) (e : Event) (w' : World) → Step g w e w' → HoldsInFlight w → HoldsInFlight w'
+
+-- nothing is in flight at an opening
+abbrev pub BeginsInFlight : Type 0
+BeginsInFlight = (g : Geometry) (opened : Super) (w : World) → IsOpened g opened w → HoldsInFlight w
+
 -- an opened world that holds a content begins with it, as nothing is in flight there
 abbrev pub BeginsBetween : Type 0
 BeginsBetween = (g : Geometry) (opened : Super) (w : World) (a : Content) → IsOpened g opened w → Holds g a w → HoldsBetween g a w

@@ -3,7 +3,7 @@
 ghost use Rattle.std.specs.Prelude.{◌≡◌, ℕ, ◌<◌, ◌⊎◌, false, true, None, [], ◌∷◌, ◌++◌};
 ghost use Rattle.md_model.specs.Assembly.{IsFound};
 ghost use Rattle.md_model.specs.Behind.{KeepsData, LeavesBehind, MissingBehind};
-ghost use Rattle.md_model.specs.Content.{BeginsBetween, HasContent, HasContentAlong, KeepsBetween, KeepsContent};
+ghost use Rattle.md_model.specs.Content.{BeginsBetween, BeginsInFlight, HasContent, HasContentAlong, KeepsBetween, KeepsContent, KeepsInFlight};
 ghost use Rattle.md_model.specs.Devices.{Covered, Stored, Super, is_marked};
 ghost use Rattle.md_model.specs.Events.{Event};
 ghost use Rattle.md_model.specs.Fits.{FitsWhenThere, StepsRun};
@@ -113,6 +113,10 @@ pub fn between_steps()
 
     // An opened world that holds a content begins with it.
     ensures begins { BeginsBetween }
+
+    // Who was written has a request's bytes as long as it is in flight, with no content agreed on at rest.
+    ensures kept_in_flight { KeepsInFlight }
+    ensures begins_in_flight { BeginsInFlight }
 {}
 
 /// There is such a content at an opening of devices that are covered, and it goes along every life.

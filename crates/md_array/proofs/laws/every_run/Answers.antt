@@ -1,3 +1,4 @@
+use Rattle.md_array.proofs.HalfOpened.{read_as_kept}
 use Rattle.md_array.proofs.MirrorContents as contents
 use Rattle.md_array.proofs.MirrorLives as lives
 use Rattle.md_array.proofs.laws.every_run.Goals as goal
@@ -11,4 +12,6 @@ returns c = record {
   has_content = contents.content_at_first;
   content_along = contents.content_along;
   keeps_content = contents.content_kept;
+  read_as_kept = read_as_kept;
+  keeps_geometry = lives.keeps_geometry;
 }

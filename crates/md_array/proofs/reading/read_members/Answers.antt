@@ -2,17 +2,17 @@ use Rattle.std.proofs.Common.{arith, rules, ◌≡◌, ℕ, ◌+◌, ◌<◌, �
 use Rattle.std.proofs.lemmas.List.{length_push, map-set}
 use Rattle.md_array.specs.View.{Disk, disk_of}
 use Rattle.md_members.specs.declared.info.MemberInfo.{MemberInfo}
-use Rattle.md_array.specs.DeviceChanges.{IsUntouched, StaysHonest}
+use Rattle.md_array.specs.DeviceChanges.{IsUntouched, LeavesAsWas, StaysHonest}
 use Rattle.md_array.specs.Reading.{RefusesRead, refusal_of}
 use Rattle.md_array.proofs.InTurn.{disk_at, still_untouched}
 use Rattle.md_array.proofs.MembersRead.{AreReadSoFar, read_more, refused_at}
 use Rattle.md_array.proofs.reading.read_members.Goals as goal
 
 untouched : {D : Type 0} (disk : D → Disk) (before : List Disk) (devices : List D) (k : ℕ) (x new : D) → k < length devices → IsUntouched before (map disk devices)
-    → StaysHonest (disk (get_or devices k x)) (disk new) → (disk new).content ≡ (disk (get_or devices k x)).content → IsUntouched before (map disk (set devices k new))
-untouched disk before devices k x new within same stays kept =
+    → StaysHonest (disk (get_or devices k x)) (disk new) → (disk new).content ≡ (disk (get_or devices k x)).content → LeavesAsWas (disk (get_or devices k x)) (disk new) → IsUntouched before (map disk (set devices k new))
+untouched disk before devices k x new within same stays kept leaves =
     subst (IsUntouched before) (sym (map-set disk devices k new))
-    (still_untouched before (map disk devices) k (disk (get_or devices k x)) (disk new) (disk_at disk devices k x within) same stays kept)
+    (still_untouched before (map disk devices) k (disk (get_or devices k x)) (disk new) (disk_at disk devices k x within) same stays kept leaves)
 
 pub returns-in-Err : goal.returns-in-Err
 returns-in-Err g c =
@@ -20,7 +20,7 @@ returns-in-Err g c =
     let was = get_or c.loop-k.devices c.loop-k.k c.index-devices-k.result in
     record {
       untouched = untouched disk (map disk c.args.devices.now) c.loop-k.devices c.loop-k.k c.index-devices-k.result c.read_member.new.device (omega arith) c.loop-k.invariant.untouched
-          (record { honest = c.read_member.ensures.honest; counted = c.read_member.ensures.counted }) c.read_member.ensures.kept;
+          (record { honest = c.read_member.ensures.honest; counted = c.read_member.ensures.counted }) c.read_member.ensures.kept c.read_member.ensures.within;
       read = subst (RefusesRead (map disk c.args.devices.now) (map disk (set c.loop-k.devices c.loop-k.k c.read_member.new.device))) (sym c.refusal.ensures)
           (subst (λ (now : List Disk). RefusesRead (map disk c.args.devices.now) now (refusal_of c.loop-k.k c.in-Err.fault)) (sym (map-set disk c.loop-k.devices c.loop-k.k c.read_member.new.device))
           (refused_at (map disk c.args.devices.now) (map disk c.loop-k.devices) c.loop-k.infos.items c.loop-k.k (disk was) (disk c.read_member.new.device) c.in-Err.fault c.loop-k.invariant.count
@@ -35,7 +35,7 @@ loop-k-preserved g c =
     let pushed : length c.push_reserved.new.self.items ≡ length c.loop-k.infos.items + 1 = ap length c.push_reserved.ensures.items ∙ length_push c.loop-k.infos.items c.in-Ok.info in
     record {
       untouched = untouched disk (map disk c.args.devices.now) c.loop-k.devices c.loop-k.k c.index-devices-k.result c.read_member.new.device (omega arith) c.loop-k.invariant.untouched
-          (record { honest = c.read_member.ensures.honest; counted = c.read_member.ensures.counted }) c.read_member.ensures.kept;
+          (record { honest = c.read_member.ensures.honest; counted = c.read_member.ensures.counted }) c.read_member.ensures.kept c.read_member.ensures.within;
       read = subst (λ (infos : List MemberInfo). AreReadSoFar (map disk c.args.devices.now) infos) (sym c.push_reserved.ensures.items)
           (read_more (map disk c.args.devices.now) (map disk c.loop-k.devices) c.loop-k.infos.items c.loop-k.k (disk was) c.in-Ok.info c.loop-k.invariant.count
           (disk_at disk c.loop-k.devices c.loop-k.k c.index-devices-k.result (omega arith))

@@ -4,6 +4,7 @@ use Rattle.md_members.specs.Areas.{IsPlaced}
 use Rattle.md_members.specs.Members.{by_place, sectors_of}
 use Rattle.md_members.proofs.Headers.{placed_by, placed_of}
 use Rattle.md_members.proofs.Refusals.{rest_by_bitmap, rest_by_log, bitmap_as, bad_set_as}
+use Rattle.md_members.proofs.Untouched.{leaves_same}
 use Rattle.md_members.proofs.member.read_member.Goals as goal
 
 pub returns-then-not-is_placed-clause-reads : goal.returns-then-not-is_placed-clause-reads
@@ -46,11 +47,14 @@ pub returns-in_err-bad-clause-reads : goal.returns-in_err-bad-clause-reads
 returns-in_err-bad-clause-reads g c =
     let old = g.D.Device.content c.args.device.now in
     let v = c.in_ok-superblock.superblock in
+    let size : length old ≡ 512 * c.sectors-sectors.result = ap length (sym c.read_super.ensures.kept) ∙ c.sectors-sectors.ensures.size in
+    let fits : IsTrue c.is_placed.result = search rules in
+    let placed = placed_by old v c.sectors-sectors.result 1 1 size refl (c.is_placed.ensures.0 fits) in
     let p = err_from_is_err_and c.from_residual-in_err-bad.result c.from_residual-in_err-bad.ensures.1 in
     rw (p.1, p.2) (inr (
       v,
       c.in_ok-superblock.ensures.reads,
-      rest_by_log old _ _ _ _ _ _ v c.in_ok-header.header c.in_ok-header.marks c.in_err-bad.field-0.0 c.read_super.ensures.kept c.read_super.ensures.honest (c.read_any_bitmap.ensures.honest ∙ c.read_super.ensures.honest) (λ failed. omega arith) c.in_ok-header.ensures.reads c.in_err-bad.ensures.reads,
+      rest_by_log old _ _ _ _ _ _ v c.in_ok-header.header c.in_ok-header.marks c.in_err-bad.field-0.0 c.read_super.ensures.kept c.read_super.ensures.honest (c.read_any_bitmap.ensures.honest ∙ c.read_super.ensures.honest) (λ failed. omega arith) placed c.in_ok-header.ensures.reads c.in_err-bad.ensures.reads,
     ))
 
 pub returns-clause-reads : goal.returns-clause-reads
@@ -66,3 +70,19 @@ returns-clause-reads g c =
       bitmap = bitmap_as old _ _ _ v c.in_ok-header.header c.in_ok-header.marks c.read_super.ensures.kept c.read_super.ensures.honest c.in_ok-header.ensures.reads;
       bad = bad_set_as old _ _ _ v c.in_ok-bad.bad (c.read_any_bitmap.ensures.kept ∙ c.read_super.ensures.kept) (c.read_any_bitmap.ensures.honest ∙ c.read_super.ensures.honest) c.in_ok-bad.ensures.reads;
     }
+
+pub returns-in_err-header-clause-within : goal.returns-in_err-header-clause-within
+returns-in_err-header-clause-within g c =
+    leaves_same _ _ _ _ _ _ _ c.read_super.ensures.kept c.read_super.ensures.honest c.read_super.ensures.within c.read_any_bitmap.ensures.within
+
+pub returns-in_err-bad-clause-within : goal.returns-in_err-bad-clause-within
+returns-in_err-bad-clause-within g c =
+    leaves_same _ _ _ _ _ _ _ (c.read_any_bitmap.ensures.kept ∙ c.read_super.ensures.kept) (c.read_any_bitmap.ensures.honest ∙ c.read_super.ensures.honest)
+    (leaves_same _ _ _ _ _ _ _ c.read_super.ensures.kept c.read_super.ensures.honest c.read_super.ensures.within c.read_any_bitmap.ensures.within)
+    c.read_bad_set.ensures.within
+
+pub returns-clause-within : goal.returns-clause-within
+returns-clause-within g c =
+    leaves_same _ _ _ _ _ _ _ (c.read_any_bitmap.ensures.kept ∙ c.read_super.ensures.kept) (c.read_any_bitmap.ensures.honest ∙ c.read_super.ensures.honest)
+    (leaves_same _ _ _ _ _ _ _ c.read_super.ensures.kept c.read_super.ensures.honest c.read_super.ensures.within c.read_any_bitmap.ensures.within)
+    c.read_bad_set.ensures.within

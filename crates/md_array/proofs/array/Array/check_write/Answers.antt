@@ -1,9 +1,8 @@
-use Rattle.std.proofs.Common.{◌≡◌, ◌∙◌, ◌<◌, ◌+◌, ◌-◌, ◌/◌, ℕ, length, get_or, true, false, sym, ap, subst, refl, rules}
+use Rattle.std.proofs.Common.{◌≡◌, ◌∙◌, ◌<◌, ◌+◌, ◌-◌, ◌/◌, ℕ, true, sym, ap, refl, rules}
 use Rattle.md_assembly.specs.States.{is_in_sync}
 use Rattle.md_array.specs.View.{ArrayView, MemberView, PendingView}
-use Rattle.md_array.specs.Members.{AllInSync, IsFirstInSyncWithout, IsInSync, IsMember}
+use Rattle.md_array.specs.Members.{IsInSync, IsMember}
 use Rattle.md_array.specs.Requests.{has_written, request_sectors}
-use Rattle.md_array.specs.WritingMember.{HasMarksOf}
 use Rattle.md_array.proofs.FirstLacking.{all_recorded, first_to_record}
 use Rattle.md_array.proofs.Listing.{same_listed}
 use Rattle.md_array.proofs.MembersAt.{member_read}

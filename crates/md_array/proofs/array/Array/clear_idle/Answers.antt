@@ -1,5 +1,5 @@
 use Rattle.std.proofs.Common.{refl}
-use Rattle.md_array.specs.View.{ArrayView, Disk, MirrorView}
+use Rattle.md_array.specs.View.{ArrayView}
 use Rattle.md_bitmap.specs.Marks.{Bitmap}
 use Rattle.md_array.specs.ClearingMarks.{Clears, IsWithout, MayClear}
 use Rattle.md_array.proofs.array.Array.clear_idle.Goals as goal

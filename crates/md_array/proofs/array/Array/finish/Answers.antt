@@ -1,7 +1,7 @@
 use Rattle.std.proofs.Common.{◌≡◌, refl}
 use Rattle.md_inflight.specs.Inflight.{InflightList, without}
 use Rattle.md_array.specs.declared.extent.Extent.{Extent}
-use Rattle.md_array.specs.View.{ArrayView, Disk, MirrorView, PendingView}
+use Rattle.md_array.specs.View.{ArrayView, PendingView}
 use Rattle.md_array.specs.Finishing.{Finishes, MayFinish}
 use Rattle.md_array.proofs.array.Array.finish.Goals as goal
 

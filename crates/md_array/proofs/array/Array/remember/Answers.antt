@@ -47,5 +47,5 @@ returns c =
       cleared = rw c.deref-3.ensures.value at c.last_cleared-events_cleared.ensures;
       synced = rw c.deref-4.ensures.value at c.is_resynced-resynced.ensures;
       running = refl;
-      idle = c.new.ensures.entries;
+      idle = c.no_requests.ensures;
     })

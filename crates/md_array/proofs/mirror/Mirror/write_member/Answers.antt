@@ -1,12 +1,9 @@
-use Rattle.std.proofs.Common.{◌≡◌, ◌∙◌, ◌+◌, ◌*◌, ◌≤◌, List, [], lit<, length, map, subst, sym, ap}
+use Rattle.std.proofs.Common.{◌≡◌, ◌∙◌, ◌+◌, ◌*◌, ◌≤◌, List, [], lit<, length, map, subst, sym}
 use Rattle.std.specs.Prelude.{Some, slice_get}
 use Rattle.std.proofs.lemmas.List.{with_items_is}
-use Rattle.md_array.specs.View.{Disk, MemberView, MirrorView, PendingView, disk_of}
+use Rattle.md_array.specs.View.{Disk, MirrorView, PendingView, disk_of}
 use Rattle.md_array.specs.Consistency.{IsConsistent}
 use Rattle.md_array.specs.Requests.{IsPending}
-use Rattle.md_array.specs.Members.{IsMember}
-use Rattle.md_array.specs.DiskWrites.{IsFailed, IsWritten}
-use Rattle.md_array.specs.WritingMember.{MayWrite, RefusesWriteMember, WritesTo}
 use Rattle.md_array.proofs.Answered.{err_of, ok_of}
 use Rattle.md_array.proofs.DataWritten.{write_member_happens, written_is_consistent, written_is_pending, written_keeps_pending}
 use Rattle.md_array.proofs.WriteKeeps.{refused_write_event, refused_write_pending, refused_write_sound, refused_write_still}

@@ -1,0 +1,4 @@
+pub mod Covered
+pub mod Observed
+pub mod Rows
+pub mod Served

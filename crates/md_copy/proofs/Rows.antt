@@ -1,0 +1,36 @@
+-- The rows of a table, chunk by chunk.
+use Rattle.std.proofs.Common.{◌≡◌, ◌∙◌, ℕ, ◌+◌, zero, suc, Bool, true, false, cond, List, [], ◌∷◌, ◌++◌, append-nil, sym, ap, arith}
+use Rattle.std.specs.List.{filter, range_with_len}
+use Rattle.std.proofs.lemmas.List.{map-append}
+use Rattle.std.proofs.lemmas.List.Elements.{filter-append}
+use Rattle.md_cert.specs.declared.table.Row.{Row}
+use Rattle.md_cert.specs.Tables.{chunks_of}
+use Rattle.md_array.specs.View.{ArrayView, MemberView}
+use Rattle.md_copy.specs.Sources.{is_missing}
+
+range_more : (a n : ℕ) → range_with_len a (suc n) ≡ range_with_len a n ++ (a + n) ∷ []
+range_more a zero = ap (λ (k : ℕ). k ∷ []) (let e : a ≡ a + 0 = omega arith in e)
+range_more a (suc n) = ap (λ (xs : List ℕ). a ∷ xs) (range_more (a + 1) n ∙ ap (λ (k : ℕ). range_with_len (a + 1) n ++ k ∷ []) (let e : a + 1 + n ≡ a + suc n = omega arith in e))
+
+range_next : (n : ℕ) → range_with_len 0 (n + 1) ≡ range_with_len 0 n ++ n ∷ []
+range_next n =
+    ap (range_with_len 0) (let e : n + 1 ≡ suc n = omega arith in e)
+    ∙ range_more 0 n
+    ∙ ap (λ (k : ℕ). range_with_len 0 n ++ k ∷ []) (let e : 0 + n ≡ n = omega arith in e)
+
+-- the chunks below n that the member lacks
+abbrev pub missing_below : ArrayView → MemberView → ℕ → List ℕ
+missing_below a m n = filter (is_missing a m) (range_with_len 0 n)
+
+missing_more : (a : ArrayView) (m : MemberView) (n : ℕ) → missing_below a m (n + 1) ≡ missing_below a m n ++ cond (is_missing a m n) (n ∷ []) []
+missing_more a m n = ap (filter (is_missing a m)) (range_next n) ∙ filter-append (is_missing a m) (range_with_len 0 n) (n ∷ [])
+
+pub rows_more : (a : ArrayView) (m : MemberView) (rows : List Row) (row : Row) → chunks_of rows ≡ missing_below a m row.chunk → is_missing a m row.chunk ≡ true → chunks_of (rows ++ row ∷ []) ≡ missing_below a m (row.chunk + 1)
+rows_more a m rows row before lacks =
+    map-append (λ (r : Row). r.chunk) rows (row ∷ [])
+    ∙ ap (λ (xs : List ℕ). xs ++ row.chunk ∷ []) before
+    ∙ sym (missing_more a m row.chunk ∙ ap (λ (b : Bool). missing_below a m row.chunk ++ cond b (row.chunk ∷ []) []) lacks)
+
+pub rows_same : (a : ArrayView) (m : MemberView) (rows : List Row) (n : ℕ) → chunks_of rows ≡ missing_below a m n → is_missing a m n ≡ false → chunks_of rows ≡ missing_below a m (n + 1)
+rows_same a m rows n before has =
+    before ∙ sym (missing_more a m n ∙ ap (λ (b : Bool). missing_below a m n ++ cond b (n ∷ []) []) has ∙ append-nil (missing_below a m n))

@@ -1,0 +1,34 @@
+-- What a member lacks, and where it may be read.
+use Rattle.std.specs.Prelude.{◌≡◌, ◌↔◌, ℕ, ◌<◌, ◌||◌, Bool, true, not, List, filter, All}
+use Rattle.std.specs.Int.{bit_at, div_ceil}
+use Rattle.std.specs.List.{range_with_len}
+use Rattle.md_bitmap.specs.Marks.{Bitmap, is_set}
+use Rattle.md_cert.specs.declared.table.Row.{Row}
+use Rattle.md_cert.specs.Tables.{chunks_of}
+use Rattle.md_array.specs.View.{ArrayView, MemberView}
+use Rattle.md_array.specs.Members.{IsMember, IsPermitted, is_in_sync_as}
+
+-- a member that is not in sync lacks each chunk; one that this mirror re-added lacks the marked ones
+abbrev pub is_missing : ArrayView → MemberView → ℕ → Bool
+is_missing a m chunk = not m.re_added || is_set a.marks.bytes chunk
+
+abbrev pub missing_chunks : ArrayView → MemberView → List ℕ
+missing_chunks a m = filter (is_missing a m) (range_with_len 0 (div_ceil a.chunks.size a.chunks.sectors))
+
+-- the row's mask has the roles in which its chunk may be read
+abbrev pub HasSources : ArrayView → Row → Type 0
+HasSources a row = (role : ℕ) → role < 32 → (bit_at row.mask role ≡ 1) ↔ IsPermitted a row.chunk role
+
+-- the rows are the chunks that the member lacks, rising, each with its sources
+pub record IsTableOf (a : ArrayView) (m : MemberView) (rows : List Row) : Type 0 where
+  pub chunks : chunks_of rows ≡ missing_chunks a m
+  pub sources : All (HasSources a) rows
+
+-- a member is in sync in the role
+abbrev pub IsInSyncAs : ArrayView → ℕ → Type 0
+IsInSyncAs a role = (k : ℕ) × (m : MemberView) × IsMember a k m × (is_in_sync_as role m.state ≡ true)
+
+-- what was marked stays so
+pub record KeepsMarks (old new : Bitmap) : Type 0 where
+  pub chunks : new.chunks ≡ old.chunks
+  pub marked : (c : ℕ) → is_set old.bytes c ≡ true → is_set new.bytes c ≡ true

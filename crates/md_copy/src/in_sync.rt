@@ -1,0 +1,35 @@
+// The roles of the members in sync.
+ghost use Rattle.std.specs.Prelude.{◌≡◌, ◌↔◌, ◌<◌, ℕ, true};
+ghost use Rattle.std.specs.Int.{bit_at};
+ghost use Rattle.md_array.specs.Members.{is_in_sync_as};
+ghost use Rattle.md_copy.specs.Sources.{IsInSyncAs};
+
+use md_array::Mirror;
+use md_assembly::MemberState;
+use md_device::Device;
+
+/// The roles in which a member is in sync, as bits of a word.
+pub(crate) fn roles_in_sync<D: Device + Drop>(mirror: &Mirror<D>) -> u32
+    ensures { (role : ℕ) → role < 32
+        → (bit_at result role ≡ 1) ↔ IsInSyncAs mirror.now.array role }
+{
+    let mut roles = 0;
+    for k in 0..mirror.members() {
+        roles |= role_in_sync(mirror.state(k));
+    }
+    roles
+}
+
+// The bit of the role in which a member in this state is in sync, if a word has it.
+fn role_in_sync(state: MemberState) -> u32
+    ensures { (role : ℕ) → role < 32
+        → (bit_at result role ≡ 1) ↔ (is_in_sync_as role state ≡ true) }
+{
+    let MemberState::InSync(role) = state else {
+        return 0;
+    };
+    if role >= 32 {
+        return 0;
+    }
+    1 << u32::from(role)
+}

@@ -1,0 +1,60 @@
+// Which members may be rebuilt.
+ghost use Rattle.std.specs.Prelude.{◌≡◌, ◌<◌, MatchBool, length};
+ghost use Rattle.md_assembly.specs.States.{takes_role};
+ghost use Rattle.md_array.specs.Members.{IsMember};
+ghost use Rattle.md_array.specs.View.{MemberView};
+ghost use Rattle.md_copy.specs.Targets.{HasFreeRole, IsFree, IsTarget};
+
+use md_array::Mirror;
+use md_assembly::MemberState;
+use md_device::Device;
+use md_super::MAX_ROLES;
+
+/// Whether member k may be rebuilt: it is recovering, or a spare that can be given a role.
+pub(crate) fn is_target<D: Device + Drop>(mirror: &Mirror<D>, k: usize) -> bool
+    requires { k < length mirror.now.array.members }
+    ensures { (m : MemberView) → IsMember mirror.now.array k m
+        → MatchBool result (IsTarget mirror.now.array m) (IsTarget mirror.now.array m → ⊥) }
+{
+    match mirror.state(k) {
+        MemberState::Recovering(_) => true,
+        MemberState::Spare => mirror.own(k).dev_number < MAX_ROLES && has_free_role(mirror),
+        MemberState::InSync(_) | MemberState::Stale(_) | MemberState::Faulty => false,
+    }
+}
+
+fn has_free_role<D: Device + Drop>(mirror: &Mirror<D>) -> bool
+    ensures { MatchBool result
+        (HasFreeRole mirror.now.array)
+        (HasFreeRole mirror.now.array → ⊥) }
+{
+    for role in 0..mirror.shared().raid_disks {
+        if is_free(mirror, role) {
+            return true;
+        }
+    }
+    false
+}
+
+fn is_free<D: Device + Drop>(mirror: &Mirror<D>, role: u32) -> bool
+    ensures { MatchBool result
+        (IsFree mirror.now.array role)
+        (IsFree mirror.now.array role → ⊥) }
+{
+    for k in 0..mirror.members() {
+        if takes_role(mirror.state(k), role) {
+            return false;
+        }
+    }
+    true
+}
+
+// Whether a member in this state is in sync or recovering in the role.
+fn takes_role(state: MemberState, wanted: u32) -> bool
+    ensures { result ≡ takes_role wanted state }
+{
+    match state {
+        MemberState::InSync(role) | MemberState::Recovering(role) => u32::from(role) == wanted,
+        _ => false,
+    }
+}

@@ -1,0 +1,12 @@
+pub mod CellLoads
+pub mod CellMoves
+pub mod Certified
+pub mod Chains
+pub mod PathPulls
+pub mod ReachSteps
+pub mod RowCounts
+pub mod ShortSets
+pub mod SlotLists
+pub mod SourceBits
+pub mod SourceSums
+pub mod Zeros

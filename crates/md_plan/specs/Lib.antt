@@ -1,0 +1,6 @@
+pub mod Bounds
+pub mod Cells
+pub mod Certificates
+pub mod Classes
+pub mod Slots
+pub mod Search

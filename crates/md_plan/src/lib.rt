@@ -1,0 +1,22 @@
+//! Plans a rebuild: each missing chunk from one of its sources, in the fewest rounds, with a certificate
+//! that shows that fewer are too few.
+//!
+//! Chunks with the same sources form a class. The planner counts how many chunks of each class each source
+//! holds, moves counts along alternating paths until no source holds more than it must, and gives out chunks
+//! and rounds at the end.
+#![tactic(auto)]
+
+mod balance;
+mod bound;
+mod cell;
+mod certify;
+mod classes;
+mod give_out;
+mod place;
+mod planner;
+mod pull;
+mod reach;
+mod search;
+mod shift;
+
+pub use planner::{Planned, plan};
