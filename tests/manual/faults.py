@@ -40,7 +40,7 @@ def names_of(fault, found):
             for name, path in names_of(shown[0], found).items():
                 names[text.replace("{0}", name)] = path + [own]
         else:
-            names[re.sub(r"\{\d+\}", "#", text)] = [own]
+            names[re.sub(r"\{\w+\}", "#", text)] = [own]
     return names
 
 
