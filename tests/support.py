@@ -47,9 +47,10 @@ class Tally:
         return 1 if self.failed_count else 0
 
 
-def require_program():
-    """Builds the program where it is not there, so that no check takes the build's time for the program's own."""
-    build = subprocess.run([str(TOP / "tools" / "build_mdcli"), "--if-missing"], stdin=subprocess.DEVNULL)
+def require_program(option="--if-missing"):
+    """Builds the program where it is not there, or with --if-older where a source is newer, so that no check takes the
+    build's time for the program's own."""
+    build = subprocess.run([str(TOP / "tools" / "build_mdcli"), option], stdin=subprocess.DEVNULL)
     if build.returncode != 0:
         print("FAILED there is no program to test\n0 passed, 1 failed")
         sys.exit(1)

@@ -10,50 +10,85 @@ import support
 TABLES = support.TOP / "docs" / "FAULTS.md"
 CRATES = support.TOP / "crates"
 
-ENUM = re.compile(r"pub enum (\w+Fault) \{\n(.*?)\n\}", re.S)
+ADVICE = CRATES / "md_cli" / "src" / "advice.rt"
+
+ENUM = re.compile(r"pub enum (\w+(?:Fault|Refusal)) \{\n(.*?)\n\}", re.S)
 VARIANT = re.compile(r'#\[error\("([^"]*)"\)\]\s*(\w+)(?:\(([^)]*)\))?')
 
 
 def enums():
-    """The variants of each enum of faults: the message, and the types of its values."""
+    """The variants of each enum of faults: the message, the name, and the types of its values."""
     found = {}
     for file in sorted(CRATES.glob("*/src/*.rt")):
         for name, body in ENUM.findall(file.read_text()):
-            found[name] = [(text, [one.strip() for one in (types or "").split(",") if one.strip()])
-                           for text, _, types in VARIANT.findall(body)]
+            found[name] = [
+                (text, variant, [one.strip() for one in types.split(",") if one.strip()])
+                for text, variant, types in VARIANT.findall(body)
+            ]
     return found
 
 
 def names_of(fault, found):
-    """The names of a fault's variants. A variant that shows nothing but another fault has each of that fault's names; where
-    another value goes before it, as in `Member 1 TooShort', the inner fault is a value too."""
-    names = set()
-    for text, types in found[fault]:
+    """The names of a fault's variants, each with the variants that it is made of, the innermost first. A variant that shows
+    nothing but another fault has each of that fault's names; where another value goes before it, as in `Member 1
+    TooShort', the inner fault is a value too."""
+    names = {}
+    for text, variant, types in found[fault]:
         shown = [types[int(place)] for place in re.findall(r"\{(\d+)\}", text)]
+        own = (fault, variant)
         if len(shown) == 1 and shown[0] in found:
-            names |= {text.replace("{0}", name) for name in names_of(shown[0], found)}
+            for name, path in names_of(shown[0], found).items():
+                names[text.replace("{0}", name)] = path + [own]
         else:
-            names.add(re.sub(r"\{\d+\}", "#", text))
+            names[re.sub(r"\{\w+\}", "#", text)] = [own]
     return names
 
 
 def declared():
+    """The names of all faults, each with the variants that it is made of."""
     names = names_of("CommandFault", enums())
     # Wherever memory runs out, the command answers `NoMemory' alone.
-    return {"NoMemory" if name.endswith(" NoMemory") else name for name in names}
+    return {"NoMemory" if name.endswith(" NoMemory") else name: path for name, path in names.items()}
 
 
-def tabled():
-    """The faults in the first column of each table, single capital letters being values."""
-    names = set()
-    for line in TABLES.read_text().splitlines():
-        cells = line.split("|")
-        if len(cells) > 2:
-            for name in re.findall(r"`([^`]+)`", cells[1]):
-                names.add(re.sub(r"\b[A-Z]\b", "#", name))
-    return names
+def advice():
+    """What the program says to do, by variant."""
+    text = ADVICE.read_text()
+    constants = dict(re.findall(r'const (\w+): &str =\s*"((?:[^"\\]|\\.)*)"', text))
+    found = {}
+    for pattern, words, constant in re.findall(r'([\w:()_,|\s]+?)=>\s*\{?\s*(?:"((?:[^"\\]|\\.)*)"|([A-Z_]+)\b)', text):
+        for alternative in pattern.split("|"):
+            named = re.findall(r"(\w+)::(\w+)", alternative)
+            if named:
+                found[named[-1]] = constants[constant] if constant else words
+    return found
 
 
 def image_reasons():
-    """What `ImageFault' says of an image that can't be opened, up to what to do about it."""
-    return [text.split(":")[0] for text, _ in enums()["ImageFault"] if text != "{0}"]
+    """What the program says of an image that can't be opened, and what to do about it."""
+    texts = [text for name in ("ImageRefusal", "ImageFault") for text, _, _ in enums().get(name, [])]
+    return [tuple(text.split(": ", 1)) for text in texts if text != "{0}"]
+
+
+def rows():
+    """The faults of each row of the tables, single capital letters being values, and what its last column says to do."""
+    for line in TABLES.read_text().splitlines():
+        cells = [cell.strip() for cell in line.strip("|").split("|")]
+        names = re.findall(r"`([^`]+)`", cells[0]) if line.startswith("|") else []
+        if names:
+            yield {re.sub(r"\b[A-Z]\b", "#", name) for name in names}, cells[-1]
+
+
+def tabled():
+    """What to do, by fault."""
+    return {name: text for names, text in rows() for name in names}
+
+
+def reasons_tabled():
+    """What to do, by the reason why an image can't be opened."""
+    found = {}
+    for line in TABLES.read_text().splitlines():
+        cells = [cell.strip() for cell in line.strip("|").split("|")]
+        if line.startswith('| "'):
+            found.update({reason: cells[-1] for reason in re.findall(r'"([^"]+)"', cells[0])})
+    return found

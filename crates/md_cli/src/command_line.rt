@@ -4,6 +4,7 @@ ghost use Rattle.clap.specs.Words.{app_of, rule_of};
 ghost use Rattle.clap.specs.declared.builder.command.Command.TheViews.{out-Command as fields_of};
 ghost use Rattle.md_cli.specs.Words.{create_app, flag_rule, image_rule, images_app, mdcli, u32_rule, u64_rule, with_optional, with_required, value_rule, with_array_commands, with_examine_commands};
 
+use crate::help;
 use clap::builder::ValueParserFactory;
 use clap::{Arg, ArgAction, Command};
 use std::alloc::{AllocError, Global};
@@ -62,11 +63,15 @@ fn images_command<'a>(
     alloc: Global,
     name: &'a str,
     about: &'a str,
+    after_help: &'a str,
 ) -> Result<Command<'a>, AllocError>
     ensures app { IfOk result (λ c. app_of c ≡ images_app name.entry.now) }
     ensures local { IfOk result (λ c. (fields_of c).has_globals ≡ false) }
 {
-    Command::new(alloc, name).about(about).arg(image_arg(alloc))
+    Command::new(alloc, name)
+        .about(about)
+        .after_help(after_help)
+        .arg(image_arg(alloc))
 }
 
 // The options that `create` must be given.
@@ -135,7 +140,9 @@ fn create_command<'a>(alloc: Global) -> Result<Command<'a>, AllocError>
     ensures app { IfOk result (λ c. app_of c ≡ create_app) }
     ensures local { IfOk result (λ c. (fields_of c).has_globals ≡ false) }
 {
-    let command = Command::new(alloc, "create").about("Makes an array of the images");
+    let command = Command::new(alloc, "create")
+        .about("Makes an array of the images; what they held is lost")
+        .after_help(help::CREATE);
     let command = required_options(alloc, command)?;
     optional_options(alloc, command)?.arg(image_arg(alloc))
 }
@@ -148,9 +155,15 @@ fn array_commands<'a>(alloc: Global, program: Command<'a>) -> Result<Command<'a>
     let assemble = images_command(
         alloc,
         "assemble",
-        "Shows in a line what array the images make",
+        "Shows in a line what array the images make; may store marks",
+        help::ARRAY,
     )?;
-    let detail = images_command(alloc, "detail", "Shows the array that the images make")?;
+    let detail = images_command(
+        alloc,
+        "detail",
+        "Shows the array that the images make; may store marks",
+        help::ARRAY,
+    )?;
     program
         .subcommand(create)?
         .subcommand(assemble)?
@@ -161,16 +174,23 @@ fn array_commands<'a>(alloc: Global, program: Command<'a>) -> Result<Command<'a>
 fn examine_commands<'a>(alloc: Global, program: Command<'a>) -> Result<Command<'a>, AllocError>
     ensures { IfOk result (λ c. app_of c ≡ with_examine_commands (app_of program.entry)) }
 {
-    let superblock = images_command(alloc, "examine", "Shows the superblock of a member's image")?;
+    let superblock = images_command(
+        alloc,
+        "examine",
+        "Shows the superblock of a member's image",
+        help::EXAMINE,
+    )?;
     let bitmap = images_command(
         alloc,
         "examine-bitmap",
         "Shows the write-intent bitmap of a member's image",
+        help::EXAMINE,
     )?;
     let bad_blocks = images_command(
         alloc,
         "examine-badblocks",
         "Shows the bad block log of a member's image",
+        help::EXAMINE,
     )?;
     program
         .subcommand(superblock)?

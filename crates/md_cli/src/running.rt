@@ -5,12 +5,14 @@ ghost use Rattle.md_cli.specs.Asked.{ask_of, asked, creates, image_words, option
 ghost use Rattle.md_cli.specs.Running.{Does, DoesCommand, IsIdle, status_of};
 ghost use Rattle.md_cli.specs.Words.{mdcli};
 
+use crate::advising::advise;
 use crate::array_report::ArrayReport;
 use crate::arrays::show_images;
 use crate::creating::create_images;
 use crate::examining::examine_images;
 use crate::fault::CommandFault;
 use crate::images::Images;
+use crate::messages::Messages;
 use crate::options::CreateOptions;
 use crate::parsing::parse;
 use crate::planning::plan;
@@ -25,14 +27,16 @@ use std::io::Write;
 /// Want of memory in the parse is status 2 too. That it is answered only then is tested, since no
 /// clause can tell whether memory was there.
 ///
-/// A refusal's line goes to `err`, as `mdcli: BadImage 0`; the parser's text goes there too. No
-/// clause speaks of what is written to `err`, nor of whether that can be written.
+/// A refusal's line goes to `err`, as `mdcli: BadImage 0`; so does the line of advice after it, where
+/// that is asked for, and the parser's text. No clause speaks of what is written to `err`, nor of
+/// whether that can be written.
 pub fn run<'a, I: Images, S: Sink, E: Write>(
     alloc: Global,
     words: &'a [&'a str],
     images: &mut I,
     out: &mut S,
     err: &mut E,
+    messages: Messages,
 ) -> u8
     ensures refused { fault_of mdcli (map (λ s. s.now) words.entry.now) ≢ [] → (result ≡ 2) × IsIdle images.old images.new out.old out.new }
     ensures taken { fault_of mdcli (map (λ s. s.now) words.entry.now) ≡ [] →
@@ -46,14 +50,9 @@ pub fn run<'a, I: Images, S: Sink, E: Write>(
             return 2;
         }
     };
-    let outcome = act(
-        alloc,
-        request.action,
-        images,
-        request.images.as_slice(),
-        out,
-    );
-    answer(outcome, err)
+    let names = request.images.as_slice();
+    let outcome = act(alloc, request.action, images, names, out);
+    answer(outcome, request.action, names, messages, err)
 }
 
 // Does a command on the images that are named.
@@ -91,13 +90,22 @@ fn create_array<I: Images, S: Sink>(
 }
 
 // The status of a command that was done or refused. A refusal is said on `err`.
-fn answer<E: Write>(outcome: Result<(), CommandFault>, err: &mut E) -> u8
+fn answer<E: Write>(
+    outcome: Result<(), CommandFault>,
+    action: Action<'_>,
+    names: &[&str],
+    messages: Messages,
+    err: &mut E,
+) -> u8
     ensures { result ≡ status_of outcome }
 {
     match outcome {
         Ok(()) => 0,
         Err(fault) => {
             let _ = writeln!(err, "mdcli: {fault}");
+            if messages == Messages::WithAdvice {
+                advise(&fault, names, matches!(action, Action::Create(_)), err);
+            }
             1
         }
     }

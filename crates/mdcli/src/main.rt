@@ -4,11 +4,11 @@
 mod files;
 
 use crate::files::FileImages;
-use md_cli::run;
+use md_cli::{Messages, run};
 use md_examine::Output;
 use std::alloc::{AllocError, Global};
 use std::fs::File;
-use std::io;
+use std::io::{self, IsTerminal};
 use std::process::ExitCode;
 use std::rt::Files;
 
@@ -32,12 +32,18 @@ fn main(rt: HostRuntime) -> ExitCode {
     };
     let mut out = Output::new(io::writer(&rt));
     let mut err = rt.stderr();
+    let messages = if err.is_terminal() {
+        Messages::WithAdvice
+    } else {
+        Messages::Plain
+    };
     let status = run(
         rt.alloc(),
         words.as_slice(),
         &mut FileImages::new(&rt),
         &mut out,
         &mut err,
+        messages,
     );
     ExitCode::from(status)
 }

@@ -1,5 +1,5 @@
 // One run of the program over images in memory.
-use md_cli::{MemImages, run};
+use md_cli::{MemImages, Messages, run};
 use md_device::{Device, MemDevice};
 use md_examine::Output;
 use std::alloc::Global;
@@ -18,9 +18,18 @@ pub(crate) fn run_words<'a, D: Device + Drop + Send>(
     words: &'a [&'a str],
     images: &mut MemImages<D>,
 ) -> Result<Answer, Fail> {
+    run_told(alloc, words, images, Messages::Plain)
+}
+
+pub(crate) fn run_told<'a, D: Device + Drop + Send>(
+    alloc: Global,
+    words: &'a [&'a str],
+    images: &mut MemImages<D>,
+    messages: Messages,
+) -> Result<Answer, Fail> {
     let mut out = Output::new(vec![in alloc]?);
     let mut err: Vec<u8> = vec![in alloc]?;
-    let status = run(alloc, words, images, &mut out, &mut err);
+    let status = run(alloc, words, images, &mut out, &mut err, messages);
     Ok(Answer {
         status,
         out: out.into_inner(),

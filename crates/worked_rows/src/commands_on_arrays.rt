@@ -1,7 +1,7 @@
 // Arrays that are made, opened and shown.
-use crate::commands::run_words;
+use crate::commands::{is_kept, run_told, run_words};
 use crate::vault::zeros;
-use md_cli::MemImages;
+use md_cli::{MemImages, Messages};
 use md_device::MemDevice;
 use std::alloc::Global;
 use std::test::Fail;
@@ -109,5 +109,63 @@ fn array_refusals(rt: HostRuntime) -> Result<(), Fail> {
     }
     let none = run_words(alloc, ["mdcli", "assemble"].as_slice(), &mut images)?;
     assert_eq!(rt; none.err.as_slice(), b"mdcli: Assemble Empty\n".as_slice());
+    Ok(())
+}
+
+#[test]
+fn create_over_an_image_that_may_only_be_looked_at(rt: HostRuntime) -> Result<(), Fail> {
+    let alloc = rt.alloc();
+    let mut images = MemImages::new(alloc);
+    images.add("a", zeros(alloc, 2112)?)?;
+    images.add_protected("b", zeros(alloc, 2112)?)?;
+    let words = [
+        "mdcli",
+        "create",
+        "--level",
+        "1",
+        "--raid-devices",
+        "2",
+        "--uuid",
+        SET,
+        "a",
+        "b",
+    ];
+    let advice = "mdcli: BadImage 1\n\
+        b: it can't be written: ask for write permission, or make its file system or device writable\n";
+    let answer = run_told(alloc, words.as_slice(), &mut images, Messages::WithAdvice)?;
+    assert_eq!(rt; answer.status, 1);
+    assert_eq!(rt; answer.err.as_slice(), advice.as_bytes());
+    assert!(rt; is_kept(&images, "a", &zeros(alloc, 2112)?));
+    assert!(rt; is_kept(&images, "b", &zeros(alloc, 2112)?));
+    Ok(())
+}
+
+#[test]
+fn advice_names_the_image(rt: HostRuntime) -> Result<(), Fail> {
+    let alloc = rt.alloc();
+    let mut images = two_images(alloc)?;
+    for (words, advice) in [
+        (
+            ["mdcli", "assemble", "a", "b"].as_slice(),
+            "mdcli: Member 0 Super Magic\n\
+             a: perhaps the member is a partition of this disk, or its metadata is 0.90, 1.0 or 1.1, which stand elsewhere\n",
+        ),
+        (
+            ["mdcli", "detail", "a", "a"].as_slice(),
+            "mdcli: BadImage 1\na: it was named before: name it once\n",
+        ),
+        (
+            ["mdcli", "examine", "c"].as_slice(),
+            "mdcli: BadImage 0\nc: no such file: check the path, or create the image first\n",
+        ),
+        (
+            ["mdcli", "assemble"].as_slice(),
+            "mdcli: Assemble Empty\nname the members of one array\n",
+        ),
+    ] {
+        let answer = run_told(alloc, words, &mut images, Messages::WithAdvice)?;
+        assert_eq!(rt; answer.status, 1);
+        assert_eq!(rt; answer.err.as_slice(), advice.as_bytes());
+    }
     Ok(())
 }

@@ -1,7 +1,7 @@
 // What a refused command says, and that it leaves the images alone.
 use crate::commands::{is_kept, run_words};
 use crate::vault::{image, put, vault, zeros};
-use md_cli::{Images, MemImages, run};
+use md_cli::{Images, MemImages, Messages, run};
 use md_device::{Access, FaultDevice};
 use md_examine::Output;
 use std::test::Fail;
@@ -94,7 +94,17 @@ fn full_output(rt: HostRuntime) -> Result<(), Fail> {
     let mut out = Output::new(room.as_mut_slice());
     let mut err: Vec<u8> = vec![in alloc]?;
     let words = ["mdcli", "examine", "a"].as_slice();
-    assert_eq!(rt; run(alloc, words, &mut images, &mut out, &mut err), 1);
+    assert_eq!(rt;
+        run(
+            alloc,
+            words,
+            &mut images,
+            &mut out,
+            &mut err,
+            Messages::Plain
+        ),
+        1
+    );
     assert_eq!(rt; err.as_slice(), b"mdcli: OutputFault\n".as_slice());
     assert!(rt; is_kept(&images, "a", &image(alloc, &vault())?));
     Ok(())

@@ -6,5 +6,5 @@ use Rattle.md_cli.proofs.command_line.images_command.Goals as goal
 
 pub returns-clause-app : goal.returns-clause-app
 returns-clause-app c =
-    let named_is : app_of c.about.result ≡ new_app c.args.name.now = ap app_of_fields c.about.ensures ∙ c.new.ensures.app in
+    let named_is : app_of c.after_help.result ≡ new_app c.args.name.now = ap app_of_fields c.after_help.ensures ∙ ap app_of_fields c.about.ensures ∙ c.new.ensures.app in
     IfOk-weaker c.arg.result _ _ (λ r h. h.shape c.image_arg.ensures.local ∙ ap₂ with_rule named_is c.image_arg.ensures.rule) c.arg.ensures

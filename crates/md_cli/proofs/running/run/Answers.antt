@@ -10,11 +10,11 @@ texts = map (λ s. s.now)
 
 pub returns-clause-taken : goal.returns-clause-taken
 returns-clause-taken g c taken =
-    let names_are : texts c.as_slice.result.now ≡ image_words (texts c.args.words.now) = ap texts c.as_slice.ensures.value ∙ c.in-Ok.ensures.images in
+    let names_are : texts c.as_slice-names.result.now ≡ image_words (texts c.args.words.now) = ap texts c.as_slice-names.ensures.value ∙ c.in-Ok.ensures.images in
     let Doing : Ask → List Text → Type 0 =
     λ ask names. Does g.I.Dev.Device g.S.Sink.contents g.S.Sink.failed g.I.Images.known g.I.Images.device_at g.I.Images.changeable ask names c.args.images.now c.act-outcome.new.images c.args.out.now c.act-outcome.new.out c.act-outcome.result in
     inr (record {
       result = c.act-outcome.result;
       status_is = c.answer.ensures;
-      does = subst (λ names. Doing (asked (texts c.args.words.now)) names) names_are (subst (λ ask. Doing ask (texts c.as_slice.result.now)) c.in-Ok.ensures.asks c.act-outcome.ensures);
+      does = subst (λ names. Doing (asked (texts c.args.words.now)) names) names_are (subst (λ ask. Doing ask (texts c.as_slice-names.result.now)) c.in-Ok.ensures.asks c.act-outcome.ensures);
     })

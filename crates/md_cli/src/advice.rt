@@ -1,0 +1,107 @@
+// What to do about a fault. The texts are those of docs/FAULTS.md, which a test compares with them.
+use crate::fault::CommandFault;
+use crate::option_fault::OptionFault;
+use md_array::OpenFault;
+use md_assembly::AssembleFault;
+use md_create::CreateFault;
+use md_members::MemberFault;
+use md_super::SuperFault;
+
+/// What to do about a command that is refused. Of an image that can't be opened the fault's own words
+/// say most of it.
+pub(crate) fn advice(fault: &CommandFault) -> &'static str {
+    match fault {
+        CommandFault::BadCount => {
+            "name as many images; in `create`, `missing` stands for a member that is not there"
+        }
+        CommandFault::BadImage(_, _) => {
+            "a file system that can't lock is refused too: copy the image to another one"
+        }
+        CommandFault::Options(fault) => option_advice(*fault),
+        CommandFault::Member(fault) => member_advice(*fault),
+        CommandFault::NoBitmap => "there is nothing to show",
+        CommandFault::Create(CreateFault::BadGeometry) => {
+            "choose another `--size` or `--bitmap-chunk`, or larger images"
+        }
+        CommandFault::Open(OpenFault::Member(_, fault)) => member_advice(*fault),
+        CommandFault::Open(OpenFault::Assemble(fault)) => array_advice(*fault),
+        CommandFault::MetadataFault(_) | CommandFault::Open(OpenFault::MetadataFault(_)) => {
+            "see why the device can't be written (`dmesg`, free space, write protection); run the command again, which begins anew"
+        }
+        CommandFault::OutputFault => {
+            "give it an output that takes the whole report, and drop what came so far"
+        }
+        CommandFault::Create(CreateFault::NoMemory)
+        | CommandFault::Open(OpenFault::NoMemory)
+        | CommandFault::NoMemory => MORE_MEMORY,
+    }
+}
+
+const MORE_MEMORY: &str = "try again with more memory";
+
+fn option_advice(fault: OptionFault) -> &'static str {
+    match fault {
+        OptionFault::BadLevel => "fix the option: only RAID-1 is made",
+        OptionFault::BadUuid => {
+            "fix the option; `cat /proc/sys/kernel/random/uuid` gives a new one"
+        }
+        OptionFault::BadName => "choose a shorter name",
+        OptionFault::BadCount => {
+            "name as many images; in `create`, `missing` stands for a member that is not there"
+        }
+        OptionFault::BadChunk => "choose a smaller chunk, below 4,194,304 KiB",
+        OptionFault::BadSize => "choose a smaller size",
+    }
+}
+
+fn member_advice(fault: MemberFault) -> &'static str {
+    match fault {
+        MemberFault::TooShort => "it is not a member, or a copy that was cut: copy it again",
+        MemberFault::ReadFault => {
+            "copy the disk with a tool that goes past bad sectors, and use the copy"
+        }
+        MemberFault::Super(fault) => superblock_advice(fault),
+        MemberFault::Region => {
+            "the copy was cut, or the superblock is damaged: copy it again, or use another member"
+        }
+        MemberFault::Bitmap(_) => {
+            "it is damaged, or of another version: `examine` still shows the superblock"
+        }
+        MemberFault::Log(_) => "it is damaged: `examine` still shows the superblock",
+        MemberFault::NoMemory => MORE_MEMORY,
+    }
+}
+
+fn superblock_advice(fault: SuperFault) -> &'static str {
+    match fault {
+        SuperFault::Magic => {
+            "perhaps the member is a partition of this disk, or its metadata is 0.90, 1.0 or 1.1, which stand elsewhere"
+        }
+        SuperFault::Major => "not for this program",
+        SuperFault::MaxDev => "it is damaged: use another member",
+        SuperFault::Checksum => "it is damaged or was edited: use another member",
+        SuperFault::SuperOffset => "the copy may begin at the wrong sector: copy it again",
+        SuperFault::Feature(_) => {
+            "finish the reshape, the replacement or the re-add with the kernel first; arrays with a journal are not for this program"
+        }
+        SuperFault::Level => "not for this program",
+        SuperFault::RaidDisks => "not for this program",
+        SuperFault::NoMemory => MORE_MEMORY,
+    }
+}
+
+fn array_advice(fault: AssembleFault) -> &'static str {
+    match fault {
+        AssembleFault::Empty => "name the members of one array",
+        AssembleFault::TooMany => "name the members of one array",
+        AssembleFault::Stranger(_) => "leave it out; `examine` shows the UUID of the array",
+        AssembleFault::DoubleNumber(_, _) => "leave one out: often one is a copy of the other",
+        AssembleFault::NoBitmap(_) => {
+            "arrays without a bitmap are not for this program; `examine` shows each member"
+        }
+        AssembleFault::Geometry(_) => "leave it out",
+        AssembleFault::DoubleRole(_) => "leave one out: `examine` shows which has fewer events",
+        AssembleFault::NotEnough => "name the other members too",
+        AssembleFault::NoMemory => MORE_MEMORY,
+    }
+}

@@ -1,0 +1,13 @@
+// The texts at the end of each command's help.
+
+/// Of a command that shows one image.
+pub(crate) const EXAMINE: &str =
+    "The image is only read.\n\nThe status is 0 where the report is written, 1 where it is refused (standard error names the fault), and 2 where the words are not accepted.\n\nExample:\n  mdcli examine /dev/sda1";
+
+/// Of a command that shows an array.
+pub(crate) const ARRAY: &str =
+    "Name all images of the array, in any order. Where the bitmap of a member in sync does not fit the array, all chunks are marked in it: the image is changed. Nothing else is written.\n\nThe status is 0 where the report is written, 1 where it is refused (standard error names the fault), and 2 where the words are not accepted.\n\nExample:\n  mdcli detail a.img b.img";
+
+/// Of `create`.
+pub(crate) const CREATE: &str =
+    "WHAT THE IMAGES HELD IS LOST. All of them are opened before the first write: where one can't be written, or is in use, the command is refused and nothing is changed.\n\nThe word `missing` in place of an image stands for a member that is not there. The array is degraded then.\n\nThe status is 0 where the array is made, 1 where it is refused (standard error names the fault), and 2 where the words are not accepted.\n\nExample:\n  mdcli create --level raid1 --raid-devices 2 --uuid 00112233-4455-6677-8899-aabbccddeeff a.img b.img";
