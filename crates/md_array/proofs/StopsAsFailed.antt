@@ -105,8 +105,7 @@ module _ (k : ℕ) (w : Write) (before after : List Disk) (left : List (List ℕ
 pub stops_as_failed : StopsAsFailed
 stops_as_failed k w old new left honest fails may =
     let but = stops_at_failure k w old.disks new.disks left honest fails.disks may in
-    let tried = fails.disks.tried in
-    (
+    let tried = fails.disks.tried in (
       record { disks = with_contents new.disks left; array = new.array },
       record {
         disks = record {
@@ -126,8 +125,7 @@ stops_as_failed k w old new left honest fails may =
 pub stops_as_tried : StopsAsTried
 stops_as_tried k w before after left honest writes may =
     let cut : List ℕ → List ℕ → Type 0 = λ was c. IsCutShort was (w ∷ []) c in
-    let but = stops_at_write k w before after left honest writes may in
-    (
+    let but = stops_at_write k w before after left honest writes may in (
       with_contents after left,
       found_tried k w before after left cut writes.tried but
           (λ d c was short.
@@ -153,28 +151,28 @@ sector_done k w before after left honest writes but =
     let c = got_within left k (omega arith) in
     ⊎_elim
     (λ (none : c.0 ≡ d.0.content). inl (same_lists (map (λ (x : Disk). x.content) before) left (long ∙ sym (length-map before (λ (x : Disk). x.content)))
-        (λ j x y at is. by_same j k
-        (λ here. same_Some y c.0 (sym is ∙ ap (slice_get left) here ∙ c.1) ∙ none ∙ sym (same_Some x d.0.content (sym at ∙ ap (slice_get (map (λ (z : Disk). z.content) before)) here ∙ got_in_map (λ (z : Disk). z.content) before k d.0 d.1)))
-        (λ apart.
-        let inside = slice_get_within left j y is in
-        let b = got_within before j (omega arith) in
-        but.others j apart b.0 y b.1 is ∙ sym (same_Some x b.0.content (sym at ∙ got_in_map (λ (z : Disk). z.content) before j b.0 b.1))))))
+    (λ j x y at is. by_same j k
+    (λ here. same_Some y c.0 (sym is ∙ ap (slice_get left) here ∙ c.1) ∙ none ∙ sym (same_Some x d.0.content (sym at ∙ ap (slice_get (map (λ (z : Disk). z.content) before)) here ∙ got_in_map (λ (z : Disk). z.content) before k d.0 d.1)))
+    (λ apart.
+    let inside = slice_get_within left j y is in
+    let b = got_within before j (omega arith) in
+    but.others j apart b.0 y b.1 is ∙ sym (same_Some x b.0.content (sym at ∙ got_in_map (λ (z : Disk). z.content) before j b.0 b.1))))))
     (λ (done : c.0 ≡ written d.0.content w.sector w.bytes). inr (same_lists (map (λ (x : Disk). x.content) after) left (long ∙ sym many ∙ sym (length-map after (λ (x : Disk). x.content)))
-        (λ j x y at is. by_same j k
-        (λ here.
-        let e = got_within after k (omega arith) in
-        same_Some y c.0 (sym is ∙ ap (slice_get left) here ∙ c.1) ∙ done ∙ sym (writes.done d.0 e.0 d.1 e.1 (honest k d.0 d.1))
-        ∙ sym (same_Some x e.0.content (sym at ∙ ap (slice_get (map (λ (z : Disk). z.content) after)) here ∙ got_in_map (λ (z : Disk). z.content) after k e.0 e.1)))
-        (λ apart.
-        let inside = slice_get_within left j y is in
-        let b = got_within before j (omega arith) in
-        but.others j apart b.0 y b.1 is ∙ sym (same_Some x b.0.content (sym at ∙ got_in_map (λ (z : Disk). z.content) after j b.0 (writes.tried.others j apart ∙ b.1)))))))
+    (λ j x y at is. by_same j k
+    (λ here.
+    let e = got_within after k (omega arith) in
+    same_Some y c.0 (sym is ∙ ap (slice_get left) here ∙ c.1) ∙ done ∙ sym (writes.done d.0 e.0 d.1 e.1 (honest k d.0 d.1))
+    ∙ sym (same_Some x e.0.content (sym at ∙ ap (slice_get (map (λ (z : Disk). z.content) after)) here ∙ got_in_map (λ (z : Disk). z.content) after k e.0 e.1)))
+    (λ apart.
+    let inside = slice_get_within left j y is in
+    let b = got_within before j (omega arith) in
+    but.others j apart b.0 y b.1 is ∙ sym (same_Some x b.0.content (sym at ∙ got_in_map (λ (z : Disk). z.content) after j b.0 (writes.tried.others j apart ∙ b.1)))))))
     (but.this d.0 c.0 d.1 c.1))
     (λ past. inl (same_lists (map (λ (x : Disk). x.content) before) left (long ∙ sym (length-map before (λ (x : Disk). x.content)))
-        (λ j x y at is.
-        let inside = slice_get_within left j y is in
-        let b = got_within before j (omega arith) in
-        but.others j (λ here. absurd (omega arith)) b.0 y b.1 is ∙ sym (same_Some x b.0.content (sym at ∙ got_in_map (λ (z : Disk). z.content) before j b.0 b.1)))))
+    (λ j x y at is.
+    let inside = slice_get_within left j y is in
+    let b = got_within before j (omega arith) in
+    but.others j (λ here. absurd (omega arith)) b.0 y b.1 is ∙ sym (same_Some x b.0.content (sym at ∙ got_in_map (λ (z : Disk). z.content) before j b.0 b.1)))))
     (cases_lt k (length before))
 
 in_memory : (before after : List Disk) (left : List (List ℕ)) → after ≡ before → MayAllBeLeft before after left → left ≡ map (λ (d : Disk). d.content) before
