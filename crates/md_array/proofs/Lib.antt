@@ -79,3 +79,4 @@ pub mod WorldsWrites
 pub mod WriteKeeps
 pub mod WriteToMember
 pub mod StopsAtSteps
+pub mod StopsAsFailed

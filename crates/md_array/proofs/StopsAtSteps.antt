@@ -58,7 +58,7 @@ stops_at_failure k w before after left honest failed may =
     (λ new. new_has d.stops e.stops (IsAnyIn w d.content) (failed.within d e was is (honest k d was)) new.0 c new.1))
 
 -- lists with the same elements at each place
-same_lists : {X : Type 0} (xs ys : List X) → length ys ≡ length xs → ((k : ℕ) (x y : X) → slice_get xs k ≡ Some x → slice_get ys k ≡ Some y → y ≡ x) → ys ≡ xs
+pub same_lists : {X : Type 0} (xs ys : List X) → length ys ≡ length xs → ((k : ℕ) (x y : X) → slice_get xs k ≡ Some x → slice_get ys k ≡ Some y → y ≡ x) → ys ≡ xs
 same_lists [] [] long same = refl
 same_lists [] (y ∷ ys) long same = absurd (omega arith)
 same_lists (x ∷ xs) [] long same = absurd (omega arith)

@@ -2,8 +2,11 @@
 use Rattle.std.specs.Prelude.{◌≡◌, ◌≢◌, ◌⊎◌, ℕ, List, [], ◌∷◌, drop, length, map, slice_get, Some}
 use Rattle.md_device.specs.Device.{written}
 use Rattle.md_writes.specs.Writes.{IsAnyIn, IsCutShort, Write}
-use Rattle.md_array.specs.View.{Disk}
-use Rattle.md_array.specs.DiskWrites.{IsFailed, IsWritten}
+use Rattle.md_model.specs.Events.{Event}
+use Rattle.md_array.specs.View.{Disk, MirrorView}
+use Rattle.md_array.specs.DiskWrites.{IsFailed, IsTried, IsWritten}
+use Rattle.md_array.specs.Events.{WritesOnce}
+use Rattle.md_array.specs.Trying.{FailsWriting}
 use Rattle.md_array.specs.Worlds.{AreHonest}
 
 -- a stop since the device was d, and until it was e, might have left this
@@ -44,3 +47,40 @@ abbrev pub StopsAtFailure : Type 0
 StopsAtFailure =
     (k : ℕ) (w : Write) (before after : List Disk) (left : List (List ℕ)) → AreHonest before → IsFailed k w before after → MayAllBeLeft before after left
     → IsLeftBut k (IsAnyIn w) before left
+
+-- What a stop leaves within a write that fails, that write might leave at its end. So it is a stop after the event, over other
+-- bytes.
+abbrev pub StopsAsFailed : Type 0
+StopsAsFailed =
+    (k : ℕ) (w : Write) (old new : MirrorView) (left : List (List ℕ)) → AreHonest old.disks → FailsWriting k w old new → MayAllBeLeft old.disks new.disks left
+    → (other : MirrorView) × FailsWriting k w old other × (map (λ d. d.content) other.disks ≡ left)
+
+-- What it leaves within one that is done, are devices of which k alone was written, in the write's range: as of a torn write of
+-- data.
+abbrev pub StopsAsTried : Type 0
+StopsAsTried =
+    (k : ℕ) (w : Write) (before after : List Disk) (left : List (List ℕ)) → AreHonest before → IsWritten k w before after → MayAllBeLeft before after left
+    → (disks : List Disk) × IsTried k w before disks × (map (λ d. d.content) disks ≡ left)
+
+-- What a stop leaves at a moment of the call of an event: what was there before it or what is after it, or its one write cut short.
+abbrev pub IsLeftBy : Event → List Disk → List Disk → List (List ℕ) → Type 0
+IsLeftBy (Event.Record k) before after left = (w : Write) × IsWritten k w before after × IsLeftBut k (λ old c. IsCutShort old (w ∷ []) c) before left
+IsLeftBy (Event.WriteMember n k) before after left = (w : Write) × IsWritten k w before after × IsLeftBut k (λ old c. IsCutShort old (w ∷ []) c) before left
+IsLeftBy (Event.StoreMarks k b) before after left = (left ≡ map (λ d. d.content) before) ⊎ (left ≡ map (λ d. d.content) after)
+IsLeftBy (Event.RecordFails k) before after left = (w : Write) × IsFailed k w before after × IsLeftBut k (IsAnyIn w) before left
+IsLeftBy (Event.StoreMarksFails k b) before after left = (w : Write) × IsFailed k w before after × IsLeftBut k (IsAnyIn w) before left
+IsLeftBy (Event.WriteMemberFails n k) before after left = (w : Write) × IsFailed k w before after × IsLeftBut k (IsAnyIn w) before left
+IsLeftBy (Event.CopyFails k c) before after left = Unit {0}
+IsLeftBy (Event.Copy from k s) before after left = Unit {0}
+IsLeftBy Event.Resynced before after left = Unit {0}
+IsLeftBy Event.Unresynced before after left = Unit {0}
+IsLeftBy Event.MakeClean before after left = left ≡ map (λ d. d.content) before
+IsLeftBy (Event.Begin n p) before after left = left ≡ map (λ d. d.content) before
+IsLeftBy (Event.Finish n) before after left = left ≡ map (λ d. d.content) before
+IsLeftBy (Event.ClearIdle c) before after left = left ≡ map (λ d. d.content) before
+IsLeftBy (Event.Fail k) before after left = left ≡ map (λ d. d.content) before
+
+abbrev pub StopsAtEvents : Type 0
+StopsAtEvents =
+    (e : Event) (before after : List Disk) (left : List (List ℕ)) → AreHonest before → WritesOnce e before after → MayAllBeLeft before after left
+    → IsLeftBy e before after left
