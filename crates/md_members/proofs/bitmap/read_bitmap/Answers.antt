@@ -38,9 +38,9 @@ returns-then-not-is_placed-clause-reads g c =
     let passes : c.has_few_chunks.result ≡ true = search rules in
     let few = leb-true (chunks_of c.args.v.now c.in-Ok.header) 1048576 (sym c.has_few_chunks.ensures ∙ passes) in
     let count : c.count-chunks.result ≡ chunks_of c.args.v.now c.in-Ok.header = c.count-chunks.ensures.count ∙ c.new.ensures.count in
-    let width : c.sectors_of_bitmap-sectors.result ≡ bitmap_sectors (chunks_of c.args.v.now c.in-Ok.header) = c.sectors_of_bitmap-sectors.ensures.sectors ∙ ap bitmap_sectors count in
+    let width : c.from-sectors.result ≡ bitmap_sectors (chunks_of c.args.v.now c.in-Ok.header) = c.from-sectors.ensures ∙ c.sectors_of_bitmap.ensures.sectors ∙ ap bitmap_sectors count in
     let fails : c.is_placed.result ≡ false = search rules in
-    (c.in-Ok.header, header, few, λ p. let placed : IsTrue c.is_placed.result = c.is_placed.ensures.1 (placed_of content c.args.v.now c.sectors-device_sectors.result _ c.sectors_of_bitmap-sectors.result c.sectors-device_sectors.ensures.size width p) in absurd (search rules))
+    (c.in-Ok.header, header, few, λ p. let placed : IsTrue c.is_placed.result = c.is_placed.ensures.1 (placed_of content c.args.v.now c.sectors-device_sectors.result _ c.from-sectors.result c.sectors-device_sectors.ensures.size width p) in absurd (search rules))
 
 pub returns-clause-reads : goal.returns-clause-reads
 returns-clause-reads g c =
@@ -53,13 +53,13 @@ returns-clause-reads g c =
     let passes : c.has_few_chunks.result ≡ true = search rules in
     let few = leb-true (chunks_of c.args.v.now c.in-Ok.header) 1048576 (sym c.has_few_chunks.ensures ∙ passes) in
     let count : c.count-chunks.result ≡ chunks_of c.args.v.now c.in-Ok.header = c.count-chunks.ensures.count ∙ c.new.ensures.count in
-    let width : c.sectors_of_bitmap-sectors.result ≡ bitmap_sectors (chunks_of c.args.v.now c.in-Ok.header) = c.sectors_of_bitmap-sectors.ensures.sectors ∙ ap bitmap_sectors count in
+    let width : c.from-sectors.result ≡ bitmap_sectors (chunks_of c.args.v.now c.in-Ok.header) = c.from-sectors.ensures ∙ c.sectors_of_bitmap.ensures.sectors ∙ ap bitmap_sectors count in
     let placed : IsTrue c.is_placed.result = search rules in
     record {
       header = header;
       few_chunks = few;
-      placed = placed_by content c.args.v.now c.sectors-device_sectors.result _ c.sectors_of_bitmap-sectors.result c.sectors-device_sectors.ensures.size width (c.is_placed.ensures.0 placed);
+      placed = placed_by content c.args.v.now c.sectors-device_sectors.result _ c.from-sectors.result c.sectors-device_sectors.ensures.size width (c.is_placed.ensures.0 placed);
       start = c.start_of_bitmap-start.result;
       at = c.start_of_bitmap-start.ensures.start;
-      marks = marks_as content _ _ _ c.start_of_bitmap-start.result c.count-chunks.result _ c.sectors_of_bitmap-sectors.result _ c.in_ok-marks.marks c.read.ensures.kept c.read.ensures.honest count width c.in_ok-marks.ensures.reads;
+      marks = marks_as content _ _ _ c.start_of_bitmap-start.result c.count-chunks.result _ c.from-sectors.result _ c.in_ok-marks.marks c.read.ensures.kept c.read.ensures.honest count width c.in_ok-marks.ensures.reads;
     }
