@@ -1,19 +1,16 @@
 -- An opening that came to no end leaves the devices of a mirror as they were left.
-use Rattle.std.proofs.Common.{◌≡◌, ◌⊎◌, ℕ, zero, suc, ◌+◌, ◌*◌, ◌/◌, ◌<◌, ◌≤◌, inl, inr, Bool, true, false, true≢false, cond, nat_lt, List, [], ◌∷◌, ◌++◌, length, drop, refl, sym, ap, ◌∙◌, subst, arith, lt-ltb}
-use Rattle.std.proofs.lemmas.List.{append-nil}
+use Rattle.std.proofs.Common.{◌≡◌, ◌⊎◌, ℕ, ◌+◌, ◌*◌, ◌/◌, ◌<◌, ◌≤◌, inl, inr, Bool, true, false, true≢false, cond, nat_lt, List, [], ◌∷◌, length, drop, refl, sym, ap, ◌∙◌, subst, arith, lt-ltb}
 use Rattle.md_device.specs.Splice.{SameOutside}
-use Rattle.md_device.specs.Device.{written}
-use Rattle.md_device.proofs.Splices.{part_before, spliced_outside}
+use Rattle.md_device.proofs.Splices.{part_before}
 use Rattle.md_format.specs.Fields.{number_at}
-use Rattle.md_bitmap.specs.declared.header.BitmapHeader.{BitmapHeader}
-use Rattle.md_bitmap.specs.Marks.{Bitmap, is_set}
+use Rattle.md_bitmap.specs.Marks.{is_set}
 use Rattle.md_bitmap.proofs.Limits.{div-lt-div_ceil}
 use Rattle.md_members.specs.declared.info.MemberInfo.{MemberInfo}
 use Rattle.md_members.specs.Areas.{bitmap_sectors}
-use Rattle.md_writes.specs.Bitmaps.{bitmap_sector, bitmap_write, bitmap_writes}
-use Rattle.md_writes.specs.Writes.{Write, after}
-use Rattle.md_writes.proofs.Frames.{outside_around, outside_none, outside_then}
-use Rattle.md_writes.proofs.Sectors.{length-bitmap_sector, writes_from}
+use Rattle.md_writes.specs.Bitmaps.{bitmap_writes}
+use Rattle.md_writes.specs.Writes.{IsCutShort, Write, after}
+use Rattle.md_writes.proofs.Frames.{outside_around, outside_then}
+use Rattle.md_writes.proofs.Stored.{stored_all, stored_cut}
 use Rattle.md_model.specs.Sectors.{chunk_of}
 use Rattle.md_model.specs.Devices.{accepts, is_accepted, is_marked}
 use Rattle.md_model.specs.Events.{Event}
@@ -39,42 +36,6 @@ use Rattle.md_array.proofs.WorldsReadMember as read
 use Rattle.md_array.proofs.WorldsReadMember.{IsReadMember}
 use Rattle.md_array.proofs.WorldsTests.{and_is}
 
--- ---- the first of the writes of a bitmap change no more than its sectors, and its header no sooner than at the last
-none_behind : {X : Type 0} (front rest : List X) → [] ≡ front ++ rest → rest ≡ []
-none_behind [] rest e = sym e
-none_behind (x ∷ front) rest e = cc
-
-module _ (start : ℕ) (h : BitmapHeader) (m : Bitmap) where
-  record IsFront (n : ℕ) (rest : List Write) (old new : List ℕ) : Type 0 where
-    outside : SameOutside (512 * start) (512 * n) old new
-    header : (rest ≡ []) ⊎ (header_on new start ≡ header_on old start)
-
-  front : (n : ℕ) (done rest : List Write) (old : List ℕ) → 512 * (start + n) ≤ length old → bitmap_writes start h m n ≡ done ++ rest → IsFront n rest old (after old done)
-  front n [] rest old fits order = record { outside = outside_none (512 * start) (512 * n) old; header = inr refl }
-  front zero (w ∷ done) rest old fits order = absurd cc
-  front (suc n) (w ∷ done) rest old fits order =
-      let both : bitmap_write start h m n ∷ bitmap_writes start h m n ≡ w ∷ (done ++ rest) = sym (writes_from start h m (suc n) n (omega arith)) ∙ order in
-      let first : bitmap_write start h m n ≡ w = cc in
-      let others : bitmap_writes start h m n ≡ done ++ rest = cc in
-      let mid = written old (start + n) (bitmap_sector h m n) in
-      let long : 512 ≡ length (bitmap_sector h m n) = sym (length-bitmap_sector h m n) in
-      let one : SameOutside (512 * (start + n)) 512 old mid = spliced_outside old (512 * (start + n)) (bitmap_sector h m n) 512 long (omega arith) in
-      let size = one.size in
-      let more = front n done rest mid (omega arith) others in
-      subst (λ (x : Write). IsFront (suc n) rest old (after (written old x.sector x.bytes) done)) first (record {
-        outside = outside_then (outside_around one (512 * start) (512 * suc n) (omega arith) (omega arith)) (outside_around more.outside (512 * start) (512 * suc n) (omega arith) (omega arith));
-        header = elim more.header [
-          | inl none ↦ inl none
-          | inr kept ↦ last_or_kept n kept one others
-        ];
-      })
-    where
-      last_or_kept : (i : ℕ) → header_on (after (written old (start + n) (bitmap_sector h m n)) done) start ≡ header_on (written old (start + n) (bitmap_sector h m n)) start
-          → SameOutside (512 * (start + i)) 512 old (written old (start + n) (bitmap_sector h m n)) → bitmap_writes start h m i ≡ done ++ rest
-          → (rest ≡ []) ⊎ (header_on (after (written old (start + n) (bitmap_sector h m n)) done) start ≡ header_on old start)
-      last_or_kept zero kept one others = inl (none_behind done rest others)
-      last_or_kept (suc i) kept one others = inr (kept ∙ part_before one (512 * start) 256 (omega arith))
-
 -- ---- a member's device, of which an opening made this
 module _ (a : ArrayView) (m : MemberView) (old new : Disk) (room : 512 * (from_super m.superblock.bitmap_offset + bitmap_sectors m.stored.chunks) ≤ length old.content) where
   abbrev start : ℕ
@@ -91,21 +52,25 @@ module _ (a : ArrayView) (m : MemberView) (old new : Disk) (room : 512 * (from_s
   stopped : StopsStoring a m old new → IsPartlyStored
   stopped s =
       let at : s.start ≡ start = sym (starts_at m.superblock s.start s.are.at) in
-      let order : bitmap_writes start s.are.header m.stored sectors ≡ s.done ++ s.rest =
-      ap (λ (x : ℕ). bitmap_writes x s.are.header m.stored sectors) (sym at) ∙ sym s.are.writes_are ∙ s.order in
-      let f = front start s.are.header m.stored sectors s.done s.rest old.content room order in
-      let outside : SameOutside (512 * start) (512 * sectors) old.content new.content = subst (SameOutside (512 * start) (512 * sectors) old.content) (sym s.content) f.outside in
+      let writes : s.writes ≡ bitmap_writes start s.are.header m.stored sectors = s.are.writes_are ∙ ap (λ (x : ℕ). bitmap_writes x s.are.header m.stored sectors) at in
+      let cut = stored_cut start s.are.header m.stored sectors old.content new.content (omega arith) room (subst (λ (ws : List Write). IsCutShort old.content ws new.content) writes s.cut) in
+      let outside : SameOutside (512 * start) (512 * sectors) old.content new.content = elim cut [
+        | inl all ↦
+            let stored = stored_all start s.are.header m.stored sectors old.content (omega arith) room in
+            subst (SameOutside (512 * start) (512 * sectors) old.content) (sym all) (outside_around stored.outside (512 * start) (512 * sectors) (omega arith) (omega arith))
+        | inr kept ↦ outside_around kept (512 * start) (512 * sectors) (omega arith) (omega arith)
+      ] in
       record {
         outside = outside;
-        header = elim f.header [
-          | inl none ↦ inl (record {
+        header = elim cut [
+          | inl all ↦ inl (record {
             start = s.start;
             writes = s.writes;
             are = s.are;
-            done = λ _. s.content ∙ ap (after old.content) (sym (s.order ∙ ap (λ (x : List Write). s.done ++ x) none ∙ append-nil s.done));
+            done = λ _. all ∙ ap (after old.content) (sym writes);
             outside = subst (λ (x : ℕ). SameOutside (512 * x) (512 * sectors) old.content new.content) (sym at) outside;
           })
-          | inr kept ↦ inr (ap (λ (x : List ℕ). header_on x start) s.content ∙ kept)
+          | inr kept ↦ inr (part_before kept (512 * start) 256 (omega arith))
         ];
       }
 

@@ -1,19 +1,17 @@
 -- What stands in a bitmap's area once its sectors are written.
-use Rattle.std.proofs.Common.{◌≡◌, ℕ, zero, suc, ◌+◌, ◌*◌, ◌/◌, ◌%◌, ◌<◌, ◌≤◌, inl, inr, List, [], ◌∷◌, ◌++◌, length, drop, map, reverse, slice_index, refl, sym, ap, ◌∙◌, subst, eqb, arith, get_or-take, get_or-drop}
-use Rattle.std.specs.List.{range_with_len}
+use Rattle.std.proofs.Common.{◌≡◌, ℕ, ◌+◌, ◌*◌, ◌/◌, ◌%◌, ◌<◌, ◌≤◌, List, ◌++◌, length, drop, slice_index, sym, ap, ◌∙◌, subst, eqb, arith, get_or-take, get_or-drop}
 use Rattle.std.specs.Int.{div_ceil, bit_at}
-use Rattle.std.proofs.lemmas.Bool.{cases_lt}
 use Rattle.std.proofs.lemmas.Grind.{div_ceil_times}
-use Rattle.std.proofs.lemmas.List.{reverse-append, ext_get_or, get_or-append-add, get_or_append_left}
+use Rattle.std.proofs.lemmas.List.{ext_get_or, get_or-append-add, get_or_append_left}
 use Rattle.md_device.specs.Splice.{part}
-use Rattle.md_device.specs.Device.{written}
-use Rattle.md_device.proofs.Splices.{length-spliced, length-part, part-spliced, part-spliced_after}
+use Rattle.md_device.proofs.Splices.{length-part}
 use Rattle.md_bitmap.specs.declared.header.BitmapHeader.{BitmapHeader}
 use Rattle.md_bitmap.specs.Header.{IsHeader, header_bytes}
-use Rattle.md_bitmap.specs.Marks.{Bitmap, is_set, padded}
-use Rattle.md_bitmap.proofs.Padded.{length-padded, slice_index-padded}
+use Rattle.md_bitmap.specs.Marks.{Bitmap, is_set}
+use Rattle.md_bitmap.proofs.Padded.{slice_index-padded}
 use Rattle.md_members.specs.Areas.{bitmap_sectors}
-use Rattle.md_writes.specs.Bitmaps.{bitmap_write, bitmap_writes}
+use Rattle.md_writes.specs.Bitmaps.{bitmap_writes}
+use Rattle.md_writes.proofs.Stored.{AreStored, stored_all}
 use Rattle.md_array.specs.Worlds.{header_on}
 use Rattle.md_writes.specs.Writes.{after}
 
@@ -22,50 +20,12 @@ pub record HoldsBitmap (content : List ℕ) (start : ℕ) (h : BitmapHeader) (m 
   pub header : IsHeader (header_on content start) h
   pub bits : (c : ℕ) → c < m.chunks → is_set (drop (512 * start + 256) content) c ≡ is_set m.bytes c
 
--- the last sector is written first
-range_push : (a n : ℕ) → range_with_len a (suc n) ≡ range_with_len a n ++ (a + n) ∷ []
-range_push a zero = let e : a + 0 ≡ a = omega arith in rw e refl
-range_push a (suc n) =
-    let e : a + 1 + n ≡ a + suc n = omega arith in
-    ap (λ (xs : List ℕ). a ∷ xs) (rw e at (range_push (a + 1) n))
-
-last_first : (start : ℕ) (h : BitmapHeader) (m : Bitmap) (n : ℕ) → bitmap_writes start h m (suc n) ≡ bitmap_write start h m n ∷ bitmap_writes start h m n
-last_first start h m n =
-    let e : 0 + n ≡ n = omega arith in
-    ap (λ (xs : List ℕ). map (bitmap_write start h m) (reverse xs)) (rw e at (range_push 0 n))
-    ∙ ap (map (bitmap_write start h m)) (reverse-append (range_with_len 0 n) (n ∷ []))
-
--- what the first n sectors hold, once they are written, and that those behind them stay
-record AreWritten (start : ℕ) (h : BitmapHeader) (m : Bitmap) (n : ℕ) (old new : List ℕ) : Type 0 where
-  size : length new ≡ length old
-  inside : (i : ℕ) → i < n → part new (512 * (start + i)) 512 ≡ padded 512 (drop (512 * i) (header_bytes h ++ m.bytes))
-  behind : (i : ℕ) → n ≤ i → part new (512 * (start + i)) 512 ≡ part old (512 * (start + i)) 512
-
-are_written : (start : ℕ) (h : BitmapHeader) (m : Bitmap) (n : ℕ) (old : List ℕ) → 512 * (start + n) ≤ length old → AreWritten start h m n old (after old (bitmap_writes start h m n))
-are_written start h m zero old fits = record { size = refl; inside = λ i l. absurd (omega arith); behind = λ i l. refl }
-are_written start h m (suc n) old fits =
-    let block = padded 512 (drop (512 * n) (header_bytes h ++ m.bytes)) in
-    let long : length block ≡ 512 = length-padded 512 (drop (512 * n) (header_bytes h ++ m.bytes)) in
-    let first = written old (start + n) block in
-    let kept : length first ≡ length old = length-spliced old (512 * (start + n)) block (omega arith) in
-    let rest = are_written start h m n first (omega arith) in
-    rw (last_first start h m n) (record {
-      size = rest.size ∙ kept;
-      inside = λ i l. elim (cases_lt i n) [
-        | inl less ↦ rest.inside i less
-        | inr more ↦
-            let same : i ≡ n = omega arith in
-            rw same (rest.behind n (omega arith) ∙ part-spliced old (512 * (start + n)) block 512 (sym long) (omega arith))
-      ];
-      behind = λ i l. rest.behind i (omega arith) ∙ part-spliced_after old (512 * (start + n)) block (512 * (start + i)) 512 (omega arith) (omega arith);
-    })
-
 pub slice_index-part : (xs : List ℕ) (at n i : ℕ) → i < n → slice_index (part xs at n) i ≡ slice_index xs (at + i)
 unfolding part
 slice_index-part xs at n i h = get_or-take n (drop at xs) i 0 h ∙ get_or-drop at xs i 0
 
 -- each byte of the area
-byte_written : (start : ℕ) (h : BitmapHeader) (m : Bitmap) (n : ℕ) (old new : List ℕ) → AreWritten start h m n old new → (p : ℕ) → p < 512 * n → slice_index new (512 * start + p) ≡ slice_index (header_bytes h ++ m.bytes) p
+byte_written : (start : ℕ) (h : BitmapHeader) (m : Bitmap) (n : ℕ) (old new : List ℕ) → AreStored start h m 0 n old new → (p : ℕ) → p < 512 * n → slice_index new (512 * start + p) ≡ slice_index (header_bytes h ++ m.bytes) p
 byte_written start h m n old new w p l =
     let i = p / 512 in
     let r = p % 512 in
@@ -74,7 +34,7 @@ byte_written start h m n old new w p l =
     let small : r < 512 = omega arith in
     ap (slice_index new) (sym place)
     ∙ sym (slice_index-part new (512 * (start + i)) 512 r small)
-    ∙ ap (λ xs. slice_index xs r) (w.inside i (omega arith))
+    ∙ ap (λ xs. slice_index xs r) (w.each i (omega arith) (omega arith))
     ∙ slice_index-padded 512 (drop (512 * i) (header_bytes h ++ m.bytes)) r small
     ∙ get_or-drop (512 * i) (header_bytes h ++ m.bytes) r 0
     ∙ ap (slice_index (header_bytes h ++ m.bytes)) there
@@ -94,10 +54,10 @@ pub holds_written : (start : ℕ) (h : BitmapHeader) (m : Bitmap) (old new : Lis
     → 512 * (start + bitmap_sectors m.chunks) ≤ length old → new ≡ after old (bitmap_writes start h m (bitmap_sectors m.chunks)) → HoldsBitmap new start h m
 holds_written start h m old new long spelled fits done =
     let n = bitmap_sectors m.chunks in
-    let w : AreWritten start h m n old new = subst (AreWritten start h m n old) (sym done) (are_written start h m n old fits) in
+    let w : AreStored start h m 0 n old new = subst (AreStored start h m 0 n old) (sym done) (stored_all start h m n old (omega arith) fits) in
     let byte = byte_written start h m n old new w in
     let some = div_ceil_times (256 + div_ceil m.chunks 8) 512 (omega arith) in
-    let size = w.size in
+    let size = w.outside.size in
     let front : header_on new start ≡ header_bytes h = ext_get_or 0 (header_on new start) (header_bytes h)
     (length-part new (512 * start) 256 (omega (arith, some.0)) ∙ sym long)
     (λ i l. let low : i < 256 = omega (arith, length-part new (512 * start) 256 (omega (arith, some.0))) in

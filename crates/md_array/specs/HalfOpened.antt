@@ -1,21 +1,18 @@
 -- What an opening leaves that came to no end: it was stopped while it stored marks, or one of these writes failed.
-use Rattle.std.specs.Prelude.{◌≡◌, ◌⊎◌, ℕ, List, ◌++◌}
-use Rattle.md_writes.specs.Writes.{Write, after}
+use Rattle.std.specs.Prelude.{◌≡◌, ◌⊎◌, ℕ, List}
+use Rattle.md_writes.specs.Writes.{IsCutShort, Write}
 use Rattle.md_array.specs.View.{Disk, MemberView, ArrayView}
 use Rattle.md_array.specs.Members.{NeedsMarks}
 use Rattle.md_array.specs.DeviceChanges.{IsUnchanged}
 use Rattle.md_array.specs.Storing.{AreMarkWrites, FailsToStore}
 use Rattle.md_array.specs.Worlds.{from_super, header_on}
 
--- the first of the writes by which a member's marks are stored were done, and no other
+-- a stop while a member's marks are stored: the first of these writes were done, and the next one was cut short
 pub record StopsStoring (a : ArrayView) (m : MemberView) (old new : Disk) : Type 0 where
   pub start : ℕ
   pub writes : List Write
   pub are : AreMarkWrites a m start writes
-  pub done : List Write
-  pub rest : List Write
-  pub order : writes ≡ done ++ rest
-  pub content : new.content ≡ after old.content done
+  pub cut : IsCutShort old.content writes new.content
 
 -- the header of the bitmap is as it was
 abbrev pub IsHeaderKept : MemberView → Disk → Disk → Type 0

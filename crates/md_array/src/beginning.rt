@@ -12,7 +12,7 @@ ghost use Rattle.md_array.specs.View.{Disk, PendingView};
 
 use crate::array::Array;
 use crate::extent::Extent;
-use crate::marking::{chunks_of, mark_run};
+use crate::marking::chunks_of;
 use crate::mirror::Mirror;
 use crate::pending::Pending;
 use crate::rising::CLEAN_OFFSET;
@@ -140,7 +140,7 @@ impl Array {
         ensures others { self.new ≡ record self.old { marks = self.new.marks } }
     {
         let (first, end) = chunks_of(self.chunks, sector, sectors);
-        mark_run(&mut self.marks, first, end);
+        self.marks.mark_range(first, end);
     }
 }
 

@@ -7,7 +7,7 @@ ghost use Rattle.md_array.specs.Requests.{lacks};
 ghost use Rattle.md_array.specs.WritingMember.{HasMarksFrom};
 
 use crate::array::Array;
-use crate::marking::{is_in_sync, is_run_marked};
+use crate::marking::is_in_sync;
 use crate::pending::Pending;
 
 impl Array {
@@ -38,7 +38,7 @@ impl Array {
     {
         for k in 0..self.members.len() {
             let member = &self.members[k];
-            if is_in_sync(member.state) && !is_run_marked(&member.stored, first, end) {
+            if is_in_sync(member.state) && !member.stored.is_range_marked(first, end) {
                 return Some(k);
             }
         }

@@ -1,5 +1,5 @@
 // The marks of an array and of its members.
-ghost use Rattle.std.specs.Prelude.{◌≡◌, ◌↔◌, ◌||◌, ◌&&◌, ◌+◌, ◌-◌, ◌/◌, ◌<◌, ◌≤◌, ℕ, IsTrue, true, nat_le, nat_lt, length, IfOk};
+ghost use Rattle.std.specs.Prelude.{◌≡◌, ◌↔◌, ◌+◌, ◌-◌, ◌/◌, ◌<◌, ◌≤◌, ℕ, IsTrue, true, length, IfOk};
 ghost use Rattle.std.specs.Int.{div_ceil};
 ghost use Rattle.md_assembly.specs.States.{is_in_sync};
 ghost use Rattle.md_bitmap.specs.Marks.{is_set};
@@ -42,27 +42,10 @@ pub(crate) fn united_marks(
     let mut marks = Marks::none(alloc, chunks)?;
     for member in members {
         if is_in_sync(member.state) {
-            unite(&mut marks, &member.stored);
+            marks.unite(&member.stored);
         }
     }
     Ok(marks)
-}
-
-// Marks the chunks that others mark.
-fn unite(marks: &mut Marks, others: &Marks)
-    requires { others.now.chunks ≡ marks.old.chunks }
-    ensures chunks { marks.new.chunks ≡ marks.old.chunks }
-    ensures bits { (c : ℕ) → is_set marks.new.bytes c ≡ (is_set marks.old.bytes c || (nat_lt c others.now.chunks && is_set others.now.bytes c)) }
-{
-    let end = others.chunks();
-    let mut from = 0;
-    while from < end {
-        let Some(chunk) = others.next_marked(from) else {
-            return;
-        };
-        marks.mark(chunk);
-        from = chunk + 1;
-    }
 }
 
 /// The first chunk of these sectors, and the one behind the last.
@@ -84,28 +67,4 @@ fn chunk_of(chunks: Chunks, sector: u64) -> u32
     ensures within { result < div_ceil chunks.size chunks.sectors }
 {
     (sector / u64::from(chunks.sectors)) as u32
-}
-
-/// Marks the chunks from `first` on and below `end`.
-pub(crate) fn mark_run(marks: &mut Marks, first: u32, end: u32)
-    requires { end ≤ marks.old.chunks }
-    ensures chunks { marks.new.chunks ≡ marks.old.chunks }
-    ensures bits { (c : ℕ) → is_set marks.new.bytes c ≡ (is_set marks.old.bytes c || (nat_le first c && nat_lt c end)) }
-{
-    for chunk in first..end {
-        marks.mark(chunk);
-    }
-}
-
-/// Whether all chunks from `first` on and below `end` are marked.
-pub(crate) fn is_run_marked(marks: &Marks, first: u32, end: u32) -> bool
-    requires { end ≤ marks.now.chunks }
-    ensures { (result ≡ true) ↔ ((c : ℕ) → first ≤ c → c < end → is_set marks.now.bytes c ≡ true) }
-{
-    for chunk in first..end {
-        if !marks.is_marked(chunk) {
-            return false;
-        }
-    }
-    true
 }

@@ -1,10 +1,11 @@
 // The mirror, and what can be seen of it.
-ghost use Rattle.std.specs.Prelude.{◌≡◌, ◌↔◌, ◌<◌, ℕ, Some, length, map, option_map, slice_get};
+ghost use Rattle.std.specs.Prelude.{◌≡◌, ◌↔◌, ◌<◌, ℕ, IsTrue, Some, length, map, option_map, slice_get};
 ghost use Rattle.std.specs.Int.{bit_at, div_ceil};
-ghost use Rattle.md_array.specs.Members.{IsPermitted, is_degraded};
-ghost use Rattle.md_array.specs.View.{disk_of};
+ghost use Rattle.md_array.specs.Members.{IsMember, IsPermitted, NeedsMarks, is_degraded};
+ghost use Rattle.md_array.specs.View.{MemberView, disk_of};
 
 use crate::array::Array;
+use crate::marking::needs_marks;
 use md_assembly::MemberState;
 use md_badblocks::BadSet;
 use md_bitmap::{Chunks, Marks};
@@ -53,6 +54,17 @@ impl<D: Device + Drop> Mirror<D> {
         ensures { option_map (λ m. m.re_added) (slice_get self.now.array.members k) ≡ Some result }
     {
         self.array.members[k].re_added
+    }
+
+    /// Whether `open` stored marks on member k: it is in sync, and the bitmap that was read on it is
+    /// not accepted. Ask it before any step, since a step may change what the bitmap is compared with.
+    pub fn stored_marks_at_opening(&self, k: usize) -> bool
+        requires { k < length self.now.array.members }
+        ensures { (m : MemberView) → IsMember self.now.array k m → IsTrue result ↔ NeedsMarks m }
+    {
+        let array = &self.array;
+        let member = &array.members[k];
+        needs_marks(member)
     }
 
     /// Whether member k's superblock has to be stored.

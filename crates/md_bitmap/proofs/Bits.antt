@@ -98,15 +98,15 @@ count_set-word xs fits k (suc r) h =
 
 -- ---- one bit changed
 -- a bit of the bytes after byte k was written
-is_set-set_other : (xs : List ℕ) (k v i : ℕ) → (i / 8 ≡ k → ⊥) → is_set (set xs k v) i ≡ is_set xs i
+pub is_set-set_other : (xs : List ℕ) (k v i : ℕ) → (i / 8 ≡ k → ⊥) → is_set (set xs k v) i ≡ is_set xs i
 unfolding is_set
 is_set-set_other xs k v i other = rw (get_or-set_other xs k (i / 8) v 0 other) refl
 
-is_set-set_same : (xs : List ℕ) (k v i : ℕ) → i / 8 ≡ k → k < length xs → is_set (set xs k v) i ≡ eqb (bit_at v (i % 8)) 1
+pub is_set-set_same : (xs : List ℕ) (k v i : ℕ) → i / 8 ≡ k → k < length xs → is_set (set xs k v) i ≡ eqb (bit_at v (i % 8)) 1
 unfolding is_set
 is_set-set_same xs k v i same h = rw (same, get_or-set_same xs k v 0 h) refl
 
-is_set-bit : (xs : List ℕ) (k i : ℕ) → i / 8 ≡ k → is_set xs i ≡ eqb (bit_at (slice_index xs k) (i % 8)) 1
+pub is_set-bit : (xs : List ℕ) (k i : ℕ) → i / 8 ≡ k → is_set xs i ≡ eqb (bit_at (slice_index xs k) (i % 8)) 1
 unfolding is_set
 is_set-bit xs k i same = rw same refl
 

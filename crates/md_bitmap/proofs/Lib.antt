@@ -3,3 +3,5 @@ pub mod Accepted
 pub mod Encoded
 pub mod Bits
 pub mod Padded
+pub mod ByteRuns
+pub mod Blocks

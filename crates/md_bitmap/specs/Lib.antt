@@ -3,3 +3,4 @@ pub mod Header
 pub mod Faults
 pub mod Chunks
 pub mod Marks
+pub mod Sectors

@@ -5,12 +5,13 @@ mod chunks;
 mod fault;
 mod header;
 mod marks;
+mod runs;
 mod words;
 
 pub use chunks::Chunks;
 pub use fault::BitmapFault;
 pub use header::{BitmapHeader, HEADER_BYTES, MAX_CHUNKS, has_few_chunks, is_chunk_size};
-pub use marks::{BLOCK_BYTES, Marks};
+pub use marks::{BLOCK_BYTES, Marks, sectors_of_bitmap};
 
 #[cfg(test)]
 mod tests;

@@ -1,9 +1,11 @@
 // Which chunks are marked.
-ghost use Rattle.std.specs.Prelude.{◌≡◌, ◌+◌, ◌-◌, ◌*◌, ◌<◌, ◌≤◌, ◌==◌, ◌||◌, ◌&&◌, ◌++◌, ℕ, not, nat_lt, IfOk, IfSome, IfNone, false, length, drop};
+ghost use Rattle.std.specs.Prelude.{◌≡◌, ◌+◌, ◌-◌, ◌*◌, ◌<◌, ◌≤◌, ◌==◌, ◌||◌, ◌&&◌, ◌↔◌, ℕ, not, nat_le, nat_lt, IfOk, IfSome, IfNone, false, true, length, drop, replicate};
 ghost use Rattle.md_bitmap.specs.Marks.{IsMarked, IsNextMarked, is_set, count_set, padded};
 ghost use Rattle.md_bitmap.specs.Header.{header_bytes};
+ghost use Rattle.md_bitmap.specs.Sectors.{bitmap_bytes, bitmap_sector, bitmap_sectors};
 
 use crate::header::{BitmapHeader, HEADER_BYTES};
+use crate::runs::{has_run, set_run, unite_below};
 use crate::words::{copy_behind, count_below, next_below};
 use md_format::put_bytes;
 use std::alloc::{AllocError, Global};
@@ -11,6 +13,15 @@ use std::marker::Model;
 
 /// The bytes of a block of the bitmap.
 pub const BLOCK_BYTES: usize = 512;
+
+/// How many sectors hold a bitmap's header and the bits of so many chunks.
+pub fn sectors_of_bitmap(chunks: u32) -> u32
+    requires { chunks ≤ 1048576 }
+    ensures sectors { result ≡ bitmap_sectors chunks }
+    ensures few { result ≤ 257 }
+{
+    (256 + chunks.div_ceil(8)).div_ceil(512)
+}
 
 /// The chunks in which the members of an array may differ, kept as the bitmap's bits.
 #[derive(Debug, Drop)]
@@ -92,12 +103,38 @@ impl Marks {
         self.bits[(chunk / 8) as usize] &= !(1 << (chunk % 8));
     }
 
+    /// Marks the chunks from `from` on and below `end`.
+    pub fn mark_range(&mut self, from: u32, end: u32)
+        requires { end ≤ self.old.chunks }
+        ensures chunks { self.new.chunks ≡ self.old.chunks }
+        ensures bits { (i : ℕ) → is_set self.new.bytes i ≡ (is_set self.old.bytes i || (nat_le from i && nat_lt i end)) }
+    {
+        set_run(&mut self.bits, from, end);
+    }
+
+    /// Marks the chunks that are marked in another bitmap of as many chunks.
+    pub fn unite(&mut self, others: &Marks)
+        requires { others.now.chunks ≡ self.old.chunks }
+        ensures chunks { self.new.chunks ≡ self.old.chunks }
+        ensures bits { (i : ℕ) → is_set self.new.bytes i ≡ (is_set self.old.bytes i || (nat_lt i others.now.chunks && is_set others.now.bytes i)) }
+    {
+        unite_below(&mut self.bits, &others.bits, self.chunks);
+    }
+
     /// Whether a chunk is marked.
     pub fn is_marked(&self, chunk: u32) -> bool
         requires { chunk < self.now.chunks }
         ensures { result ≡ is_set self.now.bytes chunk }
     {
         (self.bits[(chunk / 8) as usize] >> (chunk % 8)) & 1 == 1
+    }
+
+    /// Whether all chunks from `from` on and below `end` are marked.
+    pub fn is_range_marked(&self, from: u32, end: u32) -> bool
+        requires { end ≤ self.now.chunks }
+        ensures { (result ≡ true) ↔ ((i : ℕ) → from ≤ i → i < end → is_set self.now.bytes i ≡ true) }
+    {
+        has_run(&self.bits, from, end)
     }
 
     /// How many chunks are marked.
@@ -115,27 +152,32 @@ impl Marks {
         next_below(&self.bits, from, self.chunks)
     }
 
-    /// Sector `i` of the bitmap's area: the header's bytes, and behind them the bits. So bit `j` of
-    /// this sector stands for chunk `4096 * i + j - 2048`.
+    /// Sector `i` of the bitmap. Its bit `j` stands for chunk `4096 * i + j - 2048`.
     pub fn block(&self, header: &BitmapHeader, i: u32) -> [u8; 512]
-        ensures first { i ≡ 0 → result ≡ header_bytes header.now ++ padded 256 self.now.bytes }
-        ensures later { 0 < i → result ≡ padded 512 (drop (512 * i - 256) self.now.bytes) }
+        ensures sector { result ≡ bitmap_sector header.now self.now i }
         ensures bits { (j : ℕ) → j < 4096 → 2048 ≤ 4096 * i + j → is_set result j ≡ is_set self.now.bytes (4096 * i + j - 2048) }
     {
         let mut block = [0; BLOCK_BYTES];
-        if i == 0 {
-            let mut front = [0; HEADER_BYTES];
-            header.encode(&mut front);
-            put_bytes(&mut block, 0, &front);
-            copy_behind(&mut block, HEADER_BYTES, &self.bits, 0);
-        } else {
-            copy_behind(
-                &mut block,
-                0,
-                &self.bits,
-                BLOCK_BYTES * i as usize - HEADER_BYTES,
-            );
-        }
+        self.put_blocks(header, i, &mut block);
         block
+    }
+
+    /// Writes the bitmap from its sector `first` on over zeros, as much of it as they take: the header's
+    /// bytes, and behind them the bits.
+    pub fn put_blocks(&self, header: &BitmapHeader, first: u32, out: &mut [u8])
+        requires room { 256 ≤ length out.old }
+        requires zeros { out.old ≡ replicate (length out.old) 0 }
+        ensures bytes { out.new ≡ padded (length out.old) (drop (512 * first) (bitmap_bytes header.now self.now)) }
+        ensures header { length (header_bytes header.now) ≡ 256 }
+    {
+        let mut front = [0; HEADER_BYTES];
+        header.encode(&mut front);
+        if first == 0 {
+            put_bytes(out, 0, &front);
+            copy_behind(out, HEADER_BYTES, &self.bits, 0);
+        } else {
+            let at = BLOCK_BYTES * first as usize - HEADER_BYTES;
+            copy_behind(out, 0, &self.bits, at);
+        }
     }
 }

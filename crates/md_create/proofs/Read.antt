@@ -1,5 +1,5 @@
 -- What is read of a device on which a member was laid out.
-use Rattle.std.proofs.Common.{◌≡◌, ℕ, zero, suc, ◌+◌, ◌-◌, ◌*◌, ◌/◌, ◌%◌, ◌<◌, ◌≤◌, true, false, List, [], ◌++◌, length, drop, slice_index, Option, Some, None, IfSome, refl, ap, sym, subst, ◌∙◌, arith, inl, inr}
+use Rattle.std.proofs.Common.{◌≡◌, ℕ, ◌+◌, ◌-◌, ◌*◌, ◌/◌, ◌%◌, ◌<◌, true, false, List, [], ◌++◌, length, drop, slice_index, Option, Some, None, IfSome, refl, ap, sym, subst, ◌∙◌, arith, inl, inr}
 use Rattle.std.specs.Prelude.{pos, ◌+ℤ◌, not, bit_and, ◌==◌, ◌&&◌}
 use Rattle.std.proofs.Math.Bool.{Bool-set}
 use Rattle.std.proofs.Math.Bridge.{le_prop}
@@ -17,16 +17,16 @@ use Rattle.md_bitmap.specs.declared.header.BitmapHeader.{BitmapHeader}
 use Rattle.md_bitmap.specs.Header.{IsHeader, header_bytes}
 use Rattle.md_bitmap.specs.Marks.{Bitmap, is_set, padded}
 use Rattle.md_bitmap.specs.Sound.{IsSound, chunk_count}
-use Rattle.md_bitmap.proofs.Bits.{is_set-first_sector, is_set-later_sector}
+use Rattle.md_bitmap.specs.Sectors.{bitmap_sector}
+use Rattle.md_bitmap.proofs.Blocks.{from_start, sector_bit}
 use Rattle.md_badblocks.specs.declared.run.Run.{Run}
 use Rattle.md_members.specs.declared.info.MemberInfo.{MemberInfo}
 use Rattle.md_members.specs.Areas.{bitmap_sectors, has_bitmap}
 use Rattle.md_members.specs.Members.{IsMember, HasBitmap, HasBadSet, reads_log, sectors_of as sectors_in}
 use Rattle.md_members.specs.Reading.{BitmapStartsAt, IsRead, ReadsSuper, ReadsBitmap, ReadsHeader, chunks_of, front_of}
 use Rattle.md_create.specs.declared.params.NewMember.{NewMember}
-use Rattle.md_create.specs.Layout.{IsLaidOut, bitmap_sector}
+use Rattle.md_create.specs.Layout.{IsLaidOut}
 use Rattle.md_create.specs.ReadBack.{HasSameMarks, ReadsBack, sealed}
-use Rattle.md_create.proofs.Sectors.{padded_behind}
 
 IsSound-prop : (size chunksize : ℕ) → IsProp (IsSound size chunksize)
 IsSound-prop size chunksize a b = λ i. record {
@@ -58,15 +58,6 @@ same_bit xs ys i j place byte = rw (place, byte) refl
 slice_index-part : (xs : List ℕ) (at n i : ℕ) → i < n → slice_index (part xs at n) i ≡ slice_index xs (at + i)
 unfolding part
 slice_index-part xs at n i below = get_or-take n (drop at xs) i 0 below ∙ get_or-drop at xs i 0
-
--- a bit of a sector
-sector_bit : (h : BitmapHeader) (m : Bitmap) (i j : ℕ) → length (header_bytes h) ≡ 256 → j < 4096 → 2048 ≤ 4096 * i + j → is_set (bitmap_sector h m i) j ≡ is_set m.bytes (4096 * i + j - 2048)
-sector_bit h m zero j long below from =
-    let same : 4096 * 0 + j - 2048 ≡ j - 2048 = omega arith in
-    ap (λ xs. is_set xs j) (padded_behind 256 256 (header_bytes h) m.bytes long) ∙ is_set-first_sector (header_bytes h) m.bytes j long (omega arith) below ∙ ap (is_set m.bytes) (sym same)
-sector_bit h m (suc i) j long below from =
-    let same : 512 * i + 256 ≡ 512 * (suc i) - 256 = omega arith in
-    ap (λ k. is_set (padded 512 (drop k m.bytes)) j) same ∙ is_set-later_sector m.bytes (suc i) j (omega arith) below
 
 -- the sector that has a chunk's bit
 sector_has : (chunks c : ℕ) → c < chunks → (c + 2048) / 4096 < bitmap_sectors chunks
@@ -122,7 +113,8 @@ module _ (member : NewMember) (old new : List ℕ) (spelled : IsSuper (super_byt
   front_read start sector at is =
       let first = laid.bitmap 0 (omega arith) in
       let whole : sector ≡ header_bytes member.header ++ padded 256 member.marks.bytes =
-      is.from_device refl ∙ ap (λ k. held new k 512) (starts_at start at) ∙ first ∙ padded_behind 256 256 (header_bytes member.header) member.marks.bytes long in
+      is.from_device refl ∙ ap (λ k. held new k 512) (starts_at start at) ∙ first
+      ∙ sym (from_start member.header member.marks 512 long (omega arith)) in
       ap (bytes_at 256 0) whole ∙ front_is (header_bytes member.header) (padded 256 member.marks.bytes) long
 
   pub header_read : (h : BitmapHeader) → ReadsHeader new true v h → h ≡ member.header

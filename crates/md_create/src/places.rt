@@ -1,7 +1,7 @@
 // Where the parts of a new member stand, in sectors.
 
 /// The sector of the bitmap.
-pub const BITMAP_SECTOR: u64 = 16;
+pub const BITMAP_SECTOR: u32 = 16;
 
 /// The bitmap's first sector from the superblock.
 pub const BITMAP_OFFSET: i32 = 8;

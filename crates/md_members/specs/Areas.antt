@@ -1,9 +1,9 @@
 -- Where the parts of a member stand on its device. Offsets count from the superblock (md_p.h), and may lead before the
 -- device's first sector.
 use Rattle.std.specs.Prelude.{◌≡◌, ◌⊎◌, ℕ, ◌+◌, ◌<◌, ◌≤◌, ◌^◌, ◌==◌, Bool, true, not, bit_and, ℤ, pos, negsuc, ◌+ℤ◌, ◌≤ℤ◌}
-use Rattle.std.specs.Int.{div_ceil}
 use Rattle.md_super.specs.declared.superblock.Superblock.{Superblock}
 use Rattle.md_super.specs.Log.{has_bad_block_log}
+pub use Rattle.md_bitmap.specs.Sectors.{bitmap_sectors}
 use Rattle.md_members.specs.declared.area.Area.{Area}
 
 -- the first sector behind an area
@@ -49,10 +49,6 @@ has_bitmap v = not (bit_and v.feature_map 1 == 0)
 -- the log has entries: bit 8 of the feature map
 abbrev pub has_bad_blocks : Superblock → Bool
 has_bad_blocks v = not (bit_and v.feature_map 8 == 0)
-
--- the least number of sectors that holds a header of 256 bytes and a bit for each chunk
-abbrev pub bitmap_sectors : ℕ → ℕ
-bitmap_sectors chunks = div_ceil (256 + div_ceil chunks 8) 512
 
 -- the log, where there is one, is short, on the device and apart from the superblock and the data
 pub record LogIsPlaced (sectors : ℕ) (v : Superblock) : Type 0 where

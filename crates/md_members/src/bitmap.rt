@@ -5,9 +5,9 @@ ghost use Rattle.md_members.specs.Areas.{IsPlaced, bitmap_sectors, has_bitmap};
 ghost use Rattle.md_members.specs.Reading.{BitmapStartsAt, GivesBitmap, GivesMarks, UnlessReadFault};
 
 use crate::fault::MemberFault;
-use crate::placing::{is_placed, sectors_of_bitmap};
+use crate::placing::is_placed;
 use crate::reading::read_sectors;
-use md_bitmap::{BitmapFault, BitmapHeader, Chunks, Marks, has_few_chunks};
+use md_bitmap::{BitmapFault, BitmapHeader, Chunks, Marks, has_few_chunks, sectors_of_bitmap};
 use md_device::Device;
 use md_format::array_at;
 use md_super::{SUPER_SECTOR, Superblock};
@@ -42,7 +42,7 @@ pub(crate) fn read_bitmap<D: Device>(
         return Err(MemberFault::Bitmap(BitmapFault::TooManyChunks));
     }
     let chunks = Chunks::new(v.size, header.chunksize).count();
-    let sectors = sectors_of_bitmap(chunks);
+    let sectors = u64::from(sectors_of_bitmap(chunks));
     if !is_placed(v, device_sectors, sectors) {
         return Err(MemberFault::Region);
     }

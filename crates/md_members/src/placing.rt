@@ -1,7 +1,6 @@
 // Whether the areas of a member fit its device.
 ghost use Rattle.std.specs.Prelude.{◌≡◌, ◌+◌, ◌≤◌, ◌^◌, ◌↔◌, ℤ, pos, ◌+ℤ◌, IsTrue, true};
-ghost use Rattle.std.specs.Int.{div_ceil};
-ghost use Rattle.md_members.specs.Areas.{IsPlaced, IsSmall, IsApartFromLog, LogIsPlaced, BitmapIsPlaced, bitmap_sectors, bitmap_area, data_area, from_super, has_bad_blocks, has_bitmap, log_area, super_area};
+ghost use Rattle.md_members.specs.Areas.{IsPlaced, IsSmall, IsApartFromLog, LogIsPlaced, BitmapIsPlaced, bitmap_area, data_area, from_super, has_bad_blocks, has_bitmap, log_area, super_area};
 
 use crate::area::{Area, are_apart, is_within};
 use md_super::{FEATURE_BAD_BLOCKS, FEATURE_BITMAP_OFFSET, SUPER_SECTOR, Superblock};
@@ -26,15 +25,6 @@ pub(crate) fn lists_bad_blocks(v: &Superblock) -> bool
     ensures { result ≡ has_bad_blocks v.now }
 {
     v.feature_map & FEATURE_BAD_BLOCKS != 0
-}
-
-// How many sectors hold the header and the bits of so many chunks.
-pub(crate) fn sectors_of_bitmap(chunks: u32) -> u64
-    requires { chunks ≤ 1048576 }
-    ensures sectors { result ≡ bitmap_sectors chunks }
-    ensures few { result ≤ 257 }
-{
-    (256 + u64::from(chunks).div_ceil(8)).div_ceil(512)
 }
 
 fn area_from_super(offset: i32, sectors: u64) -> Area

@@ -1,3 +1,4 @@
 pub mod Frames
 pub mod Runs
 pub mod Sectors
+pub mod Stored

@@ -66,6 +66,40 @@ cut_one old left w cut = by cut.done cut.rest cut.order cut.mixed
     by (x ∷ []) (y ∷ rest) order mixed = absurd (let e : w ∷ [] ≡ x ∷ (y ∷ rest) = order in cc)
     by (x ∷ y ∷ done) rest order mixed = absurd (let e : w ∷ [] ≡ x ∷ (y ∷ (done ++ rest)) = order in cc)
 
+none_behind : {X : Type 0} (front rest : List X) → [] ≡ front ++ rest → rest ≡ []
+none_behind [] rest e = sym e
+none_behind (x ∷ front) rest e = cc
+
+-- the first of a list with one more at its end are all of it, or the first of the list
+before_last : (ws : List Write) (w : Write) (done rest : List Write) → ws ++ w ∷ [] ≡ done ++ rest → (rest ≡ []) ⊎ ((more : List Write) × (ws ≡ done ++ more) × (rest ≡ more ++ w ∷ []))
+before_last ws w [] rest order = inr (ws, refl, sym order)
+before_last [] w (x ∷ done) rest order =
+    let none : [] ≡ done ++ rest = let e : ◌≡◌ {A = List Write} (w ∷ []) (x ∷ (done ++ rest)) = order in cc in
+    inl (none_behind done rest none)
+before_last (y ∷ ws) w (x ∷ done) rest order =
+    let same : y ≡ x = let e : ◌≡◌ {A = List Write} (y ∷ (ws ++ w ∷ [])) (x ∷ (done ++ rest)) = order in cc in
+    let others : ws ++ w ∷ [] ≡ done ++ rest = let e : ◌≡◌ {A = List Write} (y ∷ (ws ++ w ∷ [])) (x ∷ (done ++ rest)) = order in cc in
+    elim (before_last ws w done rest others) [
+      | inl none ↦ inl none
+      | inr more ↦ inr (more.0, ap (λ (xs : List Write). y ∷ xs) more.1 ∙ ap (λ (z : Write). z ∷ (done ++ more.0)) same, more.2)
+    ]
+
+-- what a stop leaves of writes and one more: what it leaves of the writes, or the last one cut short, or all of them done
+pub cut_last : (old left : List ℕ) (ws : List Write) (w : Write) → IsCutShort old (ws ++ w ∷ []) left → IsCutShort old ws left ⊎ (IsMixed w.sector w.bytes (after old ws) left ⊎ (left ≡ after old (ws ++ w ∷ [])))
+cut_last old left ws w cut =
+    elim (before_last ws w cut.done cut.rest cut.order) [
+      | inl none ↦
+          let whole : ws ++ w ∷ [] ≡ cut.done = cut.order ∙ ap (λ (xs : List Write). cut.done ++ xs) none ∙ append-nil cut.done in
+          inr (inr (subst (λ (rest : List Write). IsNextMixed rest (after old cut.done) left) none cut.mixed ∙ ap (after old) (sym whole)))
+      | inr more ↦ by more.0 more.1 (subst (λ (rest : List Write). IsNextMixed rest (after old cut.done) left) more.2 cut.mixed)
+    ]
+  where
+    by : (more : List Write) → ws ≡ cut.done ++ more → IsNextMixed (more ++ w ∷ []) (after old cut.done) left → IsCutShort old ws left ⊎ (IsMixed w.sector w.bytes (after old ws) left ⊎ (left ≡ after old (ws ++ w ∷ [])))
+    by [] order mixed =
+        let whole : cut.done ≡ ws = sym (append-nil cut.done) ∙ sym order in
+        inr (inl (subst (λ (xs : List Write). IsMixed w.sector w.bytes (after old xs) left) whole mixed))
+    by (x ∷ more) order mixed = inl (record { done = cut.done; rest = x ∷ more; order = order; mixed = mixed })
+
 any_of_none : (old left : List ℕ) (w : Write) → IsCutShort old [] left → IsAnyIn w old left
 any_of_none old left w cut = subst (λ xs. IsAnyIn w old xs) (sym (cut_none old left cut)) (record { size = refl; before = refl; after = refl })
 
@@ -114,7 +148,7 @@ module _ {D : Type 0} (g : Ghosts D) where
         (λ left. IsCutShort (g.content old) (writes ++ second.done) left ⊎ IsAnyIn second.tried (after (g.content old) (writes ++ second.done)) left)
         (λ c cut. inl (cut_front (g.content old) c writes second.done cut))
         (λ c left. ⊎_elim (λ cut. inl (cut_back (g.content old) (g.content mid) c writes second.done (first.all_done h) cut))
-            (λ any. inr (any_back (g.content old) (g.content mid) c writes second.done second.tried (first.all_done h) any)) left)
+        (λ any. inr (any_back (g.content old) (g.content mid) c writes second.done second.tried (first.all_done h) any)) left)
         (first.within h) (second.within (first.kept.honest_kept ∙ h));
   }
 

@@ -31,9 +31,9 @@ returns-then-not-is_placed-clause-reads g c =
     let passes : c.has_few_chunks.result ≡ true = search rules in
     let few = leb-true (chunks_of c.args.v.now c.in-Ok.header) 1048576 (sym c.has_few_chunks.ensures ∙ passes) in
     let count : c.count-chunks.result ≡ chunks_of c.args.v.now c.in-Ok.header = c.count-chunks.ensures.count ∙ c.new.ensures.count in
-    let width : c.sectors_of_bitmap-sectors.result ≡ bitmap_sectors (chunks_of c.args.v.now c.in-Ok.header) = c.sectors_of_bitmap-sectors.ensures.sectors ∙ ap bitmap_sectors count in
+    let width : c.from-sectors.result ≡ bitmap_sectors (chunks_of c.args.v.now c.in-Ok.header) = c.from-sectors.ensures ∙ c.sectors_of_bitmap.ensures.sectors ∙ ap bitmap_sectors count in
     let fails : c.is_placed.result ≡ false = search rules in
-    (c.in-Ok.header, header, few, λ p. let placed : IsTrue c.is_placed.result = c.is_placed.ensures.1 (placed_of content c.args.v.now c.sectors-device_sectors.result _ c.sectors_of_bitmap-sectors.result c.sectors-device_sectors.ensures.size width p) in absurd (search rules))
+    (c.in-Ok.header, header, few, λ p. let placed : IsTrue c.is_placed.result = c.is_placed.ensures.1 (placed_of content c.args.v.now c.sectors-device_sectors.result _ c.from-sectors.result c.sectors-device_sectors.ensures.size width p) in absurd (search rules))
 
 pub returns-in_err-marks-clause-reads : goal.returns-in_err-marks-clause-reads
 returns-in_err-marks-clause-reads g c =
@@ -44,9 +44,9 @@ returns-in_err-marks-clause-reads g c =
     let passes : c.has_few_chunks.result ≡ true = search rules in
     let few = leb-true (chunks_of v c.in-Ok.header) 1048576 (sym c.has_few_chunks.ensures ∙ passes) in
     let count : c.count-chunks.result ≡ chunks_of v c.in-Ok.header = c.count-chunks.ensures.count ∙ c.new.ensures.count in
-    let width : c.sectors_of_bitmap-sectors.result ≡ bitmap_sectors (chunks_of v c.in-Ok.header) = c.sectors_of_bitmap-sectors.ensures.sectors ∙ ap bitmap_sectors count in
+    let width : c.from-sectors.result ≡ bitmap_sectors (chunks_of v c.in-Ok.header) = c.from-sectors.ensures ∙ c.sectors_of_bitmap.ensures.sectors ∙ ap bitmap_sectors count in
     let fits : IsTrue c.is_placed.result = search rules in
-    let placed = placed_by content v c.sectors-device_sectors.result _ c.sectors_of_bitmap-sectors.result c.sectors-device_sectors.ensures.size width (c.is_placed.ensures.0 fits) in
+    let placed = placed_by content v c.sectors-device_sectors.result _ c.from-sectors.result c.sectors-device_sectors.ensures.size width (c.is_placed.ensures.0 fits) in
     let p = err_from_is_err_and c.from_residual.result c.from_residual.ensures.1 in
     rw (p.1, p.2) (bitmap_by_marks content _ _ _ _ _ v c.in-Ok.header c.in_err-marks.field-0.0 c.read_sectors.ensures.honest (λ failed. omega arith) header few placed c.in_err-marks.ensures.reads)
 
@@ -66,13 +66,13 @@ returns-clause-reads g c =
     let passes : c.has_few_chunks.result ≡ true = search rules in
     let few = leb-true (chunks_of c.args.v.now c.in-Ok.header) 1048576 (sym c.has_few_chunks.ensures ∙ passes) in
     let count : c.count-chunks.result ≡ chunks_of c.args.v.now c.in-Ok.header = c.count-chunks.ensures.count ∙ c.new.ensures.count in
-    let width : c.sectors_of_bitmap-sectors.result ≡ bitmap_sectors (chunks_of c.args.v.now c.in-Ok.header) = c.sectors_of_bitmap-sectors.ensures.sectors ∙ ap bitmap_sectors count in
+    let width : c.from-sectors.result ≡ bitmap_sectors (chunks_of c.args.v.now c.in-Ok.header) = c.from-sectors.ensures ∙ c.sectors_of_bitmap.ensures.sectors ∙ ap bitmap_sectors count in
     let placed : IsTrue c.is_placed.result = search rules in
     record {
       header = header;
       few_chunks = few;
-      placed = placed_by content c.args.v.now c.sectors-device_sectors.result _ c.sectors_of_bitmap-sectors.result c.sectors-device_sectors.ensures.size width (c.is_placed.ensures.0 placed);
+      placed = placed_by content c.args.v.now c.sectors-device_sectors.result _ c.from-sectors.result c.sectors-device_sectors.ensures.size width (c.is_placed.ensures.0 placed);
       start = c.start_of_bitmap-start.result;
       at = c.start_of_bitmap-start.ensures.start;
-      marks = marks_as content _ _ _ c.start_of_bitmap-start.result c.count-chunks.result _ c.sectors_of_bitmap-sectors.result _ c.in_ok-marks.marks c.read_sectors.ensures.kept c.read_sectors.ensures.honest count width c.in_ok-marks.ensures.reads;
+      marks = marks_as content _ _ _ c.start_of_bitmap-start.result c.count-chunks.result _ c.from-sectors.result _ c.in_ok-marks.marks c.read_sectors.ensures.kept c.read_sectors.ensures.honest count width c.in_ok-marks.ensures.reads;
     }
