@@ -17,7 +17,7 @@ one_le true true h = omega arith
 one_le true false h = absurd (false≢true (h refl))
 one_le false b h = omega arith
 
--- a weaker test counts fails less
+-- a weaker test counts no less
 pub count_le : {A : Type 0} (p q : A → Bool) (xs : List A) → ((x : A) → p x ≡ true → q x ≡ true) → count_by p xs ≤ count_by q xs
 count_le p q xs h = sum_by-le-sum_by (λ x. cond (p x) 1 0) (λ x. cond (q x) 1 0) xs (λ x. one_le (p x) (q x) (h x))
 
@@ -56,8 +56,8 @@ pub below_no : (P : ℕ → Bool) (m : ℕ) → P m ≡ false → count_below P 
 unfolding count_below
 below_no P m e = ap (λ b. cond b (count_below P m + 1) (count_below P m)) e
 
--- What a test counts is at most n for each number below m that passes, if each element that it counts bears such a
--- number, and no number is borne by more than n of them.
+-- A test counts at most n elements for each number below m that passes P, if f gives each of them such a number, and no
+-- number to more than n of them.
 pub pigeons : {A : Type 0} (f : A → ℕ) (P : ℕ → Bool) (n m : ℕ) (xs : List A) (p : A → Bool) → AllByRecursion (λ x. p x ≡ true → (f x < m) × (P (f x) ≡ true)) xs → ((s : ℕ) → s < m → count_by (λ x. p x && eqb (f x) s) xs ≤ n) → count_by p xs ≤ n * count_below P m
 pigeons f P n zero xs p all few =
     let none : count_by p xs ≡ 0 = count_none p xs (weaker (λ x. p x ≡ true → (f x < zero) × (P (f x) ≡ true)) (λ x. p x ≡ true → ⊥) xs (λ x h holds. let lt : f x < 0 = (h holds).0 in omega arith) all) in

@@ -16,7 +16,7 @@ use Rattle.md_cert.specs.Plans.{IsCertified, SlotsRise, HasTurn, NoRepeatBelow}
 use Rattle.md_cert.proofs.Bits.{has_below}
 use Rattle.md_cert.proofs.Counting.{pigeons, weaker, one, count_cons, sources_are, below_zero, below_yes}
 use Rattle.md_cert.proofs.Masks.{Rises, RowOf, row_of}
-use Rattle.md_cert.proofs.Ups.{In, up_from_pairs, planned_up, planned_in, planned_masks, count_once, count_within}
+use Rattle.md_cert.proofs.RisingLists.{IsIn, up_from_pairs, planned_up, planned_in, planned_masks, count_once, count_within}
 
 count_true : (xs : List ℕ) → count_by (λ x. true) xs ≡ length xs
 count_true [] = refl
@@ -31,8 +31,8 @@ pub too_few : (table : List Row) → Rises table → (chunks : List ℕ) (n : �
 too_few table rises chunks n source short assigned few =
     let P : ℕ → Bool = gives_any table chunks in
     let up = up_from_pairs chunks short.rising in
-    let within : AllByRecursion (In (planned_chunks table)) chunks = recursion_from_All (In (planned_chunks table)) chunks (λ k d lt. planned_in table (get_or chunks k d) (short.given k d lt)) in
-    let borne : AllByRecursion (λ x. true ≡ true → (source x < 32) × (P (source x) ≡ true)) chunks =
+    let within : AllByRecursion (IsIn (planned_chunks table)) chunks = recursion_from_All (IsIn (planned_chunks table)) chunks (λ k d lt. planned_in table (get_or chunks k d) (short.given k d lt)) in
+    let given : AllByRecursion (λ x. true ≡ true → (source x < 32) × (P (source x) ≡ true)) chunks =
     recursion_from_All (λ x. true ≡ true → (source x < 32) × (P (source x) ≡ true)) chunks
     (λ k d lt t. let it : has (mask_of table (get_or chunks k d)) (source (get_or chunks k d)) ≡ true = assigned (get_or chunks k d) (short.given k d lt) in (
       has_below (mask_of table (get_or chunks k d)) (source (get_or chunks k d)) it,
@@ -41,7 +41,7 @@ too_few table rises chunks n source short assigned few =
     let each : (s : ℕ) → s < 32 → count_by (λ x. true && eqb (source x) s) chunks ≤ n =
     λ s lt. let le : count_by (λ x. eqb (source x) s) chunks ≤ load table source s = count_within (λ x. eqb (source x) s) (planned_chunks table) chunks up (planned_up table rises) within in
     let room = few s lt in omega arith in
-    let all : count_by (λ x. true) chunks ≤ n * count_below P 32 = pigeons source P n 32 chunks (λ x. true) borne each in
+    let all : count_by (λ x. true) chunks ≤ n * count_below P 32 = pigeons source P n 32 chunks (λ x. true) given each in
     let more : n * count_sources P < length chunks = short.more in
     let same : count_sources P ≡ count_below P 32 = sources_are P in
     let number = count_true chunks in
@@ -147,12 +147,12 @@ certified_least table plan certificate is_table h =
     (sym (source_at x m) ∙ eqb-true (source x) s xs.0) (sym (round_at x m) ∙ eqb-true (round x) r xs.1)
     (sym (source_at y n) ∙ eqb-true (source y) s ys.0) (sym (round_at y n) ∙ eqb-true (round y) r ys.1) in
     let most : (s : ℕ) → load table source s ≤ plan.rounds = λ s.
-    let borne : AllByRecursion (λ x. eqb (source x) s ≡ true → (round x < plan.rounds) × (true ≡ true)) (planned_chunks table) =
+    let given : AllByRecursion (λ x. eqb (source x) s ≡ true → (round x < plan.rounds) × (true ≡ true)) (planned_chunks table) =
     weaker M (λ x. eqb (source x) s ≡ true → (round x < plan.rounds) × (true ≡ true)) (planned_chunks table)
     (λ x m it. (let late : (get_or slots (there x m).at d).round < plan.rounds = h.in_time (there x m).at d (there x m).within in let e = round_at x m in omega (arith, late, e), refl)) masks in
     let single : (r : ℕ) → r < plan.rounds → count_by (λ x. eqb (source x) s && eqb (round x) r) (planned_chunks table) ≤ 1 = λ r lt.
     count_once M (λ x. eqb (source x) s && eqb (round x) r) (planned_chunks table) up masks (λ x y. same s r x y lt) in
-    let all : load table source s ≤ 1 * count_below (λ k. true) plan.rounds = pigeons round (λ k. true) 1 plan.rounds (planned_chunks table) (λ x. eqb (source x) s) borne single in
+    let all : load table source s ≤ 1 * count_below (λ k. true) plan.rounds = pigeons round (λ k. true) 1 plan.rounds (planned_chunks table) (λ x. eqb (source x) s) given single in
     let e = below_true plan.rounds in
     omega (arith, all, e) in
     elim h.certified [

@@ -26,6 +26,8 @@ mod mirrors;
 #[cfg(test)]
 mod new_members;
 #[cfg(test)]
+mod plans;
+#[cfg(test)]
 mod sinks;
 #[cfg(test)]
 mod step_faults;

@@ -5,7 +5,7 @@ use Rattle.md_cert.specs.declared.table.Row.{Row}
 use Rattle.md_cert.specs.declared.slots.Slot.{Slot}
 use Rattle.md_cert.specs.Sources.{has}
 use Rattle.md_cert.specs.Tables.{mask_of}
-use Rattle.md_cert.proofs.Side.{behind_more, holds_from}
+use Rattle.md_cert.proofs.SideBySide.{below_more, holds_from}
 use Rattle.md_cert.proofs.coverage.first_forbidden.Goals as goal
 
 pub loop-slot-preserved : goal.loop-slot-preserved
@@ -16,7 +16,7 @@ loop-slot-preserved c =
     let d : Slot = record { chunk = 0; source = 0; round = 0 } in
     record {
       within = c.seek_row-at.ensures.within;
-      behind = behind_more (λ (r : Row). r.chunk) (λ (s : Slot). s.chunk) rows c.seek_row-at.result slots i _ c.requires.rising c.seek_row-at.ensures.below
+      front = below_more (λ (r : Row). r.chunk) (λ (s : Slot). s.chunk) rows c.seek_row-at.result slots i _ c.requires.rising c.seek_row-at.ensures.below
           (λ y. ap (λ (s : Slot). s.chunk) (get_or_default slots i y d c.loop-slot-test.true));
       allowed = AllWithin-more (λ (s : Slot). has (mask_of rows s.chunk) s.source ≡ true) slots 0 i c.loop-slot.invariant.allowed
           (holds_from (λ (s : Slot). has (mask_of rows s.chunk) s.source ≡ true) slots i d c.loop-slot-test.true

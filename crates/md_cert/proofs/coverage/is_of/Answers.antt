@@ -4,7 +4,7 @@ use Rattle.std.proofs.lemmas.Bool.{eqb-true, eqb-false, le-ltb}
 use Rattle.std.proofs.lemmas.List.{get_or_default}
 use Rattle.md_cert.specs.declared.slots.Slot.{Slot}
 use Rattle.md_cert.specs.Plans.{IsPlanned}
-use Rattle.md_cert.proofs.Side.{apart}
+use Rattle.md_cert.proofs.SideBySide.{apart}
 use Rattle.md_cert.proofs.coverage.is_of.Goals as goal
 
 by_test : (b : Bool) (P : Type 0) → (b ≡ true → P) → (b ≡ false → P → ⊥) → MatchBool b P (P → ⊥)

@@ -1,5 +1,5 @@
 use Rattle.std.proofs.Common.{ℕ}
-use Rattle.md_cert.proofs.Side.{rises_more}
+use Rattle.md_cert.proofs.SideBySide.{rises_more}
 use Rattle.md_cert.proofs.rising.chunks_rise.Goals as goal
 
 pub loop-i-preserved : goal.loop-i-preserved

@@ -1,5 +1,5 @@
 use Rattle.md_cert.specs.declared.slots.Slot.{Slot}
-use Rattle.md_cert.proofs.Side.{rises_more}
+use Rattle.md_cert.proofs.SideBySide.{rises_more}
 use Rattle.md_cert.proofs.rising.slots_rise.Goals as goal
 
 pub loop-i-preserved : goal.loop-i-preserved

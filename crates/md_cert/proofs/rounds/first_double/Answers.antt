@@ -2,8 +2,8 @@ use Rattle.std.proofs.Common.{◌≡◌, ◌∙◌, ◌<◌, ◌+◌, true, fals
 use Rattle.md_cert.specs.declared.slots.Slot.{Slot}
 use Rattle.md_cert.specs.Plans.{HasTurn, IsRepeat, NoRepeatBelow}
 use Rattle.md_cert.specs.Sources.{has}
-use Rattle.md_cert.proofs.Seen.{Seen, seen_none, seen_put, seen_skip}
-use Rattle.md_cert.proofs.Side.{holds_from}
+use Rattle.md_cert.proofs.SeenTurns.{Seen, seen_none, seen_put, seen_skip}
+use Rattle.md_cert.proofs.SideBySide.{holds_from}
 use Rattle.md_cert.proofs.rounds.first_double.Goals as goal
 use Rattle.md_cert.proofs.rounds.first_double.Goals.{then-round-lent+else-has_source, else-round-lent}
 

@@ -1,5 +1,5 @@
 use Rattle.std.proofs.Common.{◌≡◌, ℕ, ◌<◌, get_or}
-use Rattle.md_cert.proofs.Seen.{Seen}
+use Rattle.md_cert.proofs.SeenTurns.{Seen}
 use Rattle.md_cert.proofs.rounds.first_double.Given as goal
 
 abbrev pub invariant-loop-word : goal.invariant-loop-word

@@ -6,14 +6,14 @@ use Rattle.md_cert.specs.declared.table.Row.{Row}
 use Rattle.md_cert.specs.Sources.{has}
 use Rattle.md_cert.specs.Tables.{mask_of}
 use Rattle.md_cert.specs.Assignments.{gives_any}
-use Rattle.md_cert.proofs.Side.{behind_none, behind_more, holds_from}
+use Rattle.md_cert.proofs.SideBySide.{below_none, below_more, holds_from}
 use Rattle.md_cert.proofs.Bits.{has_or, has_zero}
 use Rattle.md_cert.proofs.short_set.union_of.Goals as goal
 
 pub loop-chunk-init : goal.loop-chunk-init
 loop-chunk-init c = record {
   within = omega arith;
-  behind = behind_none (λ (r : Row). r.chunk) (λ (n : ℕ). n) c.args.rows.now c.args.chunks.now;
+  front = below_none (λ (r : Row). r.chunk) (λ (n : ℕ). n) c.args.rows.now c.args.chunks.now;
   given = λ k d low less. absurd (omega arith);
   sources = λ s. has_zero s;
 }
@@ -25,7 +25,7 @@ loop-chunk-preserved c =
     let i = c.loop-chunk.chunk-index in
     record {
       within = c.seek_row-at.ensures.within;
-      behind = behind_more (λ (r : Row). r.chunk) (λ (n : ℕ). n) rows c.seek_row-at.result chunks i _ c.requires.rising c.seek_row-at.ensures.below
+      front = below_more (λ (r : Row). r.chunk) (λ (n : ℕ). n) rows c.seek_row-at.result chunks i _ c.requires.rising c.seek_row-at.ensures.below
           (λ y. get_or_default chunks i y 0 c.loop-chunk-test.true);
       given = AllWithin-more (λ chunk. mask_of rows chunk ≢ 0) chunks 0 i c.loop-chunk.invariant.given
           (holds_from (λ chunk. mask_of rows chunk ≢ 0) chunks i 0 c.loop-chunk-test.true (λ none. c.if-mask-eq0.false (c.mask_at-mask.ensures ∙ none)));

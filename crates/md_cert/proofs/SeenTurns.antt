@@ -6,7 +6,7 @@ use Rattle.std.proofs.lemmas.List.{get_or_default, length-set}
 use Rattle.md_cert.specs.declared.slots.Slot.{Slot}
 use Rattle.md_cert.specs.Sources.{has}
 use Rattle.md_cert.specs.Plans.{HasTurn, NoRepeatBelow}
-use Rattle.md_cert.proofs.Side.{holds_from}
+use Rattle.md_cert.proofs.SideBySide.{holds_from}
 use Rattle.md_cert.proofs.Bits.{has_set_same, has_set_other, has_zero}
 
 pub record Seen (slots : List Slot) (lent : List ℕ) (i : ℕ) : Type 0 where
