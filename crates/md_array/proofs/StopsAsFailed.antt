@@ -1,10 +1,10 @@
 -- What a stop leaves within the write of an event: devices that the event might leave at its end, or that a torn write leaves.
-use Rattle.std.proofs.Common.{◌≡◌, ◌≢◌, ◌∙◌, ◌⊎◌, ⊎_elim, inl, inr, ℕ, zero, suc, ◌*◌, ◌<◌, List, [], ◌∷◌, length, map, slice_get, Some, sym, ap, refl, subst, arith}
+use Rattle.std.proofs.Common.{◌≡◌, ◌≢◌, ◌∙◌, ◌⊎◌, ⊎_elim, inl, inr, ℕ, zero, suc, ◌+◌, ◌*◌, ◌<◌, List, [], ◌∷◌, ◌++◌, length, take, drop, drop-drop, map, slice_get, Some, sym, ap, refl, subst, arith}
 use Rattle.std.proofs.lemmas.Bool.{cases_lt}
-use Rattle.std.proofs.lemmas.List.{length-map}
+use Rattle.std.proofs.lemmas.List.{length-map, take-append-drop}
 use Rattle.std.proofs.lemmas.Option.{none-some, same_Some, slice_get_past, slice_get_within}
-use Rattle.md_device.specs.Splice.{SameOutside}
-use Rattle.md_device.specs.Device.{written}
+use Rattle.md_device.specs.Splice.{SameOutside, part, spliced}
+use Rattle.md_device.specs.Device.{held, written}
 use Rattle.md_device.specs.Stops.{IsMixed}
 use Rattle.md_writes.specs.Writes.{IsAnyIn, IsCutShort, Write}
 use Rattle.md_writes.proofs.Runs.{cut_one}
@@ -12,7 +12,7 @@ use Rattle.md_model.specs.Events.{Event}
 use Rattle.md_model.proofs.Puts.{by_same}
 use Rattle.md_array.specs.DeviceChanges.{LeavesOn, StaysHonest}
 use Rattle.md_array.specs.DiskWrites.{IsTried, IsWritten}
-use Rattle.md_array.specs.StopsWithin.{IsLeftBut, MayAllBeLeft, StopsAsFailed, StopsAsTried, StopsAtEvents}
+use Rattle.md_array.specs.StopsWithin.{IsLeftBut, MayAllBeLeft, StopsAsFailed, StopsAsTried, StopsAtEvents, StopsUndivided}
 use Rattle.md_array.specs.View.{Disk}
 use Rattle.md_array.specs.Worlds.{AreHonest}
 use Rattle.md_array.proofs.StopsAtSteps.{same_lists, stops_at_failure, stops_at_sector, stops_at_write, stops_in_memory}
@@ -174,6 +174,29 @@ sector_done k w before after left honest writes but =
     let b = got_within before j (omega arith) in
     but.others j (λ here. absurd (omega arith)) b.0 y b.1 is ∙ sym (same_Some x b.0.content (sym at ∙ got_in_map (λ (z : Disk). z.content) before j b.0 b.1)))))
     (cases_lt k (length before))
+
+-- a content by its part before, in and after a range
+whole : (xs : List ℕ) (at n : ℕ) → xs ≡ take at xs ++ (part xs at n ++ drop (at + n) xs)
+unfolding part
+whole xs at n = sym (take-append-drop at xs) ∙ ap (λ ys. take at xs ++ ys) (sym (take-append-drop n (drop at xs)) ∙ ap (λ zs. take n (drop at xs) ++ zs) (drop-drop n at xs))
+
+with_part : (at n : ℕ) (xs ys : List ℕ) → SameOutside at n xs ys → (middle : List ℕ) → part ys at n ≡ middle → ys ≡ take at xs ++ (middle ++ drop (at + n) xs)
+with_part at n xs ys same middle is = whole ys at n ∙ rw (same.before, same.after, is) refl
+
+pub stops_undivided : StopsUndivided
+unfolding spliced
+stops_undivided k w before after left honest writes may undivided =
+    let but = stops_at_write k w before after left honest writes may in
+    sector_done k w before after left honest writes (record {
+      as_many = but.as_many;
+      others = but.others;
+      this = λ d c was is. ⊎_elim (λ done. inr done)
+          (λ (mixed : IsMixed w.sector w.bytes d.content c). ⊎_elim
+          (λ (same : held c w.sector (length w.bytes) ≡ held d.content w.sector (length w.bytes)). inl (with_part (512 * w.sector) (length w.bytes) d.content c mixed.outside _ same ∙ sym (whole d.content (512 * w.sector) (length w.bytes))))
+          (λ (new : held c w.sector (length w.bytes) ≡ w.bytes). inr (with_part (512 * w.sector) (length w.bytes) d.content c mixed.outside w.bytes new))
+          (undivided d c was is))
+          (cut_one d.content c w (but.this d c was is));
+    })
 
 in_memory : (before after : List Disk) (left : List (List ℕ)) → after ≡ before → MayAllBeLeft before after left → left ≡ map (λ (d : Disk). d.content) before
 in_memory before after left same may = stops_in_memory before left (subst (λ (x : List Disk). MayAllBeLeft before x left) same may)

@@ -1,6 +1,6 @@
 -- What a stop within a call leaves of a mirror's devices.
 use Rattle.std.specs.Prelude.{◌≡◌, ◌≢◌, ◌⊎◌, ℕ, List, [], ◌∷◌, drop, length, map, slice_get, Some}
-use Rattle.md_device.specs.Device.{written}
+use Rattle.md_device.specs.Device.{held, written}
 use Rattle.md_writes.specs.Writes.{IsAnyIn, IsCutShort, Write}
 use Rattle.md_model.specs.Events.{Event}
 use Rattle.md_array.specs.View.{Disk, MirrorView}
@@ -61,6 +61,15 @@ abbrev pub StopsAsTried : Type 0
 StopsAsTried =
     (k : ℕ) (w : Write) (before after : List Disk) (left : List (List ℕ)) → AreHonest before → IsWritten k w before after → MayAllBeLeft before after left
     → (disks : List Disk) × IsTried k w before disks × (map (λ d. d.content) disks ≡ left)
+
+-- Where a stop left all of a write's range as it was or all as written, it is before the write or after it: so of a superblock,
+-- unless eight sectors of two make one that can be decoded.
+abbrev pub StopsUndivided : Type 0
+StopsUndivided =
+    (k : ℕ) (w : Write) (before after : List Disk) (left : List (List ℕ)) → AreHonest before → IsWritten k w before after → MayAllBeLeft before after left
+    → ((d : Disk) (c : List ℕ) → slice_get before k ≡ Some d → slice_get left k ≡ Some c
+    → (held c w.sector (length w.bytes) ≡ held d.content w.sector (length w.bytes)) ⊎ (held c w.sector (length w.bytes) ≡ w.bytes))
+    → (left ≡ map (λ d. d.content) before) ⊎ (left ≡ map (λ d. d.content) after)
 
 -- What a stop leaves at a moment of the call of an event: what was there before it or what is after it, or its one write cut short.
 abbrev pub IsLeftBy : Event → List Disk → List Disk → List (List ℕ) → Type 0

@@ -13,7 +13,7 @@ ghost use Rattle.md_array.specs.Opening.{IsOpenedFrom};
 ghost use Rattle.md_array.specs.ReadAsKept.{AreReadAsKept};
 ghost use Rattle.md_array.specs.Lives.{AtEachMoment, ContentGoesAlong, FitsWhenThere, IsReadAsKeptInLives, KeepsContent, KeepsGeometry, StaysAsLeft};
 ghost use Rattle.md_array.specs.Runs.{HasContent};
-ghost use Rattle.md_array.specs.StopsWithin.{StopsAsFailed, StopsAsTried, StopsAtEvents, StopsAtFailure, StopsAtSector, StopsAtWrite, StopsInMemory};
+ghost use Rattle.md_array.specs.StopsWithin.{StopsAsFailed, StopsAsTried, StopsAtEvents, StopsAtFailure, StopsAtSector, StopsAtWrite, StopsInMemory, StopsUndivided};
 ghost use Rattle.md_array.specs.Worlds.{AreHonest, geometry_of, none_in_flight, super_of, world_of, world_on};
 
 /// A mirror that was opened from devices that do what they answer is an opened world of the model, by
@@ -102,4 +102,5 @@ pub fn stops_at_steps()
     ensures event { StopsAtEvents }
     ensures as_failed { StopsAsFailed }
     ensures as_tried { StopsAsTried }
+    ensures undivided { StopsUndivided }
 {}
