@@ -1,11 +1,15 @@
--- What becomes of the target when a report is taken.
-use Rattle.std.specs.Prelude.{◌≡◌, ℕ, ◌+◌, ◌*◌, List, true}
+-- What becomes of the collector and its target when a report is taken.
+use Rattle.std.specs.Prelude.{◌≡◌, ℕ, ◌+◌, ◌*◌, List, true, None, Some, Result, Err}
+use Rattle.std.specs.Result.{result_err}
 use Rattle.md_device.specs.declared.device.Device.{Ghosts}
 use Rattle.md_device.specs.Splice.{SameOutside}
 use Rattle.md_device.specs.Stops.{LeavesMore}
 use Rattle.md_collect.specs.Places.{start_of, bytes_of}
-use Rattle.md_collect.specs.Collecting.{CollectorView}
-use Rattle.md_collect.specs.Lists.{Copied}
+use Rattle.md_collect.specs.declared.refusal.Refusal.{Refusal}
+use Rattle.md_collect.specs.declared.refusal.Refusal.TheVariants.{TargetFault}
+use Rattle.md_collect.specs.Reports.{ReportView, with_report}
+use Rattle.md_collect.specs.Collecting.{CollectorView, copying, refusal_of}
+use Rattle.md_collect.specs.Lists.{Copied, Takes}
 
 -- a collector, and what its target holds
 abbrev pub stage : CollectorView → List ℕ → Copied
@@ -17,9 +21,14 @@ pub record KeepsCopy (old new : CollectorView) : Type 0 where
   pub chunks : new.chunks ≡ old.chunks
   pub offset : new.offset ≡ old.offset
 
--- neither the collector nor the target changed
-abbrev pub IsUntouched : {D : Type 0} → CollectorView → CollectorView → D → D → Type 0
-IsUntouched old new before after = (new ≡ old) × (after ≡ before)
+-- a report that does not count is refused for the first reason that stands, and nothing changes
+abbrev pub RefusesFirst : {D : Type 0} → CollectorView → CollectorView → D → D → ReportView → Result (Unit {0}) Refusal → Type 0
+RefusesFirst old new before after r result =
+    (why : Refusal) → refusal_of old r ≡ Some why → (result ≡ Err why) × (new ≡ old) × (after ≡ before)
+
+-- a target that can't be written spoils the collector
+abbrev pub SpoilsAtFault : CollectorView → CollectorView → ReportView → Result (Unit {0}) Refusal → Type 0
+SpoilsAtFault old new r result = result ≡ Err TargetFault → (refusal_of old r ≡ None) × (new ≡ record old { spoiled = true })
 
 -- of the target at most the chunk changed
 abbrev pub ChangesChunk : CollectorView → ℕ → List ℕ → List ℕ → Type 0
@@ -29,3 +38,13 @@ ChangesChunk v chunk = SameOutside (512 * (v.offset + start_of v.chunks chunk)) 
 abbrev pub LeavesBesideChunk : {D : Type 0} → Ghosts D → CollectorView → ℕ → D → D → Type 0
 LeavesBesideChunk g v chunk before after =
     g.honest before ≡ true → LeavesMore (g.stops before) (g.stops after) (ChangesChunk v chunk (g.content before))
+
+module _ {D : Type 0} (g : Ghosts D) where
+  -- the target has the report's bytes in its chunk
+  abbrev pub HoldsReport : CollectorView → D → D → ReportView → Type 0
+  HoldsReport v before after r = g.honest before ≡ true → g.content after ≡ with_report (copying v) (g.content before) r
+
+  -- the step of a list of reports
+  abbrev pub TakesStep : CollectorView → CollectorView → D → D → ReportView → Result (Unit {0}) Refusal → Type 0
+  TakesStep old new before after r result =
+      g.honest before ≡ true → Takes (stage old (g.content before)) r (result_err result) (stage new (g.content after))

@@ -1,12 +1,10 @@
 // What is delivered of planned chunks goes to the target, each chunk once.
-ghost use Rattle.std.specs.Prelude.{◌≡◌, ◌≤◌, ℕ, Err, IfNone, IfOk, None, OnOk, Some, true};
-ghost use Rattle.std.specs.Result.{result_err};
+ghost use Rattle.std.specs.Prelude.{◌≡◌, ◌≤◌, Err, IfNone, IfOk, None, OnOk};
 ghost use Rattle.md_collect.specs.Places.{HasRoom, IsChunk};
-ghost use Rattle.md_collect.specs.Reports.{has_length, with_report};
+ghost use Rattle.md_collect.specs.Reports.{has_length};
 ghost use Rattle.md_collect.specs.Reading.{Fails};
-ghost use Rattle.md_collect.specs.Collecting.{ArePlanned, CollectorView, IsCounted, IsFresh, copying, refusal_of, reports_of};
-ghost use Rattle.md_collect.specs.Lists.{Takes};
-ghost use Rattle.md_collect.specs.Targets.{ChangesChunk, IsUntouched, KeepsCopy, LeavesBesideChunk, stage};
+ghost use Rattle.md_collect.specs.Collecting.{ArePlanned, CollectorView, IsCounted, IsFresh, refusal_of, reports_of};
+ghost use Rattle.md_collect.specs.Targets.{ChangesChunk, HoldsReport, KeepsCopy, LeavesBesideChunk, RefusesFirst, SpoilsAtFault, TakesStep};
 
 use crate::planned::is_planned;
 use crate::refusal::Refusal;
@@ -69,14 +67,14 @@ impl Collector {
     pub fn take<D: Device>(&mut self, target: &mut D, report: Report) -> Result<(), Refusal>
         requires { HasRoom (D.content target.old) self.old.offset self.old.chunks }
 
-        ensures refused { (why : Refusal) → refusal_of self.old report ≡ Some why → (result ≡ Err why) × IsUntouched self.old self.new target.old target.new }
+        ensures refused { RefusesFirst self.old self.new target.old target.new report result }
         ensures counts { OnOk result (refusal_of self.old report ≡ None) }
         ensures ok { OnOk result (IsCounted report.chunk self.old self.new) }
-        ensures bytes { OnOk result (D.honest target.old ≡ true → D.content target.new ≡ with_report (copying self.old) (D.content target.old) report) }
+        ensures bytes { OnOk result (HoldsReport D.Device self.old target.old target.new report) }
         ensures unwritten { report.bytes ≡ None → target.new ≡ target.old }
-        ensures fault { result ≡ Err Refusal.TargetFault → (refusal_of self.old report ≡ None) × (self.new ≡ record self.old { spoiled = true }) }
+        ensures fault { SpoilsAtFault self.old self.new report result }
         ensures failed { result ≡ Err Refusal.TargetFault → Fails D.Device target.old target.new }
-        ensures takes { D.honest target.old ≡ true → Takes (stage self.old (D.content target.old)) report (result_err result) (stage self.new (D.content target.new)) }
+        ensures takes { TakesStep D.Device self.old self.new target.old target.new report result }
 
         ensures kept { KeepsCopy self.old self.new }
         ensures outside { ChangesChunk self.old report.chunk (D.content target.old) (D.content target.new) }
@@ -93,14 +91,14 @@ impl Collector {
     pub fn take_ref<D: Device>(&mut self, target: &mut D, report: &Report) -> Result<(), Refusal>
         requires { HasRoom (D.content target.old) self.old.offset self.old.chunks }
 
-        ensures refused { (why : Refusal) → refusal_of self.old report.now ≡ Some why → (result ≡ Err why) × IsUntouched self.old self.new target.old target.new }
+        ensures refused { RefusesFirst self.old self.new target.old target.new report.now result }
         ensures counts { OnOk result (refusal_of self.old report.now ≡ None) }
         ensures ok { OnOk result (IsCounted report.now.chunk self.old self.new) }
-        ensures bytes { OnOk result (D.honest target.old ≡ true → D.content target.new ≡ with_report (copying self.old) (D.content target.old) report.now) }
+        ensures bytes { OnOk result (HoldsReport D.Device self.old target.old target.new report.now) }
         ensures unwritten { report.now.bytes ≡ None → target.new ≡ target.old }
-        ensures fault { result ≡ Err Refusal.TargetFault → (refusal_of self.old report.now ≡ None) × (self.new ≡ record self.old { spoiled = true }) }
+        ensures fault { SpoilsAtFault self.old self.new report.now result }
         ensures failed { result ≡ Err Refusal.TargetFault → Fails D.Device target.old target.new }
-        ensures takes { D.honest target.old ≡ true → Takes (stage self.old (D.content target.old)) report.now (result_err result) (stage self.new (D.content target.new)) }
+        ensures takes { TakesStep D.Device self.old self.new target.old target.new report.now result }
 
         ensures kept { KeepsCopy self.old self.new }
         ensures outside { ChangesChunk self.old report.now.chunk (D.content target.old) (D.content target.new) }

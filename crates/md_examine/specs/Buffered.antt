@@ -40,4 +40,4 @@ pub record Spilled {S : Type 0} (contents : S → Option (List ℕ)) (failed : S
   pub well : is_broken new ≡ false
 
 abbrev pub Spills : {S T E : Type 0} → (S → Option (List ℕ)) → (S → Bool) → Buffered S → Buffered S → Result T E → Type 0
-Spills contents failed old new result = MatchResult result (λ _. Spilled contents failed old new) (λ _. is_broken new ≡ true)
+Spills contents failed old new result = MatchResult result (λ _. Spilled contents failed old new) (λ _. (is_broken new ≡ true) × (failed (sink_of new) ≡ true))

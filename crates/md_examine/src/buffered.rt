@@ -1,5 +1,5 @@
 // A sink that holds small writes back.
-ghost use Rattle.std.specs.Prelude.{◌≡◌, ◌+◌, ◌≤◌, [], length, is_err, IsErr, IsOk, OnOk, true, false};
+ghost use Rattle.std.specs.Prelude.{◌≡◌, ◌+◌, ◌≤◌, [], length, is_err, IsErr, IsOk, OnErr, true, false};
 ghost use Rattle.md_examine.specs.Sink.{FlushesOrFails, PutsOrFails};
 
 use crate::sink::{Sink, SinkFault};
@@ -82,10 +82,13 @@ impl<S: Sink> Sink for Buffered<S> {
 
     ghost is_flushed = { is_passed_on S.is_flushed };
 
-    /// Where there is room for the bytes, the sink below is left alone.
+    /// Where there is room for the bytes, the sink below is left alone. The first `Err` comes only
+    /// from a sink below that has failed.
     fn put(&mut self, bytes: &[u8]) -> Result<(), SinkFault>
         ensures puts { PutsOrFails (buffered_contents S.contents) (buffered_failed S.failed) self.old self.new bytes.now result }
         ensures holds { is_broken self.old ≡ false → length (held_back self.old) + length bytes.now ≤ room self.old → IsOk result × (sink_of self.new ≡ sink_of self.old) }
+        ensures broken { is_broken self.new ≡ is_err result }
+        ensures told { OnErr result (is_broken self.old ≡ false → S.failed (sink_of self.new) ≡ true) }
         ensures stays_broken { is_broken self.old ≡ true → IsErr result × (self.new ≡ self.old) }
     {
         if self.broken {
@@ -102,9 +105,11 @@ impl<S: Sink> Sink for Buffered<S> {
         Ok(())
     }
 
-    /// Flushes the sink below too.
+    /// Flushes the sink below too. The first `Err` comes only from a sink below that has failed.
     fn flush(&mut self) -> Result<(), SinkFault>
         ensures flushes { FlushesOrFails (buffered_contents S.contents) (buffered_failed S.failed) (is_passed_on S.is_flushed) self.old self.new result }
+        ensures broken { is_broken self.new ≡ is_err result }
+        ensures told { OnErr result (is_broken self.old ≡ false → S.failed (sink_of self.new) ≡ true) }
         ensures stays_broken { is_broken self.old ≡ true → IsErr result × (self.new ≡ self.old) }
     {
         if self.broken {

@@ -6,6 +6,8 @@ mod assembly;
 #[cfg(test)]
 mod bitmap_and_log_reports;
 #[cfg(test)]
+mod collector_reports;
+#[cfg(test)]
 mod commands;
 #[cfg(test)]
 mod commands_on_arrays;
@@ -25,6 +27,8 @@ mod members_in_step;
 mod mirrors;
 #[cfg(test)]
 mod new_members;
+#[cfg(test)]
+mod plan_reports;
 #[cfg(test)]
 mod sinks;
 #[cfg(test)]
