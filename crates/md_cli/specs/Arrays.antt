@@ -1,6 +1,6 @@
 -- What the commands that open a whole array give.
 use Rattle.md_device.specs.declared.device.Device.{Ghosts}
-use Rattle.std.specs.Prelude.{◌≡◌, ◌⊎◌, ◌<◌, ℕ, Bool, true, List, length, map, Option, Result, Err, MatchResult}
+use Rattle.std.specs.Prelude.{◌≡◌, ◌⊎◌, ◌<◌, ℕ, Bool, true, List, [], length, map, Option, Result, Err, MatchResult}
 use Rattle.clap.specs.Words.{Text}
 use Rattle.md_array.specs.View.{ArrayView, Disk, MirrorView, disk_of}
 use Rattle.md_array.specs.Opening.{IsOpenedFrom}
@@ -12,8 +12,12 @@ use Rattle.md_examine.specs.DetailReport.{detail_text}
 use Rattle.md_cli.specs.declared.array_report.ArrayReport.{ArrayReport}
 use Rattle.md_cli.specs.declared.array_report.ArrayReport.TheVariants.{Summary, Detail}
 use Rattle.md_cli.specs.declared.fault.CommandFault.{CommandFault}
-use Rattle.md_cli.specs.declared.fault.CommandFault.TheVariants.{Open, OutputFault}
+use Rattle.md_cli.specs.declared.fault.CommandFault.TheVariants.{NoMemory, Open, OutputFault}
 use Rattle.md_cli.specs.Taking.{ArePut, AreUnder, IsDistinct, IsThere, RefusesImages, Word, names_of}
+
+-- a device over which what is written is kept in memory: no stop leaves any of that
+abbrev pub overlaid : Disk → Disk
+overlaid d = record d { stops = [] }
 
 abbrev pub array_text : ArrayReport → ArrayView → List ℕ
 array_text Summary a = summary_text a
@@ -42,6 +46,22 @@ module _ {S : Type 0} (contents : S → Option (List ℕ)) (failed : S → Bool)
 
   abbrev pub OpensDevices : ArrayReport → List Disk → List Disk → S → S → Result (Unit {0}) CommandFault → Type 0
   OpensDevices report before after old new result = ShowsMirror report before after old new result ⊎ RefusesMirror before after old new result
+
+  -- What is written is kept in memory over the devices, which are opened so as a mirror. That each device comes back with what
+  -- stood on it is by the contract of the overlay, which does not write to it: no contract of a mirror says so.
+  pub record LooksAtMirror (report : ArrayReport) (before after : List Disk) (old new : S) (result : Result (Unit {0}) CommandFault) : Type 0 where
+    pub seen : List Disk
+    pub opened : OpensDevices report (map overlaid before) seen old new result
+    pub as_many : length after ≡ length before
+
+  -- there is no memory for the list of overlays
+  pub record LooksAtNothing (before after : List Disk) (old new : S) (result : Result (Unit {0}) CommandFault) : Type 0 where
+    pub is : result ≡ Err NoMemory
+    pub unused : after ≡ before
+    pub unwritten : new ≡ old
+
+  abbrev pub LooksAtDevices : ArrayReport → List Disk → List Disk → S → S → Result (Unit {0}) CommandFault → Type 0
+  LooksAtDevices report before after old new result = LooksAtMirror report before after old new result ⊎ LooksAtNothing before after old new result
 
 -- What is done with devices, as contracts see them before and after, and with the output.
 abbrev pub Work : Type 0 → Type 1

@@ -8,6 +8,8 @@ use Rattle.clap.specs.Words.{Row, Text, all_of, first_of, subcommand_of}
 use Rattle.md_cli.specs.Words.{mdcli}
 use Rattle.md_cli.specs.declared.options.CreateOptions.{CreateOptions}
 use Rattle.md_cli.specs.declared.report.Report.{Report}
+use Rattle.md_cli.specs.declared.array_report.ArrayReport.{ArrayReport}
+use Rattle.md_cli.specs.declared.array_report.ArrayReport.TheVariants.{Summary, Detail}
 use Rattle.md_cli.specs.declared.report.Report.TheVariants.{Superblock, Bitmap, BadBlocks}
 use Rattle.md_cli.specs.declared.request.Action.{Action}
 use Rattle.md_cli.specs.declared.request.Action.TheVariants as action
@@ -27,8 +29,7 @@ pub record Options : Type 0 where
 pub data Ask : Type 0 where
   examines : Report → Ask
   creates : Options → Ask
-  assembles : Ask
-  details : Ask
+  shows : ArrayReport → Bool → Ask  -- whether no image may be changed
 
 -- whether the text is a number: one decimal digit or more, and nothing else
 abbrev pub is_number : Text → Bool
@@ -64,12 +65,16 @@ options_in rows = record {
 abbrev pub report_of : Text → Report
 report_of name = if bytes_eq name (codes "examine-bitmap") then Bitmap else if bytes_eq name (codes "examine-badblocks") then BadBlocks else Superblock
 
+-- whether the images may only be looked at
+abbrev pub is_readonly : List Row → Bool
+is_readonly rows = bytes_eq (text_in (codes "readonly") rows) (codes "true")
+
 -- what the command of a name asks for
 abbrev pub asks_of : Text → List Row → Ask
 asks_of name rows =
     if bytes_eq name (codes "create") then creates (options_in rows)
-    else if bytes_eq name (codes "assemble") then assembles
-    else if bytes_eq name (codes "detail") then details
+    else if bytes_eq name (codes "assemble") then shows Summary (is_readonly rows)
+    else if bytes_eq name (codes "detail") then shows Detail (is_readonly rows)
     else examines (report_of name)
 
 abbrev pub asks_in : Option (Text × List Row) → Ask
@@ -104,5 +109,4 @@ options_of o = record {
 abbrev pub ask_of : Action → Ask
 ask_of (action.Examine report) = examines report
 ask_of (action.Create options) = creates (options_of options)
-ask_of action.Assemble = assembles
-ask_of action.Detail = details
+ask_of (action.Show report readonly) = shows report readonly

@@ -5,6 +5,7 @@ pub mod Examining
 pub mod Images
 pub mod MemImages
 pub mod MemPlaces
+pub mod Overlays
 pub mod Planning
 pub mod Running
 pub mod Taking

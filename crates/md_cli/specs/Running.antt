@@ -3,15 +3,15 @@ use Rattle.md_device.specs.declared.device.Device.{Ghosts}
 use Rattle.std.specs.Prelude.{◌≡◌, ◌≢◌, ◌⊎◌, ℕ, Bool, true, false, List, [], ◌∷◌, length, Option, Some, None, Result, Ok, Err}
 use Rattle.clap.specs.Words.{Text}
 use Rattle.md_device.specs.declared.access.Access.{Access}
-use Rattle.md_device.specs.declared.access.Access.TheVariants.{Change, ChangeOrLook}
+use Rattle.md_device.specs.declared.access.Access.TheVariants.{Look, Change, ChangeOrLook}
 use Rattle.md_create.specs.declared.params.CreateParams.{CreateParams}
 use Rattle.md_cli.specs.declared.fault.CommandFault.{CommandFault}
 use Rattle.md_cli.specs.declared.fault.CommandFault.TheVariants as fault
 use Rattle.md_cli.specs.declared.option_fault.OptionFault.{OptionFault}
 use Rattle.md_cli.specs.declared.report.Report.{Report}
-use Rattle.md_cli.specs.declared.array_report.ArrayReport.TheVariants.{Summary, Detail}
-use Rattle.md_cli.specs.Asked.{Ask, Options, examines, creates, assembles, details}
-use Rattle.md_cli.specs.Arrays.{OpensDevices, UsesImages}
+use Rattle.md_cli.specs.declared.array_report.ArrayReport.{ArrayReport}
+use Rattle.md_cli.specs.Asked.{Ask, Options, examines, creates, shows}
+use Rattle.md_cli.specs.Arrays.{LooksAtDevices, OpensDevices, UsesImages}
 use Rattle.md_cli.specs.Creating.{CreatesOn}
 use Rattle.md_cli.specs.Examining.{ExaminesOne}
 use Rattle.md_cli.specs.Images.{allows}
@@ -50,12 +50,16 @@ module _ {I D S : Type 0} (g : Ghosts D) (contents : S → Option (List ℕ)) (f
     pub planned : IsPlan o params
     pub done : UsesImages g (CreatesOn contents failed params words) (after ≡ before) (known before) (may Change before) (device_at before) (device_at after) (image_list true words) old new result
 
+  -- a report on an array, whose images may only be looked at or not
+  abbrev pub ShowsArray : ArrayReport → Bool → List Text → I → I → S → S → Result (Unit {0}) CommandFault → Type 0
+  ShowsArray report true words before after old new result = UsesImages g (LooksAtDevices contents failed report) (after ≡ before) (known before) (may Look before) (device_at before) (device_at after) (image_list false words) old new result
+  ShowsArray report false words before after old new result = UsesImages g (OpensDevices contents failed report) (after ≡ before) (known before) (may ChangeOrLook before) (device_at before) (device_at after) (image_list false words) old new result
+
   -- what each command does with the images that its words name
   abbrev pub Does : Ask → List Text → I → I → S → S → Result (Unit {0}) CommandFault → Type 0
   Does (examines report) words before after old new result = Examines report words before after old new result
   Does (creates o) words before after old new result = RefusesOptions o words before after old new result ⊎ Creates o words before after old new result
-  Does assembles words before after old new result = UsesImages g (OpensDevices contents failed Summary) (after ≡ before) (known before) (may ChangeOrLook before) (device_at before) (device_at after) (image_list false words) old new result
-  Does details words before after old new result = UsesImages g (OpensDevices contents failed Detail) (after ≡ before) (known before) (may ChangeOrLook before) (device_at before) (device_at after) (image_list false words) old new result
+  Does (shows report readonly) words before after old new result = ShowsArray report readonly words before after old new result
 
   -- the command's own answer, whose status this is
   pub record DoesCommand (ask : Ask) (words : List Text) (before after : I) (old new : S) (status : ℕ) : Type 0 where

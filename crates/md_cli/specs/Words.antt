@@ -29,9 +29,12 @@ required r = record r { required = true }
 abbrev pub by_default : Text → Rule → Rule
 by_default value r = record r { defaults = value ∷ [] }
 
--- a command that takes images alone
-abbrev pub images_app : Text → App
-images_app name = with_rule (new_app name) image_rule
+-- a command that shows one image, and one that shows an array
+abbrev pub examine_app : Text → App
+examine_app name = with_rule (new_app name) image_rule
+
+abbrev pub array_app : Text → App
+array_app name = with_rule (with_rule (new_app name) (flag_rule (codes "readonly"))) image_rule
 
 -- `create`: what it must be given, and what it may
 abbrev pub with_required : App → App
@@ -64,14 +67,14 @@ required_command a = record a { top = record a.top { subcommand_required = true 
 abbrev pub with_examine_commands : App → App
 with_examine_commands a =
     with_subcommand
-    (with_subcommand (with_subcommand a (images_app (codes "examine")).top) (images_app (codes "examine-bitmap")).top)
-    (images_app (codes "examine-badblocks")).top
+    (with_subcommand (with_subcommand a (examine_app (codes "examine")).top) (examine_app (codes "examine-bitmap")).top)
+    (examine_app (codes "examine-badblocks")).top
 
 abbrev pub with_array_commands : App → App
 with_array_commands a =
     with_subcommand
-    (with_subcommand (with_subcommand a create_app.top) (images_app (codes "assemble")).top)
-    (images_app (codes "detail")).top
+    (with_subcommand (with_subcommand a create_app.top) (array_app (codes "assemble")).top)
+    (array_app (codes "detail")).top
 
 -- the whole command line
 unfoldable pub mdcli : App

@@ -1,5 +1,5 @@
 // The commands that show a whole array.
-ghost use Rattle.std.specs.Prelude.{◌≡◌, length, map, false};
+ghost use Rattle.std.specs.Prelude.{◌≡◌, IfOk, length, map, false};
 ghost use Rattle.md_array.specs.View.{disk_of};
 ghost use Rattle.md_cli.specs.Arrays.{OpensDevices, UsesImages, WritesText, array_text};
 ghost use Rattle.md_cli.specs.Images.{allows};
@@ -9,6 +9,7 @@ use crate::array_report::ArrayReport;
 use crate::fault::CommandFault;
 use crate::image_word::image_list;
 use crate::images::Images;
+use crate::output::pass_on;
 use crate::taking::{put_back, take_images};
 use md_array::Mirror;
 use md_device::{Access, Device};
@@ -20,14 +21,15 @@ fn show<D: Device + Drop, S: Sink>(
     mirror: &Mirror<D>,
     out: &mut S,
 ) -> Result<(), CommandFault>
-    ensures { WritesText S.contents S.failed out.old out.new (array_text report mirror.now.array) result }
+    ensures writes { WritesText S.contents S.failed out.old out.new (array_text report mirror.now.array) result }
+    ensures flushed { IfOk result (λ _. S.is_flushed out.new) }
 {
     let shown = match report {
         ArrayReport::Summary => summary(out, mirror),
         ArrayReport::Detail => detail(out, mirror),
     };
     match shown {
-        Ok(()) => Ok(()),
+        Ok(()) => pass_on(out),
         Err(_) => Err(CommandFault::OutputFault),
     }
 }
@@ -41,6 +43,7 @@ pub(crate) fn show_devices<D: Device + Drop, S: Sink>(
 ) -> (Vec<D>, Result<(), CommandFault>)
     ensures as_many { length result.0.items ≡ length devices.items }
     ensures gives { OpensDevices S.contents S.failed report (map (disk_of D.Device) devices.items) (map (disk_of D.Device) result.0.items) out.old out.new result.1 }
+    ensures flushed { IfOk result.1 (λ _. S.is_flushed out.new) }
 {
     match Mirror::open(alloc, devices) {
         Ok(mirror) => {
@@ -59,7 +62,8 @@ pub(crate) fn show_images<I: Images, S: Sink>(
     names: &[&str],
     out: &mut S,
 ) -> Result<(), CommandFault>
-    ensures { UsesImages I.Dev.Device (OpensDevices S.contents S.failed report) (images.new ≡ images.old) (I.known images.old) (λ n. allows Access.ChangeOrLook (I.changeable images.old n)) (I.device_at images.old) (I.device_at images.new) (image_list false (map (λ s. s.now) names.now)) out.old out.new result }
+    ensures gives { UsesImages I.Dev.Device (OpensDevices S.contents S.failed report) (images.new ≡ images.old) (I.known images.old) (λ n. allows Access.ChangeOrLook (I.changeable images.old n)) (I.device_at images.old) (I.device_at images.new) (image_list false (map (λ s. s.now) names.now)) out.old out.new result }
+    ensures flushed { IfOk result (λ _. S.is_flushed out.new) }
 {
     let Ok(list) = image_list(alloc, names, false) else {
         return Err(CommandFault::NoMemory);

@@ -2,7 +2,7 @@
 ghost use Rattle.std.specs.Prelude.{◌≡◌, IfOk, false};
 ghost use Rattle.clap.specs.Words.{app_of, rule_of};
 ghost use Rattle.clap.specs.declared.builder.command.Command.TheViews.{out-Command as fields_of};
-ghost use Rattle.md_cli.specs.Words.{create_app, flag_rule, image_rule, images_app, mdcli, u32_rule, u64_rule, with_optional, with_required, value_rule, with_array_commands, with_examine_commands};
+ghost use Rattle.md_cli.specs.Words.{create_app, array_app, flag_rule, image_rule, examine_app, mdcli, u32_rule, u64_rule, with_optional, with_required, value_rule, with_array_commands, with_examine_commands};
 
 use crate::help;
 use clap::builder::ValueParserFactory;
@@ -58,19 +58,39 @@ fn flag_arg<'a>(alloc: Global, name: &'a str, help: &'a str) -> Arg<'a>
         .help(help)
 }
 
-// A command that takes images alone.
-fn images_command<'a>(
+// A command that shows one image.
+fn examine_command<'a>(
     alloc: Global,
     name: &'a str,
     about: &'a str,
-    after_help: &'a str,
 ) -> Result<Command<'a>, AllocError>
-    ensures app { IfOk result (λ c. app_of c ≡ images_app name.entry.now) }
+    ensures app { IfOk result (λ c. app_of c ≡ examine_app name.entry.now) }
     ensures local { IfOk result (λ c. (fields_of c).has_globals ≡ false) }
 {
     Command::new(alloc, name)
         .about(about)
-        .after_help(after_help)
+        .after_help(help::EXAMINE)
+        .arg(image_arg(alloc))
+}
+
+// A command that shows an array.
+fn array_command<'a>(
+    alloc: Global,
+    name: &'a str,
+    about: &'a str,
+) -> Result<Command<'a>, AllocError>
+    ensures app { IfOk result (λ c. app_of c ≡ array_app name.entry.now) }
+    ensures local { IfOk result (λ c. (fields_of c).has_globals ≡ false) }
+{
+    let readonly = flag_arg(
+        alloc,
+        "readonly",
+        "Changes no image: what would be stored is kept in memory",
+    );
+    Command::new(alloc, name)
+        .about(about)
+        .after_help(help::ARRAY)
+        .arg(readonly)?
         .arg(image_arg(alloc))
 }
 
@@ -152,17 +172,15 @@ fn array_commands<'a>(alloc: Global, program: Command<'a>) -> Result<Command<'a>
     ensures { IfOk result (λ c. app_of c ≡ with_array_commands (app_of program.entry)) }
 {
     let create = create_command(alloc)?;
-    let assemble = images_command(
+    let assemble = array_command(
         alloc,
         "assemble",
         "Shows in a line what array the images make; may store marks",
-        help::ARRAY,
     )?;
-    let detail = images_command(
+    let detail = array_command(
         alloc,
         "detail",
         "Shows the array that the images make; may store marks",
-        help::ARRAY,
     )?;
     program
         .subcommand(create)?
@@ -174,23 +192,16 @@ fn array_commands<'a>(alloc: Global, program: Command<'a>) -> Result<Command<'a>
 fn examine_commands<'a>(alloc: Global, program: Command<'a>) -> Result<Command<'a>, AllocError>
     ensures { IfOk result (λ c. app_of c ≡ with_examine_commands (app_of program.entry)) }
 {
-    let superblock = images_command(
-        alloc,
-        "examine",
-        "Shows the superblock of a member's image",
-        help::EXAMINE,
-    )?;
-    let bitmap = images_command(
+    let superblock = examine_command(alloc, "examine", "Shows the superblock of a member's image")?;
+    let bitmap = examine_command(
         alloc,
         "examine-bitmap",
         "Shows the write-intent bitmap of a member's image",
-        help::EXAMINE,
     )?;
-    let bad_blocks = images_command(
+    let bad_blocks = examine_command(
         alloc,
         "examine-badblocks",
         "Shows the bad block log of a member's image",
-        help::EXAMINE,
     )?;
     program
         .subcommand(superblock)?

@@ -1,5 +1,5 @@
 // The command that makes an array.
-ghost use Rattle.std.specs.Prelude.{◌≡◌, ℕ, length, map, true};
+ghost use Rattle.std.specs.Prelude.{◌≡◌, ℕ, IfOk, length, map, true};
 ghost use Rattle.md_array.specs.View.{disk_of};
 ghost use Rattle.md_cli.specs.Arrays.{UsesImages};
 ghost use Rattle.md_cli.specs.Creating.{CreatesOn};
@@ -33,6 +33,7 @@ fn create_on<D: Device + Drop, S: Sink>(
     requires as_many { length devices.items ≡ length words.now }
     ensures as_many { length result.0.items ≡ length devices.items }
     ensures gives { CreatesOn S.contents S.failed params.now (map (λ s. s.now) names.now) (map (disk_of D.Device) devices.items) (map (disk_of D.Device) result.0.items) out.old out.new result.1 }
+    ensures flushed { IfOk result.1 (λ _. S.is_flushed out.new) }
 {
     let Ok(sizes) = sizes_of(alloc, names, devices.as_slice()) else {
         return (devices, Err(CommandFault::NoMemory));
@@ -59,7 +60,8 @@ pub(crate) fn create_images<I: Images, S: Sink>(
     names: &[&str],
     out: &mut S,
 ) -> Result<(), CommandFault>
-    ensures { UsesImages I.Dev.Device (CreatesOn S.contents S.failed params.now (map (λ s. s.now) names.now)) (images.new ≡ images.old) (I.known images.old) (λ n. allows Access.Change (I.changeable images.old n)) (I.device_at images.old) (I.device_at images.new) (image_list true (map (λ s. s.now) names.now)) out.old out.new result }
+    ensures gives { UsesImages I.Dev.Device (CreatesOn S.contents S.failed params.now (map (λ s. s.now) names.now)) (images.new ≡ images.old) (I.known images.old) (λ n. allows Access.Change (I.changeable images.old n)) (I.device_at images.old) (I.device_at images.new) (image_list true (map (λ s. s.now) names.now)) out.old out.new result }
+    ensures flushed { IfOk result (λ _. S.is_flushed out.new) }
 {
     let Ok(list) = image_list(alloc, names, true) else {
         return Err(CommandFault::NoMemory);

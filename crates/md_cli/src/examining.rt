@@ -1,11 +1,12 @@
 // The commands that show a report on one image.
-ghost use Rattle.std.specs.Prelude.{◌≡◌, ◌≢◌, ◌<◌, ℕ, Err, List, [], ◌∷◌, length, map};
+ghost use Rattle.std.specs.Prelude.{◌≡◌, ◌≢◌, ◌<◌, ℕ, Err, IfOk, List, [], ◌∷◌, length, map};
 ghost use Rattle.md_cli.specs.Examining.{Examines, ExaminesOne};
 ghost use Rattle.md_cli.specs.declared.report.Report.TheVariants.{Superblock, Bitmap, BadBlocks};
 
 use crate::fault::CommandFault;
 use crate::image_refusal::ImageRefusal;
 use crate::images::Images;
+use crate::output::pass_on;
 use crate::report::Report;
 use md_device::{Access, Device};
 use md_examine::{Sink, examine, examine_badblocks, examine_bitmap};
@@ -21,11 +22,12 @@ fn show_superblock<D: Device, S: Sink>(
     ensures kept { D.content device.new ≡ D.content device.old }
     ensures honest { D.honest device.new ≡ D.honest device.old }
     ensures gives { Examines Superblock S.contents S.failed out.old out.new (D.content device.old) (D.honest device.old) (D.failures device.old < D.failures device.new) result }
+    ensures flushed { IfOk result (λ _. S.is_flushed out.new) }
 {
     match read_super(alloc, device) {
         Err(fault) => Err(CommandFault::Member(fault)),
         Ok(v) => match examine(out, &v) {
-            Ok(()) => Ok(()),
+            Ok(()) => pass_on(out),
             Err(_) => Err(CommandFault::OutputFault),
         },
     }
@@ -40,6 +42,7 @@ fn show_bitmap<D: Device, S: Sink>(
     ensures kept { D.content device.new ≡ D.content device.old }
     ensures honest { D.honest device.new ≡ D.honest device.old }
     ensures gives { Examines Bitmap S.contents S.failed out.old out.new (D.content device.old) (D.honest device.old) (D.failures device.old < D.failures device.new) result }
+    ensures flushed { IfOk result (λ _. S.is_flushed out.new) }
 {
     let member = match read_member(alloc, device) {
         Ok(member) => member,
@@ -52,7 +55,7 @@ fn show_bitmap<D: Device, S: Sink>(
         return Err(CommandFault::NoBitmap);
     };
     match examine_bitmap(out, header, marks) {
-        Ok(()) => Ok(()),
+        Ok(()) => pass_on(out),
         Err(_) => Err(CommandFault::OutputFault),
     }
 }
@@ -66,13 +69,14 @@ fn show_badblocks<D: Device, S: Sink>(
     ensures kept { D.content device.new ≡ D.content device.old }
     ensures honest { D.honest device.new ≡ D.honest device.old }
     ensures gives { Examines BadBlocks S.contents S.failed out.old out.new (D.content device.old) (D.honest device.old) (D.failures device.old < D.failures device.new) result }
+    ensures flushed { IfOk result (λ _. S.is_flushed out.new) }
 {
     let member = match read_member(alloc, device) {
         Ok(member) => member,
         Err(fault) => return Err(CommandFault::Member(fault)),
     };
     match examine_badblocks(out, &member.bad) {
-        Ok(()) => Ok(()),
+        Ok(()) => pass_on(out),
         Err(_) => Err(CommandFault::OutputFault),
     }
 }
@@ -86,6 +90,7 @@ fn show<D: Device, S: Sink>(
     ensures kept { D.content device.new ≡ D.content device.old }
     ensures honest { D.honest device.new ≡ D.honest device.old }
     ensures gives { Examines report S.contents S.failed out.old out.new (D.content device.old) (D.honest device.old) (D.failures device.old < D.failures device.new) result }
+    ensures flushed { IfOk result (λ _. S.is_flushed out.new) }
 {
     match report {
         Report::Superblock => show_superblock(alloc, device, out),
@@ -104,6 +109,7 @@ pub(crate) fn examine_images<I: Images, S: Sink>(
 ) -> Result<(), CommandFault>
     ensures count { length names.now ≢ 1 → (result ≡ Err CommandFault.BadCount) × (images.new ≡ images.old) × (out.new ≡ out.old) }
     ensures one { (name : List ℕ) → map (λ s. s.now) names.now ≡ name ∷ [] → ExaminesOne report I.Dev.Device S.contents S.failed (I.known images.old) (I.device_at images.old) (I.device_at images.new) name out.old out.new result }
+    ensures flushed { IfOk result (λ _. S.is_flushed out.new) }
 {
     if names.len() != 1 {
         return Err(CommandFault::BadCount);

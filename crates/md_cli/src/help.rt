@@ -6,7 +6,7 @@ pub(crate) const EXAMINE: &str =
 
 /// Of a command that shows an array.
 pub(crate) const ARRAY: &str =
-    "Name all images of the array, in any order. Where the bitmap of a member in sync does not fit the array, all chunks are marked in it: the image is changed. Nothing else is written.\n\nThe status is 0 where the report is written, 1 where it is refused (standard error names the fault), and 2 where the words are not accepted.\n\nExample:\n  mdcli detail a.img b.img";
+    "Name all images of the array, in any order. Where the bitmap of a member in sync does not fit the array, all chunks are marked in it: the image is changed. Nothing else is written. --readonly prevents that: the images are only read, and the report is the same.\n\nThe status is 0 where the report is written, 1 where it is refused (standard error names the fault), and 2 where the words are not accepted.\n\nExample:\n  mdcli detail --readonly a.img b.img";
 
 /// Of `create`.
 pub(crate) const CREATE: &str =

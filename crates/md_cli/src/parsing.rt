@@ -2,8 +2,9 @@
 ghost use Rattle.std.specs.Prelude.{◌≡◌, IfOk, [], codes, map, option_map, unwrap_or};
 ghost use Rattle.clap.specs.Words.{FailsBy, fault_of, first_of, found_of, matched_of, raw_values, rows_of, subcommand_of, subcommand_rows_of};
 ghost use Rattle.md_cli.specs.Words.{mdcli};
-ghost use Rattle.md_cli.specs.Asked.{ask_of, asked, asks_in, asks_of, image_words, images_in, number_in, number_of, options_in, options_of, text_in};
+ghost use Rattle.md_cli.specs.Asked.{ask_of, asked, asks_in, asks_of, image_words, images_in, is_readonly, number_in, number_of, options_in, options_of, text_in};
 
+use crate::array_report::ArrayReport;
 use crate::command_line::command_line;
 use crate::options::CreateOptions;
 use crate::report::{Report, report_named};
@@ -63,6 +64,12 @@ fn create_options<'a>(found: &ArgMatches<'a>) -> CreateOptions<'a>
     }
 }
 
+fn is_readonly(found: &ArgMatches<'_>) -> bool
+    ensures { result ≡ is_readonly (rows_of (found_of found.now)) }
+{
+    text_of(found, "readonly") == "true"
+}
+
 // What the command of a name asks for.
 fn action_of<'a>(name: &str, found: &ArgMatches<'a>) -> Action<'a>
     ensures { ask_of result ≡ asks_of name.now (rows_of (found_of found.now)) }
@@ -71,10 +78,10 @@ fn action_of<'a>(name: &str, found: &ArgMatches<'a>) -> Action<'a>
         return Action::Create(create_options(found));
     }
     if name == "assemble" {
-        return Action::Assemble;
+        return Action::Show(ArrayReport::Summary, is_readonly(found));
     }
     if name == "detail" {
-        return Action::Detail;
+        return Action::Show(ArrayReport::Detail, is_readonly(found));
     }
     Action::Examine(report_named(name))
 }

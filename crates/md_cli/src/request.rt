@@ -1,4 +1,5 @@
 // What the words ask for.
+use crate::array_report::ArrayReport;
 use crate::options::CreateOptions;
 use crate::report::Report;
 
@@ -7,8 +8,8 @@ use crate::report::Report;
 pub(crate) enum Action<'a> {
     Examine(Report),
     Create(CreateOptions<'a>),
-    Assemble,
-    Detail,
+    /// A report on the array that the images make, and whether no image may be changed.
+    Show(ArrayReport, bool),
 }
 
 /// An action, and the image words.

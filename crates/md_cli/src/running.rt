@@ -1,8 +1,8 @@
 // One command.
-ghost use Rattle.std.specs.Prelude.{◌≡◌, ◌≢◌, ◌⊎◌, [], map};
+ghost use Rattle.std.specs.Prelude.{◌≡◌, ◌≢◌, ◌⊎◌, [], IfOk, map};
 ghost use Rattle.clap.specs.Words.{fault_of};
 ghost use Rattle.md_cli.specs.Asked.{ask_of, asked, creates, image_words, options_of};
-ghost use Rattle.md_cli.specs.Running.{Does, DoesCommand, IsIdle, status_of};
+ghost use Rattle.md_cli.specs.Running.{Does, DoesCommand, IsIdle, ShowsArray, status_of};
 ghost use Rattle.md_cli.specs.Words.{mdcli};
 
 use crate::advising::advise;
@@ -12,6 +12,7 @@ use crate::creating::create_images;
 use crate::examining::examine_images;
 use crate::fault::CommandFault;
 use crate::images::Images;
+use crate::looking::look_at_images;
 use crate::messages::Messages;
 use crate::options::CreateOptions;
 use crate::parsing::parse;
@@ -42,6 +43,7 @@ pub fn run<'a, I: Images, S: Sink, E: Write>(
     ensures taken { fault_of mdcli (map (λ s. s.now) words.entry.now) ≡ [] →
         ((result ≡ 2) × IsIdle images.old images.new out.old out.new)
         ⊎ DoesCommand I.Dev.Device S.contents S.failed I.known I.device_at I.changeable (asked (map (λ s. s.now) words.entry.now)) (image_words (map (λ s. s.now) words.entry.now)) images.old images.new out.old out.new result }
+    ensures flushed { result ≡ 0 → S.is_flushed out.new }
 {
     let request = match parse(alloc, words) {
         Ok(request) => request,
@@ -63,14 +65,34 @@ fn act<I: Images, S: Sink>(
     names: &[&str],
     out: &mut S,
 ) -> Result<(), CommandFault>
-    ensures { Does I.Dev.Device S.contents S.failed I.known I.device_at I.changeable (ask_of action.entry) (map (λ s. s.now) names.now) images.old images.new out.old out.new result }
+    ensures gives { Does I.Dev.Device S.contents S.failed I.known I.device_at I.changeable (ask_of action.entry) (map (λ s. s.now) names.now) images.old images.new out.old out.new result }
+    ensures flushed { IfOk result (λ _. S.is_flushed out.new) }
 {
     match action {
         Action::Examine(report) => examine_images(alloc, report, images, names, out),
         Action::Create(options) => create_array(alloc, options, images, names, out),
-        Action::Assemble => show_images(alloc, ArrayReport::Summary, images, names, out),
-        Action::Detail => show_images(alloc, ArrayReport::Detail, images, names, out),
+        Action::Show(report, readonly) => {
+            show_array(alloc, report, readonly, images, names, out)
+        }
     }
+}
+
+// Shows an array.
+fn show_array<I: Images, S: Sink>(
+    alloc: Global,
+    report: ArrayReport,
+    readonly: bool,
+    images: &mut I,
+    names: &[&str],
+    out: &mut S,
+) -> Result<(), CommandFault>
+    ensures gives { ShowsArray I.Dev.Device S.contents S.failed I.known I.device_at I.changeable report readonly (map (λ s. s.now) names.now) images.old images.new out.old out.new result }
+    ensures flushed { IfOk result (λ _. S.is_flushed out.new) }
+{
+    if readonly {
+        return look_at_images(alloc, report, images, names, out);
+    }
+    show_images(alloc, report, images, names, out)
 }
 
 // Makes an array. No image is touched before the options are accepted.
@@ -81,7 +103,8 @@ fn create_array<I: Images, S: Sink>(
     names: &[&str],
     out: &mut S,
 ) -> Result<(), CommandFault>
-    ensures { Does I.Dev.Device S.contents S.failed I.known I.device_at I.changeable (creates (options_of options.entry)) (map (λ s. s.now) names.now) images.old images.new out.old out.new result }
+    ensures gives { Does I.Dev.Device S.contents S.failed I.known I.device_at I.changeable (creates (options_of options.entry)) (map (λ s. s.now) names.now) images.old images.new out.old out.new result }
+    ensures flushed { IfOk result (λ _. S.is_flushed out.new) }
 {
     match plan(&options, names.len()) {
         Ok(params) => create_images(alloc, &params, images, names, out),

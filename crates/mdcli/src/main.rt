@@ -5,7 +5,7 @@ mod files;
 
 use crate::files::FileImages;
 use md_cli::{Messages, run};
-use md_examine::Output;
+use md_examine::{Buffered, Output};
 use std::alloc::{AllocError, Global};
 use std::fs::File;
 use std::io::{self, IsTerminal};
@@ -30,7 +30,7 @@ fn main(rt: HostRuntime) -> ExitCode {
         let _ = eprintln!(rt; "mdcli: NoMemory");
         return ExitCode::from(WORDS_NOT_TAKEN);
     };
-    let mut out = Output::new(io::writer(&rt));
+    let mut out = Buffered::new(rt.alloc(), Output::new(io::writer(&rt)));
     let mut err = rt.stderr();
     let messages = if err.is_terminal() {
         Messages::WithAdvice

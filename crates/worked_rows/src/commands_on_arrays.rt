@@ -1,8 +1,9 @@
 // Arrays that are made, opened and shown.
+use crate::bitmap_and_log_reports::bitmap;
 use crate::commands::{is_kept, run_told, run_words};
-use crate::vault::zeros;
+use crate::vault::{image, put, vault, zeros};
 use md_cli::{MemImages, Messages};
-use md_device::MemDevice;
+use md_device::{Device, MemDevice};
 use std::alloc::Global;
 use std::test::Fail;
 
@@ -167,5 +168,36 @@ fn advice_names_the_image(rt: HostRuntime) -> Result<(), Fail> {
         assert_eq!(rt; answer.status, 1);
         assert_eq!(rt; answer.err.as_slice(), advice.as_bytes());
     }
+    Ok(())
+}
+
+// The vault's first member, whose bitmap is two events behind its superblock.
+fn out_of_date(alloc: Global) -> Result<MemDevice, Fail> {
+    let mut header = bitmap();
+    put(&mut header, 24, &8u64.to_le_bytes());
+    let mut device = image(alloc, &vault())?;
+    if device.sectors() == 2112 {
+        device.write(16, &header)?;
+    }
+    Ok(device)
+}
+
+#[test]
+fn readonly_stores_no_marks(rt: HostRuntime) -> Result<(), Fail> {
+    let alloc = rt.alloc();
+    let summary = "in sync 1 of 2, events 10, marked 8\n";
+    let mut images = MemImages::new(alloc);
+    images.add_protected("a", out_of_date(alloc)?)?;
+    let words = ["mdcli", "assemble", "--readonly", "a"];
+    let looked = run_words(alloc, words.as_slice(), &mut images)?;
+    assert_eq!(rt; looked.status, 0);
+    assert_eq!(rt; looked.out.as_slice(), summary.as_bytes());
+    assert!(rt; looked.err.is_empty());
+    assert!(rt; is_kept(&images, "a", &out_of_date(alloc)?));
+
+    let opened = run_words(alloc, ["mdcli", "assemble", "a"].as_slice(), &mut images)?;
+    assert_eq!(rt; opened.status, 0);
+    assert_eq!(rt; opened.out.as_slice(), summary.as_bytes());
+    assert!(rt; !is_kept(&images, "a", &out_of_date(alloc)?));
     Ok(())
 }

@@ -6,5 +6,5 @@ returns-in-Ok-clause-gives g c = inl (record {
   mirror = c.in-Ok.mirror;
   opened = c.in-Ok.ensures.gives;
   devices = c.into_devices.ensures;
-  shown = c.show-shown.ensures;
+  shown = c.show-shown.ensures.writes;
 })

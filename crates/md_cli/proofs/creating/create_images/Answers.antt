@@ -4,8 +4,8 @@ use Rattle.md_cli.specs.Images.{allows}
 use Rattle.md_cli.specs.Taking.{RefusesImages, Word, image_list, word_of}
 use Rattle.md_cli.proofs.creating.create_images.Goals as goal
 
-pub returns-in_err-devices : goal.returns-in_err-devices
-returns-in_err-devices g c =
+pub returns-in_err-devices-clause-gives : goal.returns-in_err-devices-clause-gives
+returns-in_err-devices-clause-gives g c =
     let fault = c.in_err-devices.field-0.0 in
     let is : c.from_residual.result ≡ Err fault = search rules in
     let words_are : map word_of c.as_slice-words.result.now ≡ image_list true (map (λ s. s.now) c.args.names.now) = ap (map word_of) c.as_slice-words.ensures.value ∙ c.in-Ok.ensures in

@@ -6,8 +6,8 @@ use Rattle.md_cli.specs.Asked.{ask_of}
 use Rattle.md_cli.specs.Running.{Does}
 use Rattle.md_cli.proofs.running.act.Goals as goal
 
-pub returns-in-Examine : goal.returns-in-Examine
-returns-in-Examine g c =
+pub returns-in-Examine-clause-gives : goal.returns-in-Examine-clause-gives
+returns-in-Examine-clause-gives g c =
     let Doing : Action → Type 0 =
     λ a. Does g.I.Dev.Device g.S.Sink.contents g.S.Sink.failed g.I.Images.known g.I.Images.device_at g.I.Images.changeable (ask_of a) (map (λ s. s.now) c.args.names.now) c.args.images.now c.examine_images.new.images c.args.out.now c.examine_images.new.out c.examine_images.result in
     let done : Doing (action.Examine c.in-Examine.report) = record {

@@ -4,16 +4,16 @@ use Rattle.md_cli.specs.Asked.{options_of}
 use Rattle.md_cli.specs.Planning.{option_fault}
 use Rattle.md_cli.proofs.running.create_array.Goals as goal
 
-pub returns-in-Ok : goal.returns-in-Ok
-returns-in-Ok g c = inr (record {
+pub returns-in-Ok-clause-gives : goal.returns-in-Ok-clause-gives
+returns-in-Ok-clause-gives g c = inr (record {
   sound = ap (option_fault (options_of c.args.options)) (length-map c.args.names.now (λ s. s.now)) ∙ c.in-Ok.ensures.sound;
   params = c.in-Ok.params;
   planned = c.in-Ok.ensures.plan;
-  done = c.create_images.ensures;
+  done = c.create_images.ensures.gives;
 })
 
-pub returns-in-Err : goal.returns-in-Err
-returns-in-Err g c = inl (record {
+pub returns-in-Err-clause-gives : goal.returns-in-Err-clause-gives
+returns-in-Err-clause-gives g c = inl (record {
   first = c.in-Err.fault;
   is_first = ap (option_fault (options_of c.args.options)) (length-map c.args.names.now (λ s. s.now)) ∙ c.in-Err.ensures.refused;
   refused = refl;

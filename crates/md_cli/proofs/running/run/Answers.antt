@@ -3,6 +3,7 @@ use Rattle.std.specs.Borrow.{Bor}
 use Rattle.clap.specs.Words.{Text}
 use Rattle.md_cli.specs.Asked.{Ask, asked, image_words}
 use Rattle.md_cli.specs.Running.{Does}
+use Rattle.md_cli.proofs.Flushed.{when_done}
 use Rattle.md_cli.proofs.running.run.Goals as goal
 
 abbrev texts : List (Bor Text) → List Text
@@ -16,5 +17,8 @@ returns-clause-taken g c taken =
     inr (record {
       result = c.act-outcome.result;
       status_is = c.answer.ensures;
-      does = subst (λ names. Doing (asked (texts c.args.words.now)) names) names_are (subst (λ ask. Doing ask (texts c.as_slice-names.result.now)) c.in-Ok.ensures.asks c.act-outcome.ensures);
+      does = subst (λ names. Doing (asked (texts c.args.words.now)) names) names_are (subst (λ ask. Doing ask (texts c.as_slice-names.result.now)) c.in-Ok.ensures.asks c.act-outcome.ensures.gives);
     })
+
+pub returns-clause-flushed : goal.returns-clause-flushed
+returns-clause-flushed g c = λ is. when_done c.act-outcome.result c.answer.result c.answer.ensures is c.act-outcome.ensures.flushed
