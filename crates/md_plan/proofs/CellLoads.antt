@@ -15,6 +15,9 @@ use Rattle.md_plan.proofs.CellMoves.{share, share_of, share_none}
 pub placed_none : (cells : List Cell) → AreAllowed cells → IsPlaced cells cells
 placed_none cells allowed = record { counts = λ q. refl; allowed = allowed; long = refl }
 
+pub placed_twice : (first middle last : List Cell) → IsPlaced first middle → IsPlaced middle last → IsPlaced first last
+placed_twice first middle last before after = record { counts = λ q. after.counts q ∙ before.counts q; allowed = after.allowed; long = after.long ∙ before.long }
+
 -- one class more is given to a source of its mask
 pub placed_more : (first cells : List Cell) (at : ℕ) (d : Cell) (source : ℕ) → at < length cells → has (get_or cells at d).mask source ≡ true → IsPlaced first cells
     → IsPlaced first (set cells at (record { mask = (get_or cells at d).mask; count = (get_or cells at d).count; source = source }))

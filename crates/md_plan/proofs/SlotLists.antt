@@ -123,12 +123,12 @@ slotting_more rows rises i d slots used new_used source new within words it e ne
     let old : (k : ℕ) (f : Slot) → k < length slots → get_or pushed k f ≡ get_or slots k f = λ k f less. get_or_append_left slots (x ∷ []) f k less in
     let last : (k : ℕ) (f : Slot) → k ≡ length slots → get_or pushed k f ≡ x = λ k f same. ap (λ n. get_or pushed n f) same ∙ get_or-append_seam slots x [] f in
     let all : IsSlotting rows (i + 1) pushed new_used = record {
-      rise = all_pairs_push (λ (a b : Slot). a.chunk < b.chunk) slots x before.rise (λ k f less. before.behind k i f d less (omega arith) within);
-      behind = λ k m f r less from below. elim (cases_eq k (length slots)) [
+      rise = all_pairs_push (λ (a b : Slot). a.chunk < b.chunk) slots x before.rise (λ k f less. before.later k i f d less (omega arith) within);
+      later = λ k m f r less from below. elim (cases_eq k (length slots)) [
         | inl same ↦
             let up : row.chunk < (get_or rows m r).chunk = subst (λ (z : Row). z.chunk < (get_or rows m r).chunk) (get_or_default rows i r d within) (rises i m r (omega arith) below) in
             subst (λ (z : Slot). z.chunk < (get_or rows m r).chunk) (sym (last k f same)) up
-        | inr other ↦ subst (λ (z : Slot). z.chunk < (get_or rows m r).chunk) (sym (old k f (omega arith))) (before.behind k m f r (omega arith) (omega arith) below)
+        | inr other ↦ subst (λ (z : Slot). z.chunk < (get_or rows m r).chunk) (sym (old k f (omega arith))) (before.later k m f r (omega arith) (omega arith) below)
       ];
       allowed = All-push (λ (s : Slot). has (mask_of rows s.chunk) s.source ≡ true) slots x before.allowed (ap (λ m. has m source) (mask_hit rows rises i d within) ∙ it);
       placed = All-push (λ (s : Slot). s.round < get_or new_used s.source 0) slots x
@@ -166,7 +166,7 @@ slotting_more rows rises i d slots used new_used source new within words it e ne
 pub slotting_skip : (rows : List Row) (i : ℕ) (d : Row) (slots : List Slot) (used : List ℕ) → i < length rows → (get_or rows i d).mask ≡ 0 → IsSlotting rows i slots used → IsSlotting rows (i + 1) slots used
 slotting_skip rows i d slots used within none before = record {
   rise = before.rise;
-  behind = λ k m f r less from below. before.behind k m f r less (omega arith) below;
+  later = λ k m f r less from below. before.later k m f r less (omega arith) below;
   allowed = before.allowed;
   placed = before.placed;
   single = before.single;
@@ -179,7 +179,7 @@ slotting_skip rows i d slots used within none before = record {
 pub slotting_none : (rows : List Row) (used : List ℕ) → IsSlotting rows 0 [] used
 slotting_none rows used = record {
   rise = λ a b d less within. absurd (omega arith);
-  behind = λ k m d r less. absurd (omega arith);
+  later = λ k m d r less. absurd (omega arith);
   allowed = λ k d less. absurd (omega arith);
   placed = λ k d less. absurd (omega arith);
   single = λ k m d less within. absurd (omega arith);

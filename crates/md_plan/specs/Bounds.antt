@@ -20,7 +20,9 @@ sum_sources sources loads = sum_below (has sources) (λ s. slice_index loads s) 
 
 -- the chunks that only these sources may give are too many for one round less
 abbrev pub IsShown : List Cell → Bound → Type 0
-IsShown cells bound = (bound.rounds ≡ 0) ⊎ ((bound.rounds - 1) * count_sources (has bound.sources) < count_with (is_within bound.sources) cells)
+IsShown cells bound =
+    (bound.rounds ≡ 0)
+    ⊎ ((bound.rounds - 1) * count_sources (has bound.sources) < count_with (is_within bound.sources) cells)
 
 -- chunks may have changed sources, and no source holds more than the bound, which is needed
 pub record IsBalanced (old new : List Cell) (loads : List ℕ) (bound : Bound) : Type 0 where

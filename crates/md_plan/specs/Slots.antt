@@ -32,10 +32,13 @@ pub record TakesOne (old new : List Cell) (mask source : ℕ) : Type 0 where
 -- the slots of the rows below an index, each in a place of its own
 pub record IsSlotting (rows : List Row) (i : ℕ) (slots : List Slot) (used : List ℕ) : Type 0 where
   pub rise : SlotsRise slots
-  pub behind : (k m : ℕ) (d : Slot) (r : Row) → k < length slots → i ≤ m → m < length rows → (slice_index_or slots k d).chunk < (slice_index_or rows m r).chunk
+  pub later : (k m : ℕ) (d : Slot) (r : Row) → k < length slots → i ≤ m → m < length rows
+      → (slice_index_or slots k d).chunk < (slice_index_or rows m r).chunk
   pub allowed : All (λ s. has (mask_of rows s.chunk) s.source ≡ true) slots
   pub placed : All (λ s. s.round < slice_index used s.source) slots
-  pub single : (k m : ℕ) (d : Slot) → k < m → m < length slots → (slice_index_or slots k d).source ≡ (slice_index_or slots m d).source → (slice_index_or slots k d).round ≢ (slice_index_or slots m d).round
+  pub single : (k m : ℕ) (d : Slot) → k < m → m < length slots
+      → (slice_index_or slots k d).source ≡ (slice_index_or slots m d).source
+      → (slice_index_or slots k d).round ≢ (slice_index_or slots m d).round
   pub covered : (k : ℕ) (r : Row) → k < i → (slice_index_or rows k r).mask ≢ 0 → IsPlanned slots (slice_index_or rows k r).chunk
 
 -- the counts are those of the rows from an index on, and of the rounds used

@@ -25,7 +25,8 @@ pub(crate) fn least_bound(loads: &[u32], sources: u32) -> u32
     requires small { sum_sources sources loads.now ≤ 2 ^ 31 }
     requires some { 0 < count_sources (has sources) }
     ensures enough { sum_sources sources loads.now ≤ result * count_sources (has sources) }
-    ensures needed { result * count_sources (has sources) < sum_sources sources loads.now + count_sources (has sources) }
+    ensures needed { result * count_sources (has sources)
+        < sum_sources sources loads.now + count_sources (has sources) }
 {
     let mut sum = 0;
     let mut number = 0;

@@ -27,7 +27,8 @@ pub(crate) fn certificate_of(
 ) -> Result<Certificate, NoMemory>
     ensures rounds { IfOk result (λ c. c.rounds ≡ bound.rounds - 1) }
     ensures none { IfOk result (λ c. bound.rounds ≡ 0 → c.chunks ≡ []) }
-    ensures chunks { IfOk result (λ c. bound.rounds ≢ 0 → c.chunks ≡ chunks_within bound.sources rows.now) }
+    ensures chunks { IfOk result (λ c. bound.rounds ≢ 0
+        → c.chunks ≡ chunks_within bound.sources rows.now) }
 {
     if bound.rounds == 0 {
         return Ok(Certificate {

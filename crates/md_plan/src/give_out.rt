@@ -78,7 +78,8 @@ pub(crate) fn give_out(
     requires allowed { AreAllowed cells.old.items }
     requires counts { (q : ℕ → Bool) → count_with q cells.old.items ≡ count_rows q rows.now }
     requires classes { length class_of.now ≡ length rows.now }
-    requires class { (k : ℕ) (d : Row) → k < length rows.now → (slice_index_or rows.now k d).mask ≢ 0 → slice_index class_of.now k < classes }
+    requires class { (k : ℕ) (d : Row) → k < length rows.now → (slice_index_or rows.now k d).mask ≢ 0
+        → slice_index class_of.now k < classes }
     ensures { IfOk result (λ g. IsGiven rows.now cells.old.items g.slots.items g.orphans.items) }
 {
     let mut next: Vec<usize> = Vec::with_capacity(alloc, classes)?;

@@ -12,6 +12,7 @@ mod cell;
 mod certify;
 mod classes;
 mod give_out;
+mod level;
 mod place;
 mod planner;
 mod pull;

@@ -10,6 +10,7 @@ use crate::balance::balance;
 use crate::certify::certificate_of;
 use crate::classes::{Classes, group};
 use crate::give_out::{Given, give_out};
+use crate::level::level;
 use crate::place::{add_loads, choose_sources};
 use md_cert::{Certificate, ChunkList, NoMemory, Plan, Row, Slots, Table};
 use std::alloc::Global;
@@ -33,7 +34,8 @@ pub fn plan(alloc: Global, table: &Table) -> Result<Planned, NoMemory>
     ensures certified { IfOk result (λ p. IsCertified table.now p.plan p.certificate) }
     ensures least { IfOk result (λ p. Least table.now p.plan.rounds) }
     ensures orphans { IfOk result (λ p. p.orphans ≡ orphans_of table.now) }
-    ensures yes { IfOk result (λ p. (v : Verdict) → IsVerdict table.now p.plan p.certificate v → v ≡ Verdict.Yes) }
+    ensures yes { IfOk result (λ p. (v : Verdict) → IsVerdict table.now p.plan p.certificate v
+        → v ≡ Verdict.Yes) }
 {
     plan_rows(alloc, table.rows())
 }
@@ -51,6 +53,7 @@ fn plan_rows(alloc: Global, rows: &[Row]) -> Result<Planned, NoMemory>
     } = group(alloc, rows)?;
     let classes = cells.len();
     choose_sources(alloc, &mut cells)?;
+    level(&mut cells);
     let mut loads = add_loads(&cells);
     let bound = balance(&mut cells, &mut loads)?;
     let Given { slots, orphans } = give_out(alloc, rows, &class_of, &mut cells, classes)?;
