@@ -1,0 +1,256 @@
+"""What is opened to look and what to change: closes and locks, disks that the system uses, writes and syncs that fail."""
+
+import contextlib
+import ctypes
+import fcntl
+import os
+import shutil
+import stat
+import struct
+import subprocess
+from pathlib import Path
+
+import support
+
+SECTOR = 512
+SET = "00112233-4455-6677-8899-aabbccddeeff"
+
+CLOSE_WRITE, CLOSE_NOWRITE = 0x8, 0x10
+
+
+class Unavailable(Exception):
+    """What a check needs isn't there."""
+
+
+class Watch:
+    """How the descriptors of a file are closed."""
+
+    def __init__(self, path):
+        self.libc = ctypes.CDLL(None, use_errno=True)
+        self.fd = self.libc.inotify_init1(os.O_NONBLOCK)
+        wanted = CLOSE_WRITE | CLOSE_NOWRITE
+        if self.fd < 0 or self.libc.inotify_add_watch(self.fd, os.fsencode(str(path)), wanted) < 0:
+            raise Unavailable("inotify: " + os.strerror(ctypes.get_errno()))
+
+    def closes(self):
+        seen, at = set(), 0
+        try:
+            events = os.read(self.fd, 65536)
+        except BlockingIOError:
+            events = b""
+        while at < len(events):
+            _, mask, _, length = struct.unpack_from("iIII", events, at)
+            seen.add(mask)
+            at += 16 + length
+        os.close(self.fd)
+        return seen
+
+
+def tool(name, *words):
+    """The output of a system's tool."""
+    if not shutil.which(name):
+        raise Unavailable("there is no " + name)
+    done = subprocess.run(
+        [name] + [str(word) for word in words], stdin=subprocess.DEVNULL, stdout=subprocess.PIPE, stderr=subprocess.PIPE
+    )
+    if done.returncode != 0:
+        said = done.stderr.decode("utf-8", "replace").strip() or "status %d" % done.returncode
+        raise Unavailable("%s: %s" % (name, said.splitlines()[0]))
+    return done.stdout.decode().strip()
+
+
+@contextlib.contextmanager
+def loop_device(path, *options):
+    if os.geteuid() != 0:
+        raise Unavailable("only root can set up a loop device")
+    device = tool("losetup", "--find", "--show", *options, path)
+    try:
+        yield device
+    finally:
+        subprocess.run(["losetup", "--detach", device], stdin=subprocess.DEVNULL)
+
+
+def create(images):
+    count = str(len(images))
+    return ["create", "--level", "raid1", "--raid-devices", count, "--uuid", SET] + [str(image) for image in images]
+
+
+class Disks:
+    def __init__(self, checks, run):
+        self.checks = checks
+        self.tally = checks.tally
+        self.scratch = checks.scratch
+        self.run = run
+
+    def image(self, name, content=b"\x5a" * (4096 * SECTOR), mode=0o666):
+        return self.checks.copy(name, content, mode)
+
+    def judge(self, name, answer, wanted, unchanged=()):
+        """Whether a run gave the answer, and left each of these images with these bytes."""
+        reasons = [] if answer == wanted else ["the answer is %r" % (answer,), "wanted: %r" % (wanted,)]
+        for path, content in unchanged:
+            if Path(path).read_bytes()[: len(content)] != content:
+                reasons.append("the run changed %s" % path)
+        self.tally.judge(name, reasons)
+
+    def attempt(self, name, check):
+        try:
+            check(name)
+        except Unavailable as reason:
+            self.tally.skipped(name, str(reason))
+
+    def closes(self, name):
+        """A look closes its image as a reader does, which is no event to udev; the watch sees a writer's close."""
+        one, two = self.image("closed 1.img"), self.image("closed 2.img")
+        for words, wanted in (
+            (create([one, two]), {CLOSE_WRITE}),
+            (["examine", one], {CLOSE_NOWRITE}),
+            (["examine-bitmap", one], {CLOSE_NOWRITE}),
+            (["examine-badblocks", one], {CLOSE_NOWRITE}),
+        ):
+            watch = Watch(one)
+            status = self.run(words)[0]
+            closes = watch.closes()
+            reasons = [] if (status, closes) == (0, wanted) else ["status %d, closes %s" % (status, closes)]
+            self.tally.judge("%s: %s" % (name, words[0]), reasons)
+
+    def locks(self, name):
+        """Those who look share an image; one who changes it is alone."""
+        one, two = self.image("shared.img"), self.image("other.img")
+        before = [(path, path.read_bytes()) for path in (one, two)]
+        with open(str(one), "rb") as looker:
+            fcntl.flock(looker, fcntl.LOCK_SH | fcntl.LOCK_NB)
+            self.judge(name + ": a second look", self.run(["examine", one]), (1, "", "mdcli: Super Magic\n"))
+            self.judge(name + ": a change", self.run(create([two, one])), (1, "", "mdcli: BadImage 1\n"), before)
+
+    def not_writable(self, name):
+        one = self.image("writable.img")
+        two = self.image("read-only.img", mode=0o444)
+        before = [(path, path.read_bytes()) for path in (one, two)]
+        how = {}
+        if self.checks.no_nobody:
+            raise Unavailable(self.checks.no_nobody)
+        if self.checks.nobody_program:
+            how = {"program": self.checks.nobody_program, "as_nobody": True}
+        self.judge(name, self.run(create([one, two]), **how), (1, "", "mdcli: BadImage 1\n"), before)
+
+    def read_only_device(self, name):
+        one, two = self.image("beside.img"), self.image("read-only backing.img")
+        before = [(path, path.read_bytes()) for path in (one, two)]
+        with loop_device(two, "--read-only") as device:
+            self.judge(name, self.run(create([one, device])), (1, "", "mdcli: BadImage 1\n"), before)
+
+    def refused_in_use(self, name, device):
+        """A disk that is in use is not changed, and may be looked at."""
+        other = self.image("beside.img")
+        tool("sync")
+        content = Path(device).read_bytes()
+        before = [(device, content), (other, other.read_bytes())]
+        self.judge(name, self.run(create([other, device])), (1, "", "mdcli: BadImage 1\n"), before)
+        self.judge(name + ", looked at", self.run(["examine", device]), (1, "", "mdcli: Super Magic\n"), before)
+
+    def mounted(self, name):
+        backing = self.image("mounted backing.img", bytes(8192 * SECTOR))
+        folder = self.scratch / "mounted"
+        folder.mkdir()
+        with loop_device(backing) as device:
+            tool("mkfs.ext4", "-q", device)
+            tool("mount", "-o", "ro", device, folder)
+            try:
+                self.refused_in_use(name, device)
+            finally:
+                tool("umount", folder)
+            self.judge(name + ", no more", self.run(create([device]))[0], 0)
+
+    def swapped_on(self, name):
+        backing = self.image("swap backing.img", bytes(8192 * SECTOR))
+        with loop_device(backing) as device:
+            tool("mkswap", device)
+            tool("swapon", device)
+            try:
+                self.refused_in_use(name, device)
+            finally:
+                tool("swapoff", device)
+
+    def held(self, name):
+        backing = self.image("held backing.img")
+        with loop_device(backing) as device:
+            holder = "mdcli-test-%d" % os.getpid()
+            tool("dmsetup", "create", holder, "--table", "0 4096 linear %s 0" % device)
+            try:
+                self.refused_in_use(name, device)
+            finally:
+                tool("dmsetup", "remove", "--retry", holder)
+
+    def partitioned(self, name):
+        """Of two partitions the first is mounted: neither it nor the disk is changed, and the second may be."""
+        content = bytearray(20480 * SECTOR)
+        for number, start in enumerate((2048, 10240)):
+            struct.pack_into("<BBBBBBBBII", content, 446 + 16 * number, 0, 0, 0, 0, 0x83, 0, 0, 0, start, 8192)
+        content[510:512] = b"\x55\xaa"
+        backing = self.image("partitioned backing.img", bytes(content))
+        folder = self.scratch / "mounted partition"
+        folder.mkdir()
+        with loop_device(backing) as device:
+            first, second = device + "p1", device + "p2"
+            tool("partx", "--add", device)
+            try:
+                tool("mkfs.ext4", "-q", first)
+                tool("mount", "-o", "ro", first, folder)
+                try:
+                    self.refused_in_use(name + ": the disk", device)
+                    self.refused_in_use(name + ": the partition", first)
+                    self.judge(name + ": another partition", self.run(create([second]))[0], 0)
+                finally:
+                    tool("umount", folder)
+            finally:
+                tool("partx", "--delete", device)
+
+    def two_nodes(self, name):
+        with loop_device(self.image("two nodes.img")) as device:
+            node = self.scratch / "node"
+            os.mknod(str(node), 0o600 | stat.S_IFBLK, os.stat(device).st_rdev)
+            self.judge(name, self.run(create([device, node])), (1, "", "mdcli: BadImage 1\n"))
+
+    def failing_calls(self, name):
+        """Each write and each sync fails in turn: the image whose it is is named, and is used no more after a sync."""
+        library = self.scratch / "fail.so"
+        tool("cc", "-shared", "-fPIC", "-O1", "-o", library, Path(__file__).resolve().parent / "fail.c")
+        log = self.scratch / "calls"
+        images = [self.scratch / ("failing %d.img" % number) for number in range(2)]
+
+        def calls_of(failed):
+            for image in images:
+                self.image(image.name)
+            log.write_bytes(b"")
+            # The program itself: the launcher is a shell, which the library would follow too.
+            settings = {**os.environ, "LD_PRELOAD": str(library), "CALLS_LOG": str(log), "FAILED_CALL": str(failed)}
+            answer = self.run(create(images), program=support.PROGRAM, env=settings)
+            return answer, [tuple(line.split()) for line in log.read_text().splitlines()]
+
+        answer, calls = calls_of(0)
+        files = sorted({int(file) for _, file in calls})
+        synced = calls[0::2], [("sync", file) for _, file in calls[0::2]]
+        reasons = [] if answer[0] == 0 and len(files) == 2 and calls else ["no failure: %r, files %r" % (answer, files)]
+        if any(call != "write" for call, _ in synced[0]) or calls[1::2] != synced[1]:
+            reasons.append("not each write is followed by a sync: %r" % calls)
+        for failed, (call, file) in enumerate(calls, 1):
+            answer, made = calls_of(failed)
+            wanted = (1, "", "mdcli: MetadataFault %d\n" % files.index(int(file)))
+            if answer != wanted:
+                reasons.append("call %d, a %s: the answer is %r, and not %r" % (failed, call, answer, wanted))
+            if call == "sync" and file in [other for _, other in made[failed:]]:
+                reasons.append("call %d: the file is used after its sync failed" % failed)
+        self.tally.judge(name, reasons)
+
+    def all(self):
+        self.attempt("closes", self.closes)
+        self.attempt("locks", self.locks)
+        self.attempt("create, an image that may not be written", self.not_writable)
+        self.attempt("create, a read-only block device", self.read_only_device)
+        self.attempt("a mounted disk", self.mounted)
+        self.attempt("a disk that is swapped on", self.swapped_on)
+        self.attempt("a disk that device mapper holds", self.held)
+        self.attempt("a disk with a mounted partition", self.partitioned)
+        self.attempt("two nodes of one disk", self.two_nodes)
+        self.attempt("create, each write and sync fails in turn", self.failing_calls)
