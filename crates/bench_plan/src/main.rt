@@ -1,0 +1,94 @@
+//! Times the planner and the checker on made tables, for bench/plan. The arguments are a number of
+//! chunks, how often each table is planned, and perhaps the name of one table, whose masks are then
+//! printed in place of being planned. What was planned goes to standard output, the least times to
+//! standard error.
+#![tactic(auto)]
+
+ghost use Rattle.std.specs.Prelude.{◌≡◌, ◌^◌, ◌≤◌, length, IfOk};
+
+mod shape;
+
+use crate::shape::{NAMED, Shape, mask_of, scramble};
+use md_cert::{NoMemory, Table, Verdict, check};
+use md_plan::plan;
+use std::alloc::Global;
+use std::env;
+use std::time::Instant;
+
+/// The chunks of the largest array.
+const MAX_CHUNKS: u32 = 1 << 20;
+
+/// Where the random numbers begin.
+const SEED: u64 = 88_172_645_463_325_252;
+
+fn main(rt: HostRuntime) -> anyhow::Result<()> {
+    let mut chunks = MAX_CHUNKS;
+    let mut passes = 1u32;
+    if let Some(word) = env::args(&rt)?.nth(1) {
+        chunks = word.as_str().parse()?;
+    }
+    if let Some(word) = env::args(&rt)?.nth(2) {
+        passes = word.as_str().parse()?;
+    }
+    chunks = chunks.min(MAX_CHUNKS);
+    if let Some(word) = env::args(&rt)?.nth(3) {
+        for (name, shape) in NAMED {
+            if word.as_str() == name {
+                print_masks(&rt, shape, chunks)?;
+            }
+        }
+        return Ok(());
+    }
+    for (name, shape) in NAMED {
+        time(&rt, name, shape, chunks, passes)?;
+    }
+    Ok(())
+}
+
+// Plans and checks a table some times.
+fn time(rt: &HostRuntime, name: &str, shape: Shape, chunks: u32, passes: u32) -> anyhow::Result<()>
+    requires { chunks ≤ 2 ^ 20 }
+{
+    let table = table_of(rt.alloc(), shape, chunks)?;
+    let mut plan_time = u128::MAX;
+    let mut check_time = u128::MAX;
+    for pass in 0..passes {
+        let start = Instant::now(rt)?;
+        let planned = plan(rt.alloc(), &table)?;
+        plan_time = plan_time.min(start.elapsed(rt)?.as_nanos());
+        let rounds = planned.plan.rounds;
+        let mut lent = vec![in rt.alloc(); 0u32; rounds as usize]?;
+        let start = Instant::now(rt)?;
+        let verdict = check(&table, &planned.plan, &planned.certificate, &mut lent);
+        check_time = check_time.min(start.elapsed(rt)?.as_nanos());
+        if pass == 0 {
+            let shown = planned.certificate.chunks.as_slice().len();
+            let accepted = verdict == Verdict::Yes;
+            println!(rt; "{name} rounds {rounds} certificate {shown} accepted {accepted}")?;
+        }
+    }
+    eprintln!(rt; "{name} plan {plan_time} check {check_time}")?;
+    Ok(())
+}
+
+// A table of one shape.
+fn table_of(alloc: Global, shape: Shape, chunks: u32) -> Result<Table, NoMemory>
+    ensures { IfOk result (λ table. length table ≡ chunks) }
+{
+    let mut table = Table::new(alloc);
+    let mut state = SEED;
+    for chunk in 0..chunks {
+        state = scramble(state);
+        table.push(chunk, mask_of(shape, chunk, chunks, (state >> 32) as u32))?;
+    }
+    Ok(table)
+}
+
+// The masks of a table of one shape, one a line.
+fn print_masks(rt: &HostRuntime, shape: Shape, chunks: u32) -> anyhow::Result<()> {
+    let table = table_of(rt.alloc(), shape, chunks)?;
+    for row in table.rows() {
+        println!(rt; "{}", row.mask)?;
+    }
+    Ok(())
+}
