@@ -14,7 +14,7 @@ use Rattle.md_bitmap.proofs.Padded.{length-padded, slice_index-padded}
 use Rattle.md_members.specs.Areas.{bitmap_sectors}
 use Rattle.md_bitmap.specs.Sectors.{bitmap_sector}
 use Rattle.md_writes.specs.Writes.{Write}
-use Rattle.md_writes.proofs.Sectors.{length-bitmap_sector}
+use Rattle.md_bitmap.proofs.Blocks.{length-bitmap_sector}
 use Rattle.md_model.specs.Sectors.{block_of, put}
 use Rattle.md_model.specs.States as model
 use Rattle.md_model.specs.Devices.{Stored}
