@@ -9,12 +9,14 @@ use crate::array_report::ArrayReport;
 use crate::fault::CommandFault;
 use crate::image_word::image_list;
 use crate::images::Images;
+use crate::marks_notice::tell_stored_marks;
 use crate::output::pass_on;
 use crate::taking::{put_back, take_images};
 use md_array::Mirror;
 use md_device::{Access, Device};
 use md_examine::{Sink, detail, summary};
 use std::alloc::Global;
+use std::io::Write;
 
 fn show<D: Device + Drop, S: Sink>(
     report: ArrayReport,
@@ -54,13 +56,38 @@ pub(crate) fn show_devices<D: Device + Drop, S: Sink>(
     }
 }
 
-/// Shows the array that images make, and puts them back.
-pub(crate) fn show_images<I: Images, S: Sink>(
+// The same for the images of these names. Where the opening stored marks, `err` is told on which.
+fn show_and_tell<D: Device + Drop, S: Sink, E: Write>(
+    alloc: Global,
+    report: ArrayReport,
+    devices: Vec<D>,
+    names: &[&str],
+    out: &mut S,
+    err: &mut E,
+) -> (Vec<D>, Result<(), CommandFault>)
+    ensures as_many { length result.0.items ≡ length devices.items }
+    ensures gives { OpensDevices S.contents S.failed report (map (disk_of D.Device) devices.items) (map (disk_of D.Device) result.0.items) out.old out.new result.1 }
+    ensures flushed { IfOk result.1 (λ _. S.is_flushed out.new) }
+{
+    match Mirror::open(alloc, devices) {
+        Ok(mirror) => {
+            tell_stored_marks(&mirror, names, err);
+            let shown = show(report, &mirror, out);
+            (mirror.into_devices(), shown)
+        }
+        Err((devices, fault)) => (devices, Err(CommandFault::Open(fault))),
+    }
+}
+
+/// Shows the array that images make, and puts them back. Where marks were stored, `err` is told on
+/// which images.
+pub(crate) fn show_images<I: Images, S: Sink, E: Write>(
     alloc: Global,
     report: ArrayReport,
     images: &mut I,
     names: &[&str],
     out: &mut S,
+    err: &mut E,
 ) -> Result<(), CommandFault>
     ensures gives { UsesImages I.Dev.Device (OpensDevices S.contents S.failed report) (images.new ≡ images.old) (I.known images.old) (λ n. allows Access.ChangeOrLook (I.changeable images.old n)) (I.device_at images.old) (I.device_at images.new) (image_list false (map (λ s. s.now) names.now)) out.old out.new result }
     ensures flushed { IfOk result (λ _. S.is_flushed out.new) }
@@ -70,7 +97,7 @@ pub(crate) fn show_images<I: Images, S: Sink>(
     };
     let words = list.as_slice();
     let devices = take_images(alloc, Access::ChangeOrLook, images, words)?;
-    let (devices, result) = show_devices(alloc, report, devices, out);
+    let (devices, result) = show_and_tell(alloc, report, devices, names, out, err);
     put_back(images, words, devices);
     result
 }

@@ -15,6 +15,7 @@ mod image_word;
 mod images;
 mod laying_out;
 mod looking;
+mod marks_notice;
 mod memory_images;
 mod messages;
 mod option_fault;

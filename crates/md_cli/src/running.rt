@@ -25,11 +25,11 @@ use std::io::Write;
 /// Does what the words ask for; the first is the program's name. The status is 0 where it is done,
 /// 1 where it is refused and 2 where the words are not taken, or ask for help.
 ///
-/// Want of memory in the parse is status 2 too. That it is answered only then is tested, since no
+/// Out of memory in the parse is status 2 too. That it is answered only then is tested, since no
 /// clause can tell whether memory was there.
 ///
 /// A refusal's line goes to `err`, as `mdcli: BadImage 0`; so does the line of advice after it, where
-/// that is asked for, and the parser's text. No clause speaks of what is written to `err`, nor of
+/// that is asked for, a line for each image on which marks were stored, and the parser's text. No clause speaks of what is written to `err`, nor of
 /// whether that can be written.
 pub fn run<'a, I: Images, S: Sink, E: Write>(
     alloc: Global,
@@ -53,17 +53,18 @@ pub fn run<'a, I: Images, S: Sink, E: Write>(
         }
     };
     let names = request.images.as_slice();
-    let outcome = act(alloc, request.action, images, names, out);
+    let outcome = act(alloc, request.action, images, names, out, err);
     answer(outcome, request.action, names, messages, err)
 }
 
 // Does a command on the images that are named.
-fn act<I: Images, S: Sink>(
+fn act<I: Images, S: Sink, E: Write>(
     alloc: Global,
     action: Action<'_>,
     images: &mut I,
     names: &[&str],
     out: &mut S,
+    err: &mut E,
 ) -> Result<(), CommandFault>
     ensures gives { Does I.Dev.Device S.contents S.failed I.known I.device_at I.changeable (ask_of action.entry) (map (λ s. s.now) names.now) images.old images.new out.old out.new result }
     ensures flushed { IfOk result (λ _. S.is_flushed out.new) }
@@ -72,19 +73,20 @@ fn act<I: Images, S: Sink>(
         Action::Examine(report) => examine_images(alloc, report, images, names, out),
         Action::Create(options) => create_array(alloc, options, images, names, out),
         Action::Show(report, readonly) => {
-            show_array(alloc, report, readonly, images, names, out)
+            show_array(alloc, report, readonly, images, names, out, err)
         }
     }
 }
 
 // Shows an array.
-fn show_array<I: Images, S: Sink>(
+fn show_array<I: Images, S: Sink, E: Write>(
     alloc: Global,
     report: ArrayReport,
     readonly: bool,
     images: &mut I,
     names: &[&str],
     out: &mut S,
+    err: &mut E,
 ) -> Result<(), CommandFault>
     ensures gives { ShowsArray I.Dev.Device S.contents S.failed I.known I.device_at I.changeable report readonly (map (λ s. s.now) names.now) images.old images.new out.old out.new result }
     ensures flushed { IfOk result (λ _. S.is_flushed out.new) }
@@ -92,7 +94,7 @@ fn show_array<I: Images, S: Sink>(
     if readonly {
         return look_at_images(alloc, report, images, names, out);
     }
-    show_images(alloc, report, images, names, out)
+    show_images(alloc, report, images, names, out, err)
 }
 
 // Makes an array. No image is touched before the options are accepted.
