@@ -1,5 +1,5 @@
 -- What is written over a device that stays as it is.
-use Rattle.std.specs.Prelude.{ℕ, List, ◌+◌, ◌*◌, ◌/◌, ◌%◌, length, map, slice_index, refl}
+use Rattle.std.specs.Prelude.{ℕ, List, ◌/◌, ◌%◌, length, map, slice_index, refl}
 use Rattle.std.specs.List.{range_with_len}
 use Rattle.std.specs.Option.{option_map, unwrap_or}
 use Rattle.std.specs.Ordering.{nat_cmp}
