@@ -1,4 +1,4 @@
--- What an opening leaves that came to no end: it was stopped while it stored marks, or one of these writes failed.
+-- What an interrupted open leaves: it was stopped while it stored marks, or one of these writes failed.
 use Rattle.std.specs.Prelude.{◌≡◌, ◌⊎◌, ℕ, List}
 use Rattle.md_writes.specs.Writes.{IsCutShort, Write}
 use Rattle.md_array.specs.View.{Disk, MemberView, ArrayView}

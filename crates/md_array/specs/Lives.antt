@@ -133,7 +133,7 @@ FitsWhenThere =
     → m.array.shared.events ≤ next.array.shared.events
     → IsFit (super_of m.array.shared) (super_of next.array.shared) t.failed_at
 
--- An opening of such devices that came to no end leaves each as it was left, if its superblock has recorded the last failure.
+-- An interrupted open of such devices leaves each as it was left, if its superblock has recorded the last failure.
 abbrev pub StaysAsLeft : Type 0
 StaysAsLeft =
     (before : List Disk) (m : MirrorView) → IsStart before m

@@ -81,10 +81,10 @@ pub fn fitness()
     ensures fits { FitsWhenThere }
 {}
 
-/// An opening of a mirror's devices that came to no end, at any moment of its life, leaves each as it was
-/// left, so that the next one may find it. It was stopped between two of its writes, or one of them failed;
-/// where that was the write of a bitmap's first sector, it is asked that it left the header. Of the superblock
-/// that it went by it is asked that it has recorded the last failure.
+/// An interrupted open of a mirror's devices, at any moment of its life, leaves each as it was left, so that
+/// the next open may find it. It was stopped while it wrote, or one of its writes failed. Where that was the
+/// write of a bitmap's first sector, that write has to have left the header. The superblock that the open went
+/// by has to have recorded the last failure.
 pub fn half_opening()
     ensures as_left { StaysAsLeft }
 {}

@@ -39,7 +39,7 @@ RepeatsNumber members j = (i : ℕ) × (i < j) × PairAt HasSameNumber members i
 abbrev pub IsDoubleRole : List MemberInfo → ℕ → Type 0
 IsDoubleRole members role = ByFreshest (λ states. 1 < count_by (takes_role role) states) (superblocks members)
 
--- the fault stands; want of memory can always be found
+-- the fault stands; running out of memory can always be found
 abbrev pub Stands : List MemberInfo → AssembleFault → Type 0
 Stands members Empty = length members ≡ 0
 Stands members TooMany = 64 < length members
