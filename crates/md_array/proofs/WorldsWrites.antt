@@ -15,7 +15,7 @@ use Rattle.md_writes.proofs.Stored.{AreStored, stored_all}
 use Rattle.md_array.specs.Worlds.{header_on}
 use Rattle.md_writes.specs.Writes.{after}
 
--- the bitmap that starts at a sector of the device: its header, and the marks behind it
+-- the bitmap that starts at a sector of the device: its header, and the marks after it
 pub record HoldsBitmap (content : List ℕ) (start : ℕ) (h : BitmapHeader) (m : Bitmap) : Type 0 where
   pub header : IsHeader (header_on content start) h
   pub bits : (c : ℕ) → c < m.chunks → is_set (drop (512 * start + 256) content) c ≡ is_set m.bytes c

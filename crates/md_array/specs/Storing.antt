@@ -72,7 +72,7 @@ pub record AreMarked (before after : List Disk) (a : ArrayView) : Type 0 where
   pub same : AreSame before after
   pub each : EachPair (IsMarked a) before after
 
--- storing the marks on member k failed: they are stored on the members before it, and the devices behind it are unchanged
+-- storing the marks on member k failed: they are stored on the members before it, and the devices after it are unchanged
 pub record StopsAtMember (a : ArrayView) (before after : List Disk) (k : ℕ) : Type 0 where
   pub same : AreSame before after
   pub member : MemberView

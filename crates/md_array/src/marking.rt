@@ -48,7 +48,7 @@ pub(crate) fn united_marks(
     Ok(marks)
 }
 
-/// The first chunk of these sectors, and the one behind the last.
+/// The first chunk of these sectors, and the one after the last.
 pub(crate) fn chunks_of(chunks: Chunks, sector: u64, sectors: u64) -> (u32, u32)
     requires some { 0 < sectors }
     requires inside { sector + sectors ≤ chunks.size }

@@ -67,7 +67,7 @@ place NoMemory = 9
 abbrev pub NoneBeforePlace : List MemberInfo → ℕ → Type 0
 NoneBeforePlace members n = NoneBefore (Stands members) place n
 
--- no fault stands besides want of memory
+-- no fault stands besides NoMemory
 abbrev pub NoFault : List MemberInfo → Type 0
 NoFault members = NoneBeforePlace members 9
 

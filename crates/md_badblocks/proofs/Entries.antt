@@ -16,7 +16,7 @@ shifted x shift small le =
     let product : x * 2 ^ shift ≤ x * 2 ^ 9 = mul-le-mul_left x unit in
     mod-eq_of_lt (omega arith)
 
--- an entry written over the front of what lies behind place a
+-- an entry written over the front of what lies after place a
 pub front_written : (a k n : ℕ) (xs ys bytes rest : List ℕ) → ys ≡ bytes ++ rest → a ≤ length xs → length bytes ≡ 8 → n ≡ a + 8 → take n (put_mid a k xs ys) ≡ take a xs ++ bytes
 front_written a k n xs ys bytes rest e le eight is =
     let count = length-append (take a xs) bytes in

@@ -32,7 +32,7 @@ named_from-next shift bytes i n lt =
     ap (λ m. named_from shift bytes i m) more
     ∙ ap (λ es. map (run_of shift) es) (before_first-cons (λ e. eqb e all_ones) (number_at 8 (8 * i) bytes) (map (λ k. number_at 8 (8 * k) bytes) (range_with_len (i + 1) (n - (i + 1)))))
 
--- nothing is named behind an entry of all ones, nor behind the last
+-- nothing is named after an entry of all ones, nor after the last
 done : (shift : ℕ) (bytes : List ℕ) (place : ℕ) (runs : List Run) → named_from shift bytes place (length bytes / 8 - place) ≡ [] → IsReadTo shift bytes place runs → IsReadAs shift bytes runs
 done shift bytes place runs none read =
     record {

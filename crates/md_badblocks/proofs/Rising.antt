@@ -12,7 +12,7 @@ pub rises_higher : (a b : ℕ) (runs : List Run) → AllByRecursion (λ r. a ≤
 rises_higher a b [] all h = tt
 rises_higher a b (r ∷ rs) all h = (all.0, h.1, h.2, h.3)
 
--- where a run behind these may start at the lowest
+-- where a run after these may start at the lowest
 abbrev pub next : ℕ → List Run → ℕ
 next low [] = low
 next low (r ∷ rs) = next (r.start + r.len + 1) rs

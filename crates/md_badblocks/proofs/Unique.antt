@@ -12,7 +12,7 @@ first_in low r rs h = inl (omega arith, omega arith)
 first_from : (low : ℕ) (r : Run) (rs : List Run) (s : ℕ) → RisesFrom low (r ∷ rs) → IsBad (r ∷ rs) s → r.start ≤ s
 first_from low r rs s h bad = bad_from r.start (r ∷ rs) s (omega arith, h.1, h.2, h.3) bad
 
--- the sector behind the first run is in none
+-- the sector after the first run is in none
 end_out : (low : ℕ) (r : Run) (rs : List Run) → RisesFrom low (r ∷ rs) → IsBad (r ∷ rs) (r.start + r.len) → ⊥
 end_out low r rs h bad =
     elim bad [
@@ -29,7 +29,7 @@ end_within la lb r q a b ha hb same to =
       | inr within ↦ within
     ]
 
--- the sectors behind the first run are those of the other runs
+-- the sectors after the first run are those of the other runs
 later_only : (la lb : ℕ) (r q : Run) (a b : List Run) → RisesFrom la (r ∷ a) → RisesFrom lb (q ∷ b) → r.start + r.len ≡ q.start + q.len → ((s : ℕ) → IsBad (r ∷ a) s → IsBad (q ∷ b) s) → (s : ℕ) → IsBad a s → IsBad b s
 later_only la lb r q a b ha hb same to s bad =
     let from = bad_from (r.start + r.len + 1) a s ha.3 bad in

@@ -31,7 +31,7 @@ log_written runs buf tail place index room needed front all whole within filled 
     ∙ ap (λ xs. flat_map (little_bytes 8) (flat_map entries_of runs) ++ xs) ones
     ∙ sym (flat_map-append (little_bytes 8) (flat_map entries_of runs) (replicate (room - entries_needed runs) all_ones))
 
--- the numbers behind some bytes
+-- the numbers after some bytes
 little_from-behind : (front xs : List ℕ) (n i : ℕ) → little_from (length front + i) n (front ++ xs) ≡ little_from i n xs
 little_from-behind front xs zero i = refl
 little_from-behind front xs (suc n) i =

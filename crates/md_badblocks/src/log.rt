@@ -140,7 +140,7 @@ fn write_run(buf: &mut [u8], place: usize, run: Run) -> usize
     place + count as usize
 }
 
-/// Writes the entries of the runs, and all ones behind them.
+/// Writes the entries of the runs, and all ones after them.
 fn write_runs(buf: &mut [u8], runs: &[Run])
     requires whole { length buf.old % 8 ≡ 0 }
     requires room { entries_needed runs.now ≤ length buf.old / 8 }

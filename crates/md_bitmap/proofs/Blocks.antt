@@ -1,4 +1,4 @@
--- A bitmap in sectors: its header's bytes and the bits behind them.
+-- A bitmap in sectors: its header's bytes and the bits after them.
 use Rattle.std.proofs.Common.{◌≡◌, ℕ, zero, suc, ◌+◌, ◌-◌, ◌*◌, ◌<◌, ◌≤◌, min, List, ◌++◌, length, take, drop, replicate, append_assoc, refl, ap, sym, ◌∙◌, arith}
 use Rattle.std.proofs.Math.Seq.{drop-append-add, take-append-add}
 use Rattle.std.proofs.lemmas.List.{length-append}
@@ -12,7 +12,7 @@ use Rattle.md_bitmap.proofs.Padded.{length-padded, padded_parts}
 pub length-bitmap_sector : (h : BitmapHeader) (m : Bitmap) (i : ℕ) → length (bitmap_sector h m i) ≡ 512
 length-bitmap_sector h m i = length-padded 512 (drop (512 * i) (header_bytes h ++ m.bytes))
 
--- bytes behind a front that fit it
+-- bytes after a front that fit it
 padded_behind : (n k : ℕ) (front bytes : List ℕ) → length front ≡ n → padded (n + k) (front ++ bytes) ≡ front ++ padded k bytes
 padded_behind n k front bytes long =
     let m = min (length bytes) k in
@@ -22,7 +22,7 @@ padded_behind n k front bytes long =
     padded_parts (n + k) (n + m) (front ++ bytes) whole ∙ ap (λ i. take (n + m) (front ++ bytes) ++ replicate i 0) rest
     ∙ ap (λ xs. xs ++ replicate (k - m) 0) cut ∙ append_assoc front (take m bytes) (replicate (k - m) 0) ∙ ap (λ xs. front ++ xs) (sym (padded_parts k m bytes refl))
 
--- the first n bytes: the header, and the bits that fit behind it
+-- the first n bytes: the header, and the bits that fit after it
 pub from_start : (h : BitmapHeader) (m : Bitmap) (n : ℕ) → length (header_bytes h) ≡ 256 → 256 ≤ n → header_bytes h ++ padded (n - 256) m.bytes ≡ padded n (drop (512 * 0) (bitmap_bytes h m))
 from_start h m n long room =
     let whole : 256 + (n - 256) ≡ n = omega arith in

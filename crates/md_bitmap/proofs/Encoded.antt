@@ -8,7 +8,7 @@ use Rattle.md_format.proofs.Written.{number_at-behind, number_at-within, bytes_a
 use Rattle.md_bitmap.specs.Header.{IsHeader, CountsFit, SettingsFit, format_bytes, count_bytes, setting_bytes, header_bytes}
 use Rattle.md_bitmap.specs.declared.header.BitmapHeader.{BitmapHeader}
 
--- fields behind a front, one by one and as a group
+-- fields after a front, one by one and as a group
 pub regroup_3 : (p a b c : List ℕ) → ((p ++ a) ++ b) ++ c ≡ p ++ ((a ++ b) ++ c)
 regroup_3 p a b c = simp append_assoc
 

@@ -1,4 +1,4 @@
--- A list with zeros behind it.
+-- A list with zeros after it.
 use Rattle.std.proofs.Common.{◌≡◌, ℕ, zero, suc, ◌+◌, ◌-◌, ◌<◌, min, List, ◌++◌, length, slice_index, take, drop, replicate, append_assoc, refl, sym, ap, ◌∙◌, inl, inr, arith}
 use Rattle.std.proofs.Math.Seq.{take-append-add, take-length}
 use Rattle.std.proofs.lemmas.Bool.{cases_lt}
@@ -34,7 +34,7 @@ zero_at n i =
       | inr past ↦ get_or_past (replicate n 0) i 0 (omega (arith, length-replicate {A = ℕ} n 0))
     ]
 
--- zeros behind a list read as its end does
+-- zeros after a list read as its end does
 zeros_behind : (xs : List ℕ) (n i : ℕ) → slice_index (xs ++ replicate n 0) i ≡ slice_index xs i
 zeros_behind xs n i =
     elim (cases_lt i (length xs)) [
@@ -69,7 +69,7 @@ number_at-padded n at xs =
     let e : 0 + k ≡ k = omega arith in
     rw e (slice_index-padded n (drop at xs) k h ∙ get_or-drop at xs k 0))
 
--- what is behind a front of zeros after a copy
+-- what is after a front of zeros after a copy
 pub copied_parts : (out bytes : List ℕ) (behind at from count : ℕ) → drop behind out ≡ replicate (length out - behind) 0 → from ≡ min at (length bytes) →
     count ≡ min (length (take (length bytes - from) (drop from bytes))) (length out - behind) →
     take behind out ++ take count (take (length bytes - from) (drop from bytes)) ++ drop (behind + length (take count (take (length bytes - from) (drop from bytes)))) out

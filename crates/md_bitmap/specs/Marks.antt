@@ -3,7 +3,7 @@ use Rattle.std.specs.Prelude.{◌≡◌, ℕ, ◌/◌, ◌%◌, ◌<◌, ◌≤�
 use Rattle.std.specs.Int.{bit_at}
 use Rattle.std.specs.List.{range_with_len}
 
--- a number of chunks, and the bitmap's bytes behind its header
+-- a number of chunks, and the bitmap's bytes after its header
 pub record Bitmap : Type 0 where
   pub chunks : ℕ
   pub bytes : List ℕ

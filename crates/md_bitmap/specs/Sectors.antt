@@ -9,7 +9,7 @@ use Rattle.md_bitmap.specs.Marks.{Bitmap, padded}
 abbrev pub bitmap_sectors : ℕ → ℕ
 bitmap_sectors chunks = div_ceil (256 + div_ceil chunks 8) 512
 
--- the header's bytes, and the bits behind them
+-- the header's bytes, and the bits after them
 abbrev pub bitmap_bytes : BitmapHeader → Bitmap → List ℕ
 bitmap_bytes h m = header_bytes h ++ m.bytes
 

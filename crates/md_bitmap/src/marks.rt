@@ -42,7 +42,7 @@ impl Model for Marks {
 }
 
 impl Marks {
-    /// The marks in a bitmap's bytes, those behind its header.
+    /// The marks in a bitmap's bytes, those after its header.
     pub fn from_bytes(alloc: Global, chunks: u32, bytes: &[u8]) -> Result<Marks, AllocError>
         requires { chunks ≤ 8 * length bytes.now }
         ensures chunks { IfOk result (λ m. m.chunks ≡ chunks) }
@@ -163,7 +163,7 @@ impl Marks {
     }
 
     /// Writes the bitmap from its sector `first` on over zeros, as much of it as they take: the header's
-    /// bytes, and behind them the bits.
+    /// bytes, and after them the bits.
     pub fn put_blocks(&self, header: &BitmapHeader, first: u32, out: &mut [u8])
         requires room { 256 ≤ length out.old }
         requires zeros { out.old ≡ replicate (length out.old) 0 }

@@ -18,7 +18,7 @@ abbrev present : List Text → ℕ
 present [] = 0
 present (w ∷ ws) = cond (is_missing true w) (present ws) (1 + present ws)
 
--- the element behind a front, and the front that ends with it
+-- the element after a front, and the front that ends with it
 at_front : {X : Type 0} (front rest : List X) (x d : X) → slice_index_or (front ++ x ∷ rest) (length front) d ≡ x
 at_front [] rest x d = refl
 at_front (y ∷ front) rest x d = at_front front rest x d

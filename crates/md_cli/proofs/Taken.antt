@@ -169,7 +169,7 @@ module _ {D : Type 0} where
       ];
     }
 
-  -- of all devices those behind the ones that are left were put back
+  -- of all devices those after the ones that are left were put back
   pub record PutDown (before now : Text → Option D) (names : List Text) (all left : List D) : Type 0 where
     pub shorter : length left ≤ length all
     pub same : (i : ℕ) → i < length left → slice_get left i ≡ slice_get all i
@@ -306,7 +306,7 @@ module _ {I D : Type 0} (known : I → Bool) (holds : I → Text → Bool) (at :
       | inr forbidden ↦ inr (might is ∙ forbidden.0, forbidden.1)
     ]
 
-  -- of all devices those behind the ones that are left are back
+  -- of all devices those after the ones that are left are back
   pub record Putting (names : List Text) (before now : I) (all left : List D) : Type 0 where
     pub known_kept : known now ≡ known before
     pub places : known before ≡ true → (n : Text) → holds now n ≡ holds before n

@@ -43,7 +43,7 @@ LaysOut d e m = DoesWrites of_disks (writes_of m) d e
 abbrev pub FailsToLayOut : Disk → Disk → NewMember → Type 0
 FailsToLayOut d e m = StopsInWrites of_disks (writes_of m) d e
 
--- the first n members are laid out, each on its device, and nothing is done to the devices behind the n-th
+-- the first n members are laid out, each on its device, and nothing is done to the devices after the n-th
 pub record AreLaidOut (before after : List Disk) (members : List NewMember) (n : ℕ) : Type 0 where
   pub as_many : length after ≡ length before
   pub each : (k : ℕ) → k < n → At LaysOut before after members k

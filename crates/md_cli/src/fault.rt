@@ -1,5 +1,5 @@
 // Why a command is refused. A message is the fault's name and its values, one space between them:
-// the program shows it behind its own name.
+// the program shows it after its own name.
 use crate::image_refusal::ImageRefusal;
 use crate::option_fault::OptionFault;
 use md_array::OpenFault;

@@ -63,7 +63,7 @@ slice_index-part xs at n i below = get_or-take n (drop at xs) i 0 below ∙ get_
 sector_has : (chunks c : ℕ) → c < chunks → (c + 2048) / 4096 < bitmap_sectors chunks
 sector_has chunks c below = omega arith
 
--- the bits behind the header of an area of n sectors
+-- the bits after the header of an area of n sectors
 module _ (h : BitmapHeader) (m : Bitmap) (new area : List ℕ) (long : length (header_bytes h) ≡ 256)
     (read : area ≡ part new (512 * 16) (512 * bitmap_sectors m.chunks))
     (each : (i : ℕ) → i < bitmap_sectors m.chunks → part new (512 * (16 + i)) 512 ≡ bitmap_sector h m i) where

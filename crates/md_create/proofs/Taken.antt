@@ -68,7 +68,7 @@ module _ (member : NewMember) where
     };
   }
 
--- each fault but want of memory comes before it
+-- each fault but NoMemory comes before it
 early : (f : SuperFault) → f ≢ super_fault.NoMemory → place f < 9
 early super_fault.Magic other = omega arith
 early super_fault.Major other = omega arith

@@ -19,7 +19,7 @@ pub record IsLeast (sizes : List (Option ℕ)) (sectors : ℕ) : Type 0 where
   pub reached : HasDevice sizes role sectors
   pub least : (other n : ℕ) → HasDevice sizes other n → sectors ≤ n
 
--- the array's size: the one that is asked for, or all that the least device has behind its first 2048 sectors
+-- the array's size: the one that is asked for, or all that the least device has after its first 2048 sectors
 abbrev pub IsSize : Option ℕ → List (Option ℕ) → ℕ → Type 0
 IsSize (Some asked) sizes size = size ≡ asked
 IsSize None sizes size = IsLeast sizes (2048 + size)

@@ -46,7 +46,7 @@ pub record IsLaidOut (old : List ℕ) (member : NewMember) (new : List ℕ) : Ty
   pub kept : KeepsOthers member old new
 
 -- What a stop leaves while a member is laid out. The wipe was cut short, and nothing else has changed; or zeros stand in the
--- superblock's place, so that the device bears none; or all other parts stand, and the superblock over zeros was cut short.
+-- superblock's place, so that the device has none; or all other parts stand, and the superblock over zeros was cut short.
 abbrev pub IsHalfLaidOut : List ℕ → NewMember → List ℕ → Type 0
 IsHalfLaidOut old member left =
     IsMixed 8 wipe.bytes old left

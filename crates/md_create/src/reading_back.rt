@@ -12,7 +12,7 @@ use md_bitmap::HEADER_BYTES;
 
 /// The law that a member is read back. Of an honest device on which this member was laid out
 /// `read_member` gives this member, and where the device has all of its data and no read fails, it
-/// refuses it only for want of memory. This function does nothing.
+/// refuses it only where memory ran out. This function does nothing.
 pub fn reads_back(member: &NewMember)
     ensures same { (old new : List ℕ) (info : MemberInfo) → IsLaidOut old member.now new → IsMember new true info → ReadsBack member.now info }
     ensures taken { (old new : List ℕ) (fault : MemberFault) → IsLaidOut old member.now new → 512 * (2048 + member.now.superblock.data_size) ≤ length new → RefusesMember new true ⊥ fault → fault ≡ NoMemory }

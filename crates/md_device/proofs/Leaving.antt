@@ -31,7 +31,7 @@ within_outside (Err e) sector bytes old new outside = outside
 pub mixed_none : (sector : ℕ) (bytes old : List ℕ) → IsMixed sector bytes old old
 mixed_none sector bytes old = record { outside = record { size = refl; before = refl; after = refl }; each = λ i within. inl refl }
 
--- a content by its part before, in and behind a range
+-- a content by its part before, in and after a range
 in_three : (xs : List ℕ) (at n : ℕ) → xs ≡ take at xs ++ (part xs at n ++ drop (at + n) xs)
 unfolding part
 in_three xs at n = sym (take-append-drop at xs) ∙ ap (λ ys. take at xs ++ ys) (sym (take-append-drop n (drop at xs)) ∙ ap (λ zs. take n (drop at xs) ++ zs) (drop-drop n at xs))

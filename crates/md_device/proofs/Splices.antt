@@ -38,7 +38,7 @@ unfolding part
 part-spliced_before xs at ys i n before fits =
     sym (drop-take i n (spliced xs at ys)) ∙ ap (drop i) (take-spliced xs at ys (i + n) before fits) ∙ drop-take i n xs
 
--- a part behind what was written
+-- a part after what was written
 pub part-spliced_after : {X : Type 0} (xs : List X) (at : ℕ) (ys : List X) (i n : ℕ) → at + length ys ≤ i → at ≤ length xs → part (spliced xs at ys) i n ≡ part xs i n
 unfolding part
 part-spliced_after xs at ys i n after fits = ap (take n) (drop-spliced xs at ys i after fits)
@@ -57,7 +57,7 @@ part_before {at = at} {xs = xs} {ys = ys} same i m below =
     let cut : (zs : List _) → drop i (take (i + m) (take at zs)) ≡ take m (drop i zs) = λ zs. ap (drop i) (take-take (i + m) at zs below) ∙ drop-take i m zs in
     sym (cut ys) ∙ ap (λ zs. drop i (take (i + m) zs)) same.before ∙ cut xs
 
--- a part behind what may differ
+-- a part after what may differ
 pub part_after : {X : Type 0} {at n : ℕ} {xs ys : List X} → SameOutside at n xs ys → (i m : ℕ) → at + n ≤ i → part ys i m ≡ part xs i m
 unfolding part
 part_after {at = at} {n = n} {xs = xs} {ys = ys} same i m above =

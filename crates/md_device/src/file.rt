@@ -53,8 +53,8 @@ impl FileDevice {
     ///
     /// An advisory lock is held as long as the device: an exclusive one where it can be written, a
     /// shared one where not. So no two of these devices change one image at once, be it in two
-    /// programs or in one under two names, as two nodes of one block device. A loop device and the file
-    /// behind it have a lock each, and so have two nodes where there is no /sys. Where the file system
+    /// programs or in one under two names, as two nodes of one block device. A loop device and its backing
+    /// file have a lock each, and so have two nodes where there is no /sys. Where the file system
     /// can't lock it answers `Io`: without the lock nothing would stop two writers.
     ///
     /// A block device that the system uses is not opened to be changed, as far as /proc and /sys tell:

@@ -87,7 +87,7 @@ pub(crate) fn sectors_line<S: Sink>(out: &mut S, label: &str, n: u64) -> Result<
     two_part_line(out, label, buffer.format(n).as_bytes(), b" sectors")
 }
 
-// A number in hex behind a prefix.
+// A number in hex after a prefix.
 pub(crate) fn hex_line<S: Sink>(
     out: &mut S,
     label: &str,

@@ -4,7 +4,7 @@ use Rattle.std.proofs.lemmas.List.{get_or-take, get_or-drop}
 use Rattle.byteorder.specs.Endian.{little_from}
 use Rattle.md_format.specs.Fields.{number_at}
 
--- a number read from place j of the m bytes behind place i
+-- a number read from place j of the m bytes after place i
 pub little_from-part : (n i j m : ℕ) (xs : List ℕ) → j + n ≤ m → little_from j n (take m (drop i xs)) ≡ little_from (i + j) n xs
 little_from-part zero i j m xs h = refl
 little_from-part (suc n) i j m xs h =
@@ -13,7 +13,7 @@ little_from-part (suc n) i j m xs h =
     let next : i + suc j ≡ suc (i + j) = omega arith in
     rw (byte, rest, next) refl
 
--- what a reader that is handed the bytes behind a place reads
+-- what a reader that is handed the bytes after a place reads
 pub number_at-part : (n i m : ℕ) (xs : List ℕ) → n ≤ m → little_from 0 n (take m (drop i xs)) ≡ number_at n i xs
 unfolding number_at
 number_at-part n i m xs h =

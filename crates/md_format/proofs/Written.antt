@@ -12,7 +12,7 @@ little_from-behind n j (x ∷ front) rest =
     let e : length (x ∷ front) + j ≡ suc (length front + j) = omega arith in
     rw e (little_from-cons (length front + j) n x (front ++ rest) ∙ little_from-behind n j front rest)
 
--- a number behind a front
+-- a number after a front
 pub number_at-behind : (n i j : ℕ) (front rest : List ℕ) → i ≡ length front + j → number_at n i (front ++ rest) ≡ number_at n j rest
 unfolding number_at
 number_at-behind n i j front rest e = rw e (little_from-behind n j front rest)
@@ -34,7 +34,7 @@ pub number_at-little_bytes : (n x : ℕ) (rest : List ℕ) → x < 256 ^ n → n
 unfolding number_at
 number_at-little_bytes n x rest h = little_number-reads_back n x rest h
 
--- bytes behind a front
+-- bytes after a front
 pub bytes_at-behind : (n i j : ℕ) (front rest : List ℕ) → i ≡ length front + j → bytes_at n i (front ++ rest) ≡ bytes_at n j rest
 unfolding bytes_at
 bytes_at-behind n i j front rest e = rw e (ap (take n) (drop-append-add front rest j))

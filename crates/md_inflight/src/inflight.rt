@@ -84,7 +84,7 @@ impl<T> Inflight<T> {
         ensures kept { (other : TicketView)
             → BelongsTo self.old other → BelongsTo self.new other }
 
-        // It is refused where no number is left, and otherwise only for want of memory.
+        // It is refused where no number is left, and otherwise only where memory ran out.
         ensures spent { self.old.next ≡ 2 ^ 64 → IsErr result }
         ensures why { IfErr result (λ refused. refused.why ≡
             (if self.old.next == 2 ^ 64 then PushFault.NumbersSpent else PushFault.NoMemory)) }

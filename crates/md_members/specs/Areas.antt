@@ -6,7 +6,7 @@ use Rattle.md_super.specs.Log.{has_bad_block_log}
 pub use Rattle.md_bitmap.specs.Sectors.{bitmap_sectors}
 use Rattle.md_members.specs.declared.area.Area.{Area}
 
--- the first sector behind an area
+-- the first sector after an area
 abbrev pub end_of : Area → ℤ
 end_of a = a.start +ℤ pos a.sectors
 

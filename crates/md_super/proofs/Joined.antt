@@ -1,4 +1,4 @@
--- Fields that are written one behind the other, each behind what stands.
+-- Fields that are written one after the other, each after what stands.
 use Rattle.std.proofs.Common.{◌≡◌, ℕ, ℤ, List, ◌++◌, ap, ◌∙◌, append_assoc, FitsSigned}
 use Rattle.std.proofs.lemmas.Int.{to_z-of_z}
 use Rattle.std.specs.Int.{w32, cast_signed, cast_unsigned}
@@ -17,7 +17,7 @@ regroup_4 p a b c d = simp append_assoc
 regroup_6 : (p a b c d e f : List ℕ) → p ++ a ++ b ++ c ++ d ++ e ++ f ≡ p ++ (a ++ b ++ c ++ d ++ e ++ f)
 regroup_6 p a b c d e f = simp append_assoc
 
--- a group of fields behind a front
+-- a group of fields after a front
 pub group_3 : {s t u : List ℕ} (p a b c : List ℕ) → s ≡ p ++ a → t ≡ s ++ b → u ≡ t ++ c → u ≡ p ++ (a ++ b ++ c)
 group_3 p a b c first second third = joined c (joined b first second) third ∙ regroup_3 p a b c
 

@@ -9,7 +9,7 @@ use Rattle.md_format.specs.Fields.{number_at, bytes_at}
 use Rattle.md_format.proofs.Places.{little_from-part}
 use Rattle.md_format.proofs.Written.{number_at-behind, number_at-little_bytes, bytes_at-behind, bytes_at-field}
 
--- the k-th part stands behind those before it
+-- the k-th part stands after those before it
 part_there : (parts : List (List ℕ)) (k : ℕ) → k < length parts → bytes_at (length (get_or parts k [])) (sum_by length (take k parts)) (concat parts) ≡ get_or parts k []
 part_there [] k h = absurd (omega (arith, h))
 part_there (part ∷ parts) zero h = bytes_at-field (length part) part (concat parts) refl

@@ -1,5 +1,5 @@
 -- The bytes that are written for a superblock: its fields at their places (`struct mdp_superblock_1` of md_p.h), with
--- zeros for the padding and behind the roles.
+-- zeros for the padding and after the roles.
 use Rattle.std.specs.Prelude.{ℕ, ◌-◌, ◌*◌, List, [], ◌∷◌, ◌++◌, length, replicate}
 use Rattle.std.specs.List.{flat_map}
 use Rattle.std.specs.Int.{w32, cast_unsigned}
@@ -48,7 +48,7 @@ front_bytes v =
     head_bytes v ++ v.set_uuid ++ v.set_name ++ shape_bytes v ++ bitmap_bytes v ++ reshape_bytes v ++ place_bytes v
     ++ v.device_uuid ++ log_bytes v ++ count_bytes v
 
--- bytes 220 to 4095, behind the checksum
+-- bytes 220 to 4095, after the checksum
 unfoldable pub back_bytes : List ℕ → List ℕ
 back_bytes roles =
     little_bytes 4 (length roles) ++ replicate 32 0 ++ flat_map (little_bytes 2) roles

@@ -8,7 +8,7 @@ use Rattle.md_super.specs.Checksum.{checksum_of}
 use Rattle.md_super.specs.declared.fault.SuperFault.{SuperFault}
 use Rattle.md_super.specs.declared.fault.SuperFault.TheVariants.{Magic, Major, MaxDev, Checksum, SuperOffset, Feature, Level, RaidDisks, NoMemory}
 
--- the fault stands in the bytes; want of memory can always be found
+-- the fault stands in the bytes; NoMemory can always come
 abbrev pub Stands : List ℕ → SuperFault → Type 0
 Stands bytes Magic = number_at 4 0 bytes ≢ 0xa92b4efc
 Stands bytes Major = number_at 4 4 bytes ≢ 1
@@ -32,7 +32,7 @@ place Level = 7
 place RaidDisks = 8
 place NoMemory = 9
 
--- no fault stands besides want of memory
+-- no fault stands besides NoMemory
 abbrev pub NoFault : List ℕ → Type 0
 NoFault bytes = NoneBefore (Stands bytes) place 9
 
@@ -53,7 +53,7 @@ checks bytes =
     ∷ check (nat_lt 0 (number_at 4 92 bytes) && nat_le (number_at 4 92 bytes) 32) RaidDisks
     ∷ []
 
--- the first fault besides want of memory
+-- the first fault besides NoMemory
 unfoldable pub fault_of : List ℕ → Option SuperFault
 fault_of bytes = first_fault (checks bytes)
 

@@ -30,7 +30,7 @@ pub fn decode(alloc: Global, bytes: &[u8; 4096]) -> Result<Superblock, SuperFaul
     }
 }
 
-// The first fault but for want of memory.
+// The first fault but for NoMemory.
 #[tactic(auto, unfolding(crate::specs::Faults::fault_of))]
 fn first_fault(bytes: &[u8; 4096]) -> Option<SuperFault>
     ensures { result ≡ fault_of bytes.now }

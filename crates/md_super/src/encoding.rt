@@ -59,7 +59,7 @@ fn put_front(shared: &Superblock, own: &Superblock, out: &mut [u8; 4096])
     put_counts(shared, out);
 }
 
-// What stands behind the checksum.
+// What stands after the checksum.
 fn put_back(roles: &[u16], out: &mut [u8; 4096])
     requires { length roles.now ≤ 1920 }
     ensures whole { out.new ≡ take 220 out.old ++ back_bytes roles.now }

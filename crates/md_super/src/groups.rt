@@ -1,4 +1,4 @@
-// The fields of a superblock that stand side by side, each group behind what was written before.
+// The fields of a superblock that stand side by side, each group after what was written before.
 ghost use Rattle.std.specs.Prelude.{◌≡◌, ◌<◌, ◌≤◌, ◌+◌, ◌-◌, ◌*◌, ◌^◌, ◌++◌, length, replicate, take, FitsSigned};
 ghost use Rattle.std.specs.List.{flat_map};
 ghost use Rattle.std.specs.Int.{w32};

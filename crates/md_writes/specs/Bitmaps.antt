@@ -7,7 +7,7 @@ use Rattle.md_bitmap.specs.Marks.{Bitmap, padded}
 use Rattle.md_bitmap.specs.Sectors.{bitmap_bytes, bitmap_sector}
 use Rattle.md_writes.specs.Writes.{Write}
 
--- sector i of a bitmap, behind the sector where the bitmap starts
+-- sector i of a bitmap, after the sector where the bitmap starts
 abbrev pub bitmap_write : ℕ → BitmapHeader → Bitmap → ℕ → Write
 bitmap_write start h m i = record { sector = start + i; bytes = bitmap_sector h m i }
 

@@ -33,7 +33,7 @@ pub(crate) const REPORT: &str = "\
 #[test]
 fn examine_report(rt: HostRuntime) -> Result<(), Fail> {
     let alloc = rt.alloc();
-    // A byte behind the roles, which the checksum leaves out.
+    // A byte after the roles, which the checksum leaves out.
     let mut padded = vault();
     padded[4095] = 1;
     for superblock in [vault(), padded] {

@@ -3,7 +3,7 @@ use Rattle.std.proofs.lemmas.List.{set_split, take-append-le, take-take, drop_at
 use Rattle.md_badblocks.specs.declared.run.Run.{Run}
 use Rattle.md_badblocks.proofs.editing.replace_by_two.Goals as goal
 
--- a run put behind the one that another then replaces
+-- a run put after the one that another then replaces
 set-insert : (runs : List Run) (from to : ℕ) (left right : Run) → to ≡ from + 1 → to ≤ length runs → set (take to runs ++ right ∷ drop to runs) from left ≡ take from runs ++ left ∷ right ∷ drop to runs
 set-insert runs from to left right next within =
     let short = length-take-le to runs within in
