@@ -1,5 +1,5 @@
 -- Whole calls: the events that a call does, one after another (this project's own).
-use Rattle.std.specs.Prelude.{◌≡◌, ℕ, ◌<◌, ◌⊎◌, true, List, [], ◌∷◌, Option, Some, None}
+use Rattle.std.specs.Prelude.{◌≡◌, ◌≢◌, ℕ, ◌<◌, ◌⊎◌, true, List, [], ◌∷◌, Option, Some, None}
 use Rattle.md_model.specs.Sectors.{block_of}
 use Rattle.md_model.specs.Worlds.{Request}
 use Rattle.md_model.specs.Events.{Event}
@@ -61,17 +61,25 @@ pub record IsUnder (n : ℕ) (p : PendingView) (requests : Requests) : Type 0 wh
   pub number : p.ticket.number ≡ n
   pub request : requests n ≡ Some (request_of p)
 
--- What the step's own contract says of it, whatever its device is. No call does the other events yet.
+-- under a number stands this, and under the others what stood there
+pub record IsPut (n : ℕ) (r : Option Request) (before after : Requests) : Type 0 where
+  pub at : after n ≡ r
+  pub others : (m : ℕ) → m ≢ n → after m ≡ before m
+
+-- What the step's own contract says of it, whatever its device is, and what requests are in flight after it. No call does the other
+-- events yet.
 abbrev pub Did : MirrorView → Requests → Event → MirrorView → Requests → Type 0
 Did old before (Event.Begin n r) new after =
-    (sector : ℕ) × (bytes : List ℕ) × (p : PendingView) × IsUnder n p after × (request_of p ≡ r) × Begins sector bytes old new p
-Did old before (Event.Record k) new after = Records k old new
-Did old before (Event.StoreMarks k b) new after = StoresMarkSector k b old new
-Did old before (Event.WriteMember n k) new after = (p q : PendingView) × IsUnder n p before × IsUnder n q after × WritesTo k old new p q
-Did old before (Event.Finish n) new after = (p : PendingView) × IsUnder n p before × (after n ≡ None) × Finishes old new p
-Did old before (Event.RecordFails k) new after = FailsToRecord k old new
-Did old before (Event.StoreMarksFails k b) new after = FailsToStoreMarks k b old new
-Did old before (Event.WriteMemberFails n k) new after = (p q : PendingView) × IsUnder n p before × IsUnder n q after × FailsToWrite k old new p q
+    (sector : ℕ) × (bytes : List ℕ) × (p : PendingView) × IsUnder n p after × IsPut n (Some r) before after × Begins sector bytes old new p
+Did old before (Event.Record k) new after = (after ≡ before) × Records k old new
+Did old before (Event.StoreMarks k b) new after = (after ≡ before) × StoresMarkSector k b old new
+Did old before (Event.WriteMember n k) new after =
+    (p q : PendingView) × IsUnder n p before × IsUnder n q after × IsPut n (Some (request_of q)) before after × WritesTo k old new p q
+Did old before (Event.Finish n) new after = (p : PendingView) × IsUnder n p before × IsPut n None before after × Finishes old new p
+Did old before (Event.RecordFails k) new after = (after ≡ before) × FailsToRecord k old new
+Did old before (Event.StoreMarksFails k b) new after = (after ≡ before) × FailsToStoreMarks k b old new
+Did old before (Event.WriteMemberFails n k) new after =
+    (p q : PendingView) × IsUnder n p before × IsUnder n q after × IsPut n (Some (request_of q)) before after × FailsToWrite k old new p q
 Did old before e new after = ⊥
 
 -- From this mirror, with these requests in flight, the events were done one after another, the first of them after this one, and

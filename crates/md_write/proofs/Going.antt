@@ -1,5 +1,5 @@
 -- Parts of a call, one after another.
-use Rattle.std.proofs.Common.{◌≡◌, ℕ, ◌<◌, List, Option, [], ◌∷◌, ◌++◌, Some, refl, sym, ap, ◌∙◌, subst, arith}
+use Rattle.std.proofs.Common.{◌≡◌, ℕ, Option, [], ◌∷◌, ◌++◌, Some, refl, sym, ap, ◌∙◌, subst, arith}
 use Rattle.md_model.specs.Events.{Event}
 use Rattle.md_bitmap.specs.Marks.{Bitmap, is_set}
 use Rattle.md_inflight.specs.Inflight.{InflightList, lookup}
@@ -7,7 +7,7 @@ use Rattle.md_array.specs.declared.extent.Extent.{Extent}
 use Rattle.md_array.specs.View.{ArrayView, MirrorView, PendingView}
 use Rattle.md_array.specs.Consistency.{IsConsistent}
 use Rattle.md_array.specs.InTurn.{InTurn, IsInOrder, Requests}
-use Rattle.md_array.specs.Requests.{AreInFlight, IsPending, among, has_written}
+use Rattle.md_array.specs.Requests.{AreInFlight, IsPending, among}
 use Rattle.md_array.proofs.InFlight.{among_in_flight}
 use Rattle.md_array.proofs.Turns.{all_on, all_such, turn_on, turn_then}
 use Rattle.md_write.specs.declared.stop.Stop.{Stop}

@@ -6,25 +6,24 @@ use Rattle.std.proofs.lemmas.Option.{same_Some, slice_get-map}
 use Rattle.md_model.specs.Events.{Event}
 use Rattle.md_model.specs.Sectors.{block_of}
 use Rattle.md_bitmap.specs.Marks.{is_set}
-use Rattle.md_writes.specs.Writes.{Write}
 use Rattle.md_assembly.specs.declared.state.MemberState.{MemberState}
 use Rattle.md_assembly.specs.declared.state.MemberState.TheVariants.{InSync, Recovering, Stale, Spare, Faulty}
 use Rattle.md_assembly.specs.States.{is_in_sync}
 use Rattle.md_array.specs.declared.step_fault.StoreFault.TheVariants.{Halted, NotActive, MemberFailed}
 use Rattle.md_array.specs.View.{ArrayView, MemberView, MirrorView, PendingView}
-use Rattle.md_array.specs.Members.{IsInSync, IsMember, is_recorded}
+use Rattle.md_array.specs.Members.{IsMember, is_recorded}
 use Rattle.md_array.specs.Consistency.{IsConsistent}
 use Rattle.md_array.specs.Events.{Does, Happens, HappensIfOldNewOrNone}
 use Rattle.md_array.specs.InTurn.{Did, IsInOrder, IsSectorDue, LeftWhole, Requests}
-use Rattle.md_array.specs.Recording.{FailsToRecord, Records, RefusesRecord, super_write}
+use Rattle.md_array.specs.Recording.{FailsToRecord, Records, RefusesRecord}
 use Rattle.md_array.specs.Requests.{AreInFlight, IsPending}
 use Rattle.md_array.specs.Rising.{Fails, made_due, made_faulty}
 use Rattle.md_array.specs.StoringMarks.{FailsToStoreMarks, RefusesMarkSector, StoresMarkSector}
-use Rattle.md_array.specs.Trying.{FailsWriting, RefusesHalted}
+use Rattle.md_array.specs.Trying.{RefusesHalted}
 use Rattle.md_array.specs.Worlds.{AreHonest}
 use Rattle.md_array.specs.WritingMember.{IsNotDue}
 use Rattle.md_array.proofs.Replaced.{of_set}
-use Rattle.md_write.specs.Progress.{alone, AllStayReady, GoesOn, HaltsAfter, IsSameArray, IsStoring, LosesMember, LosesRecording, RecordsOn, StepsBy, StoresOn, recorded_count}
+use Rattle.md_write.specs.Progress.{alone, AllStayReady, HaltsAfter, IsSameArray, IsStoring, LosesMember, LosesRecording, RecordsOn, StepsBy, StoresOn, recorded_count}
 use Rattle.md_write.proofs.Counts.{count_map, set_alike, set_fewer}
 use Rattle.md_write.proofs.Going.{goes_nowhere, goes_step}
 
@@ -136,7 +135,7 @@ module _ (old new : MirrorView) (k block : ℕ) (sound : IsConsistent new) (pend
       record {
         step = record {
           of = tt;
-          did = λ others. r;
+          did = λ others. (refl, r);
           happens = λ honest whole others in_flight. happens honest others in_flight;
           array = same_array old.array new.array k r.member n r.may.in_sync.member refl r.array;
           sound = sound;
@@ -155,7 +154,7 @@ module _ (old new : MirrorView) (k block : ℕ) (sound : IsConsistent new) (pend
   sector_fails due j r happens =
       let f = r.1 in
       failure_loses alone alone IsStoring (Event.StoreMarksFails k block) old new k f.fails.array (sector_in_use f)
-      (failure_step alone alone IsStoring (Event.StoreMarksFails k block) old new k f.fails.array (sector_in_use f) tt (λ others. f)
+      (failure_step alone alone IsStoring (Event.StoreMarksFails k block) old new k f.fails.array (sector_in_use f) tt (λ others. (refl, f))
       (λ honest whole others in_flight. happens honest others in_flight) sound pending) (λ previous. due)
 
   pub sector_halts : old.array.halted ≡ false → IsConsistent old → RefusesMarkSector k block old new Halted → HaltsAfter alone alone IsStoring old new
@@ -181,7 +180,7 @@ module _ (old new : MirrorView) (k : ℕ) (sound : IsConsistent new) (pending : 
       record {
         step = record {
           of = tt;
-          did = λ others. r;
+          did = λ others. (refl, r);
           happens = λ honest whole others in_flight. happens honest others in_flight;
           array = same_array old.array new.array k r.member n r.may.at refl r.array;
           sound = sound;
@@ -198,7 +197,7 @@ module _ (old new : MirrorView) (k : ℕ) (sound : IsConsistent new) (pending : 
   record_fails j r happens =
       let f = r.1 in
       record {
-        step = failure_step alone alone IsStoring (Event.RecordFails k) old new k f.fails.array (record_in_use f) tt (λ others. f)
+        step = failure_step alone alone IsStoring (Event.RecordFails k) old new k f.fails.array (record_in_use f) tt (λ others. (refl, f))
             (λ honest whole others in_flight. happens f.member f.may.at (whole f.member f.may.at) honest others in_flight) sound pending;
         lost = fewer_after old.array new.array k f.fails.array (record_in_use f);
         halted = halted_after old.array new.array k f.fails.array (record_in_use f);

@@ -7,7 +7,6 @@ use Rattle.md_model.specs.Sectors.{block_of}
 use Rattle.md_model.proofs.Cases.{below-nat_lt}
 use Rattle.md_model.proofs.Puts.{by_same}
 use Rattle.md_bitmap.specs.Marks.{Bitmap, is_set}
-use Rattle.md_members.specs.Areas.{bitmap_sectors}
 use Rattle.md_array.specs.View.{ArrayView, MemberView, MirrorView}
 use Rattle.md_array.specs.Members.{IsInSync, IsMember}
 use Rattle.md_array.specs.Consistency.{IsConsistent}

@@ -1,6 +1,6 @@
 -- Records are stored in their turn.
-use Rattle.std.proofs.Common.{◌≡◌, ℕ, ◌<◌, true, false, set, slice_get, Option, Some, refl, sym, ap, ◌∙◌, subst, arith, inr}
-use Rattle.std.proofs.lemmas.Option.{same_Some, slice_get_within}
+use Rattle.std.proofs.Common.{◌≡◌, ℕ, ◌<◌, true, slice_get, Option, Some, refl, ap, ◌∙◌, arith, inr}
+use Rattle.std.proofs.lemmas.Option.{slice_get_within}
 use Rattle.std.specs.Prelude.{Result, Ok, Err, MatchResult}
 use Rattle.md_model.specs.Events.{Event}
 use Rattle.md_assembly.specs.States.{is_in_sync}
@@ -11,7 +11,7 @@ use Rattle.md_array.specs.WritingMember.{IsNotDue}
 use Rattle.md_array.proofs.WorldsLists.{at_set_same}
 use Rattle.md_write.specs.declared.stop.Stop.{Stop}
 use Rattle.md_write.specs.declared.stop.Stop.TheVariants.{Failed, Halted}
-use Rattle.md_write.specs.Progress.{alone, IsStoring, LosesRecording, RecordsOn, StaysReady, Stores, StoresAt, StoresOn, StopsRecording, StopsStoring}
+use Rattle.md_write.specs.Progress.{alone, IsStoring, RecordsOn, StaysReady, Stores, StoresAt, StoresOn, StopsRecording, StopsStoring}
 use Rattle.md_write.proofs.Going.{goes_step, goes_two, halts_on, ready_on}
 use Rattle.md_write.proofs.Steps.{now_at, recorded_in_sync}
 
@@ -69,7 +69,6 @@ module _ (k : ℕ) (old mid : MirrorView) (s : StoresOn k 0 old mid) where
         → MatchResult result (λ _. StoresAt k IsNotDue old new) (StopsStoring old new)
     recorded_or_stops (Ok t) r = recorded_after r
     recorded_or_stops (Err stop) r = stops_after stop r
-
 
 -- ---- of a member that is not in sync
 module _ (k : ℕ) (old new : MirrorView) where

@@ -1,6 +1,5 @@
 -- A whole write is put together.
 use Rattle.std.proofs.Common.{◌≡◌, ◌≢◌, ℕ, ◌+◌, ◌-◌, ◌/◌, ◌<◌, ◌≤◌, Bool, true, false, cond, ◌||◌, ◌&&◌, nat_le, List, [], ◌∷◌, ◌++◌, length, Option, None, Some, refl, sym, ap, ◌∙◌, subst, arith, inl}
-use Rattle.std.specs.Int.{div_ceil}
 use Rattle.std.proofs.Math.Nat.{div-mul-le_self, le-div_iff_mul-le}
 use Rattle.std.proofs.lemmas.Bool.{le-leb}
 use Rattle.std.proofs.lemmas.Option.{none-some}
@@ -11,7 +10,7 @@ use Rattle.md_model.specs.Worlds.{Request, World}
 use Rattle.md_model.specs.Events.{Event}
 use Rattle.md_model.proofs.Cases.{by_option}
 use Rattle.md_model.proofs.Puts.{put-self}
-use Rattle.md_bitmap.specs.Marks.{Bitmap, is_set}
+use Rattle.md_bitmap.specs.Marks.{is_set}
 use Rattle.md_bitmap.specs.declared.chunks.Chunks.{Chunks}
 use Rattle.md_bitmap.proofs.Limits.{div-lt-div_ceil}
 use Rattle.md_inflight.specs.Inflight.{InflightList, lookup, without}
@@ -26,15 +25,16 @@ use Rattle.md_array.specs.Rising.{risen}
 use Rattle.md_array.specs.Consistency.{IsConsistent}
 use Rattle.md_array.specs.Events.{BeginHappens, Does, FinishHappens}
 use Rattle.md_array.specs.Finishing.{Finishes, MayFinish, RefusesFinish}
-use Rattle.md_array.specs.InTurn.{AllLeftWhole, InTurn, Leads, Requests}
-use Rattle.md_array.specs.Requests.{AreInFlight, IsPending, among, request_of, request_sectors}
+use Rattle.md_array.specs.InTurn.{AllLeftWhole, InTurn, IsPut, Requests}
+use Rattle.md_array.specs.Requests.{AreInFlight, IsPending, among, request_of}
 use Rattle.md_array.specs.Worlds.{AreHonest, geometry_of, world_of}
-use Rattle.md_array.proofs.InFlight.{among_in_flight, found_with_last}
+use Rattle.md_array.proofs.InFlight.{found_with_last}
 use Rattle.md_array.proofs.Turns.{turn_on, turn_then, turn_through}
 use Rattle.md_array.proofs.WorldsInSync.{in_sync_is, number_at}
-use Rattle.md_write.specs.Progress.{AreChunksOf, HaltsOn, IsLater, IsOfRequest, IsReadyToFinish}
+use Rattle.md_write.specs.Progress.{AreChunksOf, HaltsOn, IsOfRequest, IsReadyToFinish}
 use Rattle.md_write.specs.Writing.{HaltsWrite, HasReceived, IsWritten, RefusesWrite, Writes, events_of}
-use Rattle.md_write.proofs.WrittenData.{under}
+use Rattle.md_write.proofs.WrittenData.{put_under, under}
+use Rattle.md_write.proofs.WrittenData as written
 use Rattle.md_write.proofs.Entries.{without_last}
 use Rattle.md_write.proofs.Going.{fly_on}
 use Rattle.md_write.proofs.Received.{HasBytes, IsReceiving, received, receives_begin, receives_step}
@@ -198,7 +198,7 @@ module _ (sector : ℕ) (bytes : List ℕ) (old begun : MirrorView) (p : Pending
     abbrev first_turn : (es : List Event) (Then : MirrorView → Requests → Type 0) (previous : Option Event) (others : Requests) → AreInFlight old.array others
         → InTurn (Some (Event.Begin n (request_of p))) begun (among p others) es Then → InTurn previous old others (Event.Begin n (request_of p) ∷ es) Then
     first_turn es Then previous others in_flight t =
-        (begun, among p others, tt, (sector, bytes, p, under n p others refl, refl, b), λ honest whole. begins honest others in_flight, t)
+        (begun, among p others, tt, (sector, bytes, p, under n p others refl, put_under n p others others refl (λ m apart. refl), b), λ honest whole. begins honest others in_flight, t)
 
     pub halts_write : (q : PendingView) (new : MirrorView) → HaltsOn p q begun new → HaltsWrite sector bytes old new
     halts_write q new h = record {
@@ -233,6 +233,9 @@ module _ (sector : ℕ) (bytes : List ℕ) (old begun : MirrorView) (p : Pending
         there : AreInFlight mid.array others
         there = fly_on begun.array mid.array g.goes.array others (beside others in_flight)
 
+        taken_out : IsPut n None (among q others) others
+        taken_out = record { at = none; others = λ m apart. sym (written.beside q others m (λ here. apart (here ∙ same_n))) }
+
         last_does : AreHonest mid.disks → Does mid (among q others) (Event.Finish n) new others
         last_does honest =
             let rest : put n None others ≡ others = ap (λ (x : Option Request). put n x others) (sym none) ∙ put-self n others in
@@ -243,7 +246,7 @@ module _ (sector : ℕ) (bytes : List ℕ) (old begun : MirrorView) (p : Pending
         ends m s at last =
             subst (λ (x : MirrorView). InTurn last x s (Event.Finish n ∷ []) Ends) (sym at.0)
             (subst (λ (x : Requests). InTurn last mid x (Event.Finish n ∷ []) Ends) (sym at.1)
-            (new, others, tt, (q, under n q others same_n, none, f), λ honest whole. last_does honest, (refl, refl)))
+            (new, others, tt, (q, under n q others same_n, taken_out, f), λ honest whole. last_does honest, (refl, refl)))
 
         middle : InTurn (Some (Event.Begin n r)) begun (among p others) g.goes.events (λ m s. (last : Option Event) → InTurn last m s (Event.Finish n ∷ []) Ends)
         middle = turn_then g.goes.events (Some (Event.Begin n r)) begun (among p others) _ _ ends (g.goes.leads (Some (Event.Begin n r)) others (beside others in_flight))

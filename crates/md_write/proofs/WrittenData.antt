@@ -1,25 +1,24 @@
 -- A request's bytes are written to the members.
-use Rattle.std.proofs.Common.{◌≡◌, ℕ, ◌+◌, ◌/◌, ◌<◌, ◌≤◌, Bool, true, false, ◌||◌, eqb, List, [], ◌∷◌, ◌++◌, length, Some, refl, sym, ap, ◌∙◌, subst, arith, inl, inr, eq-eqb}
+use Rattle.std.proofs.Common.{◌≡◌, ◌≢◌, ℕ, ◌+◌, ◌/◌, ◌<◌, ◌≤◌, Bool, true, false, ◌||◌, eqb, List, [], ◌∷◌, ◌++◌, length, Some, refl, sym, ap, ◌∙◌, subst, arith, inl, inr, eq-eqb}
 use Rattle.std.specs.List.{list_any}
 use Rattle.std.specs.Prelude.{Result, Ok, Err, MatchResult}
 use Rattle.std.proofs.lemmas.Option.{same_Some, slice_get_within}
 use Rattle.md_model.specs.Events.{Event}
-use Rattle.md_model.proofs.Puts.{by_same, put-hit}
+use Rattle.md_model.proofs.Puts.{by_same, put-hit, put-miss}
 use Rattle.md_bitmap.specs.declared.chunks.Chunks.{Chunks}
 use Rattle.md_assembly.specs.States.{is_in_sync}
-use Rattle.md_array.specs.declared.step_fault.WriteMemberFault.{WriteMemberFault}
 use Rattle.md_array.specs.declared.step_fault.WriteMemberFault.TheVariants.{Halted, NotActive, NotMarked, NotRecorded, AlreadyWritten, MemberFailed}
 use Rattle.md_array.specs.View.{ArrayView, MemberView, MirrorView, PendingView}
 use Rattle.md_array.specs.Members.{AllInSync, IsInSync, IsMember}
 use Rattle.md_array.specs.Consistency.{IsConsistent}
 use Rattle.md_array.specs.Events.{HappensAmong}
 use Rattle.md_array.specs.Finishing.{HasBytesOf}
-use Rattle.md_array.specs.InTurn.{IsUnder, Requests}
+use Rattle.md_array.specs.InTurn.{IsPut, IsUnder, Requests}
 use Rattle.md_array.specs.Requests.{IsPending, among, has_written, request_of}
 use Rattle.md_array.specs.WritingMember.{HasMarksFrom, HasMarksOf, IsNotDue, RefusesWriteMember, WritesTo}
 use Rattle.md_write.specs.declared.stop.Stop.{Stop}
 use Rattle.md_write.specs.declared.stop.Stop.TheVariants as stop
-use Rattle.md_write.specs.Progress.{alone, AreChunksOf, GoesOn, HaltsAfter, HaltsOn, IsLater, IsOfRequest, IsReadyToFinish, IsSameArray, LosesMember, LosesOn, StepsBy, Stores, StoresAll, StopsStoring, StopsWriting, WritesAt, WritesBelow, WritesOn, WritesToAll}
+use Rattle.md_write.specs.Progress.{AreChunksOf, GoesOn, HaltsAfter, HaltsOn, IsLater, IsOfRequest, IsReadyToFinish, IsSameArray, LosesMember, LosesOn, Stores, StoresAll, StopsStoring, StopsWriting, WritesAt, WritesBelow, WritesOn, WritesToAll}
 use Rattle.md_write.proofs.Going.{goes_beside, goes_nowhere, goes_on, goes_step, halts_beside, halts_on, later_on, later_refl, loses_on, same_refl, stores_on}
 use Rattle.md_write.proofs.StoredMarks.{last_on, marked_still, marks_last, records_last}
 use Rattle.md_write.proofs.Steps.{failure_loses, failure_step, in_use_there, never_halted, recorded_in_sync}
@@ -49,6 +48,15 @@ under n p others e = record {
   request = subst (λ (i : ℕ). among p others i ≡ Some (request_of p)) e (put-hit p.ticket.number (Some (request_of p)) others);
 }
 
+pub put_under : (n : ℕ) (p : PendingView) (before others : Requests) → p.ticket.number ≡ n → ((m : ℕ) → m ≢ n → before m ≡ others m) → IsPut n (Some (request_of p)) before (among p others)
+put_under n p before others e same = record {
+  at = (under n p others e).request;
+  others = λ m apart. put-miss p.ticket.number (Some (request_of p)) others m (λ here. apart (here ∙ e)) ∙ sym (same m apart);
+}
+
+pub beside : (p : PendingView) (others : Requests) (m : ℕ) → m ≢ p.ticket.number → among p others m ≡ others m
+beside p others m apart = put-miss p.ticket.number (Some (request_of p)) others m apart
+
 -- ---- what write_member gives
 module _ (old new : MirrorView) (k : ℕ) (p q : PendingView) (before : IsConsistent old) (is : IsPending old.array p) where
   abbrev n : ℕ
@@ -68,7 +76,7 @@ module _ (old new : MirrorView) (k : ℕ) (p q : PendingView) (before : IsConsis
           writes = record {
             goes = goes_step (among p) (among q) (IsOfRequest n) (Event.WriteMember n k) old new (record {
               of = refl;
-              did = λ others. (p, q, under n p others refl, under n q others number, r);
+              did = λ others. (p, q, under n p others refl, under n q others number, put_under n q (among p others) others number (beside p others), r);
               happens = λ honest whole others in_flight. happens honest others in_flight;
               array = same_of old.array new.array r.array;
               sound = sound;
@@ -96,7 +104,7 @@ module _ (old new : MirrorView) (k : ℕ) (p q : PendingView) (before : IsConsis
         record {
           loses = failure_loses (among p) (among q) (IsOfRequest n) (Event.WriteMemberFails n k) old new k f.fails.array used
               (failure_step (among p) (among q) (IsOfRequest n) (Event.WriteMemberFails n k) old new k f.fails.array used refl
-              (λ others. (p, q, under n p others refl, under n q others number, f))
+              (λ others. (p, q, under n p others refl, under n q others number, put_under n q (among p others) others number (beside p others), f))
               (λ honest whole others in_flight. happens honest others in_flight) sound pending) (λ previous. tt);
           later = later_of f.pending;
           still = subst (IsPending new.array) (sym f.pending) (pending p is);

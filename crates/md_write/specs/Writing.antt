@@ -1,7 +1,7 @@
 -- A whole write.
 use Rattle.std.specs.Prelude.{◌≡◌, ◌⊎◌, ℕ, ◌/◌, true, false, List, [], ◌∷◌, ◌++◌, length, Option, Some}
 use Rattle.md_model.specs.Content.{Content, HoldsBetween, with_request}
-use Rattle.md_model.specs.Worlds.{Request, touches, World, IsInSync}
+use Rattle.md_model.specs.Worlds.{Request, touches, IsInSync}
 use Rattle.md_model.specs.Events.{Event}
 use Rattle.md_array.specs.declared.step_fault.BeginFault.{BeginFault}
 use Rattle.md_array.specs.declared.step_fault.BeginFault.TheVariants.{Halted}

@@ -1,4 +1,3 @@
-use Rattle.std.proofs.Common.{◌≡◌}
 use Rattle.md_write.specs.Progress.{HasMarksIn}
 use Rattle.md_write.proofs.StoredMarks.{nothing_at, sector_lacks, stored_or_stops, told}
 use Rattle.md_write.proofs.marks.store_lacking.Goals as goal

@@ -1,4 +1,3 @@
-use Rattle.std.proofs.Common.{◌≡◌, false}
 use Rattle.md_array.specs.WritingMember.{HasMarksFrom}
 use Rattle.md_write.specs.Progress.{StoresBelow}
 use Rattle.md_write.proofs.marks.store_marks.Given as goal

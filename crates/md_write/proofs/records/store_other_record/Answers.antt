@@ -1,4 +1,3 @@
-use Rattle.std.proofs.Common.{◌≡◌, true}
 use Rattle.md_write.proofs.Going.{stores_nowhere}
 use Rattle.md_write.proofs.StoredMarks.{told}
 use Rattle.md_write.proofs.StoredRecords.{other_due, other_or_stops}

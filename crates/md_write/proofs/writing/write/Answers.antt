@@ -2,7 +2,7 @@ use Rattle.std.proofs.Common.{◌≡◌, ◌∙◌, ◌/◌, ◌+◌, ◌-◌, s
 use Rattle.md_array.specs.View.{PendingView}
 use Rattle.md_bitmap.specs.declared.chunks.Chunks.{Chunks}
 use Rattle.md_write.specs.Writing.{RefusesWrite}
-use Rattle.md_write.proofs.Whole.{chunks_begun, finish_given, halts_write, other_number, refused, writes}
+use Rattle.md_write.proofs.Whole.{chunks_begun, finish_given, halts_write, other_number, writes}
 use Rattle.md_write.proofs.writing.write.Goals as goal
 
 pub write_all-requires-clause-chunks : goal.write_all-requires-clause-chunks

@@ -1,5 +1,5 @@
-use Rattle.std.proofs.Common.{◌∙◌, sym, ap}
-use Rattle.md_write.proofs.Going.{later_refl, stops_on, stores_on}
+use Rattle.std.proofs.Common.{◌∙◌}
+use Rattle.md_write.proofs.Going.{stops_on, stores_on}
 use Rattle.md_write.proofs.WrittenData.{marked_then, recorded_then, storing_stops, writes_or_stops}
 use Rattle.md_write.proofs.writing.write_once.Goals as goal
 
