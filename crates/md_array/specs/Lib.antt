@@ -29,5 +29,7 @@ pub mod ReadAsKept
 pub mod HalfOpened
 pub mod Events
 pub mod Runs
+pub mod InTurn
+pub mod WholeCalls
 pub mod Lives
 pub mod StopsWithin
