@@ -17,20 +17,18 @@ use Rattle.md_model.specs.Events.{Event}
 use Rattle.md_model.proofs.Cases.{by_test}
 use Rattle.md_array.specs.View.{ArrayView, Disk, MemberView, MirrorView}
 use Rattle.md_array.specs.Members.{IsMember, NeedsMarks}
-use Rattle.md_array.specs.Consistency.{IsConsistent}
 use Rattle.md_array.specs.HalfOpened.{IsHalfMarked, IsHeaderKept, StopsStoring}
 use Rattle.md_array.specs.Lives.{AreFoundAgain, IsAsLeft, IsFoundAgain, IsReadAsKeptInLives, MirrorLife, StaysAsLeft}
 use Rattle.md_array.specs.Opening.{IsArrayOf}
-use Rattle.md_array.specs.ReadAsKept.{AreReadAsKept, chunk_size_on}
+use Rattle.md_array.specs.ReadAsKept.{chunk_size_on}
 use Rattle.md_array.specs.Runs.{Moment, opened_as}
 use Rattle.md_array.specs.Storing.{StoresMarks}
 use Rattle.md_array.specs.Worlds.{from_super, geometry_of, header_fits, header_on, stored_of}
-use Rattle.md_array.proofs.Consistent.{consistent}
 use Rattle.md_array.proofs.PartsApart.{bitmap_alone}
-use Rattle.md_array.proofs.Reopened.{again, bitmap_offset, run_keeps, same_count, same_stored}
+use Rattle.md_array.proofs.Moments.{IsSoundAt, run_keeps, sound_when_opened}
+use Rattle.md_array.proofs.Reopened.{again, bitmap_offset, same_count, same_stored}
 use Rattle.md_array.proofs.WorldsDevice.{IsOpenedMember, bits_new, chunk_size_new, fits_on}
 use Rattle.md_array.proofs.WorldsMember.{by_need}
-use Rattle.md_array.proofs.WorldsOpenedFrom.{opened_read}
 use Rattle.md_array.proofs.WorldsOutside.{starts_at}
 use Rattle.md_array.proofs.WorldsReadMember as read
 use Rattle.md_array.proofs.WorldsReadMember.{IsReadMember}
@@ -84,7 +82,7 @@ module _ (a : ArrayView) (m : MemberView) (old new : Disk) (room : 512 * (from_s
   ]
 
 -- ---- it is as it was left
-module _ (t : Moment) (sound : IsConsistent t.mirror) (are : AreReadAsKept t.mirror t.failed_at) (before : List Disk) (is : ArrayView)
+module _ (t : Moment) (at_t : IsSoundAt t) (before : List Disk) (is : ArrayView)
     (r : AreFoundAgain t before is.shared) (o : IsArrayOf before is)
     (k j : ℕ) (f : IsFoundAgain t.mirror.array r.left before k j) (n : MemberView) (is_member : IsMember is j n) (new : Disk) (half : IsHalfMarked is n f.disk_now new) where
   abbrev was : ArrayView
@@ -94,20 +92,20 @@ module _ (t : Moment) (sound : IsConsistent t.mirror) (are : AreReadAsKept t.mir
   m = f.member
 
   abbrev info : MemberInfo
-  info = (again t sound are before is r o k j f n is_member).info
+  info = (again t at_t before is r o k j f n is_member).info
 
   abbrev seen : IsReadMember is n info f.disk_now.content
-  seen = (again t sound are before is r o k j f n is_member).seen
+  seen = (again t at_t before is r o k j f n is_member).seen
 
   at : n.superblock.bitmap_offset ≡ m.superblock.bitmap_offset
-  at = bitmap_offset t sound are before is r o k j f n is_member
+  at = bitmap_offset t at_t before is r o k j f n is_member
 
   count : is.marks.chunks ≡ was.marks.chunks
-  count = same_count t sound are before is r o
+  count = same_count t at_t before is r o
 
   -- the same area
   same_chunks : n.stored.chunks ≡ m.stored.chunks
-  same_chunks = sym seen.count ∙ count ∙ sym (sound.chunks.member_count k m f.is_member)
+  same_chunks = sym seen.count ∙ count ∙ sym (at_t.sound.chunks.member_count k m f.is_member)
 
   module _ (need : NeedsMarks n) where
     room : 512 * (from_super n.superblock.bitmap_offset + bitmap_sectors n.stored.chunks) ≤ length f.disk_now.content
@@ -124,7 +122,7 @@ module _ (t : Moment) (sound : IsConsistent t.mirror) (are : AreReadAsKept t.mir
     -- before it counted as all marked
     refused : is_accepted (stored_of was m f.disk_now.content) ≡ false
     refused =
-        ap is_accepted (sym (same_stored t sound are before is r o k j f n is_member))
+        ap is_accepted (sym (same_stored t at_t before is r o k j f n is_member))
         ∙ by_test (is_accepted (stored_of is n f.disk_now.content)) (λ e. absurd (need.refused (read.accepted_before is n info f.disk_now.content seen e))) (λ e. e)
 
     opened_member : StoresMarks is n f.disk_now new → IsOpenedMember is n info f.disk_now new
@@ -155,7 +153,7 @@ module _ (t : Moment) (sound : IsConsistent t.mirror) (are : AreReadAsKept t.mir
 
       still_refused : is_accepted (stored_of was m new.content) ≡ false
       still_refused =
-          let alone = bitmap_alone was m f.disk_now.content new.content (again t sound are before is r o k j f n is_member).parts outside in
+          let alone = bitmap_alone was m f.disk_now.content new.content (again t at_t before is r o k j f n is_member).parts outside in
           (λ i. accepts (alone i).super (number_at 8 24 (header_kept i)) (header_fits was (header_kept i)))
           ∙ refused
 
@@ -177,8 +175,8 @@ module _ (t : Moment) (sound : IsConsistent t.mirror) (are : AreReadAsKept t.mir
         | inr kept ↦ ap (number_at 4 52) (header_kept kept)
       ] ∙ f.as_left.chunk_size;
       marks = λ s low clear.
-          let in_range = div-lt-div_ceil was.chunks.size was.chunks.sectors s sound.chunks.wide low in
-          absurd (true≢false (sym (marked (chunk_of (geometry_of was) s) (subst (λ (x : ℕ). s / was.chunks.sectors < x) (sym sound.chunks.count) in_range)) ∙ clear));
+          let in_range = div-lt-div_ceil was.chunks.size was.chunks.sectors s at_t.sound.chunks.wide low in
+          absurd (true≢false (sym (marked (chunk_of (geometry_of was) s) (subst (λ (x : ℕ). s / was.chunks.sectors < x) (sym at_t.sound.chunks.count) in_range)) ∙ clear));
     }
 
   pub as_left : IsAsLeft was m f.disk_left.content new.content
@@ -187,18 +185,15 @@ module _ (t : Moment) (sound : IsConsistent t.mirror) (are : AreReadAsKept t.mir
       (λ none. subst (IsAsLeft was m f.disk_left.content) (sym (half.unchanged none)) f.as_left)
 
 -- ---- at each moment of a life
-life_keeps : (m : MirrorView) (es : List Event) (rest : List (List Event)) (final : MirrorView) (last : Moment) → IsConsistent m → AreReadAsKept m 0 → MirrorLife m es rest final last
-    → IsConsistent last.mirror × AreReadAsKept last.mirror last.failed_at
-life_keeps m es [] final last sound are life = run_keeps es (opened_as m) last life.1 sound are
-life_keeps m es (more ∷ rest) final last sound are life =
+life_keeps : (m : MirrorView) (es : List Event) (rest : List (List Event)) (final : MirrorView) (last : Moment) → IsSoundAt (opened_as m) → MirrorLife m es rest final last → IsSoundAt last
+life_keeps m es [] final last at_m life = run_keeps es (opened_as m) last life.1 at_m
+life_keeps m es (more ∷ rest) final last at_m life =
     let next = life.3 in
-    life_keeps life.1 more rest final last (consistent next.before life.1 next.opens) (opened_read next.before life.1 next.devices.honest next.opens) life.4
+    life_keeps life.1 more rest final last (sound_when_opened next.before life.1 next.devices.honest next.opens) life.4
 
 pub read_as_kept : IsReadAsKeptInLives
-read_as_kept before m start es rest final last life =
-    (life_keeps m es rest final last (consistent before m start.opened) (opened_read before m start.honest start.opened) life).1
+read_as_kept before m start es rest final last life = (life_keeps m es rest final last (sound_when_opened before m start.honest start.opened) life).read
 
 pub stays_as_left : StaysAsLeft
 stays_as_left before m start es rest final last life found a devices of k j at n new is_member half =
-    let kept = life_keeps m es rest final last (consistent before m start.opened) (opened_read before m start.honest start.opened) life in
-    as_left last kept.0 kept.1 found a devices of k j (devices.again k j at) n is_member new half
+    as_left last (life_keeps m es rest final last (sound_when_opened before m start.honest start.opened) life) found a devices of k j (devices.again k j at) n is_member new half

@@ -30,4 +30,5 @@ pub mod HalfOpened
 pub mod Events
 pub mod Runs
 pub mod Lives
+pub mod Left
 pub mod StopsWithin

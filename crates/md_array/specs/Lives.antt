@@ -1,5 +1,5 @@
 -- One opening of a mirror's devices after another: runs, each but the last ended by a stop, and what the next mirror is made of.
-use Rattle.std.specs.Prelude.{◌≡◌, ◌⊎◌, ℕ, ◌*◌, ◌<◌, ◌≤◌, false, List, [], ◌∷◌, length, Option, slice_get, Some}
+use Rattle.std.specs.Prelude.{◌≡◌, ℕ, ◌*◌, ◌<◌, ◌≤◌, false, List, [], ◌∷◌, length, Option, slice_get, Some}
 use Rattle.md_model.specs.Sectors.{Geometry, chunk_of}
 use Rattle.md_device.specs.Splice.{SameOutside}
 use Rattle.md_super.specs.declared.superblock.Superblock.{Superblock}
@@ -10,32 +10,14 @@ use Rattle.md_model.specs.Fits.{HasOneView}
 use Rattle.md_model.specs.Content.{Content, BecomesAtOpening, Holds}
 use Rattle.md_model.specs.Runs.{History}
 use Rattle.md_model.specs.Stops.{IsFit}
-use Rattle.md_model.specs.Worlds.{Request}
-use Rattle.md_array.specs.View.{ArrayView, Disk, MemberView, MirrorView, PendingView}
+use Rattle.md_array.specs.View.{ArrayView, Disk, MemberView, MirrorView}
 use Rattle.md_array.specs.Members.{IsMember}
-use Rattle.md_array.specs.DiskWrites.{IsTried}
 use Rattle.md_array.specs.HalfOpened.{IsHalfMarked}
+use Rattle.md_array.specs.Left.{IsLeft}
 use Rattle.md_array.specs.Opening.{IsArrayOf, IsOpenedFrom}
 use Rattle.md_array.specs.ReadAsKept.{AreReadAsKept, chunk_size_on}
-use Rattle.md_array.specs.Requests.{IsPending, among}
 use Rattle.md_array.specs.Runs.{IsStart, MirrorRun, MirrorRunWith, Moment, history_of, opened_as}
 use Rattle.md_array.specs.Worlds.{AreHonest, from_super, geometry_of, none_in_flight, stored_of, super_of, world_of}
-use Rattle.md_array.specs.WritingMember.{MayWrite, data_write}
-
--- a write of a request's data that the stop broke off: any bytes may stand in its range
-pub record IsTorn (t : Moment) (left : List Disk) : Type 0 where
-  pub request : PendingView
-  pub others : ℕ → Option Request
-  pub in_flight : t.requests ≡ among request others
-  pub pending : IsPending t.mirror.array request
-  pub on : ℕ
-  pub member : MemberView
-  pub may : MayWrite on t.mirror.array request member
-  pub tried : IsTried on (data_write member request) t.mirror.disks left
-
--- What a stop leaves. Every other write is on its device or is not, so that the stop is before or after its event.
-abbrev pub IsLeft : Moment → List Disk → Type 0
-IsLeft t left = (left ≡ t.mirror.disks) ⊎ IsTorn t left
 
 -- A device is as it was left; but openings that were themselves stopped may have written its bitmap. Then no chunk lost its
 -- mark, and the header has the chunk size that it had.
@@ -58,20 +40,21 @@ pub record IsFoundAgain (a : ArrayView) (left now : List Disk) (k j : ℕ) : Typ
 -- failure.
 pub record AreFoundAgain (t : Moment) (before : List Disk) (shared : Superblock) : Type 0 where
   pub left : List Disk
-  pub is_left : IsLeft t left
+  pub failed_at : ℕ  -- the count after the last failure
+  pub is_left : IsLeft t failed_at left
   pub honest : AreHonest before
   pub from : ℕ → ℕ  -- which of those that were left each is
   pub at : ℕ → Option ℕ  -- and where each of those is now, if it is there
   pub found : (j : ℕ) → j < length before → at (from j) ≡ Some j
   pub again : (k j : ℕ) → at k ≡ Some j → IsFoundAgain t.mirror.array left before k j
-  pub recorded : t.failed_at ≤ shared.events
+  pub recorded : failed_at ≤ shared.events
 
 -- The next mirror is made of such devices, and its superblock is fit.
 pub record IsReopened (opened : MirrorView) (t : Moment) (next : MirrorView) : Type 0 where
   pub before : List Disk
   pub devices : AreFoundAgain t before next.array.shared
   pub opens : IsOpenedFrom before next
-  pub fit : IsFit (super_of opened.array.shared) (super_of next.array.shared) t.failed_at
+  pub fit : IsFit (super_of opened.array.shared) (super_of next.array.shared) devices.failed_at
 
 -- A mirror's life: events, a stop and an opening, events again, and so on. The last opening gave the mirror final.
 abbrev pub MirrorLife : MirrorView → List Event → List (List Event) → MirrorView → Moment → Type 0
@@ -129,9 +112,9 @@ abbrev pub FitsWhenThere : Type 0
 FitsWhenThere =
     (before : List Disk) (m : MirrorView) → IsStart before m → HasOneView (super_of m.array.shared) (world_of m none_in_flight).stored
     → (es : List Event) (t : Moment) → MirrorRun (opened_as m) es t
-    → (found : List Disk) (next : MirrorView) → AreFoundAgain t found next.array.shared → IsOpenedFrom found next
+    → (found : List Disk) (next : MirrorView) (devices : AreFoundAgain t found next.array.shared) → IsOpenedFrom found next
     → m.array.shared.events ≤ next.array.shared.events
-    → IsFit (super_of m.array.shared) (super_of next.array.shared) t.failed_at
+    → IsFit (super_of m.array.shared) (super_of next.array.shared) devices.failed_at
 
 -- An interrupted open of such devices leaves each as it was left, if its superblock has recorded the last failure.
 abbrev pub StaysAsLeft : Type 0
