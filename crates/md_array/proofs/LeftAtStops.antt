@@ -23,26 +23,24 @@ use Rattle.md_array.specs.DeviceChanges.{LeavesOn, StaysHonest}
 use Rattle.md_array.specs.StopsWithin.{MayAllBeLeft}
 use Rattle.md_array.specs.DiskWrites.{IsFailed, IsTried, IsWritten}
 use Rattle.md_array.specs.Events.{IsOldNewOrNone}
-use Rattle.md_array.specs.Left.{IsLeft, IsLeftRecording, IsLeftRecordingShort, IsLeftStoring, IsLeftWriting, contents_of}
-use Rattle.md_array.specs.ReadAsKept.{HasOwnSuper, HasWidth, IsFromBefore, IsReadAsKept}
+use Rattle.md_array.specs.Left.{IsLeft, IsLeftRecording, IsLeftRecordingShort, IsLeftWriting, contents_of}
+use Rattle.md_array.specs.ReadAsKept.{HasOwnSuper, IsReadAsKept}
 use Rattle.md_array.specs.Recording.{MayRecord, Records, super_write}
 use Rattle.md_array.specs.Requests.{among, request_of, request_sectors}
-use Rattle.md_array.specs.Rising.{Fails}
 use Rattle.md_array.specs.Runs.{MirrorRun, MirrorRunWith, Moment, history_of, then_as}
-use Rattle.md_array.specs.StoringMarks.{FailsToStoreMarks, StoresMarkSector}
+use Rattle.md_array.specs.StoringMarks.{StoresMarkSector}
 use Rattle.md_array.specs.Worlds.{block_on, geometry_of, stored_of, stored_on, super_in, super_of, world_of}
 use Rattle.md_array.specs.WritingMember.{MayWrite, data_write}
 use Rattle.md_array.proofs.DataWritten.{may_write}
 use Rattle.md_array.proofs.InFlight.{inside_of, not_touched, whole_of}
-use Rattle.md_array.proofs.LeftContents.{got_like, read_changed, read_failed, read_in, read_same}
+use Rattle.md_array.proofs.LeftContents.{got_like, read_changed, read_in, read_same}
 use Rattle.md_array.proofs.MarkSectors.{read_marked, store_marks_happens}
-use Rattle.md_array.proofs.MarksFailed.{own_beside_marks, store_marks_fails_happens}
 use Rattle.md_array.proofs.Moments.{IsSoundAt}
 use Rattle.md_array.proofs.FirstSector.{ReadsAs, first_part, first_sector, reads_first, reads_same}
 use Rattle.md_array.proofs.OneMember.{stored_there}
 use Rattle.md_array.proofs.PartsApart.{HasParts, data_alone, data_elsewhere, header_beside_super, log_beside_super, parts_of, super_alone}
-use Rattle.md_array.proofs.ReadAsKept.{old_enough, own_stays_as, own_written_as, read_beside_data}
-use Rattle.md_array.proofs.StopsAsFailed.{failed_as_tried, stops_as_failed, stops_as_tried, stops_at_events}
+use Rattle.md_array.proofs.ReadAsKept.{own_stays_as, own_written_as, read_beside_data}
+use Rattle.md_array.proofs.StopsAsFailed.{failed_as_tried, stops_as_tried, stops_at_events}
 use Rattle.md_array.proofs.StopsAtSteps.{stops_at_write}
 use Rattle.md_array.proofs.SuperRecorded.{record_happens}
 use Rattle.md_array.proofs.WorldsLists.{at_set_same, got_in_map, got_other, got_same, got_within}
@@ -60,44 +58,25 @@ parts_on a m old new long has =
       count = has.count;
     }
 
--- An opening would read of it what is kept; where a write of its marks failed the header may be any.
+-- an opening would read of it what is kept
 pub record IsLeftDevice (a : ArrayView) (m : MemberView) (failed_at : ℕ) (content : List ℕ) : Type 0 where
   pub parts : HasParts a m content
-  pub super : HasOwnSuper a.shared m.superblock content
-  pub header : HasWidth a.chunks.sectors m.superblock content ⊎ IsFromBefore failed_at content
-
-as_kept : (a : ArrayView) (m : MemberView) (failed_at : ℕ) (content : List ℕ) → HasParts a m content → IsReadAsKept a m failed_at content → IsLeftDevice a m failed_at content
-as_kept a m failed_at content parts read = record {
-  parts = parts;
-  super = read.super;
-  header = elim read.header [
-    | inl width ↦ inl width
-    | inr gone ↦ inr gone.1
-  ];
-}
-
--- once the count has risen
-later : (a : ArrayView) (m : MemberView) (failed_at : ℕ) (content : List ℕ) → IsLeftDevice a m failed_at content → IsLeftDevice a m (a.shared.events + 1) content
-later a m failed_at content left = record {
-  parts = left.parts;
-  super = left.super;
-  header = inr (old_enough a m (a.shared.events + 1) content (omega arith) left.super);
-}
+  pub read : IsReadAsKept a m failed_at content
 
 -- ---- what is left, sorted: after events of these, of which at most one was not there before
-pub record IsSorted (t : Moment) (failed_at : ℕ) (left : List Disk) : Type 0 where
+pub record IsSorted (t : Moment) (left : List Disk) : Type 0 where
   pub events : List Event
   pub moment : Moment
   pub run : MirrorRun t events moment
   pub still : (a : Content) → MirrorRunWith t a events moment a
-  pub counted : moment.failed_at ≡ failed_at
+  pub counted : moment.failed_at ≡ t.failed_at
   pub cut : ℕ → Stored
   pub is_cut : stops.IsCut (geometry_of t.mirror.array) (history_of moment).now cut
   pub read : (k : ℕ) → (read_in t.mirror.array left k ≡ cut k) ⊎ ((read_in t.mirror.array left k).super ≡ None)
-  pub device : (k : ℕ) (e : Disk) (m : MemberView) → slice_get left k ≡ Some e → IsMember t.mirror.array k m → IsLeftDevice t.mirror.array m failed_at e.content
+  pub device : (k : ℕ) (e : Disk) (m : MemberView) → slice_get left k ≡ Some e → IsMember t.mirror.array k m → IsLeftDevice t.mirror.array m t.failed_at e.content
 
-sorted_like : (t : Moment) (failed_at : ℕ) (found left : List Disk) → contents_of found ≡ contents_of left → IsSorted t failed_at found → IsSorted t failed_at left
-sorted_like t failed_at found left same s = record {
+sorted_like : (t : Moment) (found left : List Disk) → contents_of found ≡ contents_of left → IsSorted t found → IsSorted t left
+sorted_like t found left same s = record {
   events = s.events;
   moment = s.moment;
   run = s.run;
@@ -109,7 +88,7 @@ sorted_like t failed_at found left same s = record {
     | inl is ↦ inl (here ∙ is)
     | inr none ↦ inr (ap (λ (x : Stored). x.super) here ∙ none)
   ];
-  device = λ k e m at is. let d = got_like found left same k e at in subst (IsLeftDevice t.mirror.array m failed_at) d.2 (s.device k d.0 m d.1 is);
+  device = λ k e m at is. let d = got_like found left same k e at in subst (IsLeftDevice t.mirror.array m t.failed_at) d.2 (s.device k d.0 m d.1 is);
 }
 
 -- ---- a write of a request's data that the stop broke off: any bytes may stand in its range
@@ -129,9 +108,9 @@ module _ (t : Moment) (at : IsSoundAt t) where
   a = t.mirror.array
 
   as_it_was : (k : ℕ) (d : Disk) (m : MemberView) → slice_get v.disks k ≡ Some d → IsMember a k m → IsLeftDevice a m t.failed_at d.content
-  as_it_was k d m there is = as_kept a m t.failed_at d.content (parts_of v at.sound k d m there is) (at.read k d m there is)
+  as_it_was k d m there is = record { parts = parts_of v at.sound k d m there is; read = at.read k d m there is }
 
-  between : IsSorted t t.failed_at v.disks
+  between : IsSorted t v.disks
   between = record {
     events = [];
     moment = t;
@@ -149,16 +128,15 @@ module _ (t : Moment) (at : IsSoundAt t) where
     there_before : (e : Disk) → slice_get disks k ≡ Some e → (d : Disk) × (slice_get v.disks k ≡ Some d)
     there_before e is = let low = slice_get_within disks k e is in let many = tried.as_many in got_within v.disks k (omega arith)
 
-    each_device : (failed_at : ℕ) → ((n : MemberView) (c : List ℕ) → IsLeftDevice a n t.failed_at c → IsLeftDevice a n failed_at c)
-        → ((d e : Disk) → slice_get v.disks k ≡ Some d → slice_get disks k ≡ Some e → IsLeftDevice a m failed_at e.content)
-        → (j : ℕ) (e : Disk) (n : MemberView) → slice_get disks j ≡ Some e → IsMember a j n → IsLeftDevice a n failed_at e.content
-    each_device failed_at then this j e n there is = by_same j k
+    each_device : ((d e : Disk) → slice_get v.disks k ≡ Some d → slice_get disks k ≡ Some e → IsLeftDevice a m t.failed_at e.content)
+        → (j : ℕ) (e : Disk) (n : MemberView) → slice_get disks j ≡ Some e → IsMember a j n → IsLeftDevice a n t.failed_at e.content
+    each_device this j e n there is = by_same j k
         (λ here.
         let now : slice_get disks k ≡ Some e = sym (ap (slice_get disks) here) ∙ there in
         let d = there_before e now in
         let same : n ≡ m = same_Some n m (sym is ∙ ap (slice_get a.members) here ∙ is_member) in
-        subst (λ (x : MemberView). IsLeftDevice a x failed_at e.content) (sym same) (this d.0 e d.1 now))
-        (λ apart. then n e.content (as_it_was j e n (sym (tried.others j apart) ∙ there) is))
+        subst (λ (x : MemberView). IsLeftDevice a x t.failed_at e.content) (sym same) (this d.0 e d.1 now))
+        (λ apart. as_it_was j e n (sym (tried.others j apart) ∙ there) is)
 
     elsewhere : (j : ℕ) → j ≢ k → read_in a disks j ≡ read_in a v.disks j
     elsewhere j apart = ap (stored_on a (slice_get a.members j)) (tried.others j apart)
@@ -181,10 +159,12 @@ module _ (t : Moment) (at : IsSoundAt t) where
     torn_device d e was is =
         let parts = parts_of v at.sound k d m was is_member in
         let same = torn.tried.outside d e was is in
-        as_kept a m t.failed_at e.content (parts_on a m d.content e.content same.size parts)
-        (read_beside_data a m d.content e.content parts l.request.sector (request_sectors l.request) (inside_of v l.request at.sound l.pending)
-        (subst (λ (x : ℕ). SameOutside (512 * (m.superblock.data_offset + l.request.sector)) x d.content e.content) (whole_of a l.request l.pending) same)
-        t.failed_at (at.read k d m was is_member))
+        record {
+          parts = parts_on a m d.content e.content same.size parts;
+          read = read_beside_data a m d.content e.content parts l.request.sector (request_sectors l.request) (inside_of v l.request at.sound l.pending)
+              (subst (λ (x : ℕ). SameOutside (512 * (m.superblock.data_offset + l.request.sector)) x d.content e.content) (whole_of a l.request l.pending) same)
+              t.failed_at (at.read k d m was is_member);
+        }
 
     torn_cut : stops.IsTorn (geometry_of a) (world_of v (among l.request l.others)) (read_in a torn.found)
     torn_cut =
@@ -212,8 +192,8 @@ module _ (t : Moment) (at : IsSoundAt t) where
               ∙ sym (ap (λ (x : Stored). x.content s) was);
         }
 
-    torn_sorted : IsSorted t t.failed_at left
-    torn_sorted = sorted_like t t.failed_at torn.found left torn.same (record {
+    torn_sorted : IsSorted t left
+    torn_sorted = sorted_like t torn.found left torn.same (record {
       events = [];
       moment = t;
       run = refl;
@@ -222,10 +202,10 @@ module _ (t : Moment) (at : IsSoundAt t) where
       cut = read_in a torn.found;
       is_cut = inr (subst (λ r. stops.IsTorn (geometry_of a) (world_of v r) (read_in a torn.found)) (sym l.in_flight) torn_cut);
       read = λ j. inl refl;
-      device = each_device k m (data_write m l.request) torn.found is_member torn.tried t.failed_at (λ n c x. x) torn_device;
+      device = each_device k m (data_write m l.request) torn.found is_member torn.tried torn_device;
     })
 
-  writing : (left : List Disk) → IsLeftWriting t left → IsSorted t t.failed_at left
+  writing : (left : List Disk) → IsLeftWriting t left → IsSorted t left
   writing left l =
       let wrote : (m : MemberView) → MayWrite l.on a l.request m → IsWritten l.on (data_write m l.request) v.disks l.next.disks → IsTorn t left =
       λ m may done. let f = stops_as_tried l.on (data_write m l.request) v.disks l.next.disks (contents_of left) at.honest done l.within in record { l = l; member = m; may = may; found = f.0; tried = f.1; same = f.2 } in
@@ -249,11 +229,12 @@ module _ (t : Moment) (at : IsSoundAt t) where
     marked_device d e was is =
         let m = r.member in
         let is_member = r.may.in_sync.member in
-        as_kept a m t.failed_at e.content
-        (parts_on a m d.content e.content (r.disks.tried.outside d e was is).size (parts_of v at.sound k d m was is_member))
-        (read_marked k block v next at.sound inside r d e was is (at.honest k d was) t.requests t.failed_at (at.read k d m was is_member))
+        record {
+          parts = parts_on a m d.content e.content (r.disks.tried.outside d e was is).size (parts_of v at.sound k d m was is_member);
+          read = read_marked k block v next at.sound inside r d e was is (at.honest k d was) t.requests t.failed_at (at.read k d m was is_member);
+        }
 
-    marked : IsSorted t t.failed_at next.disks
+    marked : IsSorted t next.disks
     marked =
         let does = store_marks_happens k block v next at.sound inside r at.honest t.requests at.in_flight in
         record {
@@ -265,59 +246,16 @@ module _ (t : Moment) (at : IsSoundAt t) where
           cut = (world_of next t.requests).stored;
           is_cut = inl refl;
           read = λ j. inl (sym (ap (λ (x : ArrayView). read_in x next.disks j) r.array ∙ read_changed a k r.member (record r.member { stored = r.stored }) r.may.in_sync.member refl next.disks j));
-          device = each_device k r.member r.write next.disks r.may.in_sync.member r.disks.tried t.failed_at (λ n c x. x) marked_device;
+          device = each_device k r.member r.write next.disks r.may.in_sync.member r.disks.tried marked_device;
         }
 
-    stored_sorted : (left : List Disk) → MayAllBeLeft v.disks next.disks (contents_of left) → IsSorted t t.failed_at left
+    stored_sorted : (left : List Disk) → MayAllBeLeft v.disks next.disks (contents_of left) → IsSorted t left
     stored_sorted left within =
         let long : length r.write.bytes ≡ 512 = ap (λ (x : Write). length x.bytes) r.may.write.is ∙ length-bitmap_sector r.may.write.header a.marks block in
         elim (stops_at_events e_marks v.disks next.disks (contents_of left) at.honest (r.write, long, r.disks) within) [
-          | inl before ↦ sorted_like t t.failed_at v.disks left (sym before) between
-          | inr after ↦ sorted_like t t.failed_at next.disks left (sym after) marked
+          | inl before ↦ sorted_like t v.disks left (sym before) between
+          | inr after ↦ sorted_like t next.disks left (sym after) marked
         ]
-
-  -- ---- within one that fails: after the failure, over other bytes
-  module _ (k block : ℕ) (inside : block < bitmap_sectors a.marks.chunks) (other : MirrorView) (f : FailsToStoreMarks k block v other) where
-    abbrev e_fails : Event
-    e_fails = Event.StoreMarksFails k block
-
-    lost_device : (d e : Disk) → slice_get v.disks k ≡ Some d → slice_get other.disks k ≡ Some e → IsLeftDevice a f.member (a.shared.events + 1) e.content
-    lost_device d e was is =
-        let m = f.member in
-        let is_member = f.may.in_sync.member in
-        let has = own_beside_marks k block v other at.sound f inside d e was is (at.read k d m was is_member).super in
-        record {
-          parts = parts_on a m d.content e.content (f.fails.disks.tried.outside d e was is).size (parts_of v at.sound k d m was is_member);
-          super = has;
-          header = inr (old_enough a m (a.shared.events + 1) e.content (omega arith) has);
-        }
-
-    lost : IsSorted t (a.shared.events + 1) other.disks
-    lost =
-        let does = store_marks_fails_happens k block v other at.sound f inside at.honest t.requests at.in_flight in
-        let fails = f.fails.array in
-        record {
-          events = e_fails ∷ [];
-          moment = then_as t e_fails other t.requests;
-          run = (other, t.requests, does, refl);
-          still = λ x. (other, t.requests, x, does, refl, (refl, refl));
-          counted = ap (λ (x : ArrayView). x.shared.events) fails.array;
-          cut = (world_of other t.requests).stored;
-          is_cut = inl refl;
-          read = λ j. inl (sym (ap (λ (x : ArrayView). read_in x other.disks j) fails.array ∙ read_failed a k fails.member fails.at other.disks j));
-          device = each_device k f.member f.write other.disks f.may.in_sync.member f.fails.disks.tried (a.shared.events + 1) (λ n c. later a n t.failed_at c) lost_device;
-        }
-
-  storing : (failed_at : ℕ) (left : List Disk) → IsLeftStoring t failed_at left → IsSorted t failed_at left
-  storing failed_at left l = elim l.call [
-    | inl done ↦ subst (λ (n : ℕ). IsSorted t n left) (sym done.1) (stored_sorted l.on l.block l.inside l.next done.0 left l.within)
-    | inr fails ↦
-        let f = fails.0 in
-        let o = stops_as_failed l.on f.write v l.next (contents_of left) at.honest f.fails l.within in
-        let counted : failed_at ≡ a.shared.events + 1 = fails.1 ∙ ap (λ (x : ArrayView). x.shared.events) f.fails.array.array in
-        subst (λ (n : ℕ). IsSorted t n left) (sym counted)
-        (sorted_like t (a.shared.events + 1) o.0.disks left o.2 (lost l.on l.block l.inside o.0 (record { member = f.member; write = f.write; may = f.may; fails = o.1 })))
-  ]
 
   -- ---- within a write of a superblock
   module _ (k : ℕ) (m : MemberView) (may : MayRecord k a m) where
@@ -338,22 +276,24 @@ module _ (t : Moment) (at : IsSoundAt t) where
       super_device : HasOwnSuper a.shared m.superblock e.content → IsLeftDevice a m t.failed_at e.content
       super_device has = record {
         parts = parts_on a m d.content e.content beside.size parts;
-        super = has;
-        header = elim (at.read k d m was may.at).header [
-          | inl width ↦ inl (ap (λ (h : List ℕ). number_at 4 52 h / 512) (header_beside_super a m d.content e.content parts beside) ∙ width)
-          | inr gone ↦ absurd (true≢false (sym may.active ∙ gone.0))
-        ];
+        read = record {
+          super = has;
+          header = elim (at.read k d m was may.at).header [
+            | inl width ↦ inl (ap (λ (h : List ℕ). number_at 4 52 h / 512) (header_beside_super a m d.content e.content parts beside) ∙ width)
+            | inr gone ↦ absurd (true≢false (sym may.active ∙ gone.0))
+          ];
+        };
       }
 
       abbrev block : List ℕ
       block = block_on e.content
 
       each_super : HasOwnSuper a.shared m.superblock e.content → (j : ℕ) (x : Disk) (n : MemberView) → slice_get disks j ≡ Some x → IsMember a j n → IsLeftDevice a n t.failed_at x.content
-      each_super has = each_device k m w disks may.at tried t.failed_at (λ n c x. x)
+      each_super has = each_device k m w disks may.at tried
           (λ b x _ there. subst (λ (y : Disk). IsLeftDevice a m t.failed_at y.content) (got_same disks k e x is there) (super_device has))
 
       -- the old one is read there, or none
-      unrecorded : ReadsAs block (block_on d.content) ⊎ (super_in block ≡ None) → IsSorted t t.failed_at disks
+      unrecorded : ReadsAs block (block_on d.content) ⊎ (super_in block ≡ None) → IsSorted t disks
       unrecorded reads = record {
         events = [];
         moment = t;
@@ -431,7 +371,7 @@ module _ (t : Moment) (at : IsSoundAt t) where
             (λ apart. elsewhere k m w disks may.at tried j apart ∙ sym (elsewhere k m w next.disks may.at new_tried j apart))
             ∙ sym (read_changed a k m (record m { due = false }) may.at refl next.disks j)
 
-        recorded : IsSorted t t.failed_at disks
+        recorded : IsSorted t disks
         recorded =
             let does = record_happens k v next at.sound records at.honest t.requests at.in_flight in
             record {
@@ -458,14 +398,14 @@ module _ (t : Moment) (at : IsSoundAt t) where
   record_cut : (left : List Disk) (c : IsRecordCut left)
       → ((d e : Disk) → slice_get v.disks c.on ≡ Some d → slice_get c.found c.on ≡ Some e
       → ReadsAs (block_on e.content) (block_on d.content) ⊎ (ReadsAs (block_on e.content) (super_write a c.member).bytes ⊎ (super_in (block_on e.content) ≡ None)))
-      → IsSorted t t.failed_at left
+      → IsSorted t left
   record_cut left c reads =
       let low = slice_get_within a.members c.on c.member c.may.at in
       let as_many = at.sound.fits.as_many in
       let many = c.tried.as_many in
       let d = got_within v.disks c.on (omega arith) in
       let e = got_within c.found c.on (omega arith) in
-      sorted_like t t.failed_at c.found left c.same (elim (reads d.0 e.0 d.1 e.1) [
+      sorted_like t c.found left c.same (elim (reads d.0 e.0 d.1 e.1) [
         | inl old ↦ unrecorded c.on c.member c.may c.found c.tried d.0 e.0 d.1 e.1 (inl old)
         | inr other ↦
             elim other [
@@ -474,13 +414,13 @@ module _ (t : Moment) (at : IsSoundAt t) where
             ]
       ])
 
-  recording : (left : List Disk) → IsLeftRecording t left → IsSorted t t.failed_at left
+  recording : (left : List Disk) → IsLeftRecording t left → IsSorted t left
   recording left l =
       let wrote : (m : MemberView) → MayRecord l.on a m → IsWritten l.on (super_write a m) v.disks l.next.disks → IsRecordCut left =
       λ m may done. let f = stops_as_tried l.on (super_write a m) v.disks l.next.disks (contents_of left) at.honest done l.within in record { on = l.on; member = m; may = may; found = f.0; tried = f.1; same = f.2 } in
       let failed : (m : MemberView) → MayRecord l.on a m → IsFailed l.on (super_write a m) v.disks l.next.disks → IsRecordCut left =
       λ m may tried. let f = failed_as_tried l.on (super_write a m) v.disks l.next.disks (contents_of left) at.honest tried l.within in record { on = l.on; member = m; may = may; found = f.0; tried = f.1; same = f.2 } in
-      let whole : (c : IsRecordCut left) → c.on ≡ l.on → IsSorted t t.failed_at left =
+      let whole : (c : IsRecordCut left) → c.on ≡ l.on → IsSorted t left =
       λ c here. record_cut left c (λ d e was is.
       let x = got_like left c.found (sym c.same) c.on e is in
       let leaves = l.super c.member (ap (slice_get a.members) (sym here) ∙ c.may.at) d x.0 (ap (slice_get v.disks) (sym here) ∙ was) (ap (slice_get left) (sym here) ∙ x.1) in
@@ -502,7 +442,7 @@ module _ (t : Moment) (at : IsSoundAt t) where
       ]
 
   -- where both superblocks end in the first sector, that one tells which is read
-  recording_short : (left : List Disk) → IsLeftRecordingShort t left → IsSorted t t.failed_at left
+  recording_short : (left : List Disk) → IsLeftRecordingShort t left → IsSorted t left
   recording_short left l =
       let m = l.call.member in
       let w = super_write a m in
@@ -522,12 +462,9 @@ module _ (t : Moment) (at : IsSoundAt t) where
             ]
       ])
 
-  sorted_in : (left : List Disk) → (contents_of left ≡ contents_of v.disks) ⊎ (IsLeftWriting t left ⊎ (IsLeftRecording t left ⊎ IsLeftRecordingShort t left)) → IsSorted t t.failed_at left
-  sorted_in left (inl same) = sorted_like t t.failed_at v.disks left (sym same) between
-  sorted_in left (inr (inl l)) = writing left l
-  sorted_in left (inr (inr (inl l))) = recording left l
-  sorted_in left (inr (inr (inr l))) = recording_short left l
-
-  pub sorted : (failed_at : ℕ) (left : List Disk) → IsLeft t failed_at left → IsSorted t failed_at left
-  sorted failed_at left (inl here) = subst (λ (n : ℕ). IsSorted t n left) (sym here.0) (sorted_in left here.1)
-  sorted failed_at left (inr l) = storing failed_at left l
+  pub sorted : (left : List Disk) → IsLeft t left → IsSorted t left
+  sorted left (inl same) = sorted_like t v.disks left (sym same) between
+  sorted left (inr (inl l)) = stored_sorted l.on l.block l.inside l.next l.call left l.within
+  sorted left (inr (inr (inl l))) = writing left l
+  sorted left (inr (inr (inr (inl l)))) = recording left l
+  sorted left (inr (inr (inr (inr l)))) = recording_short left l

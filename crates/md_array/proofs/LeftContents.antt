@@ -1,20 +1,15 @@
 -- What is read of devices goes by what stands on them.
-use Rattle.std.proofs.Common.{◌≡◌, ℕ, List, length, map, slice_get, set, not, Option, Some, None, refl, sym, ap, ◌∙◌, arith}
+use Rattle.std.proofs.Common.{◌≡◌, ℕ, List, length, map, slice_get, set, Option, Some, None, refl, sym, ap, ◌∙◌, arith}
 use Rattle.std.specs.Prelude.{option_map}
 use Rattle.std.proofs.lemmas.List.{length-map}
 use Rattle.std.proofs.lemmas.Option.{none-some, same_Some, slice_get-map, slice_get_within}
 use Rattle.md_model.specs.Devices.{Stored}
-use Rattle.md_model.specs.Failures as failures
-use Rattle.md_model.specs.Worlds.{World}
-use Rattle.md_array.specs.View.{ArrayView, Disk, MemberView, MirrorView}
+use Rattle.md_array.specs.View.{ArrayView, Disk, MemberView}
 use Rattle.md_array.specs.Left.{contents_of}
-use Rattle.md_array.specs.Rising.{failed, made_due, risen, without}
-use Rattle.md_array.specs.Members.{IsMember, is_degraded}
-use Rattle.md_array.specs.Worlds.{none_in_flight, stored_of, stored_on, world_on}
+use Rattle.md_array.specs.Members.{IsMember}
+use Rattle.md_array.specs.Worlds.{stored_of, stored_on}
 use Rattle.md_array.proofs.Replaced.{read_kept}
-use Rattle.md_array.proofs.WorldsLists.{got_in_map, got_within}
-use Rattle.md_array.proofs.WorldsRisen.{world_risen}
-use Rattle.md_array.proofs.WorldsWithout.{world_without}
+use Rattle.md_array.proofs.WorldsLists.{got_within}
 
 -- what this array's fields read of device k
 abbrev pub read_in : ArrayView → List Disk → ℕ → Stored
@@ -59,8 +54,3 @@ pub read_changed : (a : ArrayView) (k : ℕ) (m n : MemberView) → IsMember a k
 read_changed a k m n at same disks j =
     same_parts a k n (slice_get (set a.members k n) j) (slice_get disks j)
     ∙ read_kept (λ o. stored_on a o (slice_get disks j)) a.members k m n at (same_own a m n (slice_get disks j) same) j
-
-pub read_failed : (a : ArrayView) (k : ℕ) (m : MemberView) → IsMember a k m → (disks : List Disk) (j : ℕ) → read_in (failed a k m) disks j ≡ read_in a disks j
-read_failed a k m at disks j =
-    let full = not (is_degraded (without a k m)) in
-    ap (λ (w : World). w.stored j) (world_without disks (risen a full) none_in_flight k (made_due m) (got_in_map made_due a.members k m at) ∙ ap (λ (x : World). failures.without x k) (world_risen a full disks none_in_flight))

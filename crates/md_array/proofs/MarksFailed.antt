@@ -1,5 +1,5 @@
 -- A write of a sector of marks fails: that is the model's event, whatever it left of the sector.
-use Rattle.std.proofs.Common.{◌≡◌, ℕ, ◌+◌, ◌*◌, ◌<◌, Bool, length, slice_get, Option, Some, refl, sym, ap, ◌∙◌, subst}
+use Rattle.std.proofs.Common.{◌≡◌, ℕ, ◌+◌, ◌*◌, ◌<◌, Bool, length, Option, refl, sym, ap, ◌∙◌, subst}
 use Rattle.md_device.specs.Splice.{SameOutside}
 use Rattle.md_bitmap.proofs.Padded.{length-padded}
 use Rattle.md_members.specs.Areas.{bitmap_sectors}
@@ -12,7 +12,6 @@ use Rattle.md_array.specs.View.{ArrayView, Disk, MemberView, MirrorView}
 use Rattle.md_array.specs.Members.{IsMember}
 use Rattle.md_array.specs.Consistency.{IsConsistent}
 use Rattle.md_array.specs.Events.{Happens}
-use Rattle.md_array.specs.ReadAsKept.{HasOwnSuper}
 use Rattle.md_array.specs.StoringMarks.{FailsToStoreMarks}
 use Rattle.md_array.specs.Worlds.{from_super, stored_of, world_of, world_on}
 use Rattle.md_array.proofs.OneMember.{stored_there}
@@ -68,18 +67,14 @@ module _ (k block : ℕ) (old new : MirrorView) (c : IsConsistent old) (f : Fail
         );
       }
 
-  -- a superblock that is read there is still the member's
-  pub own_beside_marks : (d e : Disk) → slice_get old.disks k ≡ Some d → slice_get new.disks k ≡ Some e → HasOwnSuper a.shared m.superblock d.content → HasOwnSuper a.shared m.superblock e.content
-  own_beside_marks d e was is =
-      let parts = parts_of old c k d m was at in
-      let here : block < bitmap_sectors m.stored.chunks = subst (λ (n : ℕ). block < bitmap_sectors n) (sym parts.count) low in
-      let outside = sector_outside d e (f.fails.disks.tried.outside d e was is) in
-      own_stays a.shared m.superblock d.content e.content (block_beside_marks a m d.content e.content parts block here outside) (log_beside_marks a m d.content e.content parts block here outside)
-
   pub store_marks_fails_happens : Happens old (Event.StoreMarksFails k block) new
   store_marks_fails_happens honest requests in_flight =
       let t = there_is old k m w new.disks c at f.fails.disks.tried in
       does_failing k w old new c f.fails m at requests (Event.StoreMarksFails k block) honest (w, f.fails.disks) in_flight
       (f.may.running, (left k w old new c f.fails m at requests, in_sync_there old.disks a requests k m f.may.in_sync, left_by_marks requests t, member_fails k w old new c f.fails m at requests (in_sync_recorded m.state f.may.in_sync.in_sync)))
       (λ _. refl)
-      own_beside_marks
+      (λ d e was is.
+      let parts = parts_of old c k d m was at in
+      let here : block < bitmap_sectors m.stored.chunks = subst (λ (n : ℕ). block < bitmap_sectors n) (sym parts.count) low in
+      let outside = sector_outside d e (f.fails.disks.tried.outside d e was is) in
+      own_stays a.shared m.superblock d.content e.content (block_beside_marks a m d.content e.content parts block here outside) (log_beside_marks a m d.content e.content parts block here outside))

@@ -39,8 +39,8 @@ module _ (t : Moment) (at_t : IsSoundAt t) (next : MirrorView)
   read = read_in next.array before
 
   -- the moment of which the stop leaves devices, or a torn write
-  pub left : IsSorted t devices.failed_at devices.left
-  left = sorted t at_t devices.failed_at devices.left devices.is_left
+  pub left : IsSorted t devices.left
+  left = sorted t at_t devices.left devices.is_left
 
   abbrev stop : Moment
   stop = left.moment
@@ -116,7 +116,7 @@ module _ (t : Moment) (at_t : IsSoundAt t) (next : MirrorView)
         greatest = λ k own e. let j = opens_again.all k own e in fresh.greatest j.0 own j.1;
       }
 
-  pub reopens : (opened : MirrorView) → IsFit (super_of opened.array.shared) (super_of next.array.shared) devices.failed_at
+  pub reopens : (opened : MirrorView) → IsFit (super_of opened.array.shared) (super_of next.array.shared) t.failed_at
       → Reopens g (super_of opened.array.shared) (history_of stop) (super_of next.array.shared) (world_of next none_in_flight)
   reopens opened fit = record {
     left = made_of;

@@ -49,7 +49,7 @@ log_kept_as v own old new size offset kept there =
     ∙ sym (λ i. part old (512 * from_super (offset i)) (512 * size i))
 
 -- ---- one device
-pub super_was : (old new : List ℕ) (v : Superblock) → block_on new ≡ block_on old → IsSuperOn new v → IsSuperOn old v
+super_was : (old new : List ℕ) (v : Superblock) → block_on new ≡ block_on old → IsSuperOn new v → IsSuperOn old v
 super_was old new v block on = record { fields = subst (λ (b : List ℕ). IsSuper b v) block on.fields; sound = subst NoFault block on.sound }
 
 -- where what is read there was read before
@@ -150,7 +150,7 @@ kept_in a b m n failed_at content same like was = record {
 }
 
 -- any superblock on it is from before a count above the array's
-pub old_enough : (a : ArrayView) (m : MemberView) (count : ℕ) (content : List ℕ) → a.shared.events < count → HasOwnSuper a.shared m.superblock content → IsFromBefore count content
+old_enough : (a : ArrayView) (m : MemberView) (count : ℕ) (content : List ℕ) → a.shared.events < count → HasOwnSuper a.shared m.superblock content → IsFromBefore count content
 old_enough a m count content above has v on = let low = (has v on).no_newer in omega arith
 
 later : (a : ArrayView) (m : MemberView) (failed_at count : ℕ) (content : List ℕ) → a.shared.events < count → IsReadAsKept a m failed_at content → IsReadAsKept a m count content

@@ -17,16 +17,16 @@ use Rattle.md_model.specs.Stops as stops
 use Rattle.md_array.specs.View.{ArrayView, Disk, MemberView}
 use Rattle.md_array.specs.Members.{IsMember}
 use Rattle.md_array.specs.Lives.{AreFoundAgain, IsFoundAgain}
-use Rattle.md_array.specs.ReadAsKept.{IsOwnSuper, IsSuperOn, chunk_size_on}
+use Rattle.md_array.specs.ReadAsKept.{IsOwnSuper, IsReadAsKept, IsSuperOn}
 use Rattle.md_array.specs.Opening.{IsArrayOf}
 use Rattle.md_array.specs.Runs.{Moment}
 use Rattle.md_array.specs.Worlds.{block_on, from_super, geometry_of, header_on, is_listed, stored_of, stored_on, super_in}
-use Rattle.md_array.proofs.LeftAtStops.{IsLeftDevice, parts_on, sorted}
+use Rattle.md_array.proofs.LeftAtStops.{parts_on, sorted}
 use Rattle.md_array.proofs.LeftContents.{read_in}
 use Rattle.md_array.proofs.Moments.{IsSoundAt}
 use Rattle.md_array.proofs.OneMember.{stored_there}
 use Rattle.md_array.proofs.PartsApart.{HasParts, bitmap_alone, block_beside_bitmap, log_beside_bitmap}
-use Rattle.md_array.proofs.ReadAsKept.{own_stays, super_was}
+use Rattle.md_array.proofs.ReadAsKept.{stays}
 use Rattle.md_array.proofs.WorldsBad.{same_listed}
 use Rattle.md_array.proofs.WorldsReadMember.{IsReadMember, count_is, sound_size, width_old}
 use Rattle.md_array.proofs.WorldsLists.{got_same, got_within}
@@ -37,20 +37,6 @@ use Rattle.md_array.proofs.WorldsSupers.{block_spells}
 -- the superblock of a device that was read
 super_on : (content : List ℕ) (v : Superblock) → ReadsSuper content true v → IsSuperOn content v
 super_on content v r = record { fields = block_spells content v r; sound = subst NoFault (r.read.from_device refl) r.sound }
-
--- its bitmap may have been written since
-left_again : (a : ArrayView) (m : MemberView) (failed_at : ℕ) (old new : List ℕ) (d : IsLeftDevice a m failed_at old) → SameOutside (512 * from_super m.superblock.bitmap_offset) (512 * bitmap_sectors m.stored.chunks) old new
-    → chunk_size_on m.superblock new / 512 ≡ chunk_size_on m.superblock old / 512 → IsLeftDevice a m failed_at new
-left_again a m failed_at old new d outside size =
-    let block = block_beside_bitmap a m old new d.parts outside in
-    record {
-      parts = parts_on a m old new outside.size d.parts;
-      super = own_stays a.shared m.superblock old new block (log_beside_bitmap a m old new d.parts outside) d.super;
-      header = elim d.header [
-        | inl width ↦ inl (size ∙ width)
-        | inr gone ↦ inr (λ v on. gone v (super_was old new v block on))
-      ];
-    }
 
 -- ---- devices that are found again, and the array that they make
 module _ (t : Moment) (at_t : IsSoundAt t) (before : List Disk) (is : ArrayView)
@@ -69,7 +55,7 @@ module _ (t : Moment) (at_t : IsSoundAt t) (before : List Disk) (is : ArrayView)
       bitmap_events = (stored_of was f.member f.disk_now.content).bitmap_events;
       bitmap_fits = (stored_of was f.member f.disk_now.content).bitmap_fits;
     }
-    pub left : IsLeftDevice was f.member r.failed_at f.disk_now.content
+    pub read : IsReadAsKept was f.member t.failed_at f.disk_now.content
 
   member_at : (k j : ℕ) → IsFoundAgain was r.left before k j → (n : MemberView) × IsMember is j n
   member_at k j f =
@@ -88,7 +74,7 @@ module _ (t : Moment) (at_t : IsSoundAt t) (before : List Disk) (is : ArrayView)
     pub again : IsMemberAgain k j f n
     again =
         let s = read_at before is o j n (r.honest j) is_member in
-        let d = (sorted t at_t r.failed_at r.left r.is_left).device k f.disk_left f.member f.at_left f.is_member in
+        let d = (sorted t at_t r.left r.is_left).device k f.disk_left f.member f.at_left f.is_member in
         let old = f.disk_left.content in
         record {
           info = s.info;
@@ -96,14 +82,15 @@ module _ (t : Moment) (at_t : IsSoundAt t) (before : List Disk) (is : ArrayView)
           seen = subst (λ (x : Disk). IsReadMember is n s.info x.content) (got_same before j s.disk f.disk_now s.at f.at_now) s.member;
           parts = parts_on was f.member old content f.as_left.outside.size d.parts;
           alike = bitmap_alone was f.member old content d.parts f.as_left.outside;
-          left = left_again was f.member r.failed_at old content d f.as_left.outside (ap (λ (bytes : ℕ). bytes / 512) f.as_left.chunk_size);
+          read = stays was f.member t.failed_at old content (block_beside_bitmap was f.member old content d.parts f.as_left.outside) (log_beside_bitmap was f.member old content d.parts f.as_left.outside)
+              (λ width. ap (λ (bytes : ℕ). bytes / 512) f.as_left.chunk_size ∙ width) d.read;
         }
 
     abbrev info : MemberInfo
     info = again.info
 
     is_own : IsOwnSuper was.shared own content info.superblock
-    is_own = again.left.super info.superblock (super_on content info.superblock again.seen.read.superblock)
+    is_own = again.read.super info.superblock (super_on content info.superblock again.seen.read.superblock)
 
     data_offset : n.superblock.data_offset ≡ own.data_offset
     data_offset = ap (λ (v : Superblock). v.data_offset) again.seen.kept.superblock ∙ is_own.data_offset
@@ -130,13 +117,13 @@ module _ (t : Moment) (at_t : IsSoundAt t) (before : List Disk) (is : ArrayView)
         ∙ is_own.listed sector
 
     -- its header's chunks are as wide as the array's, if the superblock is from after the last failure
-    width : r.failed_at ≤ info.superblock.events → is.chunks.sectors ≡ was.chunks.sectors
+    width : t.failed_at ≤ info.superblock.events → is.chunks.sectors ≡ was.chunks.sectors
     width fresh =
         sym (width_old is n info content again.seen)
         ∙ (λ i. number_at 4 52 (header_on content (from_super (bitmap_offset i))) / 512)
-        ∙ elim again.left.header [
+        ∙ elim again.read.header [
           | inl has ↦ has
-          | inr gone ↦ let old = gone info.superblock (super_on content info.superblock again.seen.read.superblock) in absurd (omega arith)
+          | inr gone ↦ let old = gone.1 info.superblock (super_on content info.superblock again.seen.read.superblock) in absurd (omega arith)
         ]
 
   -- ---- the array is as it was
@@ -164,7 +151,7 @@ module _ (t : Moment) (at_t : IsSoundAt t) (before : List Disk) (is : ArrayView)
       let x = again at_member at_first found_first n.0 n.1 in
       let same : x.info ≡ first.0 = got_same o.infos at_first x.info first.0 x.listed first.1 in
       let events : x.info.superblock.events ≡ is.shared.events = ap (λ (info : MemberInfo). info.superblock.events) same ∙ ap (λ (v : Superblock). v.events) first.2 in
-      let recorded : r.failed_at ≤ is.shared.events = r.recorded in
+      let recorded : t.failed_at ≤ is.shared.events = r.recorded in
       width at_member at_first found_first n.0 n.1 (omega arith)
 
   same_size : is.chunks.size ≡ was.chunks.size

@@ -12,7 +12,7 @@ use Rattle.md_array.specs.Recording.{FailsToRecord, HaltsRecording, Records, sup
 use Rattle.md_array.specs.Requests.{IsPending, among}
 use Rattle.md_array.specs.Runs.{Moment}
 use Rattle.md_array.specs.StopsWithin.{MayAllBeLeft}
-use Rattle.md_array.specs.StoringMarks.{FailsToStoreMarks, StoresMarkSector}
+use Rattle.md_array.specs.StoringMarks.{StoresMarkSector}
 use Rattle.md_array.specs.Worlds.{block_on}
 use Rattle.md_array.specs.WritingMember.{FailsToWrite, HaltsWritingTo, WritesTo}
 
@@ -58,18 +58,18 @@ pub record IsLeftRecordingShort (t : Moment) (left : List Disk) : Type 0 where
   pub old : (d : Disk) → slice_get t.mirror.disks on ≡ Some d → EndsInFirstSector (block_on d.content)
   pub new : EndsInFirstSector (super_write t.mirror.array call.member).bytes
 
--- Within `store_marks`, unless it halts the mirror. Where its write fails, the failure counts as one before the stop.
-pub record IsLeftStoring (t : Moment) (failed_at : ℕ) (left : List Disk) : Type 0 where
+-- Within `store_marks`, where its write is done. One that fails is a failure that awaits its record.
+pub record IsLeftStoring (t : Moment) (left : List Disk) : Type 0 where
   pub on : ℕ
   pub block : ℕ
   pub inside : block < bitmap_sectors t.mirror.array.marks.chunks
   pub next : MirrorView
-  pub call : (StoresMarkSector on block t.mirror next × (failed_at ≡ t.failed_at)) ⊎ (FailsToStoreMarks on block t.mirror next × (failed_at ≡ next.array.shared.events))
+  pub call : StoresMarkSector on block t.mirror next
   pub within : IsLeftWithin t next left
 
--- What a stop leaves at t or within a call from t, and the count after the last failure. A call that is refused, `begin`, `finish`
--- and `clear_idle` leave what was there (`stops_at_steps`).
-abbrev pub IsLeft : Moment → ℕ → List Disk → Type 0
-IsLeft t failed_at left =
-    ((failed_at ≡ t.failed_at) × ((contents_of left ≡ contents_of t.mirror.disks) ⊎ (IsLeftWriting t left ⊎ (IsLeftRecording t left ⊎ IsLeftRecordingShort t left))))
-    ⊎ IsLeftStoring t failed_at left
+-- What a stop leaves at t, or within a call from t. A call that is refused, `begin`, `finish` and `clear_idle` leave what was
+-- there (`stops_at_steps`).
+abbrev pub IsLeft : Moment → List Disk → Type 0
+IsLeft t left =
+    (contents_of left ≡ contents_of t.mirror.disks)
+    ⊎ (IsLeftStoring t left ⊎ (IsLeftWriting t left ⊎ (IsLeftRecording t left ⊎ IsLeftRecordingShort t left)))

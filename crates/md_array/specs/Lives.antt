@@ -40,21 +40,20 @@ pub record IsFoundAgain (a : ArrayView) (left now : List Disk) (k j : ℕ) : Typ
 -- failure.
 pub record AreFoundAgain (t : Moment) (before : List Disk) (shared : Superblock) : Type 0 where
   pub left : List Disk
-  pub failed_at : ℕ  -- the count after the last failure
-  pub is_left : IsLeft t failed_at left
+  pub is_left : IsLeft t left
   pub honest : AreHonest before
   pub from : ℕ → ℕ  -- which of those that were left each is
   pub at : ℕ → Option ℕ  -- and where each of those is now, if it is there
   pub found : (j : ℕ) → j < length before → at (from j) ≡ Some j
   pub again : (k j : ℕ) → at k ≡ Some j → IsFoundAgain t.mirror.array left before k j
-  pub recorded : failed_at ≤ shared.events
+  pub recorded : t.failed_at ≤ shared.events
 
 -- The next mirror is made of such devices, and its superblock is fit.
 pub record IsReopened (opened : MirrorView) (t : Moment) (next : MirrorView) : Type 0 where
   pub before : List Disk
   pub devices : AreFoundAgain t before next.array.shared
   pub opens : IsOpenedFrom before next
-  pub fit : IsFit (super_of opened.array.shared) (super_of next.array.shared) devices.failed_at
+  pub fit : IsFit (super_of opened.array.shared) (super_of next.array.shared) t.failed_at
 
 -- A mirror's life: events, a stop and an opening, events again, and so on. The last opening gave the mirror final.
 abbrev pub MirrorLife : MirrorView → List Event → List (List Event) → MirrorView → Moment → Type 0
@@ -112,9 +111,9 @@ abbrev pub FitsWhenThere : Type 0
 FitsWhenThere =
     (before : List Disk) (m : MirrorView) → IsStart before m → HasOneView (super_of m.array.shared) (world_of m none_in_flight).stored
     → (es : List Event) (t : Moment) → MirrorRun (opened_as m) es t
-    → (found : List Disk) (next : MirrorView) (devices : AreFoundAgain t found next.array.shared) → IsOpenedFrom found next
+    → (found : List Disk) (next : MirrorView) → AreFoundAgain t found next.array.shared → IsOpenedFrom found next
     → m.array.shared.events ≤ next.array.shared.events
-    → IsFit (super_of m.array.shared) (super_of next.array.shared) devices.failed_at
+    → IsFit (super_of m.array.shared) (super_of next.array.shared) t.failed_at
 
 -- An interrupted open of such devices leaves each as it was left, if its superblock has recorded the last failure.
 abbrev pub StaysAsLeft : Type 0

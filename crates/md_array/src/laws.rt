@@ -43,14 +43,14 @@ pub fn opening()
 /// An event is what a call's contract says of it (`Does`): a step that answered Ok, or a write that failed
 /// and made its member faulty. A refused call is none. What a stop within a call leaves is what the call's
 /// own contract gives (`IsLeft`): of its write each sector as before or as written, or any bytes in its range
-/// where the write fails. Two premises are left. A stop within `record` left the old superblock, the new one
-/// or none that can be decoded, unless the write is done and neither superblock has more than 128 roles. And
-/// `store_marks` did not halt the mirror by a write that failed.
+/// where the write fails. A stop within `record` left the old superblock, the new one or none that can be
+/// decoded: a premise, unless the write is done and neither superblock has more than 128 roles. Nothing is said
+/// of a stop within a write of marks that fails.
 ///
 /// An opening after a stop is of devices that were left, in any order, some of them missing (`IsReopened`).
-/// Its superblock is fit, which leaves out a stop while a failure awaits its record, and one within a write of
-/// marks that fails. Openings that were themselves stopped may have written bitmaps between, if no chunk lost
-/// its mark and the header kept its chunk size (`half_opening`). Nothing is said of a mirror once it is halted.
+/// Its superblock is fit, which leaves out a stop while a failure awaits its record. Openings that were
+/// themselves stopped may have written bitmaps between, if no chunk lost its mark and the header kept its chunk
+/// size (`half_opening`). Nothing is said of a mirror once it is halted.
 pub fn every_run()
     // Wherever two members in sync differ, the marks stored on each of them have the chunk.
     ensures covered { AtEachMoment IsCovered }
