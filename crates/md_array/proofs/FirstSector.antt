@@ -1,5 +1,5 @@
 -- A superblock that ends within its first sector is read by that sector.
-use Rattle.std.proofs.Common.{◌≡◌, ℕ, zero, suc, ◌+◌, ◌-◌, ◌*◌, ◌/◌, ◌%◌, ◌<◌, ◌≤◌, ◌⊎◌, ◌==◌, ◌&&◌, cond, not, bit_and, nat_le, nat_lt, slice_index_or, List, [], ◌∷◌, take, drop, map, sum, Option, Some, None, refl, sym, ap, ap₂, ◌∙◌, subst, arith, take-take}
+use Rattle.std.proofs.Common.{◌≡◌, ℕ, zero, suc, ◌+◌, ◌-◌, ◌*◌, ◌%◌, ◌<◌, ◌≤◌, ◌⊎◌, ◌==◌, ◌&&◌, cond, not, bit_and, nat_le, nat_lt, slice_index_or, List, [], ◌∷◌, take, drop, map, sum, Some, None, refl, sym, ap, ap₂, ◌∙◌, subst, arith, take-take}
 use Rattle.std.specs.Int.{w32, cast_signed}
 use Rattle.std.specs.List.{range_with_len}
 use Rattle.std.proofs.lemmas.List.{drop-take}

@@ -1,5 +1,5 @@
 -- What a stop leaves within a call is what one leaves between two calls, or in the midst of a write of data.
-use Rattle.std.proofs.Common.{◌≡◌, ◌≢◌, ℕ, ◌+◌, ◌*◌, ◌/◌, ◌<◌, ◌≤◌, ◌⊎◌, inl, inr, true, false, true≢false, List, [], ◌∷◌, length, set, slice_get, take, Option, Some, None, refl, sym, ap, ◌∙◌, subst, arith, length-set}
+use Rattle.std.proofs.Common.{◌≡◌, ◌≢◌, ℕ, ◌+◌, ◌*◌, ◌/◌, ◌<◌, ◌≤◌, ◌⊎◌, inl, inr, false, true≢false, List, [], ◌∷◌, length, set, slice_get, take, Option, Some, None, refl, sym, ap, ◌∙◌, subst, arith, length-set}
 use Rattle.std.proofs.lemmas.Option.{same_Some, slice_get_within}
 use Rattle.md_device.specs.Device.{written}
 use Rattle.md_device.specs.Splice.{SameOutside}
@@ -17,12 +17,11 @@ use Rattle.md_model.specs.Events.{Event}
 use Rattle.md_model.specs.Stops as stops
 use Rattle.md_model.proofs.Cases.{none_some}
 use Rattle.md_model.proofs.Puts.{by_same}
-use Rattle.md_array.specs.View.{ArrayView, Disk, MemberView, MirrorView, PendingView}
+use Rattle.md_array.specs.View.{ArrayView, Disk, MemberView, MirrorView}
 use Rattle.md_array.specs.Members.{IsMember}
 use Rattle.md_array.specs.DeviceChanges.{LeavesOn, StaysHonest}
 use Rattle.md_array.specs.StopsWithin.{MayAllBeLeft}
 use Rattle.md_array.specs.DiskWrites.{IsFailed, IsTried, IsWritten}
-use Rattle.md_array.specs.Events.{IsOldNewOrNone}
 use Rattle.md_array.specs.Left.{IsLeft, IsLeftRecording, IsLeftRecordingShort, IsLeftWriting, contents_of}
 use Rattle.md_array.specs.ReadAsKept.{HasOwnSuper, IsReadAsKept}
 use Rattle.md_array.specs.Recording.{MayRecord, Records, super_write}

@@ -84,3 +84,4 @@ pub mod Moments
 pub mod LeftContents
 pub mod FirstSector
 pub mod LeftAtStops
+pub mod BitmapArea

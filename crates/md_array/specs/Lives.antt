@@ -12,7 +12,7 @@ use Rattle.md_model.specs.Runs.{History}
 use Rattle.md_model.specs.Stops.{IsFit}
 use Rattle.md_array.specs.View.{ArrayView, Disk, MemberView, MirrorView}
 use Rattle.md_array.specs.Members.{IsMember}
-use Rattle.md_array.specs.HalfOpened.{IsHalfMarked}
+use Rattle.md_array.specs.HalfOpened.{IsHalfOpened}
 use Rattle.md_array.specs.Left.{IsLeft}
 use Rattle.md_array.specs.Opening.{IsArrayOf, IsOpenedFrom}
 use Rattle.md_array.specs.ReadAsKept.{AreReadAsKept, chunk_size_on}
@@ -121,5 +121,6 @@ StaysAsLeft =
     (before : List Disk) (m : MirrorView) → IsStart before m
     → (es : List Event) (rest : List (List Event)) (final : MirrorView) (last : Moment) → MirrorLife m es rest final last
     → (found : List Disk) (a : ArrayView) (devices : AreFoundAgain last found a.shared) → IsArrayOf found a
-    → (k j : ℕ) (at : devices.at k ≡ Some j) (n : MemberView) (new : Disk) → IsMember a j n → IsHalfMarked a n (devices.again k j at).disk_now new
-    → IsAsLeft last.mirror.array (devices.again k j at).member (devices.again k j at).disk_left.content new.content
+    → (left : List (List ℕ)) → IsHalfOpened a found left
+    → (k j : ℕ) (at : devices.at k ≡ Some j) (c : List ℕ) → slice_get left j ≡ Some c
+    → IsAsLeft last.mirror.array (devices.again k j at).member (devices.again k j at).disk_left.content c

@@ -87,9 +87,10 @@ pub fn fitness()
 {}
 
 /// An interrupted open of a mirror's devices, at any moment of its life, leaves each as it was left, so that
-/// the next open may find it. It was stopped while it wrote, or one of its writes failed. Where that was the
-/// write of a bitmap's first sector, that write has to have left the header. The superblock that the open went
-/// by has to have recorded the last failure.
+/// the next open may find it. It was stopped, or one of its writes failed: what that leaves of a device is what
+/// the contract of `open` gives. A failed write of a bitmap's first sector has to have left the header. The
+/// superblock that the open went by has to have recorded the last failure. An open that makes no array leaves
+/// every device untouched, by its contract.
 pub fn half_opening()
     ensures as_left { StaysAsLeft }
 {}
