@@ -81,3 +81,8 @@ pub mod WriteKeeps
 pub mod WriteToMember
 pub mod StopsAtSteps
 pub mod StopsAsFailed
+pub mod Moments
+pub mod LeftContents
+pub mod FirstSector
+pub mod LeftAtStops
+pub mod BitmapArea

@@ -32,4 +32,5 @@ pub mod Runs
 pub mod InTurn
 pub mod WholeCalls
 pub mod Lives
+pub mod Left
 pub mod StopsWithin

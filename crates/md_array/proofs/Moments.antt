@@ -1,0 +1,43 @@
+-- What holds of a mirror at each moment of a run.
+use Rattle.std.proofs.Common.{◌≡◌, List, [], ◌∷◌, ◌++◌, sym, ap, ◌∙◌, subst}
+use Rattle.std.proofs.lemmas.Option.{none-some}
+use Rattle.md_model.specs.Events.{Event}
+use Rattle.md_array.specs.View.{Disk, MirrorView}
+use Rattle.md_array.specs.Consistency.{IsConsistent}
+use Rattle.md_array.specs.Opening.{IsOpenedFrom}
+use Rattle.md_array.specs.ReadAsKept.{AreReadAsKept}
+use Rattle.md_array.specs.Requests.{AreInFlight}
+use Rattle.md_array.specs.Runs.{MirrorRun, Moment, opened_as, then_as}
+use Rattle.md_array.specs.Worlds.{AreHonest, geometry_of}
+use Rattle.md_array.proofs.Consistent.{consistent}
+use Rattle.md_array.proofs.Honesty.{opened_honest}
+use Rattle.md_array.proofs.WorldsOpenedFrom.{opened_read}
+
+pub record IsSoundAt (t : Moment) : Type 0 where
+  pub sound : IsConsistent t.mirror
+  pub read : AreReadAsKept t.mirror t.failed_at
+  pub honest : AreHonest t.mirror.disks
+  pub in_flight : AreInFlight t.mirror.array t.requests
+
+pub sound_when_opened : (before : List Disk) (m : MirrorView) → AreHonest before → IsOpenedFrom before m → IsSoundAt (opened_as m)
+sound_when_opened before m honest opened = record {
+  sound = consistent before m opened;
+  read = opened_read before m honest opened;
+  honest = opened_honest before m honest opened;
+  in_flight = λ n p is. absurd (none-some p is);
+}
+
+-- it goes along the events
+pub run_keeps : (es : List Event) (t last : Moment) → MirrorRun t es last → IsSoundAt t → IsSoundAt last
+run_keeps [] t last r at = subst IsSoundAt (sym r) at
+run_keeps (e ∷ es) t last r at = run_keeps es (then_as t e r.0 r.1) last r.3
+    (record { sound = r.2.sound; read = r.2.read t.failed_at at.read; honest = r.2.honest; in_flight = r.2.in_flight })
+
+pub geometry_kept : (es : List Event) (t last : Moment) → MirrorRun t es last → geometry_of last.mirror.array ≡ geometry_of t.mirror.array
+geometry_kept [] t last r = ap (λ (x : Moment). geometry_of x.mirror.array) r
+geometry_kept (e ∷ es) t last r = geometry_kept es (then_as t e r.0 r.1) last r.3 ∙ r.2.geometry
+
+-- one run after another
+pub run_then : (es more : List Event) (t mid last : Moment) → MirrorRun t es mid → MirrorRun mid more last → MirrorRun t (es ++ more) last
+run_then [] more t mid last r s = subst (λ (x : Moment). MirrorRun x more last) r s
+run_then (e ∷ es) more t mid last r s = (r.0, r.1, r.2, run_then es more (then_as t e r.0 r.1) mid last r.3 s)
