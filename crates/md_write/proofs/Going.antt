@@ -4,7 +4,9 @@ use Rattle.md_model.specs.Events.{Event}
 use Rattle.md_bitmap.specs.Marks.{Bitmap, is_set}
 use Rattle.md_inflight.specs.Inflight.{InflightList, lookup}
 use Rattle.md_array.specs.declared.extent.Extent.{Extent}
-use Rattle.md_array.specs.View.{ArrayView, MirrorView, PendingView}
+use Rattle.md_assembly.specs.States.{is_in_sync}
+use Rattle.md_array.specs.View.{ArrayView, MemberView, MirrorView, PendingView}
+use Rattle.md_array.specs.Members.{IsInSync}
 use Rattle.md_array.specs.Consistency.{IsConsistent}
 use Rattle.md_array.specs.InTurn.{InTurn, IsInOrder, Requests}
 use Rattle.md_array.specs.Requests.{AreInFlight, IsPending, among}
@@ -115,23 +117,28 @@ halts_on F G H IsOf old mid new g h = record {
 -- ---- marks and records
 pub ready_refl : (a : ArrayView) → AllStayReady a a
 ready_refl a = record {
-  each = λ k n in_sync. record { before = n; in_sync = in_sync; marked = λ c set was. was; recorded = λ x. x };
+  each = λ k n at. record { before = n; member = at; state = refl; marked = λ c set was. was; recorded = λ x. x };
   halted = refl;
 }
 
 pub ready_on : (a b c : ArrayView) → b.marks ≡ a.marks → AllStayReady a b → AllStayReady b c → AllStayReady a c
 ready_on a b c same g h = record {
-  each = λ k n in_sync.
-      let late : StaysReady b c k n = h.each k n in_sync in
-      let early : StaysReady a b k late.before = g.each k late.before late.in_sync in
+  each = λ k n at.
+      let late : StaysReady b c k n = h.each k n at in
+      let early : StaysReady a b k late.before = g.each k late.before late.member in
       record {
         before = early.before;
-        in_sync = early.in_sync;
+        member = early.member;
+        state = early.state ∙ late.state;
         marked = λ x set was. late.marked x (ap (λ (m : Bitmap). is_set m.bytes x) same ∙ set) (early.marked x set was);
         recorded = λ x. late.recorded (early.recorded x);
       };
   halted = h.halted ∙ g.halted;
 }
+
+-- who is in sync was so
+pub was_in_sync : (a b : ArrayView) (k : ℕ) (n : MemberView) (s : StaysReady a b k n) → IsInSync b k n → IsInSync a k s.before
+was_in_sync a b k n s in_sync = record { member = s.member; in_sync = ap is_in_sync s.state ∙ in_sync.in_sync }
 
 pub stores_nowhere : (m : MirrorView) → IsConsistent m → Stores m m
 stores_nowhere m sound = record { goes = goes_nowhere alone IsStoring m sound; ready = ready_refl m.array }

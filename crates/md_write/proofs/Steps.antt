@@ -42,20 +42,16 @@ module _ (a b : ArrayView) (k : ℕ) (m n : MemberView) (at : IsMember a k m) (s
 
   pub stay_ready : ((c : ℕ) → is_set a.marks.bytes c ≡ true → is_set m.stored.bytes c ≡ true → is_set n.stored.bytes c ≡ true) → (IsNotDue m → IsNotDue n) → AllStayReady a b
   stay_ready marks due = record {
-    each = λ j x in_sync.
-        of_set a.members k j n x (ap (λ (y : ArrayView). slice_get y.members j) (sym is) ∙ in_sync.member)
+    each = λ j x there.
+        of_set a.members k j n x (ap (λ (y : ArrayView). slice_get y.members j) (sym is) ∙ there)
         (λ same it. record {
           before = m;
-          in_sync = record { member = ap (slice_get a.members) same ∙ at; in_sync = ap is_in_sync (sym state ∙ ap (λ (y : MemberView). y.state) (sym it)) ∙ in_sync.in_sync };
+          member = ap (slice_get a.members) same ∙ at;
+          state = sym state ∙ ap (λ (y : MemberView). y.state) (sym it);
           marked = λ c set was. ap (λ (y : MemberView). is_set y.stored.bytes c) it ∙ marks c set was;
           recorded = λ not_due. ap (λ (y : MemberView). y.due) it ∙ due not_due;
         })
-        (λ apart there. record {
-          before = x;
-          in_sync = record { member = there; in_sync = in_sync.in_sync };
-          marked = λ c set was. was;
-          recorded = λ not_due. not_due;
-        });
+        (λ apart other. record { before = x; member = other; state = refl; marked = λ c set was. was; recorded = λ not_due. not_due });
     halted = ap (λ (x : ArrayView). x.halted) is;
   }
 
@@ -187,7 +183,7 @@ module _ (old new : MirrorView) (k : ℕ) (sound : IsConsistent new) (pending : 
           pending = pending;
         };
         ready = stay_ready old.array new.array k r.member n r.may.at refl r.array (λ c set was. was) (λ x. refl);
-        done = λ m in_sync. ap (λ (y : MemberView). y.due) (now_at old.array new.array k r.member n r.may.at refl r.array m in_sync.member);
+        done = λ m there. ap (λ (y : MemberView). y.due) (now_at old.array new.array k r.member n r.may.at refl r.array m there);
       }
 
   record_in_use : (f : FailsToRecord k old new) → is_recorded f.fails.array.member.state ≡ true

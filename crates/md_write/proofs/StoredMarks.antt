@@ -14,7 +14,7 @@ use Rattle.md_array.specs.InTurn.{IsSectorDue}
 use Rattle.md_array.specs.WritingMember.{HasMarksFrom, IsNotDue}
 use Rattle.md_write.specs.declared.stop.Stop.{Stop}
 use Rattle.md_write.specs.Progress.{alone, AreMarked, HasMarksIn, IsSameArray, IsStoring, StaysReady, Stores, StoresAll, StoresAt, StoresBelow, StoresOn, StopsStoring}
-use Rattle.md_write.proofs.Going.{goes_step, stores_nowhere, stores_on}
+use Rattle.md_write.proofs.Going.{goes_step, stores_nowhere, stores_on, was_in_sync}
 use Rattle.md_write.proofs.Steps.{now_at}
 
 -- ---- the members, one after another
@@ -45,8 +45,8 @@ module _ (Done : MemberView → Type 0) where
         by_same i k
         (λ same. h.done n (subst (λ (j : ℕ). IsInSync new.array j n) same in_sync))
         (λ apart.
-        let s : StaysReady mid.array new.array i n = h.stores.ready.each i n in_sync in
-        lasting.lasts mid.array new.array i n g.stores.goes.array.marks s (g.done i s.before (omega arith) s.in_sync));
+        let s : StaysReady mid.array new.array i n = h.stores.ready.each i n in_sync.member in
+        lasting.lasts mid.array new.array i n g.stores.goes.array.marks s (g.done i s.before (omega arith) (was_in_sync mid.array new.array i n s in_sync)));
   }
 
   pub below_all : (k : ℕ) (old new : MirrorView) → length new.array.members ≤ k → StoresBelow k Done old new → StoresAll Done old new
@@ -59,8 +59,8 @@ module _ (Done : MemberView → Type 0) where
   pub last_on : (old mid new : MirrorView) → IsLasting old.array.marks Done → mid.array.marks ≡ old.array.marks → ((k : ℕ) (m : MemberView) → IsInSync mid.array k m → Done m) → Stores mid new
       → (k : ℕ) (m : MemberView) → IsInSync new.array k m → Done m
   last_on old mid new lasting same all h k m in_sync =
-      let s : StaysReady mid.array new.array k m = h.ready.each k m in_sync in
-      lasting.lasts mid.array new.array k m same s (all k s.before s.in_sync)
+      let s : StaysReady mid.array new.array k m = h.ready.each k m in_sync.member in
+      lasting.lasts mid.array new.array k m same s (all k s.before (was_in_sync mid.array new.array k m s in_sync))
 
 -- what the observers tell of a member
 pub told : {X : Type 0} (f : MemberView → X) (a : ArrayView) (k : ℕ) (m : MemberView) (x : X) → option_map f (slice_get a.members k) ≡ Some x → IsMember a k m → f m ≡ x
@@ -94,8 +94,8 @@ module _ (k first end : ℕ) where
         by_same (block_of c) block
         (λ here. h.done m in_sync c low high here)
         (λ apart.
-        let s : StaysReady mid.array new.array k m = h.stores.ready.each k m in_sync in
-        s.marked c (ap (λ (x : Bitmap). is_set x.bytes c) g.stores.goes.array.marks ∙ are.marked c low high) (g.done s.before s.in_sync c low high (omega arith)));
+        let s : StaysReady mid.array new.array k m = h.stores.ready.each k m in_sync.member in
+        s.marked c (ap (λ (x : Bitmap). is_set x.bytes c) g.stores.goes.array.marks ∙ are.marked c low high) (g.done s.before (was_in_sync mid.array new.array k m s in_sync) c low high (omega arith)));
   }
 
   pub up_all : (block : ℕ) (old new : MirrorView) → block_of (end - 1) < block → StoresUpTo k first end block old new → StoresAt k (HasMarksFrom first end) old new

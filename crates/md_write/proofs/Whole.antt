@@ -1,5 +1,5 @@
 -- A whole write is put together.
-use Rattle.std.proofs.Common.{◌≡◌, ◌≢◌, ℕ, ◌+◌, ◌-◌, ◌/◌, ◌<◌, ◌≤◌, Bool, true, false, cond, ◌||◌, ◌&&◌, nat_le, List, [], ◌∷◌, ◌++◌, length, Option, None, Some, refl, sym, ap, ◌∙◌, subst, arith, inl}
+use Rattle.std.proofs.Common.{◌≡◌, ◌≢◌, ℕ, ◌+◌, ◌-◌, ◌/◌, ◌<◌, ◌≤◌, Bool, true, false, cond, ◌||◌, ◌&&◌, nat_le, List, [], ◌∷◌, ◌++◌, length, slice_get, Option, None, Some, refl, sym, ap, ◌∙◌, subst, arith, inl}
 use Rattle.std.proofs.Math.Nat.{div-mul-le_self, le-div_iff_mul-le}
 use Rattle.std.proofs.lemmas.Bool.{le-leb}
 use Rattle.std.proofs.lemmas.Option.{none-some}
@@ -284,6 +284,7 @@ module _ (sector : ℕ) (bytes : List ℕ) (old begun : MirrorView) (p : Pending
             ∙ ap (λ m. without (old.array.requests.entries ++ (old.array.requests.next, record { start = sector; sectors = sectors }) ∷ []) m) (same_n ∙ number_is)
             ∙ without_last old.array.requests.next _ old.array.requests.entries b.fresh;
         resynced = ap (λ (x : ArrayView). x.resynced) f.array ∙ g.goes.array.resynced ∙ resynced_is;
+        recorded = λ i m at. g.recorded i m (ap (λ (x : ArrayView). slice_get x.members i) (sym f.array) ∙ at);
         marked = subst (HasMarked old.array sector sectors) (sym (ap (λ (x : ArrayView). x.marks) f.array ∙ g.goes.array.marks)) b.marked;
       }
 

@@ -18,7 +18,7 @@ use Rattle.md_array.specs.Requests.{IsPending, among, has_written, request_of}
 use Rattle.md_array.specs.WritingMember.{HasMarksFrom, HasMarksOf, IsNotDue, RefusesWriteMember, WritesTo}
 use Rattle.md_write.specs.declared.stop.Stop.{Stop}
 use Rattle.md_write.specs.declared.stop.Stop.TheVariants as stop
-use Rattle.md_write.specs.Progress.{AreChunksOf, GoesOn, HaltsAfter, HaltsOn, IsLater, IsOfRequest, IsReadyToFinish, IsSameArray, LosesMember, LosesOn, Stores, StoresAll, StopsStoring, StopsWriting, WritesAt, WritesBelow, WritesOn, WritesToAll}
+use Rattle.md_write.specs.Progress.{AllRecorded, RecordsAll, AreChunksOf, GoesOn, HaltsAfter, HaltsOn, IsLater, IsOfRequest, IsReadyToFinish, IsSameArray, LosesMember, LosesOn, Stores, StoresAll, StopsStoring, StopsWriting, WritesAt, WritesBelow, WritesOn, WritesToAll}
 use Rattle.md_write.proofs.Going.{goes_beside, goes_nowhere, goes_on, goes_step, halts_beside, halts_on, later_on, later_refl, loses_on, same_refl, stores_on}
 use Rattle.md_write.proofs.StoredMarks.{last_on, marked_still, marks_last, records_last}
 use Rattle.md_write.proofs.Steps.{failure_loses, failure_step, in_use_there, never_halted, recorded_in_sync}
@@ -237,7 +237,10 @@ chunks_later a b p q first end same later c =
     })
 
 module _ (p q : PendingView) (first end : ℕ) (a b c d e : MirrorView) (is : IsPending a.array p) (chunks : AreChunksOf a.array p first end)
-    (x : StoresAll (HasMarksFrom first end) a b) (y : StoresAll IsNotDue b c) (z : Stores c d) where
+    (x : StoresAll (HasMarksFrom first end) a b) (y : StoresAll IsNotDue b c) (others : RecordsAll c d) where
+  abbrev z : Stores c d
+  z = others.stores
+
   abbrev all : Stores a d
   all = stores_on a c d (stores_on a b c x.stores y.stores) z
 
@@ -261,5 +264,6 @@ module _ (p q : PendingView) (first end : ℕ) (a b c d e : MirrorView) (is : Is
       written = w.done;
       recorded = recorded_on p q d e w.writes recorded_then;
     };
+    recorded = subst AllRecorded (sym w.writes.array) others.done;
   }
   writes_or_stops run (Err s) w = stops_later p p q a d e s (goes_beside p a d is all.goes) (later_refl p) all.ready.halted w

@@ -5,7 +5,7 @@ use Rattle.md_model.specs.Events.{Event}
 use Rattle.md_bitmap.specs.Marks.{is_set}
 use Rattle.md_array.specs.View.{ArrayView, MemberView, MirrorView, PendingView}
 use Rattle.md_array.specs.Consistency.{IsConsistent}
-use Rattle.md_array.specs.Members.{IsInSync, is_recorded}
+use Rattle.md_array.specs.Members.{IsInSync, IsMember, is_recorded}
 use Rattle.md_array.specs.Requests.{AreInFlight, IsPending, among, has_written, request_sectors}
 use Rattle.md_array.specs.StoringMarks.{StoresMarkSector}
 use Rattle.md_array.specs.Events.{Does}
@@ -69,16 +69,17 @@ pub record GoesOn (F G : Requests → Requests) (IsOf : Event → Type 0) (old n
   pub sound : IsConsistent new
   pub pending : (o : PendingView) → IsPending old.array o → IsPending new.array o
 
--- a member in sync was so before, and has not lost what it had
+-- a member is what it was, and has not lost what it had
 pub record StaysReady (old new : ArrayView) (k : ℕ) (n : MemberView) : Type 0 where
   pub before : MemberView
-  pub in_sync : IsInSync old k before
+  pub member : IsMember old k before
+  pub state : before.state ≡ n.state
   pub marked : (c : ℕ) → is_set old.marks.bytes c ≡ true → is_set before.stored.bytes c ≡ true → is_set n.stored.bytes c ≡ true
   pub recorded : IsNotDue before → IsNotDue n
 
 -- nothing failed
 pub record AllStayReady (old new : ArrayView) : Type 0 where
-  pub each : (k : ℕ) (n : MemberView) → IsInSync new k n → StaysReady old new k n
+  pub each : (k : ℕ) (n : MemberView) → IsMember new k n → StaysReady old new k n
   pub halted : new.halted ≡ old.halted
 
 -- a member failed
@@ -122,6 +123,26 @@ pub record StoresAll (Done : MemberView → Type 0) (old new : MirrorView) : Typ
   pub stores : Stores old new
   pub done : (i : ℕ) (m : MemberView) → IsInSync new.array i m → Done m
 
+-- its superblock is not due, if it is one that is kept up to date
+abbrev pub IsRecorded : MemberView → Type 0
+IsRecorded m = is_recorded m.state ≡ true → IsNotDue m
+
+-- of member k it holds, in sync or not
+pub record RecordsAt (k : ℕ) (old new : MirrorView) : Type 0 where
+  pub stores : Stores old new
+  pub done : (m : MemberView) → IsMember new.array k m → IsRecorded m
+
+pub record RecordsBelow (k : ℕ) (old new : MirrorView) : Type 0 where
+  pub stores : Stores old new
+  pub done : (i : ℕ) (m : MemberView) → i < k → IsMember new.array i m → IsRecorded m
+
+abbrev pub AllRecorded : ArrayView → Type 0
+AllRecorded a = (i : ℕ) (m : MemberView) → IsMember a i m → IsRecorded m
+
+pub record RecordsAll (old new : MirrorView) : Type 0 where
+  pub stores : Stores old new
+  pub done : AllRecorded new.array
+
 -- a sector of the bitmap is stored on member k
 pub record StoresOn (k block : ℕ) (old new : MirrorView) : Type 0 where
   pub step : StepsBy alone alone IsStoring (Event.StoreMarks k block) old new
@@ -132,7 +153,7 @@ pub record StoresOn (k block : ℕ) (old new : MirrorView) : Type 0 where
 pub record RecordsOn (k : ℕ) (old new : MirrorView) : Type 0 where
   pub step : StepsBy alone alone IsStoring (Event.Record k) old new
   pub ready : AllStayReady old.array new.array
-  pub done : (m : MemberView) → IsInSync new.array k m → IsNotDue m
+  pub done : (m : MemberView) → IsMember new.array k m → IsNotDue m
 
 -- or the write of it failed
 pub record LosesRecording (k : ℕ) (old new : MirrorView) : Type 0 where
@@ -205,3 +226,4 @@ pub record IsReadyToFinish (p q : PendingView) (old new : MirrorView) : Type 0 w
   pub later : IsLater p q
   pub still : IsPending new.array q
   pub may : MayFinish new.array q
+  pub recorded : AllRecorded new.array

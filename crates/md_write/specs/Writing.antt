@@ -10,7 +10,7 @@ use Rattle.md_array.specs.Beginning.{Begins, HasMarked, RefusesBegin}
 use Rattle.md_array.specs.Requests.{AreInFlight, among, request_of}
 use Rattle.md_array.specs.InTurn.{AllLeftWhole, AllOf, HaltsAt, Leads, Requests}
 use Rattle.md_array.specs.Worlds.{AreHonest, geometry_of, world_of}
-use Rattle.md_write.specs.Progress.{IsOfRequest}
+use Rattle.md_write.specs.Progress.{AllRecorded, IsOfRequest}
 
 -- Every member in sync holds the request's bytes at its sectors, those that it lists among them, and elsewhere each holds what it
 -- held. A content that the members in sync held before, they hold with the request's bytes.
@@ -41,6 +41,8 @@ pub record Writes (sector : ℕ) (bytes : List ℕ) (old new : MirrorView) : Typ
   pub entries : new.array.requests.entries ≡ old.array.requests.entries
   pub resynced : new.array.resynced ≡ old.array.resynced
   pub marked : HasMarked old.array sector (length bytes / 512) new.array.marks
+  -- no superblock is due, of spares and recovering members neither
+  pub recorded : AllRecorded new.array
 
 -- The request began, and after some of its events a write failed that halted the mirror.
 pub record HaltsWrite (sector : ℕ) (bytes : List ℕ) (old new : MirrorView) : Type 0 where

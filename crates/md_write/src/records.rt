@@ -5,7 +5,7 @@ ghost use Rattle.md_array.specs.Consistency.{IsConsistent};
 ghost use Rattle.md_array.specs.Members.{AllInSync, IsInSync, IsMember, is_recorded};
 ghost use Rattle.md_array.specs.View.{MemberView};
 ghost use Rattle.md_array.specs.WritingMember.{IsNotDue};
-ghost use Rattle.md_write.specs.Progress.{RecordsOn, Stores, StoresAll, StoresAt, StopsRecording, StopsStoring};
+ghost use Rattle.md_write.specs.Progress.{RecordsAll, RecordsAt, RecordsOn, StoresAll, StoresAt, StopsRecording, StopsStoring};
 
 use crate::sectors::store_sector;
 use crate::stop::Stop;
@@ -52,7 +52,7 @@ fn store_other_record<D: Device + Drop>(mirror: &mut Mirror<D>, k: usize) -> Res
     requires sound { IsConsistent mirror.old }
     requires running { mirror.old.array.halted ≡ false }
     requires recorded { AllInSync mirror.old.array IsNotDue }
-    ensures { MatchResult result (λ _. Stores mirror.old mirror.new) (StopsStoring mirror.old mirror.new) }
+    ensures { MatchResult result (λ _. RecordsAt k mirror.old mirror.new) (StopsStoring mirror.old mirror.new) }
 {
     let state = mirror.state(k);
     if state.is_in_sync() || !is_recorded(state) || !mirror.due(k) {
@@ -80,7 +80,7 @@ pub(crate) fn store_other_records<D: Device + Drop>(mirror: &mut Mirror<D>) -> R
     requires sound { IsConsistent mirror.old }
     requires running { mirror.old.array.halted ≡ false }
     requires recorded { AllInSync mirror.old.array IsNotDue }
-    ensures { MatchResult result (λ _. Stores mirror.old mirror.new) (StopsStoring mirror.old mirror.new) }
+    ensures { MatchResult result (λ _. RecordsAll mirror.old mirror.new) (StopsStoring mirror.old mirror.new) }
 {
     for k in 0..mirror.members() {
         if let Err(stop) = store_other_record(mirror, k) {

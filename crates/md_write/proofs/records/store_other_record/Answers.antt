@@ -1,10 +1,24 @@
-use Rattle.md_write.proofs.Going.{stores_nowhere}
 use Rattle.md_write.proofs.StoredMarks.{told}
-use Rattle.md_write.proofs.StoredRecords.{other_due, other_or_stops}
+use Rattle.md_write.proofs.StoredRecords.{other_due, other_or_stops, recorded_nothing}
 use Rattle.md_write.proofs.records.store_other_record.Goals as goal
+use Rattle.md_write.proofs.records.store_other_record.Goals.{then-is_in_sync-via-then-is_in_sync, then-is_in_sync-via-else-is_in_sync+then-not-is_recorded, then-is_in_sync-via-else-is_in_sync+else-not-is_recorded+then-not-due}
 
 pub returns-then-is_in_sync : goal.returns-then-is_in_sync
-returns-then-is_in_sync g c = stores_nowhere c.args.mirror.now c.requires.sound
+returns-then-is_in_sync g c =
+    let a = c.args.mirror.now.array in
+    let k = c.args.k in
+    recorded_nothing k c.args.mirror.now c.requires.sound
+    (λ n at active.
+    let state = told (λ x. x.state) a k n c.state-state.result c.state-state.ensures at in
+    let answer = c.is_in_sync.ensures in
+    elim c.then-is_in_sync.branch [
+      | then-is_in_sync-via-then-is_in_sync w ↦ c.requires.recorded k n (record { member = at; in_sync = let yes = w.if-is_in_sync.true in cc })
+      | then-is_in_sync-via-else-is_in_sync+then-not-is_recorded w ↦ let tells = w.is_recorded.ensures in let out = w.if-not-is_recorded.true in absurd cc
+      | then-is_in_sync-via-else-is_in_sync+else-not-is_recorded+then-not-due w ↦
+          let due = told (λ x. x.due) a k n w.due.result w.due.ensures at in
+          let out = w.if-not-due.true in
+          cc
+    ])
 
 pub store_record-requires-clause-active : goal.store_record-requires-clause-active
 store_record-requires-clause-active g c m at =

@@ -25,6 +25,7 @@ returns-in-Ok g c =
       later = later_on p q r c.loop.invariant.later w.later;
       still = w.still;
       may = w.may;
+      recorded = w.recorded;
     }
 
 pub returns-in-Err-Halted : goal.returns-in-Err-Halted

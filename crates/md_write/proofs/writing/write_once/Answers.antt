@@ -40,16 +40,16 @@ returns-in-Err-store_other_records g c =
     (stores_on a c.store_marks.new.mirror c.store_records.new.mirror c.in_default.ensures.stores c.in_default-store_records.ensures.stores) c.in-Err-store_other_records.ensures)
 
 pub write_to_members-requires-clause-sound : goal.write_to_members-requires-clause-sound
-write_to_members-requires-clause-sound g c = c.in_default-store_other_records.ensures.goes.sound
+write_to_members-requires-clause-sound g c = c.in_default-store_other_records.ensures.stores.goes.sound
 
 pub write_to_members-requires-clause-pending : goal.write_to_members-requires-clause-pending
 write_to_members-requires-clause-pending g c =
     let p = c.args.pending.now in
-    c.in_default-store_other_records.ensures.goes.pending p (c.in_default-store_records.ensures.stores.goes.pending p (c.in_default.ensures.stores.goes.pending p c.requires.pending))
+    c.in_default-store_other_records.ensures.stores.goes.pending p (c.in_default-store_records.ensures.stores.goes.pending p (c.in_default.ensures.stores.goes.pending p c.requires.pending))
 
 pub write_to_members-requires-clause-running : goal.write_to_members-requires-clause-running
 write_to_members-requires-clause-running g c =
-    c.in_default-store_other_records.ensures.ready.halted ∙ c.in_default-store_records.ensures.stores.ready.halted ∙ c.in_default.ensures.stores.ready.halted ∙ c.requires.running
+    c.in_default-store_other_records.ensures.stores.ready.halted ∙ c.in_default-store_records.ensures.stores.ready.halted ∙ c.in_default.ensures.stores.ready.halted ∙ c.requires.running
 
 pub write_to_members-requires-clause-marked : goal.write_to_members-requires-clause-marked
 write_to_members-requires-clause-marked g c =
