@@ -32,3 +32,4 @@ pub mod Runs
 pub mod Lives
 pub mod Left
 pub mod StopsWithin
+pub mod SmallLife
