@@ -88,8 +88,8 @@ module _ (one other : List ℕ) (same : take 512 one ≡ take 512 other) where
         let n = number_at 4 220 other in
         ap (checksum_of one) count
         ∙ ap₂ (λ (x y : ℕ). folded (x + y))
-            (ap sum (same_over (word_at one) (word_at other) 0 (word_count n) (λ k low high. word k (omega arith))))
-            (ap (λ (x : ℕ). cond (n % 2 == 1) x 0) (number 2 (256 + 2 * (n - 1)) (omega arith)))
+        (ap sum (same_over (word_at one) (word_at other) 0 (word_count n) (λ k low high. word k (omega arith))))
+        (ap (λ (x : ℕ). cond (n % 2 == 1) x 0) (number 2 (256 + 2 * (n - 1)) (omega arith)))
 
     fault : fault_of one ≡ fault_of other
     unfolding fault_of

@@ -17,17 +17,16 @@ use Rattle.md_writes.proofs.Frames.{outside_around, outside_none, outside_then}
 use Rattle.md_writes.proofs.Stored.{stored_all, stored_cut}
 use Rattle.md_model.specs.Sectors.{chunk_of}
 use Rattle.md_model.specs.Devices.{accepts, is_accepted, is_marked}
-use Rattle.md_model.specs.Events.{Event}
 use Rattle.md_model.proofs.Cases.{by_test}
 use Rattle.md_model.proofs.Puts.{by_same}
-use Rattle.md_array.specs.View.{ArrayView, Disk, MemberView, MirrorView}
+use Rattle.md_array.specs.View.{ArrayView, Disk, MemberView}
 use Rattle.md_array.specs.Members.{IsMember, NeedsMarks}
 use Rattle.md_array.specs.DeviceChanges.{IsLeftAlone}
 use Rattle.md_array.specs.HalfOpened.{FailsOnMember, IsHalfOpened, IsHeaderKept}
-use Rattle.md_array.specs.Lives.{AreFoundAgain, IsAsLeft, IsFoundAgain, IsReadAsKeptInLives, MirrorLife, StaysAsLeft}
+use Rattle.md_array.specs.Lives.{AreFoundAgain, IsAsLeft, IsFoundAgain, IsReadAsKeptInLives, StaysAsLeft}
 use Rattle.md_array.specs.Opening.{IsArrayOf}
 use Rattle.md_array.specs.ReadAsKept.{chunk_size_on}
-use Rattle.md_array.specs.Runs.{Moment, opened_as}
+use Rattle.md_array.specs.Runs.{Moment}
 use Rattle.md_array.specs.StopsWithin.{MayBeLeft}
 use Rattle.md_array.specs.Storing.{AreMarkWrites, FailsToStore, IsMarkedBy, StoresMarks}
 use Rattle.md_array.specs.Worlds.{from_super, geometry_of, header_fits, header_on, stored_of}
@@ -35,7 +34,7 @@ use Rattle.md_array.proofs.BitmapArea.{AllIn, IsNextAny, all_in, area_kept, next
 use Rattle.md_array.proofs.PartsApart.{bitmap_alone}
 use Rattle.md_array.proofs.StopsAtSteps.{new_has}
 use Rattle.md_array.proofs.WorldsLists.{got_in_map, got_within}
-use Rattle.md_array.proofs.Moments.{IsSoundAt, run_keeps, sound_when_opened}
+use Rattle.md_array.proofs.Moments.{IsSoundAt, life_keeps, sound_when_opened}
 use Rattle.md_array.proofs.Reopened.{again, bitmap_offset, same_count, same_stored}
 use Rattle.md_array.proofs.WorldsDevice.{IsOpenedMember, bits_new, chunk_size_new, fits_on}
 use Rattle.md_array.proofs.WorldsMember.{by_need}
@@ -299,12 +298,6 @@ module _ (t : Moment) (at_t : IsSoundAt t) (before : List Disk) (is : ArrayView)
   ]
 
 -- ---- at each moment of a life
-life_keeps : (m : MirrorView) (es : List Event) (rest : List (List Event)) (final : MirrorView) (last : Moment) → IsSoundAt (opened_as m) → MirrorLife m es rest final last → IsSoundAt last
-life_keeps m es [] final last at_m life = run_keeps es (opened_as m) last life.1 at_m
-life_keeps m es (more ∷ rest) final last at_m life =
-    let next = life.3 in
-    life_keeps life.1 more rest final last (sound_when_opened next.before life.1 next.devices.honest next.opens) life.4
-
 pub read_as_kept : IsReadAsKeptInLives
 read_as_kept before m start es rest final last life = (life_keeps m es rest final last (sound_when_opened before m start.honest start.opened) life).read
 

@@ -15,6 +15,8 @@ use Rattle.md_model.specs.Content.{Content}
 use Rattle.md_model.specs.Devices.{Stored, Super}
 use Rattle.md_model.specs.Events.{Event}
 use Rattle.md_model.specs.Stops as stops
+use Rattle.md_model.specs.Worlds as worlds
+use Rattle.md_model.specs.Worlds.{World}
 use Rattle.md_model.proofs.Cases.{none_some}
 use Rattle.md_model.proofs.Puts.{by_same}
 use Rattle.md_array.specs.View.{ArrayView, Disk, MemberView, MirrorView}
@@ -69,6 +71,7 @@ pub record IsSorted (t : Moment) (left : List Disk) : Type 0 where
   pub run : MirrorRun t events moment
   pub still : (a : Content) → MirrorRunWith t a events moment a
   pub counted : moment.failed_at ≡ t.failed_at
+  pub in_sync : (k : ℕ) → worlds.IsInSync (history_of moment).now k → worlds.IsInSync (world_of t.mirror t.requests) k
   pub cut : ℕ → Stored
   pub is_cut : stops.IsCut (geometry_of t.mirror.array) (history_of moment).now cut
   pub read : (k : ℕ) → (read_in t.mirror.array left k ≡ cut k) ⊎ ((read_in t.mirror.array left k).super ≡ None)
@@ -81,6 +84,7 @@ sorted_like t found left same s = record {
   run = s.run;
   still = s.still;
   counted = s.counted;
+  in_sync = s.in_sync;
   cut = s.cut;
   is_cut = s.is_cut;
   read = λ k. let here = read_same t.mirror.array left found (sym same) k in elim (s.read k) [
@@ -116,6 +120,7 @@ module _ (t : Moment) (at : IsSoundAt t) where
     run = refl;
     still = λ x. (refl, refl);
     counted = refl;
+    in_sync = λ j on. on;
     cut = (world_of v t.requests).stored;
     is_cut = inl refl;
     read = λ k. inl refl;
@@ -176,8 +181,8 @@ module _ (t : Moment) (at : IsSoundAt t) where
         let n = request_sectors l.request in
         let inside = inside_of v l.request at.sound l.pending in
         let same = subst (λ (x : ℕ). SameOutside (512 * (m.superblock.data_offset + l.request.sector)) x d.0.content e.0.content) (whole_of a l.request l.pending) (torn.tried.outside d.0 e.0 d.1 e.1) in
-        let was = stored_there v.disks a k m d.0 is_member d.1 in
-        let is = stored_there torn.found a k m e.0 is_member e.1 in
+        let was : read_in a v.disks k ≡ stored_of a m d.0.content = stored_there v.disks a k m d.0 is_member d.1 in
+        let is : read_in a torn.found k ≡ stored_of a m e.0.content = stored_there torn.found a k m e.0 is_member e.1 in
         record {
           number = l.request.ticket.number;
           request = request_of l.request;
@@ -198,6 +203,7 @@ module _ (t : Moment) (at : IsSoundAt t) where
       run = refl;
       still = λ x. (refl, refl);
       counted = refl;
+      in_sync = λ j on. on;
       cut = read_in a torn.found;
       is_cut = inr (subst (λ r. stops.IsTorn (geometry_of a) (world_of v r) (read_in a torn.found)) (sym l.in_flight) torn_cut);
       read = λ j. inl refl;
@@ -242,6 +248,7 @@ module _ (t : Moment) (at : IsSoundAt t) where
           run = (next, t.requests, does, refl);
           still = λ x. (next, t.requests, x, does, refl, (refl, refl));
           counted = refl;
+          in_sync = λ j on. subst (λ (w : World). worlds.IsInSync w j) does.step.1.1 on;
           cut = (world_of next t.requests).stored;
           is_cut = inl refl;
           read = λ j. inl (sym (ap (λ (x : ArrayView). read_in x next.disks j) r.array ∙ read_changed a k r.member (record r.member { stored = r.stored }) r.may.in_sync.member refl next.disks j));
@@ -299,6 +306,7 @@ module _ (t : Moment) (at : IsSoundAt t) where
         run = refl;
         still = λ x. (refl, refl);
         counted = refl;
+        in_sync = λ j on. on;
         cut = (world_of v t.requests).stored;
         is_cut = inl refl;
         read = λ j. by_same j k
@@ -379,6 +387,7 @@ module _ (t : Moment) (at : IsSoundAt t) where
               run = (next, t.requests, does, refl);
               still = λ x. (next, t.requests, x, does, refl, (refl, refl));
               counted = refl;
+              in_sync = λ j on. subst (λ (w : World). worlds.IsInSync w j) does.step.1.1 on;
               cut = (world_of next t.requests).stored;
               is_cut = inl refl;
               read = λ j. inl (read_next j);

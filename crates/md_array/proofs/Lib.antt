@@ -86,3 +86,4 @@ pub mod LeftContents
 pub mod FirstSector
 pub mod LeftAtStops
 pub mod BitmapArea
+pub mod SmallLife

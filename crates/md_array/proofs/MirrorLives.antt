@@ -4,7 +4,7 @@ use Rattle.std.specs.Prelude.{option_map, unwrap_or}
 use Rattle.std.proofs.lemmas.Option.{none-some, slice_get_past, slice_get_within}
 use Rattle.md_model.specs.Sectors.{Geometry, chunk_of}
 use Rattle.md_model.specs.Devices.{Stored, Super, is_marked}
-use Rattle.md_model.specs.Assembly.{IsFreshest}
+use Rattle.md_model.specs.Assembly.{IsFound, IsFreshest}
 use Rattle.md_model.specs.Events.{Event}
 use Rattle.md_model.specs.Lives as lives
 use Rattle.md_model.specs.Lives.{Always, IsCovered, Reopens}
@@ -13,20 +13,23 @@ use Rattle.md_model.specs.Runs as runs
 use Rattle.md_model.specs.Stops as stops
 use Rattle.md_model.specs.Stops.{IsFit}
 use Rattle.md_model.proofs.Cases.{by_option}
-use Rattle.md_model.proofs.OpeningCovers.{slot_of}
+use Rattle.md_model.specs.States.{is_in_sync}
+use Rattle.md_model.specs.Worlds as worlds
+use Rattle.md_model.proofs.OpeningCovers.{freshest_left, own_of, slot_of}
 use Rattle.md_model.proofs.Fits as fits
 use Rattle.md_model.proofs.Lives.{always_covered, always_out, always_safe, always_stays_out}
 use Rattle.md_array.specs.View.{Disk, MirrorView}
-use Rattle.md_array.specs.Lives.{AreFoundAgain, AtEachMoment, FitsWhenThere, KeepsGeometry, MirrorLife}
+use Rattle.md_array.specs.Lives.{AreFoundAgain, AtEachMoment, FindsInSync, FitsWhenThere, KeepsGeometry, MirrorLife}
 use Rattle.md_array.specs.Opening.{IsOpenedFrom}
 use Rattle.md_array.specs.Runs.{Moment, history_of, opened_as}
 use Rattle.md_array.specs.Worlds.{geometry_of, none_in_flight, nothing_stored, stored_on, super_of, world_of}
 use Rattle.md_array.proofs.LeftAtStops.{IsSorted, sorted}
 use Rattle.md_array.proofs.LeftContents.{read_in}
-use Rattle.md_array.proofs.Moments.{IsSoundAt, geometry_kept, run_keeps, run_then, sound_when_opened}
+use Rattle.md_array.proofs.Moments.{IsSoundAt, geometry_kept, life_keeps, life_then, run_keeps, run_then, sound_when_opened}
 use Rattle.md_array.proofs.MirrorRuns.{model_run, starts}
 use Rattle.md_array.proofs.Reopened.{read_alike, same_geometry}
-use Rattle.md_array.proofs.WorldsOpenedFrom.{opened_from}
+use Rattle.md_array.proofs.WorldsInSync.{in_sync_is, in_sync_there}
+use Rattle.md_array.proofs.WorldsOpenedFrom.{opened_from, super_was}
 use Rattle.md_array.proofs.WorldsShown.{by_member}
 
 -- ---- the next opening is one of the model
@@ -116,6 +119,21 @@ module _ (t : Moment) (at_t : IsSoundAt t) (next : MirrorView)
         greatest = λ k own e. let j = opens_again.all k own e in fresh.greatest j.0 own j.1;
       }
 
+  -- a member in sync of it is found so
+  found_there : (k : ℕ) → worlds.IsInSync (world_of next none_in_flight) k → IsFound g made_of (super_of next.array.shared) (devices.from k)
+  found_there k on =
+      let first = super_of next.array.shared in
+      let w = world_of next none_in_flight in
+      let x = own_of g first w opens.opened k on in
+      record {
+        own = x.0;
+        is = ap (λ (d : Stored). d.super) (as_read k (slot_of g first w opens.opened k on)) ∙ super_was before next devices.honest from_these k x.0 x.1;
+        in_sync = sym (ap is_in_sync (opens.opened.states.by_table k x.0 x.1)) ∙ on;
+      }
+
+  freshest_found : (opened : Super) → stops.IsFreshestWithAbsent opened made_of (super_of next.array.shared)
+  freshest_found = freshest_left g made_of (super_of next.array.shared) (world_of next none_in_flight) opens_again
+
   pub reopens : (opened : MirrorView) → IsFit (super_of opened.array.shared) (super_of next.array.shared) t.failed_at
       → Reopens g (super_of opened.array.shared) (history_of stop) (super_of next.array.shared) (world_of next none_in_flight)
   reopens opened fit = record {
@@ -199,3 +217,22 @@ life_keeps_out = at_each stops.KeepsOut always_out
 
 pub life_stays_out : AtEachMoment stops.StaysOut
 life_stays_out = at_each stops.StaysOut always_stays_out
+
+-- ---- what an opening finds in sync was so
+pub finds_in_sync : FindsInSync
+finds_in_sync before m start es rest final last life next again k n on =
+    let at_t = life_keeps m es rest final last (sound_when_opened before m start.honest start.opened) life in
+    let these = again.before in
+    let from = again.devices.from k in
+    let s = left last at_t next these again.devices again.opens in
+    let whole = life_then m es rest final last life s.events s.moment s.run in
+    let same = keeps_geometry before m start es rest final last life in
+    let found = made_of last at_t next these again.devices again.opens in
+    let first = super_of next.array.shared in
+    let safe = life_safe before m start whole.0 whole.1 final s.moment whole.2 found first
+    (subst (λ x. stops.IsLeft x (history_of s.moment).now found) same (are_left last at_t next these again.devices again.opens))
+    (freshest_found last at_t next these again.devices again.opens (super_of final.array.shared))
+    (subst (λ (c : ℕ). IsFit (super_of final.array.shared) first c) (sym s.counted) again.fit) in
+    in_sync_is last.mirror.disks last.mirror.array last.requests from
+    (s.in_sync from (safe.among from (subst (λ x. IsFound x found first from) same
+    (found_there last at_t next these again.devices again.opens k (in_sync_there next.disks next.array none_in_flight k n on)))))

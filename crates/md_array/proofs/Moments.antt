@@ -1,9 +1,10 @@
--- What holds of a mirror at each moment of a run.
+-- What holds of a mirror at each moment of a run, and of a life.
 use Rattle.std.proofs.Common.{◌≡◌, List, [], ◌∷◌, ◌++◌, sym, ap, ◌∙◌, subst}
 use Rattle.std.proofs.lemmas.Option.{none-some}
 use Rattle.md_model.specs.Events.{Event}
 use Rattle.md_array.specs.View.{Disk, MirrorView}
 use Rattle.md_array.specs.Consistency.{IsConsistent}
+use Rattle.md_array.specs.Lives.{MirrorLife}
 use Rattle.md_array.specs.Opening.{IsOpenedFrom}
 use Rattle.md_array.specs.ReadAsKept.{AreReadAsKept}
 use Rattle.md_array.specs.Requests.{AreInFlight}
@@ -41,3 +42,18 @@ geometry_kept (e ∷ es) t last r = geometry_kept es (then_as t e r.0 r.1) last 
 pub run_then : (es more : List Event) (t mid last : Moment) → MirrorRun t es mid → MirrorRun mid more last → MirrorRun t (es ++ more) last
 run_then [] more t mid last r s = subst (λ (x : Moment). MirrorRun x more last) r s
 run_then (e ∷ es) more t mid last r s = (r.0, r.1, r.2, run_then es more (then_as t e r.0 r.1) mid last r.3 s)
+
+-- ---- lives
+pub life_keeps : (m : MirrorView) (es : List Event) (rest : List (List Event)) (final : MirrorView) (last : Moment) → IsSoundAt (opened_as m) → MirrorLife m es rest final last → IsSoundAt last
+life_keeps m es [] final last at_m life = run_keeps es (opened_as m) last life.1 at_m
+life_keeps m es (more ∷ rest) final last at_m life =
+    let next = life.3 in
+    life_keeps life.1 more rest final last (sound_when_opened next.before life.1 next.devices.honest next.opens) life.4
+
+-- a run at the end of a life is part of it
+pub life_then : (m : MirrorView) (es : List Event) (rest : List (List Event)) (final : MirrorView) (mid : Moment) → MirrorLife m es rest final mid → (more : List Event) (last : Moment) → MirrorRun mid more last
+    → (first : List Event) × (others : List (List Event)) × MirrorLife m first others final last
+life_then m es [] final mid life more last r = (es ++ more, [], (life.0, run_then es more (opened_as m) mid last life.1 r))
+life_then m es (next ∷ rest) final mid life more last r =
+    let x = life_then life.1 next rest final mid life.4 more last r in
+    (es, x.0 ∷ x.1, (life.0, life.1, life.2, life.3, x.2))

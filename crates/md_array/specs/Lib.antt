@@ -34,3 +34,4 @@ pub mod WholeCalls
 pub mod Lives
 pub mod Left
 pub mod StopsWithin
+pub mod SmallLife

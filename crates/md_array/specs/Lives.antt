@@ -11,7 +11,7 @@ use Rattle.md_model.specs.Content.{Content, BecomesAtOpening, Holds}
 use Rattle.md_model.specs.Runs.{History}
 use Rattle.md_model.specs.Stops.{IsFit}
 use Rattle.md_array.specs.View.{ArrayView, Disk, MemberView, MirrorView}
-use Rattle.md_array.specs.Members.{IsMember}
+use Rattle.md_array.specs.Members.{IsInSync, IsMember}
 use Rattle.md_array.specs.HalfOpened.{IsHalfOpened}
 use Rattle.md_array.specs.Left.{IsLeft}
 use Rattle.md_array.specs.Opening.{IsArrayOf, IsOpenedFrom}
@@ -104,6 +104,14 @@ KeepsGeometry =
     (before : List Disk) (m : MirrorView) → IsStart before m
     → (es : List Event) (rest : List (List Event)) (final : MirrorView) (last : Moment) → MirrorLife m es rest final last
     → geometry_of last.mirror.array ≡ geometry_of m.array
+
+-- A member in sync of the mirror that is opened of what a stop left was in sync at the stop, on the same device.
+abbrev pub FindsInSync : Type 0
+FindsInSync =
+    (before : List Disk) (m : MirrorView) → IsStart before m
+    → (es : List Event) (rest : List (List Event)) (final : MirrorView) (last : Moment) → MirrorLife m es rest final last
+    → (next : MirrorView) (again : IsReopened final last next)
+    → (k : ℕ) (n : MemberView) → IsInSync next.array k n → (o : MemberView) × IsInSync last.mirror.array (again.devices.from k) o
 
 -- The next superblock is fit where it is as new as the one of the opening before and has recorded the last failure, if no two
 -- superblocks of that opening were as new and told of other roles.

@@ -11,7 +11,7 @@ ghost use Rattle.md_array.specs.Members.{IsMember};
 ghost use Rattle.md_array.specs.View.{Disk, MemberView, MirrorView};
 ghost use Rattle.md_array.specs.Opening.{IsOpenedFrom};
 ghost use Rattle.md_array.specs.ReadAsKept.{AreReadAsKept};
-ghost use Rattle.md_array.specs.Lives.{AtEachMoment, ContentGoesAlong, FitsWhenThere, IsReadAsKeptInLives, KeepsContent, KeepsGeometry, StaysAsLeft};
+ghost use Rattle.md_array.specs.Lives.{AtEachMoment, ContentGoesAlong, FindsInSync, FitsWhenThere, IsReadAsKeptInLives, KeepsContent, KeepsGeometry, StaysAsLeft};
 ghost use Rattle.md_array.specs.Runs.{HasContent};
 ghost use Rattle.md_array.specs.StopsWithin.{StopsAsFailed, StopsAsTried, StopsAtEvents, StopsAtFailure, StopsAtSector, StopsAtWrite, StopsInMemory, StopsUndivided};
 ghost use Rattle.md_array.specs.Worlds.{AreHonest, geometry_of, none_in_flight, super_of, world_of, world_on};
@@ -58,6 +58,9 @@ pub fn every_run()
     // A stop leaves devices of which an opening finds only members in sync that were so, whose marks cover
     // what differs; and all of these, where each has recorded all but the last change.
     ensures at_stop { AtEachMoment IsSafeAtStop }
+
+    // So each member in sync of the mirror that is opened then was in sync.
+    ensures finds_in_sync { FindsInSync }
 
     // Once data was let through, a device that the last opening left out is not found in sync beside a
     // member that was.

@@ -12,6 +12,7 @@ mod fault;
 mod finishing;
 mod in_sync;
 pub mod laws;
+mod lone_life;
 mod marking;
 mod member;
 mod mirror;
@@ -32,6 +33,7 @@ pub mod whole_calls;
 mod writing_member;
 
 pub use fault::OpenFault;
+pub use lone_life::small_life;
 pub use mirror::Mirror;
 pub use pending::Pending;
 pub use step_fault::{BeginFault, ClearFault, FinishFault, StoreFault, WriteMemberFault};

@@ -4,7 +4,7 @@ ghost use Rattle.md_array.specs.Consistency.{IsConsistent};
 
 use crate::bitmap_and_log_reports::bitmap;
 use crate::vault::{image, put, vault};
-use md_array::{Mirror, OpenFault};
+use md_array::{Mirror, OpenFault, small_life};
 use md_assembly::MemberState;
 use md_bitmap::Marks;
 use md_device::{Device, FaultDevice, MemDevice};
@@ -134,5 +134,17 @@ fn marks_cannot_be_stored(rt: HostRuntime) -> Result<(), Fail> {
         let mut device = device.into_inner();
         assert_eq!(rt; marked(alloc, &mut device)?, count);
     }
+    Ok(())
+}
+
+#[test]
+fn life_of_a_lone_member(rt: HostRuntime) -> Result<(), Fail> {
+    let alloc = rt.alloc();
+    let mut devices = Vec::new(alloc);
+    devices.push(member(alloc, 1, BITMAP_OFFSET, 8)?)?;
+    let Some(mirror) = small_life(alloc, devices, &[7; 512]) else {
+        return Err(Fail::new("it is no life"));
+    };
+    assert_eq!(rt; mirror.events(), 11);
     Ok(())
 }
