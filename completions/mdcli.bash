@@ -2,7 +2,7 @@
 # SPDX-License-Identifier: MIT OR Apache-2.0
 
 _mdcli_commands() {
-  printf '%s\n' examine examine-bitmap examine-badblocks assemble detail create help
+  printf '%s\n' examine examine-bitmap examine-badblocks assemble detail plan create help
 }
 
 # The options of a command, beside --help. A value follows one that ends in =.
@@ -10,6 +10,7 @@ _mdcli_options() {
   case $1 in
     create) printf '%s\n' --level= --raid-devices= --uuid= --name= --bitmap-chunk= --size= --time= --assume-clean ;;
     assemble | detail) printf '%s\n' --readonly ;;
+    plan) printf '%s\n' --member= --readonly ;;
   esac
 }
 

@@ -1,12 +1,14 @@
 -- Reports whose last call passes on what the output holds back.
-use Rattle.std.proofs.Common.{◌≡◌, ◌∙◌, Bool, true, ℕ, List, [], ◌++◌, Option, Some, None, Result, Ok, Err, IfOk, MatchResult, sym, subst}
+use Rattle.std.proofs.Common.{◌≡◌, ◌∙◌, Bool, true, ℕ, List, [], ◌++◌, Option, Some, None, Result, Ok, Err, IfOk, MatchResult, sym, subst, inr}
 use Rattle.std.specs.Io.KnownBytes.{Appends}
 use Rattle.std.proofs.lemmas.List.{append-nil}
 use Rattle.md_examine.specs.Sink.{Flushes, Puts}
 use Rattle.md_cli.specs.declared.fault.CommandFault.{CommandFault}
 use Rattle.md_cli.specs.declared.fault.CommandFault.TheVariants.{OutputFault}
 use Rattle.md_cli.specs.declared.report.Report.{Report}
-use Rattle.md_cli.specs.Arrays.{WritesText}
+use Rattle.md_array.specs.View.{ArrayView}
+use Rattle.md_cli.specs.declared.array_report.ArrayReport.{ArrayReport}
+use Rattle.md_cli.specs.Arrays.{IsArrayText, WritesReport}
 use Rattle.md_cli.specs.Examining.{Examines, RefusesOrFails, ShownBy}
 use Rattle.md_cli.specs.Running.{status_of}
 
@@ -24,9 +26,9 @@ module _ {S : Type 0} (contents : S → Option (List ℕ)) (failed : S → Bool)
   put_all : Puts contents failed a b text → Puts contents failed b c [] → Puts contents failed a c text
   put_all p q = record { appends = appends_none (contents a) (contents b) (contents c) text p.appends q.appends; well = q.well ∙ p.well }
 
-  pub written : (result : Result (Unit {0}) CommandFault) → Puts contents failed a b text → PassesOn result → WritesText contents failed a c text result
-  written (Ok v) p q = put_all p q.puts
-  written (Err f) p q = q
+  pub written : (report : ArrayReport) (array : ArrayView) (result : Result (Unit {0}) CommandFault) → IsArrayText report array text → Puts contents failed a b text → PassesOn result → WritesReport contents failed report array a c result
+  written report array (Ok v) is p q = (text, is, put_all p q.puts)
+  written report array (Err f) is p q = inr q
 
   pub examined : (report : Report) (content : List ℕ) (honest : Bool) (Failed : Type 0) (result : Result (Unit {0}) CommandFault) → ShownBy report content honest text → Puts contents failed a b text → PassesOn result → Examines report contents failed a c content honest Failed result
   examined report content honest Failed (Ok v) shown p q = (text, shown, put_all p q.puts)

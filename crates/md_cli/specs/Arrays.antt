@@ -10,32 +10,47 @@ use Rattle.md_examine.specs.Sink.{Puts}
 use Rattle.md_examine.specs.SummaryReport.{summary_text}
 use Rattle.md_examine.specs.DetailReport.{detail_text}
 use Rattle.md_cli.specs.declared.array_report.ArrayReport.{ArrayReport}
-use Rattle.md_cli.specs.declared.array_report.ArrayReport.TheVariants.{Summary, Detail}
+use Rattle.md_cli.specs.declared.array_report.ArrayReport.TheVariants.{Summary, Detail, Plan}
 use Rattle.md_cli.specs.declared.fault.CommandFault.{CommandFault}
 use Rattle.md_cli.specs.declared.fault.CommandFault.TheVariants.{NoMemory, Open, OutputFault}
+use Rattle.md_cli.specs.RebuildPlans.{IsPlanText, RefusesPlan}
 use Rattle.md_cli.specs.Taking.{ArePut, AreUnder, IsDistinct, IsThere, RefusesImages, Word, names_of}
 
 -- a device over which what is written is kept in memory: no stop leaves any of that
 abbrev pub overlaid : Disk → Disk
 overlaid d = record d { stops = [] }
 
-abbrev pub array_text : ArrayReport → ArrayView → List ℕ
-array_text Summary a = summary_text a
-array_text Detail a = detail_text a
+-- the text of a report on an array
+abbrev pub IsArrayText : ArrayReport → ArrayView → List ℕ → Type 0
+IsArrayText Summary a text = text ≡ summary_text a
+IsArrayText Detail a text = text ≡ detail_text a
+IsArrayText (Plan k) a text = IsPlanText a k text
 
--- the text is written, or the output failed
-abbrev pub WritesText : {S : Type 0} → (S → Option (List ℕ)) → (S → Bool) → S → S → List ℕ → Result (Unit {0}) CommandFault → Type 0
-WritesText contents failed old new text result =
-    MatchResult result (λ _. Puts contents failed old new text) (λ fault. (fault ≡ OutputFault) × (failed new ≡ true))
+-- why there is no such report
+abbrev pub RefusesReport : ArrayReport → ArrayView → CommandFault → Type 0
+RefusesReport Summary a fault = ⊥
+RefusesReport Detail a fault = ⊥
+RefusesReport (Plan k) a fault = RefusesPlan a k fault
+
+-- the report is refused, and nothing is written; or the output failed
+abbrev pub FailsToReport : {S : Type 0} → (S → Bool) → ArrayReport → ArrayView → S → S → CommandFault → Type 0
+FailsToReport failed report a old new fault =
+    ((new ≡ old) × RefusesReport report a fault) ⊎ ((fault ≡ OutputFault) × (failed new ≡ true))
+
+-- the report is written, or not
+abbrev pub WritesReport : {S : Type 0} → (S → Option (List ℕ)) → (S → Bool) → ArrayReport → ArrayView → S → S → Result (Unit {0}) CommandFault → Type 0
+WritesReport contents failed report a old new result =
+    MatchResult result (λ _. (text : List ℕ) × IsArrayText report a text × Puts contents failed old new text)
+    (FailsToReport failed report a old new)
 
 module _ {S : Type 0} (contents : S → Option (List ℕ)) (failed : S → Bool) where
-  -- The devices are opened as a mirror, and a report on it is written. `before` and `after` are the devices as contracts see
+  -- The devices are opened as a mirror, and a report on it is written, or it is refused. `before` and `after` are the devices as contracts see
   -- them.
   pub record ShowsMirror (report : ArrayReport) (before after : List Disk) (old new : S) (result : Result (Unit {0}) CommandFault) : Type 0 where
     pub mirror : MirrorView
     pub opened : IsOpenedFrom before mirror
     pub devices : after ≡ mirror.disks
-    pub shown : WritesText contents failed old new (array_text report mirror.array) result
+    pub shown : WritesReport contents failed report mirror.array old new result
 
   -- they are not opened, and nothing is written to the output
   pub record RefusesMirror (before after : List Disk) (old new : S) (result : Result (Unit {0}) CommandFault) : Type 0 where

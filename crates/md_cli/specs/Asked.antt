@@ -9,7 +9,7 @@ use Rattle.md_cli.specs.Words.{mdcli}
 use Rattle.md_cli.specs.declared.options.CreateOptions.{CreateOptions}
 use Rattle.md_cli.specs.declared.report.Report.{Report}
 use Rattle.md_cli.specs.declared.array_report.ArrayReport.{ArrayReport}
-use Rattle.md_cli.specs.declared.array_report.ArrayReport.TheVariants.{Summary, Detail}
+use Rattle.md_cli.specs.declared.array_report.ArrayReport.TheVariants.{Summary, Detail, Plan}
 use Rattle.md_cli.specs.declared.report.Report.TheVariants.{Superblock, Bitmap, BadBlocks}
 use Rattle.md_cli.specs.declared.request.Action.{Action}
 use Rattle.md_cli.specs.declared.request.Action.TheVariants as action
@@ -75,6 +75,7 @@ asks_of name rows =
     if bytes_eq name (codes "create") then creates (options_in rows)
     else if bytes_eq name (codes "assemble") then shows Summary (is_readonly rows)
     else if bytes_eq name (codes "detail") then shows Detail (is_readonly rows)
+    else if bytes_eq name (codes "plan") then shows (Plan (number_in 32 (codes "member") rows)) (is_readonly rows)
     else examines (report_of name)
 
 abbrev pub asks_in : Option (Text × List Row) → Ask

@@ -7,6 +7,7 @@ pub mod MemImages
 pub mod MemPlaces
 pub mod Overlays
 pub mod Planning
+pub mod RebuildPlans
 pub mod Running
 pub mod Taking
 pub mod Words

@@ -29,12 +29,18 @@ required r = record r { required = true }
 abbrev pub by_default : Text → Rule → Rule
 by_default value r = record r { defaults = value ∷ [] }
 
--- a command that shows one image, and one that shows an array
+-- a command that shows one image, one that shows an array, and one that shows the plan of a rebuild
 abbrev pub examine_app : Text → App
 examine_app name = with_rule (new_app name) image_rule
 
+abbrev pub with_images : App → App
+with_images a = with_rule (with_rule a (flag_rule (codes "readonly"))) image_rule
+
 abbrev pub array_app : Text → App
-array_app name = with_rule (with_rule (new_app name) (flag_rule (codes "readonly"))) image_rule
+array_app name = with_images (new_app name)
+
+abbrev pub plan_app : App
+plan_app = with_images (with_rule (new_app (codes "plan")) (required (u32_rule (codes "member"))))
 
 -- `create`: what it must be given, and what it may
 abbrev pub with_required : App → App
@@ -73,8 +79,10 @@ with_examine_commands a =
 abbrev pub with_array_commands : App → App
 with_array_commands a =
     with_subcommand
+    (with_subcommand
     (with_subcommand (with_subcommand a create_app.top) (array_app (codes "assemble")).top)
-    (array_app (codes "detail")).top
+    (array_app (codes "detail")).top)
+    plan_app.top
 
 -- the whole command line
 unfoldable pub mdcli : App

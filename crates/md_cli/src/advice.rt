@@ -3,6 +3,7 @@ use crate::fault::CommandFault;
 use crate::option_fault::OptionFault;
 use md_array::OpenFault;
 use md_assembly::AssembleFault;
+use md_copy::RebuildFault;
 use md_create::CreateFault;
 use md_members::MemberFault;
 use md_super::SuperFault;
@@ -28,11 +29,16 @@ pub(crate) fn advice(fault: &CommandFault) -> &'static str {
         CommandFault::MetadataFault(_) | CommandFault::Open(OpenFault::MetadataFault(_)) => {
             "see why the device can't be written (`dmesg`, free space, write protection); run the command again, which begins anew"
         }
+        CommandFault::BadMember => "count the images from 0, in the order in which they are named",
+        CommandFault::Rebuild(RebuildFault::NotSpare) => {
+            "`detail` shows the state of each member: a recovering one can be rebuilt, and a spare where a role is free"
+        }
         CommandFault::OutputFault => {
             "give it an output that takes the whole report, and drop what came so far"
         }
         CommandFault::Create(CreateFault::NoMemory)
         | CommandFault::Open(OpenFault::NoMemory)
+        | CommandFault::Rebuild(RebuildFault::NoMemory)
         | CommandFault::NoMemory => MORE_MEMORY,
     }
 }

@@ -5,4 +5,6 @@
 pub(crate) enum ArrayReport {
     Summary,
     Detail,
+    /// The plan of a rebuild of the member with this index.
+    Plan(u32),
 }

@@ -1,7 +1,8 @@
 // The commands that show a whole array.
 ghost use Rattle.std.specs.Prelude.{◌≡◌, IfOk, length, map, false};
+ghost use Rattle.md_array.specs.Consistency.{IsConsistent};
 ghost use Rattle.md_array.specs.View.{disk_of};
-ghost use Rattle.md_cli.specs.Arrays.{OpensDevices, UsesImages, WritesText, array_text};
+ghost use Rattle.md_cli.specs.Arrays.{OpensDevices, UsesImages, WritesReport};
 ghost use Rattle.md_cli.specs.Images.{allows};
 ghost use Rattle.md_cli.specs.Taking.{image_list};
 
@@ -11,29 +12,34 @@ use crate::image_word::image_list;
 use crate::images::Images;
 use crate::marks_notice::tell_stored_marks;
 use crate::output::pass_on;
+use crate::rebuild_plan::plan_rebuild;
 use crate::taking::{put_back, take_images};
 use md_array::Mirror;
 use md_device::{Access, Device};
-use md_examine::{Sink, detail, summary};
+use md_examine::{Sink, detail, plan_report, summary};
 use std::alloc::Global;
 use std::io::Write;
 
 fn show<D: Device + Drop, S: Sink>(
+    alloc: Global,
     report: ArrayReport,
     mirror: &Mirror<D>,
     out: &mut S,
 ) -> Result<(), CommandFault>
-    ensures writes { WritesText S.contents S.failed out.old out.new (array_text report mirror.now.array) result }
+    requires sound { IsConsistent mirror.now }
+    ensures writes { WritesReport S.contents S.failed report mirror.now.array out.old out.new result }
     ensures flushed { IfOk result (λ _. S.is_flushed out.new) }
 {
-    let shown = match report {
-        ArrayReport::Summary => summary(out, mirror),
-        ArrayReport::Detail => detail(out, mirror),
-    };
-    match shown {
-        Ok(()) => pass_on(out),
-        Err(_) => Err(CommandFault::OutputFault),
+    match report {
+        ArrayReport::Summary => summary(out, mirror)?,
+        ArrayReport::Detail => detail(out, mirror)?,
+        ArrayReport::Plan(member) => {
+            let planned = plan_rebuild(alloc, mirror, member)?;
+            let orphans = planned.orphans.as_slice();
+            plan_report(out, &planned.plan, &planned.certificate, orphans)?;
+        }
     }
+    pass_on(out)
 }
 
 /// Opens devices as a mirror and writes a report on it. They come back in their order.
@@ -49,7 +55,7 @@ pub(crate) fn show_devices<D: Device + Drop, S: Sink>(
 {
     match Mirror::open(alloc, devices) {
         Ok(mirror) => {
-            let shown = show(report, &mirror, out);
+            let shown = show(alloc, report, &mirror, out);
             (mirror.into_devices(), shown)
         }
         Err((devices, fault)) => (devices, Err(CommandFault::Open(fault))),
@@ -72,7 +78,7 @@ fn show_and_tell<D: Device + Drop, S: Sink, E: Write>(
     match Mirror::open(alloc, devices) {
         Ok(mirror) => {
             tell_stored_marks(&mirror, names, err);
-            let shown = show(report, &mirror, out);
+            let shown = show(alloc, report, &mirror, out);
             (mirror.into_devices(), shown)
         }
         Err((devices, fault)) => (devices, Err(CommandFault::Open(fault))),

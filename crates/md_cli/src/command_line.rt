@@ -2,7 +2,7 @@
 ghost use Rattle.std.specs.Prelude.{◌≡◌, IfOk, false};
 ghost use Rattle.clap.specs.Words.{app_of, rule_of};
 ghost use Rattle.clap.specs.declared.builder.command.Command.TheViews.{out-Command as fields_of};
-ghost use Rattle.md_cli.specs.Words.{create_app, array_app, flag_rule, image_rule, examine_app, mdcli, u32_rule, u64_rule, with_optional, with_required, value_rule, with_array_commands, with_examine_commands};
+ghost use Rattle.md_cli.specs.Words.{create_app, array_app, flag_rule, image_rule, examine_app, mdcli, plan_app, u32_rule, u64_rule, with_images, with_optional, with_required, value_rule, with_array_commands, with_examine_commands};
 
 use crate::help;
 use clap::builder::ValueParserFactory;
@@ -73,6 +73,19 @@ fn examine_command<'a>(
         .arg(image_arg(alloc))
 }
 
+// The images of an array, which may only be looked at.
+fn array_images<'a>(alloc: Global, command: Command<'a>) -> Result<Command<'a>, AllocError>
+    ensures app { IfOk result (λ c. app_of c ≡ with_images (app_of command.entry)) }
+    ensures local { IfOk result (λ c. (fields_of command.entry).has_globals ≡ false → (fields_of c).has_globals ≡ false) }
+{
+    let readonly = flag_arg(
+        alloc,
+        "readonly",
+        "Changes no image: what would be stored is kept in memory",
+    );
+    command.arg(readonly)?.arg(image_arg(alloc))
+}
+
 // A command that shows an array.
 fn array_command<'a>(
     alloc: Global,
@@ -82,16 +95,29 @@ fn array_command<'a>(
     ensures app { IfOk result (λ c. app_of c ≡ array_app name.entry.now) }
     ensures local { IfOk result (λ c. (fields_of c).has_globals ≡ false) }
 {
-    let readonly = flag_arg(
-        alloc,
-        "readonly",
-        "Changes no image: what would be stored is kept in memory",
-    );
-    Command::new(alloc, name)
+    let command = Command::new(alloc, name)
         .about(about)
-        .after_help(help::ARRAY)
-        .arg(readonly)?
-        .arg(image_arg(alloc))
+        .after_help(help::ARRAY);
+    array_images(alloc, command)
+}
+
+// The command that shows the plan of a rebuild.
+fn plan_command<'a>(alloc: Global) -> Result<Command<'a>, AllocError>
+    ensures app { IfOk result (λ c. app_of c ≡ plan_app) }
+    ensures local { IfOk result (λ c. (fields_of c).has_globals ≡ false) }
+{
+    let member = u32_arg(
+        alloc,
+        "member",
+        "N",
+        "The member to be rebuilt, by its place among the images, from 0",
+    )
+    .required(true);
+    let command = Command::new(alloc, "plan")
+        .about("Shows the plan of a member's rebuild, in the fewest rounds; may store marks")
+        .after_help(help::PLAN)
+        .arg(member)?;
+    array_images(alloc, command)
 }
 
 // The options that `create` must be given.
@@ -182,10 +208,12 @@ fn array_commands<'a>(alloc: Global, program: Command<'a>) -> Result<Command<'a>
         "detail",
         "Shows the array that the images make; may store marks",
     )?;
+    let plan = plan_command(alloc)?;
     program
         .subcommand(create)?
         .subcommand(assemble)?
-        .subcommand(detail)
+        .subcommand(detail)?
+        .subcommand(plan)
 }
 
 // The commands on one image.

@@ -3,7 +3,9 @@
 use crate::image_refusal::ImageRefusal;
 use crate::option_fault::OptionFault;
 use md_array::OpenFault;
+use md_copy::RebuildFault;
 use md_create::CreateFault;
+use md_examine::SinkFault;
 use md_members::MemberFault;
 use thiserror::Error;
 
@@ -36,10 +38,27 @@ pub enum CommandFault {
     /// The images are not opened as an array.
     #[error("{0}")]
     Open(OpenFault),
+    /// No image has the index that the command names.
+    #[error("BadMember")]
+    BadMember,
+    /// No rebuild of the member is planned.
+    #[error("{0}")]
+    Rebuild(RebuildFault),
     /// The report can't be written.
     #[error("OutputFault")]
     OutputFault,
     /// There was no memory for the command's own lists.
     #[error("NoMemory")]
     NoMemory,
+}
+
+impl From<SinkFault> for CommandFault {
+    ghost use Rattle.std.specs.Prelude.{◌≡◌};
+    ghost use Rattle.md_cli.specs.declared.fault.CommandFault.TheVariants.{OutputFault};
+
+    ghost from_gives = { λ _ e. e ≡ OutputFault };
+
+    fn from(_: SinkFault) -> CommandFault {
+        CommandFault::OutputFault
+    }
 }

@@ -23,6 +23,7 @@ mod options;
 mod output;
 mod parsing;
 mod planning;
+mod rebuild_plan;
 mod report;
 mod request;
 mod running;

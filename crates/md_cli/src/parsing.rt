@@ -83,6 +83,10 @@ fn action_of<'a>(name: &str, found: &ArgMatches<'a>) -> Action<'a>
     if name == "detail" {
         return Action::Show(ArrayReport::Detail, is_readonly(found));
     }
+    if name == "plan" {
+        let member = u32_of(text_of(found, "member"));
+        return Action::Show(ArrayReport::Plan(member), is_readonly(found));
+    }
     Action::Examine(report_named(name))
 }
 

@@ -1,5 +1,5 @@
 // The table of a rebuild.
-ghost use Rattle.std.specs.Prelude.{◌≡◌, ◌↔◌, ◌<◌, ℕ, length, true, IfOk, IsErrOf};
+ghost use Rattle.std.specs.Prelude.{◌≡◌, ◌↔◌, ◌^◌, ◌<◌, ◌≤◌, ℕ, length, true, IfOk, IsErrOf};
 ghost use Rattle.std.specs.Int.{bit_at, div_ceil};
 ghost use Rattle.md_array.specs.Consistency.{IsConsistent, HasChunks};
 ghost use Rattle.md_array.specs.Members.{IsInSync, IsMember, IsPermitted};
@@ -30,6 +30,7 @@ pub fn table<D: Device + Drop>(
     requires sound { IsConsistent mirror.now }
     ensures ok { (m : MemberView) → IsMember mirror.now.array target m
         → IfOk result (IsTableOf mirror.now.array m) }
+    ensures few { IfOk result (λ rows. length rows ≤ 2 ^ 20) }
     ensures accepted { (m : MemberView) → IsMember mirror.now.array target m
         → (IsErrOf result RebuildFault.NotSpare → ⊥) → IsTarget mirror.now.array m }
     ensures not_spare { (m : MemberView) → IsMember mirror.now.array target m

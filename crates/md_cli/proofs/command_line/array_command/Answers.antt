@@ -1,11 +1,11 @@
-use Rattle.std.proofs.Common.{ap, ap₂, ◌≡◌, ◌∙◌}
+use Rattle.std.proofs.Common.{ap, ◌≡◌, ◌∙◌}
 use Rattle.std.proofs.lemmas.Result.{IfOk-weaker}
-use Rattle.clap.specs.Words.{app_of, new_app, with_rule}
+use Rattle.clap.specs.Words.{app_of, new_app}
 use Rattle.clap.specs.Simple.{app_of_fields}
+use Rattle.md_cli.specs.Words.{with_images}
 use Rattle.md_cli.proofs.command_line.array_command.Goals as goal
 
 pub returns-clause-app : goal.returns-clause-app
 returns-clause-app c =
-    let named_is : app_of c.after_help.result ≡ new_app c.args.name.now = ap app_of_fields c.after_help.ensures ∙ ap app_of_fields c.about.ensures ∙ c.new.ensures.app in
-    let flagged_is = c.in_ok-arg.ensures.shape c.flag_arg-readonly.ensures.local ∙ ap₂ with_rule named_is c.flag_arg-readonly.ensures.rule in
-    IfOk-weaker c.arg-2.result _ _ (λ r h. h.shape c.image_arg.ensures.local ∙ ap₂ with_rule flagged_is c.image_arg.ensures.rule) c.arg-2.ensures
+    let named_is : app_of c.after_help-command.result ≡ new_app c.args.name.now = ap app_of_fields c.after_help-command.ensures ∙ ap app_of_fields c.about.ensures ∙ c.new.ensures.app in
+    IfOk-weaker c.array_images.result _ _ (λ r h. h ∙ ap with_images named_is) c.array_images.ensures.app

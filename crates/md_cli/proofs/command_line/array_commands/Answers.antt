@@ -8,4 +8,5 @@ returns c =
     let top = λ (a : App). a.top in
     let first_is = c.in_ok-subcommand.ensures.shape c.in_ok-create.ensures.local ∙ ap (λ s. with_subcommand (app_of c.args.program) s) (ap top c.in_ok-create.ensures.app) in
     let second_is = c.in_ok-subcommand-2.ensures.shape c.in_ok-assemble.ensures.local ∙ ap₂ with_subcommand first_is (ap top c.in_ok-assemble.ensures.app) in
-    IfOk-weaker c.subcommand-3.result _ _ (λ r h. h.shape c.in_ok-detail.ensures.local ∙ ap₂ with_subcommand second_is (ap top c.in_ok-detail.ensures.app)) c.subcommand-3.ensures
+    let third_is = c.in_ok-subcommand-3.ensures.shape c.in_ok-detail.ensures.local ∙ ap₂ with_subcommand second_is (ap top c.in_ok-detail.ensures.app) in
+    IfOk-weaker c.subcommand-4.result _ _ (λ r h. h.shape c.in_ok-plan.ensures.local ∙ ap₂ with_subcommand third_is (ap top c.in_ok-plan.ensures.app)) c.subcommand-4.ensures

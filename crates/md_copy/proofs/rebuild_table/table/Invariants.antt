@@ -1,4 +1,4 @@
-use Rattle.std.proofs.Common.{◌≡◌, ◌<◌}
+use Rattle.std.proofs.Common.{◌≡◌, ◌<◌, ◌≤◌, length}
 use Rattle.std.specs.List.{All}
 use Rattle.md_cert.specs.declared.table.Row.{Row}
 use Rattle.md_cert.specs.Tables.{chunks_of}
@@ -13,4 +13,5 @@ invariant-loop-chunk g l = record {
   chunks : (m : MemberView) → IsMember l.mirror.array l.target m → chunks_of l.table ≡ missing_below l.mirror.array m l.chunk;
   sources : All (HasSources l.mirror.array) l.table;
   below : All (λ (r : Row). r.chunk < l.chunk) l.table;
+  few : length l.table ≤ l.chunk;
 }

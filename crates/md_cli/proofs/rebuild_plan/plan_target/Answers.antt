@@ -1,0 +1,36 @@
+use Rattle.std.proofs.Common.{rules, ◌≡◌, Err, refl}
+use Rattle.md_array.proofs.Listing.{listed_at}
+use Rattle.md_copy.specs.declared.fault.RebuildFault.TheVariants.{NoMemory}
+use Rattle.md_cli.proofs.Planned.{refuses_target}
+use Rattle.md_cli.proofs.rebuild_plan.plan_target.Goals as goal
+
+pub returns-in_err-missing : goal.returns-in_err-missing
+returns-in_err-missing g c =
+    let a = c.args.mirror.now.array in
+    let at = listed_at a.members c.args.target c.requires.within in
+    let fault = c.in_err-missing.field-0.0 in
+    let is : c.from_residual.result ≡ Err fault = search rules in
+    rw is (refuses_target a c.args.target at.0 (Err fault) fault refl at.1 (c.in_err-missing.ensures.accepted at.0 at.1) (c.in_err-missing.ensures.not_spare at.0 at.1))
+
+pub returns-in_err-plan : goal.returns-in_err-plan
+returns-in_err-plan g c =
+    let at = listed_at c.args.mirror.now.array.members c.args.target c.requires.within in
+    let is : c.from_residual-in_err-plan.result ≡ Err NoMemory = search rules in
+    rw is (at.0, at.1, c.in_ok-missing.ensures.accepted at.0 at.1 (λ other. absurd cc))
+
+pub returns : goal.returns
+returns g c =
+    let at = listed_at c.args.mirror.now.array.members c.args.target c.requires.within in
+    record {
+      member = at.0;
+      listed = at.1;
+      target = c.in_ok-missing.ensures.accepted at.0 at.1 (λ other. absurd cc);
+      plans = record {
+        table = c.in_ok-missing.missing;
+        table_is = c.in_ok-missing.ensures.ok at.0 at.1;
+        certified = c.in_ok-plan.ensures.certified;
+        least = c.in_ok-plan.ensures.least;
+        orphans = c.in_ok-plan.ensures.orphans;
+        yes = c.in_ok-plan.ensures.yes;
+      };
+    }

@@ -1,0 +1,52 @@
+-- The plan of a rebuild of one member of an array, and its report.
+use Rattle.std.specs.Prelude.{◌≡◌, ℕ, ◌≤◌, List, length}
+use Rattle.md_cert.specs.declared.table.Row.{Row}
+use Rattle.md_cert.specs.declared.verdict.Verdict.{Verdict}
+use Rattle.md_cert.specs.declared.verdict.Verdict.TheVariants.{Yes}
+use Rattle.md_cert.specs.Assignments.{Least}
+use Rattle.md_cert.specs.Plans.{IsCertified}
+use Rattle.md_cert.specs.Tables.{orphans_of}
+use Rattle.md_cert.specs.Verdicts.{IsVerdict}
+use Rattle.md_plan.specs.declared.planner.Planned.{Planned}
+use Rattle.md_array.specs.View.{ArrayView, MemberView}
+use Rattle.md_array.specs.Members.{IsMember}
+use Rattle.md_copy.specs.Sources.{IsTableOf}
+use Rattle.md_copy.specs.Targets.{IsTarget}
+use Rattle.md_copy.specs.declared.fault.RebuildFault.{RebuildFault}
+use Rattle.md_copy.specs.declared.fault.RebuildFault.TheVariants.{NotSpare, NoMemory}
+use Rattle.md_examine.specs.PlanReport.{plan_text}
+use Rattle.md_cli.specs.declared.fault.CommandFault.{CommandFault}
+use Rattle.md_cli.specs.declared.fault.CommandFault.TheVariants.{BadMember, Rebuild}
+
+-- A plan of the table of the chunks that the member lacks, in the fewest rounds, with a certificate for them. Whatever the
+-- checker may answer to it is `Yes`.
+pub record PlansFor (a : ArrayView) (m : MemberView) (planned : Planned) : Type 0 where
+  pub table : List Row
+  pub table_is : IsTableOf a m table
+  pub certified : IsCertified table planned.plan planned.certificate
+  pub least : Least table planned.plan.rounds
+  pub orphans : planned.orphans ≡ orphans_of table
+  pub yes : (v : Verdict) → IsVerdict table planned.plan planned.certificate v → v ≡ Yes
+
+-- the plan of a rebuild of member k, which may be rebuilt
+pub record IsRebuildPlan (a : ArrayView) (k : ℕ) (planned : Planned) : Type 0 where
+  pub member : MemberView
+  pub listed : IsMember a k member
+  pub target : IsTarget a member
+  pub plans : PlansFor a member planned
+
+-- its report
+pub record IsPlanText (a : ArrayView) (k : ℕ) (text : List ℕ) : Type 0 where
+  pub planned : Planned
+  pub is : IsRebuildPlan a k planned
+  pub shown : text ≡ plan_text planned.plan planned.certificate planned.orphans
+
+-- why there is none: the array has no member k; the member may not be rebuilt; or there is no memory
+abbrev pub RefusesTarget : ArrayView → ℕ → RebuildFault → Type 0
+RefusesTarget a k NotSpare = (m : MemberView) × IsMember a k m × (IsTarget a m → ⊥)
+RefusesTarget a k NoMemory = (m : MemberView) × IsMember a k m × IsTarget a m
+
+abbrev pub RefusesPlan : ArrayView → ℕ → CommandFault → Type 0
+RefusesPlan a k BadMember = length a.members ≤ k
+RefusesPlan a k (Rebuild fault) = RefusesTarget a k fault
+RefusesPlan a k _ = ⊥
