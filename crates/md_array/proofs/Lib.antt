@@ -45,6 +45,7 @@ pub mod Reopened
 pub mod Replaced
 pub mod RequestChunks
 pub mod RequestEntered
+pub mod Rests
 pub mod Resyncing
 pub mod Roles
 pub mod StepsRefused

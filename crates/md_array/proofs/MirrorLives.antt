@@ -32,6 +32,7 @@ use Rattle.md_array.proofs.MirrorRuns.{model_run, starts}
 use Rattle.md_array.proofs.OneMember.{stored_there}
 use Rattle.md_array.proofs.PartsApart.{data_alone, data_elsewhere, parts_of}
 use Rattle.md_array.proofs.Consistent.{consistent}
+use Rattle.md_array.proofs.Rests.{geometry_rests, rests_does}
 use Rattle.md_array.proofs.Reopened.{read_alike, read_of, run_keeps, same_geometry}
 use Rattle.md_array.proofs.WorldsLists.{got_within}
 use Rattle.md_array.proofs.WorldsOpenedFrom.{opened_from, opened_read}
@@ -160,8 +161,8 @@ module _ (t : Moment) (sound : IsConsistent t.mirror) (are : AreReadAsKept t.mir
 
 -- ---- lives
 pub geometry_kept : (es : List Event) (t last : Moment) → MirrorRun t es last → geometry_of last.mirror.array ≡ geometry_of t.mirror.array
-geometry_kept [] t last r = ap (λ (x : Moment). geometry_of x.mirror.array) r
-geometry_kept (e ∷ es) t last r = geometry_kept es (then_as t e r.0 r.1) last r.3 ∙ r.2.geometry
+geometry_kept [] t last r = geometry_rests t.mirror last.mirror r.rests
+geometry_kept (e ∷ es) t last r = geometry_kept es (then_as t e r.0 r.1) last r.3 ∙ (rests_does t.mirror r.0 t.requests r.1 e r.2).geometry
 
 model_life : (g : Geometry) (m : MirrorView) (es : List Event) (rest : List (List Event)) (final : MirrorView) (last : Moment) → geometry_of m.array ≡ g → IsConsistent m → AreReadAsKept m 0
     → MirrorLife m es rest final last → lives.Life g (super_of m.array.shared) (world_of m none_in_flight) es rest (super_of final.array.shared) (history_of last)

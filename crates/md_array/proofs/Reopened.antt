@@ -30,6 +30,7 @@ use Rattle.md_array.proofs.InFlight.{inside_of, whole_of}
 use Rattle.md_array.proofs.OneMember.{stored_there}
 use Rattle.md_array.proofs.PartsApart.{HasParts, bitmap_alone, block_beside_bitmap, log_beside_bitmap, parts_of}
 use Rattle.md_array.proofs.ReadAsKept.{read_beside_data, stays}
+use Rattle.md_array.proofs.Rests.{moment_keeps, rests_does}
 use Rattle.md_array.proofs.WorldsBad.{same_listed}
 use Rattle.md_array.proofs.WorldsReadMember.{IsReadMember, count_is, sound_size, width_old}
 use Rattle.md_array.proofs.WorldsLists.{got_same, got_within}
@@ -40,9 +41,10 @@ use Rattle.md_array.proofs.WorldsSupers.{block_spells}
 -- ---- what holds of a mirror and its devices goes along its events
 pub run_keeps : (es : List Event) (t last : Moment) → MirrorRun t es last → IsConsistent t.mirror → AreReadAsKept t.mirror t.failed_at
     → IsConsistent last.mirror × AreReadAsKept last.mirror last.failed_at
-run_keeps [] t last r sound are =
-    subst (λ (x : Moment). IsConsistent x.mirror × AreReadAsKept x.mirror x.failed_at) (sym r) (sound, are)
-run_keeps (e ∷ es) t last r sound are = run_keeps es (then_as t e r.0 r.1) last r.3 r.2.sound (r.2.read t.failed_at are)
+run_keeps [] t last r sound are = moment_keeps t last r sound are
+run_keeps (e ∷ es) t last r sound are =
+    let leads = rests_does t.mirror r.0 t.requests r.1 e r.2 in
+    run_keeps es (then_as t e r.0 r.1) last r.3 leads.sound (leads.read t.failed_at are)
 
 -- what this array's fields read of device k
 abbrev pub read_of : MirrorView → List Disk → ℕ → Stored
