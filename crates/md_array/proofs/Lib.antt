@@ -21,6 +21,7 @@ pub mod Honesty
 pub mod InFlight
 pub mod InTurn
 pub mod Keeping
+pub mod Listed
 pub mod Listing
 pub mod Mapping
 pub mod MarkSectors

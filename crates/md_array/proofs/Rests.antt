@@ -1,5 +1,5 @@
 -- A mirror whose devices were only read is as good as before.
-use Rattle.std.proofs.Common.{◌≡◌, ℕ, length, slice_get, Option, Some, None, refl, sym, ap, ◌∙◌, subst, arith}
+use Rattle.std.proofs.Common.{◌≡◌, ℕ, List, length, slice_get, Option, Some, None, refl, sym, ap, ◌∙◌, subst, arith}
 use Rattle.std.proofs.lemmas.Option.{none-some, slice_get_within}
 use Rattle.md_model.specs.Events.{Event, Step}
 use Rattle.md_model.specs.Runs.{failed_after}
@@ -9,7 +9,7 @@ use Rattle.md_array.specs.Consistency.{HasPlaces, HasSuper, IsConsistent}
 use Rattle.md_array.specs.ReadAsKept.{AreReadAsKept, IsReadAsKept}
 use Rattle.md_array.specs.Rests.{Rests}
 use Rattle.md_array.specs.Runs.{HasRested, Moment, RestsThenDoes, history_of}
-use Rattle.md_array.specs.Worlds.{block_on, geometry_of, stored_of, stored_on, super_in, world_of, world_on}
+use Rattle.md_array.specs.Worlds.{block_on, geometry_of, is_listed, is_listed_next, stored_of, stored_on, super_in, world_of, world_on}
 use Rattle.md_array.proofs.InTurn.{none_touched}
 use Rattle.md_array.proofs.OneMember.{fits_like, like_itself}
 use Rattle.md_array.proofs.WorldsLists.{got_within}
@@ -24,6 +24,7 @@ super_as m d e same has =
       number = has.number;
       recovering = has.recovering;
       places = subst (HasPlaces m) (sym block) has.places;
+      listed = subst (λ (c : List ℕ). (sector : ℕ) → is_listed m.superblock c sector ≡ is_listed_next m.superblock c sector) (sym same) has.listed;
     }
 
 pub rests_same : (m : MirrorView) → Rests m m
@@ -121,6 +122,7 @@ module _ (t last : Moment) (r : HasRested t last) where
       ∙ (λ i. record (history_of t) { now = world_rests t.mirror last.mirror r.rests t.requests i })
 
   pub moment_keeps : IsConsistent t.mirror → AreReadAsKept t.mirror t.failed_at → IsConsistent last.mirror × AreReadAsKept last.mirror last.failed_at
-  moment_keeps sound are =
-      (rests_sound t.mirror last.mirror r.rests sound,
-      subst (AreReadAsKept last.mirror) (sym (ap (λ (x : Moment). x.failed_at) r.is)) (rests_read t.mirror last.mirror r.rests t.failed_at are))
+  moment_keeps sound are = (
+    rests_sound t.mirror last.mirror r.rests sound,
+    subst (AreReadAsKept last.mirror) (sym (ap (λ (x : Moment). x.failed_at) r.is)) (rests_read t.mirror last.mirror r.rests t.failed_at are),
+  )
