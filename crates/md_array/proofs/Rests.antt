@@ -1,10 +1,13 @@
 -- A mirror whose devices were only read is as good as before.
 use Rattle.std.proofs.Common.{◌≡◌, ℕ, List, length, slice_get, Option, Some, None, refl, sym, ap, ◌∙◌, subst, arith}
 use Rattle.std.proofs.lemmas.Option.{none-some, slice_get_within}
+use Rattle.md_device.specs.Stops.{LeavesMore}
+use Rattle.md_device.proofs.Leaving.{leaves_then}
 use Rattle.md_model.specs.Events.{Event, Step}
 use Rattle.md_model.specs.Runs.{failed_after}
 use Rattle.md_model.specs.Worlds.{Request, World}
 use Rattle.md_array.specs.View.{ArrayView, Disk, MemberView, MirrorView}
+use Rattle.md_array.specs.DeviceChanges.{IsUntouched}
 use Rattle.md_array.specs.Consistency.{HasPlaces, HasSuper, IsConsistent}
 use Rattle.md_array.specs.ReadAsKept.{AreReadAsKept, IsReadAsKept}
 use Rattle.md_array.specs.Rests.{Rests}
@@ -29,6 +32,32 @@ super_as m d e same has =
 
 pub rests_same : (m : MirrorView) → Rests m m
 rests_same m = record { array = refl; disks = none_touched m.disks }
+
+module _ (before mid after : List Disk) (first : IsUntouched before mid) (second : IsUntouched mid after) where
+  -- the device between the two
+  between : (k : ℕ) (d : Disk) → slice_get before k ≡ Some d → (x : Disk) × (slice_get mid k ≡ Some x)
+  between k d was = let low = slice_get_within before k d was in let many = first.same.as_many in got_within mid k (omega arith)
+
+  untouched_then : IsUntouched before after
+  untouched_then = record {
+    same = record {
+      as_many = second.same.as_many ∙ first.same.as_many;
+      honest = λ k d e was is.
+          let x = between k d was in
+          let f = first.same.honest k d x.0 was x.1 in
+          let s = second.same.honest k x.0 e x.1 is in
+          record { honest = s.honest ∙ f.honest; counted = let low = f.counted in let high = s.counted in omega arith };
+    };
+    content = λ k d e was is. let x = between k d was in second.content k x.0 e x.1 is ∙ first.content k d x.0 was x.1;
+    within = λ k d e was is honest.
+        let x = between k d was in
+        leaves_then d.stops x.0.stops e.stops (λ left. left ≡ d.content) (first.within k d x.0 was x.1 honest)
+        (subst (λ (c : List ℕ). LeavesMore x.0.stops e.stops (λ left. left ≡ c)) (first.content k d x.0 was x.1)
+        (second.within k x.0 e x.1 is ((first.same.honest k d x.0 was x.1).honest ∙ honest)));
+  }
+
+pub rests_then : (old mid new : MirrorView) → Rests old mid → Rests mid new → Rests old new
+rests_then old mid new first second = record { array = second.array ∙ first.array; disks = untouched_then old.disks mid.disks new.disks first.disks second.disks }
 
 module _ (old new : MirrorView) (r : Rests old new) where
   abbrev a : ArrayView
