@@ -33,7 +33,7 @@ use Rattle.md_array.proofs.WorldsStates.{role_taken}
 
 -- storing marks leaves a device as long as it was
 as_long : (a : ArrayView) (m : MemberView) (d e : Disk) → IsMarkedBy a m d e → length e.content ≡ length d.content
-as_long a m d e marked = by_need m (λ need. (marked.0 need).outside.size) (λ none. ap length (marked.1 none))
+as_long a m d e marked = by_need m (λ need. (marked.0 need).outside.size) (λ none. ap length (marked.1 none).0)
 
 module _ (before : List Disk) (v : MirrorView) (o : IsOpenedFrom before v) where
   abbrev a : ArrayView

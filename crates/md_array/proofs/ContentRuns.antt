@@ -47,7 +47,7 @@ module _ (m : MirrorView) (start : runs.IsStart (geometry_of m.array) (super_of 
       → (b : Content) × MirrorRunWith (opened_as m) a es last b × IsHeld g opened (history_of last) b
   content_along es a last holds r = along es (opened_as m) a last refl (held_opened g opened first a start holds) (slot_of g opened first start) r
 
-  held : (es : List Event) (t : Moment) (a : Content) (last : Moment) (b : Content) → geometry_of t.mirror.array ≡ g → IsHeld g opened (history_of t) a
+  pub held : (es : List Event) (t : Moment) (a : Content) (last : Moment) (b : Content) → geometry_of t.mirror.array ≡ g → IsHeld g opened (history_of t) a
       → MirrorRunWith t a es last b → IsHeld g opened (history_of last) b
   held [] t a last b same is r = subst (λ h. IsHeld g opened h b) (sym (history_rests t last r.0)) (subst (IsHeld g opened (history_of t)) (sym r.1) is)
   held (e ∷ es) t a last b same is r =

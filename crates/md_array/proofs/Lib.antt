@@ -82,3 +82,9 @@ pub mod WriteKeeps
 pub mod WriteToMember
 pub mod StopsAtSteps
 pub mod StopsAsFailed
+pub mod Moments
+pub mod LeftContents
+pub mod FirstSector
+pub mod LeftAtStops
+pub mod BitmapArea
+pub mod SmallLife

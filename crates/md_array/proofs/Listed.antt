@@ -2,6 +2,7 @@
 use Rattle.std.proofs.Common.{◌≡◌, ℕ, ◌*◌, ◌^◌, true, not, ◌&&◌, ◌==◌, bit_and, if◌then◌else◌, nat_lt, List, Option, Some, None, pos, refl, sym, ap, ◌∙◌}
 use Rattle.std.specs.Ordering.{int_eq}
 use Rattle.md_device.specs.Splice.{part}
+use Rattle.md_format.specs.Fields.{number_at}
 use Rattle.md_super.specs.declared.superblock.Superblock.{Superblock}
 use Rattle.md_super.specs.Faults.{NoFault}
 use Rattle.md_super.specs.Format.{IsSuper}
@@ -61,6 +62,10 @@ same_log v w content sector map shift size offset =
 abbrev pub IsLogKept : Superblock → List ℕ → List ℕ → Type 0
 IsLogKept v old new = has_bad_block_log v ≡ true → part new (512 * from_super v.bblog_offset) (512 * v.bblog_size) ≡ part old (512 * from_super v.bblog_offset) (512 * v.bblog_size)
 
+same_map : (v : Superblock) (one other : List ℕ) (o : Option Super) → number_at 4 8 one ≡ number_at 4 8 other → list_bit v one o ≡ list_bit v other o
+same_map v one other (Some s) map = λ i. not (bit_and (map i) 8 == 0)
+same_map v one other None map = refl
+
 module _ (v : Superblock) (old new : List ℕ) (kept : IsLogKept v old new) (sector : ℕ) where
   logged_kept : has_bad_block_log v ≡ true → is_logged new (from_super v.bblog_offset) v.bblog_size v.bblog_shift sector ≡ is_logged old (from_super v.bblog_offset) v.bblog_size v.bblog_shift sector
   logged_kept there = ap (λ (area : List ℕ). nat_lt sector (2 ^ 54) && lies_in (named_runs v.bblog_shift area) sector) (kept there)
@@ -75,6 +80,19 @@ module _ (v : Superblock) (old new : List ℕ) (kept : IsLogKept v old new) (sec
   listed_kept block =
       ap (λ (b : List ℕ). (list_bit v b (super_in b) && has_bad_block_log v) && is_logged new (from_super v.bblog_offset) v.bblog_size v.bblog_shift sector) block
       ∙ and_same (reads_log_on v old) _ _ (λ on. logged_kept (both (list_bit v (block_on old) (super_in (block_on old))) (has_bad_block_log v) on).1)
+
+  -- and the superblock is read as before
+  pub listed_same_bit : super_in (block_on new) ≡ super_in (block_on old) → number_at 4 8 (block_on new) ≡ number_at 4 8 (block_on old) → is_listed v new sector ≡ is_listed v old sector
+  unfolding is_listed
+  listed_same_bit decoded map =
+      ap (λ b. (b && has_bad_block_log v) && is_logged new (from_super v.bblog_offset) v.bblog_size v.bblog_shift sector)
+      (ap (list_bit v (block_on new)) decoded ∙ same_map v (block_on new) (block_on old) (super_in (block_on old)) map)
+      ∙ and_same (reads_log_on v old) _ _ (λ on. logged_kept (both (list_bit v (block_on old) (super_in (block_on old))) (has_bad_block_log v) on).1)
+
+  -- or the same one is read there
+  pub listed_read_both : (w : Superblock) → IsSuper (block_on old) w → NoFault (block_on old) → IsSuper (block_on new) w → NoFault (block_on new) → is_listed v new sector ≡ is_listed v old sector
+  listed_read_both w was was_sound is sound =
+      listed_same_bit (super_shown (block_on new) w is sound ∙ sym (super_shown (block_on old) w was was_sound)) (sym is.feature_map ∙ was.feature_map)
 
 -- so that what is listed is still what is listed next
 pub still_next : (v : Superblock) (old new : List ℕ) → IsLogKept v old new → block_on new ≡ block_on old

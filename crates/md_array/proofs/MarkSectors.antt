@@ -251,7 +251,7 @@ module _ (k block : ℕ) (old new : MirrorView) (is : IsConsistent old) (low : b
         (λ first. ap (λ (x : ℕ). x / 512) (sym (header_there first).chunksize ∙ r.may.write.header_is.chunksize) ∙ is.chunks.member_width k m r.may.in_sync.member)
         (λ other. ap (λ (x : List ℕ). number_at 4 52 x / 512) (header_elsewhere a m d.content e.content (has d e before after) block low_of_member (outside d e before after) other) ∙ was)
 
-    read_marked : (failed_at : ℕ) → IsReadAsKept a m failed_at d.content → IsReadAsKept a m failed_at e.content
+    pub read_marked : (failed_at : ℕ) → IsReadAsKept a m failed_at d.content → IsReadAsKept a m failed_at e.content
     read_marked failed_at = stays a m failed_at d.content e.content
         (same_block d e before after)
         (log_beside_marks a m d.content e.content (has d e before after) block low_of_member (outside d e before after))

@@ -1,14 +1,18 @@
 -- Marks are stored on one member after another.
-use Rattle.std.proofs.Common.{◌≡◌, ℕ, ◌≤◌, ◌<◌, ◌+◌, List, length, sym, ap, ◌∙◌, arith, set}
+use Rattle.std.proofs.Common.{◌≡◌, ℕ, ◌≤◌, ◌<◌, ◌+◌, List, length, refl, sym, ◌∙◌, subst, arith, set}
 use Rattle.std.specs.Prelude.{slice_get, Some}
 use Rattle.std.proofs.lemmas.Option.{slice_get_within}
 use Rattle.md_array.specs.View.{Disk, ArrayView, MemberView}
 use Rattle.md_array.specs.Members.{IsMember, NeedsMarks}
-use Rattle.md_array.specs.DeviceChanges.{AreSame, EachPair, StaysHonest}
+use Rattle.md_device.proofs.Leaving.{leaves_none}
+use Rattle.md_array.specs.DeviceChanges.{AreSame, EachPair, IsLeftAlone, StaysHonest}
 use Rattle.md_array.specs.Storing.{AreMarked, FailsToStore, IsMarked, IsMarkedBy, StopsAtMember}
 use Rattle.md_array.proofs.InTurn.{each_after, none_touched, still_same}
 use Rattle.md_array.proofs.WorldsLists.{at_set_same, got_other}
 use Rattle.md_array.proofs.Listing.{same_listed}
+
+pub left_alone : (d : Disk) → IsLeftAlone d d
+left_alone d = (refl, λ _. leaves_none d.stops (λ left. left ≡ d.content))
 
 -- they are on the first k members, and the devices from there on are what they were
 pub record AreStoredTo (a : ArrayView) (before now : List Disk) (k : ℕ) : Type 0 where
@@ -48,7 +52,7 @@ module _ (a : ArrayView) (before now : List Disk) (k : ℕ) (d e : Disk) (to : A
     earlier = each_after (λ j x y. j < k → IsMarked a j x y) (λ j x y. j < k → IsMarked a j x y) before now k d e here to.earlier (λ j x y other is. is) (λ x was is below. absurd (omega arith));
     later = λ j x y was is behind.
         let kept : x ≡ y = same_listed before j x y was (to.rest j y (omega arith) (sym (got_other now k j e (λ same. absurd (omega arith))) ∙ is)) in
-        ap (λ (z : Disk). z.content) (sym kept);
+        subst (IsLeftAlone x) kept (left_alone x);
   }
 
 pub stored_all : (a : ArrayView) (before now : List Disk) (k : ℕ) → AreStoredTo a before now k → length now ≤ k → AreMarked before now a

@@ -10,27 +10,23 @@ use Rattle.md_model.specs.Worlds.{World}
 use Rattle.md_model.proofs.ContentLives.{IsHeld}
 use Rattle.md_model.proofs.Lives.{start_again}
 use Rattle.md_model.proofs.Picked.{has_content_again}
-use Rattle.md_array.specs.Consistency.{IsConsistent}
 use Rattle.md_array.specs.Lives.{ContentGoesAlong, IsReopened, KeepsContent, MirrorLife, MirrorLifeWith}
-use Rattle.md_array.specs.ReadAsKept.{AreReadAsKept}
 use Rattle.md_array.specs.Runs.{HasContent, IsStart, MirrorRun, Moment, history_of, opened_as}
 use Rattle.md_array.specs.View.{Disk, MirrorView}
 use Rattle.md_array.specs.Worlds.{geometry_of, none_in_flight, super_of, world_of}
-use Rattle.md_array.proofs.Consistent.{consistent}
-use Rattle.md_array.proofs.MirrorLives.{geometry_kept, reopens}
+use Rattle.md_array.proofs.MirrorLives.{left, reopens}
+use Rattle.md_array.proofs.Moments.{IsSoundAt, geometry_kept, run_keeps, sound_when_opened}
 use Rattle.md_array.proofs.ContentRuns as run
 use Rattle.md_array.proofs.MirrorRuns as mirror_runs
-use Rattle.md_array.proofs.Reopened.{run_keeps, same_geometry}
-use Rattle.md_array.proofs.WorldsOpenedFrom.{opened_read}
+use Rattle.md_array.proofs.Reopened.{same_geometry}
 
 -- a mirror that begins covered, and whose devices an opening would read as it keeps them
 record Begins (m : MirrorView) : Type 0 where
   start : runs.IsStart (geometry_of m.array) (super_of m.array.shared) (world_of m none_in_flight)
-  sound : IsConsistent m
-  read : AreReadAsKept m 0
+  at_m : IsSoundAt (opened_as m)
 
 begins_first : (before : List Disk) (m : MirrorView) → IsStart before m → Begins m
-begins_first before m start = record { start = mirror_runs.starts before m start; sound = consistent before m start.opened; read = opened_read before m start.honest start.opened }
+begins_first before m start = record { start = mirror_runs.starts before m start; at_m = sound_when_opened before m start.honest start.opened }
 
 -- ---- the next opening
 module _ (m : MirrorView) (begins : Begins m) (es : List Event) (t : Moment) (r : MirrorRun (opened_as m) es t) (next : MirrorView) (again : IsReopened m t next)
@@ -47,28 +43,37 @@ module _ (m : MirrorView) (begins : Begins m) (es : List Event) (t : Moment) (r 
   abbrev w : World
   w = world_of next none_in_flight
 
-  along : IsConsistent t.mirror × AreReadAsKept t.mirror t.failed_at
-  along = run_keeps es (opened_as m) t r begins.sound begins.read
+  at_t : IsSoundAt t
+  at_t = run_keeps es (opened_as m) t r begins.at_m
+
+  -- the moment of which the stop leaves devices
+  abbrev stop : Moment
+  stop = (left t at_t next again.before again.devices again.opens).moment
+
+  -- the content was held then too
+  held_then : IsHeld g opened (history_of stop) a
+  held_then =
+      let s = left t at_t next again.before again.devices again.opens in
+      run.held m begins.start s.events t a s.moment a (geometry_kept es (opened_as m) t r) held (s.still a)
 
   same : geometry_of next.array ≡ g
-  same = same_geometry t along.0 along.1 again.before next.array again.devices again.opens.array ∙ geometry_kept es (opened_as m) t r
+  same = same_geometry t at_t again.before next.array again.devices again.opens.array ∙ geometry_kept es (opened_as m) t r
 
-  of_model : Reopens g opened (history_of t) first w
-  of_model = subst (λ x. Reopens x opened (history_of t) first w) (geometry_kept es (opened_as m) t r) (reopens t along.0 along.1 next again.before again.devices again.opens m again.fit)
+  of_model : Reopens g opened (history_of stop) first w
+  of_model = subst (λ x. Reopens x opened (history_of stop) first w) (geometry_kept es (opened_as m) t r) (reopens t at_t next again.before again.devices again.opens m again.fit)
 
   start_of_model : runs.IsStart g first w
-  start_of_model = start_again g opened (history_of t) first w begins.start.small held.kept of_model
+  start_of_model = start_again g opened (history_of stop) first w begins.start.small held_then.kept of_model
 
   begins_again : Begins next
   begins_again = record {
     start = subst (λ x. runs.IsStart x first w) (sym same) start_of_model;
-    sound = consistent again.before next again.opens;
-    read = opened_read again.before next again.devices.honest again.opens;
+    at_m = sound_when_opened again.before next again.devices.honest again.opens;
   }
 
   content_again : (b : Content) × BecomesAtOpening (geometry_of next.array) w a b
   content_again =
-      let b = has_content_again g opened (history_of t) held.kept a first w of_model start_of_model held.holds.unmarked in
+      let b = has_content_again g opened (history_of stop) held_then.kept a first w of_model start_of_model held_then.holds.unmarked in
       (b.0, subst (λ x. BecomesAtOpening x w a b.0) (sym same) b.1)
 
 -- ---- lives

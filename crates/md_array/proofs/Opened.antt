@@ -1,5 +1,5 @@
 -- Devices are opened: the members are read, assembled and remembered, and then marks are stored.
-use Rattle.std.proofs.Common.{◌≡◌, ℕ, ◌*◌, ◌≤◌, List, length, sym, ap, ◌∙◌, arith, subst, get_or}
+use Rattle.std.proofs.Common.{◌≡◌, ◌⊎◌, inl, ℕ, ◌*◌, ◌≤◌, true, List, [], ◌∷◌, length, refl, sym, ap, ◌∙◌, arith, subst, get_or}
 use Rattle.std.specs.Prelude.{slice_get, Some}
 use Rattle.md_device.specs.Splice.{SameOutside}
 use Rattle.md_members.specs.Areas.{IsPlaced, bitmap_sectors}
@@ -8,12 +8,14 @@ use Rattle.md_members.specs.declared.info.MemberInfo.{MemberInfo}
 use Rattle.md_assembly.specs.declared.fault.AssembleFault.{AssembleFault}
 use Rattle.md_assembly.specs.declared.fault.AssembleFault.TheVariants.{Empty, TooMany, Stranger, DoubleNumber, NoBitmap, Geometry, DoubleRole, NotEnough, NoMemory as NoMemoryOfAssembly}
 use Rattle.md_assembly.specs.Faults.{IsFirstFault}
-use Rattle.md_writes.specs.Writes.{IsStopped, after}
+use Rattle.md_device.specs.Stops.{IsMixed}
+use Rattle.md_device.proofs.Leaving.{leaves_less, leaves_then, mixed_none}
+use Rattle.md_writes.specs.Writes.{IsAnyIn, IsCutShort, Write, after}
 use Rattle.md_array.specs.declared.fault.OpenFault.{OpenFault}
 use Rattle.md_array.specs.declared.fault.OpenFault.TheVariants.{Member, Assemble, MetadataFault, NoMemory}
 use Rattle.md_array.specs.View.{Disk, ArrayView, MemberView}
 use Rattle.md_array.specs.Fits.{Fits}
-use Rattle.md_array.specs.DeviceChanges.{AreSame, EachPair, IsUntouched, StaysHonest}
+use Rattle.md_array.specs.DeviceChanges.{AreSame, EachPair, IsLeftAlone, IsUntouched, LeavesAsWas, LeavesOn, StaysHonest}
 use Rattle.md_array.specs.Opening.{IsArrayOf}
 use Rattle.md_array.specs.Reading.{AreRead, RefusesRead}
 use Rattle.md_array.specs.Refusals.{RefusesArray, RefusesOpen, assembly_refusal_of}
@@ -34,14 +36,26 @@ same_through before mid end first second = record {
       (λ k d x e p q. record { honest = q.honest ∙ p.honest; counted = omega (arith, p.counted, q.counted) });
 }
 
--- marks are stored on a device of the same content
-module _ (a : ArrayView) (m : MemberView) (d x e : Disk) (stays : StaysHonest d x) (content : x.content ≡ d.content) where
+-- what was there before writes are made, they may leave
+pub cut_before : (old left : List ℕ) (writes : List Write) → left ≡ old → IsCutShort old writes left
+cut_before old left [] same = record { done = []; rest = []; order = refl; mixed = same }
+cut_before old left (w ∷ rest) same = record { done = []; rest = w ∷ rest; order = refl; mixed = subst (IsMixed w.sector w.bytes old) (sym same) (mixed_none w.sector w.bytes old) }
+
+-- marks are stored on a device of the same content, which was read before
+module _ (a : ArrayView) (m : MemberView) (d x e : Disk) (stays : StaysHonest d x) (content : x.content ≡ d.content) (read : LeavesAsWas d x) where
+  -- a stop within both leaves what it leaves within the second, if that may leave what was there
+  leaves_from : (P : List ℕ → List ℕ → Type 0) → ((old left : List ℕ) → left ≡ old → P old left) → (x.honest ≡ true → LeavesOn (P x.content) x e) → d.honest ≡ true → LeavesOn (P d.content) d e
+  leaves_from P same leaves h = leaves_then d.stops x.stops e.stops (P d.content)
+      (leaves_less d.stops x.stops (λ left. left ≡ d.content) (P d.content) (same d.content) (read h))
+      (subst (λ (c : List ℕ). LeavesOn (P c) x e) content (leaves (stays.honest ∙ h)))
+
   stores_from : StoresMarks a m x e → StoresMarks a m d e
   stores_from s = record {
     start = s.start;
     writes = s.writes;
     are = s.are;
     done = λ h. s.done (stays.honest ∙ h) ∙ ap (λ (c : List ℕ). after c s.writes) content;
+    within = leaves_from (λ old left. IsCutShort old s.writes left) (λ old left. cut_before old left s.writes) s.within;
     outside = subst (λ (c : List ℕ). SameOutside (512 * s.start) (512 * bitmap_sectors m.stored.chunks) c e.content) content s.outside;
   }
 
@@ -51,12 +65,20 @@ module _ (a : ArrayView) (m : MemberView) (d x e : Disk) (stays : StaysHonest d 
     writes = f.writes;
     are = f.are;
     failed = λ h. omega (arith, stays.counted, f.failed (stays.honest ∙ h));
-    stopped = λ h. subst (λ (c : List ℕ). IsStopped c f.writes e.content) content (f.stopped (stays.honest ∙ h));
+    made = f.made;
+    tried = f.tried;
+    rest = f.rest;
+    order = f.order;
+    stopped = λ h. subst (λ (c : List ℕ). IsAnyIn f.tried (after c f.made) e.content) content (f.stopped (stays.honest ∙ h));
+    within = leaves_from (λ old left. IsCutShort old f.made left ⊎ IsAnyIn f.tried (after old f.made) left) (λ old left same. inl (cut_before old left f.made same)) f.within;
     outside = subst (λ (c : List ℕ). SameOutside (512 * f.start) (512 * bitmap_sectors m.stored.chunks) c e.content) content f.outside;
   }
 
+  alone_from : IsLeftAlone x e → IsLeftAlone d e
+  alone_from is = (is.0 ∙ content, leaves_from (λ old left. left ≡ old) (λ old left same. same) is.1)
+
   marked_from : IsMarkedBy a m x e → IsMarkedBy a m d e
-  marked_from is = (λ needs. stores_from (is.0 needs), λ none. is.1 none ∙ content)
+  marked_from is = (λ needs. stores_from (is.0 needs), λ none. alone_from (is.1 none))
 
 module _ (before mid : List Disk) (untouched : IsUntouched before mid) (a : ArrayView) where
   place : (k : ℕ) (d : Disk) → slice_get before k ≡ Some d → slice_get mid k ≡ Some (get_or mid k d)
@@ -65,7 +87,7 @@ module _ (before mid : List Disk) (untouched : IsUntouched before mid) (a : Arra
   marked_at : (k : ℕ) (d e : Disk) → slice_get before k ≡ Some d → IsMarked a k (get_or mid k d) e → IsMarked a k d e
   marked_at k d e was is = λ m at.
       let x = get_or mid k d in
-      marked_from a m d x e (untouched.same.honest k d x was (place k d was)) (untouched.content k d x was (place k d was)) (is m at)
+      marked_from a m d x e (untouched.same.honest k d x was (place k d was)) (untouched.content k d x was (place k d was)) (untouched.within k d x was (place k d was)) (is m at)
 
   -- what was stored on devices that were read stands on those that were opened
   pub marked_after : (end : List Disk) → AreMarked mid end a → AreMarked before end a
@@ -82,9 +104,11 @@ module _ (before mid : List Disk) (untouched : IsUntouched before mid) (a : Arra
     needs = stop.needs;
     failed = λ d e was is.
         let x = get_or mid k d in
-        fails_from a stop.member d x e (untouched.same.honest k d x was (place k d was)) (untouched.content k d x was (place k d was)) (stop.failed x e (place k d was) is);
+        fails_from a stop.member d x e (untouched.same.honest k d x was (place k d was)) (untouched.content k d x was (place k d was)) (untouched.within k d x was (place k d was)) (stop.failed x e (place k d was) is);
     earlier = λ j d e was is below. marked_at j d e was (stop.earlier j (get_or mid j d) e (place j d was) is below);
-    later = λ j d e was is behind. stop.later j (get_or mid j d) e (place j d was) is behind ∙ untouched.content j d (get_or mid j d) was (place j d was);
+    later = λ j d e was is behind.
+        let x = get_or mid j d in
+        alone_from a stop.member d x e (untouched.same.honest j d x was (place j d was)) (untouched.content j d x was (place j d was)) (untouched.within j d x was (place j d was)) (stop.later j x e (place j d was) is behind);
   }
 
   pub fits_after : Fits before a → Fits mid a

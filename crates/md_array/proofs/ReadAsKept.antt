@@ -18,7 +18,7 @@ use Rattle.md_array.specs.ReadAsKept.{AreReadAsKept, HasOwnSuper, HasWidth, IsFr
 use Rattle.md_array.specs.Recording.{IsReadable, super_write}
 use Rattle.md_array.specs.Rising.{failed, made_due, made_faulty, risen}
 use Rattle.md_array.specs.Worlds.{block_on, from_super}
-use Rattle.md_array.proofs.Listed.{IsLogKept, listed_kept, same_log}
+use Rattle.md_array.proofs.Listed.{IsLogKept, listed_read_both, same_log}
 use Rattle.md_array.proofs.OneMember.{ChangesMember}
 use Rattle.md_array.proofs.PartsApart.{HasParts, block_beside_data, header_beside_data, log_beside_data}
 use Rattle.md_array.proofs.Replaced.{of_set}
@@ -35,9 +35,10 @@ log_kept_as v own old new size offset kept there =
 super_was : (old new : List ℕ) (v : Superblock) → block_on new ≡ block_on old → IsSuperOn new v → IsSuperOn old v
 super_was old new v block on = record { fields = subst (λ (b : List ℕ). IsSuper b v) block on.fields; sound = subst NoFault block on.sound }
 
-pub own_stays : (shared own : Superblock) (old new : List ℕ) → block_on new ≡ block_on old → IsLogKept own old new → HasOwnSuper shared own old → HasOwnSuper shared own new
-own_stays shared own old new block log has v on =
-    let was = has v (super_was old new v block on) in
+-- where what is read there was read before
+pub own_stays_as : (shared own : Superblock) (old new : List ℕ) → ((v : Superblock) → IsSuperOn new v → IsSuperOn old v) → IsLogKept own old new → HasOwnSuper shared own old → HasOwnSuper shared own new
+own_stays_as shared own old new reads log has v on =
+    let was = has v (reads v on) in
     record {
       set_uuid = was.set_uuid;
       size = was.size;
@@ -46,9 +47,16 @@ own_stays shared own old new block log has v on =
       bitmap_offset = was.bitmap_offset;
       bblog_size = was.bblog_size;
       bblog_offset = was.bblog_offset;
-      listed = λ sector. listed_kept v old new (log_kept_as v own old new was.bblog_size was.bblog_offset log) sector block ∙ was.listed sector ∙ sym (listed_kept own old new log sector block);
+      listed = λ sector.
+          let there = reads v on in
+          listed_read_both v old new (log_kept_as v own old new was.bblog_size was.bblog_offset log) sector v there.fields there.sound on.fields on.sound
+          ∙ was.listed sector
+          ∙ sym (listed_read_both own old new log sector v there.fields there.sound on.fields on.sound);
       no_newer = was.no_newer;
     }
+
+pub own_stays : (shared own : Superblock) (old new : List ℕ) → block_on new ≡ block_on old → IsLogKept own old new → HasOwnSuper shared own old → HasOwnSuper shared own new
+own_stays shared own old new block = own_stays_as shared own old new (λ v. super_was old new v block)
 
 -- where neither its superblock nor its log changes
 pub stays : (a : ArrayView) (m : MemberView) (failed_at : ℕ) (old new : List ℕ) → block_on new ≡ block_on old → IsLogKept m.superblock old new
@@ -69,10 +77,11 @@ read_beside_data a m old new has s n inside same failed_at = stays a m failed_at
     (log_beside_data a m old new has s n inside same)
     (λ width. ap (λ (h : List ℕ). number_at 4 52 h / 512) (header_beside_data a m old new has s n inside same) ∙ width)
 
--- where its own superblock is written
-pub own_written : (a : ArrayView) (m : MemberView) (content : List ℕ) → IsReadable (merged a.shared m.superblock) → block_on content ≡ (super_write a m).bytes → HasOwnSuper a.shared m.superblock content
-own_written a m content r block v on =
-    let spelled = subst (λ (b : List ℕ). IsSuper b v) block on.fields in
+-- where what is read there is read in its own superblock, as it is written
+pub own_written_as : (a : ArrayView) (m : MemberView) (content : List ℕ) → IsReadable (merged a.shared m.superblock) → ((v : Superblock) → IsSuperOn content v → IsSuper (super_write a m).bytes v)
+    → HasOwnSuper a.shared m.superblock content
+own_written_as a m content r reads v on =
+    let spelled = reads v on in
     let own = r.fields in
     record {
       set_uuid = spelled.set_uuid ∙ sym own.set_uuid;
@@ -86,6 +95,9 @@ own_written a m content r block v on =
           (spelled.feature_map ∙ sym own.feature_map) (spelled.bblog_shift ∙ sym own.bblog_shift) (spelled.bblog_size ∙ sym own.bblog_size) (spelled.bblog_offset ∙ sym own.bblog_offset);
       no_newer = let same : v.events ≡ a.shared.events = spelled.events ∙ sym own.events in omega arith;
     }
+
+pub own_written : (a : ArrayView) (m : MemberView) (content : List ℕ) → IsReadable (merged a.shared m.superblock) → block_on content ≡ (super_write a m).bytes → HasOwnSuper a.shared m.superblock content
+own_written a m content r block = own_written_as a m content r (λ v on. subst (λ (b : List ℕ). IsSuper b v) block on.fields)
 
 -- ---- another array in memory
 -- its fields are the same, and its count no lower

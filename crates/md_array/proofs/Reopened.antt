@@ -1,108 +1,44 @@
 -- What the fields of the next array read of the devices that a stop left is what those of the mirror before read.
-use Rattle.std.proofs.Common.{◌≡◌, ℕ, ◌+◌, ◌*◌, ◌/◌, ◌≤◌, inl, inr, true, cond, ◌&&◌, ◌==◌, nat_lt, List, [], ◌∷◌, length, drop, slice_get, Some, refl, sym, ap, ◌∙◌, subst, arith, bytes_eq}
+use Rattle.std.proofs.Common.{◌≡◌, ℕ, ◌+◌, ◌*◌, ◌/◌, ◌≤◌, inl, inr, true, cond, ◌&&◌, ◌==◌, nat_lt, List, [], drop, slice_get, Some, refl, sym, ap, ◌∙◌, subst, arith, bytes_eq}
 use Rattle.std.specs.Int.{div_ceil}
-use Rattle.std.proofs.lemmas.Option.{same_Some, slice_get_within}
-use Rattle.md_device.specs.Splice.{part, SameOutside}
+use Rattle.std.proofs.lemmas.Option.{slice_get_within}
+use Rattle.md_device.specs.Splice.{part}
 use Rattle.md_format.specs.Fields.{number_at, bytes_at}
 use Rattle.md_super.specs.declared.superblock.Superblock.{Superblock}
 use Rattle.md_super.specs.Faults.{NoFault}
 use Rattle.md_bitmap.specs.Marks.{is_set}
 use Rattle.md_bitmap.proofs.Limits.{div_ceil-sectors}
 use Rattle.md_members.specs.declared.info.MemberInfo.{MemberInfo}
-use Rattle.md_members.specs.Areas.{BitmapIsPlaced, IsPlaced, bitmap_sectors}
-use Rattle.md_members.specs.Members.{sectors_of}
 use Rattle.md_members.specs.Reading.{ReadsSuper}
 use Rattle.md_model.specs.Sectors.{chunk_of}
 use Rattle.md_model.specs.Devices.{Stored, is_marked}
-use Rattle.md_model.specs.Events.{Event}
 use Rattle.md_model.specs.Stops as stops
-use Rattle.md_model.proofs.Puts.{by_same}
-use Rattle.md_array.specs.View.{ArrayView, Disk, MemberView, MirrorView}
+use Rattle.md_array.specs.View.{ArrayView, Disk, MemberView}
 use Rattle.md_array.specs.Members.{IsMember}
-use Rattle.md_array.specs.Consistency.{IsConsistent}
-use Rattle.md_array.specs.Lives.{AreFoundAgain, IsFoundAgain, IsLeft, IsTorn}
-use Rattle.md_array.specs.ReadAsKept.{AreReadAsKept, IsOwnSuper, IsReadAsKept, IsSuperOn}
+use Rattle.md_array.specs.Lives.{AreFoundAgain, IsFoundAgain}
+use Rattle.md_array.specs.ReadAsKept.{IsOwnSuper, IsReadAsKept, IsSuperOn}
 use Rattle.md_array.specs.Opening.{IsArrayOf}
-use Rattle.md_array.specs.Requests.{request_sectors}
-use Rattle.md_array.specs.Runs.{MirrorRun, Moment, then_as}
+use Rattle.md_array.specs.Runs.{Moment}
 use Rattle.md_array.specs.Worlds.{block_on, from_super, geometry_of, header_on, is_listed, stored_of, stored_on, super_in}
-use Rattle.md_array.proofs.InFlight.{inside_of, whole_of}
+use Rattle.md_array.proofs.LeftAtStops.{parts_on, sorted}
+use Rattle.md_array.proofs.LeftContents.{read_in}
 use Rattle.md_array.proofs.Listed.{listed_kept_of}
+use Rattle.md_array.proofs.Moments.{IsSoundAt}
 use Rattle.md_array.proofs.OneMember.{stored_there}
-use Rattle.md_array.proofs.PartsApart.{HasParts, bitmap_alone, block_beside_bitmap, log_beside_bitmap, parts_of}
-use Rattle.md_array.proofs.ReadAsKept.{read_beside_data, stays}
-use Rattle.md_array.proofs.Rests.{moment_keeps, rests_does}
+use Rattle.md_array.proofs.PartsApart.{HasParts, bitmap_alone, block_beside_bitmap, log_beside_bitmap}
+use Rattle.md_array.proofs.ReadAsKept.{stays}
 use Rattle.md_array.proofs.WorldsReadMember.{IsReadMember, count_is, sound_size, width_old}
 use Rattle.md_array.proofs.WorldsLists.{got_same, got_within}
 use Rattle.md_array.proofs.WorldsShown.{read_at}
 use Rattle.md_array.proofs.WorldsSound.{freshest_at}
 use Rattle.md_array.proofs.WorldsSupers.{block_spells}
 
--- ---- what holds of a mirror and its devices goes along its events
-pub run_keeps : (es : List Event) (t last : Moment) → MirrorRun t es last → IsConsistent t.mirror → AreReadAsKept t.mirror t.failed_at
-    → IsConsistent last.mirror × AreReadAsKept last.mirror last.failed_at
-run_keeps [] t last r sound are = moment_keeps t last r sound are
-run_keeps (e ∷ es) t last r sound are =
-    let leads = rests_does t.mirror r.0 t.requests r.1 e r.2 in
-    run_keeps es (then_as t e r.0 r.1) last r.3 leads.sound (leads.read t.failed_at are)
-
--- what this array's fields read of device k
-abbrev pub read_of : MirrorView → List Disk → ℕ → Stored
-read_of m disks k = stored_on m.array (slice_get m.array.members k) (slice_get disks k)
-
--- parts are on a device as long as another
-parts_on : (a : ArrayView) (m : MemberView) (old new : List ℕ) → length new ≡ length old → HasParts a m old → HasParts a m new
-parts_on a m old new long has =
-    let sectors : sectors_of old ≡ sectors_of new = ap (λ (n : ℕ). n / 512) (sym long) in
-    record {
-      placed = subst (λ (n : ℕ). IsPlaced n m.superblock (bitmap_sectors m.stored.chunks)) sectors has.placed;
-      bitmap = subst (λ (n : ℕ). BitmapIsPlaced n m.superblock (bitmap_sectors m.stored.chunks)) sectors has.bitmap;
-      size = has.size;
-      count = has.count;
-    }
-
--- ---- the devices that a stop left
-module _ (t : Moment) (sound : IsConsistent t.mirror) (are : AreReadAsKept t.mirror t.failed_at) where
-  abbrev a : ArrayView
-  a = t.mirror.array
-
-  -- one of them
-  record IsLeftDevice (m : MemberView) (content : List ℕ) : Type 0 where
-    parts : HasParts a m content
-    read : IsReadAsKept a m t.failed_at content
-
-  as_it_was : (k : ℕ) (d : Disk) (m : MemberView) → slice_get t.mirror.disks k ≡ Some d → IsMember a k m → IsLeftDevice m d.content
-  as_it_was k d m at is = record { parts = parts_of t.mirror sound k d m at is; read = are k d m at is }
-
-  torn_device : (left : List Disk) (torn : IsTorn t left) (k : ℕ) (e : Disk) (m : MemberView) → slice_get left k ≡ Some e → IsMember a k m → IsLeftDevice m e.content
-  torn_device left torn k e m at is = by_same k torn.on
-      (λ here.
-      let now : slice_get left torn.on ≡ Some e = sym (ap (slice_get left) here) ∙ at in
-      let many = torn.tried.as_many in
-      let low = slice_get_within left torn.on e now in
-      let d = got_within t.mirror.disks torn.on (omega arith) in
-      let is_torn : m ≡ torn.member = same_Some m torn.member (sym is ∙ ap (slice_get a.members) here ∙ torn.may.intent.in_sync.member) in
-      let member = torn.may.intent.in_sync.member in
-      let same = torn.tried.outside d.0 e d.1 now in
-      let was = as_it_was torn.on d.0 torn.member d.1 member in
-      subst (λ (x : MemberView). IsLeftDevice x e.content) (sym is_torn) (record {
-        parts = parts_on a torn.member d.0.content e.content same.size was.parts;
-        read = read_beside_data a torn.member d.0.content e.content was.parts torn.request.sector (request_sectors torn.request) (inside_of t.mirror torn.request sound torn.pending)
-            (subst (λ (x : ℕ). SameOutside (512 * (torn.member.superblock.data_offset + torn.request.sector)) x d.0.content e.content) (whole_of a torn.request torn.pending) same)
-            t.failed_at was.read;
-      }))
-      (λ apart. as_it_was k e m (sym (torn.tried.others k apart) ∙ at) is)
-
-  left_device : (left : List Disk) → IsLeft t left → (k : ℕ) (e : Disk) (m : MemberView) → slice_get left k ≡ Some e → IsMember a k m → IsLeftDevice m e.content
-  left_device left (inl same) k e m at is = as_it_was k e m (sym (ap (λ (xs : List Disk). slice_get xs k) same) ∙ at) is
-  left_device left (inr torn) k e m at is = torn_device left torn k e m at is
-
 -- the superblock of a device that was read
 super_on : (content : List ℕ) (v : Superblock) → ReadsSuper content true v → IsSuperOn content v
 super_on content v r = record { fields = block_spells content v r; sound = subst NoFault (r.read.from_device refl) r.sound }
 
 -- ---- devices that are found again, and the array that they make
-module _ (t : Moment) (sound : IsConsistent t.mirror) (are : AreReadAsKept t.mirror t.failed_at) (before : List Disk) (is : ArrayView)
+module _ (t : Moment) (at_t : IsSoundAt t) (before : List Disk) (is : ArrayView)
     (r : AreFoundAgain t before is.shared) (o : IsArrayOf before is) where
   abbrev was : ArrayView
   was = t.mirror.array
@@ -137,7 +73,7 @@ module _ (t : Moment) (sound : IsConsistent t.mirror) (are : AreReadAsKept t.mir
     pub again : IsMemberAgain k j f n
     again =
         let s = read_at before is o j n (r.honest j) is_member in
-        let d = left_device t sound are r.left r.is_left k f.disk_left f.member f.at_left f.is_member in
+        let d = (sorted t at_t r.left r.is_left).device k f.disk_left f.member f.at_left f.is_member in
         let old = f.disk_left.content in
         record {
           info = s.info;
@@ -171,7 +107,7 @@ module _ (t : Moment) (sound : IsConsistent t.mirror) (are : AreReadAsKept t.mir
     raid_disks = sym again.seen.raid_disks ∙ is_own.raid_disks
 
     chunks_size : is.chunks.size ≡ was.chunks.size
-    chunks_size = again.seen.array_size ∙ size ∙ sym sound.chunks.size
+    chunks_size = again.seen.array_size ∙ size ∙ sym at_t.sound.chunks.size
 
     own_there : IsSuperOn content info.superblock
     own_there = super_on content info.superblock again.seen.read.superblock
@@ -234,7 +170,7 @@ module _ (t : Moment) (sound : IsConsistent t.mirror) (are : AreReadAsKept t.mir
       ∙ sym (div_ceil-sectors is.chunks.size n.0.header.chunksize (sound_size is n.0 x.info found_first.disk_now.content x.seen))
       ∙ ap (div_ceil is.chunks.size) (sym x.seen.width)
       ∙ (λ i. div_ceil (same_size i) (same_width i))
-      ∙ sym sound.chunks.count
+      ∙ sym at_t.sound.chunks.count
 
   -- ---- and so is what is read of each device
   pub same_stored : (k j : ℕ) (f : IsFoundAgain was r.left before k j) (n : MemberView) (is_member : IsMember is j n) → stored_of is n f.disk_now.content ≡ stored_of was f.member f.disk_now.content
@@ -256,7 +192,7 @@ module _ (t : Moment) (sound : IsConsistent t.mirror) (are : AreReadAsKept t.mir
       }
 
   pub read_alike : (k j : ℕ) → r.at k ≡ Some j
-      → stops.IsHalfOpened (geometry_of was) (read_of t.mirror r.left k) (stored_on is (slice_get is.members j) (slice_get before j))
+      → stops.IsHalfOpened (geometry_of was) (read_in was r.left k) (stored_on is (slice_get is.members j) (slice_get before j))
   read_alike k j at =
       let f = r.again k j at in
       let n = member_at k j f in

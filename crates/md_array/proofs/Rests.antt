@@ -9,6 +9,7 @@ use Rattle.md_model.specs.Worlds.{Request, World}
 use Rattle.md_array.specs.View.{ArrayView, Disk, MemberView, MirrorView}
 use Rattle.md_array.specs.DeviceChanges.{IsUntouched}
 use Rattle.md_array.specs.Consistency.{HasPlaces, HasSuper, IsConsistent}
+use Rattle.md_array.specs.Events.{Does}
 use Rattle.md_array.specs.ReadAsKept.{AreReadAsKept, IsReadAsKept}
 use Rattle.md_array.specs.Rests.{Rests}
 use Rattle.md_array.specs.Runs.{HasRested, Moment, RestsThenDoes, history_of}
@@ -32,6 +33,12 @@ super_as m d e same has =
 
 pub rests_same : (m : MirrorView) → Rests m m
 rests_same m = record { array = refl; disks = none_touched m.disks }
+
+pub at_rest : (t : Moment) → HasRested t t
+at_rest t = record { rests = rests_same t.mirror; is = refl }
+
+pub at_once : (old new : MirrorView) (before after : ℕ → Option Request) (e : Event) → Does old before e new after → RestsThenDoes old before e new after
+at_once old new before after e does = record { mid = old; rests = rests_same old; does = does }
 
 module _ (before mid after : List Disk) (first : IsUntouched before mid) (second : IsUntouched mid after) where
   -- the device between the two

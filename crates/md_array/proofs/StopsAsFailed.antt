@@ -11,7 +11,7 @@ use Rattle.md_writes.proofs.Runs.{cut_one}
 use Rattle.md_model.specs.Events.{Event}
 use Rattle.md_model.proofs.Puts.{by_same}
 use Rattle.md_array.specs.DeviceChanges.{LeavesOn, StaysHonest}
-use Rattle.md_array.specs.DiskWrites.{IsTried, IsWritten}
+use Rattle.md_array.specs.DiskWrites.{IsFailed, IsTried, IsWritten}
 use Rattle.md_array.specs.StopsWithin.{IsLeftBut, MayAllBeLeft, StopsAsFailed, StopsAsTried, StopsAtEvents, StopsUndivided}
 use Rattle.md_array.specs.View.{Disk}
 use Rattle.md_array.specs.Worlds.{AreHonest}
@@ -121,6 +121,13 @@ stops_as_failed k w old new left honest fails may =
       },
       contents_found k w old.disks new.disks left (IsAnyIn w) tried but,
     )
+
+-- what a stop leaves within a write that fails, as of a torn write
+pub failed_as_tried : (k : ℕ) (w : Write) (before after : List Disk) (left : List (List ℕ)) → AreHonest before → IsFailed k w before after → MayAllBeLeft before after left
+    → (disks : List Disk) × IsTried k w before disks × (map (λ d. d.content) disks ≡ left)
+failed_as_tried k w before after left honest failed may =
+    let but = stops_at_failure k w before after left honest failed may in
+    (with_contents after left, found_tried k w before after left (IsAnyIn w) failed.tried but (λ d c was any. any), contents_found k w before after left (IsAnyIn w) failed.tried but)
 
 pub stops_as_tried : StopsAsTried
 stops_as_tried k w before after left honest writes may =

@@ -13,7 +13,7 @@ use Rattle.md_array.specs.DiskWrites.{IsTried}
 use Rattle.md_array.specs.StopsWithin.{IsLeftBut, MayAllBeLeft, MayBeLeft, StopsAtFailure, StopsAtSector, StopsAtWrite, StopsInMemory}
 
 -- what is listed since, has what is said of all that is new
-new_has : (past now : List (List ℕ)) (P : List ℕ → Type 0) → LeavesMore past now P → (i : ℕ) (c : List ℕ) → slice_get (drop (length past) now) i ≡ Some c → P c
+pub new_has : (past now : List (List ℕ)) (P : List ℕ → Type 0) → LeavesMore past now P → (i : ℕ) (c : List ℕ) → slice_get (drop (length past) now) i ≡ Some c → P c
 new_has past now P leaves i c is =
     let same : drop (length past) now ≡ leaves.more = ap (drop (length past)) leaves.all ∙ drop_at past leaves.more (length past) refl in
     let at : slice_get leaves.more i ≡ Some c = subst (λ xs. slice_get xs i ≡ Some c) same is in

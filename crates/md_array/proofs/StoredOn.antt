@@ -7,7 +7,6 @@ use Rattle.md_members.specs.Areas.{bitmap_sectors}
 use Rattle.md_members.specs.Reading.{BitmapStartsAt}
 use Rattle.md_writes.specs.Bitmaps.{bitmap_writes}
 use Rattle.md_writes.specs.Writes.{MakesWrites}
-use Rattle.md_writes.proofs.Runs.{is_stopped}
 use Rattle.md_array.specs.View.{ArrayView, MemberView, disk_of}
 use Rattle.md_array.specs.Storing.{AreMarkWrites, FailsToStore, IsHeaderFor, StoresMarks}
 
@@ -18,7 +17,7 @@ module _ {D : Type 0} (g : Ghosts D) (a : ArrayView) (m : MemberView) (start : â
 
   pub stores : {T E : Type 0} (result : Result T E) â†’ MakesWrites g (bitmap_writes start h m.stored (bitmap_sectors m.stored.chunks)) old new result
       â†’ OnOk result (StoresMarks a m (disk_of g old) (disk_of g new))
-  stores (Ok x) does = record { start = start; writes = bitmap_writes start h m.stored (bitmap_sectors m.stored.chunks); are = writes_are; done = does.all_done; outside = outside }
+  stores (Ok x) does = record { start = start; writes = bitmap_writes start h m.stored (bitmap_sectors m.stored.chunks); are = writes_are; done = does.all_done; within = does.within; outside = outside }
   stores (Err e) stops = tt
 
   pub fails_to_store : {T E : Type 0} (result : Result T E) â†’ MakesWrites g (bitmap_writes start h m.stored (bitmap_sectors m.stored.chunks)) old new result
@@ -29,6 +28,11 @@ module _ {D : Type 0} (g : Ghosts D) (a : ArrayView) (m : MemberView) (start : â
     writes = bitmap_writes start h m.stored (bitmap_sectors m.stored.chunks);
     are = writes_are;
     failed = stops.failed;
-    stopped = is_stopped g (bitmap_writes start h m.stored (bitmap_sectors m.stored.chunks)) old new stops;
+    made = stops.done;
+    tried = stops.tried;
+    rest = stops.rest;
+    order = stops.order;
+    stopped = stops.outside;
+    within = stops.within;
     outside = outside;
   }

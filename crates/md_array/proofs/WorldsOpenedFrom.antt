@@ -48,7 +48,7 @@ module _ (before : List Disk) (m : MirrorView) (honest : AreHonest before) (o : 
   none_before : (k : ℕ) → length a.members ≤ k → was.stored k ≡ nothing_stored
   none_before k past = ap (λ x. stored_on a x (slice_get before k)) (slice_get_past a.members k past)
 
-  super_was : (k : ℕ) (own : Super) → (w.stored k).super ≡ Some own → (was.stored k).super ≡ Some own
+  pub super_was : (k : ℕ) (own : Super) → (w.stored k).super ≡ Some own → (was.stored k).super ≡ Some own
   super_was k own e = let x = own_is before m honest o k own e in super_before k x.0 x.1 ∙ ap Some x.2
 
   super_stays : (k : ℕ) (own : Super) → (was.stored k).super ≡ Some own → (w.stored k).super ≡ Some own

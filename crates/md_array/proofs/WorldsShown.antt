@@ -93,7 +93,7 @@ module _ (before : List Disk) (m : MirrorView) (o : IsOpenedFrom before m) where
         new = new.0;
         was = r.at;
         is = new.1;
-        opened = record { honest = r.honest; member = r.member; stored = marked.0; unchanged = marked.1 };
+        opened = record { honest = r.honest; member = r.member; stored = marked.0; unchanged = λ none. (marked.1 none).0 };
       }
 
 module _ (before : List Disk) (m : MirrorView) (honest : AreHonest before) (o : IsOpenedFrom before m) where

@@ -15,6 +15,10 @@ LeavesOn P d e = LeavesMore d.stops e.stops P
 abbrev pub LeavesAsWas : Disk → Disk → Type 0
 LeavesAsWas d e = d.honest ≡ true → LeavesOn (λ left. left ≡ d.content) d e
 
+-- nothing was written on it, and a stop leaves it as it was
+abbrev pub IsLeftAlone : Disk → Disk → Type 0
+IsLeftAlone d e = IsUnchanged d e × LeavesAsWas d e
+
 -- it stays honest or not, and its failures are counted
 pub record StaysHonest (old new : Disk) : Type 0 where
   pub honest : new.honest ≡ old.honest

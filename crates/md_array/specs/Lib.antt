@@ -31,4 +31,6 @@ pub mod Events
 pub mod Rests
 pub mod Runs
 pub mod Lives
+pub mod Left
 pub mod StopsWithin
+pub mod SmallLife

@@ -1,5 +1,5 @@
 -- One opening of a mirror's devices after another: runs, each but the last ended by a stop, and what the next mirror is made of.
-use Rattle.std.specs.Prelude.{◌≡◌, ◌⊎◌, ℕ, ◌*◌, ◌<◌, ◌≤◌, false, List, [], ◌∷◌, length, Option, slice_get, Some}
+use Rattle.std.specs.Prelude.{◌≡◌, ℕ, ◌*◌, ◌<◌, ◌≤◌, false, List, [], ◌∷◌, length, Option, slice_get, Some}
 use Rattle.md_model.specs.Sectors.{Geometry, chunk_of}
 use Rattle.md_device.specs.Splice.{SameOutside}
 use Rattle.md_super.specs.declared.superblock.Superblock.{Superblock}
@@ -10,32 +10,14 @@ use Rattle.md_model.specs.Fits.{HasOneView}
 use Rattle.md_model.specs.Content.{Content, BecomesAtOpening, Holds}
 use Rattle.md_model.specs.Runs.{History}
 use Rattle.md_model.specs.Stops.{IsFit}
-use Rattle.md_model.specs.Worlds.{Request}
-use Rattle.md_array.specs.View.{ArrayView, Disk, MemberView, MirrorView, PendingView}
-use Rattle.md_array.specs.Members.{IsMember}
-use Rattle.md_array.specs.DiskWrites.{IsTried}
-use Rattle.md_array.specs.HalfOpened.{IsHalfMarked}
+use Rattle.md_array.specs.View.{ArrayView, Disk, MemberView, MirrorView}
+use Rattle.md_array.specs.Members.{IsInSync, IsMember}
+use Rattle.md_array.specs.HalfOpened.{IsHalfOpened}
+use Rattle.md_array.specs.Left.{IsLeft}
 use Rattle.md_array.specs.Opening.{IsArrayOf, IsOpenedFrom}
 use Rattle.md_array.specs.ReadAsKept.{AreReadAsKept, chunk_size_on}
-use Rattle.md_array.specs.Requests.{IsPending, among}
 use Rattle.md_array.specs.Runs.{IsStart, MirrorRun, MirrorRunWith, Moment, history_of, opened_as}
 use Rattle.md_array.specs.Worlds.{AreHonest, from_super, geometry_of, none_in_flight, stored_of, super_of, world_of}
-use Rattle.md_array.specs.WritingMember.{MayWrite, data_write}
-
--- a write of a request's data that the stop broke off: any bytes may stand in its range
-pub record IsTorn (t : Moment) (left : List Disk) : Type 0 where
-  pub request : PendingView
-  pub others : ℕ → Option Request
-  pub in_flight : t.requests ≡ among request others
-  pub pending : IsPending t.mirror.array request
-  pub on : ℕ
-  pub member : MemberView
-  pub may : MayWrite on t.mirror.array request member
-  pub tried : IsTried on (data_write member request) t.mirror.disks left
-
--- What a stop leaves. Every other write is on its device or is not, so that the stop is before or after its event.
-abbrev pub IsLeft : Moment → List Disk → Type 0
-IsLeft t left = (left ≡ t.mirror.disks) ⊎ IsTorn t left
 
 -- A device is as it was left; but openings that were themselves stopped may have written its bitmap. Then no chunk lost its
 -- mark, and the header has the chunk size that it had.
@@ -123,6 +105,14 @@ KeepsGeometry =
     → (es : List Event) (rest : List (List Event)) (final : MirrorView) (last : Moment) → MirrorLife m es rest final last
     → geometry_of last.mirror.array ≡ geometry_of m.array
 
+-- A member in sync of the mirror that is opened of what a stop left was in sync at the stop, on the same device.
+abbrev pub FindsInSync : Type 0
+FindsInSync =
+    (before : List Disk) (m : MirrorView) → IsStart before m
+    → (es : List Event) (rest : List (List Event)) (final : MirrorView) (last : Moment) → MirrorLife m es rest final last
+    → (next : MirrorView) (again : IsReopened final last next)
+    → (k : ℕ) (n : MemberView) → IsInSync next.array k n → (o : MemberView) × IsInSync last.mirror.array (again.devices.from k) o
+
 -- The next superblock is fit where it is as new as the one of the opening before and has recorded the last failure, if no two
 -- superblocks of that opening were as new and told of other roles.
 abbrev pub FitsWhenThere : Type 0
@@ -139,5 +129,6 @@ StaysAsLeft =
     (before : List Disk) (m : MirrorView) → IsStart before m
     → (es : List Event) (rest : List (List Event)) (final : MirrorView) (last : Moment) → MirrorLife m es rest final last
     → (found : List Disk) (a : ArrayView) (devices : AreFoundAgain last found a.shared) → IsArrayOf found a
-    → (k j : ℕ) (at : devices.at k ≡ Some j) (n : MemberView) (new : Disk) → IsMember a j n → IsHalfMarked a n (devices.again k j at).disk_now new
-    → IsAsLeft last.mirror.array (devices.again k j at).member (devices.again k j at).disk_left.content new.content
+    → (left : List (List ℕ)) → IsHalfOpened a found left
+    → (k j : ℕ) (at : devices.at k ≡ Some j) (c : List ℕ) → slice_get left j ≡ Some c
+    → IsAsLeft last.mirror.array (devices.again k j at).member (devices.again k j at).disk_left.content c

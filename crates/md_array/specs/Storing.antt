@@ -1,5 +1,5 @@
 -- Marks are stored on members: which bytes are written, and what stands on the devices after it.
-use Rattle.std.specs.Prelude.{◌≡◌, ℕ, ◌*◌, ◌<◌, true, List, length, slice_get, Some}
+use Rattle.std.specs.Prelude.{◌≡◌, ◌⊎◌, ℕ, ◌*◌, ◌<◌, true, List, ◌++◌, ◌∷◌, length, slice_get, Some}
 use Rattle.md_device.specs.Splice.{SameOutside}
 use Rattle.md_bitmap.specs.declared.header.BitmapHeader.{BitmapHeader}
 use Rattle.md_bitmap.specs.Header.{CountsFit, SettingsFit}
@@ -8,10 +8,10 @@ use Rattle.md_members.specs.Reading.{BitmapStartsAt}
 use Rattle.md_array.specs.declared.fault.OpenFault.{OpenFault}
 use Rattle.md_array.specs.declared.fault.OpenFault.TheVariants.{MetadataFault}
 use Rattle.md_writes.specs.Bitmaps.{bitmap_writes}
-use Rattle.md_writes.specs.Writes.{Write, after, IsStopped}
+use Rattle.md_writes.specs.Writes.{Write, IsAnyIn, IsCutShort, after}
 use Rattle.md_array.specs.View.{Disk, MemberView, ArrayView}
 use Rattle.md_array.specs.Members.{IsMember, NeedsMarks}
-use Rattle.md_array.specs.DeviceChanges.{IsUnchanged, EachPair, AreSame}
+use Rattle.md_array.specs.DeviceChanges.{AreSame, EachPair, IsLeftAlone, LeavesOn}
 
 -- the header that is stored with a member's marks: the array's uuid, size, events and events_cleared, state 0, the rest its
 -- own; its numbers fit their fields
@@ -43,26 +43,34 @@ pub record AreMarkWrites (a : ArrayView) (m : MemberView) (start : ℕ) (writes 
 abbrev pub IsSameOutsideBitmap : MemberView → ℕ → Disk → Disk → Type 0
 IsSameOutsideBitmap m start old new = SameOutside (512 * start) (512 * bitmap_sectors m.stored.chunks) old.content new.content
 
--- a device before and after the marks were stored on it
+-- A device before and after the marks were stored on it. At each moment a stop leaves the first of the writes done, and the next
+-- one cut short.
 pub record StoresMarks (a : ArrayView) (m : MemberView) (old new : Disk) : Type 0 where
   pub start : ℕ
   pub writes : List Write
   pub are : AreMarkWrites a m start writes
   pub done : old.honest ≡ true → new.content ≡ after old.content writes
+  pub within : old.honest ≡ true → LeavesOn (IsCutShort old.content writes) old new
   pub outside : IsSameOutsideBitmap m start old new
 
--- a device before and after storing them failed
+-- A device before and after storing them failed: the first writes were made, and the next one failed. Within it any bytes may stand
+-- in its range, and so at its end.
 pub record FailsToStore (a : ArrayView) (m : MemberView) (old new : Disk) : Type 0 where
   pub start : ℕ
   pub writes : List Write
   pub are : AreMarkWrites a m start writes
   pub failed : old.honest ≡ true → old.failures < new.failures
-  pub stopped : old.honest ≡ true → IsStopped old.content writes new.content
+  pub made : List Write
+  pub tried : Write
+  pub rest : List Write
+  pub order : writes ≡ made ++ tried ∷ rest
+  pub stopped : old.honest ≡ true → IsAnyIn tried (after old.content made) new.content
+  pub within : old.honest ≡ true → LeavesOn (λ left. IsCutShort old.content made left ⊎ IsAnyIn tried (after old.content made) left) old new
   pub outside : IsSameOutsideBitmap m start old new
 
--- where marks are to be stored on a member they were, and else its device is as before
+-- where marks are to be stored on a member they were, and else its device is left alone
 abbrev pub IsMarkedBy : ArrayView → MemberView → Disk → Disk → Type 0
-IsMarkedBy a m d e = (NeedsMarks m → StoresMarks a m d e) × ((NeedsMarks m → ⊥) → IsUnchanged d e)
+IsMarkedBy a m d e = (NeedsMarks m → StoresMarks a m d e) × ((NeedsMarks m → ⊥) → IsLeftAlone d e)
 
 abbrev pub IsMarked : ArrayView → ℕ → Disk → Disk → Type 0
 IsMarked a k d e = (m : MemberView) → IsMember a k m → IsMarkedBy a m d e
@@ -72,7 +80,7 @@ pub record AreMarked (before after : List Disk) (a : ArrayView) : Type 0 where
   pub same : AreSame before after
   pub each : EachPair (IsMarked a) before after
 
--- storing the marks on member k failed: they are stored on the members before it, and the devices behind it are unchanged
+-- storing the marks on member k failed: they are stored on the members before it, and the devices behind it are left alone
 pub record StopsAtMember (a : ArrayView) (before after : List Disk) (k : ℕ) : Type 0 where
   pub same : AreSame before after
   pub member : MemberView
@@ -80,7 +88,7 @@ pub record StopsAtMember (a : ArrayView) (before after : List Disk) (k : ℕ) : 
   pub needs : NeedsMarks member
   pub failed : (d e : Disk) → slice_get before k ≡ Some d → slice_get after k ≡ Some e → FailsToStore a member d e
   pub earlier : EachPair (λ j d e. j < k → IsMarked a j d e) before after
-  pub later : EachPair (λ j d e. k < j → IsUnchanged d e) before after
+  pub later : EachPair (λ j d e. k < j → IsLeftAlone d e) before after
 
 -- why storing the marks ends
 abbrev pub RefusesMarks : ArrayView → List Disk → List Disk → OpenFault → Type 0

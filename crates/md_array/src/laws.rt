@@ -11,7 +11,7 @@ ghost use Rattle.md_array.specs.Members.{IsMember};
 ghost use Rattle.md_array.specs.View.{Disk, MemberView, MirrorView};
 ghost use Rattle.md_array.specs.Opening.{IsOpenedFrom};
 ghost use Rattle.md_array.specs.ReadAsKept.{AreReadAsKept};
-ghost use Rattle.md_array.specs.Lives.{AtEachMoment, ContentGoesAlong, FitsWhenThere, IsReadAsKeptInLives, KeepsContent, KeepsGeometry, StaysAsLeft};
+ghost use Rattle.md_array.specs.Lives.{AtEachMoment, ContentGoesAlong, FindsInSync, FitsWhenThere, IsReadAsKeptInLives, KeepsContent, KeepsGeometry, StaysAsLeft};
 ghost use Rattle.md_array.specs.Runs.{HasContent};
 ghost use Rattle.md_array.specs.StopsWithin.{StopsAsFailed, StopsAsTried, StopsAtEvents, StopsAtFailure, StopsAtSector, StopsAtWrite, StopsInMemory, StopsUndivided};
 ghost use Rattle.md_array.specs.Worlds.{AreHonest, geometry_of, none_in_flight, super_of, world_of, world_on};
@@ -37,15 +37,20 @@ pub fn opening()
 
 /// What looks back, at each moment of a mirror's life. It was opened from devices that do what they
 /// answer, whose stored marks covered what they differ in. Calls did events, any of them in any order. It
-/// was stopped between two of them, or within a write of data, and opened again from some of the devices
-/// that were left; and so on.
+/// was stopped between two calls or within one, and opened again from some of the devices that were left;
+/// and so on.
 ///
 /// An event is what a call's contract says of it (`Does`): a step that answered Ok, or a write that failed
-/// and made its member faulty. A refused call is none. An opening after a stop is of devices that were left,
-/// in any order, some of them missing (`IsReopened`). Its superblock is fit, which leaves out a stop while a
-/// failure awaits its record. Openings that were themselves stopped may have written bitmaps between, if no
-/// chunk lost its mark and the header kept its chunk size (`half_opening`). Nothing is said of a mirror once
-/// it is halted.
+/// and made its member faulty. A refused call is none. What a stop within a call leaves is what the call's
+/// own contract gives (`IsLeft`): of its write each sector as before or as written, or any bytes in its range
+/// where the write fails. A stop within `record` left the old superblock, the new one or none that can be
+/// decoded: a premise, unless the write is done and neither superblock has more than 128 roles. Nothing is said
+/// of a stop within a write of marks that fails.
+///
+/// An opening after a stop is of devices that were left, in any order, some of them missing (`IsReopened`).
+/// Its superblock is fit, which leaves out a stop while a failure awaits its record. Openings that were
+/// themselves stopped may have written bitmaps between, if no chunk lost its mark and the header kept its chunk
+/// size (`half_opening`). Nothing is said of a mirror once it is halted.
 pub fn every_run()
     // Wherever two members in sync differ, the marks stored on each of them have the chunk.
     ensures covered { AtEachMoment IsCovered }
@@ -53,6 +58,9 @@ pub fn every_run()
     // A stop leaves devices of which an opening finds only members in sync that were so, whose marks cover
     // what differs; and all of these, where each has recorded all but the last change.
     ensures at_stop { AtEachMoment IsSafeAtStop }
+
+    // So each member in sync of the mirror that is opened then was in sync.
+    ensures finds_in_sync { FindsInSync }
 
     // Once data was let through, a device that the last opening left out is not found in sync beside a
     // member that was.
@@ -82,9 +90,10 @@ pub fn fitness()
 {}
 
 /// An interrupted open of a mirror's devices, at any moment of its life, leaves each as it was left, so that
-/// the next open may find it. It was stopped while it wrote, or one of its writes failed. Where that was the
-/// write of a bitmap's first sector, that write has to have left the header. The superblock that the open went
-/// by has to have recorded the last failure.
+/// the next open may find it. It was stopped, or one of its writes failed: what that leaves of a device is what
+/// the contract of `open` gives. A failed write of a bitmap's first sector has to have left the header. The
+/// superblock that the open went by has to have recorded the last failure. An open that makes no array leaves
+/// every device untouched, by its contract.
 pub fn half_opening()
     ensures as_left { StaysAsLeft }
 {}

@@ -12,6 +12,7 @@ mod fault;
 mod finishing;
 mod in_sync;
 pub mod laws;
+mod lone_life;
 mod marking;
 mod member;
 mod mirror;
@@ -30,6 +31,7 @@ mod storing_marks;
 mod writing_member;
 
 pub use fault::OpenFault;
+pub use lone_life::small_life;
 pub use mirror::Mirror;
 pub use pending::Pending;
 pub use step_fault::{BeginFault, ClearFault, FinishFault, StoreFault, WriteMemberFault};

@@ -7,6 +7,7 @@ pub returns : goal.returns
 returns c = record {
   covered = lives.life_covered;
   at_stop = lives.life_safe;
+  finds_in_sync = lives.finds_in_sync;
   keeps_out = lives.life_keeps_out;
   stays_out = lives.life_stays_out;
   has_content = contents.content_at_first;
