@@ -1,17 +1,15 @@
 -- The content that the members in sync of a mirror hold goes along each run of it.
-use Rattle.std.proofs.Common.{◌≡◌, ◌<◌, List, [], ◌∷◌, refl, sym, ◌∙◌, subst}
+use Rattle.std.proofs.Common.{◌≡◌, List, [], ◌∷◌, refl, sym, ◌∙◌, subst}
 use Rattle.md_model.specs.Sectors.{Geometry}
 use Rattle.md_model.specs.Devices.{Super}
 use Rattle.md_model.specs.Events.{Event, Step}
 use Rattle.md_model.specs.Runs as runs
 use Rattle.md_model.specs.Worlds.{World}
 use Rattle.md_model.specs.Content.{Content, Becomes, Holds}
-use Rattle.md_model.proofs.ContentAlong.{IsOfMembers, after_event}
+use Rattle.md_model.proofs.ContentAlong.{after_event}
 use Rattle.md_model.proofs.ContentLives.{IsHeld, held_opened}
 use Rattle.md_model.proofs.Contents.{holds_step}
 use Rattle.md_model.proofs.Keeps.{kept_step}
-use Rattle.md_model.proofs.Opened.{slot_of}
-use Rattle.md_model.proofs.Supers.{all_step}
 use Rattle.md_array.specs.View.{MirrorView}
 use Rattle.md_array.specs.Runs.{MirrorRun, MirrorRunWith, Moment, history_of, opened_as, then_as}
 use Rattle.md_array.specs.Worlds.{geometry_of, none_in_flight, super_of, world_of}
@@ -27,25 +25,25 @@ module _ (m : MirrorView) (start : runs.IsStart (geometry_of m.array) (super_of 
   abbrev first : World
   first = world_of m none_in_flight
 
-  along : (es : List Event) (t : Moment) (a : Content) (last : Moment) → geometry_of t.mirror.array ≡ g → IsHeld g opened (history_of t) a → IsOfMembers first.members (history_of t).now
+  along : (es : List Event) (t : Moment) (a : Content) (last : Moment) → geometry_of t.mirror.array ≡ g → IsHeld g opened (history_of t) a
       → MirrorRun t es last → (b : Content) × MirrorRunWith t a es last b × IsHeld g opened (history_of last) b
-  along [] t a last same held all r = (a, (r, refl), subst (λ h. IsHeld g opened h a) (sym (history_rests t last r)) held)
-  along (e ∷ es) t a last same held all r =
+  along [] t a last same held r = (a, (r, refl), subst (λ h. IsHeld g opened h a) (sym (history_rests t last r)) held)
+  along (e ∷ es) t a last same held r =
       let h = history_of t in
       let w = world_of r.0 r.1 in
       let leads = rests_does t.mirror r.0 t.requests r.1 e r.2 in
       let s = subst (λ x. Step x h.now e w) same leads.step in
-      let c = after_event g start.small opened first.members h e w a held all s.1 in
+      let c = after_event g start.small opened h e w a held s.1 in
       let next = then_as t e r.0 r.1 in
       let more = along es next c.0 last (leads.geometry ∙ same)
       (record { kept = kept_step g start.small opened h e w held.kept s; holds = holds_step g a c.0 h.now e w held.kept.tracked held.holds s c.1 })
-      (all_step g start.small opened (λ k _. k < first.members) (λ h' t' all' k on. let x = t'.recorded.has_super k on in all' k x.0 x.1) h e w held.kept all s.1) r.3 in
+      r.3 in
       (more.0, (r.0, r.1, c.0, r.2, subst (λ x. Becomes x e h.now a c.0) (sym same) c.1, more.1), more.2)
 
   -- from the opening on
   pub content_along : (es : List Event) (a : Content) (last : Moment) → Holds g a first → MirrorRun (opened_as m) es last
       → (b : Content) × MirrorRunWith (opened_as m) a es last b × IsHeld g opened (history_of last) b
-  content_along es a last holds r = along es (opened_as m) a last refl (held_opened g opened first a start holds) (slot_of g opened first start) r
+  content_along es a last holds r = along es (opened_as m) a last refl (held_opened g opened first a start holds) r
 
   pub held : (es : List Event) (t : Moment) (a : Content) (last : Moment) (b : Content) → geometry_of t.mirror.array ≡ g → IsHeld g opened (history_of t) a
       → MirrorRunWith t a es last b → IsHeld g opened (history_of last) b

@@ -54,6 +54,7 @@ pub mod StoredOn
 pub mod StoresKeep
 pub mod SuperFailed
 pub mod SuperRecorded
+pub mod Turns
 pub mod Uniting
 pub mod Whole
 pub mod WorldsBad

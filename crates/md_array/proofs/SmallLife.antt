@@ -82,7 +82,7 @@ again v sound k j is =
 pub small_life : (before : List Disk) (m mid next : MirrorView) → IsOpenedFrom before m → length m.array.members ≡ 1 → RunsTwice m mid → IsOpenedFrom mid.disks next
     → m.array.shared.events < next.array.shared.events → AreHonest before → HasSmallLife before next
 small_life before m mid next opened one r opens late honest =
-    let t : Moment = record { mirror = mid; requests = r.requests; failed_at = 0; tried = false } in
+    let t : Moment = record (opened_as m) { mirror = mid; requests = r.requests } in
     let at_t = run_keeps (Event.Begin r.number r.request ∷ Event.Record 0 ∷ []) (opened_as m) t r.run (sound_when_opened before m honest opened) in
     let reopened : IsReopened m t next = record {
       before = mid.disks;

@@ -19,7 +19,8 @@ use Rattle.md_array.specs.Recording.{super_write}
 use Rattle.md_array.specs.Requests.{AreInFlight, among, request_of}
 use Rattle.md_array.specs.Worlds.{AreHonest, world_of, geometry_of, super_in, block_on}
 
--- The devices before and after an event: one is written at most, and once. Of a resync's events no call is made yet.
+-- The devices before and after an event: one is written at most, and once. Of a resync's events, and of members that come and go,
+-- no call is made yet.
 abbrev pub WritesOnce : Event → List Disk → List Disk → Type 0
 WritesOnce (Event.Record k) before after = (w : Write) × IsWritten k w before after
 WritesOnce (Event.StoreMarks k b) before after = (w : Write) × (length w.bytes ≡ 512) × IsWritten k w before after
@@ -31,6 +32,9 @@ WritesOnce (Event.CopyFails k c) before after = Unit {0}
 WritesOnce (Event.Copy from k s) before after = Unit {0}
 WritesOnce Event.Resynced before after = Unit {0}
 WritesOnce Event.Unresynced before after = Unit {0}
+WritesOnce (Event.Remove k) before after = Unit {0}
+WritesOnce (Event.Add number left) before after = Unit {0}
+WritesOnce (Event.ReAdd own device left) before after = Unit {0}
 WritesOnce Event.MakeClean before after = after ≡ before
 WritesOnce (Event.Begin n p) before after = after ≡ before
 WritesOnce (Event.Finish n) before after = after ≡ before

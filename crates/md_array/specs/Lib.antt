@@ -30,6 +30,8 @@ pub mod HalfOpened
 pub mod Events
 pub mod Rests
 pub mod Runs
+pub mod InTurn
+pub mod WholeCalls
 pub mod Lives
 pub mod Left
 pub mod StopsWithin

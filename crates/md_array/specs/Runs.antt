@@ -1,11 +1,12 @@
 -- Lists of events of a mirror, from its opening on: each is done by a call, as the calls' contracts say (`Does`). Between them
 -- devices may be read, and reads may fail: that is no event, and the world stays.
-use Rattle.std.specs.Prelude.{◌≡◌, ℕ, Bool, false, List, [], ◌∷◌, Option}
+use Rattle.std.specs.Prelude.{◌≡◌, ℕ, Bool, false, not, List, [], ◌∷◌, Option}
 use Rattle.md_model.specs.Devices.{Covered}
 use Rattle.md_model.specs.Worlds.{Request, IsInSync}
 use Rattle.md_model.specs.Content.{Content, Becomes, Holds}
 use Rattle.md_model.specs.Events.{Event}
-use Rattle.md_model.specs.Runs.{History, failed_after, tried_after}
+use Rattle.md_model.specs.Runs.{History, away_after, failed_after, tried_after}
+use Rattle.md_array.specs.Rising.{has_number}
 use Rattle.md_array.specs.View.{Disk, MirrorView}
 use Rattle.md_array.specs.Opening.{IsOpenedFrom}
 use Rattle.md_array.specs.Events.{Does}
@@ -18,17 +19,18 @@ pub record Moment : Type 0 where
   pub requests : ℕ → Option Request
   pub failed_at : ℕ  -- the count after the last failure, or 0
   pub tried : Bool  -- data was written to a member, or a write of it failed
+  pub away : ℕ → Bool  -- no member had this number at any moment since the opening
 
 -- the same of the mirror's world
 abbrev pub history_of : Moment → History
-history_of t = record { now = world_of t.mirror t.requests; failed_at = t.failed_at; tried = t.tried }
+history_of t = record { now = world_of t.mirror t.requests; failed_at = t.failed_at; tried = t.tried; away = t.away }
 
 abbrev pub opened_as : MirrorView → Moment
-opened_as m = record { mirror = m; requests = none_in_flight; failed_at = 0; tried = false }
+opened_as m = record { mirror = m; requests = none_in_flight; failed_at = 0; tried = false; away = λ d. not (has_number m.array d) }
 
 abbrev pub then_as : Moment → Event → MirrorView → (ℕ → Option Request) → Moment
 then_as t e m requests =
-    record { mirror = m; requests = requests; failed_at = failed_after e (world_of m requests) t.failed_at; tried = tried_after e t.tried }
+    record { mirror = m; requests = requests; failed_at = failed_after e (world_of m requests) t.failed_at; tried = tried_after e t.tried; away = away_after e t.away }
 
 -- since the one moment devices were only read
 pub record HasRested (t last : Moment) : Type 0 where

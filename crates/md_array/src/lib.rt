@@ -26,8 +26,10 @@ mod recording;
 mod remembering;
 mod rising;
 mod step_fault;
+mod stored_marks;
 mod storing;
 mod storing_marks;
+pub mod whole_calls;
 mod writing_member;
 
 pub use fault::OpenFault;

@@ -13,6 +13,11 @@ use Rattle.md_model.proofs.Puts.{by_same, put-at}
 use Rattle.md_model.proofs.Tracked.{IsTracked, IsFewer}
 use Rattle.md_model.proofs.TrackedSteps.{fewer_recorded, fewer_failed, left_off, off_marked, bits_written}
 use Rattle.md_model.proofs.TrackedCalls.{bits_copied}
+use Rattle.md_model.specs.States.{is_in_sync}
+use Rattle.md_model.specs.States.State.{Recovering, Spare}
+use Rattle.md_model.specs.Counts.{risen}
+use Rattle.md_model.specs.Membership.{is_spare, joined, removed, skip, Newcomer}
+use Rattle.md_model.proofs.Membership.{same_device, was_member}
 use Rattle.md_model.proofs.Between.{ended_away}
 use Rattle.md_model.proofs.Contents.{quiet_unmarked}
 
@@ -32,6 +37,16 @@ module _ (g : Geometry) (d : Stored) where
   behind_begun : (a : Content) (w : World) (n : ℕ) (p : Request) (rises full : Bool) → IsBehind g a d w → IsBehind g a d (begun g w n p rises full)
   behind_begun a w n p true full t = record { in_memory = λ x low off m. t.in_memory x low off (left_off (w.marks (chunk_of g x)) (touches_chunk g p (chunk_of g x)) m); on_members = t.on_members }
   behind_begun a w n p false full t = record { in_memory = λ x low off m. t.in_memory x low off (left_off (w.marks (chunk_of g x)) (touches_chunk g p (chunk_of g x)) m); on_members = t.on_members }
+
+  behind_removed : (a : Content) (w : World) (k : ℕ) (spare full : Bool) → IsBehind g a d w → IsBehind g a d (removed g w k spare full)
+  behind_removed a w k true full t = record { in_memory = t.in_memory; on_members = λ i. t.on_members (skip k i) }
+  behind_removed a w k false full t = record { in_memory = t.in_memory; on_members = λ i. t.on_members (skip k i) }
+
+  behind_joined : (a : Content) (w : World) (n : Newcomer) → is_in_sync n.state ≡ false → IsBehind g a d w → IsBehind g a d (joined w n)
+  behind_joined a w n out t = record {
+    in_memory = t.in_memory;
+    on_members = λ i s low on off bit. t.on_members i s low (was_member w n out i on).1 off (sym (ap (λ (x : Stored). x.bits (chunk_of g s)) (same_device w n out i on)) ∙ bit);
+  }
 
   -- each event, as long as the array is degraded: no mark is cleared
   pub behind_step : (a b : Content) (w : World) (e : Event) (w' : World) → IsTracked g w → IsDegraded g w → IsBehind g a d w → Happens g w e w' → Becomes g e w a b → IsBehind g b d w'
@@ -68,6 +83,11 @@ module _ (g : Geometry) (d : Stored) where
     on_members = λ i x low on off bit. t.on_members i x low on off bit ∙ sym (c.unmarked_on i x low on bit);
   })
   behind_step a b w Event.Unresynced w' _ _ t s c = behind_as a b w' c (subst (IsBehind g a d) (sym s.1) (record { in_memory = t.in_memory; on_members = t.on_members }))
+  behind_step a b w (Event.Remove k) w' _ _ t s c = behind_as a b w' c (subst (IsBehind g a d) (sym s.3) (behind_removed a w k (is_spare (w.state k)) s.0 t))
+  behind_step a b w (Event.Add number left) w' _ _ t s c = behind_as a b w' c (subst (IsBehind g a d) (sym s.4)
+      (behind_joined a (risen g w s.0) (record { number = number; role = 65535; state = Spare; re_added = false; device = left }) refl (record { in_memory = t.in_memory; on_members = t.on_members })))
+  behind_step a b w (Event.ReAdd own device left) w' _ _ t s c = behind_as a b w' c (subst (IsBehind g a d) (sym s.4)
+      (behind_joined a (risen g w s.0) (record { number = own.number; role = own.role own.number; state = Recovering; re_added = true; device = left }) refl (record { in_memory = t.in_memory; on_members = t.on_members })))
   behind_step a b w Event.MakeClean w' _ _ t s c = behind_as a b w' c (subst (IsBehind g a d) (sym s.3) (record { in_memory = t.in_memory; on_members = t.on_members }))
 
 -- A member that fails is behind by what is marked.
@@ -128,3 +148,6 @@ module _ (g : Geometry) (a : Content) (w : World) (tracked : IsTracked g w) (t :
   behind_leaving Event.Resynced same w' s = absurd same
   behind_leaving Event.Unresynced same w' s = absurd same
   behind_leaving Event.MakeClean same w' s = absurd same
+  behind_leaving (Event.Remove j) same w' s = absurd same
+  behind_leaving (Event.Add number left) same w' s = absurd same
+  behind_leaving (Event.ReAdd own device left) same w' s = absurd same

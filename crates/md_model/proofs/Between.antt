@@ -1,5 +1,5 @@
 -- Every event keeps what the members in sync hold between the steps.
-use Rattle.std.proofs.Common.{◌≡◌, ℕ, Bool, true, false, cond, inl, inr, ⊎_elim, sym, ap, ◌∙◌, subst, true≢false, List}
+use Rattle.std.proofs.Common.{◌≡◌, ℕ, Bool, true, false, cond, inl, inr, ⊎_elim, refl, sym, ap, ◌∙◌, subst, true≢false, List}
 use Rattle.std.specs.Prelude.{Some, None}
 use Rattle.md_model.specs.Sectors.{Geometry, chunk_of}
 use Rattle.md_model.specs.Devices.{Stored}
@@ -15,6 +15,10 @@ use Rattle.md_model.proofs.Puts.{by_same, put-miss}
 use Rattle.md_model.proofs.Tracked.{IsFewer, in_flight_fewer}
 use Rattle.md_model.proofs.TrackedSteps.{fewer_recorded, fewer_failed, quiet_but, content_marked, listed_marked, content_written, listed_written, quiet_written, in_flight_risen, in_flight_entered, in_flight_finished, in_flight_unmarked, in_flight_marks_stored, in_flight_written}
 use Rattle.md_model.proofs.TrackedCalls.{content_copied, content_at_copy, listed_copied, in_flight_copied, in_flight_resynced, in_flight_made_clean}
+use Rattle.md_model.specs.States.{is_in_sync}
+use Rattle.md_model.specs.States.State.{Recovering, Spare}
+use Rattle.md_model.specs.Membership.{is_spare, joined, removed, skip, Newcomer}
+use Rattle.md_model.proofs.Membership.{in_flight_joined, in_flight_removed, same_device, was_member}
 use Rattle.md_model.proofs.Keeps.{begin_after}
 use Rattle.md_model.proofs.Opened.{in_flight_opened}
 
@@ -110,6 +114,21 @@ module _ (g : Geometry) (a : Content) where
   between_made_clean : (w : World) (full : Bool) → HoldsBetween g a w → HoldsBetween g a (made_clean g w full)
   between_made_clean w full t = record { at_rest = t.at_rest; in_flight = in_flight_made_clean g w full t.in_flight }
 
+  between_risen : (w : World) (full : Bool) → HoldsBetween g a w → HoldsBetween g a (risen g w full)
+  between_risen w full t = record { at_rest = t.at_rest; in_flight = in_flight_risen g w full t.in_flight }
+
+  between_removed : (w : World) (k : ℕ) (spare full : Bool) → HoldsBetween g a w → HoldsBetween g a (removed g w k spare full)
+  between_removed w k true full t = record { at_rest = λ j s low on. t.at_rest (skip k j) s low on; in_flight = in_flight_removed g w k true full t.in_flight }
+  between_removed w k false full t = record { at_rest = λ j s low on. t.at_rest (skip k j) s low on; in_flight = in_flight_removed g w k false full t.in_flight }
+
+  between_joined : (w : World) (n : Newcomer) → is_in_sync n.state ≡ false → HoldsBetween g a w → HoldsBetween g a (joined w n)
+  between_joined w n out t = record {
+    at_rest = λ j s low on clear q when.
+        let same = same_device w n out j on in
+        ap (λ (d : Stored). d.content s) same ∙ t.at_rest j s low (was_member w n out j on).1 (sym (ap (λ (d : Stored). d.listed s) same) ∙ clear) q when;
+    in_flight = in_flight_joined w n out t.in_flight;
+  }
+
   -- the content goes along with each event
   same : (b : Content) (w : World) → b ≡ a → HoldsBetween g a w → HoldsBetween g b w
   same b w e = subst (λ c. HoldsBetween g c w) (sym e)
@@ -129,6 +148,11 @@ module _ (g : Geometry) (a : Content) where
   between b w (Event.Copy from k x) w' s c t = same b w' c (subst (HoldsBetween g a) (sym s.1) (between_copied w from k x s.0 t))
   between b w Event.Resynced w' s c t = subst (HoldsBetween g b) (sym s.1) (between_resynced w b c t)
   between b w Event.Unresynced w' s c t = same b w' c (subst (HoldsBetween g a) (sym s.1) (between_unresynced w t))
+  between b w (Event.Remove k) w' s c t = same b w' c (subst (HoldsBetween g a) (sym s.3) (between_removed w k (is_spare (w.state k)) s.0 t))
+  between b w (Event.Add d left) w' s c t = same b w' c (subst (HoldsBetween g a) (sym s.4)
+      (between_joined (risen g w s.0) (record { number = d; role = 65535; state = Spare; re_added = false; device = left }) refl (between_risen w s.0 t)))
+  between b w (Event.ReAdd own device left) w' s c t = same b w' c (subst (HoldsBetween g a) (sym s.4)
+      (between_joined (risen g w s.0) (record { number = own.number; role = own.role own.number; state = Recovering; re_added = true; device = left }) refl (between_risen w s.0 t)))
   between b w Event.MakeClean w' s c t = same b w' c (subst (HoldsBetween g a) (sym s.3) (between_made_clean w s.0 t))
 
 -- what was written of the requests in flight goes along by itself
@@ -156,6 +180,11 @@ module _ (g : Geometry) where
   flight w Event.Resynced w' s t = subst HoldsInFlight (sym s.1) (in_flight_resynced w true t)
   flight w Event.Unresynced w' s t = subst HoldsInFlight (sym s.1) (in_flight_resynced w false t)
   flight w Event.MakeClean w' s t = subst HoldsInFlight (sym s.3) (in_flight_made_clean g w s.0 t)
+  flight w (Event.Remove k) w' s t = subst HoldsInFlight (sym s.3) (in_flight_removed g w k (is_spare (w.state k)) s.0 t)
+  flight w (Event.Add d left) w' s t = subst HoldsInFlight (sym s.4)
+      (in_flight_joined (risen g w s.0) (record { number = d; role = 65535; state = Spare; re_added = false; device = left }) refl (in_flight_risen g w s.0 t))
+  flight w (Event.ReAdd own device left) w' s t = subst HoldsInFlight (sym s.4)
+      (in_flight_joined (risen g w s.0) (record { number = own.number; role = own.role own.number; state = Recovering; re_added = true; device = left }) refl (in_flight_risen g w s.0 t))
 
 pub in_flight_step : KeepsInFlight
 in_flight_step g w e w' step = flight g w e w' step.1

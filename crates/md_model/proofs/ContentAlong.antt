@@ -11,74 +11,71 @@ use Rattle.md_model.specs.Lives.{Life}
 use Rattle.md_model.specs.Content.{Content, with_request, IsSettled, Becomes, Holds, Anyhow, RunWith, LifeWith, HasContentAlong}
 use Rattle.md_model.proofs.Cases.{none_some}
 use Rattle.md_model.proofs.Recorded.{recorded_in_sync}
-use Rattle.md_model.proofs.Keeps.{kept_step}
-use Rattle.md_model.proofs.Opened.{slot_of}
-use Rattle.md_model.proofs.Supers.{OfAll, all_step}
+use Rattle.md_model.proofs.Keeps.{all_agree, kept_step}
 use Rattle.md_model.proofs.Lives.{start_again}
 use Rattle.md_model.proofs.Contents.{holds_step}
 use Rattle.md_model.proofs.Picked.{picked, picked-all, picked-one, has_content_again}
 use Rattle.md_model.proofs.ContentLives.{IsHeld, held_opened}
 
--- the superblocks are those of members
-abbrev pub IsOfMembers : ℕ → World → Type 0
-IsOfMembers m w = OfAll (λ k _. k < m) w
-
-module _ (g : Geometry) (small : IsWithinLimits g) (opened : Super) (m : ℕ) where
+module _ (g : Geometry) (small : IsWithinLimits g) (opened : Super) where
   -- after a resync it is what the members in sync hold
-  settled : (h : History) (a : Content) → IsHeld g opened h a → IsOfMembers m h.now → MayResync h.now → (b : Content) × IsSettled g h.now a b
-  settled h a t all may =
+  settled : (h : History) (a : Content) → IsHeld g opened h a → MayResync g h.now → (b : Content) × IsSettled g h.now a b
+  settled h a t may =
       let w = h.now in
-      let slot : (k : ℕ) → IsInSync w k → k < m = λ k on. let x = t.kept.recorded.has_super k (recorded_in_sync (w.state k) on) in all k x.0 x.1 in
+      let m = w.members in
+      let slot : (k : ℕ) → IsInSync w k → k < m = λ k on. let x = t.kept.recorded.has_super k (recorded_in_sync (w.state k) on) in t.kept.recorded.slot k x.0 x.1 in
       let quiet : (s : ℕ) → IsQuiet w s = λ s n p e. absurd (none_some p (sym (may.idle n) ∙ e)) in
       let as_before : (s : ℕ) → ((k : ℕ) → IsInSync w k → (w.stored k).listed s ≡ false → (w.stored k).content s ≡ a s) → picked w (a s) s m ≡ a s =
       λ s. picked-all w (a s) s (λ c. c ≡ a s) m refl in (
         λ s. picked w (a s) s m,
         record {
-          held = λ k s _ on clear. sym (picked-one w (a s) s m k (slot k on) on clear (λ j in_ clear_j. may.agree j k s in_ on clear_j clear));
+          held = λ k s _ on clear. sym (picked-one w (a s) s m k (slot k on) on clear (λ j in_ clear_j. all_agree g w may t.kept.tracked j k s in_ on clear_j clear));
           unmarked = λ s low off. as_before s (λ k on clear. t.holds.at_rest k s low on clear (quiet s) (inr off));
           unmarked_on = λ i s low x off. as_before s (λ k on clear. t.holds.unmarked i k s low x on clear off);
           same = λ r s low. as_before s (λ k on clear. t.holds.at_rest k s low on clear (quiet s) (inl r));
         },
       )
 
-  pub after_event : (h : History) (e : Event) (w' : World) (a : Content) → IsHeld g opened h a → IsOfMembers m h.now → Happens g h.now e w' → (b : Content) × Becomes g e h.now a b
-  after_event h (Event.Begin n p) w' a t all s = (a, refl)
-  after_event h (Event.Record k) w' a t all s = (a, refl)
-  after_event h (Event.StoreMarks k b) w' a t all s = (a, refl)
-  after_event h (Event.WriteMember n k) w' a t all s = (a, refl)
-  after_event h (Event.Finish n) w' a t all s = (with_request (h.now.request n) a, refl)
-  after_event h (Event.ClearIdle c) w' a t all s = (a, refl)
-  after_event h (Event.Fail k) w' a t all s = (a, refl)
-  after_event h (Event.RecordFails k) w' a t all s = (a, refl)
-  after_event h (Event.StoreMarksFails k b) w' a t all s = (a, refl)
-  after_event h (Event.WriteMemberFails n k) w' a t all s = (a, refl)
-  after_event h (Event.CopyFails k c) w' a t all s = (a, refl)
-  after_event h (Event.Copy from k x) w' a t all s = (a, refl)
-  after_event h Event.Resynced w' a t all s = settled h a t all s.0
-  after_event h Event.Unresynced w' a t all s = (a, refl)
-  after_event h Event.MakeClean w' a t all s = (a, refl)
+  pub after_event : (h : History) (e : Event) (w' : World) (a : Content) → IsHeld g opened h a → Happens g h.now e w' → (b : Content) × Becomes g e h.now a b
+  after_event h (Event.Begin n p) w' a t s = (a, refl)
+  after_event h (Event.Record k) w' a t s = (a, refl)
+  after_event h (Event.StoreMarks k b) w' a t s = (a, refl)
+  after_event h (Event.WriteMember n k) w' a t s = (a, refl)
+  after_event h (Event.Finish n) w' a t s = (with_request (h.now.request n) a, refl)
+  after_event h (Event.ClearIdle c) w' a t s = (a, refl)
+  after_event h (Event.Fail k) w' a t s = (a, refl)
+  after_event h (Event.RecordFails k) w' a t s = (a, refl)
+  after_event h (Event.StoreMarksFails k b) w' a t s = (a, refl)
+  after_event h (Event.WriteMemberFails n k) w' a t s = (a, refl)
+  after_event h (Event.CopyFails k c) w' a t s = (a, refl)
+  after_event h (Event.Copy from k x) w' a t s = (a, refl)
+  after_event h Event.Resynced w' a t s = settled h a t s.0
+  after_event h Event.Unresynced w' a t s = (a, refl)
+  after_event h Event.MakeClean w' a t s = (a, refl)
+  after_event h (Event.Remove k) w' a t s = (a, refl)
+  after_event h (Event.Add number left) w' a t s = (a, refl)
+  after_event h (Event.ReAdd own device left) w' a t s = (a, refl)
 
-  along_run : (es : List Event) (h : History) (a : Content) (last : History) → IsHeld g opened h a → IsOfMembers m h.now → Run g h es last
+  along_run : (es : List Event) (h : History) (a : Content) (last : History) → IsHeld g opened h a → Run g h es last
       → (b : Content) × RunWith g Anyhow h a es last b × IsHeld g opened last b
-  along_run [] h a last t all r = (a, (r, refl), subst (λ x. IsHeld g opened x a) (sym r) t)
-  along_run (e ∷ es) h a last t all r =
-      let c = after_event h e r.0 a t all r.1.1 in
+  along_run [] h a last t r = (a, (r, refl), subst (λ x. IsHeld g opened x a) (sym r) t)
+  along_run (e ∷ es) h a last t r =
+      let c = after_event h e r.0 a t r.1.1 in
       let held : IsHeld g opened (then_in h e r.0) c.0 = record {
         kept = kept_step g small opened h e r.0 t.kept r.1;
         holds = holds_step g a c.0 h.now e r.0 t.kept.tracked t.holds r.1 c.1;
       } in
-      let more = along_run es (then_in h e r.0) c.0 last held
-      (all_step g small opened (λ k _. k < m) (λ h' t' all' k on. let x = t'.recorded.has_super k on in all' k x.0 x.1) h e r.0 t.kept all r.1.1) r.2 in
+      let more = along_run es (then_in h e r.0) c.0 last held r.2 in
       (more.0, (r.0, c.0, refl, r.1, c.1, more.1), more.2)
 
 along_life : (g : Geometry) (opened : Super) (w : World) (a : Content) → IsStart g opened w → Holds g a w
     → (es : List Event) (rest : List (List Event)) (final : Super) (last : History) → Life g opened w es rest final last
     → (b : Content) × LifeWith g Anyhow opened (opening w) a es rest final last b
 along_life g opened w a start t es [] final last life =
-    let x = along_run g start.small opened w.members es (opening w) a last (held_opened g opened w a start t) (slot_of g opened w start) life.1 in
+    let x = along_run g start.small opened es (opening w) a last (held_opened g opened w a start t) life.1 in
     (x.0, (life.0, x.1))
 along_life g opened w a start t es (more ∷ rest) final last life =
-    let x = along_run g start.small opened w.members es (opening w) a life.0 (held_opened g opened w a start t) (slot_of g opened w start) life.3 in
+    let x = along_run g start.small opened es (opening w) a life.0 (held_opened g opened w a start t) life.3 in
     let again = start_again g opened life.0 life.1 life.2 start.small x.2.kept life.4 in
     let d = has_content_again g opened life.0 x.2.kept x.0 life.1 life.2 life.4 again x.2.holds.unmarked in
     let y = along_life g life.1 life.2 d.0 again d.1.holds more rest final last life.5 in

@@ -133,6 +133,9 @@ unchanged g (Event.Copy from j x) k same w a = refl
 unchanged g Event.Resynced k same w a = absurd same
 unchanged g Event.Unresynced k same w a = refl
 unchanged g Event.MakeClean k same w a = refl
+unchanged g (Event.Remove j) k same w a = refl
+unchanged g (Event.Add number left) k same w a = refl
+unchanged g (Event.ReAdd own device left) k same w a = refl
 
 pub leaves_behind : LeavesBehind
 leaves_behind g opened w a start t es rest final then b life k device after f more others newest last c life' =

@@ -1,5 +1,5 @@
 -- Every event keeps what is said of the array's content.
-use Rattle.std.proofs.Common.{◌≡◌, ℕ, Bool, true, false, inr, sym, ◌∙◌, subst}
+use Rattle.std.proofs.Common.{◌≡◌, ℕ, Bool, true, false, inr, refl, sym, ap, ◌∙◌, subst}
 use Rattle.md_model.specs.Sectors.{Geometry, chunk_of}
 use Rattle.md_model.specs.Devices.{Stored}
 use Rattle.md_model.specs.Worlds.{Request, touches, World, IsQuiet}
@@ -12,6 +12,11 @@ use Rattle.md_model.proofs.Cases.{by_test, never}
 use Rattle.md_model.proofs.Tracked.{IsTracked, IsFewer}
 use Rattle.md_model.proofs.TrackedSteps.{fewer_recorded, fewer_failed, content_marked, listed_marked, off_marked, content_written, listed_written, bits_written, bit_written}
 use Rattle.md_model.proofs.TrackedCalls.{bits_copied}
+use Rattle.md_model.specs.States.{is_in_sync}
+use Rattle.md_model.specs.States.State.{Recovering, Spare}
+use Rattle.md_model.specs.Counts.{risen}
+use Rattle.md_model.specs.Membership.{is_spare, joined, removed, skip, Newcomer}
+use Rattle.md_model.proofs.Membership.{same_device, was_member}
 use Rattle.md_model.proofs.Between.{ended_away, at_copy, between_step}
 
 -- a chunk without a mark has no request
@@ -50,6 +55,16 @@ module _ (g : Geometry) (a : Content) where
   unmarked_copied w from k s may t i j x low y on clear bit =
       at_copy g a w from k s may j x on clear (λ z in_ c. t i z x low y in_ c (sym (bits_copied g w from k s i (chunk_of g x)) ∙ bit))
 
+  unmarked_removed : (w : World) (k : ℕ) (spare full : Bool) → HoldsUnmarked g a w → HoldsUnmarked g a (removed g w k spare full)
+  unmarked_removed w k true full t i j s low = t (skip k i) (skip k j) s low
+  unmarked_removed w k false full t i j s low = t (skip k i) (skip k j) s low
+
+  unmarked_joined : (w : World) (n : Newcomer) → is_in_sync n.state ≡ false → HoldsUnmarked g a w → HoldsUnmarked g a (joined w n)
+  unmarked_joined w n out t i j s low x on clear bit =
+      let same = same_device w n out in
+      ap (λ (d : Stored). d.content s) (same j on)
+      ∙ t i j s low (was_member w n out i x).1 (was_member w n out j on).1 (sym (ap (λ (d : Stored). d.listed s) (same j on)) ∙ clear) (sym (ap (λ (d : Stored). d.bits (chunk_of g s)) (same i x)) ∙ bit)
+
   same : (b : Content) (w : World) → b ≡ a → HoldsUnmarked g a w → HoldsUnmarked g b w
   same b w e = subst (λ c. HoldsUnmarked g c w) (sym e)
 
@@ -69,6 +84,11 @@ module _ (g : Geometry) (a : Content) where
   unmarked_step b w (Event.Copy from k x) w' _ t s c = same b w' c (subst (HoldsUnmarked g a) (sym s.1) (unmarked_copied w from k x s.0 t.unmarked))
   unmarked_step b w Event.Resynced w' _ t s c = subst (HoldsUnmarked g b) (sym s.1) (λ i k x low _ on clear _. c.held k x low on clear)
   unmarked_step b w Event.Unresynced w' _ t s c = same b w' c (subst (HoldsUnmarked g a) (sym s.1) t.unmarked)
+  unmarked_step b w (Event.Remove k) w' _ t s c = same b w' c (subst (HoldsUnmarked g a) (sym s.3) (unmarked_removed w k (is_spare (w.state k)) s.0 t.unmarked))
+  unmarked_step b w (Event.Add d left) w' _ t s c = same b w' c (subst (HoldsUnmarked g a) (sym s.4)
+      (unmarked_joined (risen g w s.0) (record { number = d; role = 65535; state = Spare; re_added = false; device = left }) refl t.unmarked))
+  unmarked_step b w (Event.ReAdd own device left) w' _ t s c = same b w' c (subst (HoldsUnmarked g a) (sym s.4)
+      (unmarked_joined (risen g w s.0) (record { number = own.number; role = own.role own.number; state = Recovering; re_added = true; device = left }) refl t.unmarked))
   unmarked_step b w Event.MakeClean w' _ t s c = same b w' c (subst (HoldsUnmarked g a) (sym s.3) t.unmarked)
 
 pub holds_step : (g : Geometry) (a b : Content) (w : World) (e : Event) (w' : World) → IsTracked g w → Holds g a w → Step g w e w' → Becomes g e w a b → Holds g b w'

@@ -1,5 +1,5 @@
 -- A superblock that is as new as the opening and the last failure is fit.
-use Rattle.std.proofs.Common.{◌≡◌, ℕ, inl, inr, refl, sym, arith, [], ◌∷◌}
+use Rattle.std.proofs.Common.{◌≡◌, ℕ, ◌+◌, inl, inr, refl, sym, arith, [], ◌∷◌}
 use Rattle.std.specs.Prelude.{nat_lt}
 use Rattle.md_model.specs.Runs.{then_in, opening}
 use Rattle.md_model.specs.Fits.{FitsWhenThere, StepsRun}
@@ -12,8 +12,9 @@ use Rattle.md_model.proofs.Supers.{all_run}
 pub fits_when_there : FitsWhenThere
 fits_when_there g opened w start one es last r left first is fresh late recorded =
     let kept = kept_run g start.small opened es (opening w) last (kept_opened g opened w start) r in
-    let view = all_run g start.small opened (λ _ own. own.events ≡ opened.events → (d : ℕ) → own.role d ≡ opened.role d)
+    let view = all_run g start.small opened (λ own. own.events ≡ opened.events → (d : ℕ) → own.role d ≡ opened.role d)
     (λ h t _ k _ same. t.recorded.unrisen (let e : h.now.events ≡ opened.events = same in omega arith))
+    (λ h t _ d role recovering full same. absurd (let e : h.now.events + 1 ≡ opened.events = same in let l = t.recorded.later in omega arith))
     es (opening w) last (kept_opened g opened w start) one r in
     let had = (leaves g start.small opened last kept left is).super fresh.at first fresh.is in
     record {

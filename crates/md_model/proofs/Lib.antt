@@ -8,11 +8,13 @@ pub mod TrackedCalls
 pub mod Table
 pub mod Recorded
 pub mod RecordedSteps
+pub mod Membership
 pub mod Keeps
 pub mod Opened
 pub mod Safe
 pub mod Lives
 pub mod SmallRun
+pub mod Comings
 pub mod Picked
 pub mod Between
 pub mod Contents

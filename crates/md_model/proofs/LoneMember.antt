@@ -1,6 +1,6 @@
 -- A write of the lone member shuts the other one out, and before it the other one may come back.
 use Rattle.std.proofs.Common.{◌≡◌, ◌≢◌, ℕ, ◌+◌, ◌≤◌, true, false, cond, ⊎_elim, zero, suc, inl, inr, refl, sym, ap, ◌∙◌, subst, true≢false, arith, List, [], ◌∷◌, ◌++◌}
-use Rattle.std.specs.Prelude.{Some, eqb}
+use Rattle.std.specs.Prelude.{Some, eqb, not}
 use Rattle.md_model.specs.Sectors.{chunk_of, put}
 use Rattle.md_model.specs.Devices.{Super, Stored}
 use Rattle.md_model.specs.Worlds.{Request, touches, World}
@@ -38,10 +38,10 @@ abbrev pub v5 : World
 v5 = finished v4 0
 
 abbrev pub at_begin : History
-at_begin = record { now = v2; failed_at = 0; tried = false }
+at_begin = record { now = v2; failed_at = 0; tried = false; away = (opening lone_world).away }
 
 abbrev pub at_end : History
-at_end = record { now = v5; failed_at = 0; tried = true }
+at_end = record { now = v5; failed_at = 0; tried = true; away = (opening lone_world).away }
 
 -- role 0 is nobody's
 not_full : IsFull small_geometry v1 → ⊥
@@ -114,7 +114,7 @@ abbrev torn : Stored
 torn = record (v3.stored 0) { content = λ s. cond (touches one_sector s) (2 ∷ []) ((v3.stored 0).content s) }
 
 abbrev at_record : History
-at_record = record { now = v3; failed_at = 0; tried = false }
+at_record = record { now = v3; failed_at = 0; tried = false; away = (opening lone_world).away }
 
 is_torn : IsTorn small_geometry v3 (put 0 torn v3.stored)
 is_torn = record {
@@ -194,9 +194,9 @@ was_away = record {
       omega arith;
 }
   where
-    back : (k : ℕ) (own : Super) → (other_back k).super ≡ Some own → IsAbsent (small_super 1) lone_world own
+    back : (k : ℕ) (own : Super) → (other_back k).super ≡ Some own → IsAbsent (small_super 1) (λ d. not (lone_world.present d)) own
     back zero own e = absurd (none_some own e)
-    back (suc zero) own e = subst (IsAbsent (small_super 1) lone_world) (some-injective (small_super 0) own e) (record { no_newer = omega arith; away = refl })
+    back (suc zero) own e = subst (IsAbsent (small_super 1) (λ d. not (lone_world.present d))) (some-injective (small_super 0) own e) (record { no_newer = omega arith; away = refl })
     back (suc (suc k)) own e = absurd (none_some own e)
 
     has : (k : ℕ) (own : Super) → (beside 1 lone_world.stored other_back k).super ≡ Some own → small_role own.number + k ≡ 1

@@ -11,7 +11,7 @@ use Rattle.md_model.specs.Content.{HoldsInFlight}
 use Rattle.md_model.proofs.Cases.{by_test, never, none_some, is_below, not_below}
 use Rattle.md_model.proofs.Table.{SaysInSync, has_role, found_says, stale_says, recovering_says, role_says}
 use Rattle.md_model.proofs.Recorded.{recorded_in_sync}
-use Rattle.md_model.proofs.Keeps.{IsKept}
+use Rattle.md_model.proofs.Keeps.{IsKept, not_true}
 use Rattle.md_model.proofs.OpeningCovers.{accepted-bits}
 use Rattle.md_model.proofs.OpeningCovers as covers
 
@@ -49,8 +49,8 @@ module _ (g : Geometry) (first : Super) (w : World) (start : IsStart g first w) 
   unmarked_bit : (j c : ℕ) → IsInSync w j → w.marks c ≡ false → (w.stored j).bits c ≡ false
   unmarked_bit j c a off = by_test ((w.stored j).bits c) (λ at. never (w.marks c) ((o.marks.union c).1 (j, a, at)) off) (λ e. e)
 
-  trusts : (role : ℕ → ℕ) → ((d : ℕ) → role d ≡ first.role d) → (k : ℕ) (own : Super) → (w.stored k).super ≡ Some own → role (w.number k) < g.raid_disks → has_role (w.state k) ≡ true
-  trusts role same k own e low = ap has_role (o.states.by_table k own e) ∙ role_says g first own start.small.few
+  trusts : (count : ℕ) (role : ℕ → ℕ) → ((d : ℕ) → role d ≡ first.role d) → (k : ℕ) (own : Super) → (w.stored k).super ≡ Some own → own.events ≤ count → role (w.number k) < g.raid_disks → has_role (w.state k) ≡ true
+  trusts count role same k own e _ low = ap has_role (o.states.by_table k own e) ∙ role_says g first own start.small.few
       (subst (λ d. first.role d < g.raid_disks) (sym (o.members.number k own e)) (subst (λ r. r < g.raid_disks) (same (w.number k)) low))
 
   named : (k : ℕ) (own : Super) → (w.stored k).super ≡ Some own → IsInSync w k → first.role (w.number k) < g.raid_disks
@@ -83,10 +83,12 @@ module _ (g : Geometry) (first : Super) (w : World) (start : IsStart g first w) 
       later = let s = o.events in omega arith;
       has_super = own_of;
       entries = o.entries;
-      present = λ k on. let x = own_of k on in (o.members.present (w.number k)).1 (k, slot_of k x.0 x.1, refl);
-      distinct = distinct;
-      by_memory = trusts w.role (λ d. ap (λ (r : ℕ → ℕ). r d) o.role);
-      by_opening = λ _. trusts first.role (λ _. refl);
+      present = λ k low. (o.members.present (w.number k)).1 (k, low, refl);
+      slot = slot_of;
+      gone = λ d off. not_true (w.present d) off;
+      distinct = o.members.distinct;
+      by_memory = trusts w.events w.role (λ d. ap (λ (r : ℕ → ℕ). r d) o.role);
+      by_opening = λ _. trusts first.events first.role (λ _. refl);
       by_super = λ j own e _ up. no_more j own e up;
       stale = λ k own e s. stale_says g first own (sym (o.states.by_table k own e) ∙ s);
       recovering = λ k own e s. recovering_says g first own (sym (ap is_recovering (o.states.by_table k own e)) ∙ s);

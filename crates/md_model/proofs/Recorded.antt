@@ -18,9 +18,10 @@ pub record Book : Type 0 where
   pub events : ℕ
   pub entries : ℕ
   pub present : ℕ → Bool
+  pub members : ℕ
 
 abbrev pub book_of : World → Book
-book_of w = record { super = λ k. (w.stored k).super; number = w.number; state = w.state; due = w.due; role = w.role; events = w.events; entries = w.entries; present = w.present }
+book_of w = record { super = λ k. (w.stored k).super; number = w.number; state = w.state; due = w.due; role = w.role; events = w.events; entries = w.entries; present = w.present; members = w.members }
 
 abbrev pub Has : Book → ℕ → Super → Type 0
 Has b k own = b.super k ≡ Some own
@@ -28,22 +29,24 @@ Has b k own = b.super k ≡ Some own
 abbrev pub In : Book → ℕ → Type 0
 In b k = is_in_sync (b.state k) ≡ true
 
--- these roles name only members that have one
-abbrev pub Trusts : Geometry → Book → (ℕ → ℕ) → Type 0
-Trusts g b role = (k : ℕ) (own : Super) → Has b k own → role (b.number k) < g.raid_disks → has_role (b.state k) ≡ true
+-- of members whose superblocks are no newer than this, these roles name only such as have one
+abbrev pub Trusts : Geometry → Book → ℕ → (ℕ → ℕ) → Type 0
+Trusts g b count role = (k : ℕ) (own : Super) → Has b k own → own.events ≤ count → role (b.number k) < g.raid_disks → has_role (b.state k) ≡ true
 
-pub record IsRecorded (g : Geometry) (opened : Super) (failed_at : ℕ) (tried : Bool) (b : Book) : Type 0 where
+pub record IsRecorded (g : Geometry) (opened : Super) (failed_at : ℕ) (tried : Bool) (away : ℕ → Bool) (b : Book) : Type 0 where
   pub number : (k : ℕ) (own : Super) → Has b k own → own.number ≡ b.number k
   pub below : (k : ℕ) (own : Super) → Has b k own → own.events ≤ b.events
   pub later : opened.events ≤ b.events
   pub has_super : (k : ℕ) → is_recorded (b.state k) ≡ true → (own : Super) × Has b k own
   pub entries : (d : ℕ) → b.entries ≤ d → b.role d ≡ 65535
-  pub present : (k : ℕ) → is_recorded (b.state k) ≡ true → b.present (b.number k) ≡ true
-  pub distinct : (j k : ℕ) (own other : Super) → Has b j own → Has b k other → b.number j ≡ b.number k → j ≡ k
+  pub present : (k : ℕ) → k < b.members → b.present (b.number k) ≡ true
+  pub slot : (k : ℕ) (own : Super) → Has b k own → k < b.members
+  pub gone : (d : ℕ) → away d ≡ true → b.present d ≡ false
+  pub distinct : (j k : ℕ) → j < b.members → k < b.members → b.number j ≡ b.number k → j ≡ k
   -- so do the roles in memory, those of the opening, and those of each stored superblock that is newer than both
-  pub by_memory : Trusts g b b.role
-  pub by_opening : failed_at ≤ opened.events → Trusts g b opened.role
-  pub by_super : (j : ℕ) (own : Super) → Has b j own → failed_at ≤ own.events → opened.events < own.events → Trusts g b own.role
+  pub by_memory : Trusts g b b.events b.role
+  pub by_opening : failed_at ≤ opened.events → Trusts g b opened.events opened.role
+  pub by_super : (j : ℕ) (own : Super) → Has b j own → failed_at ≤ own.events → opened.events < own.events → Trusts g b own.events own.role
   pub stale : (k : ℕ) (own : Super) → Has b k own → b.state k ≡ Stale → own.events + 1 < opened.events
   pub recovering : (k : ℕ) (own : Super) → Has b k own → is_recovering (b.state k) ≡ true → own.recovering ≡ true
   pub clear : (k : ℕ) (own : Super) → Has b k own → In b k → own.recovering ≡ false
@@ -53,9 +56,9 @@ pub record IsRecorded (g : Geometry) (opened : Super) (failed_at : ℕ) (tried :
   pub in_super : (j : ℕ) (first : Super) (k : ℕ) (own : Super) → Has b j first → In b k → Has b k own → own.events ≤ first.events → opened.events < first.events → first.role (b.number k) < g.raid_disks
   -- absent devices lose their roles at the first rise
   pub unrisen : b.events ≤ opened.events → (d : ℕ) → b.role d ≡ opened.role d
-  pub out_memory : (d : ℕ) → b.present d ≡ false → opened.events < b.events → b.role d < g.raid_disks → ⊥
-  pub out_super : (j : ℕ) (own : Super) (d : ℕ) → Has b j own → b.present d ≡ false → opened.events < own.events → own.role d < g.raid_disks → ⊥
-  pub out_tried : (d : ℕ) → tried ≡ true → b.present d ≡ false → opened.role d < g.raid_disks → (k : ℕ) (own : Super) → In b k → Has b k own → opened.events < own.events
+  pub out_memory : (d : ℕ) → away d ≡ true → opened.events < b.events → b.role d < g.raid_disks → ⊥
+  pub out_super : (j : ℕ) (own : Super) (d : ℕ) → Has b j own → away d ≡ true → opened.events < own.events → own.role d < g.raid_disks → ⊥
+  pub out_tried : (d : ℕ) → tried ≡ true → away d ≡ true → opened.role d < g.raid_disks → (k : ℕ) (own : Super) → In b k → Has b k own → opened.events < own.events
   pub current : (k : ℕ) (own : Super) → is_recorded (b.state k) ≡ true → b.due k ≡ false → Has b k own → own.events ≡ b.events
   pub some_in : (k : ℕ) × In b k
 

@@ -48,8 +48,8 @@ by_record : {P : Type 0} (w : World) (k j : ℕ) (own : Super) → ((recorded w 
 by_record {P} w k j own e is isnt =
     put-at k (recorded_device w k) w.stored j (λ (x : Stored). x.super ≡ Some own → P) (λ here x. is here (some-injective (super_for w k) own x)) isnt e
 
-module _ (g : Geometry) (few : g.raid_disks ≤ 32) (opened : Super) (failed_at : ℕ) (tried : Bool) where
-  pub recorded_risen : (w : World) (full : Bool) → IsRecorded g opened failed_at tried (book_of w) → IsRecorded g opened failed_at tried (book_of (risen g w full))
+module _ (g : Geometry) (few : g.raid_disks ≤ 32) (opened : Super) (failed_at : ℕ) (tried : Bool) (away : ℕ → Bool) where
+  pub recorded_risen : (w : World) (full : Bool) → IsRecorded g opened failed_at tried away (book_of w) → IsRecorded g opened failed_at tried away (book_of (risen g w full))
   recorded_risen w full r =
       record {
         number = r.number;
@@ -58,18 +58,21 @@ module _ (g : Geometry) (few : g.raid_disks ≤ 32) (opened : Super) (failed_at 
         has_super = r.has_super;
         entries = λ d h. past_none g w d few (r.entries d h);
         present = r.present;
+        slot = r.slot;
+        gone = r.gone;
         distinct = r.distinct;
-        by_memory = λ k own e low. r.by_memory k own e (taken_was g w (w.number k) few low);
+        by_memory = λ k own e _ low. r.by_memory k own e (r.below k own e) (taken_was g w (w.number k) few low);
         by_opening = r.by_opening;
         by_super = r.by_super;
         stale = r.stale;
         recovering = r.recovering;
         clear = r.clear;
-        in_memory = λ k a. subst (λ x. x < g.raid_disks) (sym (present_keeps g w (w.number k) few (r.present k (recorded_in_sync (w.state k) a)))) (r.in_memory k a);
+        in_memory = λ k a. let mine = r.has_super k (recorded_in_sync (w.state k) a) in
+            subst (λ x. x < g.raid_disks) (sym (present_keeps g w (w.number k) few (r.present k (r.slot k mine.0 mine.1)))) (r.in_memory k a);
         in_opening = r.in_opening;
         in_super = r.in_super;
         unrisen = λ h. absurd (let l = r.later in omega arith);
-        out_memory = λ d off _ low. absent_none g w d few off low;
+        out_memory = λ d off _ low. absent_none g w d few (r.gone d off) low;
         out_super = r.out_super;
         out_tried = r.out_tried;
         current = λ k own on off e. absurd (true≢false (sym (ap (λ x. x || w.due k) on) ∙ off));
@@ -77,7 +80,7 @@ module _ (g : Geometry) (few : g.raid_disks ≤ 32) (opened : Super) (failed_at 
       }
 
   -- a member's superblock is stored
-  pub recorded_recorded : (w : World) (k : ℕ) → is_recorded (w.state k) ≡ true → IsRecorded g opened failed_at tried (book_of w) → IsRecorded g opened failed_at tried (book_of (recorded w k))
+  pub recorded_recorded : (w : World) (k : ℕ) → is_recorded (w.state k) ≡ true → IsRecorded g opened failed_at tried away (book_of w) → IsRecorded g opened failed_at tried away (book_of (recorded w k))
   recorded_recorded w k on r =
       let b = book_of w in
       let b' = book_of (recorded w k) in
@@ -85,7 +88,6 @@ module _ (g : Geometry) (few : g.raid_disks ≤ 32) (opened : Super) (failed_at 
       let mine = r.has_super k on in
       let old : (j : ℕ) (own : Super) → Has b' j own → (own' : Super) × Has b j own' =
       λ j own e. by_record w k j own e (λ here _. subst (λ i. (own' : Super) × Has b i own') (sym here) mine) (λ _ h. (own, h)) in
-      let trusts : (role : ℕ → ℕ) → Trusts g b role → Trusts g b' role = λ role h j own e low. let x = old j own e in h j x.0 x.1 low in
       -- the bit is that of the superblock before
       let bit : (j : ℕ) (own : Super) → j ≡ k → new ≡ own → (own' : Super) × Has b j own' × (own.recovering ≡ own'.recovering) =
       λ j own here same. (mine.0, subst (λ i. Has b i mine.0) (sym here) mine.1, sym (ap (λ (s : Super). s.recovering) same) ∙ ap has_bit mine.1) in
@@ -93,6 +95,8 @@ module _ (g : Geometry) (few : g.raid_disks ≤ 32) (opened : Super) (failed_at 
       λ j own e. by_record w k j own e
       (λ here same. (mine.0, subst (λ i. Has b i mine.0) (sym here) mine.1, subst (λ (s : Super). mine.0.events ≤ s.events) same (r.below k mine.0 mine.1)))
       (λ _ h. (own, h, let x : own.events ≤ own.events = omega arith in x)) in
+      let trusts : (count : ℕ) (role : ℕ → ℕ) → Trusts g b count role → Trusts g b' count role =
+      λ count role h j own e late low. let x = older j own e in let t : x.0.events ≤ own.events = x.2 in h j x.0 x.1 (omega arith) low in
       record {
         number = λ j own e. by_record w k j own e (λ here same. sym (ap (λ (s : Super). s.number) same) ∙ ap w.number (sym here)) (λ _ h. r.number j own h);
         below = λ j own e. by_record w k j own e (λ _ same. let x : w.events ≡ own.events = ap (λ (s : Super). s.events) same in omega arith) (λ _ h. r.below j own h);
@@ -100,12 +104,14 @@ module _ (g : Geometry) (few : g.raid_disks ≤ 32) (opened : Super) (failed_at 
         has_super = λ j a. put-at k (recorded_device w k) w.stored j (λ (x : Stored). (own : Super) × (x.super ≡ Some own)) (λ _. (new, refl)) (λ _. r.has_super j a);
         entries = r.entries;
         present = r.present;
-        distinct = λ i j own other e e'. let x = old i own e in let y = old j other e' in r.distinct i j x.0 y.0 x.1 y.1;
-        by_memory = trusts w.role r.by_memory;
-        by_opening = λ h. trusts opened.role (r.by_opening h);
+        slot = λ j own e. let x = old j own e in r.slot j x.0 x.1;
+        gone = r.gone;
+        distinct = r.distinct;
+        by_memory = trusts w.events w.role r.by_memory;
+        by_opening = λ h. trusts opened.events opened.role (r.by_opening h);
         by_super = λ j own e h up. by_record w k j own e
-            (λ _ same. trusts own.role (subst (λ (s : Super). Trusts g b s.role) same r.by_memory))
-            (λ _ x. trusts own.role (r.by_super j own x h up));
+            (λ _ same. trusts own.events own.role (subst (λ (s : Super). Trusts g b s.events s.role) same r.by_memory))
+            (λ _ x. trusts own.events own.role (r.by_super j own x h up));
         stale = λ j own e is. by_record w k j own e
             (λ here _. absurd (true≢false (sym on ∙ ap (λ i. is_recorded (w.state i)) (sym here) ∙ ap is_recorded is)))
             (λ _ h. r.stale j own h is);
@@ -138,8 +144,8 @@ module _ (g : Geometry) (few : g.raid_disks ≤ 32) (opened : Super) (failed_at 
       → ((j : ℕ) (own : Super) → (w.stored j).super ≡ Some own → own.events < w.events)
       → opened.events < w.events
       → MayFail w k
-      → IsRecorded g opened failed_at tried (book_of w)
-      → IsRecorded g opened w.events tried (book_of (without (with_device w k left) k))
+      → IsRecorded g opened failed_at tried away (book_of w)
+      → IsRecorded g opened w.events tried away (book_of (without (with_device w k left) k))
   recorded_without w k left from under up may r =
       let b = book_of w in
       let b' = book_of (without (with_device w k left) k) in
@@ -160,10 +166,12 @@ module _ (g : Geometry) (few : g.raid_disks ≤ 32) (opened : Super) (failed_at 
         later = r.later;
         has_super = λ j a. let s = still_recorded j a in let old = r.has_super j s.1 in (old.0, ap (λ (d : Stored). d.super) (put-miss k left w.stored j s.0) ∙ old.1);
         entries = λ d h. past_entry d (w.number k) w.entries (w.role d) h ∙ r.entries d h;
-        present = λ j a. r.present j (still_recorded j a).1;
-        distinct = λ i j own other e e'. r.distinct i j own other (had i own e) (had j other e');
-        by_memory = λ j own e low. let c = taken_was (w.number j) low in
-            ap has_role (put-miss k Faulty w.state j (λ same. c.1 (ap w.number same))) ∙ r.by_memory j own (had j own e) c.0;
+        present = r.present;
+        slot = λ j own e. r.slot j own (had j own e);
+        gone = r.gone;
+        distinct = r.distinct;
+        by_memory = λ j own e _ low. let c = taken_was (w.number j) low in
+            ap has_role (put-miss k Faulty w.state j (λ same. c.1 (ap w.number same))) ∙ r.by_memory j own (had j own e) (r.below j own (had j own e)) c.0;
         by_opening = λ h. absurd (omega arith);
         by_super = λ j own e h _. absurd (let t : own.events < w.events = under j own (had j own e) in omega arith);
         stale = λ j own e s. r.stale j own (had j own e) (still j (λ x. x ≡ Stale) (λ f. cc) s).1;
@@ -171,7 +179,7 @@ module _ (g : Geometry) (few : g.raid_disks ≤ 32) (opened : Super) (failed_at 
         clear = λ j own e a. r.clear j own (had j own e) (still_in j a).1;
         in_memory = λ j a. let s = still_in j a in
             subst (λ x. x < g.raid_disks) (sym (other_entry (w.number j) (w.number k) w.entries (w.role (w.number j))
-            (λ same. let x = r.has_super j (recorded_in_sync (w.state j) s.1) in let y = r.has_super k may.in_use in s.0 (r.distinct j k x.0 y.0 x.1 y.1 same)))) (r.in_memory j s.1);
+            (λ same. let x = r.has_super j (recorded_in_sync (w.state j) s.1) in let y = r.has_super k may.in_use in s.0 (r.distinct j k (r.slot j x.0 x.1) (r.slot k y.0 y.1) same)))) (r.in_memory j s.1);
         in_opening = λ j own a e. r.in_opening j own (still_in j a).1 (had j own e);
         in_super = λ j first i own e a e'. r.in_super j first i own (had j first e) (still_in i a).1 (had i own e');
         unrisen = λ h. absurd (omega arith);

@@ -9,15 +9,14 @@ use Rattle.md_model.specs.Assembly.{IsFreshest, IsFound}
 use Rattle.md_model.specs.Events.{Event}
 use Rattle.md_model.specs.Runs.{History, opening, Run, IsStart}
 use Rattle.md_model.specs.Stops.{IsTorn, IsHalfOpened, IsLeft, IsFit, IsSafe, IsFreshestWithAbsent, WasTried}
-use Rattle.md_model.specs.Returns.{beside, WasAway, CoversReturns}
+use Rattle.md_model.specs.Returns.{KeepsMembers, beside, WasAway, CoversReturns}
 use Rattle.md_model.proofs.Cases.{by_test, never, none_some, below-nat_lt}
 use Rattle.md_model.proofs.Table.{found_says, says_found}
 use Rattle.md_model.proofs.Keeps.{IsKept, kept_run}
 use Rattle.md_model.proofs.Opened.{kept_opened, slot_of}
 use Rattle.md_model.proofs.OpeningCovers.{own_of, accepted-bits}
 use Rattle.md_model.proofs.Safe.{Leaves, leaves, safe_at_stop, as_opened}
-use Rattle.md_model.proofs.Supers.{all_run}
-use Rattle.md_model.proofs.Present.{same_run}
+use Rattle.md_model.proofs.Present.{same_away_run, same_members}
 use Rattle.md_model.proofs.Untouched.{IsUntouched, untouched_run}
 
 -- one of the members' devices, or another
@@ -35,7 +34,7 @@ module _ (m : ℕ) (here back : ℕ → Stored) (k : ℕ) where
   here_found g first low f = record { own = f.own; is = ap (λ (d : Stored). d.super) (here_is low) ∙ f.is; in_sync = f.in_sync }
 
 module _ (g : Geometry) (opened : Super) (w : World) (start : IsStart g opened w) (back : ℕ → Stored) (away : WasAway g opened w back)
-    (es : List Event) (last : History) (run : Run g (opening w) es last) (untried : WasTried g last → ⊥)
+    (es : List Event) (last : History) (keeps : KeepsMembers es) (run : Run g (opening w) es last) (untried : WasTried g last → ⊥)
     (left : ℕ → Stored) (first : Super) (is_left : IsLeft g last.now left) (fresh : IsFreshest (beside w.members left back) first) (fit : IsFit opened first last.failed_at) where
   abbrev m : ℕ
   m = w.members
@@ -54,9 +53,7 @@ module _ (g : Geometry) (opened : Super) (w : World) (start : IsStart g opened w
 
   -- no superblock comes to a slot without a member
   only_members : (k : ℕ) (own : Super) → (left k).super ≡ Some own → k < m
-  only_members k own e =
-      all_run g start.small opened (λ j _. j < m) (λ h t all j on. let x = t.recorded.has_super j on in all j x.0 x.1)
-      es (opening w) last (kept_opened g opened w start) (slot_of g opened w start) run k own (l.super k own e)
+  only_members k own e = subst (λ (n : ℕ). k < n) (same_members g es (opening w) last keeps run) (kept.recorded.slot k own (l.super k own e))
 
   absent_of : (k : ℕ) (own : Super) → nat_lt k m ≡ false → (now k).super ≡ Some own → (back k).super ≡ Some own
   absent_of k own past e = ap (λ (d : Stored). d.super) (sym (back_is m left back k past)) ∙ e
@@ -84,12 +81,9 @@ module _ (g : Geometry) (opened : Super) (w : World) (start : IsStart g opened w
   newer : opened.events < first.events → (k : ℕ) → IsFound g now first k → nat_lt k m ≡ true
   newer up k f = by_test (nat_lt k m) (λ low. low) (λ past. absurd (⊎_elim
       (λ (x : (j : ℕ) × ((left j).super ≡ Some first)). kept.recorded.out_super x.0 first f.own.number (l.super x.0 first x.1)
-      (gone (away.absent k f.own (absent_of k f.own past f.is)).away) up (found_says g first f.own f.in_sync).role)
+      (ap (λ (h : ℕ → Bool). h f.own.number) (same_away_run g es (opening w) last keeps run) ∙ (away.absent k f.own (absent_of k f.own past f.is)).away) up (found_says g first f.own f.in_sync).role)
       (λ (old : first.events ≤ opened.events). omega arith)
       freshest.whose))
-    where
-      gone : {d : ℕ} → w.present d ≡ false → last.now.present d ≡ false
-      gone {d} off = ap (λ (f : ℕ → Bool). f d) (same_run g es (opening w) last run) ∙ off
 
   -- An as new one has the opening's roles, and calls in sync only what the opening would have.
   module _ (same : first.events ≡ opened.events) (roles : (d : ℕ) → first.role d ≡ opened.role d) where
@@ -125,7 +119,7 @@ module _ (g : Geometry) (opened : Super) (w : World) (start : IsStart g opened w
           never (nat_lt x m) (ap (λ y. nat_lt y m) (sym is_x) ∙ below-nat_lt k m (slot_of g opened w start k o.0 o.1)) past
 
       untouched : IsUntouched w last.now
-      untouched = untouched_run g opened w start role role_low empty es last run
+      untouched = untouched_run g opened w start role role_low empty es last keeps run
           (by_test last.tried (λ at. absurd (untried (inl at))) (λ off. off))
           (let f = fit.recorded in omega arith)
 
@@ -223,4 +217,4 @@ module _ (g : Geometry) (opened : Super) (w : World) (start : IsStart g opened w
       fit.newer
 
 pub covers_returns : CoversReturns
-covers_returns g opened w start back away es last run untried left first is_left fresh fit = returns_covered g opened w start back away es last run untried left first is_left fresh fit
+covers_returns g opened w start back away es last keeps run untried left first is_left fresh fit = returns_covered g opened w start back away es last keeps run untried left first is_left fresh fit

@@ -109,9 +109,9 @@ module _ (g : Geometry) (small : IsWithinLimits g) (opened : Super) (h : History
     names k own e low =
         let had = l.super k own e in
         let at_number : first.role (h.now.number k) < g.raid_disks = subst (λ d. first.role d < g.raid_disks) (t.recorded.number k own had) low in ⊎_elim
-        (λ (newer : opened.events < first.events). let x = newer_of newer in t.recorded.by_super x.0 first (l.super x.0 first x.1) fit.recorded newer k own had at_number)
+        (λ (newer : opened.events < first.events). let x = newer_of newer in t.recorded.by_super x.0 first (l.super x.0 first x.1) fit.recorded newer k own had (fresh.greatest k own e) at_number)
         (λ (same : (first.events ≡ opened.events) × ((d : ℕ) → first.role d ≡ opened.role d)).
-        t.recorded.by_opening (let f = fit.recorded in let s = same.0 in omega arith) k own had (subst (λ r. r < g.raid_disks) (same.1 (h.now.number k)) at_number))
+        t.recorded.by_opening (let f = fit.recorded in let s = same.0 in omega arith) k own had (let most = fresh.greatest k own e in let s = same.0 in omega arith) (subst (λ r. r < g.raid_disks) (same.1 (h.now.number k)) at_number))
         fit.newer
 
     in_sync_by : (st : State) → has_role st ≡ true → (st ≡ Stale → ⊥) → (is_recovering st ≡ true → ⊥) → is_in_sync st ≡ true
@@ -186,7 +186,7 @@ module _ (g : Geometry) (small : IsWithinLimits g) (opened : Super) (h : History
       tried_on low = ⊎_elim
           (λ (x : h.tried ≡ true). t.recorded.out_tried other.number x away.away low k own on (l.super k own there))
           (λ (x : (n : ℕ) × (p : Request) × (j : ℕ) × MayWrite g h.now n p j).
-          (tried_now g small opened h.failed_at h.tried h.now x.0 x.1 x.2 x.3 t.alone t.recorded).out_tried other.number refl away.away low k own on (l.super k own there))
+          (tried_now g small opened h.away h.failed_at h.tried h.now x.0 x.1 x.2 x.3 t.alone t.recorded).out_tried other.number refl away.away low k own on (l.super k own there))
           tried
 
       no_role : first.role other.number < g.raid_disks → ⊥

@@ -26,7 +26,7 @@ then g [] fs h mid last r more = subst (λ x. Run g x fs last) r more
 then g (e ∷ es) fs h mid last r more = (r.0, r.1, then g es fs (then_in h e r.0) mid last r.2 more)
 
 -- a fact of both members while they are in sync
-in_two : (P : ℕ → Type 0) → P 0 → P 1 → (k : ℕ) → IsInSync small_world k → P k
+pub in_two : (P : ℕ → Type 0) → P 0 → P 1 → (k : ℕ) → IsInSync small_world k → P k
 in_two P a b k on = in_both P a b k (in_sync_active k on)
 
 pub only_eight : (P : ℕ → Type 0) → P 8 → (s : ℕ) → touches one_sector s ≡ true → P s
@@ -73,12 +73,12 @@ abbrev pub w8 : World
 w8 = finished w7 0
 
 abbrev pub at : World → Bool → History
-at w tried = record { now = w; failed_at = 0; tried = tried }
+at w tried = record { now = w; failed_at = 0; tried = tried; away = (opening small_world).away }
 
 may_begin : MayBegin small_geometry small_world 0 one_sector
 may_begin = record { resynced = refl; new = refl; apart = λ m q e. absurd (none_some q e); some = omega arith; inside = omega arith; unwritten = λ _. refl }
 
-begins : Run small_geometry (opening small_world) beginning (at w5 false)
+pub begins : Run small_geometry (opening small_world) beginning (at w5 false)
 begins = (
   w1,
   (refl, (true, true, may_begin, ((λ _. inl refl), (λ _. refl)), ((λ _. full w1 refl refl refl (λ _. refl)), (λ _. refl)), refl)),
@@ -152,10 +152,10 @@ same_content s = by_same s 8
     (λ here. subst (λ x. (w10.stored 0).content x ≡ (w10.stored 1).content x) (sym here) refl)
     (λ away. sym (put-miss 8 ((w9.stored 0).content 8) (w9.stored 1).content s away))
 
-may_resync : MayResync w10
+may_resync : MayResync small_geometry w10
 may_resync = record {
   idle = no_request;
-  agree = λ j k s a b. in_two (λ x. AgreeAt (w10.stored x) (w10.stored k) s)
+  agree = λ j k s a b _. in_two (λ x. AgreeAt (w10.stored x) (w10.stored k) s)
       (in_two (λ y. AgreeAt (w10.stored 0) (w10.stored y) s) (λ _ _. refl) (λ _ _. same_content s) k b)
       (in_two (λ y. AgreeAt (w10.stored 1) (w10.stored y) s) (λ _ _. sym (same_content s)) (λ _ _. refl) k b) j a;
 }
@@ -181,7 +181,7 @@ not_full w state zero_is number h =
     one_only k on is = put-at 1 Faulty small_state k (λ s. is_in_sync s ≡ true → ⊥) (λ _ e. true≢false (sym e))
         (λ apart e. in_two (λ i. i ≢ 1 → w.role i ≡ 1 → ⊥) (λ _ r. let a = zero_is in omega arith) (λ there _. there refl) k e apart is) on
 
-fails : (w : World) (left : Stored) → w.state ≡ small_state → (failed small_geometry (with_device w 1 left) 1 false).role 0 ≡ 0 → ((k : ℕ) → w.number k ≡ k)
+pub fails : (w : World) (left : Stored) → w.state ≡ small_state → (failed small_geometry (with_device w 1 left) 1 false).role 0 ≡ 0 → ((k : ℕ) → w.number k ≡ k)
     → Fails small_geometry w 1 left (failed small_geometry (with_device w 1 left) 1 false)
 fails w left state zero_is number = (
   false,
@@ -200,8 +200,8 @@ fails w left state zero_is number = (
 
 pub can_resync : CanRun ((beginning ++ data_written) ++ chunk_resynced)
 can_resync = (
-  record { now = w14; failed_at = w14.events; tried = true },
-  then small_geometry (beginning ++ data_written) chunk_resynced (opening small_world) (at w8 true) (record { now = w14; failed_at = w14.events; tried = true }) writes (
+  record { now = w14; failed_at = w14.events; tried = true; away = (opening small_world).away },
+  then small_geometry (beginning ++ data_written) chunk_resynced (opening small_world) (at w8 true) (record { now = w14; failed_at = w14.events; tried = true; away = (opening small_world).away }) writes (
     w9,
     (refl, (no_request, refl)),
     (

@@ -8,6 +8,8 @@ use Rattle.md_model.specs.Counts.{IsFull, risen}
 use Rattle.md_model.specs.Steps.{touches_chunk, entered, begun, recorded, marks_stored}
 use Rattle.md_model.specs.Resyncing.{copied, MayCopy}
 use Rattle.md_model.specs.Events.{Event, Fails, Happens}
+use Rattle.md_model.specs.Returns.{KeepsMembers}
+use Rattle.md_model.proofs.Present.{keeps_both}
 use Rattle.md_model.specs.Runs.{History, then_in, opening, Run, IsStart}
 use Rattle.md_model.proofs.Cases.{by_test, never}
 use Rattle.md_model.proofs.Puts.{by_same}
@@ -47,7 +49,7 @@ module _ (g : Geometry) (opened : Super) (was : World) (start : IsStart g opened
   untouched_risen : (h : History) → IsKept g opened h → (full : Bool) → Untouched h.now → Untouched (risen g h.now full)
   untouched_risen h t full u = record {
     in_sync = u.in_sync;
-    role = λ k on. present_keeps g h.now (h.now.number k) start.small.few (t.recorded.present k (recorded_in_sync (h.now.state k) on)) ∙ u.role k on;
+    role = λ k on. present_keeps g h.now (h.now.number k) start.small.few (let x = t.recorded.has_super k (recorded_in_sync (h.now.state k) on) in t.recorded.present k (t.recorded.slot k x.0 x.1)) ∙ u.role k on;
     marks = u.marks;
     bits = u.bits;
     held = u.held;
@@ -107,30 +109,35 @@ module _ (g : Geometry) (opened : Super) (was : World) (start : IsStart g opened
       let low : h.now.events + 1 ≤ opened.events = subst (λ (v : World). v.events ≤ opened.events) f.3 late in
       omega arith
 
-  still_step : (h : History) (e : Event) (w' : World) → IsKept g opened h → IsStill h → Happens g h.now e w' → IsStill (then_in h e w')
-  still_step h (Event.Begin n p) w' t u s a b = subst Untouched (sym s.5) (untouched_begun h t n p s.0 s.1 (u a b))
-  still_step h (Event.Record k) w' t u s a b = subst Untouched (sym s.1) (untouched_recorded h.now k (u a b))
-  still_step h (Event.StoreMarks k y) w' t u s a b = subst Untouched (sym s.1) (untouched_marks_stored h.now k y (u a b))
-  still_step h (Event.WriteMember n k) w' t u s a b = absurd (true≢false a)
-  still_step h (Event.Finish n) w' t u s a b = let v = u a b in subst Untouched (sym s.2) (record { in_sync = v.in_sync; role = v.role; marks = v.marks; bits = v.bits; held = v.held })
-  still_step h (Event.ClearIdle c) w' t u s a b = absurd (not_full h.now (u a b) s.0.full)
-  still_step h (Event.Fail k) w' t u s a b = absurd (fails_not h t k (h.now.stored k) w' s.1 b)
-  still_step h (Event.RecordFails k) w' t u s a b = absurd (fails_not h t k s.0 w' s.2 b)
-  still_step h (Event.StoreMarksFails k y) w' t u s a b = absurd (fails_not h t k s.0 w' s.3 b)
-  still_step h (Event.WriteMemberFails n k) w' t u s a b = absurd (fails_not h t k s.0 w' s.4 b)
-  still_step h (Event.CopyFails k c) w' t u s a b = absurd (fails_not h t k s.0 w' s.4 b)
-  still_step h (Event.Copy from k x) w' t u s a b = subst Untouched (sym s.1) (untouched_copied h.now from k x s.0 (u a b))
-  still_step h Event.Resynced w' t u s a b = let v = u a b in subst Untouched (sym s.1) (record { in_sync = v.in_sync; role = v.role; marks = v.marks; bits = v.bits; held = v.held })
-  still_step h Event.Unresynced w' t u s a b = let v = u a b in subst Untouched (sym s.1) (record { in_sync = v.in_sync; role = v.role; marks = v.marks; bits = v.bits; held = v.held })
-  still_step h Event.MakeClean w' t u s a b = let v = untouched_risen h t s.0 (u a b) in
+  still_step : (h : History) (e : Event) (w' : World) → KeepsMembers (e ∷ []) → IsKept g opened h → IsStill h → Happens g h.now e w' → IsStill (then_in h e w')
+  still_step h (Event.Begin n p) w' keeps t u s a b = subst Untouched (sym s.5) (untouched_begun h t n p s.0 s.1 (u a b))
+  still_step h (Event.Record k) w' keeps t u s a b = subst Untouched (sym s.1) (untouched_recorded h.now k (u a b))
+  still_step h (Event.StoreMarks k y) w' keeps t u s a b = subst Untouched (sym s.1) (untouched_marks_stored h.now k y (u a b))
+  still_step h (Event.WriteMember n k) w' keeps t u s a b = absurd (true≢false a)
+  still_step h (Event.Finish n) w' keeps t u s a b = let v = u a b in subst Untouched (sym s.2) (record { in_sync = v.in_sync; role = v.role; marks = v.marks; bits = v.bits; held = v.held })
+  still_step h (Event.ClearIdle c) w' keeps t u s a b = absurd (not_full h.now (u a b) s.0.full)
+  still_step h (Event.Fail k) w' keeps t u s a b = absurd (fails_not h t k (h.now.stored k) w' s.1 b)
+  still_step h (Event.RecordFails k) w' keeps t u s a b = absurd (fails_not h t k s.0 w' s.2 b)
+  still_step h (Event.StoreMarksFails k y) w' keeps t u s a b = absurd (fails_not h t k s.0 w' s.3 b)
+  still_step h (Event.WriteMemberFails n k) w' keeps t u s a b = absurd (fails_not h t k s.0 w' s.4 b)
+  still_step h (Event.CopyFails k c) w' keeps t u s a b = absurd (fails_not h t k s.0 w' s.4 b)
+  still_step h (Event.Copy from k x) w' keeps t u s a b = subst Untouched (sym s.1) (untouched_copied h.now from k x s.0 (u a b))
+  still_step h Event.Resynced w' keeps t u s a b = let v = u a b in subst Untouched (sym s.1) (record { in_sync = v.in_sync; role = v.role; marks = v.marks; bits = v.bits; held = v.held })
+  still_step h Event.Unresynced w' keeps t u s a b = let v = u a b in subst Untouched (sym s.1) (record { in_sync = v.in_sync; role = v.role; marks = v.marks; bits = v.bits; held = v.held })
+  still_step h Event.MakeClean w' keeps t u s a b = let v = untouched_risen h t s.0 (u a b) in
       subst Untouched (sym s.3) (record { in_sync = v.in_sync; role = v.role; marks = v.marks; bits = v.bits; held = v.held })
+  still_step h (Event.Remove k) w' keeps t u s a b = absurd keeps
+  still_step h (Event.Add d left) w' keeps t u s a b = absurd keeps
+  still_step h (Event.ReAdd own device left) w' keeps t u s a b = absurd keeps
 
-  still_run : (es : List Event) (h last : History) → IsKept g opened h → IsStill h → Run g h es last → IsStill last
-  still_run [] h last t u run = subst IsStill (sym run) u
-  still_run (e ∷ es) h last t u run = still_run es (then_in h e run.0) last (kept_step g start.small opened h e run.0 t run.1) (still_step h e run.0 t u run.1.1) run.2
+  still_run : (es : List Event) (h last : History) → KeepsMembers es → IsKept g opened h → IsStill h → Run g h es last → IsStill last
+  still_run [] h last keeps t u run = subst IsStill (sym run) u
+  still_run (e ∷ es) h last keeps t u run =
+      let k = keeps_both e es keeps in
+      still_run es (then_in h e run.0) last k.1 (kept_step g start.small opened h e run.0 t run.1) (still_step h e run.0 k.0 t u run.1.1) run.2
 
-  pub untouched_run : (es : List Event) (last : History) → Run g (opening was) es last → last.tried ≡ false → last.failed_at ≤ opened.events → IsUntouched was last.now
-  untouched_run es last = still_run es (opening was) last (kept_opened g opened was start) (λ _ _. record {
+  pub untouched_run : (es : List Event) (last : History) → KeepsMembers es → Run g (opening was) es last → last.tried ≡ false → last.failed_at ≤ opened.events → IsUntouched was last.now
+  untouched_run es last keeps = still_run es (opening was) last keeps (kept_opened g opened was start) (λ _ _. record {
     in_sync = λ _ on. on;
     role = λ _ _. refl;
     marks = λ _ off. off;

@@ -2,12 +2,13 @@
 use Rattle.std.specs.Prelude.{◌≡◌, ℕ, ◌↔◌, Bool, true, false}
 use Rattle.md_model.specs.Sectors.{Geometry}
 use Rattle.md_model.specs.States.{is_active, is_recorded}
-use Rattle.md_model.specs.Devices.{Stored}
+use Rattle.md_model.specs.Devices.{Stored, Super}
 use Rattle.md_model.specs.Worlds.{Request, World, IsInSync}
-use Rattle.md_model.specs.Counts.{HasToRise, IsFull}
+use Rattle.md_model.specs.Counts.{HasToRise, IsFull, risen}
 use Rattle.md_model.specs.Steps.{with_device, begun, recorded, marks_stored, member_written, finished, unmarked, MayBegin, MayWrite, MayFinish, MayClear}
 use Rattle.md_model.specs.Failures.{failed, MayFail, LeftBySuper, LeftByMarks, LeftByData, LeftByCopy}
 use Rattle.md_model.specs.Resyncing.{copied, made_resynced, made_clean, IsIdle, MayCopyChunk, MayCopy, MayResync, MayStop}
+use Rattle.md_model.specs.Membership.{is_spare, removed, added, re_added, IsLaidOut, IsTakenBack, MayAdd, MayReAdd, MayRemove}
 
 pub data Event : Type 0 where
   -- the steps
@@ -28,6 +29,10 @@ pub data Event : Type 0 where
   Resynced : Event
   Unresynced : Event  -- a resync fails; one that answers Ok is a list without it, if the array was resynced
   MakeClean : Event
+  -- members come and go
+  Remove : (k : ℕ) → Event
+  Add : (d : ℕ) (left : Stored) → Event
+  ReAdd : (own : Super) (device left : Stored) → Event
 
 -- Member k fails, and its device is by then as left. Whether the array is full after that is known.
 abbrev pub Fails : Geometry → World → ℕ → Stored → World → Type 0
@@ -48,9 +53,13 @@ Happens g w (Event.StoreMarksFails k b) w' = (left : Stored) × IsInSync w k × 
 Happens g w (Event.WriteMemberFails n k) w' = (left : Stored) × (p : Request) × MayWrite g w n p k × LeftByData w k p left × Fails g w k left w'
 Happens g w (Event.CopyFails k c) w' = (left : Stored) × IsInSync w k × MayCopyChunk w c × LeftByCopy g w k c left × Fails g w k left w'
 Happens g w (Event.Copy from k s) w' = MayCopy g w from k s × (w' ≡ copied w from k s)
-Happens g w Event.Resynced w' = MayResync w × (w' ≡ made_resynced w true)
+Happens g w Event.Resynced w' = MayResync g w × (w' ≡ made_resynced w true)
 Happens g w Event.Unresynced w' = IsIdle w × (w' ≡ made_resynced w false)
 Happens g w Event.MakeClean w' = (full : Bool) × MayStop w × ((full ≡ true) ↔ IsFull g w') × (w' ≡ made_clean g w full)
+Happens g w (Event.Remove k) w' = (full : Bool) × MayRemove w k × ((full ≡ true) ↔ IsFull g w') × (w' ≡ removed g w k (is_spare (w.state k)) full)
+Happens g w (Event.Add d left) w' = (full : Bool) × MayAdd g w d × IsLaidOut g (risen g w full) d left × ((full ≡ true) ↔ IsFull g w') × (w' ≡ added g w d left full)
+Happens g w (Event.ReAdd own device left) w' =
+    (full : Bool) × MayReAdd g w own × IsTakenBack (risen g w full) own device left × ((full ≡ true) ↔ IsFull g w') × (w' ≡ re_added g w own left full)
 
 -- The event may happen in the first world, and give the second. In a halted one nothing happens: each call answers Halted.
 abbrev pub Step : Geometry → World → Event → World → Type 0

@@ -9,6 +9,7 @@ pub mod Counts
 pub mod Steps
 pub mod Failures
 pub mod Resyncing
+pub mod Membership
 pub mod Events
 pub mod Runs
 pub mod Stops

@@ -62,7 +62,7 @@ lone_recorded = Event.Begin 0 one_sector ∷ Event.StoreMarks 0 0 ∷ Event.Reco
 -- All that is asked of a device that is kept out is met, whether the opening's superblock finds it in sync or not: the next one's
 -- does not.
 pub record IsKeptOut (g : Geometry) (opened : Super) (h : History) (absent : Super) (was_in : Bool) : Type 0 where
-  pub away : IsAbsent opened h.now absent
+  pub away : IsAbsent opened h.away absent
   pub before : is_in_sync (state_by g opened absent) ≡ was_in
   pub left : ℕ → Stored
   pub is_left : IsLeft g h.now left

@@ -30,10 +30,11 @@ pub record MayCopy (g : Geometry) (w : World) (from k s : ℕ) : Type 0 where
   pub unlisted : (w.stored from).listed s ≡ false
   pub lowest : (j : ℕ) → IsInSync w j → (w.stored j).listed s ≡ false → w.role (w.number from) ≤ w.role (w.number j)
 
--- once the members in sync agree on all that neither of two lists, the array is resynced
-pub record MayResync (w : World) : Type 0 where
+-- Once the members in sync agree in marked chunks, on all that neither of two lists, the array is resynced. In the others they agree
+-- at every moment.
+pub record MayResync (g : Geometry) (w : World) : Type 0 where
   pub idle : IsIdle w
-  pub agree : (j k s : ℕ) → IsInSync w j → IsInSync w k → AgreeAt (w.stored j) (w.stored k) s
+  pub agree : (j k s : ℕ) → IsInSync w j → IsInSync w k → w.marks (chunk_of g s) ≡ true → AgreeAt (w.stored j) (w.stored k) s
 
 -- Resynced and Unresynced. A resync of an array that was resynced and answers Ok is a list without Unresynced: then its end changes
 -- nothing of the content, which IsSettled says of a resynced array alone. Unresynced is for a resync that fails.

@@ -1,6 +1,6 @@
 -- A device that an opening left out, and that comes back at the next one before any data was tried (this project's own). Its
 -- devices are covered; their content is that of a first opening, and not what it was before.
-use Rattle.std.specs.Prelude.{◌≡◌, ℕ, cond, nat_lt, Some, List}
+use Rattle.std.specs.Prelude.{◌≡◌, ℕ, cond, not, nat_lt, Some, List, [], ◌∷◌}
 use Rattle.md_model.specs.Sectors.{Geometry}
 use Rattle.md_model.specs.Devices.{Super, Stored, Covered}
 use Rattle.md_model.specs.Worlds.{World}
@@ -15,16 +15,24 @@ beside members here back k = cond (nat_lt k members) (here k) (back k)
 
 -- These were absent. With them the opening would have been of devices that are covered, one for each role.
 pub record WasAway (g : Geometry) (opened : Super) (w : World) (back : ℕ → Stored) : Type 0 where
-  pub absent : (k : ℕ) (own : Super) → (back k).super ≡ Some own → IsAbsent opened w own
+  pub absent : (k : ℕ) (own : Super) → (back k).super ≡ Some own → IsAbsent opened (λ d. not (w.present d)) own
   pub covered : Covered g (beside w.members w.stored back) (IsFound g (beside w.members w.stored back) opened)
   pub one_each : (j k : ℕ) (a : IsFound g (beside w.members w.stored back) opened j) (b : IsFound g (beside w.members w.stored back) opened k)
       → opened.role a.own.number ≡ opened.role b.own.number → j ≡ k
 
--- they may be found in sync, and then the marks cover them too
+-- no member comes or goes
+abbrev pub KeepsMembers : List Event → Type 0
+KeepsMembers [] = Unit {0}
+KeepsMembers (Event.Remove k ∷ es) = ⊥
+KeepsMembers (Event.Add d left ∷ es) = ⊥
+KeepsMembers (Event.ReAdd own device left ∷ es) = ⊥
+KeepsMembers (e ∷ es) = KeepsMembers es
+
+-- As long as no member comes or goes, they may be found in sync, and then the marks cover them too
 abbrev pub CoversReturns : Type 0
 CoversReturns =
     (g : Geometry) (opened : Super) (w : World) → IsStart g opened w → (back : ℕ → Stored) → WasAway g opened w back
-    → (es : List Event) (last : History) → Run g (opening w) es last → (WasTried g last → ⊥)
+    → (es : List Event) (last : History) → KeepsMembers es → Run g (opening w) es last → (WasTried g last → ⊥)
     → (left : ℕ → Stored) (first : Super) → IsLeft g last.now left
     → IsFreshest (beside w.members left back) first → IsFit opened first last.failed_at
     → Covered g (beside w.members left back) (IsFound g (beside w.members left back) first)

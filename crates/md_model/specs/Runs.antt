@@ -1,5 +1,5 @@
 -- Whole runs from an opening (this project's own).
-use Rattle.std.specs.Prelude.{◌≡◌, ℕ, Bool, true, false, List, [], ◌∷◌}
+use Rattle.std.specs.Prelude.{◌≡◌, ℕ, Bool, true, false, not, ◌&&◌, eqb, List, [], ◌∷◌}
 use Rattle.md_model.specs.Sectors.{Geometry}
 use Rattle.md_model.specs.Devices.{Super, Covered}
 use Rattle.md_model.specs.Worlds.{World, IsInSync}
@@ -11,9 +11,10 @@ pub record History : Type 0 where
   pub now : World
   pub failed_at : ℕ  -- the count after the last failure, or 0
   pub tried : Bool  -- data was written to a member, or a write of it failed
+  pub away : ℕ → Bool  -- no member had this number at any moment since the opening
 
 abbrev pub opening : World → History
-opening w = record { now = w; failed_at = 0; tried = false }
+opening w = record { now = w; failed_at = 0; tried = false; away = λ d. not (w.present d) }
 
 abbrev pub failed_after : Event → World → ℕ → ℕ
 failed_after (Event.Fail k) after at = after.events
@@ -28,8 +29,14 @@ tried_after (Event.WriteMember n k) before = true
 tried_after (Event.WriteMemberFails n k) before = true
 tried_after e before = before
 
+-- a member that comes in has its number from then on
+abbrev pub away_after : Event → (ℕ → Bool) → ℕ → Bool
+away_after (Event.Add number left) before d = before d && not (eqb d number)
+away_after (Event.ReAdd own device left) before d = before d && not (eqb d own.number)
+away_after e before d = before d
+
 abbrev pub then_in : History → Event → World → History
-then_in h e w = record { now = w; failed_at = failed_after e w h.failed_at; tried = tried_after e h.tried }
+then_in h e w = record { now = w; failed_at = failed_after e w h.failed_at; tried = tried_after e h.tried; away = away_after e h.away }
 
 -- these events, one after another, may lead from the one history to the other
 abbrev pub Run : Geometry → History → List Event → History → Type 0

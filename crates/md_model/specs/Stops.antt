@@ -1,5 +1,5 @@
 -- A stop, and what the next opening may find (this project's own).
-use Rattle.std.specs.Prelude.{◌≡◌, ◌≢◌, ℕ, ◌+◌, ◌<◌, ◌≤◌, ◌⊎◌, true, false, Some, None}
+use Rattle.std.specs.Prelude.{◌≡◌, ◌≢◌, ℕ, ◌+◌, ◌<◌, ◌≤◌, ◌⊎◌, Bool, true, false, Some, None}
 use Rattle.md_model.specs.Sectors.{Geometry, chunk_of}
 use Rattle.md_model.specs.States.{is_in_sync}
 use Rattle.md_model.specs.Devices.{Super, Stored, is_marked, Covered}
@@ -39,10 +39,10 @@ pub record IsFit (opened first : Super) (failed_at : ℕ) : Type 0 where
   pub recorded : failed_at ≤ first.events
   pub newer : (opened.events < first.events) ⊎ ((first.events ≡ opened.events) × ((d : ℕ) → first.role d ≡ opened.role d))
 
--- a device that the opening left out, whose events were not above the array's there
-pub record IsAbsent (opened : Super) (w : World) (own : Super) : Type 0 where
+-- a device that the opening left out, whose events were not above the array's there, and whose number no member had since
+pub record IsAbsent (opened : Super) (stays_away : ℕ → Bool) (own : Super) : Type 0 where
   pub no_newer : own.events ≤ opened.events
-  pub away : w.present own.number ≡ false
+  pub away : stays_away own.number ≡ true
 
 -- The freshest superblock of these devices, and perhaps of others that the opening before left out: it is of one of these, or is
 -- no newer than that opening.
@@ -72,14 +72,14 @@ abbrev pub KeepsOut : Geometry → Super → History → Type 0
 KeepsOut g opened h =
     WasTried g h → (left : ℕ → Stored) → IsLeft g h.now left
     → (k : ℕ) (own : Super) → IsInSync h.now k → (left k).super ≡ Some own
-    → (absent : Super) → IsAbsent opened h.now absent
+    → (absent : Super) → IsAbsent opened h.away absent
     → (first : Super) → IsFreshestWithAbsent opened left first → IsFit opened first h.failed_at
     → is_in_sync (state_by g first absent) ≡ false
 
 -- One that the superblock of an opening calls out of sync stays so, with data tried since or not.
 abbrev pub StaysOut : Geometry → Super → History → Type 0
 StaysOut g opened h =
-    (absent : Super) → IsAbsent opened h.now absent → is_in_sync (state_by g opened absent) ≡ false
+    (absent : Super) → IsAbsent opened h.away absent → is_in_sync (state_by g opened absent) ≡ false
     → (left : ℕ → Stored) → IsLeft g h.now left
     → (first : Super) → IsFreshestWithAbsent opened left first → IsFit opened first h.failed_at
     → is_in_sync (state_by g first absent) ≡ false

@@ -56,6 +56,8 @@ pub fn small_runs()
     ensures marks_fail { CanRun (beginning ++ (Event.StoreMarksFails 1 0 ∷ [])) }
     ensures write_fails { CanRun (beginning ++ data_fails) }
     ensures copy_fails { CanRun ((beginning ++ data_written) ++ (Event.CopyFails 1 1 ∷ [])) }
+    ensures comes_again { (own : Super) × (device left : Stored) × CanRun (beginning ++ (Event.Fail 1 ∷ Event.Remove 1 ∷ Event.ReAdd own device left ∷ [])) }
+    ensures comes_new { (d : ℕ) × (left : Stored) × CanRun (beginning ++ (Event.Fail 1 ∷ Event.Remove 1 ∷ Event.Add d left ∷ [])) }
     ensures reopens { Reopens small_geometry (small_super 0) (opening small_world) (small_super 0) small_world }
 {}
 

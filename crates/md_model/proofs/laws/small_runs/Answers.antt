@@ -1,4 +1,6 @@
 use Rattle.md_model.proofs.SmallRun.{can_resync, can_fail_record, can_fail_marks, can_fail_data, can_fail_copy, reopens}
+use Rattle.md_model.proofs.Comings.{back, can_come_again, can_come_new, laid, own}
+use Rattle.md_model.proofs.SmallRun.{w5}
 use Rattle.md_model.proofs.laws.small_runs.Goals as goal
 
 pub returns : goal.returns
@@ -8,5 +10,7 @@ returns c = record {
   marks_fail = can_fail_marks;
   write_fails = can_fail_data;
   copy_fails = can_fail_copy;
+  comes_again = (own, w5.stored 1, back, can_come_again);
+  comes_new = (2, laid, can_come_new);
   reopens = reopens;
 }

@@ -1,0 +1,114 @@
+-- Whole calls: the events that a call does, one after another (this project's own).
+use Rattle.std.specs.Prelude.{◌≡◌, ◌≢◌, ℕ, ◌<◌, ◌⊎◌, true, List, [], ◌∷◌, Option, Some, None}
+use Rattle.md_model.specs.Sectors.{block_of}
+use Rattle.md_model.specs.Worlds.{Request}
+use Rattle.md_model.specs.Events.{Event}
+use Rattle.md_bitmap.specs.Marks.{is_set}
+use Rattle.md_array.specs.View.{ArrayView, MemberView, MirrorView, PendingView}
+use Rattle.md_array.specs.Members.{IsInSync, IsMember}
+use Rattle.md_array.specs.DiskWrites.{AtDevice}
+use Rattle.md_array.specs.Beginning.{Begins}
+use Rattle.md_array.specs.Finishing.{Finishes}
+use Rattle.md_array.specs.StoringMarks.{FailsToStoreMarks, HaltsStoringMarks, StoresMarkSector}
+use Rattle.md_array.specs.WritingMember.{FailsToWrite, HaltsWritingTo, IsNotDue, WritesTo}
+use Rattle.md_array.specs.Recording.{FailsToRecord, HaltsRecording, Records, super_write}
+use Rattle.md_array.specs.Requests.{request_of}
+use Rattle.md_array.specs.Events.{Does, IsOldNewOrNone}
+use Rattle.md_array.specs.Worlds.{AreHonest}
+
+-- the requests of the model that are in flight, by their numbers
+abbrev pub Requests : Type 0
+Requests = ℕ → Option Request
+
+-- what is asked of the device, where the event is a superblock's write that failed
+abbrev pub LeftWhole : MirrorView → Event → MirrorView → Type 0
+LeftWhole old (Event.RecordFails k) new =
+    (m : MemberView) → IsMember old.array k m → AtDevice k old.disks new.disks (IsOldNewOrNone (super_write old.array m).bytes)
+LeftWhole old e new = Unit {0}
+
+-- Right before the superblock of a member in sync comes the first sector of its bitmap.
+abbrev pub HeaderFirst : Option Event → ArrayView → ℕ → Type 0
+HeaderFirst previous a k = (m : MemberView) → IsInSync a k m → previous ≡ Some (Event.StoreMarks k 0)
+
+-- The superblocks of members in sync come first, by index.
+abbrev pub InSyncFirst : ArrayView → ℕ → Type 0
+InSyncFirst a k = (j : ℕ) (m : MemberView) → IsInSync a j m → ((n : MemberView) → IsInSync a k n → j < k) → IsNotDue m
+
+-- member k's superblock is written in its turn, where it is due
+pub record IsRecordDue (previous : Option Event) (a : ArrayView) (k : ℕ) : Type 0 where
+  pub due : (m : MemberView) → IsMember a k m → m.due ≡ true
+  pub header : HeaderFirst previous a k
+  pub first : InSyncFirst a k
+
+-- of this sector of its bitmap the member has all marks stored as they are in memory
+abbrev pub HasSector : ArrayView → ℕ → MemberView → Type 0
+HasSector a block m = (c : ℕ) → block_of c ≡ block → c < a.marks.chunks → is_set m.stored.bytes c ≡ is_set a.marks.bytes c
+
+-- A sector of a bitmap is written where some mark of it is not stored; the first one also right before a superblock.
+abbrev pub IsSectorDue : ArrayView → ℕ → ℕ → Type 0
+IsSectorDue a k block = (m : MemberView) → IsInSync a k m → (HasSector a block m → ⊥) ⊎ ((block ≡ 0) × (m.due ≡ true))
+
+-- what is asked of an event by the one right before it and by the mirror. That marks and records come before data, the model asks.
+abbrev pub IsInOrder : Option Event → ArrayView → Event → Type 0
+IsInOrder previous a (Event.Record k) = IsRecordDue previous a k
+IsInOrder previous a (Event.RecordFails k) = IsRecordDue previous a k
+IsInOrder previous a (Event.StoreMarks k b) = IsSectorDue a k b
+IsInOrder previous a (Event.StoreMarksFails k b) = IsSectorDue a k b
+IsInOrder previous a e = Unit {0}
+
+-- the request in flight under a number is this one of a caller
+pub record IsUnder (n : ℕ) (p : PendingView) (requests : Requests) : Type 0 where
+  pub number : p.ticket.number ≡ n
+  pub request : requests n ≡ Some (request_of p)
+
+-- under a number stands this, and under the others what stood there
+pub record IsPut (n : ℕ) (r : Option Request) (before after : Requests) : Type 0 where
+  pub at : after n ≡ r
+  pub others : (m : ℕ) → m ≢ n → after m ≡ before m
+
+-- What the step's own contract says of it, whatever its device is, and what requests are in flight after it. No call does the other
+-- events yet.
+abbrev pub Did : MirrorView → Requests → Event → MirrorView → Requests → Type 0
+Did old before (Event.Begin n r) new after =
+    (sector : ℕ) × (bytes : List ℕ) × (p : PendingView) × IsUnder n p after × IsPut n (Some r) before after × Begins sector bytes old new p
+Did old before (Event.Record k) new after = (after ≡ before) × Records k old new
+Did old before (Event.StoreMarks k b) new after = (after ≡ before) × StoresMarkSector k b old new
+Did old before (Event.WriteMember n k) new after =
+    (p q : PendingView) × IsUnder n p before × IsUnder n q after × IsPut n (Some (request_of q)) before after × WritesTo k old new p q
+Did old before (Event.Finish n) new after = (p : PendingView) × IsUnder n p before × IsPut n None before after × Finishes old new p
+Did old before (Event.RecordFails k) new after = (after ≡ before) × FailsToRecord k old new
+Did old before (Event.StoreMarksFails k b) new after = (after ≡ before) × FailsToStoreMarks k b old new
+Did old before (Event.WriteMemberFails n k) new after =
+    (p q : PendingView) × IsUnder n p before × IsUnder n q after × IsPut n (Some (request_of q)) before after × FailsToWrite k old new p q
+Did old before e new after = ⊥
+
+-- From this mirror, with these requests in flight, the events were done one after another, the first of them after this one, and
+-- then it holds of where they lead. What each step did is said of any devices. It is an event of the model where they do what they
+-- answer, but for a superblock's write that failed and left something other than the old superblock, the new one or none.
+abbrev pub InTurn : Option Event → MirrorView → Requests → List Event → (MirrorView → Requests → Type 0) → Type 0
+InTurn previous old before [] Then = Then old before
+InTurn previous old before (e ∷ es) Then =
+    (mid : MirrorView) × (between : Requests) × IsInOrder previous old.array e × Did old before e mid between
+    × (AreHonest old.disks → LeftWhole old e mid → Does old before e mid between) × InTurn (Some e) mid between es Then
+
+-- they lead to this mirror, with these requests
+abbrev pub Leads : Option Event → MirrorView → Requests → List Event → MirrorView → Requests → Type 0
+Leads previous old before es new after = InTurn previous old before es (λ m r. (m ≡ new) × (r ≡ after))
+
+-- each event of a list is such
+abbrev pub AllOf : (Event → Type 0) → List Event → Type 0
+AllOf Of [] = Unit {0}
+AllOf Of (e ∷ es) = Of e × AllOf Of es
+
+-- each failed write of a superblock on the way left the old one, the new one or none
+abbrev pub AllLeftWhole : (es : List Event) (previous : Option Event) (old : MirrorView) (before : Requests) (Then : MirrorView → Requests → Type 0)
+    → InTurn previous old before es Then → Type 0
+AllLeftWhole [] previous old before Then t = Unit {0}
+AllLeftWhole (e ∷ es) previous old before Then t = (whole : LeftWhole old e t.0) × AllLeftWhole es (Some e) t.0 t.1 Then t.5
+
+-- The write of this event failed on a member that can't be made faulty, and the mirror is halted.
+abbrev pub HaltsAt : MirrorView → Requests → Event → MirrorView → Type 0
+HaltsAt old before (Event.RecordFails k) new = HaltsRecording k old new
+HaltsAt old before (Event.StoreMarksFails k b) new = HaltsStoringMarks k b old new
+HaltsAt old before (Event.WriteMemberFails n k) new = (p q : PendingView) × IsUnder n p before × HaltsWritingTo k old new p q
+HaltsAt old before e new = ⊥

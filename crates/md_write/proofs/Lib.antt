@@ -1,0 +1,9 @@
+pub mod Counts
+pub mod Going
+pub mod Steps
+pub mod StoredMarks
+pub mod StoredRecords
+pub mod WrittenData
+pub mod Received
+pub mod Entries
+pub mod Whole

@@ -1,0 +1,145 @@
+-- Marks are stored sector by sector, and member by member.
+use Rattle.std.proofs.Common.{◌≡◌, ℕ, ◌+◌, ◌-◌, ◌<◌, ◌≤◌, Bool, true, false, cond, eqb, nat_lt, ◌&&◌, ◌↔◌, length, slice_get, Some, refl, sym, ap, ◌∙◌, subst, arith, eq-eqb, inl}
+use Rattle.std.proofs.lemmas.Option.{same_Some, slice_get_within}
+use Rattle.std.specs.Prelude.{option_map, Result, Ok, Err, MatchResult}
+use Rattle.md_model.specs.Events.{Event}
+use Rattle.md_model.specs.Sectors.{block_of}
+use Rattle.md_model.proofs.Cases.{below-nat_lt}
+use Rattle.md_model.proofs.Puts.{by_same}
+use Rattle.md_bitmap.specs.Marks.{Bitmap, is_set}
+use Rattle.md_array.specs.View.{ArrayView, MemberView, MirrorView}
+use Rattle.md_array.specs.Members.{IsInSync, IsMember}
+use Rattle.md_array.specs.Consistency.{IsConsistent}
+use Rattle.md_array.specs.InTurn.{IsSectorDue}
+use Rattle.md_array.specs.WritingMember.{HasMarksFrom, IsNotDue}
+use Rattle.md_write.specs.declared.stop.Stop.{Stop}
+use Rattle.md_write.specs.Progress.{alone, AreMarked, HasMarksIn, IsSameArray, IsStoring, StaysReady, Stores, StoresAll, StoresAt, StoresBelow, StoresOn, StopsStoring}
+use Rattle.md_write.proofs.Going.{goes_step, stores_nowhere, stores_on, was_in_sync}
+use Rattle.md_write.proofs.Steps.{now_at}
+
+-- ---- the members, one after another
+-- what a member that stays ready keeps, where these marks are in memory
+pub record IsLasting (marks : Bitmap) (Done : MemberView → Type 0) : Type 0 where
+  pub lasts : (a b : ArrayView) (k : ℕ) (n : MemberView) → a.marks ≡ marks → (s : StaysReady a b k n) → Done s.before → Done n
+
+pub marks_last : (a : ArrayView) (first end : ℕ) → AreMarked a first end → IsLasting a.marks (HasMarksFrom first end)
+marks_last a first end are = record {
+  lasts = λ b c k n same s has x low high. s.marked x (ap (λ (m : Bitmap). is_set m.bytes x) same ∙ are.marked x low high) (has x low high);
+}
+
+pub records_last : (marks : Bitmap) → IsLasting marks IsNotDue
+records_last marks = record { lasts = λ a b k n same s done. s.recorded done }
+
+module _ (Done : MemberView → Type 0) where
+  -- one that has it already, or is not in sync
+  pub nothing_at : (k : ℕ) (m : MirrorView) → IsConsistent m → ((n : MemberView) → IsInSync m.array k n → Done n) → StoresAt k Done m m
+  nothing_at k m sound done = record { stores = stores_nowhere m sound; done = done }
+
+  pub below_none : (m : MirrorView) → IsConsistent m → StoresBelow 0 Done m m
+  below_none m sound = record { stores = stores_nowhere m sound; done = λ i n low in_sync. absurd (omega arith) }
+
+  pub below_more : (k : ℕ) (old mid new : MirrorView) → IsLasting old.array.marks Done → StoresBelow k Done old mid → StoresAt k Done mid new → StoresBelow (k + 1) Done old new
+  below_more k old mid new lasting g h = record {
+    stores = stores_on old mid new g.stores h.stores;
+    done = λ i n low in_sync.
+        by_same i k
+        (λ same. h.done n (subst (λ (j : ℕ). IsInSync new.array j n) same in_sync))
+        (λ apart.
+        let s : StaysReady mid.array new.array i n = h.stores.ready.each i n in_sync.member in
+        lasting.lasts mid.array new.array i n g.stores.goes.array.marks s (g.done i s.before (omega arith) (was_in_sync mid.array new.array i n s in_sync)));
+  }
+
+  pub below_all : (k : ℕ) (old new : MirrorView) → length new.array.members ≤ k → StoresBelow k Done old new → StoresAll Done old new
+  below_all k old new last g = record {
+    stores = g.stores;
+    done = λ i n in_sync. g.done i n (let low = slice_get_within new.array.members i n in_sync.member in omega arith) in_sync;
+  }
+
+  -- a member in sync has it still
+  pub last_on : (old mid new : MirrorView) → IsLasting old.array.marks Done → mid.array.marks ≡ old.array.marks → ((k : ℕ) (m : MemberView) → IsInSync mid.array k m → Done m) → Stores mid new
+      → (k : ℕ) (m : MemberView) → IsInSync new.array k m → Done m
+  last_on old mid new lasting same all h k m in_sync =
+      let s : StaysReady mid.array new.array k m = h.ready.each k m in_sync.member in
+      lasting.lasts mid.array new.array k m same s (all k s.before (was_in_sync mid.array new.array k m s in_sync))
+
+-- what the observers tell of a member
+pub told : {X : Type 0} (f : MemberView → X) (a : ArrayView) (k : ℕ) (m : MemberView) (x : X) → option_map f (slice_get a.members k) ≡ Some x → IsMember a k m → f m ≡ x
+told f a k m x e at = same_Some (f m) x (sym (ap (option_map f) at) ∙ e)
+
+-- ---- the sectors of one member
+pub marked_still : (a b : ArrayView) (first end : ℕ) → IsSameArray a b → AreMarked a first end → AreMarked b first end
+marked_still a b first end same are = record {
+  some = are.some;
+  within = subst (λ (m : Bitmap). end ≤ m.chunks) (sym same.marks) are.within;
+  marked = subst (λ (m : Bitmap). (c : ℕ) → first ≤ c → c < end → is_set m.bytes c ≡ true) (sym same.marks) are.marked;
+}
+
+-- the marks whose bits are in the sectors before this one are stored
+pub record StoresUpTo (k first end block : ℕ) (old new : MirrorView) : Type 0 where
+  pub stores : Stores old new
+  pub done : (m : MemberView) → IsInSync new.array k m → (c : ℕ) → first ≤ c → c < end → block_of c < block → is_set m.stored.bytes c ≡ true
+
+block_mono : (a b : ℕ) → a ≤ b → block_of a ≤ block_of b
+block_mono a b l = omega arith
+
+module _ (k first end : ℕ) where
+  pub up_none : (m : MirrorView) → IsConsistent m → StoresUpTo k first end (block_of first) m m
+  up_none m sound = record { stores = stores_nowhere m sound; done = λ n in_sync c low high before. absurd (let l = block_mono first c low in omega arith) }
+
+  pub up_more : (block : ℕ) (old mid new : MirrorView) → AreMarked old.array first end → StoresUpTo k first end block old mid → StoresAt k (HasMarksIn block first end) mid new
+      → StoresUpTo k first end (block + 1) old new
+  up_more block old mid new are g h = record {
+    stores = stores_on old mid new g.stores h.stores;
+    done = λ m in_sync c low high before.
+        by_same (block_of c) block
+        (λ here. h.done m in_sync c low high here)
+        (λ apart.
+        let s : StaysReady mid.array new.array k m = h.stores.ready.each k m in_sync.member in
+        s.marked c (ap (λ (x : Bitmap). is_set x.bytes c) g.stores.goes.array.marks ∙ are.marked c low high) (g.done s.before (was_in_sync mid.array new.array k m s in_sync) c low high (omega arith)));
+  }
+
+  pub up_all : (block : ℕ) (old new : MirrorView) → block_of (end - 1) < block → StoresUpTo k first end block old new → StoresAt k (HasMarksFrom first end) old new
+  up_all block old new past g = record {
+    stores = g.stores;
+    done = λ m in_sync c low high. g.done m in_sync c low high (let l = block_mono c (end - 1) (omega arith) in omega arith);
+  }
+
+-- ---- one sector of one member
+hit : (b x y : Bool) → b ≡ true → x ≡ true → cond b x y ≡ true
+hit true x y e is = is
+hit false x y e is = absurd cc
+
+module _ (k block first end : ℕ) (old new : MirrorView) (are : AreMarked old.array first end) where
+  pub stored_in : IsConsistent old → IsSectorDue old.array k block → StoresOn k block old new → StoresAt k (HasMarksIn block first end) old new
+  stored_in sound due s =
+      let r = s.gives in
+      record {
+        stores = record { goes = goes_step alone alone IsStoring (Event.StoreMarks k block) old new s.step (λ previous. due); ready = s.ready };
+        done = λ m in_sync c low high here.
+            let it = now_at old.array new.array k r.member (record r.member { stored = r.stored }) r.may.in_sync.member refl r.array m in_sync.member in
+            let within = are.within in
+            let chunks = sound.chunks.member_count k r.member r.may.in_sync.member in
+            let inside : c < r.member.stored.chunks = omega arith in
+            ap (λ (x : MemberView). is_set x.stored.bytes c) it ∙ r.has_stored.bits c
+            ∙ hit (eqb (block_of c) block && nat_lt c r.member.stored.chunks) _ _
+            (ap (λ (b : Bool). b && nat_lt c r.member.stored.chunks) (eq-eqb _ _ here) ∙ below-nat_lt c r.member.stored.chunks inside)
+            (are.marked c low high);
+      }
+
+  pub stored_or_stops : IsConsistent old → IsSectorDue old.array k block → {T : Type 0} (result : Result T Stop) → MatchResult result (λ _. StoresOn k block old new) (StopsStoring old new)
+      → MatchResult result (λ _. StoresAt k (HasMarksIn block first end) old new) (StopsStoring old new)
+  stored_or_stops sound due (Ok t) s = stored_in sound due s
+  stored_or_stops sound due (Err stop) s = s
+
+-- some of these marks are not stored
+pub sector_lacks : (a : ArrayView) (k block first end from to : ℕ) (answer : Bool) → AreMarked a first end
+    → ((c : ℕ) → ((from ≤ c) × (c < to)) ↔ ((first ≤ c) × (c < end) × (block_of c ≡ block)))
+    → answer ≡ false → ((m : MemberView) → IsMember a k m → (answer ≡ true) ↔ HasMarksFrom from to m) → IsSectorDue a k block
+sector_lacks a k block first end from to answer are these lacks tells m in_sync =
+    inl (λ alike.
+    let yes = (tells m in_sync.member).1 (λ c low high.
+    let x = (these c).0 (low, high) in
+    let within = are.within in
+    let below = x.1 in
+    alike c x.2 (omega arith) ∙ are.marked c x.0 x.1) in
+    cc)

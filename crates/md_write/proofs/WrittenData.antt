@@ -1,0 +1,269 @@
+-- A request's bytes are written to the members.
+use Rattle.std.proofs.Common.{◌≡◌, ◌≢◌, ℕ, ◌+◌, ◌/◌, ◌<◌, ◌≤◌, Bool, true, false, ◌||◌, eqb, List, [], ◌∷◌, ◌++◌, length, Some, refl, sym, ap, ◌∙◌, subst, arith, inl, inr, eq-eqb}
+use Rattle.std.specs.List.{list_any}
+use Rattle.std.specs.Prelude.{Result, Ok, Err, MatchResult}
+use Rattle.std.proofs.lemmas.Option.{same_Some, slice_get_within}
+use Rattle.md_model.specs.Events.{Event}
+use Rattle.md_model.proofs.Puts.{by_same, put-hit, put-miss}
+use Rattle.md_bitmap.specs.declared.chunks.Chunks.{Chunks}
+use Rattle.md_assembly.specs.States.{is_in_sync}
+use Rattle.md_array.specs.declared.step_fault.WriteMemberFault.TheVariants.{Halted, NotActive, NotMarked, NotRecorded, AlreadyWritten, MemberFailed}
+use Rattle.md_array.specs.View.{ArrayView, MemberView, MirrorView, PendingView}
+use Rattle.md_array.specs.Members.{AllInSync, IsInSync, IsMember}
+use Rattle.md_array.specs.Consistency.{IsConsistent}
+use Rattle.md_array.specs.Events.{HappensAmong}
+use Rattle.md_array.specs.Finishing.{HasBytesOf}
+use Rattle.md_array.specs.InTurn.{IsPut, IsUnder, Requests}
+use Rattle.md_array.specs.Requests.{IsPending, among, has_written, request_of}
+use Rattle.md_array.specs.WritingMember.{HasMarksFrom, HasMarksOf, IsNotDue, RefusesWriteMember, WritesTo}
+use Rattle.md_write.specs.declared.stop.Stop.{Stop}
+use Rattle.md_write.specs.declared.stop.Stop.TheVariants as stop
+use Rattle.md_write.specs.Progress.{AllRecorded, RecordsAll, AreChunksOf, GoesOn, HaltsAfter, HaltsOn, IsLater, IsOfRequest, IsReadyToFinish, IsSameArray, LosesMember, LosesOn, Stores, StoresAll, StopsStoring, StopsWriting, WritesAt, WritesBelow, WritesOn, WritesToAll}
+use Rattle.md_write.proofs.Going.{goes_beside, goes_nowhere, goes_on, goes_step, halts_beside, halts_on, later_on, later_refl, loses_on, same_refl, stores_on}
+use Rattle.md_write.proofs.StoredMarks.{last_on, marked_still, marks_last, records_last}
+use Rattle.md_write.proofs.Steps.{failure_loses, failure_step, in_use_there, never_halted, recorded_in_sync}
+
+or_left : (a b c : Bool) → (b ≡ true → c ≡ true) → (a || b) ≡ true → (a || c) ≡ true
+or_left true b c f e = refl
+or_left false b c f e = f e
+
+any_more : (p : ℕ → Bool) (xs ys : List ℕ) → list_any p xs ≡ true → list_any p (xs ++ ys) ≡ true
+any_more p [] ys e = absurd cc
+any_more p (x ∷ xs) ys e = or_left (p x) (list_any p xs) (list_any p (xs ++ ys)) (any_more p xs ys) e
+
+or_right : (a b : Bool) → b ≡ true → (a || b) ≡ true
+or_right true b e = refl
+or_right false b e = e
+
+any_last : (p : ℕ → Bool) (xs : List ℕ) (y : ℕ) → p y ≡ true → list_any p (xs ++ y ∷ []) ≡ true
+any_last p [] y e = ap (λ c. c || false) e
+any_last p (x ∷ xs) y e = or_right (p x) (list_any p (xs ++ y ∷ [])) (any_last p xs y e)
+
+same_of : (a b : ArrayView) → b ≡ a → IsSameArray a b
+same_of a b e = subst (λ (x : ArrayView). IsSameArray a x) (sym e) (same_refl a)
+
+pub under : (n : ℕ) (p : PendingView) (others : Requests) → p.ticket.number ≡ n → IsUnder n p (among p others)
+under n p others e = record {
+  number = e;
+  request = subst (λ (i : ℕ). among p others i ≡ Some (request_of p)) e (put-hit p.ticket.number (Some (request_of p)) others);
+}
+
+pub put_under : (n : ℕ) (p : PendingView) (before others : Requests) → p.ticket.number ≡ n → ((m : ℕ) → m ≢ n → before m ≡ others m) → IsPut n (Some (request_of p)) before (among p others)
+put_under n p before others e same = record {
+  at = (under n p others e).request;
+  others = λ m apart. put-miss p.ticket.number (Some (request_of p)) others m (λ here. apart (here ∙ e)) ∙ sym (same m apart);
+}
+
+pub beside : (p : PendingView) (others : Requests) (m : ℕ) → m ≢ p.ticket.number → among p others m ≡ others m
+beside p others m apart = put-miss p.ticket.number (Some (request_of p)) others m apart
+
+-- ---- what write_member gives
+module _ (old new : MirrorView) (k : ℕ) (p q : PendingView) (before : IsConsistent old) (is : IsPending old.array p) where
+  abbrev n : ℕ
+  n = p.ticket.number
+
+  module _ (sound : IsConsistent new) (pending : (o : PendingView) → IsPending old.array o → IsPending new.array o) where
+    written_later : WritesTo k old new p q → IsLater p q
+    written_later r = record {
+      request = r.pending ∙ ap (λ (x : PendingView). record p { written = x.written }) (sym r.pending);
+      more = λ d has. ap (λ (x : PendingView). has_written x d) r.pending ∙ any_more (eqb d) p.written (r.member.superblock.dev_number ∷ []) has;
+    }
+
+    pub data_written : WritesTo k old new p q → HappensAmong old p (Event.WriteMember n k) new q → IsPending new.array q → WritesAt k p q old new
+    data_written r happens still =
+        let number : q.ticket.number ≡ n = ap (λ (x : PendingView). x.ticket.number) r.pending in
+        record {
+          writes = record {
+            goes = goes_step (among p) (among q) (IsOfRequest n) (Event.WriteMember n k) old new (record {
+              of = refl;
+              did = λ others. (p, q, under n p others refl, under n q others number, put_under n q (among p others) others number (beside p others), r);
+              happens = λ honest whole others in_flight. happens honest others in_flight;
+              array = same_of old.array new.array r.array;
+              sound = sound;
+              pending = pending;
+            }) (λ previous. tt);
+            later = written_later r;
+            still = still;
+            array = r.array;
+          };
+          done = λ m in_sync.
+              let there : IsMember old.array k m = subst (λ (x : ArrayView). IsMember x k m) r.array in_sync.member in
+              let it : m ≡ r.member = same_Some m r.member (sym there ∙ r.may.intent.in_sync.member) in
+              ap (λ (x : PendingView). has_written x m.superblock.dev_number) r.pending
+              ∙ any_last (eqb m.superblock.dev_number) p.written r.member.superblock.dev_number (eq-eqb _ _ (ap (λ (x : MemberView). x.superblock.dev_number) it));
+        }
+
+    later_of : q ≡ p → IsLater p q
+    later_of e = subst (IsLater p) (sym e) (later_refl p)
+
+    pub data_fails : (j : ℕ) → RefusesWriteMember k old new p q (MemberFailed j) → HappensAmong old p (Event.WriteMemberFails n k) new q → LosesOn p q old new
+    data_fails j r happens =
+        let f = r.1 in
+        let used = in_use_there old.array k f.member f.fails.array.member f.fails.array.at f.may.intent.in_sync.member (recorded_in_sync f.member.state f.may.intent.in_sync.in_sync) in
+        let number : q.ticket.number ≡ n = ap (λ (x : PendingView). x.ticket.number) f.pending in
+        record {
+          loses = failure_loses (among p) (among q) (IsOfRequest n) (Event.WriteMemberFails n k) old new k f.fails.array used
+              (failure_step (among p) (among q) (IsOfRequest n) (Event.WriteMemberFails n k) old new k f.fails.array used refl
+              (λ others. (p, q, under n p others refl, under n q others number, put_under n q (among p others) others number (beside p others), f))
+              (λ honest whole others in_flight. happens honest others in_flight) sound pending) (λ previous. tt);
+          later = later_of f.pending;
+          still = subst (IsPending new.array) (sym f.pending) (pending p is);
+        }
+
+    pub data_halts : old.array.halted ≡ false → RefusesWriteMember k old new p q Halted → HaltsOn p q old new
+    data_halts run (inl r) = never_halted old new run r.0
+    data_halts run (inr h) = record {
+      halts = record {
+        mid = old;
+        goes = subst (λ (x : PendingView). GoesOn (among p) (among x) (IsOfRequest n) old old) (sym h.pending) (goes_nowhere (among p) (IsOfRequest n) old before);
+        failing = Event.WriteMemberFails n k;
+        of = refl;
+        halts = λ others. (p, q, subst (λ (x : PendingView). IsUnder n p (among x others)) (sym h.pending) (under n p others refl), h);
+        sound = sound;
+        pending = pending;
+      };
+      later = later_of h.pending;
+    }
+
+  -- nothing is to be done at member k
+  pub written_nothing : ((m : MemberView) → IsInSync old.array k m → HasBytesOf p m) → WritesAt k p p old old
+  written_nothing done = record {
+    writes = record { goes = goes_nowhere (among p) (IsOfRequest n) old before; later = later_refl p; still = is; array = refl };
+    done = done;
+  }
+
+  pub data_again : RefusesWriteMember k old new p q AlreadyWritten → WritesAt k p q old new
+  data_again r =
+      subst (λ (x : MirrorView). WritesAt k p q old x) (sym r.0.unchanged)
+      (subst (λ (x : PendingView). WritesAt k p x old old) (sym r.1)
+      (written_nothing (λ m in_sync.
+      let it : m ≡ r.0.reason.member = same_Some m r.0.reason.member (sym in_sync.member ∙ r.0.reason.intent.in_sync.member) in
+      ap (λ (x : MemberView). has_written p x.superblock.dev_number) it ∙ r.0.reason.written)))
+
+  -- the other answers can't come
+  pub data_inactive : {P : Type 0} → RefusesWriteMember k old new p q NotActive → ((m : MemberView) → IsMember old.array k m → is_in_sync m.state ≡ true) → P
+  data_inactive r active = absurd (let yes = active r.0.reason.member r.0.reason.at in let no = r.0.reason.out in cc)
+
+  pub data_unmarked : {P : Type 0} (j : ℕ) → RefusesWriteMember k old new p q (NotMarked j) → AllInSync old.array (HasMarksOf old.array p) → P
+  data_unmarked j r marked = absurd (r.0.reason.first.lacks (marked j r.0.reason.first.member r.0.reason.first.in_sync))
+
+  pub data_unrecorded : {P : Type 0} (j : ℕ) → RefusesWriteMember k old new p q (NotRecorded j) → AllInSync old.array IsNotDue → P
+  data_unrecorded j r recorded = absurd (r.0.reason.first.lacks (recorded j r.0.reason.first.member r.0.reason.first.in_sync))
+
+-- ---- the members, one after another
+module _ (p q : PendingView) (old new : MirrorView) (w : WritesOn p q old new) where
+  pub marked_on : AllInSync old.array (HasMarksOf old.array p) → AllInSync new.array (HasMarksOf new.array q)
+  marked_on all i m in_sync =
+      subst (λ (x : ArrayView). HasMarksOf x q m) (sym w.array)
+      (subst (λ (x : PendingView). HasMarksOf old.array x m) (sym w.later.request) (all i m (subst (λ (x : ArrayView). IsInSync x i m) w.array in_sync)))
+
+  pub recorded_on : AllInSync old.array IsNotDue → AllInSync new.array IsNotDue
+  recorded_on all i m in_sync = all i m (subst (λ (x : ArrayView). IsInSync x i m) w.array in_sync)
+
+  pub running_on : old.array.halted ≡ false → new.array.halted ≡ false
+  running_on run = ap (λ (x : ArrayView). x.halted) w.array ∙ run
+
+pub written_none : (p : PendingView) (m : MirrorView) → IsConsistent m → IsPending m.array p → WritesBelow 0 p p m m
+written_none p m sound is = record {
+  writes = record { goes = goes_nowhere (among p) (IsOfRequest p.ticket.number) m sound; later = later_refl p; still = is; array = refl };
+  done = λ i n low in_sync. absurd (omega arith);
+}
+
+module _ (p q r : PendingView) (old mid new : MirrorView) where
+  -- the events of the later part are of the same request
+  of_same : (Of : ℕ → Type 0) → IsLater p q → Of q.ticket.number → Of p.ticket.number
+  of_same Of later x = subst Of (ap (λ (y : PendingView). y.ticket.number) later.request) x
+
+  pub goes_later : GoesOn (among p) (among q) (IsOfRequest p.ticket.number) old mid → IsLater p q → GoesOn (among q) (among r) (IsOfRequest q.ticket.number) mid new
+      → GoesOn (among p) (among r) (IsOfRequest p.ticket.number) old new
+  goes_later g later h =
+      goes_on (among p) (among q) (among r) (IsOfRequest p.ticket.number) old mid new g
+      (of_same (λ (i : ℕ). GoesOn (among q) (among r) (IsOfRequest i) mid new) later h)
+
+  pub halts_later : GoesOn (among p) (among q) (IsOfRequest p.ticket.number) old mid → IsLater p q → HaltsOn q r mid new → HaltsOn p r old new
+  halts_later g later h = record {
+    halts = halts_on (among p) (among q) (among r) (IsOfRequest p.ticket.number) old mid new g
+        (of_same (λ (i : ℕ). HaltsAfter (among q) (among r) (IsOfRequest i) mid new) later h.halts);
+    later = later_on p q r later h.later;
+  }
+
+  pub stops_later : (s : Stop) → GoesOn (among p) (among q) (IsOfRequest p.ticket.number) old mid → IsLater p q → mid.array.halted ≡ old.array.halted → StopsWriting q r mid new s → StopsWriting p r old new s
+  stops_later stop.Failed g later run h = record {
+    loses = loses_on (among p) (among q) (among r) (IsOfRequest p.ticket.number) old mid new g run
+        (of_same (λ (i : ℕ). LosesMember (among q) (among r) (IsOfRequest i) mid new) later h.loses);
+    later = later_on p q r later h.later;
+    still = h.still;
+  }
+  stops_later stop.Halted g later run h = halts_later g later h
+
+  pub written_more : (k : ℕ) → WritesBelow k p q old mid → WritesAt k q r mid new → WritesBelow (k + 1) p r old new
+  written_more k g h = record {
+    writes = record {
+      goes = goes_later g.writes.goes g.writes.later h.writes.goes;
+      later = later_on p q r g.writes.later h.writes.later;
+      still = h.writes.still;
+      array = h.writes.array ∙ g.writes.array;
+    };
+    done = λ i m low in_sync.
+        by_same i k
+        (λ same. h.done m (subst (λ (j : ℕ). IsInSync new.array j m) same in_sync))
+        (λ apart. h.writes.later.more m.superblock.dev_number (g.done i m (omega arith) (subst (λ (x : ArrayView). IsInSync x i m) h.writes.array in_sync)));
+  }
+
+pub written_all : (k : ℕ) (p q : PendingView) (old new : MirrorView) → length new.array.members ≤ k → WritesBelow k p q old new → WritesToAll p q old new
+written_all k p q old new last g = record {
+  writes = g.writes;
+  done = λ i m in_sync. g.done i m (let low = slice_get_within new.array.members i m in_sync.member in omega arith) in_sync;
+}
+
+-- ---- all parts
+-- marks and records that stop
+pub storing_stops : (p : PendingView) (old new : MirrorView) → IsPending old.array p → (s : Stop) → StopsStoring old new s → StopsWriting p p old new s
+storing_stops p old new is stop.Failed h = record {
+  loses = record { goes = goes_beside p old new is h.goes; lost = h.lost; halted = h.halted };
+  later = later_refl p;
+  still = h.goes.pending p is;
+}
+storing_stops p old new is stop.Halted h = record { halts = halts_beside p old new is h; later = later_refl p }
+
+-- the chunks of the request, later on
+pub chunks_later : (a b : ArrayView) (p q : PendingView) (first end : ℕ) → IsSameArray a b → IsLater p q → AreChunksOf a p first end → AreChunksOf b q first end
+chunks_later a b p q first end same later c =
+    subst (λ (x : PendingView). AreChunksOf b x first end) (sym later.request)
+    (record {
+      are = marked_still a b first end same c.are;
+      from = subst (λ (x : Chunks). (s : ℕ) → p.sector ≤ s → s < p.sector + length p.bytes / 512 → first ≤ s / x.sectors) (sym same.chunks) c.from;
+      below = subst (λ (x : Chunks). (s : ℕ) → p.sector ≤ s → s < p.sector + length p.bytes / 512 → s / x.sectors < end) (sym same.chunks) c.below;
+    })
+
+module _ (p q : PendingView) (first end : ℕ) (a b c d e : MirrorView) (is : IsPending a.array p) (chunks : AreChunksOf a.array p first end)
+    (x : StoresAll (HasMarksFrom first end) a b) (y : StoresAll IsNotDue b c) (others : RecordsAll c d) where
+  abbrev z : Stores c d
+  z = others.stores
+
+  abbrev all : Stores a d
+  all = stores_on a c d (stores_on a b c x.stores y.stores) z
+
+  pub marked_then : AllInSync d.array (HasMarksOf d.array p)
+  marked_then i m in_sync s low high =
+      let later = chunks_later a.array d.array p p first end all.goes.array (later_refl p) chunks in
+      let kept = last_on (HasMarksFrom first end) a b d (marks_last a.array first end chunks.are) x.stores.goes.array.marks x.done (stores_on b c d y.stores z) i m in_sync in
+      kept (s / d.array.chunks.sectors) (later.from s low high) (later.below s low high)
+
+  pub recorded_then : AllInSync d.array IsNotDue
+  recorded_then = last_on IsNotDue b c d (records_last b.array.marks) y.stores.goes.array.marks y.done z
+
+  pub writes_or_stops : a.array.halted ≡ false → {T : Type 0} (result : Result T Stop) → MatchResult result (λ _. WritesToAll p q d e) (StopsWriting p q d e)
+      → MatchResult result (λ _. IsReadyToFinish p q a e) (StopsWriting p q a e)
+  writes_or_stops run (Ok t) w = record {
+    goes = goes_later p p q a d e (goes_beside p a d is all.goes) (later_refl p) w.writes.goes;
+    later = w.writes.later;
+    still = w.writes.still;
+    may = record {
+      running = running_on p q d e w.writes (all.ready.halted ∙ run);
+      written = w.done;
+      recorded = recorded_on p q d e w.writes recorded_then;
+    };
+    recorded = subst AllRecorded (sym w.writes.array) others.done;
+  }
+  writes_or_stops run (Err s) w = stops_later p p q a d e s (goes_beside p a d is all.goes) (later_refl p) all.ready.halted w

@@ -1,0 +1,38 @@
+use Rattle.std.proofs.Common.{◌∙◌, arith}
+use Rattle.md_array.specs.WritingMember.{HasMarksFrom}
+use Rattle.md_write.proofs.Going.{stops_on}
+use Rattle.md_write.proofs.StoredMarks.{below_all, below_more, below_none, marked_still, marks_last}
+use Rattle.md_write.proofs.marks.store_marks.Goals as goal
+
+pub loop-k-init : goal.loop-k-init
+loop-k-init g c = below_none (HasMarksFrom c.args.first c.args.end) c.args.mirror.now c.requires.sound
+
+pub store_member_marks-requires-clause-within : goal.store_member_marks-requires-clause-within
+store_member_marks-requires-clause-within g c =
+    let many = c.loop-k.invariant.stores.goes.array.as_many in
+    let count = c.members-k-end.ensures in
+    omega arith
+
+pub store_member_marks-requires-clause-sound : goal.store_member_marks-requires-clause-sound
+store_member_marks-requires-clause-sound g c = c.loop-k.invariant.stores.goes.sound
+
+pub store_member_marks-requires-clause-running : goal.store_member_marks-requires-clause-running
+store_member_marks-requires-clause-running g c = c.loop-k.invariant.stores.ready.halted ∙ c.requires.running
+
+pub store_member_marks-requires-clause-marked : goal.store_member_marks-requires-clause-marked
+store_member_marks-requires-clause-marked g c = marked_still c.args.mirror.now.array c.loop-k.mirror.array c.args.first c.args.end c.loop-k.invariant.stores.goes.array c.requires.marked
+
+pub returns-in-Err : goal.returns-in-Err
+returns-in-Err g c = stops_on c.args.mirror.now c.loop-k.mirror c.store_member_marks.new.mirror c.in-Err.stop c.loop-k.invariant.stores c.in-Err.ensures
+
+pub loop-k-preserved : goal.loop-k-preserved
+loop-k-preserved g c =
+    below_more (HasMarksFrom c.args.first c.args.end) c.loop-k.k c.args.mirror.now c.loop-k.mirror c.store_member_marks.new.mirror
+    (marks_last c.args.mirror.now.array c.args.first c.args.end c.requires.marked) c.loop-k.invariant c.in_default.ensures
+
+pub returns : goal.returns
+returns g c =
+    let past = c.loop-k-test.false in
+    let count = c.members-k-end.ensures in
+    let many = c.loop-k.invariant.stores.goes.array.as_many in
+    below_all (HasMarksFrom c.args.first c.args.end) c.loop-k.k c.args.mirror.now c.loop-k.mirror (omega arith) c.loop-k.invariant

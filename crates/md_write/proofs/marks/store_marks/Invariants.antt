@@ -1,0 +1,6 @@
+use Rattle.md_array.specs.WritingMember.{HasMarksFrom}
+use Rattle.md_write.specs.Progress.{StoresBelow}
+use Rattle.md_write.proofs.marks.store_marks.Given as goal
+
+abbrev pub invariant-loop-k : goal.invariant-loop-k
+invariant-loop-k g l = StoresBelow l.k (HasMarksFrom l.first l.end) l.fn.mirror l.mirror

@@ -1,0 +1,59 @@
+// Writing a request's bytes to the members.
+ghost use Rattle.std.specs.Prelude.{◌≡◌, ◌<◌, MatchResult, length, false};
+ghost use Rattle.md_array.specs.Consistency.{IsConsistent};
+ghost use Rattle.md_array.specs.Members.{AllInSync};
+ghost use Rattle.md_array.specs.Requests.{IsPending};
+ghost use Rattle.md_array.specs.WritingMember.{HasMarksOf, IsNotDue};
+ghost use Rattle.md_write.specs.Progress.{StopsWriting, WritesAt, WritesToAll};
+
+use crate::stop::Stop;
+use md_array::{Mirror, Pending, WriteMemberFault};
+use md_device::Device;
+
+// Writes the bytes to member k, if it is in sync and lacks them.
+fn write_to<D: Device + Drop>(
+    mirror: &mut Mirror<D>,
+    pending: &mut Pending<'_>,
+    k: usize,
+) -> Result<(), Stop>
+    requires within { k < length mirror.old.array.members }
+    requires sound { IsConsistent mirror.old }
+    requires pending { IsPending mirror.old.array pending.old }
+    requires running { mirror.old.array.halted ≡ false }
+    requires marked { AllInSync mirror.old.array (HasMarksOf mirror.old.array pending.old) }
+    requires recorded { AllInSync mirror.old.array IsNotDue }
+    ensures { MatchResult result (λ _. WritesAt k pending.old pending.new mirror.old mirror.new) (StopsWriting pending.old pending.new mirror.old mirror.new) }
+{
+    if !mirror.state(k).is_in_sync() {
+        return Ok(());
+    }
+    match mirror.write_member(pending, k) {
+        Ok(()) => Ok(()),
+        Err(WriteMemberFault::AlreadyWritten) => Ok(()),
+        Err(WriteMemberFault::MemberFailed(_)) => Err(Stop::Failed),
+        Err(WriteMemberFault::Halted) => Err(Stop::Halted),
+        Err(WriteMemberFault::NotActive) => Err(Stop::Halted),
+        Err(WriteMemberFault::NotMarked(_)) => Err(Stop::Halted),
+        Err(WriteMemberFault::NotRecorded(_)) => Err(Stop::Halted),
+    }
+}
+
+/// Writes the bytes to each member in sync that lacks them.
+pub(crate) fn write_to_members<D: Device + Drop>(
+    mirror: &mut Mirror<D>,
+    pending: &mut Pending<'_>,
+) -> Result<(), Stop>
+    requires sound { IsConsistent mirror.old }
+    requires pending { IsPending mirror.old.array pending.old }
+    requires running { mirror.old.array.halted ≡ false }
+    requires marked { AllInSync mirror.old.array (HasMarksOf mirror.old.array pending.old) }
+    requires recorded { AllInSync mirror.old.array IsNotDue }
+    ensures { MatchResult result (λ _. WritesToAll pending.old pending.new mirror.old mirror.new) (StopsWriting pending.old pending.new mirror.old mirror.new) }
+{
+    for k in 0..mirror.members() {
+        if let Err(stop) = write_to(mirror, pending, k) {
+            return Err(stop);
+        }
+    }
+    Ok(())
+}

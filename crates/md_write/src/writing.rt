@@ -1,0 +1,93 @@
+// Writing to the array.
+ghost use Rattle.std.specs.Prelude.{◌≡◌, ◌%◌, MatchResult, length, false};
+ghost use Rattle.md_array.specs.Consistency.{IsConsistent};
+ghost use Rattle.md_array.specs.Requests.{IsPending};
+ghost use Rattle.md_array.specs.View.{PendingView};
+ghost use Rattle.md_write.specs.Progress.{AreChunksOf, HaltsOn, IsReadyToFinish, StopsWriting};
+ghost use Rattle.md_write.specs.Writing.{RefusesWrite, Writes};
+
+use crate::chunks::chunks_of;
+use crate::data::write_to_members;
+use crate::marks::store_marks;
+use crate::records::{store_other_records, store_records};
+use crate::stop::Stop;
+use md_array::{BeginFault, Mirror, Pending};
+use md_device::Device;
+
+// Stores the marks of a request's chunks and what is due, and writes its bytes, until a member fails.
+fn write_once<D: Device + Drop>(
+    mirror: &mut Mirror<D>,
+    pending: &mut Pending<'_>,
+    first: u32,
+    end: u32,
+) -> Result<(), Stop>
+    requires sound { IsConsistent mirror.old }
+    requires pending { IsPending mirror.old.array pending.old }
+    requires running { mirror.old.array.halted ≡ false }
+    requires chunks { AreChunksOf mirror.old.array pending.old first end }
+    ensures { MatchResult result (λ _. IsReadyToFinish pending.old pending.new mirror.old mirror.new) (StopsWriting pending.old pending.new mirror.old mirror.new) }
+{
+    if let Err(stop) = store_marks(mirror, first, end) {
+        return Err(stop);
+    }
+    if let Err(stop) = store_records(mirror) {
+        return Err(stop);
+    }
+    if let Err(stop) = store_other_records(mirror) {
+        return Err(stop);
+    }
+    write_to_members(mirror, pending)
+}
+
+// Does so until no member fails.
+fn write_all<D: Device + Drop>(
+    mirror: &mut Mirror<D>,
+    pending: &mut Pending<'_>,
+    first: u32,
+    end: u32,
+) -> Result<(), BeginFault>
+    requires sound { IsConsistent mirror.old }
+    requires pending { IsPending mirror.old.array pending.old }
+    requires running { mirror.old.array.halted ≡ false }
+    requires chunks { AreChunksOf mirror.old.array pending.old first end }
+    ensures { MatchResult result (λ _. IsReadyToFinish pending.old pending.new mirror.old mirror.new) (λ fault. (fault ≡ BeginFault.Halted) × HaltsOn pending.old pending.new mirror.old mirror.new) }
+{
+    loop {
+        match write_once(mirror, pending, first, end) {
+            Ok(()) => return Ok(()),
+            Err(Stop::Halted) => return Err(BeginFault::Halted),
+            Err(Stop::Failed) => {}
+        }
+    }
+}
+
+/// Writes `bytes` from this sector of the array on, on each member in sync. A member that fails on the
+/// way is recorded as failed, and the write goes on. The fault is the first in the order of `BeginFault`;
+/// `Halted` also comes where the last member in sync fails on the way, or the count can't rise.
+///
+/// Marks that are stored already are not stored again. Only `begin` takes memory.
+pub fn write<D: Device + Drop>(
+    mirror: &mut Mirror<D>,
+    sector: u64,
+    bytes: &[u8],
+) -> Result<(), BeginFault>
+    requires whole { length bytes.now % 512 ≡ 0 }
+    requires sound { IsConsistent mirror.old }
+    ensures gives { MatchResult result (λ _. Writes sector bytes.now mirror.old mirror.new) (RefusesWrite sector bytes.now mirror.old mirror.new) }
+    ensures sound { IsConsistent mirror.new }
+    ensures pending { (other : PendingView) → IsPending mirror.old.array other → IsPending mirror.new.array other }
+{
+    let mut pending = match mirror.begin(sector, bytes) {
+        Ok(pending) => pending,
+        Err(fault) => return Err(fault),
+    };
+    let sectors = pending.sectors();
+    let (first, end) = chunks_of(mirror.chunks(), sector, sectors);
+    if let Err(fault) = write_all(mirror, &mut pending, first, end) {
+        return Err(fault);
+    }
+    match mirror.finish(pending) {
+        Ok(()) => Ok(()),
+        Err((_pending, _)) => Err(BeginFault::Halted),
+    }
+}
