@@ -83,7 +83,7 @@ module _ (disks : List Disk) (b : ArrayView) (c : IsConsistent (record { disks =
   entered_keeps_pending p is =
       let found = found_with_last b.requests.next (record { start = sector; sectors = sectors }) b.requests.entries p.ticket.number (extent_of p) is.extent in
       record {
-        belongs = record { stands = is_some_by found; given = let given = is.belongs.given in omega arith };
+        belongs = record { name = is.belongs.name; stands = is_some_by found; given = let given = is.belongs.given in omega arith };
         extent = found;
         whole = is.whole;
         room = is.room;
@@ -134,7 +134,7 @@ module _ (sector : ℕ) (bytes : List ℕ) (old new : MirrorView) (c : IsConsist
 
   -- the request as its caller gets it
   abbrev begun_request : PendingView
-  begun_request = record { ticket = record { number = number }; sector = sector; bytes = bytes; written = [] }
+  begun_request = record { ticket = record { name = a.requests.name; number = number }; sector = sector; bytes = bytes; written = [] }
 
   module _ (p : PendingView) (begins : Begins sector bytes old new p) where
     range : IsInRange (counted a) sector sectors
@@ -165,6 +165,9 @@ module _ (sector : ℕ) (bytes : List ℕ) (old new : MirrorView) (c : IsConsist
     same_number : number ≡ (counted a).requests.next
     same_number = ap (λ (x : InflightList Extent). x.next) (sym same_requests)
 
+    same_name : a.requests.name ≡ (counted a).requests.name
+    same_name = ap (λ (x : InflightList Extent). x.name) (sym same_requests)
+
     counted_fresh : lookup (counted a).requests.entries (counted a).requests.next ≡ None
     counted_fresh = subst (λ (x : InflightList Extent). lookup x.entries x.next ≡ None) (sym same_requests) begins.fresh
 
@@ -174,7 +177,7 @@ module _ (sector : ℕ) (bytes : List ℕ) (old new : MirrorView) (c : IsConsist
 
     pub begun_is_pending : length bytes % 512 ≡ 0 → IsPending new.array p
     begun_is_pending whole = subst (IsPending new.array) (sym begins.pending) (subst (λ (x : ArrayView). IsPending x begun_request) (sym begins.array) (record {
-      belongs = record { stands = rw found_there refl; given = let same = same_number in omega arith };
+      belongs = record { name = same_name; stands = rw found_there refl; given = let same = same_number in omega arith };
       extent = found_there;
       whole = whole;
       room =

@@ -21,10 +21,10 @@ use Rattle.md_array.specs.Consistency.{HasChunks, HasPlaces, HasRoles, HasSuper,
 use Rattle.md_array.specs.Kept.{IsKept}
 use Rattle.md_array.specs.Opening.{IsOpenedFrom}
 use Rattle.md_array.specs.Storing.{IsMarkedBy}
-use Rattle.md_array.specs.Worlds.{block_on, super_in, super_of}
+use Rattle.md_array.specs.Worlds.{block_on, is_listed, is_listed_next, super_in, super_of}
 use Rattle.md_array.proofs.Fitting as fitting
 use Rattle.md_array.proofs.OneMember.{fits_like, like_itself}
-use Rattle.md_array.proofs.WorldsDevice.{places_new, super_new}
+use Rattle.md_array.proofs.WorldsDevice.{listed_next_new, places_new, super_new}
 use Rattle.md_array.proofs.WorldsLists.{got_same, got_within}
 use Rattle.md_array.proofs.WorldsMember.{by_need}
 use Rattle.md_array.proofs.WorldsShown.{shown_honest}
@@ -166,6 +166,7 @@ module _ (before : List Disk) (v : MirrorView) (o : IsOpenedFrom before v) where
         places = subst (λ (x : Disk). HasPlaces m (block_on x.content)) (got_same v.disks k s.new d s.is at_disk) (places_new a m s.info s.old s.new s.opened);
         is = subst (λ (x : Disk). super_in (block_on x.content) ≡ Some (super_of m.superblock)) (got_same v.disks k s.new d s.is at_disk) (super_new a m s.info s.old s.new s.opened);
         recovering = refl;
+        listed = subst (λ (x : Disk). (sector : ℕ) → is_listed m.superblock x.content sector ≡ is_listed_next m.superblock x.content sector) (got_same v.disks k s.new d s.is at_disk) (listed_next_new a m s.info s.old s.new s.opened);
       }
 
   pub consistent : IsConsistent v

@@ -24,8 +24,9 @@ use Rattle.md_array.specs.WritingMember.{MayWrite, WritesTo, data_write}
 use Rattle.md_array.specs.Worlds.{geometry_of, stored_of, super_in, world_of}
 use Rattle.md_array.proofs.Honesty.{tried_honest}
 use Rattle.md_array.proofs.InFlight.{among_in_flight, inside_of, is_touched, not_touched, whole_of}
+use Rattle.md_array.proofs.Listed.{still_next}
 use Rattle.md_array.proofs.OneMember.{ChangesMember, changed_is_consistent, changed_world, member_there, stored_there}
-use Rattle.md_array.proofs.PartsApart.{HasParts, block_beside_data, data_alone, data_elsewhere, parts_of}
+use Rattle.md_array.proofs.PartsApart.{HasParts, block_beside_data, data_alone, data_elsewhere, log_beside_data, parts_of}
 use Rattle.md_array.proofs.ReadAsKept.{changed_read, read_beside_data}
 use Rattle.md_array.proofs.WorldsInSync.{in_sync_is, in_sync_there, number_at}
 use Rattle.md_array.proofs.WorldsLists.{got_within, one_fewer, set_itself}
@@ -131,6 +132,7 @@ module _ (k : ℕ) (old new : MirrorView) (p q : PendingView) (c : IsConsistent 
         number = has.number;
         recovering = has.recovering;
         places = subst (HasPlaces m) (sym block) has.places;
+        listed = still_next m.superblock d.content e.content (log_beside_data a m d.content e.content (parts d before) p.sector n inside (outside d e before after)) block has.listed;
       }
 
   pub written_is_consistent : IsConsistent new

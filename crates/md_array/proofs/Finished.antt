@@ -82,7 +82,7 @@ module _ (old new : MirrorView) (p : PendingView) (f : Finishes old new p) where
   pub finished_keeps_pending : (q : PendingView) → q.ticket.number ≢ p.ticket.number → IsPending old.array q → IsPending new.array q
   finished_keeps_pending q apart is =
       subst (λ (a : ArrayView). IsPending a q) (sym f.array) (record {
-        belongs = belongs_without old.array.requests list p.ticket.number refl refl q.ticket apart is.belongs;
+        belongs = belongs_without old.array.requests list p.ticket.number refl refl refl q.ticket apart is.belongs;
         extent = others_stay old.array.requests.entries p.ticket.number q.ticket.number apart ∙ is.extent;
         whole = is.whole;
         room = is.room;

@@ -21,10 +21,11 @@ use Rattle.md_array.specs.Worlds.{block_on, super_fields, super_in}
 -- what is read in the one is read in the other
 pub record ReadsAs (one other : List ℕ) : Type 0 where
   pub decoded : super_in one ≡ super_in other
+  pub map : number_at 4 8 one ≡ number_at 4 8 other
   pub read : (v : Superblock) → IsSuper one v → NoFault one → IsSuper other v × NoFault other
 
 pub reads_same : (one other : List ℕ) → one ≡ other → ReadsAs one other
-reads_same one other same = record { decoded = ap super_in same; read = λ v is sound. (subst (λ (b : List ℕ). IsSuper b v) same is, subst NoFault same sound) }
+reads_same one other same = record { decoded = ap super_in same; map = ap (number_at 4 8) same; read = λ v is sound. (subst (λ (b : List ℕ). IsSuper b v) same is, subst NoFault same sound) }
 
 pub first_part : (bytes : List ℕ) → part bytes (512 * 0) 512 ≡ take 512 bytes
 unfolding part
@@ -173,4 +174,4 @@ module _ (one other : List ℕ) (same : take 512 one ≡ take 512 other) where
     }
 
     pub reads_first : ReadsAs one other
-    reads_first = record { decoded = decoded; read = λ v is sound. (spelled v is, λ f low found. sound f low (stands f found)) }
+    reads_first = record { decoded = decoded; map = number 4 8 (omega arith); read = λ v is sound. (spelled v is, λ f low found. sound f low (stands f found)) }

@@ -30,7 +30,7 @@ use Rattle.md_array.specs.Recording.{MayRecord, Records, super_write}
 use Rattle.md_array.specs.Requests.{among, request_of, request_sectors}
 use Rattle.md_array.specs.Runs.{MirrorRun, MirrorRunWith, Moment, history_of, then_as}
 use Rattle.md_array.specs.StoringMarks.{StoresMarkSector}
-use Rattle.md_array.specs.Worlds.{block_on, geometry_of, stored_of, stored_on, super_in, super_of, world_of}
+use Rattle.md_array.specs.Worlds.{block_on, geometry_of, is_listed, stored_of, stored_on, super_in, super_of, world_of}
 use Rattle.md_array.specs.WritingMember.{MayWrite, data_write}
 use Rattle.md_array.proofs.DataWritten.{may_write}
 use Rattle.md_array.proofs.InFlight.{inside_of, not_touched, whole_of}
@@ -39,11 +39,13 @@ use Rattle.md_array.proofs.MarkSectors.{read_marked, store_marks_happens}
 use Rattle.md_array.proofs.Moments.{IsSoundAt}
 use Rattle.md_array.proofs.FirstSector.{ReadsAs, first_part, first_sector, reads_first, reads_same}
 use Rattle.md_array.proofs.OneMember.{stored_there}
+use Rattle.md_array.proofs.Listed.{IsLogKept, listed_same_bit, next_kept}
 use Rattle.md_array.proofs.PartsApart.{HasParts, data_alone, data_elsewhere, header_beside_super, log_beside_super, parts_of, super_alone}
 use Rattle.md_array.proofs.ReadAsKept.{own_stays_as, own_written_as, read_beside_data}
 use Rattle.md_array.proofs.StopsAsFailed.{failed_as_tried, stops_as_tried, stops_at_events}
 use Rattle.md_array.proofs.StopsAtSteps.{stops_at_write}
-use Rattle.md_array.proofs.SuperRecorded.{record_happens}
+use Rattle.md_array.proofs.Rests.{at_once, at_rest}
+use Rattle.md_array.proofs.SuperRecorded.{listed_written, lists_alike, record_happens}
 use Rattle.md_array.proofs.WorldsLists.{at_set_same, got_in_map, got_other, got_same, got_within}
 use Rattle.md_array.proofs.WorldsSupers.{super_shown}
 
@@ -117,8 +119,8 @@ module _ (t : Moment) (at : IsSoundAt t) where
   between = record {
     events = [];
     moment = t;
-    run = refl;
-    still = λ x. (refl, refl);
+    run = at_rest t;
+    still = λ x. (at_rest t, refl);
     counted = refl;
     in_sync = λ j on. on;
     cut = (world_of v t.requests).stored;
@@ -200,8 +202,8 @@ module _ (t : Moment) (at : IsSoundAt t) where
     torn_sorted = sorted_like t torn.found left torn.same (record {
       events = [];
       moment = t;
-      run = refl;
-      still = λ x. (refl, refl);
+      run = at_rest t;
+      still = λ x. (at_rest t, refl);
       counted = refl;
       in_sync = λ j on. on;
       cut = read_in a torn.found;
@@ -245,8 +247,8 @@ module _ (t : Moment) (at : IsSoundAt t) where
         record {
           events = e_marks ∷ [];
           moment = then_as t e_marks next t.requests;
-          run = (next, t.requests, does, refl);
-          still = λ x. (next, t.requests, x, does, refl, (refl, refl));
+          run = (next, t.requests, at_once v next t.requests t.requests e_marks does, at_rest (then_as t e_marks next t.requests));
+          still = λ x. (next, t.requests, x, at_once v next t.requests t.requests e_marks does, refl, (at_rest (then_as t e_marks next t.requests), refl));
           counted = refl;
           in_sync = λ j on. subst (λ (w : World). worlds.IsInSync w j) does.step.1.1 on;
           cut = (world_of next t.requests).stored;
@@ -276,8 +278,15 @@ module _ (t : Moment) (at : IsSoundAt t) where
       parts : HasParts a m d.content
       parts = parts_of v at.sound k d m was may.at
 
-      read_super : (s : Option Super) → super_in (block_on e.content) ≡ s → read_in a disks k ≡ record (stored_of a m d.content) { super = s }
-      read_super s same = stored_there disks a k m e may.at is ∙ super_alone a m d.content e.content parts beside ∙ (λ i. record (stored_of a m d.content) { super = same i })
+      log_kept : IsLogKept m.superblock d.content e.content
+      log_kept = log_beside_super a m d.content e.content parts beside
+
+      -- beside a log that lists the same
+      read_super : ((sector : ℕ) → is_listed m.superblock e.content sector ≡ is_listed m.superblock d.content sector)
+          → (s : Option Super) → super_in (block_on e.content) ≡ s → read_in a disks k ≡ record (stored_of a m d.content) { super = s }
+      read_super lists s same =
+          stored_there disks a k m e may.at is ∙ super_alone a m d.content e.content parts beside (lists_alike a m d.content e.content lists)
+          ∙ (λ i. record (stored_of a m d.content) { super = same i })
 
       super_device : HasOwnSuper a.shared m.superblock e.content → IsLeftDevice a m t.failed_at e.content
       super_device has = record {
@@ -303,21 +312,21 @@ module _ (t : Moment) (at : IsSoundAt t) where
       unrecorded reads = record {
         events = [];
         moment = t;
-        run = refl;
-        still = λ x. (refl, refl);
+        run = at_rest t;
+        still = λ x. (at_rest t, refl);
         counted = refl;
         in_sync = λ j on. on;
         cut = (world_of v t.requests).stored;
         is_cut = inl refl;
         read = λ j. by_same j k
             (λ here. subst (λ (i : ℕ). (read_in a disks i ≡ read_in a v.disks i) ⊎ ((read_in a disks i).super ≡ None)) (sym here) (elim reads [
-              | inl same ↦ inl (read_super (super_in (block_on d.content)) same.decoded ∙ sym (stored_there v.disks a k m d may.at was))
-              | inr none ↦ inr (ap (λ (x : Stored). x.super) (read_super None none))
+              | inl same ↦ inl (read_super (λ sector. listed_same_bit m.superblock d.content e.content log_kept sector same.decoded same.map) (super_in (block_on d.content)) same.decoded ∙ sym (stored_there v.disks a k m d may.at was))
+              | inr none ↦ inr (ap (λ (x : Stored). x.super) (stored_there disks a k m e may.at is) ∙ none)
             ]))
             (λ apart. inl (elsewhere k m w disks may.at tried j apart));
         device = each_super (elim reads [
           | inl same ↦ own_stays_as a.shared m.superblock d.content e.content (λ v on. let was = same.read v on.fields on.sound in record { fields = was.0; sound = was.1 })
-              (log_beside_super a m d.content e.content parts beside) (at.read k d m was may.at).super
+              log_kept (at.read k d m was may.at).super
           | inr none ↦ λ v on. absurd (none_some (super_of v) (sym none ∙ super_shown block v on.fields on.sound))
         ]);
       }
@@ -368,13 +377,26 @@ module _ (t : Moment) (at : IsSoundAt t) where
       block_new : block_on new.content ≡ w.bytes
       block_new = part-spliced d.content (512 * 8) w.bytes 4096 (sym may.readable.size) (let fits = room in omega arith)
 
+      lists_new : (sector : ℕ) → is_listed m.superblock new.content sector ≡ is_listed m.superblock d.content sector
+      lists_new sector =
+          listed_written a m new.content may.readable block_new sector
+          ∙ next_kept m.superblock d.content new.content (log_kept next.disks new_tried d new was new_there) sector
+          ∙ sym ((at.sound.supers may.running k d m was may.at may.active (at.honest k d was)).listed sector)
+
       -- the new one is read there
       module _ (disks : List Disk) (tried : IsTried k w v.disks disks) (e : Disk) (is : slice_get disks k ≡ Some e) (reads : ReadsAs (block_on e.content) w.bytes) where
+        lists_next : (sector : ℕ) → is_listed m.superblock e.content sector ≡ is_listed m.superblock new.content sector
+        lists_next sector =
+            listed_same_bit m.superblock new.content e.content
+            (λ there. log_kept disks tried d e was is there ∙ sym (log_kept next.disks new_tried d new was new_there there)) sector
+            (reads.decoded ∙ sym (ap super_in block_new)) (reads.map ∙ sym (ap (number_at 4 8) block_new))
+
         read_next : (j : ℕ) → read_in a disks j ≡ read_in next.array next.disks j
         read_next j =
             by_same j k
             (λ here. subst (λ (i : ℕ). read_in a disks i ≡ read_in a next.disks i) (sym here)
-            (read_super disks tried d e was is (super_in w.bytes) reads.decoded ∙ sym (read_super next.disks new_tried d new was new_there (super_in w.bytes) (ap super_in block_new))))
+            (read_super disks tried d e was is (λ sector. lists_next sector ∙ lists_new sector) (super_in w.bytes) reads.decoded
+            ∙ sym (read_super next.disks new_tried d new was new_there lists_new (super_in w.bytes) (ap super_in block_new))))
             (λ apart. elsewhere k m w disks may.at tried j apart ∙ sym (elsewhere k m w next.disks may.at new_tried j apart))
             ∙ sym (read_changed a k m (record m { due = false }) may.at refl next.disks j)
 
@@ -384,8 +406,8 @@ module _ (t : Moment) (at : IsSoundAt t) where
             record {
               events = Event.Record k ∷ [];
               moment = then_as t (Event.Record k) next t.requests;
-              run = (next, t.requests, does, refl);
-              still = λ x. (next, t.requests, x, does, refl, (refl, refl));
+              run = (next, t.requests, at_once v next t.requests t.requests (Event.Record k) does, at_rest (then_as t (Event.Record k) next t.requests));
+              still = λ x. (next, t.requests, x, at_once v next t.requests t.requests (Event.Record k) does, refl, (at_rest (then_as t (Event.Record k) next t.requests), refl));
               counted = refl;
               in_sync = λ j on. subst (λ (w : World). worlds.IsInSync w j) does.step.1.1 on;
               cut = (world_of next t.requests).stored;

@@ -21,6 +21,7 @@ pub mod Honesty
 pub mod InFlight
 pub mod InTurn
 pub mod Keeping
+pub mod Listed
 pub mod Listing
 pub mod Mapping
 pub mod MarkSectors
@@ -45,6 +46,7 @@ pub mod Reopened
 pub mod Replaced
 pub mod RequestChunks
 pub mod RequestEntered
+pub mod Rests
 pub mod Resyncing
 pub mod Roles
 pub mod StepsRefused

@@ -33,6 +33,7 @@ use Rattle.md_array.specs.Requests.{IsPending}
 use Rattle.md_array.specs.Events.{Happens}
 use Rattle.md_array.specs.Worlds.{block_on, from_super, geometry_of, header_on, kind_of, stored_of, super_in, world_of}
 use Rattle.md_array.proofs.Honesty.{tried_honest}
+use Rattle.md_array.proofs.Listed.{still_next}
 use Rattle.md_array.proofs.OneMember.{ChangesMember, changed_in_flight, changed_is_consistent, changed_is_pending, changed_world, member_there, stored_there}
 use Rattle.md_array.proofs.PartsApart.{HasParts, bits_elsewhere, block_beside_marks, events_elsewhere, fits_elsewhere, header_elsewhere, log_beside_marks, marks_alone, parts_of}
 use Rattle.md_array.proofs.ReadAsKept.{changed_read, stays}
@@ -160,6 +161,7 @@ module _ (k block : ℕ) (old new : MirrorView) (is : IsConsistent old) (low : b
           bblog_size = had.places.bblog_size;
           bblog_offset = had.places.bblog_offset;
         });
+        listed = still_next m.superblock d.content e.content (log_beside_marks a m d.content e.content (has d e before after) block low_of_member (outside d e before after)) (sym same) had.listed;
       }
 
   pub marks_stored_is_consistent : IsConsistent new

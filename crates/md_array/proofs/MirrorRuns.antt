@@ -1,5 +1,5 @@
 -- A run of a mirror is a run of the model, so that the model's laws hold of it.
-use Rattle.std.proofs.Common.{◌≡◌, List, [], ◌∷◌, ap, ◌∙◌, subst, arith}
+use Rattle.std.proofs.Common.{◌≡◌, List, [], ◌∷◌, ◌∙◌, subst, arith}
 use Rattle.md_model.specs.Sectors.{Geometry}
 use Rattle.md_model.specs.Devices.{Super}
 use Rattle.md_model.specs.Events.{Event, Step}
@@ -9,20 +9,29 @@ use Rattle.md_model.specs.Worlds.{World}
 use Rattle.md_model.specs.Content.{Content, Holds}
 use Rattle.md_model.proofs.ContentLives.{some_content}
 use Rattle.md_array.specs.View.{Disk, MirrorView}
-use Rattle.md_array.specs.Runs.{IsStart, MirrorRun, Moment, history_of, then_as}
+use Rattle.md_array.specs.Runs.{HasRested, IsStart, MirrorRun, Moment, history_of, then_as}
 use Rattle.md_array.specs.Worlds.{geometry_of, none_in_flight, super_of, world_of}
+use Rattle.md_array.proofs.Rests.{history_rests, rests_does, rests_then}
 use Rattle.md_array.proofs.WorldsInSync.{in_sync_is}
 use Rattle.md_array.proofs.WorldsOpened as opening
 use Rattle.md_array.proofs.WorldsOpenedFrom.{covered}
 
 -- the mirror's events are the model's, of an array whose geometry stays
 pub model_run : (g : Geometry) (es : List Event) (t last : Moment) → geometry_of t.mirror.array ≡ g → MirrorRun t es last → runs.Run g (history_of t) es (history_of last)
-model_run g [] t last same r = ap history_of r
-model_run g (e ∷ es) t last same r = (
-  world_of r.0 r.1,
-  subst (λ x. Step x (world_of t.mirror t.requests) e (world_of r.0 r.1)) same r.2.step,
-  model_run g es (then_as t e r.0 r.1) last (r.2.geometry ∙ same) r.3,
-)
+model_run g [] t last same r = history_rests t last r
+model_run g (e ∷ es) t last same r =
+    let leads = rests_does t.mirror r.0 t.requests r.1 e r.2 in (
+      world_of r.0 r.1,
+      subst (λ x. Step x (world_of t.mirror t.requests) e (world_of r.0 r.1)) same leads.step,
+      model_run g es (then_as t e r.0 r.1) last (leads.geometry ∙ same) r.3,
+    )
+
+-- a run goes on from where devices were only read
+pub rests_run : (es : List Event) (t mid last : Moment) → HasRested t mid → MirrorRun mid es last → MirrorRun t es last
+rests_run [] t mid last r s = record { rests = rests_then t.mirror mid.mirror last.mirror r.rests s.rests; is = s.is ∙ (λ i. record (r.is i) { mirror = last.mirror }) }
+rests_run (e ∷ es) t mid last r s =
+    let x = subst (λ (m : Moment). MirrorRun m (e ∷ es) last) r.is s in
+    (x.0, x.1, record { mid = x.2.mid; rests = rests_then t.mirror mid.mirror x.2.mid r.rests x.2.rests; does = x.2.does }, x.3)
 
 module _ (before : List Disk) (m : MirrorView) (start : IsStart before m) where
   abbrev g : Geometry

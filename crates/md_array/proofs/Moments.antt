@@ -2,7 +2,7 @@
 use Rattle.std.proofs.Common.{◌≡◌, List, [], ◌∷◌, ◌++◌, sym, ap, ◌∙◌, subst}
 use Rattle.std.proofs.lemmas.Option.{none-some}
 use Rattle.md_model.specs.Events.{Event}
-use Rattle.md_array.specs.View.{Disk, MirrorView}
+use Rattle.md_array.specs.View.{ArrayView, Disk, MirrorView}
 use Rattle.md_array.specs.Consistency.{IsConsistent}
 use Rattle.md_array.specs.Lives.{MirrorLife}
 use Rattle.md_array.specs.Opening.{IsOpenedFrom}
@@ -11,7 +11,9 @@ use Rattle.md_array.specs.Requests.{AreInFlight}
 use Rattle.md_array.specs.Runs.{MirrorRun, Moment, opened_as, then_as}
 use Rattle.md_array.specs.Worlds.{AreHonest, geometry_of}
 use Rattle.md_array.proofs.Consistent.{consistent}
-use Rattle.md_array.proofs.Honesty.{opened_honest}
+use Rattle.md_array.proofs.Honesty.{opened_honest, same_honest}
+use Rattle.md_array.proofs.MirrorRuns.{rests_run}
+use Rattle.md_array.proofs.Rests.{geometry_rests, moment_keeps, rests_does}
 use Rattle.md_array.proofs.WorldsOpenedFrom.{opened_read}
 
 pub record IsSoundAt (t : Moment) : Type 0 where
@@ -30,17 +32,25 @@ sound_when_opened before m honest opened = record {
 
 -- it goes along the events
 pub run_keeps : (es : List Event) (t last : Moment) → MirrorRun t es last → IsSoundAt t → IsSoundAt last
-run_keeps [] t last r at = subst IsSoundAt (sym r) at
-run_keeps (e ∷ es) t last r at = run_keeps es (then_as t e r.0 r.1) last r.3
-    (record { sound = r.2.sound; read = r.2.read t.failed_at at.read; honest = r.2.honest; in_flight = r.2.in_flight })
+run_keeps [] t last r at =
+    let kept = moment_keeps t last r at.sound at.read in
+    record {
+      sound = kept.0;
+      read = kept.1;
+      honest = same_honest t.mirror.disks last.mirror.disks r.rests.disks.same at.honest;
+      in_flight = subst (λ (a : ArrayView). AreInFlight a last.requests) (sym r.rests.array) (subst (AreInFlight t.mirror.array) (sym (ap (λ (x : Moment). x.requests) r.is)) at.in_flight);
+    }
+run_keeps (e ∷ es) t last r at =
+    let leads = rests_does t.mirror r.0 t.requests r.1 e r.2 in
+    run_keeps es (then_as t e r.0 r.1) last r.3 (record { sound = leads.sound; read = leads.read t.failed_at at.read; honest = r.2.does.honest; in_flight = r.2.does.in_flight })
 
 pub geometry_kept : (es : List Event) (t last : Moment) → MirrorRun t es last → geometry_of last.mirror.array ≡ geometry_of t.mirror.array
-geometry_kept [] t last r = ap (λ (x : Moment). geometry_of x.mirror.array) r
-geometry_kept (e ∷ es) t last r = geometry_kept es (then_as t e r.0 r.1) last r.3 ∙ r.2.geometry
+geometry_kept [] t last r = geometry_rests t.mirror last.mirror r.rests
+geometry_kept (e ∷ es) t last r = geometry_kept es (then_as t e r.0 r.1) last r.3 ∙ (rests_does t.mirror r.0 t.requests r.1 e r.2).geometry
 
 -- one run after another
 pub run_then : (es more : List Event) (t mid last : Moment) → MirrorRun t es mid → MirrorRun mid more last → MirrorRun t (es ++ more) last
-run_then [] more t mid last r s = subst (λ (x : Moment). MirrorRun x more last) r s
+run_then [] more t mid last r s = rests_run more t mid last r s
 run_then (e ∷ es) more t mid last r s = (r.0, r.1, r.2, run_then es more (then_as t e r.0 r.1) mid last r.3 s)
 
 -- ---- lives

@@ -7,8 +7,6 @@ use Rattle.std.proofs.lemmas.Int.{ints}
 use Rattle.md_device.specs.Splice.{part, SameOutside}
 use Rattle.md_device.proofs.Splices.{part_before, part_after}
 use Rattle.md_format.specs.Fields.{number_at}
-use Rattle.md_super.specs.declared.superblock.Superblock.{Superblock}
-use Rattle.md_super.specs.Log.{has_bad_block_log}
 use Rattle.md_bitmap.specs.Marks.{is_set}
 use Rattle.md_members.specs.declared.area.Area.{Area}
 use Rattle.md_members.specs.Areas.{BitmapIsPlaced, IsPlaced, IsApartFromLog, AreApart, bitmap_area, bitmap_sectors, data_area, log_area, super_area}
@@ -20,7 +18,9 @@ use Rattle.md_array.specs.View.{ArrayView, Disk, MemberView, MirrorView}
 use Rattle.md_array.specs.Members.{IsMember}
 use Rattle.md_array.specs.Consistency.{IsConsistent}
 use Rattle.md_array.specs.Worlds.{block_on, from_super, header_fits, header_on, stored_of, super_in}
-use Rattle.md_array.proofs.WorldsOutside.{LiesIn, apart_either_way, apart_from_part, bit_stays, block_stays, byte_stays, data_stays, header_stays, listed_stays, log_stays, sector_at_is}
+use Rattle.md_array.proofs.Listed as lists
+use Rattle.md_array.proofs.Listed.{IsLogKept}
+use Rattle.md_array.proofs.WorldsOutside.{LiesIn, apart_either_way, apart_from_part, bit_stays, block_stays, byte_stays, data_stays, header_stays, log_stays, sector_at_is}
 use Rattle.md_array.proofs.WorldsTests.{and_same}
 use Rattle.md_array.proofs.WorldsWrites.{is_set-same, within_area}
 
@@ -40,10 +40,6 @@ parts_of v c k d m at_disk at_member =
       size = c.chunks.member_size k m at_member ∙ sym c.chunks.size;
       count = c.chunks.member_count k m at_member;
     }
-
--- the log, where there is one, holds what it held
-abbrev pub IsLogKept : Superblock → List ℕ → List ℕ → Type 0
-IsLogKept v old new = has_bad_block_log v ≡ true → part new (512 * from_super v.bblog_offset) (512 * v.bblog_size) ≡ part old (512 * from_super v.bblog_offset) (512 * v.bblog_size)
 
 same_if : {A : Type 0} (b : Bool) (x y z : A) → (b ≡ true → x ≡ y) → cond b x z ≡ cond b y z
 same_if true x y z h = h refl
@@ -101,13 +97,11 @@ module _ (a : ArrayView) (m : MemberView) (old new : List ℕ) (has : HasParts a
         same_if (nat_lt s a.chunks.size) (part new (512 * (m.superblock.data_offset + s)) 512) (part old (512 * (m.superblock.data_offset + s)) 512) []
         (λ low. data_stays written start at old new same m.superblock h has.placed.data_holds s (subst (λ n. s < n) (sym has.size) (is_below s a.chunks.size low))) i
 
-    listed_kept : IsApartFromLog m.superblock written → is.listed ≡ was.listed
-    listed_kept h = λ i s.
-        (nat_lt s a.chunks.size
-        && listed_stays written start at old new same m.superblock (sectors_of old) has.placed.log h (m.superblock.data_offset + s) i)
-
     log_kept : IsApartFromLog m.superblock written → IsLogKept m.superblock old new
     log_kept h there = log_stays written start at old new same m.superblock (h there) (has.placed.log there).within.from
+
+    listed_kept : IsApartFromLog m.superblock written → AreApart super_area written → is.listed ≡ was.listed
+    listed_kept h block = λ i s. (nat_lt s a.chunks.size && lists.listed_kept m.superblock old new (log_kept h) (m.superblock.data_offset + s) (block_kept block) i)
 
     bits_kept : AreApart bitmap written → is.bits ≡ was.bits
     bits_kept h = λ i c.
@@ -119,14 +113,14 @@ module _ (a : ArrayView) (m : MemberView) (old new : List ℕ) (has : HasParts a
 
   -- ---- the superblock is written
   module _ (same : SameOutside (512 * 8) 4096 old new) where
-    -- no more than the superblock changes
-    pub super_alone : is ≡ record was { super = super_in (block_on new) }
-    super_alone =
+    -- no more than the superblock changes, if it is beside a log that lists the same
+    pub super_alone : is.listed ≡ was.listed → is ≡ record was { super = super_in (block_on new) }
+    super_alone listed =
         let header = header_kept super_area 8 refl same (apart_either_way super_area bitmap has.bitmap.from_super) in
         λ i. record {
           super = super_in (block_on new);
           content = content_kept super_area 8 refl same (apart_either_way super_area (data_area m.superblock) has.placed.data_apart) i;
-          listed = listed_kept super_area 8 refl same (λ there. apart_either_way super_area (log_area m.superblock) (has.placed.log there).from_super) i;
+          listed = listed i;
           bits = bits_kept super_area 8 refl same (apart_either_way super_area bitmap has.bitmap.from_super) i;
           bitmap_events = number_at 8 24 (header i);
           bitmap_fits = header_fits a (header i);
@@ -152,7 +146,7 @@ module _ (a : ArrayView) (m : MemberView) (old new : List ℕ) (has : HasParts a
     bitmap_alone = λ i. record {
       super = super_in (block_beside_bitmap i);
       content = content_kept bitmap first bitmap_first same has.bitmap.from_data i;
-      listed = listed_kept bitmap first bitmap_first same has.bitmap.from_log i;
+      listed = listed_kept bitmap first bitmap_first same has.bitmap.from_log has.bitmap.from_super i;
       bits = is.bits;
       bitmap_events = is.bitmap_events;
       bitmap_fits = is.bitmap_fits;
@@ -178,7 +172,7 @@ module _ (a : ArrayView) (m : MemberView) (old new : List ℕ) (has : HasParts a
     marks_alone = λ i. record {
       super = super_in (block_beside_marks i);
       content = content_kept sector (first + block) refl same (apart_from_part (data_area m.superblock) bitmap sector sector_lies has.bitmap.from_data) i;
-      listed = listed_kept sector (first + block) refl same (λ there. apart_from_part (log_area m.superblock) bitmap sector sector_lies (has.bitmap.from_log there)) i;
+      listed = listed_kept sector (first + block) refl same (λ there. apart_from_part (log_area m.superblock) bitmap sector sector_lies (has.bitmap.from_log there)) (apart_from_part super_area bitmap sector sector_lies has.bitmap.from_super) i;
       bits = is.bits;
       bitmap_events = is.bitmap_events;
       bitmap_fits = is.bitmap_fits;
@@ -234,7 +228,7 @@ module _ (a : ArrayView) (m : MemberView) (old new : List ℕ) (has : HasParts a
         λ i. record {
           super = super_in (block_beside_data i);
           content = is.content;
-          listed = listed_kept sectors at refl same from_log i;
+          listed = listed_kept sectors at refl same from_log (apart_from_part super_area (data_area m.superblock) sectors sectors_lie has.placed.data_apart) i;
           bits = bits_kept sectors at refl same from_bitmap i;
           bitmap_events = number_at 8 24 (header i);
           bitmap_fits = header_fits a (header i);

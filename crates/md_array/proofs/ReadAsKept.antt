@@ -1,5 +1,5 @@
 -- What an opening would read of the devices stays what is kept of the members, by a write or without one.
-use Rattle.std.proofs.Common.{◌≡◌, ℕ, ◌+◌, ◌*◌, ◌/◌, ◌<◌, ◌≤◌, ◌^◌, inl, inr, Bool, true, false, cond, not, ◌&&◌, ◌==◌, bit_and, nat_lt, List, map, slice_get, Some, pos, refl, sym, ap, ◌∙◌, subst, arith}
+use Rattle.std.proofs.Common.{◌≡◌, ℕ, ◌+◌, ◌*◌, ◌/◌, ◌<◌, ◌≤◌, inl, inr, Bool, true, false, cond, not, ◌&&◌, ◌==◌, List, map, slice_get, Some, pos, refl, sym, ap, ◌∙◌, subst, arith}
 use Rattle.std.specs.Ordering.{int_eq}
 use Rattle.std.proofs.lemmas.Option.{slice_get_within}
 use Rattle.md_device.specs.Splice.{part, SameOutside}
@@ -10,10 +10,6 @@ use Rattle.md_super.specs.Format.{IsSuper}
 use Rattle.md_super.specs.Log.{has_bad_block_log}
 use Rattle.md_super.specs.Merge.{merged}
 use Rattle.md_bitmap.specs.declared.chunks.Chunks.{Chunks}
-use Rattle.md_badblocks.specs.Log.{named_runs}
-use Rattle.md_members.specs.Areas.{has_bad_blocks}
-use Rattle.md_members.specs.Members.{reads_log}
-use Rattle.md_model.proofs.Cases.{both}
 use Rattle.md_writes.specs.Writes.{Write}
 use Rattle.md_array.specs.View.{ArrayView, Disk, MemberView, MirrorView}
 use Rattle.md_array.specs.Members.{IsMember, is_recorded}
@@ -21,26 +17,14 @@ use Rattle.md_array.specs.DiskWrites.{AtDevice, IsTried}
 use Rattle.md_array.specs.ReadAsKept.{AreReadAsKept, HasOwnSuper, HasWidth, IsFromBefore, IsReadAsKept, IsSuperOn}
 use Rattle.md_array.specs.Recording.{IsReadable, super_write}
 use Rattle.md_array.specs.Rising.{failed, made_due, made_faulty, risen}
-use Rattle.md_array.specs.Worlds.{block_on, from_super, is_listed, is_logged, lies_in}
+use Rattle.md_array.specs.Worlds.{block_on, from_super}
+use Rattle.md_array.proofs.Listed.{IsLogKept, listed_read_both, same_log}
 use Rattle.md_array.proofs.OneMember.{ChangesMember}
-use Rattle.md_array.proofs.PartsApart.{HasParts, IsLogKept, block_beside_data, header_beside_data, log_beside_data}
+use Rattle.md_array.proofs.PartsApart.{HasParts, block_beside_data, header_beside_data, log_beside_data}
 use Rattle.md_array.proofs.Replaced.{of_set}
 use Rattle.md_array.proofs.WorldsLists.{at_map, got_within}
-use Rattle.md_array.proofs.WorldsTests.{and_same}
 
--- ---- what a log lists
-pub same_log : (v w : Superblock) (content : List ℕ) (sector : ℕ) → v.feature_map ≡ w.feature_map → v.bblog_shift ≡ w.bblog_shift → v.bblog_size ≡ w.bblog_size → v.bblog_offset ≡ w.bblog_offset
-    → is_listed v content sector ≡ is_listed w content sector
-unfolding is_listed
-same_log v w content sector map shift size offset =
-    λ i. (not (bit_and (map i) 8 == 0) && (not (size i == 0) && not (int_eq (offset i) (pos 0)))) && is_logged content (from_super (offset i)) (size i) (shift i) sector
-
-pub listed_kept : (v : Superblock) (old new : List ℕ) (sector : ℕ) → IsLogKept v old new → is_listed v new sector ≡ is_listed v old sector
-unfolding is_listed
-listed_kept v old new sector kept =
-    and_same (reads_log v) _ _
-    (λ on. ap (λ (area : List ℕ). nat_lt sector (2 ^ 54) && lies_in (named_runs v.bblog_shift area) sector) (kept (both (has_bad_blocks v) (has_bad_block_log v) on).1))
-
+-- ---- one device
 log_kept_as : (v own : Superblock) (old new : List ℕ) → v.bblog_size ≡ own.bblog_size → v.bblog_offset ≡ own.bblog_offset → IsLogKept own old new → IsLogKept v old new
 log_kept_as v own old new size offset kept there =
     let same : has_bad_block_log v ≡ has_bad_block_log own = λ i. not (size i == 0) && not (int_eq (offset i) (pos 0)) in
@@ -48,7 +32,6 @@ log_kept_as v own old new size offset kept there =
     ∙ kept (sym same ∙ there)
     ∙ sym (λ i. part old (512 * from_super (offset i)) (512 * size i))
 
--- ---- one device
 super_was : (old new : List ℕ) (v : Superblock) → block_on new ≡ block_on old → IsSuperOn new v → IsSuperOn old v
 super_was old new v block on = record { fields = subst (λ (b : List ℕ). IsSuper b v) block on.fields; sound = subst NoFault block on.sound }
 
@@ -64,7 +47,11 @@ own_stays_as shared own old new reads log has v on =
       bitmap_offset = was.bitmap_offset;
       bblog_size = was.bblog_size;
       bblog_offset = was.bblog_offset;
-      listed = λ sector. listed_kept v old new sector (log_kept_as v own old new was.bblog_size was.bblog_offset log) ∙ was.listed sector ∙ sym (listed_kept own old new sector log);
+      listed = λ sector.
+          let there = reads v on in
+          listed_read_both v old new (log_kept_as v own old new was.bblog_size was.bblog_offset log) sector v there.fields there.sound on.fields on.sound
+          ∙ was.listed sector
+          ∙ sym (listed_read_both own old new log sector v there.fields there.sound on.fields on.sound);
       no_newer = was.no_newer;
     }
 

@@ -70,7 +70,7 @@ pub record IsFound (a : ArrayView) : Type 0 where
   pub cleared : IsLastClearedOr a.shared.events a.members a.events_cleared
   pub synced : (a.resynced ≡ true) ↔ (NoneSetIn a.marks ⊎ IsAloneIn a.members)
   pub running : a.halted ≡ false
-  pub idle : a.requests ≡ record { entries = []; next = 0 }
+  pub idle : a.requests ≡ record a.requests { entries = []; next = 0 }
 
 pub remembered : (infos : List MemberInfo) (assembly : Assembly) (fresh : MemberInfo) (a : ArrayView) → AreWhole infos → NoFault infos → IsAssembled infos assembly → slice_get infos assembly.freshest ≡ Some fresh → a.shared ≡ fresh.superblock → IsChunkingOf fresh a.chunks → AreKept a.shared.events infos assembly.states.items a.members → IsFound a → IsRemembered infos assembly a
 remembered infos assembly fresh a whole sound assembled at_fresh shared chunking kept found =

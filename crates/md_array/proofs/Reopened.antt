@@ -22,11 +22,11 @@ use Rattle.md_array.specs.Runs.{Moment}
 use Rattle.md_array.specs.Worlds.{block_on, from_super, geometry_of, header_on, is_listed, stored_of, stored_on, super_in}
 use Rattle.md_array.proofs.LeftAtStops.{parts_on, sorted}
 use Rattle.md_array.proofs.LeftContents.{read_in}
+use Rattle.md_array.proofs.Listed.{listed_kept_of}
 use Rattle.md_array.proofs.Moments.{IsSoundAt}
 use Rattle.md_array.proofs.OneMember.{stored_there}
 use Rattle.md_array.proofs.PartsApart.{HasParts, bitmap_alone, block_beside_bitmap, log_beside_bitmap}
 use Rattle.md_array.proofs.ReadAsKept.{stays}
-use Rattle.md_array.proofs.WorldsBad.{same_listed}
 use Rattle.md_array.proofs.WorldsReadMember.{IsReadMember, count_is, sound_size, width_old}
 use Rattle.md_array.proofs.WorldsLists.{got_same, got_within}
 use Rattle.md_array.proofs.WorldsShown.{read_at}
@@ -109,10 +109,13 @@ module _ (t : Moment) (at_t : IsSoundAt t) (before : List Disk) (is : ArrayView)
     chunks_size : is.chunks.size ≡ was.chunks.size
     chunks_size = again.seen.array_size ∙ size ∙ sym at_t.sound.chunks.size
 
+    own_there : IsSuperOn content info.superblock
+    own_there = super_on content info.superblock again.seen.read.superblock
+
     listed : (sector : ℕ) → is_listed n.superblock content sector ≡ is_listed own content sector
     listed sector =
         ap (λ (v : Superblock). is_listed v content sector) again.seen.kept.superblock
-        ∙ same_listed content info.superblock info.bad sector again.seen.read.bad
+        ∙ listed_kept_of content info.superblock info.bad own_there.fields own_there.sound sector
         ∙ is_own.listed sector
 
     -- its header's chunks are as wide as the array's, if the superblock is from after the last failure

@@ -17,7 +17,7 @@ use Rattle.md_array.specs.Beginning.{HasMarked, IsInRange, MayBeginAt, RefusesBe
 
 -- the list with a request of these sectors
 abbrev pub entered : InflightList Extent → ℕ → ℕ → InflightList Extent
-entered list sector sectors = record { entries = list.entries ++ (list.next, record { start = sector; sectors = sectors }) ∷ []; next = list.next + 1 }
+entered list sector sectors = record list { entries = list.entries ++ (list.next, record { start = sector; sectors = sectors }) ∷ []; next = list.next + 1 }
 
 -- the array, clean no more
 abbrev pub activated : ArrayView → ArrayView

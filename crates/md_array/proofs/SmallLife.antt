@@ -16,6 +16,7 @@ use Rattle.md_array.specs.Runs.{IsStart, Moment, opened_as}
 use Rattle.md_array.specs.SmallLife.{HasSmallLife, RunsTwice}
 use Rattle.md_array.specs.Worlds.{AreHonest, from_super, none_in_flight, world_on}
 use Rattle.md_array.proofs.Moments.{run_keeps, sound_when_opened}
+use Rattle.md_array.proofs.Rests.{at_once, at_rest, rests_same}
 use Rattle.md_array.proofs.WorldsInSync.{in_sync_is}
 use Rattle.md_array.proofs.WorldsLists.{got_within}
 
@@ -24,7 +25,17 @@ runs_twice m began new p begins records honest =
     let first = begins honest none_in_flight (λ n q is. absurd (none-some q is)) in
     let requests = among p none_in_flight in
     let second = records first.honest requests first.in_flight in
-    record { number = p.ticket.number; request = request_of p; requests = requests; run = (began, requests, first, (new, requests, second, refl)) }
+    record {
+      number = p.ticket.number;
+      request = request_of p;
+      requests = requests;
+      run = (
+        began,
+        requests,
+        at_once m began none_in_flight requests (Event.Begin p.ticket.number (request_of p)) first,
+        (new, requests, at_once began new requests requests (Event.Record 0) second, record { rests = rests_same new; is = refl }),
+      );
+    }
 
 -- one member agrees with itself
 lone_start : (before : List Disk) (m : MirrorView) → AreHonest before → IsOpenedFrom before m → length m.array.members ≡ 1 → IsStart before m
@@ -71,7 +82,7 @@ again v sound k j is =
 pub small_life : (before : List Disk) (m mid next : MirrorView) → IsOpenedFrom before m → length m.array.members ≡ 1 → RunsTwice m mid → IsOpenedFrom mid.disks next
     → m.array.shared.events < next.array.shared.events → AreHonest before → HasSmallLife before next
 small_life before m mid next opened one r opens late honest =
-    let t : Moment = record { mirror = mid; requests = r.requests; failed_at = 0; tried = false } in
+    let t : Moment = record (opened_as m) { mirror = mid; requests = r.requests } in
     let at_t = run_keeps (Event.Begin r.number r.request ∷ Event.Record 0 ∷ []) (opened_as m) t r.run (sound_when_opened before m honest opened) in
     let reopened : IsReopened m t next = record {
       before = mid.disks;
@@ -88,4 +99,4 @@ small_life before m mid next opened one r opens late honest =
       opens = opens;
       fit = record { recorded = omega arith; newer = inl late };
     } in
-    record { first = m; start = lone_start before m honest opened one; number = r.number; request = r.request; life = (t, next, r.run, reopened, (refl, refl)) }
+    record { first = m; start = lone_start before m honest opened one; number = r.number; request = r.request; life = (t, next, r.run, reopened, (refl, at_rest (opened_as next))) }

@@ -13,11 +13,12 @@ use Rattle.md_array.specs.Consistency.{IsConsistent}
 use Rattle.md_array.specs.Events.{HappensIfOldNewOrNone, IsOldNewOrNone}
 use Rattle.md_array.specs.ReadAsKept.{HasOwnSuper}
 use Rattle.md_array.specs.Recording.{FailsToRecord, super_write}
-use Rattle.md_array.specs.Worlds.{block_on, stored_of, super_in, super_of, world_of, world_on}
+use Rattle.md_array.specs.Worlds.{block_on, is_listed, stored_of, super_in, super_of, world_of, world_on}
+use Rattle.md_array.proofs.Listed.{listed_kept, listed_unread, next_kept}
 use Rattle.md_array.proofs.OneMember.{stored_there}
 use Rattle.md_array.proofs.PartsApart.{log_beside_super, parts_of, super_alone}
 use Rattle.md_array.proofs.ReadAsKept.{own_stays, own_written}
-use Rattle.md_array.proofs.SuperRecorded.{readable_super, super_is_for}
+use Rattle.md_array.proofs.SuperRecorded.{listed_written, lists_alike, readable_super, super_is_for}
 use Rattle.md_array.proofs.WorldsFailed.{IsThere, does_failing, left, member_fails, there_is}
 use Rattle.md_array.proofs.WorldsSupers.{super_shown}
 
@@ -31,6 +32,23 @@ module _ (k : ℕ) (old new : MirrorView) (c : IsConsistent old) (f : FailsToRec
   abbrev w : Write
   w = super_write a m
 
+  -- the log lists what it listed
+  lists_left : (t : IsThere k old.disks new.disks) → t.old.honest ≡ true → IsOldNewOrNone w.bytes t.old t.new → (sector : ℕ) → is_listed m.superblock t.new.content sector ≡ is_listed m.superblock t.old.content sector
+  lists_left t honest leaves sector =
+      let outside : SameOutside (512 * 8) 4096 t.old.content t.new.content =
+      subst (λ (n : ℕ). SameOutside (512 * 8) n t.old.content t.new.content) f.may.readable.size (f.fails.disks.tried.outside t.old t.new t.was t.is) in
+      let log = log_beside_super a m t.old.content t.new.content (parts_of old c k t.old m t.was f.may.at) outside in
+      let has = c.supers f.may.running k t.old m t.was f.may.at f.may.active honest in
+      let before = next_kept m.superblock t.old.content t.new.content log sector ∙ sym (has.listed sector) in
+      elim leaves [
+        | inl same ↦ listed_kept m.superblock t.old.content t.new.content log sector same
+        | inr other ↦
+            elim other [
+              | inl next ↦ listed_written a m t.new.content f.may.readable next sector ∙ before
+              | inr none ↦ listed_unread m.superblock t.new.content none sector ∙ before
+            ]
+      ]
+
   left_by_super : (requests : ℕ → Option Request) (t : IsThere k old.disks new.disks) → t.old.honest ≡ true → IsOldNewOrNone w.bytes t.old t.new
       → LeftBySuper (world_of old requests) k (left k w old new c f.fails m f.may.at requests)
   left_by_super requests t honest leaves =
@@ -41,7 +59,7 @@ module _ (k : ℕ) (old new : MirrorView) (c : IsConsistent old) (f : FailsToRec
       subst (λ (n : ℕ). SameOutside (512 * 8) n t.old.content t.new.content) f.may.readable.size (f.fails.disks.tried.outside t.old t.new t.was t.is) in
       let super_left = ap (λ (s : Stored). s.super) is in
       record {
-        rest = is ∙ super_alone a m t.old.content t.new.content (parts_of old c k t.old m t.was f.may.at) outside ∙ (λ i. record (sym was i) { super = sym super_left i });
+        rest = is ∙ super_alone a m t.old.content t.new.content (parts_of old c k t.old m t.was f.may.at) outside (lists_alike a m t.old.content t.new.content (lists_left t honest leaves)) ∙ (λ i. record (sym was i) { super = sym super_left i });
         super = elim leaves [
           | inl same ↦ inl (super_left ∙ ap super_in same ∙ sym (ap (λ (s : Stored). s.super) was))
           | inr other ↦

@@ -1,10 +1,12 @@
 -- A member's superblock that is stored is the model's event, and the mirror stays consistent.
-use Rattle.std.proofs.Common.{◌≡◌, ℕ, ◌*◌, ◌/◌, inl, inr, Bool, true, false, true≢false, ◌&&◌, nat_lt, List, slice_get, Option, Some, refl, sym, ap, ◌∙◌, subst, arith}
+use Rattle.std.proofs.Common.{◌≡◌, ℕ, ◌+◌, ◌*◌, ◌/◌, inl, inr, Bool, true, false, true≢false, ◌&&◌, nat_lt, List, slice_get, Option, Some, refl, sym, ap, ◌∙◌, subst, arith}
 use Rattle.std.proofs.lemmas.Option.{slice_get_within}
 use Rattle.md_device.specs.Splice.{SameOutside}
 use Rattle.md_device.proofs.Splices.{part-spliced}
 use Rattle.md_format.specs.Fields.{number_at}
 use Rattle.md_super.specs.declared.superblock.Superblock.{Superblock}
+use Rattle.md_super.specs.Faults.{NoFault}
+use Rattle.md_super.specs.Format.{IsSuper}
 use Rattle.md_super.specs.Merge.{merged}
 use Rattle.md_bitmap.specs.Marks.{is_set}
 use Rattle.md_assembly.specs.States.{has_recovery_offset}
@@ -23,10 +25,11 @@ use Rattle.md_array.specs.ReadAsKept.{IsReadAsKept}
 use Rattle.md_array.specs.Recording.{IsReadable, Records, super_write}
 use Rattle.md_array.specs.Requests.{IsPending}
 use Rattle.md_array.specs.Events.{Happens}
-use Rattle.md_array.specs.Worlds.{block_on, geometry_of, kind_of, stored_of, super_in, super_of, world_of, world_on}
+use Rattle.md_array.specs.Worlds.{block_on, geometry_of, is_listed, is_listed_next, kind_of, stored_of, super_in, super_of, world_of, world_on}
 use Rattle.md_array.proofs.Honesty.{tried_honest}
+use Rattle.md_array.proofs.Listed.{listed_as_next, next_kept}
 use Rattle.md_array.proofs.OneMember.{ChangesMember, changed_in_flight, changed_is_consistent, changed_is_pending, changed_world, member_there, stored_there}
-use Rattle.md_array.proofs.PartsApart.{header_beside_super, parts_of, super_alone}
+use Rattle.md_array.proofs.PartsApart.{header_beside_super, log_beside_super, parts_of, super_alone}
 use Rattle.md_array.proofs.ReadAsKept.{changed_read, own_written}
 use Rattle.md_array.proofs.WorldsLists.{got_within}
 use Rattle.md_array.proofs.WorldsStates.{same_recorded}
@@ -39,6 +42,18 @@ as_read v r = record v { sb_csum = r.sum }
 -- what the bytes of a member's superblock say
 pub readable_super : (a : ArrayView) (m : MemberView) (r : IsReadable (merged a.shared m.superblock)) → super_in (super_write a m).bytes ≡ Some (super_of (merged a.shared m.superblock))
 readable_super a m r = super_shown (super_write a m).bytes (as_read (merged a.shared m.superblock) r) r.fields r.sound
+
+-- once it stands on the device, what is listed there is what was to be listed next
+pub listed_written : (a : ArrayView) (m : MemberView) (content : List ℕ) → IsReadable (merged a.shared m.superblock) → block_on content ≡ (super_write a m).bytes
+    → (sector : ℕ) → is_listed m.superblock content sector ≡ is_listed_next m.superblock content sector
+listed_written a m content r block =
+    let v = as_read (merged a.shared m.superblock) r in
+    listed_as_next m.superblock v content (subst (λ (b : List ℕ). IsSuper b v) (sym block) r.fields) (subst NoFault (sym block) r.sound) refl
+
+-- the world's list of a member whose log lists the same
+pub lists_alike : (a : ArrayView) (m : MemberView) (old new : List ℕ) → ((sector : ℕ) → is_listed m.superblock new sector ≡ is_listed m.superblock old sector)
+    → (stored_of a m new).listed ≡ (stored_of a m old).listed
+lists_alike a m old new same = λ i s. nat_lt s a.chunks.size && same (m.superblock.data_offset + s) i
 
 -- it is what the model stores, on a device whose superblock has the member's bit 2 of the feature map
 pub super_is_for : (disks : List Disk) (a : ArrayView) (requests : ℕ → Option Request) (k : ℕ) (m : MemberView) (d : Disk) → slice_get a.members k ≡ Some m → slice_get disks k ≡ Some d → HasSuper m d
@@ -95,6 +110,7 @@ module _ (k : ℕ) (old new : MirrorView) (is : IsConsistent old) (r : Records k
           bblog_size = sym spelled.bblog_size;
           bblog_offset = sym spelled.bblog_offset;
         });
+        listed = listed_written a m e.content r.may.readable on;
       }
 
   pub recorded_is_consistent : IsConsistent new
@@ -127,7 +143,11 @@ module _ (k : ℕ) (old new : MirrorView) (is : IsConsistent old) (r : Records k
         subst (λ (x : ℕ). SameOutside (512 * 8) x d.content e.content) r.may.readable.size (r.disks.tried.outside d e before after) in
         let super : super_in (block_on e.content) ≡ Some (super_for w k) =
         ap super_in (on_disk d e before after honest) ∙ readable_super a m r.may.readable ∙ ap Some (super_is_for old.disks a requests k m d r.may.at before has) in
-        super_alone a m d.content e.content (parts_of old is k d m before r.may.at) outside
+        let parts = parts_of old is k d m before r.may.at in
+        let lists = λ (sector : ℕ). listed_written a m e.content r.may.readable (on_disk d e before after honest) sector
+        ∙ next_kept m.superblock d.content e.content (log_beside_super a m d.content e.content parts outside) sector
+        ∙ sym (has.listed sector) in
+        super_alone a m d.content e.content parts outside (lists_alike a m d.content e.content lists)
         ∙ (λ i. record (sym (stored_there old.disks a k m d r.may.at before) i) { super = super i })
 
     world_recorded : world_of new requests ≡ recorded w k

@@ -10,7 +10,7 @@ use Rattle.md_members.specs.Areas.{has_bad_blocks}
 use Rattle.md_members.specs.Members.{HasBadSet, reads_log}
 use Rattle.md_members.specs.Reading.{ReadsLog}
 use Rattle.md_array.specs.OwnFields.{kept_shift, stored_next}
-use Rattle.md_array.specs.Worlds.{from_super, is_listed, is_logged, lies_in, sector_at}
+use Rattle.md_array.specs.Worlds.{from_super, is_listed_next, is_logged, lies_in, sector_at}
 use Rattle.md_model.proofs.Cases.{both, by_test, never}
 use Rattle.md_array.proofs.OwnFields.{none_listed, some_listed}
 use Rattle.md_array.proofs.WorldsTests.{and_is}
@@ -54,8 +54,8 @@ logged_is content v bad sector r =
     )
 
 -- the log of a member whose list was read, by the superblock that was read
-listed_as_read : (content : List ℕ) (v : Superblock) (bad : List Run) (sector : ℕ) → HasBadSet content true v bad → is_listed v content sector ≡ true ↔ IsBad bad sector
-unfolding is_listed
+pub listed_as_read : (content : List ℕ) (v : Superblock) (bad : List Run) (sector : ℕ) → HasBadSet content true v bad → is_listed_next v content sector ≡ true ↔ IsBad bad sector
+unfolding is_listed_next
 listed_as_read content v bad sector (inl log) =
     let logged = logged_is content v bad sector log.1 in (
       (λ e. logged.0 (both (reads_log v) _ e).1),
@@ -67,8 +67,8 @@ listed_as_read content v bad sector (inr none) = (
 )
 
 -- the log of a member whose list was read, by the superblock that is kept
-pub listed_is_bad : (content : List ℕ) (v : Superblock) (bad : List Run) (sector : ℕ) → HasBadSet content true v bad → is_listed (stored_next bad v) content sector ≡ true ↔ IsBad bad sector
-unfolding is_listed
+pub listed_is_bad : (content : List ℕ) (v : Superblock) (bad : List Run) (sector : ℕ) → HasBadSet content true v bad → is_listed_next (stored_next bad v) content sector ≡ true ↔ IsBad bad sector
+unfolding is_listed_next
 listed_is_bad content v [] sector set = (
   (λ e. absurd (true≢false (sym (both (has_bad_blocks (stored_next [] v)) (has_bad_block_log v) (both (reads_log (stored_next [] v)) _ e).0).0 ∙ none_listed v))),
   (λ h. absurd h),
@@ -90,5 +90,5 @@ same_test a b f g = by_test b
     (λ isnt. by_test a (λ is. absurd (true≢false (sym (g.1 (f.0 is)) ∙ isnt))) (λ neither. neither ∙ sym isnt))
 
 -- both list the same
-pub same_listed : (content : List ℕ) (v : Superblock) (bad : List Run) (sector : ℕ) → HasBadSet content true v bad → is_listed (stored_next bad v) content sector ≡ is_listed v content sector
+pub same_listed : (content : List ℕ) (v : Superblock) (bad : List Run) (sector : ℕ) → HasBadSet content true v bad → is_listed_next (stored_next bad v) content sector ≡ is_listed_next v content sector
 same_listed content v bad sector set = same_test _ _ (listed_is_bad content v bad sector set) (listed_as_read content v bad sector set)

@@ -21,15 +21,15 @@ use Rattle.md_array.specs.Members.{NeedsMarks}
 use Rattle.md_array.specs.DeviceChanges.{IsUnchanged}
 use Rattle.md_array.specs.ReadAsKept.{HasWidth, IsReadAsKept, chunk_size_on}
 use Rattle.md_array.specs.Storing.{StoresMarks}
-use Rattle.md_array.specs.OwnFields.{kept_superblock}
 use Rattle.md_writes.specs.Bitmaps.{bitmap_writes}
 use Rattle.md_writes.specs.Writes.{after}
-use Rattle.md_array.specs.Worlds.{block_on, from_super, is_listed, stored_of, super_in, super_of}
+use Rattle.md_array.specs.Worlds.{block_on, from_super, is_listed, is_listed_next, stored_of, super_in, super_of}
+use Rattle.md_array.proofs.Listed.{IsLogKept, listed_as_next, listed_kept, listed_kept_of, next_kept}
 use Rattle.md_array.proofs.PartsApart.{log_beside_bitmap}
 use Rattle.md_array.proofs.ReadAsKept.{own_stays}
-use Rattle.md_array.proofs.WorldsBad.{listed_is_bad}
+use Rattle.md_array.proofs.WorldsBad as bad
 use Rattle.md_array.proofs.WorldsMember.{Fits, accepted_there, by_need, by_accepted}
-use Rattle.md_array.proofs.WorldsOutside.{block_stays, data_stays, listed_stays, starts_at}
+use Rattle.md_array.proofs.WorldsOutside.{block_stays, data_stays, starts_at}
 use Rattle.md_array.proofs.WorldsReadMember as read
 use Rattle.md_array.proofs.WorldsReadMember.{IsReadMember}
 use Rattle.md_array.proofs.WorldsRead.{HasRead, holds_read, uuid_long, name_long}
@@ -107,14 +107,33 @@ module _ (a : ArrayView) (m : MemberView) (info : MemberInfo) (old new : Disk) (
   same_data s below =
       data_stays (bitmap_area own sectors) start (sym starts) old.content new.content outside own bitmap_placed.from_data placed.data_holds s (subst (λ n. s < n) (read.size_is a m info old.content there) below)
 
+  log_kept : IsLogKept own old.content new.content
+  log_kept = log_beside_bitmap a m old.content new.content (read.parts a m info old.content there) outside
+
   pub same_listed : (sector : ℕ) → is_listed own new.content sector ≡ is_listed own old.content sector
-  same_listed sector = listed_stays (bitmap_area own sectors) start (sym starts) old.content new.content outside own (sectors_of old.content) placed.log bitmap_placed.from_log sector
+  same_listed sector = listed_kept own old.content new.content log_kept sector same_block
+
+  -- the superblock that was read has the log's bit
+  listed_as_read_next : (sector : ℕ) → is_listed own new.content sector ≡ is_listed_next info.superblock old.content sector
+  listed_as_read_next sector =
+      let fields = block_spells old.content info.superblock there.read.superblock in
+      let sound = read.sound_block a m info old.content there in
+      same_listed sector
+      ∙ ap (λ (v : Superblock). is_listed v old.content sector) there.kept.superblock
+      ∙ listed_kept_of old.content info.superblock info.bad fields sound sector
+      ∙ listed_as_next info.superblock info.superblock old.content fields sound refl sector
+
+  pub listed_next_new : (sector : ℕ) → is_listed own new.content sector ≡ is_listed_next own new.content sector
+  listed_next_new sector =
+      listed_as_read_next sector
+      ∙ sym (bad.same_listed old.content info.superblock info.bad sector there.read.bad)
+      ∙ sym (ap (λ (v : Superblock). is_listed_next v old.content sector) there.kept.superblock)
+      ∙ sym (next_kept own old.content new.content log_kept sector)
 
   pub bad_is_listed : (sector : ℕ) → is_listed own new.content sector ≡ true ↔ IsBad m.bad sector
   bad_is_listed sector =
-      let is = listed_is_bad old.content info.superblock info.bad sector there.read.bad in
-      let same : is_listed own new.content sector ≡ is_listed (kept_superblock info) old.content sector =
-      same_listed sector ∙ ap (λ (v : Superblock). is_listed v old.content sector) there.kept.superblock in
+      let is = bad.listed_as_read old.content info.superblock info.bad sector there.read.bad in
+      let same = listed_as_read_next sector in
       ((λ e. subst (λ runs. IsBad runs sector) (sym there.kept.bad) (is.0 (sym same ∙ e))), (λ h. same ∙ is.1 (subst (λ runs. IsBad runs sector) there.kept.bad h)))
 
   -- ---- the bitmap, of a member in sync
@@ -169,7 +188,7 @@ module _ (a : ArrayView) (m : MemberView) (info : MemberInfo) (old new : Disk) (
 
   pub read_new : IsReadAsKept a m 0 new.content
   read_new = record {
-    super = own_stays a.shared own old.content new.content same_block (log_beside_bitmap a m old.content new.content (read.parts a m info old.content there) outside) (read.own_old a m info old.content there);
+    super = own_stays a.shared own old.content new.content same_block log_kept (read.own_old a m info old.content there);
     header = inl width_new;
   }
 

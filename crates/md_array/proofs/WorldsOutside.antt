@@ -1,19 +1,14 @@
 -- What stands apart from an area of a device stays when the area is written: the superblock, the data, the log and the bitmap.
-use Rattle.std.proofs.Common.{◌≡◌, ℕ, ◌+◌, ◌*◌, ◌/◌, ◌<◌, ◌≤◌, ◌⊎◌, inl, inr, true, ◌&&◌, ◌^◌, nat_lt, List, drop, slice_index, ℤ, pos, negsuc, ◌+ℤ◌, ◌≤ℤ◌, refl, sym, ap, ◌∙◌, arith, get_or-drop}
+use Rattle.std.proofs.Common.{◌≡◌, ℕ, ◌+◌, ◌*◌, ◌/◌, ◌<◌, ◌≤◌, ◌⊎◌, inl, inr, List, drop, slice_index, ℤ, pos, negsuc, ◌+ℤ◌, ◌≤ℤ◌, refl, sym, ap, ◌∙◌, arith, get_or-drop}
 use Rattle.std.proofs.lemmas.Int.{ints}
 use Rattle.md_device.specs.Splice.{part, SameOutside}
 use Rattle.md_device.proofs.Splices.{part_before, part_after}
 use Rattle.md_super.specs.declared.superblock.Superblock.{Superblock}
-use Rattle.md_super.specs.Log.{has_bad_block_log}
 use Rattle.md_bitmap.specs.Marks.{is_set}
 use Rattle.md_members.specs.declared.area.Area.{Area}
-use Rattle.md_badblocks.specs.Log.{named_runs}
-use Rattle.md_members.specs.Areas.{AreApart, IsApartFromLog, LogIsPlaced, end_of, super_area, data_area, has_bad_blocks, log_area}
-use Rattle.md_members.specs.Members.{reads_log}
+use Rattle.md_members.specs.Areas.{AreApart, end_of, super_area, data_area, log_area}
 use Rattle.md_members.specs.Reading.{BitmapStartsAt}
-use Rattle.md_model.proofs.Cases.{both}
-use Rattle.md_array.specs.Worlds.{block_on, from_super, header_on, is_listed, lies_in, sector_at}
-use Rattle.md_array.proofs.WorldsTests.{and_same}
+use Rattle.md_array.specs.Worlds.{block_on, from_super, header_on, sector_at}
 use Rattle.md_array.proofs.WorldsWrites.{is_set-same, slice_index-part}
 
 pub sector_at_is : (z : ℤ) → pos 0 ≤ℤ z → z ≡ pos (sector_at z)
@@ -75,14 +70,6 @@ module _ (written : Area) (start : ℕ) (at : written.start ≡ pos start) (old 
     log_stays h from =
         stays (log_area v) (from_super v.bblog_offset) (sector_at_is (log_area v).start from) h
         (512 * from_super v.bblog_offset) (512 * v.bblog_size) (omega arith) (omega arith)
-
-    pub listed_stays : (sectors : ℕ) → (has_bad_block_log v ≡ true → LogIsPlaced sectors v) → IsApartFromLog v written → (sector : ℕ) → is_listed v new sector ≡ is_listed v old sector
-    unfolding is_listed
-    listed_stays sectors log h sector =
-        and_same (reads_log v) _ _
-        (λ on. let there = (both (has_bad_blocks v) (has_bad_block_log v) on).1 in
-        ap (λ (area : List ℕ). nat_lt sector (2 ^ 54) && lies_in (named_runs v.bblog_shift area) sector)
-        (log_stays (h there) (log there).within.from))
 
   -- of a bitmap in the area a from a sector on
   module _ (a : Area) (first : ℕ) (from : a.start ≡ pos first) (h : AreApart a written) where

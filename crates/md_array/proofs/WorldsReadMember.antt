@@ -1,8 +1,9 @@
 -- The device of a member that was read, beside what is kept of it.
-use Rattle.std.proofs.Common.{◌≡◌, ℕ, ◌+◌, ◌*◌, ◌/◌, ◌<◌, ◌≤◌, true, nat_lt, List, Some, sym, ap, ◌∙◌, subst, arith, add-mul, lt_of_mul-lt-mul_right, ◌&&◌}
+use Rattle.std.proofs.Common.{◌≡◌, ℕ, ◌+◌, ◌*◌, ◌/◌, ◌<◌, ◌≤◌, true, nat_lt, List, Some, refl, sym, ap, ◌∙◌, subst, arith, add-mul, lt_of_mul-lt-mul_right, ◌&&◌}
 use Rattle.std.specs.Int.{div_ceil}
 use Rattle.std.proofs.lemmas.Grind.{div_ceil_times}
 use Rattle.md_super.specs.declared.superblock.Superblock.{Superblock}
+use Rattle.md_super.specs.Faults.{NoFault}
 use Rattle.md_bitmap.specs.Sound.{IsChunkSize, chunk_count}
 use Rattle.md_bitmap.proofs.Limits.{div-lt-div_ceil, div_ceil-sectors}
 use Rattle.md_members.specs.declared.info.MemberInfo.{MemberInfo}
@@ -19,9 +20,7 @@ use Rattle.md_array.specs.ReadAsKept.{HasOwnSuper, HasWidth, chunk_size_on}
 use Rattle.md_array.specs.Worlds.{block_on, from_super, is_listed, stored_of, super_in, super_of}
 use Rattle.md_array.proofs.OwnFields.{state_same, super_same}
 use Rattle.md_array.proofs.PartsApart.{HasParts}
-use Rattle.md_array.proofs.ReadAsKept.{same_log}
-use Rattle.md_array.proofs.WorldsBad as bad
-use Rattle.md_array.proofs.WorldsBad.{listed_is_bad}
+use Rattle.md_array.proofs.Listed.{listed_kept_of, same_log}
 use Rattle.md_array.proofs.WorldsMember.{Fits, fits_there}
 use Rattle.md_array.proofs.WorldsOutside.{starts_at}
 use Rattle.md_array.proofs.WorldsRead.{HasRead, header_there, read_of}
@@ -138,6 +137,9 @@ module _ (a : ArrayView) (m : MemberView) (info : MemberInfo) (content : List �
   pub parts : HasParts a m content
   parts = record { placed = placed; bitmap = bitmap_placed; size = sym size_is; count = sym o.count }
 
+  pub sound_block : NoFault (block_on content)
+  sound_block = subst NoFault (o.read.superblock.read.from_device refl) o.read.superblock.sound
+
   pub own_old : HasOwnSuper a.shared own content
   own_old v on =
       let info_on = block_spells content info.superblock o.read.superblock in
@@ -154,7 +156,7 @@ module _ (a : ArrayView) (m : MemberView) (info : MemberInfo) (content : List �
         listed = λ sector.
             same_log v info.superblock content sector
             (spelled.feature_map ∙ sym info_on.feature_map) (spelled.bblog_shift ∙ sym info_on.bblog_shift) (spelled.bblog_size ∙ sym info_on.bblog_size) (spelled.bblog_offset ∙ sym info_on.bblog_offset)
-            ∙ sym (bad.same_listed content info.superblock info.bad sector o.read.bad)
+            ∙ sym (listed_kept_of content info.superblock info.bad info_on sound_block sector)
             ∙ sym (ap (λ (x : Superblock). is_listed x content sector) kept);
         no_newer = let same : v.events ≡ info.superblock.events = spelled.events ∙ sym info_on.events in let fresh = o.fresh in omega arith;
       }

@@ -50,7 +50,7 @@ with_request a sector sectors marks =
     record a {
       shared = record a.shared { resync_offset = active_offset a.shared.resync_offset };
       marks = marks;
-      requests = record { entries = a.requests.entries ++ (a.requests.next, record { start = sector; sectors = sectors }) ∷ []; next = a.requests.next + 1 };
+      requests = record a.requests { entries = a.requests.entries ++ (a.requests.next, record { start = sector; sectors = sectors }) ∷ []; next = a.requests.next + 1 };
     }
 
 pub record Begins (sector : ℕ) (bytes : List ℕ) (old new : MirrorView) (p : PendingView) : Type 0 where
@@ -59,7 +59,7 @@ pub record Begins (sector : ℕ) (bytes : List ℕ) (old new : MirrorView) (p : 
   pub disks : new.disks ≡ old.disks
   pub marked : HasMarked old.array sector (length bytes / 512) new.array.marks
   pub array : new.array ≡ with_request (counted old.array) sector (length bytes / 512) new.array.marks
-  pub pending : p ≡ record { ticket = record { number = old.array.requests.next }; sector = sector; bytes = bytes; written = [] }
+  pub pending : p ≡ record { ticket = record { name = old.array.requests.name; number = old.array.requests.next }; sector = sector; bytes = bytes; written = [] }
 
 -- it has no sector, or some past the end
 pub record IsOutOfRange (a : ArrayView) (sector sectors : ℕ) : Type 0 where

@@ -9,7 +9,7 @@ use Rattle.md_array.specs.View.{Disk, MemberView, ArrayView, MirrorView}
 use Rattle.md_array.specs.Members.{IsMember, IsInSync, is_recorded}
 use Rattle.md_array.specs.Fits.{Fits}
 use Rattle.md_array.specs.Requests.{AreInside}
-use Rattle.md_array.specs.Worlds.{super_in, block_on}
+use Rattle.md_array.specs.Worlds.{super_in, block_on, is_listed, is_listed_next}
 
 -- Members have numbers of their own. One that is in sync or recovering has the role that the array's superblock gives its
 -- number, and no other has it.
@@ -38,13 +38,15 @@ pub record HasPlaces (m : MemberView) (block : List ℕ) : Type 0 where
   pub bblog_size : number_at 2 186 block ≡ m.superblock.bblog_size
   pub bblog_offset : cast_signed w32 (number_at 4 188 block) ≡ m.superblock.bblog_offset
 
--- a device has a superblock, with the member's number, its own bit 2 of the feature map, and its places
+-- A device has a superblock, with the member's number, its own bit 2 of the feature map, and its places. What its log lists is
+-- the same once the superblock that is kept is stored.
 pub record HasSuper (m : MemberView) (d : Disk) : Type 0 where
   pub super : Super
   pub is : super_in (block_on d.content) ≡ Some super
   pub number : super.number ≡ m.superblock.dev_number
   pub recovering : super.recovering ≡ has_recovery_offset m.superblock
   pub places : HasPlaces m (block_on d.content)
+  pub listed : (sector : ℕ) → is_listed m.superblock d.content sector ≡ is_listed_next m.superblock d.content sector
 
 -- so has that of each member that is kept up to date
 abbrev pub HaveSupers : MirrorView → Type 0

@@ -50,4 +50,4 @@ pub record IsRemembered (infos : List MemberInfo) (assembly : Assembly) (a : Arr
   pub mark_count : (k : ℕ) (m : MemberView) → IsMember a k m → a.marks.chunks ≡ m.stored.chunks
   pub resynced : (a.resynced ≡ true) ↔ (((c : ℕ) → is_set a.marks.bytes c ≡ false) ⊎ IsAlone a)
   pub running : a.halted ≡ false
-  pub idle : a.requests ≡ record { entries = []; next = 0 }
+  pub idle : a.requests ≡ record a.requests { entries = []; next = 0 }

@@ -28,6 +28,7 @@ pub mod Beginning
 pub mod ReadAsKept
 pub mod HalfOpened
 pub mod Events
+pub mod Rests
 pub mod Runs
 pub mod InTurn
 pub mod WholeCalls

@@ -11,7 +11,7 @@ pub record RunsTwice (old new : MirrorView) : Type 0 where
   pub number : ℕ
   pub request : Request
   pub requests : ℕ → Option Request
-  pub run : MirrorRun (opened_as old) (Event.Begin number request ∷ Event.Record 0 ∷ []) (record { mirror = new; requests = requests; failed_at = 0; tried = false })
+  pub run : MirrorRun (opened_as old) (Event.Begin number request ∷ Event.Record 0 ∷ []) (record (opened_as old) { mirror = new; requests = requests })
 
 -- These devices were opened, with stored marks that cover what differs. There was such a run, and then the devices were opened
 -- again as this mirror.

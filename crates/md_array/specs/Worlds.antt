@@ -11,10 +11,12 @@ use Rattle.md_format.specs.Fields.{number_at, bytes_at}
 use Rattle.md_super.specs.declared.superblock.Superblock.{Superblock}
 use Rattle.md_super.specs.declared.fault.SuperFault.{SuperFault}
 use Rattle.md_super.specs.Faults.{fault_of}
+use Rattle.md_super.specs.Log.{has_bad_block_log}
 use Rattle.md_super.specs.Format.{roles_in}
 use Rattle.md_bitmap.specs.Marks.{is_set}
 use Rattle.md_badblocks.specs.declared.run.Run.{Run}
 use Rattle.md_badblocks.specs.Log.{named_runs}
+use Rattle.md_members.specs.Areas.{has_bad_blocks}
 use Rattle.md_members.specs.Members.{reads_log}
 use Rattle.md_assembly.specs.declared.state.MemberState.{MemberState}
 use Rattle.md_assembly.specs.declared.state.MemberState.TheVariants.{InSync, Recovering, Stale, Spare, Faulty}
@@ -71,9 +73,25 @@ lies_in runs sector = list_any (λ run. nat_le run.start sector && nat_lt sector
 abbrev pub is_logged : List ℕ → ℕ → ℕ → ℕ → ℕ → Bool
 is_logged content start sectors shift sector = nat_lt sector (2 ^ 54) && lies_in (named_runs shift (part content (512 * start) (512 * sectors))) sector
 
--- a sector of the device is listed in the log that this superblock names, if that is to be read
+-- Bit 8 of the feature map, which says that the log lists something: of the superblock on the device, or where none can be read
+-- there, of the one that is kept.
+abbrev pub list_bit : Superblock → List ℕ → Option Super → Bool
+list_bit own block (Some _) = not (bit_and (number_at 4 8 block) 8 == 0)
+list_bit own block None = has_bad_blocks own
+
+-- whether an opening would read the log of a device
+abbrev pub reads_log_on : Superblock → List ℕ → Bool
+reads_log_on own content = list_bit own (block_on content) (super_in (block_on content)) && has_bad_block_log own
+
+-- A sector of a device is listed in its log. Whether the log is read goes by the bit on the device: a log is stored before the
+-- superblock that tells of it, and in between an opening reads none. The shift is the one that is kept, by which the log was read
+-- or was stored since. Of a stop right after a log of another shift was replaced nothing is said.
 unfoldable pub is_listed : Superblock → List ℕ → ℕ → Bool
-is_listed v content sector = reads_log v && is_logged content (from_super v.bblog_offset) v.bblog_size v.bblog_shift sector
+is_listed own content sector = reads_log_on own content && is_logged content (from_super own.bblog_offset) own.bblog_size own.bblog_shift sector
+
+-- the same by the own fields alone, as it is once they are stored
+unfoldable pub is_listed_next : Superblock → List ℕ → ℕ → Bool
+is_listed_next own content sector = reads_log own && is_logged content (from_super own.bblog_offset) own.bblog_size own.bblog_shift sector
 
 -- the header of the bitmap at this sector
 abbrev pub header_on : List ℕ → ℕ → List ℕ
@@ -83,8 +101,8 @@ header_on content start = part content (512 * start) 256
 abbrev pub header_fits : ArrayView → List ℕ → Bool
 header_fits a header = bytes_eq (bytes_at 16 8 header) a.shared.set_uuid && (number_at 8 40 header == a.shared.size) && (number_at 4 48 header == 0)
 
--- What a device holds of the array. Where a member's parts stand, and whether its log is read, is by its own fields as they
--- are stored next, so that a write of its superblock changes no more than `super`.
+-- What a device holds of the array. Where a member's parts stand is by its own fields as they are stored next, so that a write of
+-- its superblock moves none; whether its log is read is by the device.
 abbrev pub stored_of : ArrayView → MemberView → List ℕ → Stored
 stored_of a m content =
     let start : ℕ = from_super m.superblock.bitmap_offset in

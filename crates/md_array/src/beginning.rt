@@ -97,9 +97,9 @@ impl Array {
     // Enters a request of these sectors.
     fn enter(&mut self, start: u64, sectors: u64) -> Result<Ticket, BeginFault>
         ensures fresh { lookup self.old.requests.entries self.old.requests.next ≡ None }
-        ensures number { IfOk result (λ ticket. ticket.number ≡ self.old.requests.next) }
+        ensures ticket { IfOk result (λ ticket. ticket ≡ record { name = self.old.requests.name; number = self.old.requests.next }) }
         ensures entered { OnOk result (self.new ≡ record self.old {
-          requests = record {
+          requests = record self.old.requests {
             entries = self.old.requests.entries ++ (self.old.requests.next, record { start = start; sectors = sectors }) ∷ [];
             next = self.old.requests.next + 1;
           };

@@ -31,7 +31,8 @@ impl Span for Extent {
 
 /// No request in flight. The first one gets the number 0.
 pub(crate) fn no_requests(alloc: Global) -> Inflight<Extent>
-    ensures { result ≡ record { entries = []; next = 0 } }
+    ensures entries { result.entries ≡ [] }
+    ensures next { result.next ≡ 0 }
 {
     Inflight::new(alloc)
 }

@@ -10,16 +10,23 @@ use crate::span::{Span, meets};
 use crate::ticket::Ticket;
 use std::alloc::{AllocFailed, Global};
 use std::marker::Model;
+use std::sync::ledger::Blank;
 
 /// A list of items in order of entry, each under a number of its own.
 ///
 /// Numbers rise from 0 and none is given out twice. Contracts see the entries as pairs of a number and
-/// an item, and the number of the next entry, which is 2^64 once u64::MAX was given out.
-#[derive(Debug, Drop)]
+/// an item, the number of the next entry, which is 2^64 once u64::MAX was given out, and the list's
+/// name, which its tickets carry. No contract says which name a new list has. So a ticket can't be shown
+/// to belong to another list, though its number may stand there. Names take no bytes.
+#[derive(Drop)]
+#[derive_where(Debug; T)]
 pub struct Inflight<T> {
     entries: Vec<(u64, T)>,
     // `None` once u64::MAX was given out.
     next: Option<u64>,
+    // Its name is the list's.
+    #[derive_where(skip)]
+    blank: Blank,
 }
 
 impl<T> Model for Inflight<T> {
@@ -29,9 +36,9 @@ impl<T> Model for Inflight<T> {
 
     ghost coded = { inflight_code T.code };
 
-    ghost view = { λ a. record { entries = a.entries.items; next = next_number a.next } };
+    ghost view = { λ a. record { name = a.blank.name; entries = a.entries.items; next = next_number a.next } };
 
-    ghost invariant = { λ a. IsNumbered (record { entries = a.entries.items; next = next_number a.next }) };
+    ghost invariant = { λ a. IsNumbered (record { name = a.blank.name; entries = a.entries.items; next = next_number a.next }) };
 }
 
 impl<T> Inflight<T> {
@@ -45,6 +52,7 @@ impl<T> Inflight<T> {
         Inflight {
             entries: Vec::new(alloc),
             next: Some(0),
+            blank: Blank::new(1),
         }
     }
 
@@ -78,7 +86,8 @@ impl<T> Inflight<T> {
         ensures entries { OnOk result
             (self.new.entries ≡ self.old.entries ++ (self.old.next, item) ∷ []) }
         ensures next { OnOk result (self.new.next ≡ self.old.next + 1) }
-        ensures number { IfOk result (λ ticket. ticket.number ≡ self.old.next) }
+        ensures name { self.new.name ≡ self.old.name }
+        ensures ticket { IfOk result (λ ticket. ticket ≡ record { name = self.old.name; number = self.old.next }) }
         ensures belongs { IfOk result (BelongsTo self.new) }
         ensures fresh { lookup self.old.entries self.old.next ≡ None }
         ensures kept { (other : TicketView)
@@ -100,7 +109,7 @@ impl<T> Inflight<T> {
         match self.entries.push((number, item)) {
             Ok(()) => {
                 self.next = number.checked_add(1);
-                Ok(Ticket { number })
+                Ok(Ticket::of(&self.blank, number))
             }
             Err(AllocFailed { value: (_, item) }) => Err(Refused {
                 item,
@@ -140,6 +149,7 @@ impl<T> Inflight<T> {
         ensures item { lookup self.old.entries ticket.number ≡ Some result }
         ensures entries { self.new.entries ≡ without self.old.entries ticket.number }
         ensures next { self.new.next ≡ self.old.next }
+        ensures name { self.new.name ≡ self.old.name }
 
         // The tickets of the other numbers stay good.
         ensures kept { (other : TicketView) → other.number ≢ ticket.number
@@ -171,6 +181,7 @@ impl<T> Inflight<T> {
         Inflight {
             entries: Vec::new(alloc),
             next: Some(next),
+            blank: Blank::new(1),
         }
     }
 }

@@ -88,6 +88,6 @@ pub fn write<D: Device + Drop>(
     }
     match mirror.finish(pending) {
         Ok(()) => Ok(()),
-        Err(_) => Err(BeginFault::Halted),
+        Err((_pending, _)) => Err(BeginFault::Halted),
     }
 }

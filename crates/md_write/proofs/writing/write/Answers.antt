@@ -46,9 +46,9 @@ returns-in-Ok-finish-clause-pending g c o is =
 pub returns-in-Err-finish-clause-gives : goal.returns-in-Err-finish-clause-gives
 returns-in-Err-finish-clause-gives g c =
     let r = c.in-Err-finish.ensures.gives in
-    absurd (finish_given c.write_all.new.mirror c.finish.new.self c.write_all.new.pending c.in-Err-finish.field-0.1 c.in_default.ensures.may r.1)
+    absurd (finish_given c.write_all.new.mirror c.finish.new.self c.write_all.new.pending c.in-Err-finish.field-0-1 c.in_default.ensures.may r.1)
 
 pub returns-in-Err-finish-clause-pending : goal.returns-in-Err-finish-clause-pending
 returns-in-Err-finish-clause-pending g c o is =
     let r = c.in-Err-finish.ensures.gives in
-    absurd (finish_given c.write_all.new.mirror c.finish.new.self c.write_all.new.pending c.in-Err-finish.field-0.1 c.in_default.ensures.may r.1)
+    absurd (finish_given c.write_all.new.mirror c.finish.new.self c.write_all.new.pending c.in-Err-finish.field-0-1 c.in_default.ensures.may r.1)

@@ -5,11 +5,11 @@ use Rattle.md_array.specs.View.{ArrayView, PendingView}
 use Rattle.md_array.specs.Finishing.{Finishes, MayFinish}
 use Rattle.md_array.proofs.array.Array.finish.Goals as goal
 
-finished : (a : ArrayView) (p : PendingView) (left : InflightList Extent) (disks : _) → MayFinish a p → left.entries ≡ without a.requests.entries p.ticket.number → left.next ≡ a.requests.next
+finished : (a : ArrayView) (p : PendingView) (left : InflightList Extent) (disks : _) → MayFinish a p → left.name ≡ a.requests.name → left.entries ≡ without a.requests.entries p.ticket.number → left.next ≡ a.requests.next
     → Finishes (record { disks = disks; array = a }) (record { disks = disks; array = record a { requests = left } }) p
-finished a p left disks may entries next = record { may = may; disks = refl; array = rw (entries, next) refl }
+finished a p left disks may name entries next = record { may = may; disks = refl; array = rw (name, entries, next) refl }
 
 pub returns : goal.returns
 returns c disks =
     let may = c.in_default.ensures disks in
-    rw (← c.self.view_is) (finished _ c.args.pending c.remove.new.self disks (rw c.self.view_is may) (rw (← c.pending.view_is) c.remove.ensures.entries) c.remove.ensures.next)
+    rw (← c.self.view_is) (finished _ c.args.pending c.remove.new.self disks (rw c.self.view_is may) c.remove.ensures.name (rw (← c.pending.view_is) c.remove.ensures.entries) c.remove.ensures.next)

@@ -47,5 +47,5 @@ returns c =
       cleared = rw c.deref-3.ensures.value at c.last_cleared-events_cleared.ensures;
       synced = rw c.deref-4.ensures.value at c.is_resynced-resynced.ensures;
       running = refl;
-      idle = c.no_requests.ensures;
+      idle = λ i. record c.no_requests.result { entries = c.no_requests.ensures.entries i; next = c.no_requests.ensures.next i };
     })

@@ -5,7 +5,7 @@ use Rattle.md_inflight.proofs.Numbers.{rises_filter, belongs_without}
 use Rattle.md_inflight.proofs.inflight.Inflight.remove.Goals as goal
 
 -- the entries that are left
-left : (g : _) (c : goal.After-remove-item g) → c.remove-item.new.self.items ≡ without c.self.inside.entries.items c.ticket.inside.number
+left : (g : _) (c : goal.After-drop-ticket-inside g) → c.remove-item.new.self.items ≡ without c.self.inside.entries.items c.ticket.inside.number
 left g c =
     let entries = c.self.inside.entries.items in
     let here = place_lent c.ticket.inside.number _ entries _ c.deref.ensures.value c.place_of-place.ensures.place c.place_of-place.ensures.within in
@@ -24,4 +24,4 @@ pub returns-clause-entries : goal.returns-clause-entries
 returns-clause-entries g c = rw (← c.self.view_is, ← c.ticket.view_is) (left g c)
 
 pub returns-clause-kept : goal.returns-clause-kept
-returns-clause-kept g c = belongs_without c.args.self.now _ _ (returns-clause-entries g c) (rw (← c.self.view_is) refl)
+returns-clause-kept g c = belongs_without c.args.self.now _ _ (rw (← c.self.view_is) refl) (returns-clause-entries g c) (rw (← c.self.view_is) refl)
