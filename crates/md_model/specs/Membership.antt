@@ -73,7 +73,7 @@ joined w n =
       present = λ d. w.present d || eqb d n.number;
     }
 
--- Its superblock bears the new count and the new roles.
+-- Its superblock has the new count and the new roles.
 abbrev pub joined_super : World → ℕ → ℕ → Bool → Super
 joined_super w d role recovering = record { number = d; events = w.events; role = put d role w.role; recovering = recovering }
 
