@@ -1,5 +1,5 @@
 -- Reports whose last call passes on what the output holds back.
-use Rattle.std.proofs.Common.{◌≡◌, ◌∙◌, Bool, true, ℕ, List, [], ◌++◌, Option, Some, None, Result, Ok, Err, IfOk, MatchResult, sym, subst, inr}
+use Rattle.std.proofs.Common.{◌≡◌, ◌∙◌, Bool, true, ℕ, List, [], Option, Some, None, Result, Ok, Err, IfOk, MatchResult, sym, subst, inr}
 use Rattle.std.specs.Io.KnownBytes.{Appends}
 use Rattle.std.proofs.lemmas.List.{append-nil}
 use Rattle.md_examine.specs.Sink.{Flushes, Puts}

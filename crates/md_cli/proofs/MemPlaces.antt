@@ -11,7 +11,7 @@ use Rattle.std.proofs.lemmas.Slice.Eq.{bytes_eq-Decides}
 use Rattle.md_cli.specs.declared.memory_images.Place.{Place}
 use Rattle.md_device.specs.declared.image_fault.ImageFault.{ImageFault}
 use Rattle.md_cli.specs.Images.{IsRefused}
-use Rattle.md_cli.specs.MemImages.{Named, is_named, changeable_in, holds_in, device_in, place_of}
+use Rattle.md_cli.specs.MemImages.{Named, is_named, changeable_in, holds_in, device_in}
 use Rattle.md_cli.specs.MemPlaces.{named, named_places}
 
 prefix_len-map : {X Y : Type 0} (p : Y → Bool) (f : X → Y) (xs : List X) → prefix_len p (map f xs) ≡ prefix_len (λ x. p (f x)) xs

@@ -28,9 +28,13 @@ mod mirrors;
 #[cfg(test)]
 mod new_members;
 #[cfg(test)]
+mod plan_command;
+#[cfg(test)]
 mod plan_reports;
 #[cfg(test)]
 mod plans;
+#[cfg(test)]
+mod rebuild_tables;
 #[cfg(test)]
 mod sinks;
 #[cfg(test)]

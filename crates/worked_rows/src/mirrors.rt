@@ -13,13 +13,13 @@ use md_super::checksum;
 use std::alloc::Global;
 use std::test::Fail;
 
-const BITMAP_OFFSET: u32 = 1;
+pub(crate) const BITMAP_OFFSET: u32 = 1;
 
-const BITMAP_OFFSET_AND_BAD_BLOCKS: u32 = 9;
+pub(crate) const BITMAP_OFFSET_AND_BAD_BLOCKS: u32 = 9;
 
 // Member `number` of two of the vault's array with these features, whose bitmap is at these events and
 // marks nothing. Its log names sectors 2056 to 2063 of the device.
-fn member(
+pub(crate) fn member(
     alloc: Global,
     number: u32,
     features: u32,

@@ -1,4 +1,4 @@
-use Rattle.std.proofs.Common.{◌≡◌, ℕ, List, refl, subst}
+use Rattle.std.proofs.Common.{ℕ, List, refl, subst}
 use Rattle.md_examine.specs.Sink.{Puts}
 use Rattle.md_examine.specs.SummaryReport.{summary_text}
 use Rattle.md_examine.specs.DetailReport.{detail_text}

@@ -1,4 +1,4 @@
-use Rattle.std.proofs.Common.{◌≡◌, ◌≤◌, ◌<◌, ◌∙◌, ◌+◌, [], ◌∷◌, ◌++◌, length, ap, sym, arith, vec_capacity, vec_len, IsOk}
+use Rattle.std.proofs.Common.{◌≡◌, ◌<◌, ◌∙◌, ◌+◌, [], ◌∷◌, ◌++◌, length, ap, sym, arith, vec_capacity, vec_len, IsOk}
 use Rattle.std.proofs.lemmas.List.{length-append}
 use Rattle.md_cli.specs.Overlays.{overlay_over}
 use Rattle.md_cli.proofs.Overlaid.{all_over, none_left, one_over}
