@@ -3,7 +3,7 @@ use Rattle.std.proofs.Common.{◌≡◌, List, [], ◌∷◌, ◌++◌, Option, 
 use Rattle.md_model.specs.Events.{Event}
 use Rattle.md_array.specs.View.{MirrorView}
 use Rattle.md_array.specs.Events.{Does}
-use Rattle.md_array.specs.InTurn.{AllLeftWhole, AllOf, InTurn, Leads, Requests}
+use Rattle.md_array.specs.InTurn.{AllLeftWhole, AllOf, InTurn, Requests}
 use Rattle.md_array.specs.Runs.{MirrorRun, Moment, then_as}
 use Rattle.md_array.specs.WholeCalls.{CallsAreRuns, RunsGoOn}
 use Rattle.md_array.specs.Worlds.{AreHonest}

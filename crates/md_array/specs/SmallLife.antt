@@ -1,5 +1,5 @@
 -- A life of a mirror of one member: what the laws on lives ask can be met.
-use Rattle.std.specs.Prelude.{ℕ, false, List, [], ◌∷◌, Option}
+use Rattle.std.specs.Prelude.{ℕ, List, [], ◌∷◌, Option}
 use Rattle.md_model.specs.Events.{Event}
 use Rattle.md_model.specs.Worlds.{Request}
 use Rattle.md_array.specs.View.{Disk, MirrorView}

@@ -8,7 +8,7 @@ use Rattle.md_device.specs.Device.{written}
 use Rattle.md_device.specs.Stops.{IsMixed, WithinWrite}
 use Rattle.md_device.proofs.Leaving as leaving
 use Rattle.md_device.proofs.Leaving.{leaves_less, leaves_none, mixed_none}
-use Rattle.md_writes.specs.Writes.{Write, IsStopped, IsKept, IsCutShort, IsNextMixed, IsAnyIn, DoesWrites, StopsInWrites, MakesWrites, LeavesOnly, after}
+use Rattle.md_writes.specs.Writes.{Write, IsKept, IsCutShort, IsNextMixed, IsAnyIn, DoesWrites, StopsInWrites, MakesWrites, LeavesOnly, after}
 
 pub after-append : (old : List ℕ) (writes more : List Write) → after old (writes ++ more) ≡ after (after old writes) more
 after-append old writes more = fold-append (λ before (w : Write). written before w.sector w.bytes) old writes more
@@ -163,10 +163,6 @@ module _ {D : Type 0} (g : Ghosts D) where
     outside = stop.outside;
     within = stop.within;
   }
-
-  -- what stands on the device at the end
-  pub is_stopped : (writes : List Write) (old new : D) → StopsInWrites g writes old new → g.honest old ≡ true → IsStopped (g.content old) writes (g.content new)
-  is_stopped writes old new stop h = record { done = stop.done; failed = stop.tried; rest = stop.rest; order = stop.order; outside = stop.outside h }
 
   -- the first of the writes were made, and these are left
   pub record AreLeft (writes left : List Write) (old new : D) : Type 0 where

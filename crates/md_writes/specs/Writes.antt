@@ -14,15 +14,6 @@ pub record Write : Type 0 where
 abbrev pub after : List ℕ → List Write → List ℕ
 after content writes = fold (λ before w. written before w.sector w.bytes) content writes
 
--- The first of these writes were done, and then one failed: any bytes may stand in its range, and all others are as the
--- writes before it left them.
-pub record IsStopped (old : List ℕ) (writes : List Write) (new : List ℕ) : Type 0 where
-  pub done : List Write
-  pub failed : Write
-  pub rest : List Write
-  pub order : writes ≡ done ++ failed ∷ rest
-  pub outside : SameOutside (512 * failed.sector) (length failed.bytes) (after old done) new
-
 -- a write's range may hold any bytes
 abbrev pub IsAnyIn : Write → List ℕ → List ℕ → Type 0
 IsAnyIn w old new = SameOutside (512 * w.sector) (length w.bytes) old new

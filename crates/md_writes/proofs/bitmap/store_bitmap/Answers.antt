@@ -1,4 +1,4 @@
-use Rattle.std.proofs.Common.{arith, ◌∙◌, ℕ, ◌-◌, ◌*◌, ◌∷◌, [], ap, subst}
+use Rattle.std.proofs.Common.{arith, ◌∙◌, ℕ, ◌*◌, ◌∷◌, [], ap, subst}
 use Rattle.md_device.specs.Splice.{SameOutside}
 use Rattle.md_bitmap.specs.Sectors.{bitmap_sectors}
 use Rattle.md_writes.specs.Writes.{MakesWrites}
