@@ -47,3 +47,5 @@ mod steps_in_order;
 mod superblocks;
 #[cfg(test)]
 mod vault;
+#[cfg(test)]
+mod write_call;
