@@ -47,5 +47,3 @@ mod steps_in_order;
 mod superblocks;
 #[cfg(test)]
 mod vault;
-#[cfg(test)]
-mod write_call;
