@@ -22,7 +22,7 @@ pub struct Assembly {
 }
 
 /// The array that the members make, or the first fault in them, in the order of `AssembleFault`.
-/// Want of memory comes last: only where no other fault stands.
+/// `NoMemory` comes last: only where no other fault stands.
 pub fn assemble(alloc: Global, members: &[MemberInfo]) -> Result<Assembly, AssembleFault>
     ensures ok { IfOk result (λ a. IsAssembled members.now a) }
     ensures sound { OnOk result (NoFault members.now) }

@@ -18,7 +18,7 @@ const UNSUPPORTED_FEATURES: u32 = !(FEATURE_BITMAP_OFFSET
     | FEATURE_BAD_BLOCKS);
 
 /// The superblock that the bytes spell, or the first fault in them, in the order of `SuperFault`.
-/// Want of memory comes last: only where no other fault stands.
+/// `NoMemory` comes last: only where no other fault stands.
 pub fn decode(alloc: Global, bytes: &[u8; 4096]) -> Result<Superblock, SuperFault>
     ensures ok { IfOk result (λ v. IsSuper bytes.now v) }
     ensures sound { IfOk result (λ _. NoFault bytes.now) }
