@@ -1,5 +1,5 @@
 -- A mirror that was opened is consistent.
-use Rattle.std.proofs.Common.{◌≡◌, ℕ, ◌<◌, ◌≤◌, true, false, List, length, slice_get, Some, refl, sym, ap, ◌∙◌, subst, arith, inl, inr}
+use Rattle.std.proofs.Common.{◌≡◌, ℕ, ◌<◌, ◌≤◌, true, false, List, length, slice_get, Some, refl, sym, ap, ◌∙◌, subst, arith, inl, inr, ◌↔◌}
 use Rattle.std.specs.Int.{div_ceil}
 use Rattle.std.proofs.lemmas.Bool.{cases_lt}
 use Rattle.std.proofs.lemmas.Option.{slice_get_within}
@@ -24,12 +24,13 @@ use Rattle.md_array.specs.Storing.{IsMarkedBy}
 use Rattle.md_array.specs.Worlds.{block_on, is_listed, is_listed_next, super_in, super_of}
 use Rattle.md_array.proofs.Fitting as fitting
 use Rattle.md_array.proofs.OneMember.{fits_like, like_itself}
-use Rattle.md_array.proofs.WorldsDevice.{listed_next_new, places_new, super_new}
+use Rattle.md_array.proofs.WorldsDevice.{bad_is_listed, listed_next_new, places_new, super_new}
 use Rattle.md_array.proofs.WorldsLists.{got_same, got_within}
 use Rattle.md_array.proofs.WorldsMember.{by_need}
 use Rattle.md_array.proofs.WorldsShown.{shown_honest}
 use Rattle.md_array.proofs.WorldsSound.{kept_at, numbers_distinct, roles_distinct, size_shared, some_in_sync}
 use Rattle.md_array.proofs.WorldsStates.{role_taken}
+use Rattle.md_badblocks.specs.Runs.{IsBad}
 
 -- storing marks leaves a device as long as it was
 as_long : (a : ArrayView) (m : MemberView) (d e : Disk) → IsMarkedBy a m d e → length e.content ≡ length d.content
@@ -167,6 +168,7 @@ module _ (before : List Disk) (v : MirrorView) (o : IsOpenedFrom before v) where
         is = subst (λ (x : Disk). super_in (block_on x.content) ≡ Some (super_of m.superblock)) (got_same v.disks k s.new d s.is at_disk) (super_new a m s.info s.old s.new s.opened);
         recovering = refl;
         listed = subst (λ (x : Disk). (sector : ℕ) → is_listed m.superblock x.content sector ≡ is_listed_next m.superblock x.content sector) (got_same v.disks k s.new d s.is at_disk) (listed_next_new a m s.info s.old s.new s.opened);
+        known = subst (λ (x : Disk). (sector : ℕ) → (is_listed m.superblock x.content sector ≡ true) ↔ IsBad m.bad sector) (got_same v.disks k s.new d s.is at_disk) (bad_is_listed a m s.info s.old s.new s.opened);
       }
 
   pub consistent : IsConsistent v

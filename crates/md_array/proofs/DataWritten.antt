@@ -1,5 +1,5 @@
 -- A member gets a request's bytes: no more than those sectors of its data changes, and that is the model's event.
-use Rattle.std.proofs.Common.{◌≡◌, ℕ, ◌+◌, ◌-◌, ◌*◌, ◌/◌, ◌<◌, ◌≤◌, Bool, true, false, cond, ◌&&◌, ◌||◌, not, eqb, nat_lt, List, [], ◌∷◌, ◌++◌, length, take, drop, slice_get, count_by, Option, Some, refl, sym, ap, ◌∙◌, subst, arith, drop-drop, eq-eqb}
+use Rattle.std.proofs.Common.{◌≡◌, ℕ, ◌+◌, ◌-◌, ◌*◌, ◌/◌, ◌<◌, ◌≤◌, Bool, true, false, cond, ◌&&◌, ◌||◌, not, eqb, nat_lt, List, [], ◌∷◌, ◌++◌, length, take, drop, slice_get, count_by, Option, Some, refl, sym, ap, ◌∙◌, subst, arith, drop-drop, eq-eqb, ◌↔◌}
 use Rattle.std.proofs.lemmas.List.{drop-take, drop_at, length-append, length-take-le, take-take, take_at}
 use Rattle.std.proofs.lemmas.List.Folds.{list_any-append}
 use Rattle.std.proofs.lemmas.Option.{slice_get_within}
@@ -24,13 +24,14 @@ use Rattle.md_array.specs.WritingMember.{MayWrite, WritesTo, data_write}
 use Rattle.md_array.specs.Worlds.{geometry_of, stored_of, super_in, world_of}
 use Rattle.md_array.proofs.Honesty.{tried_honest}
 use Rattle.md_array.proofs.InFlight.{among_in_flight, inside_of, is_touched, not_touched, whole_of}
-use Rattle.md_array.proofs.Listed.{still_next}
+use Rattle.md_array.proofs.Listed.{still_next, listed_kept}
 use Rattle.md_array.proofs.OneMember.{ChangesMember, changed_is_consistent, changed_world, member_there, stored_there}
 use Rattle.md_array.proofs.PartsApart.{HasParts, block_beside_data, data_alone, data_elsewhere, log_beside_data, parts_of}
 use Rattle.md_array.proofs.ReadAsKept.{changed_read, read_beside_data}
 use Rattle.md_array.proofs.WorldsInSync.{in_sync_is, in_sync_there, number_at}
 use Rattle.md_array.proofs.WorldsLists.{got_within, one_fewer, set_itself}
 use Rattle.md_array.proofs.WorldsTests.{and_is}
+use Rattle.md_badblocks.specs.Runs.{IsBad}
 
 -- ---- the numbers of those that have it
 written_too : (p : PendingView) (number d : ℕ) → has_written (record p { written = p.written ++ number ∷ [] }) d ≡ (has_written p d || eqb d number)
@@ -133,6 +134,8 @@ module _ (k : ℕ) (old new : MirrorView) (p q : PendingView) (c : IsConsistent 
         recovering = has.recovering;
         places = subst (HasPlaces m) (sym block) has.places;
         listed = still_next m.superblock d.content e.content (log_beside_data a m d.content e.content (parts d before) p.sector n inside (outside d e before after)) block has.listed;
+        known = λ sector. subst (λ b. (b ≡ true) ↔ IsBad m.bad sector)
+            (sym (listed_kept m.superblock d.content e.content (log_beside_data a m d.content e.content (parts d before) p.sector n inside (outside d e before after)) sector block)) (has.known sector);
       }
 
   pub written_is_consistent : IsConsistent new

@@ -1,5 +1,5 @@
 -- A sector of a member's bitmap that is stored is the model's event, and the mirror stays consistent.
-use Rattle.std.proofs.Common.{◌≡◌, ◌≢◌, ℕ, ◌+◌, ◌-◌, ◌*◌, ◌/◌, ◌<◌, ◌≤◌, Bool, true, false, cond, ◌&&◌, eqb, nat_lt, List, ◌++◌, length, drop, slice_get, slice_index, Option, Some, refl, sym, ap, ◌∙◌, subst, arith, eq-eqb, eqb-true, get_or-drop}
+use Rattle.std.proofs.Common.{◌≡◌, ◌≢◌, ℕ, ◌+◌, ◌-◌, ◌*◌, ◌/◌, ◌<◌, ◌≤◌, Bool, true, false, cond, ◌&&◌, eqb, nat_lt, List, ◌++◌, length, drop, slice_get, slice_index, Option, Some, refl, sym, ap, ◌∙◌, subst, arith, eq-eqb, eqb-true, get_or-drop, ◌↔◌}
 use Rattle.std.proofs.lemmas.List.{ext_get_or, get_or-append-add, get_or_append_left}
 use Rattle.std.proofs.lemmas.Option.{slice_get_within}
 use Rattle.md_device.specs.Splice.{SameOutside}
@@ -33,7 +33,7 @@ use Rattle.md_array.specs.Requests.{IsPending}
 use Rattle.md_array.specs.Events.{Happens}
 use Rattle.md_array.specs.Worlds.{block_on, from_super, geometry_of, header_on, kind_of, stored_of, super_in, world_of}
 use Rattle.md_array.proofs.Honesty.{tried_honest}
-use Rattle.md_array.proofs.Listed.{still_next}
+use Rattle.md_array.proofs.Listed.{still_next, listed_kept}
 use Rattle.md_array.proofs.OneMember.{ChangesMember, changed_in_flight, changed_is_consistent, changed_is_pending, changed_world, member_there, stored_there}
 use Rattle.md_array.proofs.PartsApart.{HasParts, bits_elsewhere, block_beside_marks, events_elsewhere, fits_elsewhere, header_elsewhere, log_beside_marks, marks_alone, parts_of}
 use Rattle.md_array.proofs.ReadAsKept.{changed_read, stays}
@@ -44,6 +44,7 @@ use Rattle.md_array.proofs.WorldsOutside.{sector_at_is, starts_at}
 use Rattle.md_array.proofs.WorldsStates.{same_in_sync}
 use Rattle.md_array.proofs.WorldsTests.{and_is, and_same}
 use Rattle.md_array.proofs.WorldsWrites.{is_set-same, slice_index-part}
+use Rattle.md_badblocks.specs.Runs.{IsBad}
 
 -- by whether two numbers are the same
 by_equal : {A : Type 0} (x y : ℕ) (p q z : A) → (x ≡ y → z ≡ p) → (x ≢ y → z ≡ q) → z ≡ cond (eqb x y) p q
@@ -162,6 +163,8 @@ module _ (k block : ℕ) (old new : MirrorView) (is : IsConsistent old) (low : b
           bblog_offset = had.places.bblog_offset;
         });
         listed = still_next m.superblock d.content e.content (log_beside_marks a m d.content e.content (has d e before after) block low_of_member (outside d e before after)) (sym same) had.listed;
+        known = λ sector. subst (λ b. (b ≡ true) ↔ IsBad m.bad sector)
+            (sym (listed_kept m.superblock d.content e.content (log_beside_marks a m d.content e.content (has d e before after) block low_of_member (outside d e before after)) sector (sym same))) (had.known sector);
       }
 
   pub marks_stored_is_consistent : IsConsistent new

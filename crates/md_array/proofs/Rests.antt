@@ -1,5 +1,5 @@
 -- A mirror whose devices were only read is as good as before.
-use Rattle.std.proofs.Common.{◌≡◌, ℕ, List, length, slice_get, Option, Some, None, refl, sym, ap, ◌∙◌, subst, arith}
+use Rattle.std.proofs.Common.{◌≡◌, ℕ, List, length, slice_get, Option, Some, None, refl, sym, ap, ◌∙◌, subst, arith, ◌↔◌, true}
 use Rattle.std.proofs.lemmas.Option.{none-some, slice_get_within}
 use Rattle.md_device.specs.Stops.{LeavesMore}
 use Rattle.md_device.proofs.Leaving.{leaves_then}
@@ -17,6 +17,7 @@ use Rattle.md_array.specs.Worlds.{block_on, geometry_of, is_listed, is_listed_ne
 use Rattle.md_array.proofs.InTurn.{none_touched}
 use Rattle.md_array.proofs.OneMember.{fits_like, like_itself}
 use Rattle.md_array.proofs.WorldsLists.{got_within}
+use Rattle.md_badblocks.specs.Runs.{IsBad}
 
 -- a device with the same bytes has the same superblock
 super_as : (m : MemberView) (d e : Disk) → e.content ≡ d.content → HasSuper m d → HasSuper m e
@@ -29,6 +30,7 @@ super_as m d e same has =
       recovering = has.recovering;
       places = subst (HasPlaces m) (sym block) has.places;
       listed = subst (λ (c : List ℕ). (sector : ℕ) → is_listed m.superblock c sector ≡ is_listed_next m.superblock c sector) (sym same) has.listed;
+      known = λ sector. subst (λ (c : List ℕ). (is_listed m.superblock c sector ≡ true) ↔ IsBad m.bad sector) (sym same) (has.known sector);
     }
 
 pub rests_same : (m : MirrorView) → Rests m m

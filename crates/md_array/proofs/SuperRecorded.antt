@@ -1,5 +1,5 @@
 -- A member's superblock that is stored is the model's event, and the mirror stays consistent.
-use Rattle.std.proofs.Common.{◌≡◌, ℕ, ◌+◌, ◌*◌, ◌/◌, inl, inr, Bool, true, false, true≢false, ◌&&◌, nat_lt, List, slice_get, Option, Some, refl, sym, ap, ◌∙◌, subst, arith}
+use Rattle.std.proofs.Common.{◌≡◌, ℕ, ◌+◌, ◌*◌, ◌/◌, inl, inr, Bool, true, false, true≢false, ◌&&◌, nat_lt, List, slice_get, Option, Some, refl, sym, ap, ◌∙◌, subst, arith, ◌↔◌}
 use Rattle.std.proofs.lemmas.Option.{slice_get_within}
 use Rattle.md_device.specs.Splice.{SameOutside}
 use Rattle.md_device.proofs.Splices.{part-spliced}
@@ -34,6 +34,7 @@ use Rattle.md_array.proofs.ReadAsKept.{changed_read, own_written}
 use Rattle.md_array.proofs.WorldsLists.{got_within}
 use Rattle.md_array.proofs.WorldsStates.{same_recorded}
 use Rattle.md_array.proofs.WorldsSupers.{super_shown}
+use Rattle.md_badblocks.specs.Runs.{IsBad}
 
 -- ---- a superblock that is read back
 abbrev as_read : (v : Superblock) → IsReadable v → Superblock
@@ -95,8 +96,19 @@ module _ (k : ℕ) (old new : MirrorView) (is : IsConsistent old) (r : Records k
       let long = (is.fits.each k d m before r.may.at).long in
       ap block_on (r.disks.done d e before after honest) ∙ part-spliced d.content (512 * 8) block 4096 (sym r.may.readable.size) (omega arith)
 
+  super_outside : (d e : Disk) → slice_get old.disks k ≡ Some d → slice_get new.disks k ≡ Some e → SameOutside (512 * 8) 4096 d.content e.content
+  super_outside d e before after = subst (λ (x : ℕ). SameOutside (512 * 8) x d.content e.content) r.may.readable.size (r.disks.tried.outside d e before after)
+
+  -- the log lists what it listed
+  lists_as_before : (d e : Disk) → slice_get old.disks k ≡ Some d → slice_get new.disks k ≡ Some e → d.honest ≡ true → HasSuper m d
+      → (sector : ℕ) → is_listed m.superblock e.content sector ≡ is_listed m.superblock d.content sector
+  lists_as_before d e before after honest has sector =
+      listed_written a m e.content r.may.readable (on_disk d e before after honest) sector
+      ∙ next_kept m.superblock d.content e.content (log_beside_super a m d.content e.content (parts_of old is k d m before r.may.at) (super_outside d e before after)) sector
+      ∙ sym (has.listed sector)
+
   has_super : (d e : Disk) → slice_get old.disks k ≡ Some d → slice_get new.disks k ≡ Some e → is_recorded m.state ≡ true → d.honest ≡ true → HasSuper m d → HasSuper n e
-  has_super d e before after _ honest _ =
+  has_super d e before after _ honest had =
       let on = on_disk d e before after honest in
       let spelled = r.may.readable.fields in
       record {
@@ -111,6 +123,7 @@ module _ (k : ℕ) (old new : MirrorView) (is : IsConsistent old) (r : Records k
           bblog_offset = sym spelled.bblog_offset;
         });
         listed = listed_written a m e.content r.may.readable on;
+        known = λ sector. subst (λ b. (b ≡ true) ↔ IsBad m.bad sector) (sym (lists_as_before d e before after honest had sector)) (had.known sector);
       }
 
   pub recorded_is_consistent : IsConsistent new
@@ -139,15 +152,11 @@ module _ (k : ℕ) (old new : MirrorView) (is : IsConsistent old) (r : Records k
     stored_recorded : stored_of a n e.content ≡ recorded_device w k
     stored_recorded =
         let has = is.supers r.may.running k d m before r.may.at r.may.active honest in
-        let outside : SameOutside (512 * 8) 4096 d.content e.content =
-        subst (λ (x : ℕ). SameOutside (512 * 8) x d.content e.content) r.may.readable.size (r.disks.tried.outside d e before after) in
+        let outside = super_outside d e before after in
         let super : super_in (block_on e.content) ≡ Some (super_for w k) =
         ap super_in (on_disk d e before after honest) ∙ readable_super a m r.may.readable ∙ ap Some (super_is_for old.disks a requests k m d r.may.at before has) in
         let parts = parts_of old is k d m before r.may.at in
-        let lists = λ (sector : ℕ). listed_written a m e.content r.may.readable (on_disk d e before after honest) sector
-        ∙ next_kept m.superblock d.content e.content (log_beside_super a m d.content e.content parts outside) sector
-        ∙ sym (has.listed sector) in
-        super_alone a m d.content e.content parts outside (lists_alike a m d.content e.content lists)
+        super_alone a m d.content e.content parts outside (lists_alike a m d.content e.content (lists_as_before d e before after honest has))
         ∙ (λ i. record (sym (stored_there old.disks a k m d r.may.at before) i) { super = super i })
 
     world_recorded : world_of new requests ≡ recorded w k

@@ -148,6 +148,7 @@ super_risen m d s = record {
   recovering = s.recovering;
   places = record { data_offset = s.places.data_offset; bitmap_offset = s.places.bitmap_offset; bblog_size = s.places.bblog_size; bblog_offset = s.places.bblog_offset };
   listed = s.listed;
+  known = s.known;
 }
 
 -- a mirror whose count rose is consistent

@@ -1,5 +1,5 @@
 -- What holds of a mirror between its calls: opening gives it, and each call keeps it.
-use Rattle.std.specs.Prelude.{◌≡◌, ℕ, ◌<◌, ◌≤◌, ◌/◌, true, false, List, length, slice_get, Some}
+use Rattle.std.specs.Prelude.{◌≡◌, ℕ, ◌<◌, ◌≤◌, ◌/◌, true, false, List, length, slice_get, Some, ◌↔◌}
 use Rattle.std.specs.Int.{div_ceil, w32, cast_signed}
 use Rattle.md_format.specs.Fields.{number_at}
 use Rattle.md_model.specs.Devices.{Super}
@@ -10,6 +10,7 @@ use Rattle.md_array.specs.Members.{IsMember, IsInSync, is_recorded}
 use Rattle.md_array.specs.Fits.{Fits}
 use Rattle.md_array.specs.Requests.{AreInside}
 use Rattle.md_array.specs.Worlds.{super_in, block_on, is_listed, is_listed_next}
+use Rattle.md_badblocks.specs.Runs.{IsBad}
 
 -- Members have numbers of their own. One that is in sync or recovering has the role that the array's superblock gives its
 -- number, and no other has it.
@@ -39,7 +40,7 @@ pub record HasPlaces (m : MemberView) (block : List ℕ) : Type 0 where
   pub bblog_offset : cast_signed w32 (number_at 4 188 block) ≡ m.superblock.bblog_offset
 
 -- A device has a superblock, with the member's number, its own bit 2 of the feature map, and its places. What its log lists is
--- the same once the superblock that is kept is stored.
+-- the same once the superblock that is kept is stored, and it is the bad set that is kept.
 pub record HasSuper (m : MemberView) (d : Disk) : Type 0 where
   pub super : Super
   pub is : super_in (block_on d.content) ≡ Some super
@@ -47,6 +48,7 @@ pub record HasSuper (m : MemberView) (d : Disk) : Type 0 where
   pub recovering : super.recovering ≡ has_recovery_offset m.superblock
   pub places : HasPlaces m (block_on d.content)
   pub listed : (sector : ℕ) → is_listed m.superblock d.content sector ≡ is_listed_next m.superblock d.content sector
+  pub known : (sector : ℕ) → (is_listed m.superblock d.content sector ≡ true) ↔ IsBad m.bad sector
 
 -- so has that of each member that is kept up to date
 abbrev pub HaveSupers : MirrorView → Type 0
