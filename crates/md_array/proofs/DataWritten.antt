@@ -54,7 +54,7 @@ had true b e = ap not e
 had false b e = refl
 
 -- ---- a part of what was written
-part-spliced_within : {X : Type 0} (xs : List X) (at : ℕ) (ys : List X) (i n : ℕ) → i + n ≤ length ys → at ≤ length xs → part (spliced xs at ys) (at + i) n ≡ part ys i n
+pub part-spliced_within : {X : Type 0} (xs : List X) (at : ℕ) (ys : List X) (i n : ℕ) → i + n ≤ length ys → at ≤ length xs → part (spliced xs at ys) (at + i) n ≡ part ys i n
 unfolding part spliced
 part-spliced_within xs at ys i n low fits =
     let rest = drop (at + length ys) xs in

@@ -89,3 +89,10 @@ pub mod FirstSector
 pub mod LeftAtStops
 pub mod BitmapArea
 pub mod SmallLife
+pub mod SectorCopied
+pub mod RunsOfSectors
+pub mod CopiedRun
+pub mod CopyFailed
+pub mod CopyWrites
+pub mod ResyncMarked
+pub mod ReadingData

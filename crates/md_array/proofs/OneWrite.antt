@@ -19,7 +19,7 @@ use Rattle.md_array.proofs.WorldsLists.{at_set_same}
 use Rattle.md_array.proofs.Listing.{same_listed}
 
 -- an element besides the one that was replaced
-set_elsewhere : {A : Type 0} (xs : List A) (k j : ℕ) (y : A) → j ≢ k → slice_get (set xs k y) j ≡ slice_get xs j
+pub set_elsewhere : {A : Type 0} (xs : List A) (k j : ℕ) (y : A) → j ≢ k → slice_get (set xs k y) j ≡ slice_get xs j
 set_elsewhere [] k j y other = refl
 set_elsewhere (x ∷ xs) zero zero y other = absurd (other refl)
 set_elsewhere (x ∷ xs) zero (suc j) y other = refl
@@ -27,7 +27,7 @@ set_elsewhere (x ∷ xs) (suc k) zero y other = refl
 set_elsewhere (x ∷ xs) (suc k) (suc j) y other = set_elsewhere xs k j y (λ same. other (ap suc same))
 
 -- what holds of the device at k before and after
-at_device : (before : List Disk) (k : ℕ) (d e : Disk) (Related : Disk → Disk → Type 0) → slice_get before k ≡ Some d → Related d e → AtDevice k before (set before k e) Related
+pub at_device : (before : List Disk) (k : ℕ) (d e : Disk) (Related : Disk → Disk → Type 0) → slice_get before k ≡ Some d → Related d e → AtDevice k before (set before k e) Related
 at_device before k d e Related here related x y was is =
     let first : x ≡ d = same_listed before k x d was here in
     let second : y ≡ e = same_listed (set before k e) k y e is (at_set_same before k e (slice_get_within before k d here)) in

@@ -187,7 +187,7 @@ whole : (xs : List ℕ) (at n : ℕ) → xs ≡ take at xs ++ (part xs at n ++ d
 unfolding part
 whole xs at n = sym (take-append-drop at xs) ∙ ap (λ ys. take at xs ++ ys) (sym (take-append-drop n (drop at xs)) ∙ ap (λ zs. take n (drop at xs) ++ zs) (drop-drop n at xs))
 
-with_part : (at n : ℕ) (xs ys : List ℕ) → SameOutside at n xs ys → (middle : List ℕ) → part ys at n ≡ middle → ys ≡ take at xs ++ (middle ++ drop (at + n) xs)
+pub with_part : (at n : ℕ) (xs ys : List ℕ) → SameOutside at n xs ys → (middle : List ℕ) → part ys at n ≡ middle → ys ≡ take at xs ++ (middle ++ drop (at + n) xs)
 with_part at n xs ys same middle is = whole ys at n ∙ rw (same.before, same.after, is) refl
 
 pub stops_undivided : StopsUndivided
@@ -216,10 +216,10 @@ stops_at_events (Event.StoreMarks k b) before after left honest writes may =
 stops_at_events (Event.RecordFails k) before after left honest writes may = (writes.0, writes.1, stops_at_failure k writes.0 before after left honest writes.1 may)
 stops_at_events (Event.StoreMarksFails k b) before after left honest writes may = (writes.0, writes.1, stops_at_failure k writes.0 before after left honest writes.1 may)
 stops_at_events (Event.WriteMemberFails n k) before after left honest writes may = (writes.0, writes.1, stops_at_failure k writes.0 before after left honest writes.1 may)
-stops_at_events (Event.CopyFails k c) before after left honest writes may = tt
+stops_at_events (Event.CopyFails k c) before after left honest writes may = (writes.0, writes.1, stops_at_failure k writes.0 before after left honest writes.1 may)
 stops_at_events (Event.Copy from k s) before after left honest writes may = tt
-stops_at_events Event.Resynced before after left honest writes may = tt
-stops_at_events Event.Unresynced before after left honest writes may = tt
+stops_at_events Event.Resynced before after left honest writes may = in_memory before after left writes may
+stops_at_events Event.Unresynced before after left honest writes may = in_memory before after left writes may
 stops_at_events (Event.Remove k) before after left honest writes may = tt
 stops_at_events (Event.Add number new) before after left honest writes may = tt
 stops_at_events (Event.ReAdd own device new) before after left honest writes may = tt

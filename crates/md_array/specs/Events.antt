@@ -13,14 +13,15 @@ use Rattle.md_array.specs.View.{Disk, MemberView, MirrorView, PendingView}
 use Rattle.md_array.specs.Members.{IsMember}
 use Rattle.md_array.specs.Consistency.{IsConsistent}
 use Rattle.md_writes.specs.Writes.{Write}
+use Rattle.md_array.specs.CopyingData.{IsDone}
 use Rattle.md_array.specs.DiskWrites.{AtDevice, IsFailed, IsWritten}
 use Rattle.md_array.specs.ReadAsKept.{AreReadAsKept}
 use Rattle.md_array.specs.Recording.{super_write}
 use Rattle.md_array.specs.Requests.{AreInFlight, among, request_of}
 use Rattle.md_array.specs.Worlds.{AreHonest, world_of, geometry_of, super_in, block_on}
 
--- The devices before and after an event: one is written at most, and once. Of a resync's events, and of members that come and go,
--- no call is made yet.
+-- The devices before and after an event: one is written at most, and once. The sectors of one write of a resync are an event each.
+-- Of members that come and go no call is made yet.
 abbrev pub WritesOnce : Event → List Disk → List Disk → Type 0
 WritesOnce (Event.Record k) before after = (w : Write) × IsWritten k w before after
 WritesOnce (Event.StoreMarks k b) before after = (w : Write) × (length w.bytes ≡ 512) × IsWritten k w before after
@@ -28,10 +29,10 @@ WritesOnce (Event.WriteMember n k) before after = (w : Write) × IsWritten k w b
 WritesOnce (Event.RecordFails k) before after = (w : Write) × IsFailed k w before after
 WritesOnce (Event.StoreMarksFails k b) before after = (w : Write) × IsFailed k w before after
 WritesOnce (Event.WriteMemberFails n k) before after = (w : Write) × IsFailed k w before after
-WritesOnce (Event.CopyFails k c) before after = Unit {0}
-WritesOnce (Event.Copy from k s) before after = Unit {0}
-WritesOnce Event.Resynced before after = Unit {0}
-WritesOnce Event.Unresynced before after = Unit {0}
+WritesOnce (Event.CopyFails k c) before after = (w : Write) × IsFailed k w before after
+WritesOnce (Event.Copy from k s) before after = (w : Write) × (length w.bytes ≡ 512) × IsDone k w before after
+WritesOnce Event.Resynced before after = after ≡ before
+WritesOnce Event.Unresynced before after = after ≡ before
 WritesOnce (Event.Remove k) before after = Unit {0}
 WritesOnce (Event.Add number left) before after = Unit {0}
 WritesOnce (Event.ReAdd own device left) before after = Unit {0}

@@ -1,5 +1,5 @@
 -- Whole calls: the events that a call does, one after another (this project's own).
-use Rattle.std.specs.Prelude.{◌≡◌, ◌≢◌, ℕ, ◌<◌, ◌⊎◌, true, List, [], ◌∷◌, Option, Some, None}
+use Rattle.std.specs.Prelude.{◌≡◌, ◌≢◌, ℕ, ◌<◌, ◌⊎◌, true, false, List, [], ◌∷◌, Option, Some, None}
 use Rattle.md_model.specs.Sectors.{block_of}
 use Rattle.md_model.specs.Worlds.{Request}
 use Rattle.md_model.specs.Events.{Event}
@@ -13,6 +13,8 @@ use Rattle.md_array.specs.StoringMarks.{FailsToStoreMarks, HaltsStoringMarks, St
 use Rattle.md_array.specs.WritingMember.{FailsToWrite, HaltsWritingTo, IsNotDue, WritesTo}
 use Rattle.md_array.specs.Recording.{FailsToRecord, HaltsRecording, Records, super_write}
 use Rattle.md_array.specs.Requests.{request_of}
+use Rattle.md_array.specs.CopyingData.{CopiesSector, FailsToCopy, HaltsCopying}
+use Rattle.md_array.specs.MarkingResynced.{BecomesResynced, MarksResynced}
 use Rattle.md_array.specs.Events.{Does, IsOldNewOrNone}
 use Rattle.md_array.specs.Worlds.{AreHonest}
 
@@ -80,6 +82,10 @@ Did old before (Event.RecordFails k) new after = (after ≡ before) × FailsToRe
 Did old before (Event.StoreMarksFails k b) new after = (after ≡ before) × FailsToStoreMarks k b old new
 Did old before (Event.WriteMemberFails n k) new after =
     (p q : PendingView) × IsUnder n p before × IsUnder n q after × IsPut n (Some (request_of q)) before after × FailsToWrite k old new p q
+Did old before (Event.Copy from k s) new after = (after ≡ before) × CopiesSector from k s old new
+Did old before (Event.CopyFails k c) new after = (after ≡ before) × FailsToCopy k c old new
+Did old before Event.Resynced new after = (after ≡ before) × BecomesResynced old new
+Did old before Event.Unresynced new after = (after ≡ before) × MarksResynced false old new
 Did old before e new after = ⊥
 
 -- From this mirror, with these requests in flight, the events were done one after another, the first of them after this one, and
@@ -111,4 +117,5 @@ abbrev pub HaltsAt : MirrorView → Requests → Event → MirrorView → Type 0
 HaltsAt old before (Event.RecordFails k) new = HaltsRecording k old new
 HaltsAt old before (Event.StoreMarksFails k b) new = HaltsStoringMarks k b old new
 HaltsAt old before (Event.WriteMemberFails n k) new = (p q : PendingView) × IsUnder n p before × HaltsWritingTo k old new p q
+HaltsAt old before (Event.CopyFails k c) new = HaltsCopying k c old new
 HaltsAt old before e new = ⊥

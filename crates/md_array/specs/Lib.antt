@@ -30,7 +30,11 @@ pub mod HalfOpened
 pub mod Events
 pub mod Rests
 pub mod Runs
+pub mod ReadingData
+pub mod CopyingData
+pub mod MarkingResynced
 pub mod InTurn
+pub mod CopyEvents
 pub mod WholeCalls
 pub mod Lives
 pub mod Left

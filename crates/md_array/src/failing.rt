@@ -1,11 +1,13 @@
 // A write to a member fails.
 ghost use Rattle.std.specs.Prelude.{◌≡◌, ◌<◌, MatchBool, cond, length};
+ghost use Rattle.md_array.specs.CopyingData.{AnswersCopy};
 ghost use Rattle.md_array.specs.Failing.{AnswersStore, AnswersWrite, HasOtherInSync, IsLastInSync, MayFail};
 ghost use Rattle.md_array.specs.Members.{IsMember, is_degraded};
 ghost use Rattle.md_array.specs.Rising.{CannotFail, Fails, Halts, HasSpentEvents, failed, without};
 ghost use Rattle.md_array.specs.View.{MemberView};
 
 use crate::array::Array;
+use crate::copy_fault::CopyFault;
 use crate::marking::is_in_sync;
 use crate::member::Member;
 use crate::step_fault::{StoreFault, WriteMemberFault};
@@ -35,6 +37,18 @@ impl Array {
             WriteMemberFault::MemberFailed(k)
         } else {
             WriteMemberFault::Halted
+        }
+    }
+
+    /// The answer where copying sectors to member k failed, as `store_failed`.
+    pub(crate) fn copy_failed(&mut self, k: usize) -> CopyFault
+        requires { k < length self.old.members }
+        ensures { AnswersCopy k self.old self.new result }
+    {
+        if self.member_failed(k) {
+            CopyFault::MemberFailed(k)
+        } else {
+            CopyFault::Halted
         }
     }
 

@@ -78,8 +78,8 @@ impl Array {
     }
 }
 
-// Writes to the data area of device k, from this sector of the area on.
-fn put_on<D: Device>(
+/// Writes to the data area of device k, from this sector of the area on.
+pub(crate) fn put_on<D: Device>(
     devices: &mut [D],
     k: usize,
     data_offset: u64,
@@ -97,8 +97,8 @@ fn put_on<D: Device>(
     put(device, start, bytes)
 }
 
-// The sector of the device, at most its end, so that the sum fits.
-fn sector_on<D: Device>(device: &D, data_offset: u64, sector: u64) -> u64
+/// The sector of the device, at most its end, so that the sum fits.
+pub(crate) fn sector_on<D: Device>(device: &D, data_offset: u64, sector: u64) -> u64
     requires { 512 * (data_offset + sector) ≤ length (D.content device.now) }
     ensures { result ≡ data_offset + sector }
 {

@@ -1,0 +1,43 @@
+-- The array is known to be resynced, or no longer.
+use Rattle.std.specs.Prelude.{◌≡◌, ℕ, ◌+◌, ◌/◌, ◌<◌, Bool, true, false, List, [], slice_get, Some}
+use Rattle.md_bitmap.specs.Marks.{is_set}
+use Rattle.md_device.specs.Device.{held}
+use Rattle.md_array.specs.CopyingData.{Lists}
+use Rattle.md_array.specs.Members.{IsInSync}
+use Rattle.md_array.specs.View.{ArrayView, Disk, MemberView, MirrorView}
+
+-- a sector of a member's data
+abbrev pub sector_of : MemberView → Disk → ℕ → List ℕ
+sector_of m d s = held d.content (m.superblock.data_offset + s) 512
+
+-- a member in sync, with its device, which does what it answers
+pub record IsServed (v : MirrorView) (k : ℕ) (m : MemberView) (d : Disk) : Type 0 where
+  pub in_sync : IsInSync v.array k m
+  pub disk : slice_get v.disks k ≡ Some d
+  pub honest : d.honest ≡ true
+
+-- Any two members in sync hold the same in this sector, unless one of them lists it.
+abbrev pub AllAgreeAt : MirrorView → ℕ → Type 0
+AllAgreeAt v s =
+    (j k : ℕ) (m n : MemberView) (d e : Disk) → IsServed v j m d → IsServed v k n e
+    → (Lists m s → ⊥) → (Lists n s → ⊥) → sector_of m d s ≡ sector_of n e s
+
+-- so in each sector of a chunk that is marked
+abbrev pub AllAgreeWhereMarked : MirrorView → Type 0
+AllAgreeWhereMarked v =
+    (s : ℕ) → s < v.array.chunks.size → is_set v.array.marks.bytes (s / v.array.chunks.sectors) ≡ true → AllAgreeAt v s
+
+-- the mirror runs, and nothing is in flight
+pub record IsIdle (a : ArrayView) : Type 0 where
+  pub running : a.halted ≡ false
+  pub none : a.requests.entries ≡ []
+
+-- it is kept that the array is resynced, or that it is not; nothing else changes
+pub record MarksResynced (is : Bool) (old new : MirrorView) : Type 0 where
+  pub idle : IsIdle old.array
+  pub disks : new.disks ≡ old.disks
+  pub array : new.array ≡ record old.array { resynced = is }
+
+pub record BecomesResynced (old new : MirrorView) : Type 0 where
+  pub marks : MarksResynced true old new
+  pub agree : AllAgreeWhereMarked old

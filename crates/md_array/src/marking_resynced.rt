@@ -1,0 +1,49 @@
+// Keeping whether the array is resynced.
+ghost use Rattle.std.specs.Prelude.{◌≡◌, true, false};
+ghost use Rattle.md_model.specs.Events.{Event};
+ghost use Rattle.md_array.specs.Consistency.{IsConsistent};
+ghost use Rattle.md_array.specs.Events.{Happens};
+ghost use Rattle.md_array.specs.MarkingResynced.{AllAgreeWhereMarked, BecomesResynced, IsIdle, MarksResynced};
+ghost use Rattle.md_array.specs.Requests.{IsPending};
+ghost use Rattle.md_array.specs.View.{PendingView};
+
+use crate::array::Array;
+use crate::mirror::Mirror;
+use md_device::Device;
+
+impl<D: Device + Drop> Mirror<D> {
+    /// Keeps that the array is resynced: members in sync agree in the marked chunks, and in the others
+    /// they always do. It uses no device, and takes no memory.
+    pub fn mark_resynced(&mut self)
+        requires sound { IsConsistent self.old }
+        requires idle { IsIdle self.old.array }
+        requires agree { AllAgreeWhereMarked self.old }
+        ensures gives { BecomesResynced self.old self.new }
+        ensures event { Happens self.old Event.Resynced self.new }
+        ensures sound { IsConsistent self.new }
+        ensures pending { (p : PendingView) → IsPending self.old.array p → IsPending self.new.array p }
+    {
+        self.array.note_resynced(true);
+    }
+
+    /// Keeps that the array is not resynced, where copying sectors did not come to its end. It uses no
+    /// device, and takes no memory.
+    pub fn mark_unresynced(&mut self)
+        requires sound { IsConsistent self.old }
+        requires idle { IsIdle self.old.array }
+        ensures gives { MarksResynced false self.old self.new }
+        ensures event { Happens self.old Event.Unresynced self.new }
+        ensures sound { IsConsistent self.new }
+        ensures pending { (p : PendingView) → IsPending self.old.array p → IsPending self.new.array p }
+    {
+        self.array.note_resynced(false);
+    }
+}
+
+impl Array {
+    fn note_resynced(&mut self, is: bool)
+        ensures { self.new ≡ record self.old { resynced = is } }
+    {
+        self.resynced = is;
+    }
+}
