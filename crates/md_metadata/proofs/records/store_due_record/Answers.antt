@@ -2,10 +2,10 @@ use Rattle.std.proofs.Common.{◌≡◌, true}
 use Rattle.md_array.specs.View.{MemberView}
 use Rattle.md_array.specs.Members.{IsMember}
 use Rattle.md_array.specs.WritingMember.{IsNotDue}
-use Rattle.md_write.proofs.StoredMarks.{nothing_at, told}
-use Rattle.md_write.proofs.StoredRecords.{header_due, in_sync_due, recorded_or_stops, still_recorded}
-use Rattle.md_write.proofs.records.store_due_record.Goals as goal
-use Rattle.md_write.proofs.records.store_due_record.Goals.{then-not-is_in_sync-via-then-not-is_in_sync, then-not-is_in_sync-via-else-not-is_in_sync+then-not-due}
+use Rattle.md_metadata.proofs.StoredMembers.{nothing_at, told}
+use Rattle.md_metadata.proofs.StoredRecords.{header_due, in_sync_due, recorded_or_stops, still_recorded}
+use Rattle.md_metadata.proofs.records.store_due_record.Goals as goal
+use Rattle.md_metadata.proofs.records.store_due_record.Goals.{then-not-is_in_sync-via-then-not-is_in_sync, then-not-is_in_sync-via-else-not-is_in_sync+then-not-due}
 
 pub returns-then-not-is_in_sync : goal.returns-then-not-is_in_sync
 returns-then-not-is_in_sync g c =

@@ -1,8 +1,8 @@
 use Rattle.std.proofs.Common.{◌∙◌, arith}
 use Rattle.md_array.specs.WritingMember.{IsNotDue}
-use Rattle.md_write.proofs.Going.{stops_on}
-use Rattle.md_write.proofs.StoredMarks.{below_all, below_more, below_none, records_last}
-use Rattle.md_write.proofs.records.store_records.Goals as goal
+use Rattle.md_metadata.proofs.Going.{stops_on}
+use Rattle.md_metadata.proofs.StoredMembers.{below_all, below_more, below_none, records_last}
+use Rattle.md_metadata.proofs.records.store_records.Goals as goal
 
 pub loop-k-init : goal.loop-k-init
 loop-k-init g c = below_none IsNotDue c.args.mirror.now c.requires.sound
@@ -23,7 +23,7 @@ pub store_due_record-requires-clause-earlier : goal.store_due_record-requires-cl
 store_due_record-requires-clause-earlier g c = c.loop-k.invariant.done
 
 pub returns-in-Err : goal.returns-in-Err
-returns-in-Err g c = stops_on c.args.mirror.now c.loop-k.mirror c.store_due_record.new.mirror c.in-Err.stop c.loop-k.invariant.stores c.in-Err.ensures
+returns-in-Err g c = stops_on c.args.mirror.now c.loop-k.mirror c.store_due_record.new.mirror c.in-Err.fault c.loop-k.invariant.stores c.in-Err.ensures
 
 pub loop-k-preserved : goal.loop-k-preserved
 loop-k-preserved g c =

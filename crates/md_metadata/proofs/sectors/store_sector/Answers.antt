@@ -2,8 +2,8 @@ use Rattle.std.proofs.Common.{subst}
 use Rattle.md_model.specs.Events.{Event}
 use Rattle.md_array.specs.Events.{Happens, IfStoringFailed}
 use Rattle.md_array.specs.StoringMarks.{RefusesMarkSector}
-use Rattle.md_write.proofs.Steps.{sector_fails, sector_halts, sector_refused, sector_stored}
-use Rattle.md_write.proofs.sectors.store_sector.Goals as goal
+use Rattle.md_metadata.proofs.Steps.{sector_fails, sector_halts, sector_refused, sector_stored}
+use Rattle.md_metadata.proofs.sectors.store_sector.Goals as goal
 
 pub returns-in-Ok : goal.returns-in-Ok
 returns-in-Ok g c = let e = c.in-Ok.ensures in sector_stored c.args.mirror.now c.store_marks.new.self c.args.k c.args.block e.sound e.pending e.gives e.event
@@ -13,7 +13,7 @@ returns-in-Err-MemberFailed g c =
     let at = c.in-Err-MemberFailed in
     let old = c.args.mirror.now in
     let new = c.store_marks.new.self in
-    sector_fails old new c.args.k c.args.block at.ensures.sound at.ensures.pending c.requires.due at.field-0-0
+    sector_fails old new c.args.k c.args.block at.ensures.sound at.ensures.pending c.requires.due at.j
     (subst (RefusesMarkSector c.args.k c.args.block old new) at.field-0-is at.ensures.gives)
     (subst (IfStoringFailed (Happens old (Event.StoreMarksFails c.args.k c.args.block) new)) at.field-0-is at.ensures.event)
 

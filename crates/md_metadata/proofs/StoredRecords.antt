@@ -1,5 +1,5 @@
 -- Records are stored in their turn.
-use Rattle.std.proofs.Common.{◌+◌, ◌≤◌, length, ◌≡◌, ℕ, ◌<◌, true, slice_get, Option, Some, refl, subst, ap, ◌∙◌, arith, inr}
+use Rattle.std.proofs.Common.{◌+◌, ◌≤◌, length, ◌≡◌, ℕ, ◌<◌, true, slice_get, Option, Some, refl, sym, subst, ap, ◌∙◌, arith, inr}
 use Rattle.std.proofs.lemmas.Option.{slice_get_within}
 use Rattle.std.specs.Prelude.{Result, Ok, Err, MatchResult}
 use Rattle.md_model.specs.Events.{Event}
@@ -11,11 +11,12 @@ use Rattle.md_array.specs.Consistency.{IsConsistent}
 use Rattle.md_array.specs.InTurn.{IsRecordDue, IsSectorDue}
 use Rattle.md_array.specs.WritingMember.{IsNotDue}
 use Rattle.md_array.proofs.WorldsLists.{at_set_same}
-use Rattle.md_write.specs.declared.stop.Stop.{Stop}
-use Rattle.md_write.specs.declared.stop.Stop.TheVariants.{Failed, Halted}
-use Rattle.md_write.specs.Progress.{alone, IsStoring, IsRecorded, RecordsAll, RecordsAt, RecordsBelow, RecordsOn, StaysReady, StoresAt, StoresOn, StopsRecording, StopsStoring}
-use Rattle.md_write.proofs.Going.{goes_step, goes_two, halts_on, ready_on, stores_nowhere, stores_on, was_in_sync}
-use Rattle.md_write.proofs.Steps.{now_at, recorded_in_sync}
+use Rattle.md_metadata.specs.declared.fault.PartFault.{PartFault}
+use Rattle.md_metadata.specs.declared.fault.PartFault.TheVariants.{Halted, MemberFailed}
+use Rattle.md_metadata.specs.Going.{IsFaulty, alone}
+use Rattle.md_metadata.specs.Storing.{IsRecorded, IsStoring, RecordsAll, RecordsAt, RecordsBelow, RecordsOn, StaysReady, StoresAt, StoresOn, StopsRecording, StopsStoring}
+use Rattle.md_metadata.proofs.Going.{goes_step, goes_two, halts_on, ready_on, stores_nowhere, stores_on, was_in_sync}
+use Rattle.md_metadata.proofs.Steps.{now_at, recorded_in_sync}
 
 -- the first sector comes before a record that is due
 pub header_due : (a : ArrayView) (k : ℕ) → ((m : MemberView) → IsMember a k m → m.due ≡ true) → IsSectorDue a k 0
@@ -59,18 +60,21 @@ module _ (k : ℕ) (old mid : MirrorView) (s : StoresOn k 0 old mid) where
       done = λ m in_sync. r.done m in_sync.member;
     }
 
-    stops_after : (stop : Stop) → StopsRecording k mid new stop → StopsStoring old new stop
-    stops_after Failed l = record {
-      goes = goes_two alone alone alone IsStoring old mid new (Event.StoreMarks k 0) (Event.RecordFails k) s.step (λ previous. first) l.step second;
-      lost = let x = s.step.array.fewer in let y = l.lost in omega arith;
-      halted = l.halted ∙ s.ready.halted;
+    stops_after : (fault : PartFault) → StopsRecording k mid new fault → StopsStoring old new fault
+    stops_after (MemberFailed j) (at, l) = record {
+      loses = record {
+        goes = goes_two alone alone alone IsStoring old mid new (Event.StoreMarks k 0) (Event.RecordFails k) s.step (λ previous. first) l.step second;
+        lost = let x = s.step.array.fewer in let y = l.lost in omega arith;
+        halted = l.halted ∙ s.ready.halted;
+      };
+      faulty = subst (λ (i : ℕ). IsFaulty i new.array) (sym at) l.faulty;
     }
     stops_after Halted h = halts_on alone alone alone IsStoring old mid new (goes_step alone alone IsStoring (Event.StoreMarks k 0) old mid s.step (λ previous. first)) h
 
-    pub recorded_or_stops : {T : Type 0} (result : Result T Stop) → MatchResult result (λ _. RecordsOn k mid new) (StopsRecording k mid new)
+    pub recorded_or_stops : {T : Type 0} (result : Result T PartFault) → MatchResult result (λ _. RecordsOn k mid new) (StopsRecording k mid new)
         → MatchResult result (λ _. StoresAt k IsNotDue old new) (StopsStoring old new)
     recorded_or_stops (Ok t) r = recorded_after r
-    recorded_or_stops (Err stop) r = stops_after stop r
+    recorded_or_stops (Err fault) r = stops_after fault r
 
 -- ---- of a member that is not in sync
 module _ (k : ℕ) (old new : MirrorView) where
@@ -79,17 +83,20 @@ module _ (k : ℕ) (old new : MirrorView) where
   other_due out due recorded previous = record { due = due; header = λ m in_sync. absurd (out m in_sync); first = λ j m in_sync before. recorded j m in_sync }
 
   module _ (order : (previous : Option Event) → IsRecordDue previous old.array k) where
-    other_stops : (stop : Stop) → StopsRecording k old new stop → StopsStoring old new stop
-    other_stops Failed l = record { goes = goes_step alone alone IsStoring (Event.RecordFails k) old new l.step order; lost = l.lost; halted = l.halted }
+    other_stops : (fault : PartFault) → StopsRecording k old new fault → StopsStoring old new fault
+    other_stops (MemberFailed j) (at, l) = record {
+      loses = record { goes = goes_step alone alone IsStoring (Event.RecordFails k) old new l.step order; lost = l.lost; halted = l.halted };
+      faulty = subst (λ (i : ℕ). IsFaulty i new.array) (sym at) l.faulty;
+    }
     other_stops Halted h = h
 
-    pub other_or_stops : {T : Type 0} (result : Result T Stop) → MatchResult result (λ _. RecordsOn k old new) (StopsRecording k old new)
+    pub other_or_stops : {T : Type 0} (result : Result T PartFault) → MatchResult result (λ _. RecordsOn k old new) (StopsRecording k old new)
         → MatchResult result (λ _. RecordsAt k old new) (StopsStoring old new)
     other_or_stops (Ok t) r = record {
       stores = record { goes = goes_step alone alone IsStoring (Event.Record k) old new r.step order; ready = r.ready };
       done = λ m at active. r.done m at;
     }
-    other_or_stops (Err stop) r = other_stops stop r
+    other_or_stops (Err fault) r = other_stops fault r
 
 -- ---- the members, one after another
 -- a member that is in sync, that is not kept up to date, or whose record is not due

@@ -5,16 +5,17 @@ ghost use Rattle.md_array.specs.Consistency.{IsConsistent};
 ghost use Rattle.md_array.specs.Members.{AllInSync, IsInSync, IsMember, is_recorded};
 ghost use Rattle.md_array.specs.View.{MemberView};
 ghost use Rattle.md_array.specs.WritingMember.{IsNotDue};
-ghost use Rattle.md_write.specs.Progress.{RecordsAll, RecordsAt, RecordsOn, StoresAll, StoresAt, StopsRecording, StopsStoring};
+ghost use Rattle.md_metadata.specs.Storing.{RecordsAll, RecordsAt, RecordsOn, StoresAll, StoresAt, StopsRecording, StopsStoring};
 
+use crate::fault::PartFault;
 use crate::sectors::store_sector;
-use crate::stop::Stop;
 use md_array::{Mirror, StoreFault};
 use md_assembly::MemberState;
 use md_device::Device;
 
-// Stores the superblock of member k, which is kept up to date.
-fn store_record<D: Device + Drop>(mirror: &mut Mirror<D>, k: usize) -> Result<(), Stop>
+/// Stores the superblock of member k, which is kept up to date. Of a member in sync the first sector of its
+/// bitmap is to be stored right before. Takes no memory.
+pub fn store_record<D: Device + Drop>(mirror: &mut Mirror<D>, k: usize) -> Result<(), PartFault>
     requires within { k < length mirror.old.array.members }
     requires sound { IsConsistent mirror.old }
     requires running { mirror.old.array.halted ≡ false }
@@ -23,14 +24,14 @@ fn store_record<D: Device + Drop>(mirror: &mut Mirror<D>, k: usize) -> Result<()
 {
     match mirror.record(k) {
         Ok(()) => Ok(()),
-        Err(StoreFault::MemberFailed(_)) => Err(Stop::Failed),
-        Err(StoreFault::Halted) => Err(Stop::Halted),
-        Err(StoreFault::NotActive) => Err(Stop::Halted),
+        Err(StoreFault::MemberFailed(j)) => Err(PartFault::MemberFailed(j)),
+        Err(StoreFault::Halted) => Err(PartFault::Halted),
+        Err(StoreFault::NotActive) => Err(PartFault::Halted),
     }
 }
 
 // Stores the superblock of member k, if it is in sync and its record is due, and right before it the first sector of its bitmap.
-fn store_due_record<D: Device + Drop>(mirror: &mut Mirror<D>, k: usize) -> Result<(), Stop>
+fn store_due_record<D: Device + Drop>(mirror: &mut Mirror<D>, k: usize) -> Result<(), PartFault>
     requires within { k < length mirror.old.array.members }
     requires sound { IsConsistent mirror.old }
     requires running { mirror.old.array.halted ≡ false }
@@ -40,14 +41,14 @@ fn store_due_record<D: Device + Drop>(mirror: &mut Mirror<D>, k: usize) -> Resul
     if !mirror.state(k).is_in_sync() || !mirror.due(k) {
         return Ok(());
     }
-    if let Err(stop) = store_sector(mirror, k, 0) {
-        return Err(stop);
+    if let Err(fault) = store_sector(mirror, k, 0) {
+        return Err(fault);
     }
     store_record(mirror, k)
 }
 
 // Stores the superblock of member k, if it is kept up to date but not in sync, and its record is due.
-fn store_other_record<D: Device + Drop>(mirror: &mut Mirror<D>, k: usize) -> Result<(), Stop>
+fn store_other_record<D: Device + Drop>(mirror: &mut Mirror<D>, k: usize) -> Result<(), PartFault>
     requires within { k < length mirror.old.array.members }
     requires sound { IsConsistent mirror.old }
     requires running { mirror.old.array.halted ≡ false }
@@ -61,30 +62,32 @@ fn store_other_record<D: Device + Drop>(mirror: &mut Mirror<D>, k: usize) -> Res
     store_record(mirror, k)
 }
 
-/// Stores the superblock of each member in sync of which it is due.
-pub(crate) fn store_records<D: Device + Drop>(mirror: &mut Mirror<D>) -> Result<(), Stop>
+/// Stores the superblock of each member in sync of which it is due, by index, and right before it the first
+/// sector of its bitmap. Takes no memory.
+pub fn store_records<D: Device + Drop>(mirror: &mut Mirror<D>) -> Result<(), PartFault>
     requires sound { IsConsistent mirror.old }
     requires running { mirror.old.array.halted ≡ false }
     ensures { MatchResult result (λ _. StoresAll IsNotDue mirror.old mirror.new) (StopsStoring mirror.old mirror.new) }
 {
     for k in 0..mirror.members() {
-        if let Err(stop) = store_due_record(mirror, k) {
-            return Err(stop);
+        if let Err(fault) = store_due_record(mirror, k) {
+            return Err(fault);
         }
     }
     Ok(())
 }
 
-/// Stores the superblock of each spare and of each recovering member of which it is due.
-pub(crate) fn store_other_records<D: Device + Drop>(mirror: &mut Mirror<D>) -> Result<(), Stop>
+/// Stores the superblock of each spare and of each recovering member of which it is due, by index, once those
+/// of the members in sync are stored. Takes no memory.
+pub fn store_other_records<D: Device + Drop>(mirror: &mut Mirror<D>) -> Result<(), PartFault>
     requires sound { IsConsistent mirror.old }
     requires running { mirror.old.array.halted ≡ false }
     requires recorded { AllInSync mirror.old.array IsNotDue }
     ensures { MatchResult result (λ _. RecordsAll mirror.old mirror.new) (StopsStoring mirror.old mirror.new) }
 {
     for k in 0..mirror.members() {
-        if let Err(stop) = store_other_record(mirror, k) {
-            return Err(stop);
+        if let Err(fault) = store_other_record(mirror, k) {
+            return Err(fault);
         }
     }
     Ok(())

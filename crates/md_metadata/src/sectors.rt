@@ -6,18 +6,19 @@ ghost use Rattle.md_array.specs.Consistency.{IsConsistent};
 ghost use Rattle.md_array.specs.InTurn.{IsSectorDue};
 ghost use Rattle.md_array.specs.Members.{IsMember};
 ghost use Rattle.md_array.specs.View.{MemberView};
-ghost use Rattle.md_write.specs.Progress.{StoresOn, StopsStoring};
+ghost use Rattle.md_metadata.specs.Storing.{StoresOn, StopsStoring};
 
-use crate::stop::Stop;
+use crate::fault::PartFault;
 use md_array::{Mirror, StoreFault};
 use md_device::Device;
 
-/// Stores a sector of the bitmap of member k, which is in sync.
-pub(crate) fn store_sector<D: Device + Drop>(
+/// Stores a sector of the bitmap of member k, which is in sync. Some mark of it has to be stored, or it is
+/// the first one, and the member's superblock comes next. Takes no memory.
+pub fn store_sector<D: Device + Drop>(
     mirror: &mut Mirror<D>,
     k: usize,
     block: u32,
-) -> Result<(), Stop>
+) -> Result<(), PartFault>
     requires within { k < length mirror.old.array.members }
     requires block { block < bitmap_sectors mirror.old.array.marks.chunks }
     requires sound { IsConsistent mirror.old }
@@ -28,8 +29,8 @@ pub(crate) fn store_sector<D: Device + Drop>(
 {
     match mirror.store_marks(k, block) {
         Ok(()) => Ok(()),
-        Err(StoreFault::MemberFailed(_)) => Err(Stop::Failed),
-        Err(StoreFault::Halted) => Err(Stop::Halted),
-        Err(StoreFault::NotActive) => Err(Stop::Halted),
+        Err(StoreFault::MemberFailed(j)) => Err(PartFault::MemberFailed(j)),
+        Err(StoreFault::Halted) => Err(PartFault::Halted),
+        Err(StoreFault::NotActive) => Err(PartFault::Halted),
     }
 }

@@ -2,7 +2,7 @@
 use Rattle.std.proofs.Common.{◌≡◌, ℕ, ◌<◌, ◌≤◌, Bool, true, false, cond, eqb, nat_lt, ◌&&◌, length, map, set, slice_get, count_by, Option, Some, refl, sym, ap, ◌∙◌, subst, arith, inl, inr, length-set}
 use Rattle.std.specs.Prelude.{option_map}
 use Rattle.std.proofs.lemmas.List.{length-map}
-use Rattle.std.proofs.lemmas.Option.{same_Some, slice_get-map}
+use Rattle.std.proofs.lemmas.Option.{same_Some, slice_get-map, slice_get_within}
 use Rattle.md_model.specs.Events.{Event}
 use Rattle.md_model.specs.Sectors.{block_of}
 use Rattle.md_bitmap.specs.Marks.{is_set}
@@ -23,9 +23,12 @@ use Rattle.md_array.specs.Trying.{RefusesHalted}
 use Rattle.md_array.specs.Worlds.{AreHonest}
 use Rattle.md_array.specs.WritingMember.{IsNotDue}
 use Rattle.md_array.proofs.Replaced.{of_set}
-use Rattle.md_write.specs.Progress.{alone, AllStayReady, HaltsAfter, IsSameArray, IsStoring, LosesMember, LosesRecording, RecordsOn, StepsBy, StoresOn, recorded_count}
-use Rattle.md_write.proofs.Counts.{count_map, set_alike, set_fewer}
-use Rattle.md_write.proofs.Going.{goes_nowhere, goes_step}
+use Rattle.md_array.proofs.WorldsLists.{at_set_same}
+use Rattle.md_metadata.specs.declared.fault.PartFault.TheVariants as part
+use Rattle.md_metadata.specs.Going.{HaltsAfter, IsFaulty, IsSameArray, LosesMember, StepsBy, alone, recorded_count}
+use Rattle.md_metadata.specs.Storing.{AllStayReady, IsStoring, LosesStoring, RecordsOn, StopsRecording, StoresOn}
+use Rattle.md_metadata.proofs.Counts.{count_map, set_alike, set_fewer}
+use Rattle.md_metadata.proofs.Going.{goes_nowhere, goes_step}
 
 -- ---- a member is changed
 module _ (a b : ArrayView) (k : ℕ) (m n : MemberView) (at : IsMember a k m) (state : n.state ≡ m.state) (is : b ≡ record a { members = set a.members k n }) where
@@ -40,7 +43,7 @@ module _ (a b : ArrayView) (k : ℕ) (m n : MemberView) (at : IsMember a k m) (s
         (set_alike (λ (x : MemberView). is_recorded x.state) a.members k m n at (ap is_recorded state));
   }
 
-  pub stay_ready : ((c : ℕ) → is_set a.marks.bytes c ≡ true → is_set m.stored.bytes c ≡ true → is_set n.stored.bytes c ≡ true) → (IsNotDue m → IsNotDue n) → AllStayReady a b
+  pub stay_ready : ((c : ℕ) → is_set m.stored.bytes c ≡ is_set a.marks.bytes c → is_set n.stored.bytes c ≡ is_set a.marks.bytes c) → (IsNotDue m → IsNotDue n) → AllStayReady a b
   stay_ready marks due = record {
     each = λ j x there.
         of_set a.members k j n x (ap (λ (y : ArrayView). slice_get y.members j) (sym is) ∙ there)
@@ -48,10 +51,10 @@ module _ (a b : ArrayView) (k : ℕ) (m n : MemberView) (at : IsMember a k m) (s
           before = m;
           member = ap (slice_get a.members) same ∙ at;
           state = sym state ∙ ap (λ (y : MemberView). y.state) (sym it);
-          marked = λ c set was. ap (λ (y : MemberView). is_set y.stored.bytes c) it ∙ marks c set was;
+          marked = λ c was. ap (λ (y : MemberView). is_set y.stored.bytes c) it ∙ marks c was;
           recorded = λ not_due. ap (λ (y : MemberView). y.due) it ∙ due not_due;
         })
-        (λ apart other. record { before = x; member = other; state = refl; marked = λ c set was. was; recorded = λ not_due. not_due });
+        (λ apart other. record { before = x; member = other; state = refl; marked = λ c was. was; recorded = λ not_due. not_due });
     halted = ap (λ (x : ArrayView). x.halted) is;
   }
 
@@ -90,6 +93,16 @@ module _ (a b : ArrayView) (k : ℕ) (f : Fails k a b) (in_use : is_recorded f.m
   pub halted_after : b.halted ≡ a.halted
   halted_after = ap (λ (x : ArrayView). x.halted) f.array
 
+  pub faulty_after : IsFaulty k b
+  faulty_after =
+      let low = slice_get_within a.members k f.member f.at in
+      let many = length-map a.members made_due in
+      record {
+        member = made_faulty f.member;
+        at = ap (λ (xs : _). slice_get xs k) members_are ∙ at_set_same (map made_due a.members) k (made_faulty f.member) (omega arith);
+        faulty = refl;
+      }
+
 pub recorded_in_sync : (s : MemberState) → is_in_sync s ≡ true → is_recorded s ≡ true
 recorded_in_sync (InSync role) e = refl
 recorded_in_sync (Recovering role) e = absurd cc
@@ -120,9 +133,9 @@ failure_loses F G IsOf e old new k f in_use step order = record {
 }
 
 -- ---- a sector of a bitmap
-either : (b x y : Bool) → x ≡ true → y ≡ true → cond b x y ≡ true
-either true x y e f = e
-either false x y e f = f
+either : (b x y : Bool) → y ≡ x → cond b x y ≡ x
+either true x y e = refl
+either false x y e = e
 
 module _ (old new : MirrorView) (k block : ℕ) (sound : IsConsistent new) (pending : (o : PendingView) → IsPending old.array o → IsPending new.array o) where
   pub sector_stored : StoresMarkSector k block old new → Happens old (Event.StoreMarks k block) new → StoresOn k block old new
@@ -138,7 +151,7 @@ module _ (old new : MirrorView) (k block : ℕ) (sound : IsConsistent new) (pend
           pending = pending;
         };
         ready = stay_ready old.array new.array k r.member n r.may.in_sync.member refl r.array
-            (λ c set was. r.has_stored.bits c ∙ either (eqb (block_of c) block && nat_lt c r.member.stored.chunks) _ _ set was) (λ x. x);
+            (λ c was. r.has_stored.bits c ∙ either (eqb (block_of c) block && nat_lt c r.member.stored.chunks) _ _ was) (λ x. x);
         gives = r;
       }
 
@@ -146,12 +159,15 @@ module _ (old new : MirrorView) (k block : ℕ) (sound : IsConsistent new) (pend
   sector_in_use f = in_use_there old.array k f.member f.fails.array.member f.fails.array.at f.may.in_sync.member (recorded_in_sync f.member.state f.may.in_sync.in_sync)
 
   pub sector_fails : IsSectorDue old.array k block → (j : ℕ) → RefusesMarkSector k block old new (MemberFailed j) → Happens old (Event.StoreMarksFails k block) new
-      → LosesMember alone alone IsStoring old new
+      → LosesStoring j old new
   sector_fails due j r happens =
       let f = r.1 in
-      failure_loses alone alone IsStoring (Event.StoreMarksFails k block) old new k f.fails.array (sector_in_use f)
-      (failure_step alone alone IsStoring (Event.StoreMarksFails k block) old new k f.fails.array (sector_in_use f) tt (λ others. (refl, f))
-      (λ honest whole others in_flight. happens honest others in_flight) sound pending) (λ previous. due)
+      record {
+        loses = failure_loses alone alone IsStoring (Event.StoreMarksFails k block) old new k f.fails.array (sector_in_use f)
+            (failure_step alone alone IsStoring (Event.StoreMarksFails k block) old new k f.fails.array (sector_in_use f) tt (λ others. (refl, f))
+            (λ honest whole others in_flight. happens honest others in_flight) sound pending) (λ previous. due);
+        faulty = subst (λ (i : ℕ). IsFaulty i new.array) (sym r.0) (faulty_after old.array new.array k f.fails.array (sector_in_use f));
+      }
 
   pub sector_halts : old.array.halted ≡ false → IsConsistent old → RefusesMarkSector k block old new Halted → HaltsAfter alone alone IsStoring old new
   sector_halts run before (inl r) = never_halted old new run r
@@ -182,22 +198,25 @@ module _ (old new : MirrorView) (k : ℕ) (sound : IsConsistent new) (pending : 
           sound = sound;
           pending = pending;
         };
-        ready = stay_ready old.array new.array k r.member n r.may.at refl r.array (λ c set was. was) (λ x. refl);
+        ready = stay_ready old.array new.array k r.member n r.may.at refl r.array (λ c was. was) (λ x. refl);
         done = λ m there. ap (λ (y : MemberView). y.due) (now_at old.array new.array k r.member n r.may.at refl r.array m there);
       }
 
   record_in_use : (f : FailsToRecord k old new) → is_recorded f.fails.array.member.state ≡ true
   record_in_use f = in_use_there old.array k f.member f.fails.array.member f.fails.array.at f.may.at f.may.active
 
-  pub record_fails : (j : ℕ) → RefusesRecord k old new (MemberFailed j) → HappensIfOldNewOrNone k old new → LosesRecording k old new
+  pub record_fails : (j : ℕ) → RefusesRecord k old new (MemberFailed j) → HappensIfOldNewOrNone k old new → StopsRecording k old new (part.MemberFailed j)
   record_fails j r happens =
-      let f = r.1 in
-      record {
-        step = failure_step alone alone IsStoring (Event.RecordFails k) old new k f.fails.array (record_in_use f) tt (λ others. (refl, f))
-            (λ honest whole others in_flight. happens f.member f.may.at (whole f.member f.may.at) honest others in_flight) sound pending;
-        lost = fewer_after old.array new.array k f.fails.array (record_in_use f);
-        halted = halted_after old.array new.array k f.fails.array (record_in_use f);
-      }
+      let f = r.1 in (
+        r.0,
+        record {
+          step = failure_step alone alone IsStoring (Event.RecordFails k) old new k f.fails.array (record_in_use f) tt (λ others. (refl, f))
+              (λ honest whole others in_flight. happens f.member f.may.at (whole f.member f.may.at) honest others in_flight) sound pending;
+          lost = fewer_after old.array new.array k f.fails.array (record_in_use f);
+          halted = halted_after old.array new.array k f.fails.array (record_in_use f);
+          faulty = faulty_after old.array new.array k f.fails.array (record_in_use f);
+        },
+      )
 
   pub record_halts : old.array.halted ≡ false → IsConsistent old → RefusesRecord k old new Halted → HaltsAfter alone alone IsStoring old new
   record_halts run before (inl r) = never_halted old new run r

@@ -5,16 +5,16 @@ use Rattle.md_bitmap.specs.Marks.{Bitmap, is_set}
 use Rattle.md_inflight.specs.Inflight.{InflightList, lookup}
 use Rattle.md_array.specs.declared.extent.Extent.{Extent}
 use Rattle.md_assembly.specs.States.{is_in_sync}
-use Rattle.md_array.specs.View.{ArrayView, MemberView, MirrorView, PendingView}
+use Rattle.md_array.specs.View.{ArrayView, MemberView, MirrorView}
 use Rattle.md_array.specs.Members.{IsInSync}
 use Rattle.md_array.specs.Consistency.{IsConsistent}
 use Rattle.md_array.specs.InTurn.{InTurn, IsInOrder, Requests}
-use Rattle.md_array.specs.Requests.{AreInFlight, IsPending, among}
-use Rattle.md_array.proofs.InFlight.{among_in_flight}
-use Rattle.md_array.proofs.Turns.{all_on, all_such, turn_on, turn_then}
-use Rattle.md_write.specs.declared.stop.Stop.{Stop}
-use Rattle.md_write.specs.declared.stop.Stop.TheVariants.{Failed, Halted}
-use Rattle.md_write.specs.Progress.{alone, AllStayReady, GoesOn, HaltsAfter, IsLater, IsOfRequest, IsSameArray, IsStoring, LosesMember, StaysReady, StepsBy, Stores, StopsStoring}
+use Rattle.md_array.specs.Requests.{AreInFlight}
+use Rattle.md_array.proofs.Turns.{all_on, turn_on, turn_then}
+use Rattle.md_metadata.specs.declared.fault.PartFault.{PartFault}
+use Rattle.md_metadata.specs.declared.fault.PartFault.TheVariants.{Halted, MemberFailed}
+use Rattle.md_metadata.specs.Going.{GoesOn, HaltsAfter, IsSameArray, LosesMember, StepsBy, alone}
+use Rattle.md_metadata.specs.Storing.{AllStayReady, IsStoring, StaysReady, Stores, StopsStoring}
 
 pub same_refl : (a : ArrayView) → IsSameArray a a
 same_refl a = record { chunks = refl; marks = refl; as_many = refl; requests = refl; resynced = refl; fewer = omega arith }
@@ -117,7 +117,7 @@ halts_on F G H IsOf old mid new g h = record {
 -- ---- marks and records
 pub ready_refl : (a : ArrayView) → AllStayReady a a
 ready_refl a = record {
-  each = λ k n at. record { before = n; member = at; state = refl; marked = λ c set was. was; recorded = λ x. x };
+  each = λ k n at. record { before = n; member = at; state = refl; marked = λ c was. was; recorded = λ x. x };
   halted = refl;
 }
 
@@ -126,11 +126,12 @@ ready_on a b c same g h = record {
   each = λ k n at.
       let late : StaysReady b c k n = h.each k n at in
       let early : StaysReady a b k late.before = g.each k late.before late.member in
+      let bit : (x : ℕ) → is_set b.marks.bytes x ≡ is_set a.marks.bytes x = λ x. ap (λ (m : Bitmap). is_set m.bytes x) same in
       record {
         before = early.before;
         member = early.member;
         state = early.state ∙ late.state;
-        marked = λ x set was. late.marked x (ap (λ (m : Bitmap). is_set m.bytes x) same ∙ set) (early.marked x set was);
+        marked = λ x was. late.marked x (early.marked x was ∙ sym (bit x)) ∙ bit x;
         recorded = λ x. late.recorded (early.recorded x);
       };
   halted = h.halted ∙ g.halted;
@@ -150,42 +151,6 @@ module _ (old mid new : MirrorView) where
     ready = ready_on old.array mid.array new.array g.goes.array.marks g.ready h.ready;
   }
 
-  pub stops_on : (s : Stop) → Stores old mid → StopsStoring mid new s → StopsStoring old new s
-  stops_on Failed g h = loses_on alone alone alone IsStoring old mid new g.goes g.ready.halted h
+  pub stops_on : (fault : PartFault) → Stores old mid → StopsStoring mid new fault → StopsStoring old new fault
   stops_on Halted g h = halts_on alone alone alone IsStoring old mid new g.goes h
-
--- ---- beside a request
-storing_of : (n : ℕ) (e : Event) → IsStoring e → IsOfRequest n e
-storing_of n (Event.Record k) s = tt
-storing_of n (Event.StoreMarks k b) s = tt
-storing_of n (Event.RecordFails k) s = tt
-storing_of n (Event.StoreMarksFails k b) s = tt
-storing_of n e s = absurd s
-
-module _ (p : PendingView) (old new : MirrorView) (is : IsPending old.array p) where
-  pub goes_beside : GoesOn alone alone IsStoring old new → GoesOn (among p) (among p) (IsOfRequest p.ticket.number) old new
-  goes_beside g = record {
-    events = g.events;
-    steps = all_such IsStoring (IsOfRequest p.ticket.number) (storing_of p.ticket.number) g.events g.steps;
-    leads = λ previous others in_flight. g.leads previous (among p others) (among_in_flight old.array p is others in_flight);
-    array = g.array;
-    sound = g.sound;
-    pending = g.pending;
-  }
-
-pub halts_beside : (p : PendingView) (old new : MirrorView) → IsPending old.array p → HaltsAfter alone alone IsStoring old new → HaltsAfter (among p) (among p) (IsOfRequest p.ticket.number) old new
-halts_beside p old new is h = record {
-  mid = h.mid;
-  goes = goes_beside p old h.mid is h.goes;
-  failing = h.failing;
-  of = storing_of p.ticket.number h.failing h.of;
-  halts = λ others. h.halts (among p others);
-  sound = h.sound;
-  pending = h.pending;
-}
-
-pub later_refl : (p : PendingView) → IsLater p p
-later_refl p = record { request = refl; more = λ d x. x }
-
-pub later_on : (p q r : PendingView) → IsLater p q → IsLater q r → IsLater p r
-later_on p q r g h = record { request = h.request ∙ ap (λ (x : PendingView). record x { written = r.written }) g.request; more = λ d x. h.more d (g.more d x) }
+  stops_on (MemberFailed k) g h = record { loses = loses_on alone alone alone IsStoring old mid new g.goes g.ready.halted h.loses; faulty = h.faulty }
