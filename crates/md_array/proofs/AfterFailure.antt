@@ -2,10 +2,10 @@
 use Rattle.std.proofs.Common.{◌≡◌, ◌≢◌, ℕ, ◌/◌, ◌≤◌, Bool, true, false, not, true≢false, List, map, slice_get, count_by, Some, refl, sym, ap, ◌∙◌, subst, arith, length-set}
 use Rattle.std.proofs.lemmas.Option.{slice_get_within}
 use Rattle.md_model.proofs.Puts.{by_same}
-use Rattle.md_assembly.specs.States.{takes_role}
+use Rattle.md_assembly.specs.States.{is_in_sync, takes_role}
 use Rattle.md_writes.specs.Writes.{Write}
 use Rattle.md_array.specs.View.{ArrayView, Disk, MemberView, MirrorView, PendingView}
-use Rattle.md_array.specs.Members.{IsInSync, IsMember, is_degraded, is_recorded}
+use Rattle.md_array.specs.Members.{IsInSync, IsMember, is_degraded}
 use Rattle.md_array.specs.Fits.{Fits, FitsMember}
 use Rattle.md_array.specs.Consistency.{HasChunks, HasRoles, HaveSupers, IsConsistent}
 use Rattle.md_array.specs.DiskWrites.{IsTried}
@@ -94,9 +94,9 @@ module _ (a : ArrayView) (k : ℕ) (m : MemberView) (at : IsMember a k m) where
   }
 
   supers_without : (w : Write) (before after : List Disk) → IsTried k w before after → HaveSupers (record { disks = before; array = a }) → HaveSupers (record { disks = after; array = b })
-  supers_without w before after tried have j d x there is recorded honest =
-      let p = is_another (λ (y : MemberView). is_recorded y.state) refl j x is recorded in
-      have j d x (sym (tried.others j p.0) ∙ there) p.1 recorded honest
+  supers_without w before after tried have j d x there is in_sync honest =
+      let p = is_another (λ (y : MemberView). is_in_sync y.state) refl j x is in_sync in
+      have j d x (sym (tried.others j p.0) ∙ there) p.1 in_sync honest
 
   without_is_consistent : (w : Write) (before after : List Disk) (o : ℕ) (n : MemberView) → o ≢ k → IsInSync a o n → IsTried k w before after
       → IsConsistent (record { disks = before; array = a }) → IsConsistent (record { disks = after; array = b })

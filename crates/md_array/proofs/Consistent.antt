@@ -177,5 +177,5 @@ module _ (before : List Disk) (v : MirrorView) (o : IsOpenedFrom before v) where
     roles = roles;
     chunks = chunks;
     inside = λ n e listed. absurd (none_some e (subst (λ (r : InflightList Extent). lookup r.entries n ≡ Some e) o.array.remembered.idle listed));
-    supers = λ _ k d m at_disk at_member recorded honest. super k d m at_disk at_member honest;
+    supers = λ _ k d m at_disk at_member _ honest. super k d m at_disk at_member honest;
   }

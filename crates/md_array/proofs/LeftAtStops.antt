@@ -39,13 +39,13 @@ use Rattle.md_array.proofs.MarkSectors.{read_marked, store_marks_happens}
 use Rattle.md_array.proofs.Moments.{IsSoundAt}
 use Rattle.md_array.proofs.FirstSector.{ReadsAs, first_part, first_sector, reads_first, reads_same}
 use Rattle.md_array.proofs.OneMember.{stored_there}
-use Rattle.md_array.proofs.Listed.{IsLogKept, listed_same_bit, next_kept}
+use Rattle.md_array.proofs.Listed.{IsLogKept, listed_same_bit}
 use Rattle.md_array.proofs.PartsApart.{HasParts, data_alone, data_elsewhere, header_beside_super, log_beside_super, parts_of, super_alone}
 use Rattle.md_array.proofs.ReadAsKept.{own_stays_as, own_written_as, read_beside_data}
 use Rattle.md_array.proofs.StopsAsFailed.{failed_as_tried, stops_as_tried, stops_at_events}
 use Rattle.md_array.proofs.StopsAtSteps.{stops_at_write}
 use Rattle.md_array.proofs.Rests.{at_once, at_rest}
-use Rattle.md_array.proofs.SuperRecorded.{listed_written, lists_alike, record_happens}
+use Rattle.md_array.proofs.SuperRecorded.{lists_alike, record_happens}
 use Rattle.md_array.proofs.WorldsLists.{at_set_same, got_in_map, got_other, got_same, got_within}
 use Rattle.md_array.proofs.WorldsSupers.{super_shown}
 
@@ -281,12 +281,12 @@ module _ (t : Moment) (at : IsSoundAt t) where
       log_kept : IsLogKept m.superblock d.content e.content
       log_kept = log_beside_super a m d.content e.content parts beside
 
-      -- beside a log that lists the same
-      read_super : ((sector : ℕ) → is_listed m.superblock e.content sector ≡ is_listed m.superblock d.content sector)
-          → (s : Option Super) → super_in (block_on e.content) ≡ s → read_in a disks k ≡ record (stored_of a m d.content) { super = s }
-      read_super lists s same =
-          stored_there disks a k m e may.at is ∙ super_alone a m d.content e.content parts beside (lists_alike a m d.content e.content lists)
-          ∙ (λ i. record (stored_of a m d.content) { super = same i })
+      -- it has the superblock that is read there, and lists what this content would list
+      read_super : (s : Option Super) (content : List ℕ) → super_in (block_on e.content) ≡ s → ((sector : ℕ) → is_listed m.superblock e.content sector ≡ is_listed m.superblock content sector)
+          → read_in a disks k ≡ record (stored_of a m d.content) { super = s; listed = (stored_of a m content).listed }
+      read_super s content same lists =
+          stored_there disks a k m e may.at is ∙ super_alone a m d.content e.content parts beside
+          ∙ (λ i. record (stored_of a m d.content) { super = same i; listed = lists_alike a m content e.content lists i })
 
       super_device : HasOwnSuper a.shared m.superblock e.content → IsLeftDevice a m t.failed_at e.content
       super_device has = record {
@@ -320,7 +320,7 @@ module _ (t : Moment) (at : IsSoundAt t) where
         is_cut = inl refl;
         read = λ j. by_same j k
             (λ here. subst (λ (i : ℕ). (read_in a disks i ≡ read_in a v.disks i) ⊎ ((read_in a disks i).super ≡ None)) (sym here) (elim reads [
-              | inl same ↦ inl (read_super (λ sector. listed_same_bit m.superblock d.content e.content log_kept sector same.decoded same.map) (super_in (block_on d.content)) same.decoded ∙ sym (stored_there v.disks a k m d may.at was))
+              | inl same ↦ inl (read_super (super_in (block_on d.content)) d.content same.decoded (λ sector. listed_same_bit m.superblock d.content e.content log_kept sector same.decoded same.map) ∙ sym (stored_there v.disks a k m d may.at was))
               | inr none ↦ inr (ap (λ (x : Stored). x.super) (stored_there disks a k m e may.at is) ∙ none)
             ]))
             (λ apart. inl (elsewhere k m w disks may.at tried j apart));
@@ -377,12 +377,6 @@ module _ (t : Moment) (at : IsSoundAt t) where
       block_new : block_on new.content ≡ w.bytes
       block_new = part-spliced d.content (512 * 8) w.bytes 4096 (sym may.readable.size) (let fits = room in omega arith)
 
-      lists_new : (sector : ℕ) → is_listed m.superblock new.content sector ≡ is_listed m.superblock d.content sector
-      lists_new sector =
-          listed_written a m new.content may.readable block_new sector
-          ∙ next_kept m.superblock d.content new.content (log_kept next.disks new_tried d new was new_there) sector
-          ∙ sym ((at.sound.supers may.running k d m was may.at may.active (at.honest k d was)).listed sector)
-
       -- the new one is read there
       module _ (disks : List Disk) (tried : IsTried k w v.disks disks) (e : Disk) (is : slice_get disks k ≡ Some e) (reads : ReadsAs (block_on e.content) w.bytes) where
         lists_next : (sector : ℕ) → is_listed m.superblock e.content sector ≡ is_listed m.superblock new.content sector
@@ -395,8 +389,8 @@ module _ (t : Moment) (at : IsSoundAt t) where
         read_next j =
             by_same j k
             (λ here. subst (λ (i : ℕ). read_in a disks i ≡ read_in a next.disks i) (sym here)
-            (read_super disks tried d e was is (λ sector. lists_next sector ∙ lists_new sector) (super_in w.bytes) reads.decoded
-            ∙ sym (read_super next.disks new_tried d new was new_there lists_new (super_in w.bytes) (ap super_in block_new))))
+            (read_super disks tried d e was is (super_in w.bytes) new.content reads.decoded lists_next
+            ∙ sym (read_super next.disks new_tried d new was new_there (super_in w.bytes) new.content (ap super_in block_new) (λ _. refl))))
             (λ apart. elsewhere k m w disks may.at tried j apart ∙ sym (elsewhere k m w next.disks may.at new_tried j apart))
             ∙ sym (read_changed a k m (record m { due = false }) may.at refl next.disks j)
 
@@ -409,7 +403,7 @@ module _ (t : Moment) (at : IsSoundAt t) where
               run = (next, t.requests, at_once v next t.requests t.requests (Event.Record k) does, at_rest (then_as t (Event.Record k) next t.requests));
               still = λ x. (next, t.requests, x, at_once v next t.requests t.requests (Event.Record k) does, refl, (at_rest (then_as t (Event.Record k) next t.requests), refl));
               counted = refl;
-              in_sync = λ j on. subst (λ (w : World). worlds.IsInSync w j) does.step.1.1 on;
+              in_sync = λ j on. subst (λ (w : World). worlds.IsInSync w j) does.step.1.3 on;
               cut = (world_of next t.requests).stored;
               is_cut = inl refl;
               read = λ j. inl (read_next j);

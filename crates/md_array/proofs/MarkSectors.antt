@@ -16,6 +16,7 @@ use Rattle.md_bitmap.specs.Sectors.{bitmap_sector}
 use Rattle.md_writes.specs.Writes.{Write}
 use Rattle.md_bitmap.proofs.Blocks.{length-bitmap_sector}
 use Rattle.md_model.specs.Sectors.{block_of, put}
+use Rattle.md_assembly.specs.States.{is_in_sync}
 use Rattle.md_model.specs.States as model
 use Rattle.md_model.specs.Devices.{Stored}
 use Rattle.md_model.specs.Worlds.{Request, World}
@@ -25,7 +26,6 @@ use Rattle.md_model.proofs.Between.{between_step, in_flight_step}
 use Rattle.md_model.proofs.Cases.{by_test}
 use Rattle.md_model.proofs.Puts.{by_same, put-at, put-self}
 use Rattle.md_array.specs.View.{ArrayView, Disk, MemberView, MirrorView, PendingView}
-use Rattle.md_array.specs.Members.{is_recorded}
 use Rattle.md_array.specs.Consistency.{HasPlaces, HasSuper, IsConsistent}
 use Rattle.md_array.specs.StoringMarks.{StoresMarkSector}
 use Rattle.md_array.specs.ReadAsKept.{HasWidth, IsReadAsKept}
@@ -148,7 +148,7 @@ module _ (k block : ℕ) (old new : MirrorView) (is : IsConsistent old) (low : b
     same_block : block_on e.content ≡ block_on d.content
     same_block = block_beside_marks a m d.content e.content has block low_of_member outside
 
-  has_super : (d e : Disk) → slice_get old.disks k ≡ Some d → slice_get new.disks k ≡ Some e → is_recorded m.state ≡ true → d.honest ≡ true → HasSuper m d → HasSuper n e
+  has_super : (d e : Disk) → slice_get old.disks k ≡ Some d → slice_get new.disks k ≡ Some e → is_in_sync m.state ≡ true → d.honest ≡ true → HasSuper m d → HasSuper n e
   has_super d e before after _ _ had =
       let same = sym (same_block d e before after) in
       record {

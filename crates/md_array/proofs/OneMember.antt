@@ -10,14 +10,14 @@ use Rattle.md_bitmap.specs.Marks.{is_set}
 use Rattle.md_bitmap.specs.Sound.{IsSound}
 use Rattle.md_members.specs.Areas.{IsPlaced, bitmap_sectors, has_bitmap}
 use Rattle.md_members.specs.Members.{sectors_of}
-use Rattle.md_assembly.specs.States.{is_in_sync, role_in, takes_role}
+use Rattle.md_assembly.specs.States.{has_recovery_offset, is_in_sync, role_in, takes_role}
 use Rattle.md_model.specs.Sectors.{put}
 use Rattle.md_model.specs.States as model
 use Rattle.md_model.specs.Worlds.{Request, World}
 use Rattle.md_model.proofs.Puts.{by_same, put-at}
 use Rattle.md_writes.specs.Writes.{Write}
 use Rattle.md_array.specs.View.{ArrayView, Disk, MemberView, MirrorView, PendingView}
-use Rattle.md_array.specs.Members.{IsInSync, IsMember, is_recorded}
+use Rattle.md_array.specs.Members.{IsInSync, IsMember}
 use Rattle.md_array.specs.Fits.{Fits, FitsMember}
 use Rattle.md_array.specs.Consistency.{HasChunks, HasRoles, HasSuper, HaveSupers, IsConsistent}
 use Rattle.md_array.specs.DiskWrites.{IsTried}
@@ -147,20 +147,20 @@ module _ (k : ℕ) (m n : MemberView) (w : Write) (old new : MirrorView) (c : Ch
 
   -- member k's device has a superblock if it had one
   abbrev pub KeepsSuper : Type 0
-  KeepsSuper = (d e : Disk) → slice_get old.disks k ≡ Some d → slice_get new.disks k ≡ Some e → is_recorded m.state ≡ true → d.honest ≡ true → HasSuper m d → HasSuper n e
+  KeepsSuper = (d e : Disk) → slice_get old.disks k ≡ Some d → slice_get new.disks k ≡ Some e → is_in_sync m.state ≡ true → d.honest ≡ true → HasSuper m d → HasSuper n e
 
   supers_changed : KeepsSuper → HaveSupers old → HaveSupers (record { disks = new.disks; array = b })
-  supers_changed keeps have j e x at_disk at_member recorded honest =
+  supers_changed keeps have j e x at_disk at_member in_sync honest =
       let d = disk_was j e at_disk in
       let was : d.disk.honest ≡ true = sym d.honest ∙ honest in
       by_same j k
       (λ same.
       let is : n ≡ x = same_Some n x (sym (at_set_same a.members k n within) ∙ sym (ap (slice_get b.members) same) ∙ at_member) in
-      let stays : is_recorded m.state ≡ true = ap is_recorded (sym c.like.state) ∙ ap (λ (y : MemberView). is_recorded y.state) is ∙ recorded in
+      let stays : is_in_sync m.state ≡ true = ap is_in_sync (sym c.like.state) ∙ ap (λ (y : MemberView). is_in_sync y.state) is ∙ in_sync in
       let at : slice_get old.disks k ≡ Some d.disk = sym (ap (slice_get old.disks) same) ∙ d.is in
       subst (λ (y : MemberView). HasSuper y e) is
       (keeps d.disk e at (sym (ap (slice_get new.disks) same) ∙ at_disk) stays was (have k d.disk m at c.at stays was)))
-      (λ apart. have j e x (sym (c.disks.others j apart) ∙ at_disk) (sym (got_other a.members k j n apart) ∙ at_member) recorded honest)
+      (λ apart. have j e x (sym (c.disks.others j apart) ∙ at_disk) (sym (got_other a.members k j n apart) ∙ at_member) in_sync honest)
 
   pub changed_is_consistent : IsConsistent old → KeepsSuper → IsConsistent new
   changed_is_consistent is keeps =
@@ -241,6 +241,7 @@ module _ (k : ℕ) (m n : MemberView) (w : Write) (old new : MirrorView) (c : Ch
       due = λ j. put_in false (λ x. x.due) j i;
       known = λ j s. put_known j s i;
       re_added = λ j. put_in false (λ x. x.re_added) j i;
+      recovering = λ j. kept_in false (λ x. has_recovery_offset x.superblock) (ap has_recovery_offset c.like.superblock) j i;
       role = before.role;
       entries = before.entries;
       present = λ d. any_kept (λ x. eqb x.superblock.dev_number d) a.members k m n c.at (ap (λ (v : Superblock). eqb v.dev_number d) c.like.superblock) i;

@@ -114,13 +114,13 @@ module _ (a : ArrayView) (m : MemberView) (old new : List ℕ) (has : HasParts a
   -- ---- the superblock is written
   module _ (same : SameOutside (512 * 8) 4096 old new) where
     -- no more than the superblock changes, if it is beside a log that lists the same
-    pub super_alone : is.listed ≡ was.listed → is ≡ record was { super = super_in (block_on new) }
-    super_alone listed =
+    pub super_alone : is ≡ record was { super = super_in (block_on new); listed = is.listed }
+    super_alone =
         let header = header_kept super_area 8 refl same (apart_either_way super_area bitmap has.bitmap.from_super) in
         λ i. record {
           super = super_in (block_on new);
           content = content_kept super_area 8 refl same (apart_either_way super_area (data_area m.superblock) has.placed.data_apart) i;
-          listed = listed i;
+          listed = is.listed;
           bits = bits_kept super_area 8 refl same (apart_either_way super_area bitmap has.bitmap.from_super) i;
           bitmap_events = number_at 8 24 (header i);
           bitmap_fits = header_fits a (header i);

@@ -126,8 +126,8 @@ module _ (old new : MirrorView) (r : Rests old new) where
         roles = sound.roles;
         chunks = sound.chunks;
         inside = sound.inside;
-        supers = λ running k e m at member recorded honest. let d = was k e at in
-            super_as m d.disk e d.content (sound.supers running k d.disk m d.at member recorded (sym d.honest ∙ honest));
+        supers = λ running k e m at member in_sync honest. let d = was k e at in
+            super_as m d.disk e d.content (sound.supers running k d.disk m d.at member in_sync (sym d.honest ∙ honest));
       })
 
   pub geometry_rests : geometry_of new.array ≡ geometry_of old.array

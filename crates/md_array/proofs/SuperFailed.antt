@@ -1,7 +1,8 @@
 -- A write of a superblock fails: where it left the old superblock, the new one or none, that is the model's event.
-use Rattle.std.proofs.Common.{◌≡◌, ℕ, ◌*◌, inl, inr, true, Some, slice_get, Option, refl, sym, ap, ◌∙◌, subst}
+use Rattle.std.proofs.Common.{◌≡◌, ℕ, ◌*◌, inl, inr, Bool, true, Some, slice_get, Option, refl, sym, ap, ◌∙◌, subst}
 use Rattle.std.proofs.lemmas.Option.{same_Some}
 use Rattle.md_device.specs.Splice.{SameOutside}
+use Rattle.md_assembly.specs.States.{is_in_sync}
 use Rattle.md_model.specs.Devices.{Stored}
 use Rattle.md_model.specs.Worlds.{Request}
 use Rattle.md_model.specs.Failures.{LeftBySuper}
@@ -20,6 +21,7 @@ use Rattle.md_array.proofs.PartsApart.{log_beside_super, parts_of, super_alone}
 use Rattle.md_array.proofs.ReadAsKept.{own_stays, own_written}
 use Rattle.md_array.proofs.SuperRecorded.{listed_written, lists_alike, readable_super, super_is_for}
 use Rattle.md_array.proofs.WorldsFailed.{IsThere, does_failing, left, member_fails, there_is}
+use Rattle.md_array.proofs.WorldsInSync.{in_sync_of}
 use Rattle.md_array.proofs.WorldsSupers.{super_shown}
 
 module _ (k : ℕ) (old new : MirrorView) (c : IsConsistent old) (f : FailsToRecord k old new) where
@@ -32,13 +34,13 @@ module _ (k : ℕ) (old new : MirrorView) (c : IsConsistent old) (f : FailsToRec
   abbrev w : Write
   w = super_write a m
 
-  -- the log lists what it listed
-  lists_left : (t : IsThere k old.disks new.disks) → t.old.honest ≡ true → IsOldNewOrNone w.bytes t.old t.new → (sector : ℕ) → is_listed m.superblock t.new.content sector ≡ is_listed m.superblock t.old.content sector
-  lists_left t honest leaves sector =
+  -- the log of a member in sync lists what it listed
+  lists_left : (t : IsThere k old.disks new.disks) → is_in_sync m.state ≡ true → t.old.honest ≡ true → IsOldNewOrNone w.bytes t.old t.new → (sector : ℕ) → is_listed m.superblock t.new.content sector ≡ is_listed m.superblock t.old.content sector
+  lists_left t in_sync honest leaves sector =
       let outside : SameOutside (512 * 8) 4096 t.old.content t.new.content =
       subst (λ (n : ℕ). SameOutside (512 * 8) n t.old.content t.new.content) f.may.readable.size (f.fails.disks.tried.outside t.old t.new t.was t.is) in
       let log = log_beside_super a m t.old.content t.new.content (parts_of old c k t.old m t.was f.may.at) outside in
-      let has = c.supers f.may.running k t.old m t.was f.may.at f.may.active honest in
+      let has = c.supers f.may.running k t.old m t.was f.may.at in_sync honest in
       let before = next_kept m.superblock t.old.content t.new.content log sector ∙ sym (has.listed sector) in
       elim leaves [
         | inl same ↦ listed_kept m.superblock t.old.content t.new.content log sector same
@@ -54,17 +56,22 @@ module _ (k : ℕ) (old new : MirrorView) (c : IsConsistent old) (f : FailsToRec
   left_by_super requests t honest leaves =
       let was : (world_of old requests).stored k ≡ stored_of a m t.old.content = stored_there old.disks a k m t.old f.may.at t.was in
       let is : (world_on new.disks a requests).stored k ≡ stored_of a m t.new.content = stored_there new.disks a k m t.new f.may.at t.is in
-      let has = c.supers f.may.running k t.old m t.was f.may.at f.may.active honest in
       let outside : SameOutside (512 * 8) 4096 t.old.content t.new.content =
       subst (λ (n : ℕ). SameOutside (512 * 8) n t.old.content t.new.content) f.may.readable.size (f.fails.disks.tried.outside t.old t.new t.was t.is) in
       let super_left = ap (λ (s : Stored). s.super) is in
       record {
-        rest = is ∙ super_alone a m t.old.content t.new.content (parts_of old c k t.old m t.was f.may.at) outside (lists_alike a m t.old.content t.new.content (lists_left t honest leaves)) ∙ (λ i. record (sym was i) { super = sym super_left i });
+        rest = is ∙ super_alone a m t.old.content t.new.content (parts_of old c k t.old m t.was f.may.at) outside
+            ∙ (λ i. record (sym was i) { super = sym super_left i; listed = sym (ap (λ (s : Stored). s.listed) is) i });
+        listed = λ on s.
+            let in_sync = in_sync_of old.disks a requests k m f.may.at on in
+            ap (λ (x : Stored). x.listed s) is
+            ∙ ap (λ (l : ℕ → Bool). l s) (lists_alike a m t.old.content t.new.content (lists_left t in_sync honest leaves))
+            ∙ ap (λ (x : Stored). x.listed s) (sym was);
         super = elim leaves [
           | inl same ↦ inl (super_left ∙ ap super_in same ∙ sym (ap (λ (s : Stored). s.super) was))
           | inr other ↦
               elim other [
-                | inl next ↦ inr (inl (super_left ∙ ap super_in next ∙ readable_super a m f.may.readable ∙ ap Some (super_is_for old.disks a requests k m t.old f.may.at t.was has)))
+                | inl next ↦ inr (inl (super_left ∙ ap super_in next ∙ readable_super a m f.may.readable ∙ ap Some (super_is_for old.disks a requests k m f.may.at)))
                 | inr none ↦ inr (inr (super_left ∙ none))
               ]
         ];

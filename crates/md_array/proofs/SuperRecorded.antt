@@ -9,17 +9,16 @@ use Rattle.md_super.specs.Faults.{NoFault}
 use Rattle.md_super.specs.Format.{IsSuper}
 use Rattle.md_super.specs.Merge.{merged}
 use Rattle.md_bitmap.specs.Marks.{is_set}
-use Rattle.md_assembly.specs.States.{has_recovery_offset}
+use Rattle.md_assembly.specs.States.{has_recovery_offset, is_in_sync}
 use Rattle.md_model.specs.Sectors.{put}
 use Rattle.md_model.specs.States as model
 use Rattle.md_model.specs.Devices.{Stored}
 use Rattle.md_model.specs.Worlds.{Request, World}
-use Rattle.md_model.specs.Steps.{has_bit, recorded, recorded_device, super_for}
+use Rattle.md_model.specs.Steps.{KeepsList, recorded, recorded_device, super_for}
 use Rattle.md_model.specs.Events.{Event, Step}
 use Rattle.md_model.proofs.Between.{between_step, in_flight_step}
 use Rattle.md_model.proofs.Puts.{put-self}
 use Rattle.md_array.specs.View.{ArrayView, Disk, MemberView, MirrorView, PendingView}
-use Rattle.md_array.specs.Members.{is_recorded}
 use Rattle.md_array.specs.Consistency.{HasPlaces, HasSuper, IsConsistent}
 use Rattle.md_array.specs.ReadAsKept.{IsReadAsKept}
 use Rattle.md_array.specs.Recording.{IsReadable, Records, super_write}
@@ -31,6 +30,7 @@ use Rattle.md_array.proofs.Listed.{listed_as_next, next_kept}
 use Rattle.md_array.proofs.OneMember.{ChangesMember, changed_in_flight, changed_is_consistent, changed_is_pending, changed_world, member_there, stored_there}
 use Rattle.md_array.proofs.PartsApart.{header_beside_super, log_beside_super, parts_of, super_alone}
 use Rattle.md_array.proofs.ReadAsKept.{changed_read, own_written}
+use Rattle.md_array.proofs.WorldsInSync.{in_sync_of}
 use Rattle.md_array.proofs.WorldsLists.{got_within}
 use Rattle.md_array.proofs.WorldsStates.{same_recorded}
 use Rattle.md_array.proofs.WorldsSupers.{super_shown}
@@ -56,13 +56,12 @@ pub lists_alike : (a : ArrayView) (m : MemberView) (old new : List ℕ) → ((se
     → (stored_of a m new).listed ≡ (stored_of a m old).listed
 lists_alike a m old new same = λ i s. nat_lt s a.chunks.size && same (m.superblock.data_offset + s) i
 
--- it is what the model stores, on a device whose superblock has the member's bit 2 of the feature map
-pub super_is_for : (disks : List Disk) (a : ArrayView) (requests : ℕ → Option Request) (k : ℕ) (m : MemberView) (d : Disk) → slice_get a.members k ≡ Some m → slice_get disks k ≡ Some d → HasSuper m d
+-- it is what the model stores, whatever stands on the device
+pub super_is_for : (disks : List Disk) (a : ArrayView) (requests : ℕ → Option Request) (k : ℕ) (m : MemberView) → slice_get a.members k ≡ Some m
     → super_of (merged a.shared m.superblock) ≡ super_for (world_on disks a requests) k
-super_is_for disks a requests k m d at there has =
+super_is_for disks a requests k m at =
     let number = member_there a k m 0 (λ x. x.superblock.dev_number) at in
-    let bit : has_bit ((world_on disks a requests).stored k).super ≡ has_recovery_offset m.superblock =
-    ap (λ (s : Stored). has_bit s.super) (stored_there disks a k m d at there) ∙ ap has_bit has.is ∙ has.recovering in
+    let bit = member_there a k m false (λ x. has_recovery_offset x.superblock) at in
     λ i. record {
       number = sym number i;
       events = a.shared.events;
@@ -107,7 +106,7 @@ module _ (k : ℕ) (old new : MirrorView) (is : IsConsistent old) (r : Records k
       ∙ next_kept m.superblock d.content e.content (log_beside_super a m d.content e.content (parts_of old is k d m before r.may.at) (super_outside d e before after)) sector
       ∙ sym (has.listed sector)
 
-  has_super : (d e : Disk) → slice_get old.disks k ≡ Some d → slice_get new.disks k ≡ Some e → is_recorded m.state ≡ true → d.honest ≡ true → HasSuper m d → HasSuper n e
+  has_super : (d e : Disk) → slice_get old.disks k ≡ Some d → slice_get new.disks k ≡ Some e → is_in_sync m.state ≡ true → d.honest ≡ true → HasSuper m d → HasSuper n e
   has_super d e before after _ honest had =
       let on = on_disk d e before after honest in
       let spelled = r.may.readable.fields in
@@ -134,8 +133,7 @@ module _ (k : ℕ) (old new : MirrorView) (is : IsConsistent old) (r : Records k
 
   read_recorded : (failed_at : ℕ) → (d e : Disk) → slice_get old.disks k ≡ Some d → slice_get new.disks k ≡ Some e → d.honest ≡ true → IsReadAsKept a m failed_at d.content → IsReadAsKept a m failed_at e.content
   read_recorded failed_at d e before after honest was =
-      let outside : SameOutside (512 * 8) 4096 d.content e.content =
-      subst (λ (x : ℕ). SameOutside (512 * 8) x d.content e.content) r.may.readable.size (r.disks.tried.outside d e before after) in
+      let outside = super_outside d e before after in
       record {
         super = own_written a m e.content r.may.readable (on_disk d e before after honest);
         header = elim was.header [
@@ -149,17 +147,24 @@ module _ (k : ℕ) (old new : MirrorView) (is : IsConsistent old) (r : Records k
     abbrev w : World
     w = world_of old requests
 
-    stored_recorded : stored_of a n e.content ≡ recorded_device w k
-    stored_recorded =
-        let has = is.supers r.may.running k d m before r.may.at r.may.active honest in
-        let outside = super_outside d e before after in
-        let super : super_in (block_on e.content) ≡ Some (super_for w k) =
-        ap super_in (on_disk d e before after honest) ∙ readable_super a m r.may.readable ∙ ap Some (super_is_for old.disks a requests k m d r.may.at before has) in
-        let parts = parts_of old is k d m before r.may.at in
-        super_alone a m d.content e.content parts outside (lists_alike a m d.content e.content (lists_as_before d e before after honest has))
-        ∙ (λ i. record (sym (stored_there old.disks a k m d r.may.at before) i) { super = super i })
+    abbrev listed : ℕ → Bool
+    listed = (stored_of a n e.content).listed
 
-    world_recorded : world_of new requests ≡ recorded w k
+    -- a member in sync lists what it listed
+    keeps_list : KeepsList w k listed
+    keeps_list on s =
+        let in_sync = in_sync_of old.disks a requests k m r.may.at on in
+        let has = is.supers r.may.running k d m before r.may.at in_sync honest in
+        ap (λ (f : ℕ → Bool). f s) (lists_alike a m d.content e.content (lists_as_before d e before after honest has)) ∙ ap (λ (x : Stored). x.listed s) (sym (stored_there old.disks a k m d r.may.at before))
+
+    stored_recorded : stored_of a n e.content ≡ recorded_device w k listed
+    stored_recorded =
+        let super : super_in (block_on e.content) ≡ Some (super_for w k) =
+        ap super_in (on_disk d e before after honest) ∙ readable_super a m r.may.readable ∙ ap Some (super_is_for old.disks a requests k m r.may.at) in
+        super_alone a m d.content e.content (parts_of old is k d m before r.may.at) (super_outside d e before after)
+        ∙ (λ i. record (sym (stored_there old.disks a k m d r.may.at before) i) { super = super i; listed = listed })
+
+    world_recorded : world_of new requests ≡ recorded w k listed
     world_recorded =
         let known : put k (λ s. nat_lt s a.marks.chunks && is_set m.stored.bytes s) w.known ≡ w.known =
         ap (λ (f : ℕ → Bool). put k f w.known) (λ i s. sym (member_there a k m false (λ x. nat_lt s a.marks.chunks && is_set x.stored.bytes s) r.may.at) i) ∙ put-self k w.known in
@@ -171,7 +176,7 @@ module _ (k : ℕ) (old new : MirrorView) (is : IsConsistent old) (r : Records k
     step : Step (geometry_of a) w (Event.Record k) (world_of new requests)
     step =
         let active = ap model.is_recorded (member_there a k m model.State.Faulty (λ x. kind_of x.state) r.may.at) ∙ same_recorded m.state ∙ r.may.active in
-        (r.may.running, (active, world_recorded))
+        (r.may.running, (listed, keeps_list, active, world_recorded))
 
   pub record_happens : Happens old (Event.Record k) new
   record_happens honest requests in_flight =

@@ -1,7 +1,7 @@
 -- The states of the world's members are those of assembly.
 use Rattle.std.proofs.Common.{◌≡◌, ℕ, true, false, true≢false, ◌&&◌, nat_lt, List, Some, sym, ap, ◌∙◌, subst}
 use Rattle.md_assembly.specs.declared.state.MemberState.{MemberState}
-use Rattle.md_assembly.specs.States.{is_in_sync, role_in, state_of, takes_role}
+use Rattle.md_assembly.specs.States.{has_recovery_offset, is_in_sync, role_in, state_of, takes_role}
 use Rattle.md_model.specs.States as model
 use Rattle.md_model.specs.Assembly as model_assembly
 use Rattle.md_model.specs.Assembly.{IsFreshest}
@@ -97,6 +97,11 @@ module _ (before : List Disk) (m : MirrorView) (honest : AreHonest before) (o : 
       (λ mv is. at_is a k false (λ x. x.re_added) mv is ∙ (seen k mv is).opened.member.kept.re_added)
       (λ past. at_past a k false (λ x. x.re_added) past)
 
+  recovering : (k : ℕ) (own : Super) → (w.stored k).super ≡ Some own → w.recovering k ≡ own.recovering
+  recovering k own e =
+      let x = own_is before m honest o k own e in
+      at_is a k false (λ mv. has_recovery_offset mv.superblock) x.0 x.1 ∙ ap (λ (v : Super). v.recovering) x.2
+
   pub has_states : HasStates (geometry_of a) first w
   has_states = record {
     by_table = by_table;
@@ -105,4 +110,5 @@ module _ (before : List Disk) (m : MirrorView) (honest : AreHonest before) (o : 
     one_each = one_each;
     due = due;
     re_added = re_added;
+    recovering = recovering;
   }

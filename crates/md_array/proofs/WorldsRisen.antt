@@ -12,9 +12,9 @@ use Rattle.md_model.proofs.Cases.{by_test, not_below-nat_lt}
 use Rattle.md_bitmap.specs.Marks.{is_set}
 use Rattle.md_assembly.specs.declared.state.MemberState.{MemberState}
 use Rattle.md_assembly.specs.declared.state.MemberState.TheVariants.{InSync, Recovering, Stale, Spare, Faulty}
-use Rattle.md_assembly.specs.States.{role_in, takes_role}
+use Rattle.md_assembly.specs.States.{has_recovery_offset, is_in_sync, role_in, takes_role}
 use Rattle.md_array.specs.View.{Disk, ArrayView, MemberView, MirrorView}
-use Rattle.md_array.specs.Members.{IsMember, is_degraded, is_filled, is_in_sync_as, is_recorded, faulty_role}
+use Rattle.md_array.specs.Members.{IsMember, is_degraded, is_filled, is_in_sync_as, faulty_role}
 use Rattle.md_array.specs.Consistency.{HasChunks, HasRoles, HasSuper, IsConsistent}
 use Rattle.md_array.specs.Fits.{Fits, FitsMember}
 use Rattle.md_array.specs.Rising.{has_number, is_absent, roles_at_rise, made_due, risen}
@@ -60,6 +60,7 @@ module _ (a : ArrayView) (full : Bool) where
     due = λ k. (ap (λ o. unwrap_or (option_map (λ m. m.due) o) false) (slice_get-map made_due a.members k) ∙ due_mapped (slice_get a.members k)) i;
     known = λ k c. read_map made_due false (λ m. nat_lt c a.marks.chunks && is_set m.stored.bytes c) a.members k i;
     re_added = λ k. read_map made_due false (λ m. m.re_added) a.members k i;
+    recovering = λ k. read_map made_due false (λ m. has_recovery_offset m.superblock) a.members k i;
     role = λ d. risen_role d i;
     entries = length-map-range_with_len (λ d. cond (is_absent a d) faulty_role (role_in a.shared d)) 0 (length a.shared.roles) i;
     present = λ d. any_map (λ m. eqb m.superblock.dev_number d) made_due a.members i;
@@ -157,9 +158,9 @@ risen_is_consistent v full c = record {
   fits = fits_risen v.array full v.disks c.fits;
   roles = roles_risen v.array full c.roles;
   chunks = chunks_risen v.array full c.chunks;
-  supers = λ runs k d m at x recorded honest.
+  supers = λ runs k d m at x in_sync honest.
       let p = member_risen v.array full k m x in
-      let s = c.supers runs k d p.0 at p.1 (ap (λ (o : MemberView). is_recorded o.state) (sym p.2) ∙ recorded) honest in
+      let s = c.supers runs k d p.0 at p.1 (ap (λ (o : MemberView). is_in_sync o.state) (sym p.2) ∙ in_sync) honest in
       subst (λ (o : MemberView). HasSuper o d) (sym p.2) (super_risen p.0 d s);
   inside = c.inside;
 }

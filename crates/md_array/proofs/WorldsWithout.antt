@@ -8,7 +8,7 @@ use Rattle.md_model.specs.Steps.{with_device}
 use Rattle.md_model.specs.Failures as failures
 use Rattle.md_model.proofs.Cases.{by_test, below-nat_lt, is_below}
 use Rattle.md_model.proofs.Puts.{by_same, put-hit, put-miss}
-use Rattle.md_assembly.specs.States.{role_in}
+use Rattle.md_assembly.specs.States.{has_recovery_offset, role_in}
 use Rattle.md_array.specs.View.{Disk, ArrayView, MemberView}
 use Rattle.md_bitmap.specs.Marks.{is_set}
 use Rattle.md_array.specs.Members.{IsMember, faulty_role, clean_offset}
@@ -72,6 +72,7 @@ world_without disks a requests k m is = λ i. record {
   due = λ j. read_changed (λ o. unwrap_or (option_map (λ (x : MemberView). x.due) o) false) a.members k m (made_faulty m) is j i;
   known = λ j c. read_kept (λ o. unwrap_or (option_map (λ (x : MemberView). nat_lt c a.marks.chunks && is_set x.stored.bytes c) o) false) a.members k m (made_faulty m) is refl j i;
   re_added = λ j. read_changed (λ o. unwrap_or (option_map (λ (x : MemberView). x.re_added) o) false) a.members k m (made_faulty m) is j i;
+  recovering = λ j. read_kept (λ o. unwrap_or (option_map (λ (x : MemberView). has_recovery_offset x.superblock) o) false) a.members k m (made_faulty m) is refl j i;
   role = λ d. (role_without m a.shared.roles d ∙ ap (λ n. cond (eqb d n && nat_lt d (length a.shared.roles)) 65534 (role_in a.shared d)) (sym number_here)) i;
   entries = length_without m a.shared.roles i;
   present = λ d. any_kept (λ (x : MemberView). eqb x.superblock.dev_number d) a.members k m (made_faulty m) is refl i;

@@ -4,9 +4,9 @@ use Rattle.std.specs.Int.{div_ceil, w32, cast_signed}
 use Rattle.md_format.specs.Fields.{number_at}
 use Rattle.md_model.specs.Devices.{Super}
 use Rattle.md_bitmap.specs.Marks.{is_set}
-use Rattle.md_assembly.specs.States.{takes_role, role_in, has_recovery_offset}
+use Rattle.md_assembly.specs.States.{is_in_sync, takes_role, role_in, has_recovery_offset}
 use Rattle.md_array.specs.View.{Disk, MemberView, ArrayView, MirrorView}
-use Rattle.md_array.specs.Members.{IsMember, IsInSync, is_recorded}
+use Rattle.md_array.specs.Members.{IsMember, IsInSync}
 use Rattle.md_array.specs.Fits.{Fits}
 use Rattle.md_array.specs.Requests.{AreInside}
 use Rattle.md_array.specs.Worlds.{super_in, block_on, is_listed, is_listed_next}
@@ -50,9 +50,10 @@ pub record HasSuper (m : MemberView) (d : Disk) : Type 0 where
   pub listed : (sector : ℕ) → is_listed m.superblock d.content sector ≡ is_listed_next m.superblock d.content sector
   pub known : (sector : ℕ) → (is_listed m.superblock d.content sector ≡ true) ↔ IsBad m.bad sector
 
--- so has that of each member that is kept up to date
+-- So has that of each member in sync. Of the others none is asked: what they are is kept in memory, and a write to one that is
+-- rebuilt may fail without making it faulty.
 abbrev pub HaveSupers : MirrorView → Type 0
-HaveSupers v = (k : ℕ) (d : Disk) (m : MemberView) → slice_get v.disks k ≡ Some d → IsMember v.array k m → is_recorded m.state ≡ true → d.honest ≡ true → HasSuper m d
+HaveSupers v = (k : ℕ) (d : Disk) (m : MemberView) → slice_get v.disks k ≡ Some d → IsMember v.array k m → is_in_sync m.state ≡ true → d.honest ≡ true → HasSuper m d
 
 -- A write that halted the mirror may have left anything of a superblock.
 pub record IsConsistent (v : MirrorView) : Type 0 where

@@ -141,6 +141,7 @@ world_on disks a requests =
       due = λ k. at_member a k false (λ m. m.due);
       known = λ k c. at_member a k false (λ m. nat_lt c a.marks.chunks && is_set m.stored.bytes c);
       re_added = λ k. at_member a k false (λ m. m.re_added);
+      recovering = λ k. at_member a k false (λ m. has_recovery_offset m.superblock);
       role = role_in a.shared;
       entries = length a.shared.roles;
       present = λ d. list_any (λ m. eqb m.superblock.dev_number d) a.members;

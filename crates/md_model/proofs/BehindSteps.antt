@@ -51,7 +51,7 @@ module _ (g : Geometry) (d : Stored) where
   -- each event, as long as the array is degraded: no mark is cleared
   pub behind_step : (a b : Content) (w : World) (e : Event) (w' : World) → IsTracked g w → IsDegraded g w → IsBehind g a d w → Happens g w e w' → Becomes g e w a b → IsBehind g b d w'
   behind_step a b w (Event.Begin n p) w' _ _ t s c = behind_as a b w' c (subst (IsBehind g a d) (sym s.5) (behind_begun a w n p s.0 s.1 t))
-  behind_step a b w (Event.Record k) w' _ _ t s c = behind_as a b w' c (subst (IsBehind g a d) (sym s.1) (behind_fewer a w (recorded w k) (fewer_recorded w k) t))
+  behind_step a b w (Event.Record k) w' _ _ t s c = behind_as a b w' c (subst (IsBehind g a d) (sym s.3) (behind_fewer a w (recorded w k s.0) (fewer_recorded w k s.0 s.1) t))
   behind_step a b w (Event.StoreMarks k y) w' _ _ t s c = behind_as a b w' c (subst (IsBehind g a d) (sym s.1) (record {
     in_memory = t.in_memory;
     on_members = λ i x low on off. off_marked g w k y i (chunk_of g x) (d.content x ≡ a x) (t.in_memory x low off) (t.on_members i x low on off);
@@ -85,9 +85,9 @@ module _ (g : Geometry) (d : Stored) where
   behind_step a b w Event.Unresynced w' _ _ t s c = behind_as a b w' c (subst (IsBehind g a d) (sym s.1) (record { in_memory = t.in_memory; on_members = t.on_members }))
   behind_step a b w (Event.Remove k) w' _ _ t s c = behind_as a b w' c (subst (IsBehind g a d) (sym s.3) (behind_removed a w k (is_spare (w.state k)) s.0 t))
   behind_step a b w (Event.Add number left) w' _ _ t s c = behind_as a b w' c (subst (IsBehind g a d) (sym s.4)
-      (behind_joined a (risen g w s.0) (record { number = number; role = 65535; state = Spare; re_added = false; device = left }) refl (record { in_memory = t.in_memory; on_members = t.on_members })))
+      (behind_joined a (risen g w s.0) (record { number = number; role = 65535; state = Spare; re_added = false; recovering = false; device = left }) refl (record { in_memory = t.in_memory; on_members = t.on_members })))
   behind_step a b w (Event.ReAdd own device left) w' _ _ t s c = behind_as a b w' c (subst (IsBehind g a d) (sym s.4)
-      (behind_joined a (risen g w s.0) (record { number = own.number; role = own.role own.number; state = Recovering; re_added = true; device = left }) refl (record { in_memory = t.in_memory; on_members = t.on_members })))
+      (behind_joined a (risen g w s.0) (record { number = own.number; role = own.role own.number; state = Recovering; re_added = true; recovering = true; device = left }) refl (record { in_memory = t.in_memory; on_members = t.on_members })))
   behind_step a b w Event.MakeClean w' _ _ t s c = behind_as a b w' c (subst (IsBehind g a d) (sym s.3) (record { in_memory = t.in_memory; on_members = t.on_members }))
 
 -- A member that fails is behind by what is marked.
@@ -128,7 +128,7 @@ module _ (g : Geometry) (a : Content) (w : World) (tracked : IsTracked g w) (t :
 
   pub behind_leaving : (e : Event) → Leaves e k → (w' : World) → Happens g w e w' → IsBehind g a (w'.stored k) w'
   behind_leaving (Event.Fail j) same w' s = late j (w.stored j) w' same s.1 (λ _. refl) (λ _ _. refl)
-  behind_leaving (Event.RecordFails j) same w' s = late j s.0 w' same s.2 (λ x. ap (λ (d : Stored). d.listed x) s.1.rest) (λ x _. ap (λ (d : Stored). d.content x) s.1.rest)
+  behind_leaving (Event.RecordFails j) same w' s = late j s.0 w' same s.2 (s.1.listed (ap (λ i. is_in_sync (w.state i)) same ∙ on)) (λ x _. ap (λ (d : Stored). d.content x) s.1.rest)
   behind_leaving (Event.StoreMarksFails j b) same w' s = late j s.0 w' same s.3 (λ x. ap (λ (d : Stored). d.listed x) s.2.rest) (λ x _. ap (λ (d : Stored). d.content x) s.2.rest)
   behind_leaving (Event.WriteMemberFails n j) same w' s = late j s.0 w' same s.4 (λ x. ap (λ (d : Stored). d.listed x) s.3.rest)
       (λ x clear. by_test (touches s.1 x)

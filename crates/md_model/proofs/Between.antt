@@ -135,7 +135,7 @@ module _ (g : Geometry) (a : Content) where
 
   between : (b : Content) (w : World) (e : Event) (w' : World) → Happens g w e w' → Becomes g e w a b → HoldsBetween g a w → HoldsBetween g b w'
   between b w (Event.Begin n p) w' s c t = same b w' c (subst (HoldsBetween g a) (sym s.5) (between_begun w n p s.0 s.1 s.2 t))
-  between b w (Event.Record k) w' s c t = same b w' c (subst (HoldsBetween g a) (sym s.1) (between_fewer w (recorded w k) (fewer_recorded w k) t))
+  between b w (Event.Record k) w' s c t = same b w' c (subst (HoldsBetween g a) (sym s.3) (between_fewer w (recorded w k s.0) (fewer_recorded w k s.0 s.1) t))
   between b w (Event.StoreMarks k x) w' s c t = same b w' c (subst (HoldsBetween g a) (sym s.1) (between_marks_stored w k x t))
   between b w (Event.WriteMember n k) w' s c t = same b w' c (subst (HoldsBetween g a) (sym s.2) (between_written w n s.0 k s.1 t))
   between b w (Event.Finish n) w' s c t = subst (λ x. HoldsBetween g x w') (sym c) (subst (HoldsBetween g (with_request (w.request n) a)) (sym s.2) (between_finished w n s.0 s.1 t))
@@ -150,9 +150,9 @@ module _ (g : Geometry) (a : Content) where
   between b w Event.Unresynced w' s c t = same b w' c (subst (HoldsBetween g a) (sym s.1) (between_unresynced w t))
   between b w (Event.Remove k) w' s c t = same b w' c (subst (HoldsBetween g a) (sym s.3) (between_removed w k (is_spare (w.state k)) s.0 t))
   between b w (Event.Add d left) w' s c t = same b w' c (subst (HoldsBetween g a) (sym s.4)
-      (between_joined (risen g w s.0) (record { number = d; role = 65535; state = Spare; re_added = false; device = left }) refl (between_risen w s.0 t)))
+      (between_joined (risen g w s.0) (record { number = d; role = 65535; state = Spare; re_added = false; recovering = false; device = left }) refl (between_risen w s.0 t)))
   between b w (Event.ReAdd own device left) w' s c t = same b w' c (subst (HoldsBetween g a) (sym s.4)
-      (between_joined (risen g w s.0) (record { number = own.number; role = own.role own.number; state = Recovering; re_added = true; device = left }) refl (between_risen w s.0 t)))
+      (between_joined (risen g w s.0) (record { number = own.number; role = own.role own.number; state = Recovering; re_added = true; recovering = true; device = left }) refl (between_risen w s.0 t)))
   between b w Event.MakeClean w' s c t = same b w' c (subst (HoldsBetween g a) (sym s.3) (between_made_clean w s.0 t))
 
 -- what was written of the requests in flight goes along by itself
@@ -166,7 +166,7 @@ module _ (g : Geometry) where
 
   flight : (w : World) (e : Event) (w' : World) → Happens g w e w' → HoldsInFlight w → HoldsInFlight w'
   flight w (Event.Begin n p) w' s t = subst HoldsInFlight (sym s.5) (flight_begun w n p s.0 s.1 s.2 t)
-  flight w (Event.Record k) w' s t = subst HoldsInFlight (sym s.1) (in_flight_fewer w (recorded w k) (fewer_recorded w k) t)
+  flight w (Event.Record k) w' s t = subst HoldsInFlight (sym s.3) (in_flight_fewer w (recorded w k s.0) (fewer_recorded w k s.0 s.1) t)
   flight w (Event.StoreMarks k x) w' s t = subst HoldsInFlight (sym s.1) (in_flight_marks_stored g w k x t)
   flight w (Event.WriteMember n k) w' s t = subst HoldsInFlight (sym s.2) (in_flight_written g w n s.0 k s.1 t)
   flight w (Event.Finish n) w' s t = subst HoldsInFlight (sym s.2) (in_flight_finished g w n s.0 t)
@@ -182,9 +182,9 @@ module _ (g : Geometry) where
   flight w Event.MakeClean w' s t = subst HoldsInFlight (sym s.3) (in_flight_made_clean g w s.0 t)
   flight w (Event.Remove k) w' s t = subst HoldsInFlight (sym s.3) (in_flight_removed g w k (is_spare (w.state k)) s.0 t)
   flight w (Event.Add d left) w' s t = subst HoldsInFlight (sym s.4)
-      (in_flight_joined (risen g w s.0) (record { number = d; role = 65535; state = Spare; re_added = false; device = left }) refl (in_flight_risen g w s.0 t))
+      (in_flight_joined (risen g w s.0) (record { number = d; role = 65535; state = Spare; re_added = false; recovering = false; device = left }) refl (in_flight_risen g w s.0 t))
   flight w (Event.ReAdd own device left) w' s t = subst HoldsInFlight (sym s.4)
-      (in_flight_joined (risen g w s.0) (record { number = own.number; role = own.role own.number; state = Recovering; re_added = true; device = left }) refl (in_flight_risen g w s.0 t))
+      (in_flight_joined (risen g w s.0) (record { number = own.number; role = own.role own.number; state = Recovering; re_added = true; recovering = true; device = left }) refl (in_flight_risen g w s.0 t))
 
 pub in_flight_step : KeepsInFlight
 in_flight_step g w e w' step = flight g w e w' step.1

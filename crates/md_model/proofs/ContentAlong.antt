@@ -23,7 +23,7 @@ module _ (g : Geometry) (small : IsWithinLimits g) (opened : Super) where
   settled h a t may =
       let w = h.now in
       let m = w.members in
-      let slot : (k : ℕ) → IsInSync w k → k < m = λ k on. let x = t.kept.recorded.has_super k (recorded_in_sync (w.state k) on) in t.kept.recorded.slot k x.0 x.1 in
+      let slot : (k : ℕ) → IsInSync w k → k < m = λ k on. t.kept.recorded.there k (recorded_in_sync (w.state k) on) in
       let quiet : (s : ℕ) → IsQuiet w s = λ s n p e. absurd (none_some p (sym (may.idle n) ∙ e)) in
       let as_before : (s : ℕ) → ((k : ℕ) → IsInSync w k → (w.stored k).listed s ≡ false → (w.stored k).content s ≡ a s) → picked w (a s) s m ≡ a s =
       λ s. picked-all w (a s) s (λ c. c ≡ a s) m refl in (

@@ -70,7 +70,7 @@ module _ (g : Geometry) (a : Content) where
 
   unmarked_step : (b : Content) (w : World) (e : Event) (w' : World) → IsTracked g w → Holds g a w → Happens g w e w' → Becomes g e w a b → HoldsUnmarked g b w'
   unmarked_step b w (Event.Begin n p) w' _ t s c = same b w' c (subst (HoldsUnmarked g a) (sym s.5) (unmarked_begun w n p s.0 s.1 t.unmarked))
-  unmarked_step b w (Event.Record k) w' _ t s c = same b w' c (subst (HoldsUnmarked g a) (sym s.1) (unmarked_fewer w (recorded w k) (fewer_recorded w k) t.unmarked))
+  unmarked_step b w (Event.Record k) w' _ t s c = same b w' c (subst (HoldsUnmarked g a) (sym s.3) (unmarked_fewer w (recorded w k s.0) (fewer_recorded w k s.0 s.1) t.unmarked))
   unmarked_step b w (Event.StoreMarks k x) w' tracked t s c = same b w' c (subst (HoldsUnmarked g a) (sym s.1) (unmarked_marks_stored w k x tracked t))
   unmarked_step b w (Event.WriteMember n k) w' tracked t s c = same b w' c (subst (HoldsUnmarked g a) (sym s.2) (unmarked_written w n s.0 k s.1 tracked t.unmarked))
   unmarked_step b w (Event.Finish n) w' tracked t s c =
@@ -86,9 +86,9 @@ module _ (g : Geometry) (a : Content) where
   unmarked_step b w Event.Unresynced w' _ t s c = same b w' c (subst (HoldsUnmarked g a) (sym s.1) t.unmarked)
   unmarked_step b w (Event.Remove k) w' _ t s c = same b w' c (subst (HoldsUnmarked g a) (sym s.3) (unmarked_removed w k (is_spare (w.state k)) s.0 t.unmarked))
   unmarked_step b w (Event.Add d left) w' _ t s c = same b w' c (subst (HoldsUnmarked g a) (sym s.4)
-      (unmarked_joined (risen g w s.0) (record { number = d; role = 65535; state = Spare; re_added = false; device = left }) refl t.unmarked))
+      (unmarked_joined (risen g w s.0) (record { number = d; role = 65535; state = Spare; re_added = false; recovering = false; device = left }) refl t.unmarked))
   unmarked_step b w (Event.ReAdd own device left) w' _ t s c = same b w' c (subst (HoldsUnmarked g a) (sym s.4)
-      (unmarked_joined (risen g w s.0) (record { number = own.number; role = own.role own.number; state = Recovering; re_added = true; device = left }) refl t.unmarked))
+      (unmarked_joined (risen g w s.0) (record { number = own.number; role = own.role own.number; state = Recovering; re_added = true; recovering = true; device = left }) refl t.unmarked))
   unmarked_step b w Event.MakeClean w' _ t s c = same b w' c (subst (HoldsUnmarked g a) (sym s.3) t.unmarked)
 
 pub holds_step : (g : Geometry) (a b : Content) (w : World) (e : Event) (w' : World) → IsTracked g w → Holds g a w → Step g w e w' → Becomes g e w a b → Holds g b w'

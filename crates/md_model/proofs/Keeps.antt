@@ -60,7 +60,7 @@ module _ (g : Geometry) (small : IsWithinLimits g) where
   tracked_step : (w : World) (e : Event) (w' : World) → IsTracked g w → Happens g w e w' → IsTracked g w'
   tracked_step w (Event.Begin n p) w' t s = subst (IsTracked g) (sym s.5)
       (tracked_entered g (risen_if g w s.0 s.1) n p small.wide (begin_after g w n p s.0 s.1 s.2) (rise_tracked w s.0 s.1 t))
-  tracked_step w (Event.Record k) w' t s = subst (IsTracked g) (sym s.1) (tracked_fewer g w (recorded w k) (fewer_recorded w k) t)
+  tracked_step w (Event.Record k) w' t s = subst (IsTracked g) (sym s.3) (tracked_fewer g w (recorded w k s.0) (fewer_recorded w k s.0 s.1) t)
   tracked_step w (Event.StoreMarks k b) w' t s = subst (IsTracked g) (sym s.1) (tracked_marks_stored g w k b t)
   tracked_step w (Event.WriteMember n k) w' t s = subst (IsTracked g) (sym s.2) (tracked_written g w n s.0 k s.1 t)
   tracked_step w (Event.Finish n) w' t s = subst (IsTracked g) (sym s.2) (tracked_finished g w n s.0 s.1 t)
@@ -75,9 +75,9 @@ module _ (g : Geometry) (small : IsWithinLimits g) where
   tracked_step w Event.Unresynced w' t s = subst (IsTracked g) (sym s.1) (tracked_resynced g w false s.0 (λ r. absurd (true≢false (sym r))) t)
   tracked_step w Event.MakeClean w' t s = subst (IsTracked g) (sym s.3) (tracked_made_clean g w s.0 t)
   tracked_step w (Event.Remove k) w' t s = subst (IsTracked g) (sym s.3) (tracked_removed g w k (is_spare (w.state k)) s.0 t)
-  tracked_step w (Event.Add d left) w' t s = subst (IsTracked g) (sym s.4) (tracked_joined g (risen g w s.0) (record { number = d; role = 65535; state = Spare; re_added = false; device = left }) refl (tracked_risen g w s.0 t))
+  tracked_step w (Event.Add d left) w' t s = subst (IsTracked g) (sym s.4) (tracked_joined g (risen g w s.0) (record { number = d; role = 65535; state = Spare; re_added = false; recovering = false; device = left }) refl (tracked_risen g w s.0 t))
   tracked_step w (Event.ReAdd own device left) w' t s = subst (IsTracked g) (sym s.4)
-      (tracked_joined g (risen g w s.0) (record { number = own.number; role = own.role own.number; state = Recovering; re_added = true; device = left }) refl (tracked_risen g w s.0 t))
+      (tracked_joined g (risen g w s.0) (record { number = own.number; role = own.role own.number; state = Recovering; re_added = true; recovering = true; device = left }) refl (tracked_risen g w s.0 t))
 
 module _ (g : Geometry) (small : IsWithinLimits g) (opened : Super) (away : ℕ → Bool) where
   abbrev Records : ℕ → Bool → World → Type 0
@@ -97,6 +97,7 @@ module _ (g : Geometry) (small : IsWithinLimits g) (opened : Super) (away : ℕ 
         below = r.below;
         later = r.later;
         has_super = r.has_super;
+        there = r.there;
         entries = r.entries;
         present = r.present;
         slot = r.slot;
@@ -105,9 +106,11 @@ module _ (g : Geometry) (small : IsWithinLimits g) (opened : Super) (away : ℕ 
         by_memory = r.by_memory;
         by_opening = r.by_opening;
         by_super = r.by_super;
+        as_new = r.as_new;
         stale = r.stale;
         recovering = r.recovering;
         clear = r.clear;
+        bit = r.bit;
         in_memory = r.in_memory;
         in_opening = r.in_opening;
         in_super = r.in_super;
@@ -144,7 +147,7 @@ module _ (g : Geometry) (small : IsWithinLimits g) (opened : Super) (away : ℕ 
   -- or the one that was being written: then it fails as after a record
   module _ (w : World) (k : ℕ) (left : Stored) (full : Bool) (tried : Bool) where
     abbrev after_record : World
-    after_record = failed g (with_device (recorded w k) k left) k full
+    after_record = failed g (with_device (recorded w k left.listed) k left) k full
 
     not_due : (j : ℕ) → put k false (λ i. is_recorded (w.state i) || put k false w.due i) j ≡ put k false (λ i. is_recorded (w.state i) || w.due i) j
     not_due j = by_test (eqb j k)
@@ -153,16 +156,16 @@ module _ (g : Geometry) (small : IsWithinLimits g) (opened : Super) (away : ℕ 
 
     as_unrecorded : Records (w.events + 1) tried after_record → Records (w.events + 1) tried (failed g (with_device w k left) k full)
     as_unrecorded = subst (IsRecorded g opened (w.events + 1) tried away) (λ i. record (book_of (failed g (with_device w k left) k full)) {
-      super = λ j. (put-twice k left (recorded_device w k) w.stored j i).super;
+      super = λ j. (put-twice k left (recorded_device w k left.listed) w.stored j i).super;
       due = λ j. not_due j i;
     })
 
-    fails_at_end : (failed_at : ℕ) → left.super ≡ Some (super_for w k) → MayFail w k → Records failed_at tried (recorded w k) → Records (w.events + 1) tried after_record
-    fails_at_end failed_at new may r = recorded_without g small.few opened failed_at tried away (risen g (recorded w k) full) k left
-        (λ own e. ap (λ (d : Stored). d.super) (put-hit k (recorded_device w k) w.stored) ∙ sym new ∙ e)
+    fails_at_end : (failed_at : ℕ) → left.super ≡ Some (super_for w k) → MayFail w k → Records failed_at tried (recorded w k left.listed) → Records (w.events + 1) tried after_record
+    fails_at_end failed_at new may r = recorded_without g small.few opened failed_at tried away (risen g (recorded w k left.listed) full) k left
+        (λ own e. ap (λ (d : Stored). d.super) (put-hit k (recorded_device w k left.listed) w.stored) ∙ sym new ∙ e)
         (λ j own e. let h = r.below j own e in let t : own.events < w.events + 1 = omega arith in t)
         (let h = r.later in let t : opened.events < w.events + 1 = omega arith in t)
-        (may_fail_risen w (risen g (recorded w k) full) k refl may) (recorded_risen g small.few opened failed_at tried away (recorded w k) full r)
+        (may_fail_risen w (risen g (recorded w k left.listed) full) k refl may) (recorded_risen g small.few opened failed_at tried away (recorded w k left.listed) full r)
 
   record_fails : (w : World) (k : ℕ) (left : Stored) (w' : World) (failed_at : ℕ) (tried : Bool)
       → LeftBySuper w k left → Fails g w k left w' → Records failed_at tried w → Records w'.events tried w'
@@ -171,7 +174,7 @@ module _ (g : Geometry) (small : IsWithinLimits g) (opened : Super) (away : ℕ 
       (λ (x : (left.super ≡ Some (super_for w k)) ⊎ (left.super ≡ None)). ⊎_elim
       (λ (new : left.super ≡ Some (super_for w k)). subst (λ v. Records v.events tried v) (sym f.3)
       (as_unrecorded w k left f.0 tried (fails_at_end w k left f.0 tried failed_at new f.1
-      (recorded_recorded g small.few opened failed_at tried away w k f.1.in_use r))))
+      (recorded_recorded g small.few opened failed_at tried away w k left.listed f.1.in_use r))))
       (λ (lost : left.super ≡ None). fails_recorded w k left w' failed_at tried (λ own e. absurd (none_some own (sym lost ∙ e))) f r)
       x)
       l.super
@@ -191,7 +194,7 @@ module _ (g : Geometry) (small : IsWithinLimits g) (opened : Super) (away : ℕ 
 
   added_step : (h : History) (d : ℕ) (left : Stored) (w' : World) → Records h.failed_at h.tried h.now → ((d : ℕ) → away d ≡ true → w'.present d ≡ false) → Happens g h.now (Event.Add d left) w' → Records h.failed_at h.tried w'
   added_step h d left w' r gone s = subst (Records h.failed_at h.tried) (sym s.4)
-      (recorded_joined g small.few opened h.failed_at h.tried away (risen g h.now s.0) (record { number = d; role = 65535; state = Spare; re_added = false; device = left })
+      (recorded_joined g small.few opened h.failed_at h.tried away (risen g h.now s.0) (record { number = d; role = 65535; state = Spare; re_added = false; recovering = false; device = left })
       (spare_joins g (risen g h.now s.0) d left small.few (number_absent g h.now d s.1.number) s.2)
       (λ j own e. let b = r.below j own e in let t : own.events < h.now.events + 1 = omega arith in t)
       (let l = r.later in let t : opened.events < h.now.events + 1 = omega arith in t)
@@ -201,7 +204,7 @@ module _ (g : Geometry) (small : IsWithinLimits g) (opened : Super) (away : ℕ 
   taken_back_step : (h : History) (own : Super) (device left : Stored) (w' : World) → Records h.failed_at h.tried h.now → ((d : ℕ) → away d ≡ true → w'.present d ≡ false)
       → Happens g h.now (Event.ReAdd own device left) w' → Records h.failed_at h.tried w'
   taken_back_step h own device left w' r gone s = subst (Records h.failed_at h.tried) (sym s.4)
-      (recorded_joined g small.few opened h.failed_at h.tried away (risen g h.now s.0) (record { number = own.number; role = own.role own.number; state = Recovering; re_added = true; device = left })
+      (recorded_joined g small.few opened h.failed_at h.tried away (risen g h.now s.0) (record { number = own.number; role = own.role own.number; state = Recovering; re_added = true; recovering = true; device = left })
       (former_joins g (risen g h.now s.0) own device left s.1.absent s.1.small s.2)
       (λ j other e. let b = r.below j other e in let t : other.events < h.now.events + 1 = omega arith in t)
       (let l = r.later in let t : opened.events < h.now.events + 1 = omega arith in t)
@@ -210,7 +213,7 @@ module _ (g : Geometry) (small : IsWithinLimits g) (opened : Super) (away : ℕ 
 
   recorded_step : (h : History) (e : Event) (w' : World) → Before h → ((d : ℕ) → away d ≡ true → w'.present d ≡ false) → Happens g h.now e w' → Records (failed_after e w' h.failed_at) (tried_after e h.tried) w'
   recorded_step h (Event.Begin n p) w' t gone s = subst (Records h.failed_at h.tried) (sym s.5) (rise_recorded h.now n p s.0 s.1 h.failed_at h.tried t.recorded)
-  recorded_step h (Event.Record k) w' t gone s = subst (Records h.failed_at h.tried) (sym s.1) (recorded_recorded g small.few opened h.failed_at h.tried away h.now k s.0 t.recorded)
+  recorded_step h (Event.Record k) w' t gone s = subst (Records h.failed_at h.tried) (sym s.3) (recorded_recorded g small.few opened h.failed_at h.tried away h.now k s.0 s.2 t.recorded)
   recorded_step h (Event.StoreMarks k b) w' t gone s = subst (Records h.failed_at h.tried) (sym s.1)
       (same_supers h.failed_at h.tried h.now (marks_stored h.now k b).stored (λ j. put-same (λ d. d.super) k (marked_device h.now k b) h.now.stored j refl) t.recorded)
   recorded_step h (Event.WriteMember n k) w' t gone s = subst (Records h.failed_at true) (sym s.2)
@@ -249,7 +252,7 @@ module _ (g : Geometry) (small : IsWithinLimits g) (opened : Super) (away : ℕ 
 
   alone_step : (w : World) (e : Event) (w' : World) → ((d : ℕ) → away d ≡ true → w.present d ≡ false) → ((d : ℕ) → away d ≡ true → w'.present d ≡ false) → IsAlone g away w → Happens g w e w' → IsAlone g away w'
   alone_step w (Event.Begin n p) w' gone then t s = subst (IsAlone g away) (sym s.5) (begun_alone w n p s.0 s.1 gone s.3)
-  alone_step w (Event.Record k) w' gone then t s = subst (IsAlone g away) (sym s.1) t
+  alone_step w (Event.Record k) w' gone then t s = subst (IsAlone g away) (sym s.3) t
   alone_step w (Event.StoreMarks k b) w' gone then t s = subst (IsAlone g away) (sym s.1) t
   alone_step w (Event.WriteMember n k) w' gone then t s = subst (IsAlone g away) (sym s.2) (λ _ _ d _. t n s.0 d s.1.in_flight)
   alone_step w (Event.Finish n) w' gone then t s = subst (IsAlone g away) (sym s.2) (λ m q d e. t m q d (other_flights w n m q e).1)
@@ -316,7 +319,7 @@ removed_present g w k false full d = refl
 gone_step : (g : Geometry) (w : World) (e : Event) (w' : World) (before : ℕ → Bool) → ((d : ℕ) → before d ≡ true → w.present d ≡ false) → Happens g w e w'
     → (d : ℕ) → away_after e before d ≡ true → w'.present d ≡ false
 gone_step g w (Event.Begin n p) w' before gone s d x = ap (λ (v : World). v.present d) s.5 ∙ ap (λ (f : ℕ → Bool). f d) (begun_present g w n p s.0 s.1) ∙ gone d x
-gone_step g w (Event.Record k) w' before gone s d x = ap (λ (v : World). v.present d) s.1 ∙ gone d x
+gone_step g w (Event.Record k) w' before gone s d x = ap (λ (v : World). v.present d) s.3 ∙ gone d x
 gone_step g w (Event.StoreMarks k b) w' before gone s d x = ap (λ (v : World). v.present d) s.1 ∙ gone d x
 gone_step g w (Event.WriteMember n k) w' before gone s d x = ap (λ (v : World). v.present d) s.2 ∙ gone d x
 gone_step g w (Event.Finish n) w' before gone s d x = ap (λ (v : World). v.present d) s.2 ∙ gone d x
@@ -346,6 +349,7 @@ narrower g opened failed_at tried away less b from r = record {
   below = r.below;
   later = r.later;
   has_super = r.has_super;
+  there = r.there;
   entries = r.entries;
   present = r.present;
   slot = r.slot;
@@ -354,9 +358,11 @@ narrower g opened failed_at tried away less b from r = record {
   by_memory = r.by_memory;
   by_opening = r.by_opening;
   by_super = r.by_super;
+  as_new = r.as_new;
   stale = r.stale;
   recovering = r.recovering;
   clear = r.clear;
+  bit = r.bit;
   in_memory = r.in_memory;
   in_opening = r.in_opening;
   in_super = r.in_super;

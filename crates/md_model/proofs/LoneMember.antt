@@ -26,7 +26,7 @@ abbrev pub v2 : World
 v2 = marks_stored v1 0 0
 
 abbrev pub v3 : World
-v3 = recorded v2 0
+v3 = recorded v2 0 (λ _. false)
 
 abbrev pub v4 : World
 v4 = member_written v3 0 one_sector 0
@@ -72,7 +72,7 @@ may_finish = record { in_flight = refl; written = λ _ _. refl; recorded = in_on
 
 pub writes : Run small_geometry (opening lone_world) lone_write at_end
 writes = begins (Event.Record 0 ∷ Event.WriteMember 0 0 ∷ Event.Finish 0 ∷ []) at_end
-    (v3, (refl, (refl, refl)), (v4, (refl, (one_sector, may_write, refl)), (v5, (refl, (written_once, may_finish, refl)), refl)))
+    (v3, (refl, ((λ _. false), (λ _ _. refl), refl, refl)), (v4, (refl, (one_sector, may_write, refl)), (v5, (refl, (written_once, may_finish, refl)), refl)))
 
 -- past the member no device is there
 elsewhere : (k : ℕ) → k ≢ 0 → v3.stored k ≡ lone_world.stored k
@@ -130,7 +130,7 @@ is_torn = record {
 pub shuts_out_torn : (last : History) × Run small_geometry (opening lone_world) lone_recorded last × IsShutOut small_geometry (small_super 1) last (small_super 0) 8 (2 ∷ [])
 shuts_out_torn = (
   at_record,
-  begins (Event.Record 0 ∷ []) at_record (v3, (refl, (refl, refl)), refl),
+  begins (Event.Record 0 ∷ []) at_record (v3, (refl, ((λ _. false), (λ _ _. refl), refl, refl)), refl),
   record {
     tried = inr (0, one_sector, 0, may_write);
     out = record {

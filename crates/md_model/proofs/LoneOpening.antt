@@ -31,7 +31,7 @@ is_one d e = grind (arith, nat_tests)
 
 -- by its superblock, which calls it in sync
 module _ (own : Super) (number : own.number ≡ 1) (state : state_by small_geometry own own ≡ State.InSync) (entries : (d : ℕ) → 2 ≤ d → own.role d ≡ 65535)
-    (accepted : is_accepted (lone_stored own 0) ≡ true) (not_due : nat_lt own.events own.events ≡ false) where
+    (accepted : is_accepted (lone_stored own 0) ≡ true) (not_due : nat_lt own.events own.events ≡ false) (clear : own.recovering ≡ false) where
   of_one : (P : ℕ → Super → Type 0) → P 0 own → (k : ℕ) (it : Super) → (lone_stored own k).super ≡ Some it → P k it
   of_one P a zero it e = subst (P 0) (some-injective own it e) a
   of_one P a (suc k) it e = absurd (none_some it e)
@@ -73,6 +73,7 @@ module _ (own : Super) (number : own.number ≡ 1) (state : state_by small_geome
     one_each = λ j k a b _. active_one (λ i. i ≡ k) (active_one (λ i. 0 ≡ i) refl k b) j a;
     due = of_one (λ k it. false ≡ (is_recorded (lone_state k) && nat_lt it.events own.events)) (sym not_due);
     re_added = λ _. refl;
+    recovering = of_one (λ _ it. false ≡ it.recovering) (sym clear);
   }
 
   marks : HasMarks (lone_at own)
@@ -108,7 +109,7 @@ no_role : (d : ℕ) → 2 ≤ d → small_role d ≡ 65535
 no_role d h = ap (λ b. cond b d 65535) (not_below-nat_lt d 2 h)
 
 pub lone_starts : IsStart small_geometry (small_super 1) lone_world
-lone_starts = starts_alone (small_super 1) refl refl no_role refl refl
+lone_starts = starts_alone (small_super 1) refl refl no_role refl refl refl
 
 pub later_starts : IsStart small_geometry later_super (lone_at later_super)
-later_starts = starts_alone later_super refl refl (λ d h. put-miss 0 65534 small_role d (λ e. omega arith) ∙ no_role d h) refl refl
+later_starts = starts_alone later_super refl refl (λ d h. put-miss 0 65534 small_role d (λ e. omega arith) ∙ no_role d h) refl refl refl

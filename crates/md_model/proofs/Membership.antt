@@ -15,7 +15,7 @@ use Rattle.md_model.proofs.Table.{has_role}
 use Rattle.md_model.proofs.Tracked.{IsTracked}
 use Rattle.md_model.specs.Content.{HoldsInFlight}
 use Rattle.md_model.proofs.TrackedSteps.{in_flight_risen, tracked_risen}
-use Rattle.md_model.proofs.Recorded.{book_of, Has, In, Trusts, IsRecorded, recorded_in_sync}
+use Rattle.md_model.proofs.Recorded.{book_of, Has, In, IsRecorded, recorded_in_sync}
 use Rattle.md_model.proofs.RecordedSteps.{recorded_risen}
 
 -- no two members move to one place, and none to the one that left
@@ -160,6 +160,7 @@ module _ (g : Geometry) (few : g.raid_disks ≤ 32) (opened : Super) (failed_at 
     below = λ j. r.below (skip k j);
     later = r.later;
     has_super = λ j. r.has_super (skip k j);
+    there = λ j on. skip-within k j w.members there (r.there (skip k j) on);
     entries = r.entries;
     present = λ j low.
         let s = skip-below k j w.members low in
@@ -168,12 +169,14 @@ module _ (g : Geometry) (few : g.raid_disks ≤ 32) (opened : Super) (failed_at 
     slot = λ j own e. skip-within k j w.members there (r.slot (skip k j) own e);
     gone = gone;
     distinct = λ i j li lj same. skip-injective k i j (r.distinct (skip k i) (skip k j) (skip-below k i w.members li) (skip-below k j w.members lj) same);
-    by_memory = λ j. r.by_memory (skip k j);
+    by_memory = λ j low. r.by_memory (skip k j) (skip-below k j w.members low);
     by_opening = λ h j. r.by_opening h (skip k j);
     by_super = λ i own e h up j. r.by_super (skip k i) own e h up (skip k j);
+    as_new = λ j. r.as_new (skip k j);
     stale = λ j. r.stale (skip k j);
     recovering = λ j. r.recovering (skip k j);
     clear = λ j. r.clear (skip k j);
+    bit = λ j. r.bit (skip k j);
     in_memory = λ j. r.in_memory (skip k j);
     in_opening = λ j. r.in_opening (skip k j);
     in_super = λ i first j. r.in_super (skip k i) first (skip k j);
@@ -189,8 +192,8 @@ module _ (g : Geometry) (few : g.raid_disks ≤ 32) (opened : Super) (failed_at 
   }
 
   -- the entry of one that is not in sync becomes that of a failed device
-  recorded_without_entry : (w : World) (k : ℕ) → k < w.members → (is_in_sync (w.state k) ≡ true → ⊥) → opened.events < w.events → Records w → Records (without_entry w k)
-  recorded_without_entry w k there out up r =
+  recorded_without_entry : (w : World) (k : ℕ) → k < w.members → (is_in_sync (w.state k) ≡ true → ⊥) → opened.events < w.events → ((j : ℕ) (own : Super) → Has (book_of w) j own → own.events < w.events) → Records w → Records (without_entry w k)
+  recorded_without_entry w k there out up under r =
       let now : ℕ → ℕ = (without_entry w k).role in
       let taken_was : (d : ℕ) → now d < g.raid_disks → w.role d < g.raid_disks =
       λ d. by_test (eqb d (w.number k) && nat_lt d w.entries)
@@ -201,21 +204,23 @@ module _ (g : Geometry) (few : g.raid_disks ≤ 32) (opened : Super) (failed_at 
         below = r.below;
         later = r.later;
         has_super = r.has_super;
+        there = r.there;
         entries = λ d h. past_entry d (w.number k) w.entries (w.role d) h ∙ r.entries d h;
         present = r.present;
         slot = r.slot;
         gone = r.gone;
         distinct = r.distinct;
-        by_memory = λ j own e late low. r.by_memory j own e late (taken_was (w.number j) low);
+        by_memory = λ j low named. r.by_memory j low (taken_was (w.number j) named);
         by_opening = r.by_opening;
         by_super = r.by_super;
+        as_new = λ j own e _ at. absurd (let t : own.events < w.events = under j own e in omega arith);
         stale = r.stale;
         recovering = r.recovering;
         clear = r.clear;
+        bit = r.bit;
         in_memory = λ j a.
-            let mine = r.has_super j (recorded_in_sync (w.state j) a) in
             subst (λ x. x < g.raid_disks) (sym (other_entry (w.number j) (w.number k) w.entries (w.role (w.number j))
-            (λ same. out (ap (λ i. is_in_sync (w.state i)) (sym (r.distinct j k (r.slot j mine.0 mine.1) there same)) ∙ a)))) (r.in_memory j a);
+            (λ same. out (ap (λ i. is_in_sync (w.state i)) (sym (r.distinct j k (r.there j (recorded_in_sync (w.state j) a)) there same)) ∙ a)))) (r.in_memory j a);
         in_opening = r.in_opening;
         in_super = r.in_super;
         unrisen = λ h. absurd (omega arith);
@@ -239,24 +244,23 @@ module _ (g : Geometry) (few : g.raid_disks ≤ 32) (opened : Super) (failed_at 
       by true gone r =
           recorded_taken_out (without_entry (risen g w full) k) k may.there (not_in_sync (w.state k) may.out) gone
           (recorded_without_entry (risen g w full) k may.there (not_in_sync (w.state k) may.out) (let l = r.later in let t : opened.events < w.events + 1 = omega arith in t)
+          (λ j own e. let b = r.below j own e in let t : own.events < w.events + 1 = omega arith in t)
           (recorded_risen g few opened failed_at tried stays_away w full r))
       by false gone r = recorded_taken_out w k may.there (not_in_sync (w.state k) may.out) gone r
 
 -- what is asked of a member that comes in: its superblock bears the count and the roles, and says of it what its state is
 pub record Joins (g : Geometry) (w : World) (n : Newcomer) : Type 0 where
   pub absent : w.present n.number ≡ false
-  pub recovering : Bool
-  pub super : n.device.super ≡ Some (joined_super w n.number n.role recovering)
+  pub super : n.device.super ≡ Some (joined_super w n.number n.role n.recovering)
   pub out : is_in_sync n.state ≡ false
   pub fresh : n.state ≡ Stale → ⊥
-  pub bit : is_recovering n.state ≡ true → recovering ≡ true
+  pub bit : is_recovering n.state ≡ true → n.recovering ≡ true
   pub role : n.role < g.raid_disks → has_role n.state ≡ true
   pub past : 1920 ≤ n.number → n.role ≡ 65535
 
-pub spare_joins : (g : Geometry) (w : World) (d : ℕ) (left : Stored) → g.raid_disks ≤ 32 → w.present d ≡ false → IsLaidOut g w d left → Joins g w (record { number = d; role = 65535; state = Spare; re_added = false; device = left })
+pub spare_joins : (g : Geometry) (w : World) (d : ℕ) (left : Stored) → g.raid_disks ≤ 32 → w.present d ≡ false → IsLaidOut g w d left → Joins g w (record { number = d; role = 65535; state = Spare; re_added = false; recovering = false; device = left })
 spare_joins g w d left few absent laid = record {
   absent = absent;
-  recovering = false;
   super = laid.super;
   out = refl;
   fresh = λ e. let x = ap is_spare e in true≢false x;
@@ -266,10 +270,9 @@ spare_joins g w d left few absent laid = record {
 }
 
 pub former_joins : (g : Geometry) (w : World) (own : Super) (device left : Stored) → w.present own.number ≡ false → own.number < 1920 → IsTakenBack w own device left
-    → Joins g w (record { number = own.number; role = own.role own.number; state = Recovering; re_added = true; device = left })
+    → Joins g w (record { number = own.number; role = own.role own.number; state = Recovering; re_added = true; recovering = true; device = left })
 former_joins g w own device left absent low taken = record {
   absent = absent;
-  recovering = true;
   super = ap (λ (d : Stored). d.super) taken.rest;
   out = refl;
   fresh = λ e. let x = ap is_recovering e in true≢false x;
@@ -287,7 +290,7 @@ module _ (g : Geometry) (few : g.raid_disks ≤ 32) (opened : Super) (failed_at 
   v = joined w n
 
   abbrev new : Super
-  new = joined_super w n.number n.role joins.recovering
+  new = joined_super w n.number n.role n.recovering
 
   by_joined : {P : Type 0} (j : ℕ) (own : Super) → Has (book_of v) j own → (j ≡ w.members → new ≡ own → P) → (j ≢ w.members → Has (book_of w) j own → P) → P
   by_joined {P} j own e here there =
@@ -298,6 +301,12 @@ module _ (g : Geometry) (few : g.raid_disks ≤ 32) (opened : Super) (failed_at 
 
   state_there : (j : ℕ) → j ≢ w.members → v.state j ≡ w.state j
   state_there j apart = put-miss w.members n.state w.state j apart
+
+  bit_here : (j : ℕ) → j ≡ w.members → v.recovering j ≡ n.recovering
+  bit_here j same = ap v.recovering same ∙ put-hit w.members n.recovering w.recovering
+
+  bit_there : (j : ℕ) → j ≢ w.members → v.recovering j ≡ w.recovering j
+  bit_there j apart = put-miss w.members n.recovering w.recovering j apart
 
   number_here : (j : ℕ) → j ≡ w.members → v.number j ≡ n.number
   number_here j same = ap v.number same ∙ put-hit w.members n.number w.number
@@ -314,12 +323,16 @@ module _ (g : Geometry) (few : g.raid_disks ≤ 32) (opened : Super) (failed_at 
       let other : (j : ℕ) → j < w.members → w.number j ≢ n.number = λ j low same. true≢false (sym (r.present j low) ∙ ap w.present same ∙ joins.absent) in
       let role_there : (j : ℕ) → j < w.members → put n.number n.role w.role (w.number j) ≡ w.role (w.number j) = λ j low. put-miss n.number n.role w.role (w.number j) (other j low) in
       let old_in : (j : ℕ) → In b' j → (j ≢ w.members) × In b j = was_member w n joins.out in
-      let low_of : (j : ℕ) → In b j → j < w.members = λ j a. let x = r.has_super j (recorded_in_sync (w.state j) a) in r.slot j x.0 x.1 in
+      let low_of : (j : ℕ) → In b j → j < w.members = λ j a. r.there j (recorded_in_sync (w.state j) a) in
       let had : (j : ℕ) (own : Super) → In b' j → Has b' j own → Has b j own = λ j own a e. by_joined j own e (λ same _. absurd ((old_in j a).0 same)) (λ _ x. x) in
-      let memory : Trusts g b' w.events v.role = λ j own e late low. by_joined j own e
-      (λ same _. ap has_role (state_here j same) ∙ joins.role (subst (λ x. x < g.raid_disks) (put-hit n.number n.role w.role) (subst (λ d. v.role d < g.raid_disks) (number_here j same) low)))
-      (λ apart x. ap has_role (state_there j apart) ∙ r.by_memory j own x (r.below j own x)
-      (subst (λ y. y < g.raid_disks) (role_there j (r.slot j own x)) (subst (λ d. v.role d < g.raid_disks) (number_there j apart) low))) in
+      let slot : (j : ℕ) (own : Super) → Has b' j own → j < w.members + 1 = λ j own e. by_joined j own e
+      (λ same _. let t : j < w.members + 1 = omega arith in t) (λ _ x. let s = r.slot j own x in let t : j < w.members + 1 = omega arith in t) in
+      let memory : (j : ℕ) → j < w.members + 1 → v.role (v.number j) < g.raid_disks → has_role (v.state j) ≡ true = λ j within low. by_same j w.members
+      (λ same. ap has_role (state_here j same) ∙ joins.role (subst (λ x. x < g.raid_disks) (put-hit n.number n.role w.role) (subst (λ d. v.role d < g.raid_disks) (number_here j same) low)))
+      (λ apart.
+      let below : j < w.members = omega arith in
+      ap has_role (state_there j apart) ∙ r.by_memory j below
+      (subst (λ y. y < g.raid_disks) (role_there j below) (subst (λ d. v.role d < g.raid_disks) (number_there j apart) low))) in
       let in_memory : (j : ℕ) → In b' j → v.role (v.number j) < g.raid_disks = λ j a.
       let o = old_in j a in
       subst (λ d. v.role d < g.raid_disks) (sym (number_there j o.0)) (subst (λ y. y < g.raid_disks) (sym (role_there j (low_of j o.1))) (r.in_memory j o.1)) in
@@ -329,16 +342,17 @@ module _ (g : Geometry) (few : g.raid_disks ≤ 32) (opened : Super) (failed_at 
         number = λ j own e. by_joined j own e (λ same is. sym (ap (λ (s : Super). s.number) is) ∙ sym (number_here j same)) (λ apart x. r.number j own x ∙ sym (number_there j apart));
         below = λ j own e. by_joined j own e (λ _ is. let x : w.events ≡ own.events = ap (λ (s : Super). s.events) is in omega arith) (λ _ x. r.below j own x);
         later = r.later;
-        has_super = λ j a. by_same j w.members
-            (λ same. (new, ap (λ i. (v.stored i).super) same ∙ ap (λ (d : Stored). d.super) (put-hit w.members n.device w.stored) ∙ joins.super))
-            (λ apart. let x = r.has_super j (ap is_recorded (sym (state_there j apart)) ∙ a) in (x.0, ap (λ (d : Stored). d.super) (put-miss w.members n.device w.stored j apart) ∙ x.1));
+        has_super = λ j a. let o = old_in j a in let x = r.has_super j o.1 in (x.0, ap (λ (d : Stored). d.super) (put-miss w.members n.device w.stored j o.0) ∙ x.1);
+        there = λ j on. by_same j w.members
+            (λ same. let t : j < w.members + 1 = omega arith in t)
+            (λ apart. let s = r.there j (ap is_recorded (sym (state_there j apart)) ∙ on) in let t : j < w.members + 1 = omega arith in t);
         entries = λ d h. by_same d n.number
             (λ same. put-at n.number n.role w.role d (λ x. x ≡ 65535) (λ _. joins.past (high w.entries n.number d same h)) (λ apart. absurd (apart same)))
             (λ apart. put-miss n.number n.role w.role d apart ∙ r.entries d (past w.entries n.number d h));
         present = λ j low. by_same j w.members
             (λ same. or_last (w.present (v.number j)) (eqb (v.number j) n.number) (eq-eqb (v.number j) n.number (number_here j same)))
             (λ apart. or_first (w.present (v.number j)) (eqb (v.number j) n.number) (ap w.present (number_there j apart) ∙ r.present j (omega arith)));
-        slot = λ j own e. by_joined j own e (λ same _. let t : j < w.members + 1 = omega arith in t) (λ _ x. let s = r.slot j own x in let t : j < w.members + 1 = omega arith in t);
+        slot = slot;
         gone = gone;
         distinct = λ i j li lj same. by_same i w.members
             (λ at_i. by_same j w.members (λ at_j. at_i ∙ sym at_j) (λ off_j. absurd (other j (omega arith) (sym (number_there j off_j) ∙ sym same ∙ number_here i at_i))))
@@ -349,15 +363,21 @@ module _ (g : Geometry) (few : g.raid_disks ≤ 32) (opened : Super) (failed_at 
             (λ _ is. let x : w.events ≡ own.events = ap (λ (s : Super). s.events) is in absurd (omega arith))
             (λ apart x. ap has_role (state_there j apart) ∙ r.by_opening h j own x late (subst (λ d. opened.role d < g.raid_disks) (number_there j apart) low));
         by_super = λ i first e h more j own e' late low. by_joined i first e
-            (λ _ is. subst (λ (s : Super). Trusts g b' s.events s.role) is memory j own e' late low)
+            (λ _ is. memory j (slot j own e') (subst (λ (s : Super). s.role (v.number j) < g.raid_disks) (sym is) low))
             (λ _ x. by_joined j own e'
             (λ _ is. let y : w.events ≡ own.events = ap (λ (s : Super). s.events) is in let z = under i first x in absurd (omega arith))
             (λ apart y. ap has_role (state_there j apart) ∙ r.by_super i first x h more j own y late (subst (λ d. first.role d < g.raid_disks) (number_there j apart) low)));
+        as_new = λ i first e _ at d. by_joined i first e
+            (λ _ is. sym (ap (λ (s : Super). s.role d) is))
+            (λ _ x. absurd (let t : first.events < w.events = under i first x in omega arith));
         stale = λ j own e is. by_joined j own e (λ same _. absurd (joins.fresh (sym (state_here j same) ∙ is))) (λ apart x. r.stale j own x (sym (state_there j apart) ∙ is));
-        recovering = λ j own e at. by_joined j own e
-            (λ same is. sym (ap (λ (s : Super). s.recovering) is) ∙ joins.bit (ap is_recovering (sym (state_here j same)) ∙ at))
-            (λ apart x. r.recovering j own x (ap is_recovering (sym (state_there j apart)) ∙ at));
-        clear = λ j own e a. r.clear j own (had j own a e) (old_in j a).1;
+        recovering = λ j at. by_same j w.members
+            (λ same. bit_here j same ∙ joins.bit (ap is_recovering (sym (state_here j same)) ∙ at))
+            (λ apart. bit_there j apart ∙ r.recovering j (ap is_recovering (sym (state_there j apart)) ∙ at));
+        clear = λ j a. let o = old_in j a in bit_there j o.0 ∙ r.clear j o.1;
+        bit = λ j own e. by_joined j own e
+            (λ same is. sym (ap (λ (s : Super). s.recovering) is) ∙ sym (bit_here j same))
+            (λ apart x. r.bit j own x ∙ sym (bit_there j apart));
         in_memory = in_memory;
         in_opening = λ j own a e late. let o = old_in j a in subst (λ d. opened.role d < g.raid_disks) (sym (number_there j o.0)) (r.in_opening j own o.1 (had j own a e) late);
         in_super = λ i first j own e a e' late more. by_joined i first e

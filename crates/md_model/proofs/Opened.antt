@@ -1,8 +1,9 @@
 -- The invariant holds at an opening.
-use Rattle.std.proofs.Common.{◌≡◌, ℕ, ◌<◌, ◌≤◌, true, false, ◌&&◌, ⊎_elim, refl, sym, ap, ◌∙◌, subst, true≢false, arith}
+use Rattle.std.proofs.Common.{◌≡◌, ℕ, ◌<◌, ◌≤◌, Bool, true, false, ◌&&◌, ⊎_elim, refl, sym, ap, ◌∙◌, subst, true≢false, arith}
 use Rattle.std.specs.Prelude.{Some, nat_lt}
 use Rattle.md_model.specs.Sectors.{Geometry, chunk_of}
-use Rattle.md_model.specs.States.{is_in_sync, is_recovering, is_recorded}
+use Rattle.md_model.specs.States.{State, is_in_sync, is_recovering, is_recorded}
+use Rattle.md_model.specs.States.State.{Faulty}
 use Rattle.md_model.specs.Devices.{Super, AgreeAt}
 use Rattle.md_model.specs.Worlds.{Request, World, IsInSync}
 use Rattle.md_model.specs.Openings.{IsOpened}
@@ -10,7 +11,6 @@ use Rattle.md_model.specs.Runs.{opening, IsStart}
 use Rattle.md_model.specs.Content.{HoldsInFlight}
 use Rattle.md_model.proofs.Cases.{by_test, never, none_some, is_below, not_below}
 use Rattle.md_model.proofs.Table.{SaysInSync, has_role, found_says, stale_says, recovering_says, role_says}
-use Rattle.md_model.proofs.Recorded.{recorded_in_sync}
 use Rattle.md_model.proofs.Keeps.{IsKept, not_true}
 use Rattle.md_model.proofs.OpeningCovers.{accepted-bits}
 use Rattle.md_model.proofs.OpeningCovers as covers
@@ -31,9 +31,17 @@ module _ (g : Geometry) (first : Super) (w : World) (start : IsStart g first w) 
   slot_of k own e = by_test (nat_lt k w.members) (is_below k w.members)
       (λ past. absurd (none_some own (sym (o.members.vacant k (not_below k w.members past)) ∙ e)))
 
-  own_of : (k : ℕ) → is_recorded (w.state k) ≡ true → (own : Super) × ((w.stored k).super ≡ Some own)
-  own_of k on = by_test (nat_lt k w.members) (λ low. o.members.filled k (is_below k w.members low))
-      (λ past. absurd (true≢false (sym on ∙ ap is_recorded (o.states.past k (not_below k w.members past)))))
+  there : (k : ℕ) → (w.state k ≡ Faulty → ⊥) → k < w.members
+  there k on = by_test (nat_lt k w.members) (is_below k w.members) (λ past. absurd (on (o.states.past k (not_below k w.members past))))
+
+  not_faulty : (k : ℕ) (is : State → Bool) → is (w.state k) ≡ true → is Faulty ≡ false → w.state k ≡ Faulty → ⊥
+  not_faulty k is on off e = true≢false (sym on ∙ ap is e ∙ off)
+
+  own_of : (k : ℕ) → (w.state k ≡ Faulty → ⊥) → (own : Super) × ((w.stored k).super ≡ Some own)
+  own_of k on = o.members.filled k (there k on)
+
+  own_in : (k : ℕ) → IsInSync w k → (own : Super) × ((w.stored k).super ≡ Some own)
+  own_in k a = own_of k (not_faulty k is_in_sync a refl)
 
   distinct : (j k : ℕ) (own other : Super) → (w.stored j).super ≡ Some own → (w.stored k).super ≡ Some other → w.number j ≡ w.number k → j ≡ k
   distinct j k own other e e' = o.members.distinct j k (slot_of j own e) (slot_of k other e')
@@ -81,19 +89,23 @@ module _ (g : Geometry) (first : Super) (w : World) (start : IsStart g first w) 
       number = o.members.number;
       below = λ k own e. let h = o.freshest.greatest k own e in let s = o.events in omega arith;
       later = let s = o.events in omega arith;
-      has_super = own_of;
+      has_super = own_in;
+      there = λ k on. there k (not_faulty k is_recorded on refl);
       entries = o.entries;
       present = λ k low. (o.members.present (w.number k)).1 (k, low, refl);
       slot = slot_of;
       gone = λ d off. not_true (w.present d) off;
       distinct = o.members.distinct;
-      by_memory = trusts w.events w.role (λ d. ap (λ (r : ℕ → ℕ). r d) o.role);
+      by_memory = λ k low. let x = o.members.filled k low in trusts first.events w.role (λ d. ap (λ (r : ℕ → ℕ). r d) o.role) k x.0 x.1 (o.freshest.greatest k x.0 x.1);
       by_opening = λ _. trusts first.events first.role (λ _. refl);
       by_super = λ j own e _ up. no_more j own e up;
+      as_new = λ j own e up. no_more j own e up;
       stale = λ k own e s. stale_says g first own (sym (o.states.by_table k own e) ∙ s);
-      recovering = λ k own e s. recovering_says g first own (sym (ap is_recovering (o.states.by_table k own e)) ∙ s);
-      clear = λ k own e a. (says k own e a).clear;
-      in_memory = λ k a. let x = own_of k (recorded_in_sync (w.state k) a) in subst (λ r. r < g.raid_disks) (sym (ap (λ (f : ℕ → ℕ). f (w.number k)) o.role)) (named k x.0 x.1 a);
+      recovering = λ k s. let x = own_of k (not_faulty k is_recovering s refl) in
+          o.states.recovering k x.0 x.1 ∙ recovering_says g first x.0 (sym (ap is_recovering (o.states.by_table k x.0 x.1)) ∙ s);
+      clear = λ k a. let x = own_in k a in o.states.recovering k x.0 x.1 ∙ (says k x.0 x.1 a).clear;
+      bit = λ k own e. sym (o.states.recovering k own e);
+      in_memory = λ k a. let x = own_in k a in subst (λ r. r < g.raid_disks) (sym (ap (λ (f : ℕ → ℕ). f (w.number k)) o.role)) (named k x.0 x.1 a);
       in_opening = λ k own a e _. named k own e a;
       in_super = λ j other k own e _ _ _ up. no_more j other e up;
       unrisen = λ _ d. ap (λ (r : ℕ → ℕ). r d) o.role;

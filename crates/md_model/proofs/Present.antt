@@ -38,7 +38,7 @@ module _ (g : Geometry) where
 
   same_step : (w : World) (e : Event) (w' : World) → KeepsMembers (e ∷ []) → Happens g w e w' → w'.present ≡ w.present
   same_step w (Event.Begin n p) w' keeps s = same_by w w' _ (begun_present w n p s.0 s.1) s.5
-  same_step w (Event.Record k) w' keeps s = same_by w w' _ refl s.1
+  same_step w (Event.Record k) w' keeps s = same_by w w' _ refl s.3
   same_step w (Event.StoreMarks k b) w' keeps s = same_by w w' _ refl s.1
   same_step w (Event.WriteMember n k) w' keeps s = same_by w w' _ refl s.2
   same_step w (Event.Finish n) w' keeps s = same_by w w' _ refl s.2
@@ -95,7 +95,7 @@ module _ (g : Geometry) where
 
   members_step : (w : World) (e : Event) (w' : World) → KeepsMembers (e ∷ []) → Happens g w e w' → w'.members ≡ w.members
   members_step w (Event.Begin n p) w' keeps s = members_by w w' _ (begun_members w n p s.0 s.1) s.5
-  members_step w (Event.Record k) w' keeps s = members_by w w' _ refl s.1
+  members_step w (Event.Record k) w' keeps s = members_by w w' _ refl s.3
   members_step w (Event.StoreMarks k b) w' keeps s = members_by w w' _ refl s.1
   members_step w (Event.WriteMember n k) w' keeps s = members_by w w' _ refl s.2
   members_step w (Event.Finish n) w' keeps s = members_by w w' _ refl s.2

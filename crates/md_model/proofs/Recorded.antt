@@ -14,6 +14,7 @@ pub record Book : Type 0 where
   pub number : ℕ → ℕ
   pub state : ℕ → State
   pub due : ℕ → Bool
+  pub recovering : ℕ → Bool
   pub role : ℕ → ℕ
   pub events : ℕ
   pub entries : ℕ
@@ -21,7 +22,7 @@ pub record Book : Type 0 where
   pub members : ℕ
 
 abbrev pub book_of : World → Book
-book_of w = record { super = λ k. (w.stored k).super; number = w.number; state = w.state; due = w.due; role = w.role; events = w.events; entries = w.entries; present = w.present; members = w.members }
+book_of w = record { super = λ k. (w.stored k).super; number = w.number; state = w.state; due = w.due; recovering = w.recovering; role = w.role; events = w.events; entries = w.entries; present = w.present; members = w.members }
 
 abbrev pub Has : Book → ℕ → Super → Type 0
 Has b k own = b.super k ≡ Some own
@@ -37,19 +38,23 @@ pub record IsRecorded (g : Geometry) (opened : Super) (failed_at : ℕ) (tried :
   pub number : (k : ℕ) (own : Super) → Has b k own → own.number ≡ b.number k
   pub below : (k : ℕ) (own : Super) → Has b k own → own.events ≤ b.events
   pub later : opened.events ≤ b.events
-  pub has_super : (k : ℕ) → is_recorded (b.state k) ≡ true → (own : Super) × Has b k own
+  pub has_super : (k : ℕ) → In b k → (own : Super) × Has b k own
+  pub there : (k : ℕ) → is_recorded (b.state k) ≡ true → k < b.members
   pub entries : (d : ℕ) → b.entries ≤ d → b.role d ≡ 65535
   pub present : (k : ℕ) → k < b.members → b.present (b.number k) ≡ true
   pub slot : (k : ℕ) (own : Super) → Has b k own → k < b.members
   pub gone : (d : ℕ) → away d ≡ true → b.present d ≡ false
   pub distinct : (j k : ℕ) → j < b.members → k < b.members → b.number j ≡ b.number k → j ≡ k
-  -- so do the roles in memory, those of the opening, and those of each stored superblock that is newer than both
-  pub by_memory : Trusts g b b.events b.role
+  -- The roles in memory name only members that have one; so do, of members with such superblocks, those of the opening and those of
+  -- each stored superblock that is newer than both.
+  pub by_memory : (k : ℕ) → k < b.members → b.role (b.number k) < g.raid_disks → has_role (b.state k) ≡ true
   pub by_opening : failed_at ≤ opened.events → Trusts g b opened.events opened.role
   pub by_super : (j : ℕ) (own : Super) → Has b j own → failed_at ≤ own.events → opened.events < own.events → Trusts g b own.events own.role
+  pub as_new : (k : ℕ) (own : Super) → Has b k own → opened.events < own.events → own.events ≡ b.events → (d : ℕ) → own.role d ≡ b.role d
   pub stale : (k : ℕ) (own : Super) → Has b k own → b.state k ≡ Stale → own.events + 1 < opened.events
-  pub recovering : (k : ℕ) (own : Super) → Has b k own → is_recovering (b.state k) ≡ true → own.recovering ≡ true
-  pub clear : (k : ℕ) (own : Super) → Has b k own → In b k → own.recovering ≡ false
+  pub recovering : (k : ℕ) → is_recovering (b.state k) ≡ true → b.recovering k ≡ true
+  pub clear : (k : ℕ) → In b k → b.recovering k ≡ false
+  pub bit : (k : ℕ) (own : Super) → Has b k own → own.recovering ≡ b.recovering k
   -- and they name those in sync, unless these have recorded more
   pub in_memory : (k : ℕ) → In b k → b.role (b.number k) < g.raid_disks
   pub in_opening : (k : ℕ) (own : Super) → In b k → Has b k own → own.events ≤ opened.events → opened.role (b.number k) < g.raid_disks

@@ -8,7 +8,7 @@ use Rattle.md_model.specs.States.State.{Stale, Faulty}
 use Rattle.md_model.specs.Devices.{Super, Stored}
 use Rattle.md_model.specs.Worlds.{World}
 use Rattle.md_model.specs.Counts.{role_at_rise, risen}
-use Rattle.md_model.specs.Steps.{with_device, has_bit, super_for, recorded, recorded_device}
+use Rattle.md_model.specs.Steps.{with_device, super_for, recorded, recorded_device}
 use Rattle.md_model.specs.Failures.{without, MayFail}
 use Rattle.md_model.proofs.Cases.{by_test, both, some-injective, is_below, below-nat_lt}
 use Rattle.md_model.proofs.Puts.{put-at, put-miss}
@@ -43,10 +43,10 @@ module _ (g : Geometry) (w : World) (d : ℕ) (few : g.raid_disks ≤ 32) where
   past_none is = by_loss (λ r. r ≡ 65535) (λ e. let low : w.role d < g.raid_disks = is_below (w.role d) g.raid_disks (both _ _ e).0 in omega arith) (λ _. is)
 
 -- after a record each superblock is the new one, or was there
-by_record : {P : Type 0} (w : World) (k j : ℕ) (own : Super) → ((recorded w k).stored j).super ≡ Some own
+by_record : {P : Type 0} (w : World) (k : ℕ) (listed : ℕ → Bool) (j : ℕ) (own : Super) → ((recorded w k listed).stored j).super ≡ Some own
     → (j ≡ k → super_for w k ≡ own → P) → (j ≢ k → (w.stored j).super ≡ Some own → P) → P
-by_record {P} w k j own e is isnt =
-    put-at k (recorded_device w k) w.stored j (λ (x : Stored). x.super ≡ Some own → P) (λ here x. is here (some-injective (super_for w k) own x)) isnt e
+by_record {P} w k listed j own e is isnt =
+    put-at k (recorded_device w k listed) w.stored j (λ (x : Stored). x.super ≡ Some own → P) (λ here x. is here (some-injective (super_for w k) own x)) isnt e
 
 module _ (g : Geometry) (few : g.raid_disks ≤ 32) (opened : Super) (failed_at : ℕ) (tried : Bool) (away : ℕ → Bool) where
   pub recorded_risen : (w : World) (full : Bool) → IsRecorded g opened failed_at tried away (book_of w) → IsRecorded g opened failed_at tried away (book_of (risen g w full))
@@ -56,19 +56,21 @@ module _ (g : Geometry) (few : g.raid_disks ≤ 32) (opened : Super) (failed_at 
         below = λ k own e. let h = r.below k own e in omega arith;
         later = let h = r.later in omega arith;
         has_super = r.has_super;
+        there = r.there;
         entries = λ d h. past_none g w d few (r.entries d h);
         present = r.present;
         slot = r.slot;
         gone = r.gone;
         distinct = r.distinct;
-        by_memory = λ k own e _ low. r.by_memory k own e (r.below k own e) (taken_was g w (w.number k) few low);
+        by_memory = λ k low named. r.by_memory k low (taken_was g w (w.number k) few named);
         by_opening = r.by_opening;
         by_super = r.by_super;
+        as_new = λ k own e _ same. absurd (let h = r.below k own e in omega arith);
         stale = r.stale;
         recovering = r.recovering;
         clear = r.clear;
-        in_memory = λ k a. let mine = r.has_super k (recorded_in_sync (w.state k) a) in
-            subst (λ x. x < g.raid_disks) (sym (present_keeps g w (w.number k) few (r.present k (r.slot k mine.0 mine.1)))) (r.in_memory k a);
+        bit = r.bit;
+        in_memory = λ k a. subst (λ x. x < g.raid_disks) (sym (present_keeps g w (w.number k) few (r.present k (r.there k (recorded_in_sync (w.state k) a))))) (r.in_memory k a);
         in_opening = r.in_opening;
         in_super = r.in_super;
         unrisen = λ h. absurd (let l = r.later in omega arith);
@@ -79,62 +81,72 @@ module _ (g : Geometry) (few : g.raid_disks ≤ 32) (opened : Super) (failed_at 
         some_in = r.some_in;
       }
 
-  -- a member's superblock is stored
-  pub recorded_recorded : (w : World) (k : ℕ) → is_recorded (w.state k) ≡ true → IsRecorded g opened failed_at tried away (book_of w) → IsRecorded g opened failed_at tried away (book_of (recorded w k))
-  recorded_recorded w k on r =
+  -- a member's superblock is stored, whatever stood there before
+  pub recorded_recorded : (w : World) (k : ℕ) (listed : ℕ → Bool) → is_recorded (w.state k) ≡ true
+      → IsRecorded g opened failed_at tried away (book_of w) → IsRecorded g opened failed_at tried away (book_of (recorded w k listed))
+  recorded_recorded w k listed on r =
       let b = book_of w in
-      let b' = book_of (recorded w k) in
+      let b' = book_of (recorded w k listed) in
       let new = super_for w k in
-      let mine = r.has_super k on in
-      let old : (j : ℕ) (own : Super) → Has b' j own → (own' : Super) × Has b j own' =
-      λ j own e. by_record w k j own e (λ here _. subst (λ i. (own' : Super) × Has b i own') (sym here) mine) (λ _ h. (own, h)) in
-      -- the bit is that of the superblock before
-      let bit : (j : ℕ) (own : Super) → j ≡ k → new ≡ own → (own' : Super) × Has b j own' × (own.recovering ≡ own'.recovering) =
-      λ j own here same. (mine.0, subst (λ i. Has b i mine.0) (sym here) mine.1, sym (ap (λ (s : Super). s.recovering) same) ∙ ap has_bit mine.1) in
-      let older : (j : ℕ) (own : Super) → Has b' j own → (own' : Super) × Has b j own' × (own'.events ≤ own.events) =
-      λ j own e. by_record w k j own e
-      (λ here same. (mine.0, subst (λ i. Has b i mine.0) (sym here) mine.1, subst (λ (s : Super). mine.0.events ≤ s.events) same (r.below k mine.0 mine.1)))
-      (λ _ h. (own, h, let x : own.events ≤ own.events = omega arith in x)) in
-      let trusts : (count : ℕ) (role : ℕ → ℕ) → Trusts g b count role → Trusts g b' count role =
-      λ count role h j own e late low. let x = older j own e in let t : x.0.events ≤ own.events = x.2 in h j x.0 x.1 (omega arith) low in
+      let slot : (j : ℕ) (own : Super) → Has b' j own → j < w.members =
+      λ j own e. by_record w k listed j own e (λ here _. subst (λ i. i < w.members) (sym here) (r.there k on)) (λ _ h. r.slot j own h) in
+      -- roles that are those in memory where they are as new name only members that have one
+      let trusts : (count : ℕ) (role : ℕ → ℕ) → (w.events ≤ count → (d : ℕ) → role d ≡ w.role d) → Trusts g b count role → Trusts g b' count role =
+      λ count role same h j own e late low. by_record w k listed j own e
+      (λ _ is. let x : w.events ≡ own.events = ap (λ (s : Super). s.events) is in
+      r.by_memory j (slot j own e) (subst (λ y. y < g.raid_disks) (same (omega arith) (w.number j)) low))
+      (λ _ x. h j own x late low) in
       record {
-        number = λ j own e. by_record w k j own e (λ here same. sym (ap (λ (s : Super). s.number) same) ∙ ap w.number (sym here)) (λ _ h. r.number j own h);
-        below = λ j own e. by_record w k j own e (λ _ same. let x : w.events ≡ own.events = ap (λ (s : Super). s.events) same in omega arith) (λ _ h. r.below j own h);
+        number = λ j own e. by_record w k listed j own e (λ here same. sym (ap (λ (s : Super). s.number) same) ∙ ap w.number (sym here)) (λ _ h. r.number j own h);
+        below = λ j own e. by_record w k listed j own e (λ _ same. let x : w.events ≡ own.events = ap (λ (s : Super). s.events) same in omega arith) (λ _ h. r.below j own h);
         later = r.later;
-        has_super = λ j a. put-at k (recorded_device w k) w.stored j (λ (x : Stored). (own : Super) × (x.super ≡ Some own)) (λ _. (new, refl)) (λ _. r.has_super j a);
+        has_super = λ j a. put-at k (recorded_device w k listed) w.stored j (λ (x : Stored). (own : Super) × (x.super ≡ Some own)) (λ _. (new, refl)) (λ _. r.has_super j a);
+        there = r.there;
         entries = r.entries;
         present = r.present;
-        slot = λ j own e. let x = old j own e in r.slot j x.0 x.1;
+        slot = slot;
         gone = r.gone;
         distinct = r.distinct;
-        by_memory = trusts w.events w.role r.by_memory;
-        by_opening = λ h. trusts opened.events opened.role (r.by_opening h);
-        by_super = λ j own e h up. by_record w k j own e
-            (λ _ same. trusts own.events own.role (subst (λ (s : Super). Trusts g b s.events s.role) same r.by_memory))
-            (λ _ x. trusts own.events own.role (r.by_super j own x h up));
-        stale = λ j own e is. by_record w k j own e
+        by_memory = r.by_memory;
+        by_opening = λ h. trusts opened.events opened.role (λ late d. sym (r.unrisen late d)) (r.by_opening h);
+        by_super = λ j own e h up. by_record w k listed j own e
+            (λ _ is i other x _ low. r.by_memory i (slot i other x) (subst (λ (s : Super). s.role (w.number i) < g.raid_disks) (sym is) low))
+            (λ _ x. trusts own.events own.role (λ late. r.as_new j own x up (let under = r.below j own x in omega arith)) (r.by_super j own x h up));
+        as_new = λ j own e up at d. by_record w k listed j own e (λ _ same. sym (ap (λ (s : Super). s.role d) same)) (λ _ x. r.as_new j own x up at d);
+        stale = λ j own e is. by_record w k listed j own e
             (λ here _. absurd (true≢false (sym on ∙ ap (λ i. is_recorded (w.state i)) (sym here) ∙ ap is_recorded is)))
             (λ _ h. r.stale j own h is);
-        recovering = λ j own e at. by_record w k j own e (λ here same. let x = bit j own here same in x.2 ∙ r.recovering j x.0 x.1 at) (λ _ h. r.recovering j own h at);
-        clear = λ j own e a. by_record w k j own e (λ here same. let x = bit j own here same in x.2 ∙ r.clear j x.0 x.1 a) (λ _ h. r.clear j own h a);
+        recovering = r.recovering;
+        clear = r.clear;
+        bit = λ j own e. by_record w k listed j own e (λ here same. sym (ap (λ (s : Super). s.recovering) same) ∙ ap w.recovering (sym here)) (λ _ h. r.bit j own h);
         in_memory = r.in_memory;
-        in_opening = λ j own a e h. by_record w k j own e
+        in_opening = λ j own a e h. by_record w k listed j own e
             (λ _ same.
             let x : w.events ≡ own.events = ap (λ (s : Super). s.events) same in
             let low : w.events ≤ opened.events = omega arith in
             subst (λ y. y < g.raid_disks) (r.unrisen low (w.number j)) (r.in_memory j a))
             (λ _ x. r.in_opening j own a x h);
-        in_super = λ j first i own e a e' h up.
-            let x = older i own e' in by_record w k j first e
+        in_super = λ j first i own e a e' h up. by_record w k listed j first e
             (λ _ same. subst (λ (s : Super). s.role (w.number i) < g.raid_disks) same (r.in_memory i a))
-            (λ _ y. r.in_super j first i x.0 y a x.1 (let t : x.0.events ≤ own.events = x.2 in omega arith) up);
+            (λ _ x. by_record w k listed i own e'
+            (λ _ same.
+            let at : w.events ≡ own.events = ap (λ (s : Super). s.events) same in
+            let under = r.below j first x in
+            subst (λ y. y < g.raid_disks) (sym (r.as_new j first x up (omega arith) (w.number i))) (r.in_memory i a))
+            (λ _ y. r.in_super j first i own x a y h up));
         unrisen = r.unrisen;
         out_memory = r.out_memory;
-        out_super = λ j own d e off up low. by_record w k j own e
+        out_super = λ j own d e off up low. by_record w k listed j own e
             (λ _ same. r.out_memory d off (subst (λ (s : Super). opened.events < s.events) (sym same) up) (subst (λ (s : Super). s.role d < g.raid_disks) (sym same) low))
             (λ _ x. r.out_super j own d x off up low);
-        out_tried = λ d at off low j own a e. let x = older j own e in let up = r.out_tried d at off low j x.0 a x.1 in let t : x.0.events ≤ own.events = x.2 in omega arith;
-        current = λ j own a off e. by_record w k j own e (λ _ same. sym (ap (λ (s : Super). s.events) same)) (λ apart h. r.current j own a (sym (put-miss k false w.due j apart) ∙ off) h);
+        out_tried = λ d at off low j own a e. by_record w k listed j own e
+            (λ _ same.
+            let mine = r.has_super j a in
+            let up = r.out_tried d at off low j mine.0 a mine.1 in
+            let under = r.below j mine.0 mine.1 in
+            subst (λ (s : Super). opened.events < s.events) same (let t : opened.events < w.events = omega arith in t))
+            (λ _ x. r.out_tried d at off low j own a x);
+        current = λ j own a off e. by_record w k listed j own e (λ _ same. sym (ap (λ (s : Super). s.events) same)) (λ apart h. r.current j own a (sym (put-miss k false w.due j apart) ∙ off) h);
         some_in = r.some_in;
       }
 
@@ -164,22 +176,25 @@ module _ (g : Geometry) (few : g.raid_disks ≤ 32) (opened : Super) (failed_at 
         number = λ j own e. r.number j own (had j own e);
         below = λ j own e. r.below j own (had j own e);
         later = r.later;
-        has_super = λ j a. let s = still_recorded j a in let old = r.has_super j s.1 in (old.0, ap (λ (d : Stored). d.super) (put-miss k left w.stored j s.0) ∙ old.1);
+        has_super = λ j a. let s = still_in j a in let old = r.has_super j s.1 in (old.0, ap (λ (d : Stored). d.super) (put-miss k left w.stored j s.0) ∙ old.1);
+        there = λ j on. r.there j (still_recorded j on).1;
         entries = λ d h. past_entry d (w.number k) w.entries (w.role d) h ∙ r.entries d h;
         present = r.present;
         slot = λ j own e. r.slot j own (had j own e);
         gone = r.gone;
         distinct = r.distinct;
-        by_memory = λ j own e _ low. let c = taken_was (w.number j) low in
-            ap has_role (put-miss k Faulty w.state j (λ same. c.1 (ap w.number same))) ∙ r.by_memory j own (had j own e) (r.below j own (had j own e)) c.0;
+        by_memory = λ j there low. let c = taken_was (w.number j) low in
+            ap has_role (put-miss k Faulty w.state j (λ same. c.1 (ap w.number same))) ∙ r.by_memory j there c.0;
         by_opening = λ h. absurd (omega arith);
         by_super = λ j own e h _. absurd (let t : own.events < w.events = under j own (had j own e) in omega arith);
+        as_new = λ j own e _ at. absurd (let t : own.events < w.events = under j own (had j own e) in omega arith);
         stale = λ j own e s. r.stale j own (had j own e) (still j (λ x. x ≡ Stale) (λ f. cc) s).1;
-        recovering = λ j own e s. r.recovering j own (had j own e) (still j (λ x. is_recovering x ≡ true) (λ f. true≢false (sym f)) s).1;
-        clear = λ j own e a. r.clear j own (had j own e) (still_in j a).1;
+        recovering = λ j s. r.recovering j (still j (λ x. is_recovering x ≡ true) (λ f. true≢false (sym f)) s).1;
+        clear = λ j a. r.clear j (still_in j a).1;
+        bit = λ j own e. r.bit j own (had j own e);
         in_memory = λ j a. let s = still_in j a in
             subst (λ x. x < g.raid_disks) (sym (other_entry (w.number j) (w.number k) w.entries (w.role (w.number j))
-            (λ same. let x = r.has_super j (recorded_in_sync (w.state j) s.1) in let y = r.has_super k may.in_use in s.0 (r.distinct j k (r.slot j x.0 x.1) (r.slot k y.0 y.1) same)))) (r.in_memory j s.1);
+            (λ same. s.0 (r.distinct j k (r.there j (recorded_in_sync (w.state j) s.1)) (r.there k may.in_use) same)))) (r.in_memory j s.1);
         in_opening = λ j own a e. r.in_opening j own (still_in j a).1 (had j own e);
         in_super = λ j first i own e a e'. r.in_super j first i own (had j first e) (still_in i a).1 (had i own e');
         unrisen = λ h. absurd (omega arith);

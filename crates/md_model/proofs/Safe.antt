@@ -136,7 +136,7 @@ module _ (g : Geometry) (small : IsWithinLimits g) (opened : Super) (h : History
         let up = says.fresh in
         in_sync_by (h.now.state k) (names k own found.is says.role)
         (λ stale. let low = t.recorded.stale k own had stale in omega arith)
-        (λ recovering. true≢false (sym (t.recorded.recovering k own had recovering) ∙ says.clear))
+        (λ recovering. true≢false (sym (t.recorded.recovering k recovering) ∙ sym (t.recorded.bit k own had) ∙ says.clear))
 
     all_found : ((k : ℕ) (own : Super) → IsInSync h.now k → (left k).super ≡ Some own → h.now.events ≤ own.events + 1)
         → (k : ℕ) (own : Super) → IsInSync h.now k → (left k).super ≡ Some own → IsFound g left first k
@@ -156,7 +156,7 @@ module _ (g : Geometry) (small : IsWithinLimits g) (opened : Super) (h : History
           in_sync = says_found g first own small.few (record {
             role = subst (λ d. first.role d < g.raid_disks) (sym (t.recorded.number k own had)) named;
             fresh = omega arith;
-            clear = t.recorded.clear k own had a;
+            clear = t.recorded.bit k own had ∙ t.recorded.clear k a;
           });
         }
 

@@ -79,6 +79,7 @@ states = record {
   one_each = apart;
   due = by_member (λ k own. false ≡ (is_recorded (small_state k) && nat_lt own.events 10)) refl refl;
   re_added = λ _. refl;
+  recovering = by_member (λ _ own. false ≡ own.recovering) refl refl;
 }
 
 marks : HasMarks small_world

@@ -49,13 +49,13 @@ abbrev pub w2 : World
 w2 = marks_stored w1 0 0
 
 abbrev pub w3 : World
-w3 = recorded w2 0
+w3 = recorded w2 0 (λ _. false)
 
 abbrev pub w4 : World
 w4 = marks_stored w3 1 0
 
 abbrev pub w5 : World
-w5 = recorded w4 1
+w5 = recorded w4 1 (λ _. false)
 
 abbrev pub w6 : World
 w6 = member_written w5 0 one_sector 0
@@ -82,7 +82,7 @@ pub begins : Run small_geometry (opening small_world) beginning (at w5 false)
 begins = (
   w1,
   (refl, (true, true, may_begin, ((λ _. inl refl), (λ _. refl)), ((λ _. full w1 refl refl refl (λ _. refl)), (λ _. refl)), refl)),
-  (w2, (refl, (refl, refl)), (w3, (refl, (refl, refl)), (w4, (refl, (refl, refl)), (w5, (refl, (refl, refl)), refl)))),
+  (w2, (refl, (refl, refl)), (w3, (refl, ((λ _. false), (λ _ _. refl), refl, refl)), (w4, (refl, (refl, refl)), (w5, (refl, ((λ _. false), (λ _ _. refl), refl, refl)), refl)))),
 )
 
 may_write : MayWrite small_geometry w5 0 one_sector 0
@@ -233,7 +233,7 @@ fails_after es h e r s = (then_in h e (lost h.now), then small_geometry es (e �
 
 pub can_fail_record : CanRun (beginning ++ (Event.RecordFails 1 ∷ []))
 can_fail_record = fails_after beginning (at w5 false) (Event.RecordFails 1) begins
-    (refl, (w5.stored 1, record { rest = refl; super = inl refl }, fails w5 (w5.stored 1) refl refl (λ _. refl)))
+    (refl, (w5.stored 1, record { rest = refl; listed = λ _ _. refl; super = inl refl }, fails w5 (w5.stored 1) refl refl (λ _. refl)))
 
 pub can_fail_marks : CanRun (beginning ++ (Event.StoreMarksFails 1 0 ∷ []))
 can_fail_marks = fails_after beginning (at w5 false) (Event.StoreMarksFails 1 0) begins

@@ -50,8 +50,8 @@ module _ (g : Geometry) (small : IsWithinLimits g) (opened : Super) (Q : Super �
       begun_all : (rises : Bool) → OfAll Q (begun g h.now n p rises s.1)
       begun_all true = all
       begun_all false = all
-  all_step h (Event.Record k) w' t all s = subst (OfAll Q) (sym s.1)
-      (put_all h.now k (recorded_device h.now k) all (λ own e. subst Q (some-injective (super_for h.now k) own e) (new h t all k s.0)))
+  all_step h (Event.Record k) w' t all s = subst (OfAll Q) (sym s.3)
+      (put_all h.now k (recorded_device h.now k s.0) all (λ own e. subst Q (some-injective (super_for h.now k) own e) (new h t all k s.2)))
   all_step h (Event.StoreMarks k b) w' t all s = subst (OfAll Q) (sym s.1) (put_all h.now k (marked_device h.now k b) all (all k))
   all_step h (Event.WriteMember n k) w' t all s = subst (OfAll Q) (sym s.2) (put_all h.now k (written_device h.now k s.0) all (all k))
   all_step h (Event.Finish n) w' t all s = subst (OfAll Q) (sym s.2) all

@@ -10,7 +10,7 @@ use Rattle.md_model.specs.States.State.{Faulty}
 use Rattle.md_model.specs.Devices.{Stored, AgreeAt}
 use Rattle.md_model.specs.Worlds.{Request, touches, World, IsInSync, IsInFlight, IsQuiet}
 use Rattle.md_model.specs.Counts.{risen}
-use Rattle.md_model.specs.Steps.{with_device, touches_chunk, entered, recorded, recorded_device, bits_after, marked_device, marks_stored, written_device, member_written, finished, unmarked, MayBegin, MayWrite, MayFinish, MayClear}
+use Rattle.md_model.specs.Steps.{with_device, touches_chunk, entered, KeepsList, recorded, recorded_device, bits_after, marked_device, marks_stored, written_device, member_written, finished, unmarked, MayBegin, MayWrite, MayFinish, MayClear}
 use Rattle.md_model.specs.Failures.{failed}
 use Rattle.md_model.specs.Content.{HoldsInFlight}
 use Rattle.md_model.proofs.Cases.{by_test, never, both, some-injective, none_some, is_below}
@@ -18,13 +18,14 @@ use Rattle.md_model.proofs.Puts.{by_same, put-at, put-same, put-hit, put-miss}
 use Rattle.md_model.proofs.Tracked.{IsTracked, IsFewer, agree_as}
 
 -- record changes no data, and a failure takes a member away, whatever its device has by then
-pub fewer_recorded : (w : World) (k : ℕ) → IsFewer w (recorded w k)
-fewer_recorded w k =
+pub fewer_recorded : (w : World) (k : ℕ) (listed : ℕ → Bool) → KeepsList w k listed → IsFewer w (recorded w k listed)
+fewer_recorded w k listed keeps =
     record {
       in_sync = λ j a. a;
-      content = λ j s _. put-same (λ d. d.content s) k (recorded_device w k) w.stored j refl;
-      listed = λ j s _. put-same (λ d. d.listed s) k (recorded_device w k) w.stored j refl;
-      bits = λ j c _. put-same (λ d. d.bits c) k (recorded_device w k) w.stored j refl;
+      content = λ j s _. put-same (λ d. d.content s) k (recorded_device w k listed) w.stored j refl;
+      listed = λ j s a. put-at k (recorded_device w k listed) w.stored j (λ (d : Stored). d.listed s ≡ (w.stored j).listed s)
+          (λ here. keeps (ap (λ i. is_in_sync (w.state i)) (sym here) ∙ a) s ∙ ap (λ i. (w.stored i).listed s) (sym here)) (λ _. refl);
+      bits = λ j c _. put-same (λ d. d.bits c) k (recorded_device w k listed) w.stored j refl;
       known = refl;
       marks = refl;
       resynced = refl;

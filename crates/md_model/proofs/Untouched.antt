@@ -5,7 +5,7 @@ use Rattle.md_model.specs.Sectors.{Geometry}
 use Rattle.md_model.specs.Devices.{Super, Stored}
 use Rattle.md_model.specs.Worlds.{Request, World, IsInSync}
 use Rattle.md_model.specs.Counts.{IsFull, risen}
-use Rattle.md_model.specs.Steps.{touches_chunk, entered, begun, recorded, marks_stored}
+use Rattle.md_model.specs.Steps.{touches_chunk, entered, begun, KeepsList, recorded, marks_stored}
 use Rattle.md_model.specs.Resyncing.{copied, MayCopy}
 use Rattle.md_model.specs.Events.{Event, Fails, Happens}
 use Rattle.md_model.specs.Returns.{KeepsMembers}
@@ -49,7 +49,7 @@ module _ (g : Geometry) (opened : Super) (was : World) (start : IsStart g opened
   untouched_risen : (h : History) → IsKept g opened h → (full : Bool) → Untouched h.now → Untouched (risen g h.now full)
   untouched_risen h t full u = record {
     in_sync = u.in_sync;
-    role = λ k on. present_keeps g h.now (h.now.number k) start.small.few (let x = t.recorded.has_super k (recorded_in_sync (h.now.state k) on) in t.recorded.present k (t.recorded.slot k x.0 x.1)) ∙ u.role k on;
+    role = λ k on. present_keeps g h.now (h.now.number k) start.small.few (t.recorded.present k (t.recorded.there k (recorded_in_sync (h.now.state k) on))) ∙ u.role k on;
     marks = u.marks;
     bits = u.bits;
     held = u.held;
@@ -68,8 +68,8 @@ module _ (g : Geometry) (opened : Super) (was : World) (start : IsStart g opened
   untouched_begun h t n p true full u = untouched_entered (risen g h.now full) n p (untouched_risen h t full u)
   untouched_begun h t n p false full u = untouched_entered h.now n p u
 
-  untouched_recorded : (w : World) (k : ℕ) → Untouched w → Untouched (recorded w k)
-  untouched_recorded w k u = let f = fewer_recorded w k in record {
+  untouched_recorded : (w : World) (k : ℕ) (listed : ℕ → Bool) → KeepsList w k listed → Untouched w → Untouched (recorded w k listed)
+  untouched_recorded w k listed keeps u = let f = fewer_recorded w k listed keeps in record {
     in_sync = u.in_sync;
     role = u.role;
     marks = u.marks;
@@ -111,7 +111,7 @@ module _ (g : Geometry) (opened : Super) (was : World) (start : IsStart g opened
 
   still_step : (h : History) (e : Event) (w' : World) → KeepsMembers (e ∷ []) → IsKept g opened h → IsStill h → Happens g h.now e w' → IsStill (then_in h e w')
   still_step h (Event.Begin n p) w' keeps t u s a b = subst Untouched (sym s.5) (untouched_begun h t n p s.0 s.1 (u a b))
-  still_step h (Event.Record k) w' keeps t u s a b = subst Untouched (sym s.1) (untouched_recorded h.now k (u a b))
+  still_step h (Event.Record k) w' keeps t u s a b = subst Untouched (sym s.3) (untouched_recorded h.now k s.0 s.1 (u a b))
   still_step h (Event.StoreMarks k y) w' keeps t u s a b = subst Untouched (sym s.1) (untouched_marks_stored h.now k y (u a b))
   still_step h (Event.WriteMember n k) w' keeps t u s a b = absurd (true≢false a)
   still_step h (Event.Finish n) w' keeps t u s a b = let v = u a b in subst Untouched (sym s.2) (record { in_sync = v.in_sync; role = v.role; marks = v.marks; bits = v.bits; held = v.held })

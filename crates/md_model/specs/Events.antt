@@ -5,7 +5,7 @@ use Rattle.md_model.specs.States.{is_active, is_recorded}
 use Rattle.md_model.specs.Devices.{Stored, Super}
 use Rattle.md_model.specs.Worlds.{Request, World, IsInSync}
 use Rattle.md_model.specs.Counts.{HasToRise, IsFull, risen}
-use Rattle.md_model.specs.Steps.{with_device, begun, recorded, marks_stored, member_written, finished, unmarked, MayBegin, MayWrite, MayFinish, MayClear}
+use Rattle.md_model.specs.Steps.{with_device, begun, KeepsList, recorded, marks_stored, member_written, finished, unmarked, MayBegin, MayWrite, MayFinish, MayClear}
 use Rattle.md_model.specs.Failures.{failed, MayFail, LeftBySuper, LeftByMarks, LeftByData, LeftByCopy}
 use Rattle.md_model.specs.Resyncing.{copied, made_resynced, made_clean, IsIdle, MayCopyChunk, MayCopy, MayResync, MayStop}
 use Rattle.md_model.specs.Membership.{is_spare, removed, added, re_added, IsLaidOut, IsTakenBack, MayAdd, MayReAdd, MayRemove}
@@ -42,7 +42,7 @@ Fails g w k left w' = (full : Bool) × MayFail w k × ((full ≡ true) ↔ IsFul
 abbrev pub Happens : Geometry → World → Event → World → Type 0
 Happens g w (Event.Begin n p) w' =
     (rises full : Bool) × MayBegin g w n p × ((rises ≡ true) ↔ HasToRise g w) × ((full ≡ true) ↔ IsFull g w') × (w' ≡ begun g w n p rises full)
-Happens g w (Event.Record k) w' = (is_recorded (w.state k) ≡ true) × (w' ≡ recorded w k)
+Happens g w (Event.Record k) w' = (listed : ℕ → Bool) × KeepsList w k listed × (is_recorded (w.state k) ≡ true) × (w' ≡ recorded w k listed)
 Happens g w (Event.StoreMarks k b) w' = IsInSync w k × (w' ≡ marks_stored w k b)
 Happens g w (Event.WriteMember n k) w' = (p : Request) × MayWrite g w n p k × (w' ≡ member_written w n p k)
 Happens g w (Event.Finish n) w' = (p : Request) × MayFinish w n p × (w' ≡ finished w n)

@@ -7,7 +7,7 @@ use Rattle.md_model.specs.States.State.{Faulty}
 use Rattle.md_model.specs.Devices.{Stored}
 use Rattle.md_model.specs.Worlds.{Request, touches, World, IsInSync}
 use Rattle.md_model.specs.Counts.{risen}
-use Rattle.md_model.specs.Steps.{super_for}
+use Rattle.md_model.specs.Steps.{super_for, KeepsList}
 
 -- a member is faulty, and so is its entry in the roles, where it has one (super_1_sync)
 abbrev pub without : World → ℕ → World
@@ -33,7 +33,8 @@ pub record MayFail (w : World) (k : ℕ) : Type 0 where
 
 -- What a failed write leaves is as before outside of its range. Of a superblock it leaves the old one, the new one, or none.
 pub record LeftBySuper (w : World) (k : ℕ) (left : Stored) : Type 0 where
-  pub rest : left ≡ record (w.stored k) { super = left.super }
+  pub rest : left ≡ record (w.stored k) { super = left.super; listed = left.listed }
+  pub listed : KeepsList w k left.listed
   pub super : (left.super ≡ (w.stored k).super) ⊎ ((left.super ≡ Some (super_for w k)) ⊎ (left.super ≡ None))
 
 pub record LeftByMarks (w : World) (k b : ℕ) (left : Stored) : Type 0 where

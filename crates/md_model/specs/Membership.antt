@@ -29,6 +29,7 @@ taken_out w k =
       due = λ j. w.due (skip k j);
       known = λ j. w.known (skip k j);
       re_added = λ j. w.re_added (skip k j);
+      recovering = λ j. w.recovering (skip k j);
       present = λ d. w.present d && not (eqb d (w.number k));
     }
 
@@ -56,6 +57,7 @@ pub record Newcomer : Type 0 where
   pub role : ℕ
   pub state : State
   pub re_added : Bool
+  pub recovering : Bool  -- bit 2 of its feature map
   pub device : Stored  -- as its laying out or its record leaves it
 
 abbrev pub joined : World → Newcomer → World
@@ -68,6 +70,7 @@ joined w n =
       due = put w.members false w.due;
       known = put w.members n.device.bits w.known;
       re_added = put w.members n.re_added w.re_added;
+      recovering = put w.members n.recovering w.recovering;
       role = put n.number n.role w.role;
       entries = grown w n.number;
       present = λ d. w.present d || eqb d n.number;
@@ -101,7 +104,7 @@ pub record MayAdd (g : Geometry) (w : World) (d : ℕ) : Type 0 where
   pub number : IsNumber g w d
 
 abbrev pub added : Geometry → World → ℕ → Stored → Bool → World
-added g w d left full = joined (risen g w full) (record { number = d; role = 65535; state = Spare; re_added = false; device = left })
+added g w d left full = joined (risen g w full) (record { number = d; role = 65535; state = Spare; re_added = false; recovering = false; device = left })
 
 -- re_add: a device that left takes its former role again, if that is free, and marks were cleared no later than it left
 pub record MayReAdd (g : Geometry) (w : World) (own : Super) : Type 0 where
@@ -121,4 +124,4 @@ pub record IsTakenBack (w : World) (own : Super) (device left : Stored) : Type 0
 
 abbrev pub re_added : Geometry → World → Super → Stored → Bool → World
 re_added g w own left full =
-    joined (risen g w full) (record { number = own.number; role = own.role own.number; state = Recovering; re_added = true; device = left })
+    joined (risen g w full) (record { number = own.number; role = own.role own.number; state = Recovering; re_added = true; recovering = true; device = left })

@@ -21,7 +21,7 @@ pub record HasMembers (w : World) : Type 0 where
   pub distinct : (j k : ℕ) → j < w.members → k < w.members → w.number j ≡ w.number k → j ≡ k
   pub present : (d : ℕ) → (w.present d ≡ true) ↔ ((k : ℕ) × (k < w.members) × (w.number k ≡ d))
 
--- their states, by the table of assembly
+-- their states, by the table of assembly, and what else is kept of each
 pub record HasStates (g : Geometry) (first : Super) (w : World) : Type 0 where
   pub by_table : (k : ℕ) (own : Super) → (w.stored k).super ≡ Some own → w.state k ≡ state_by g first own
   pub past : (k : ℕ) → w.members ≤ k → w.state k ≡ Faulty
@@ -29,6 +29,7 @@ pub record HasStates (g : Geometry) (first : Super) (w : World) : Type 0 where
   pub one_each : (j k : ℕ) → is_active (w.state j) ≡ true → is_active (w.state k) ≡ true → w.role (w.number j) ≡ w.role (w.number k) → j ≡ k
   pub due : (k : ℕ) (own : Super) → (w.stored k).super ≡ Some own → w.due k ≡ is_recorded (w.state k) && nat_lt own.events first.events
   pub re_added : (k : ℕ) → w.re_added k ≡ false
+  pub recovering : (k : ℕ) (own : Super) → (w.stored k).super ≡ Some own → w.recovering k ≡ own.recovering
 
 -- The marks are those stored on the members in sync, all together. Each of these members has an accepted bitmap by then.
 pub record HasMarks (w : World) : Type 0 where

@@ -38,6 +38,7 @@ small_world =
       due = λ _. false;
       known = λ _ _. false;
       re_added = λ _. false;
+      recovering = λ _. false;
       role = small_role;
       entries = 2;
       present = λ d. nat_lt d 2;

@@ -1,7 +1,7 @@
 -- The mirror's steps: what each asks, and what it changes. Each writes one device at most. After the kernel's md driver, where the
 -- same is done in one piece: md_write_start, md_bitmap_startwrite, md_update_sb, flush_pending_writes of raid1.c (data waits for
 -- md_bitmap_unplug), md_bitmap_endwrite and md_bitmap_daemon_work. What each asks is this project's own rule.
-use Rattle.std.specs.Prelude.{◌≡◌, ◌≢◌, ℕ, ◌+◌, ◌-◌, ◌<◌, ◌≤◌, Bool, true, false, cond, ◌&&◌, ◌||◌, leb, eqb, Option, Some, None}
+use Rattle.std.specs.Prelude.{◌≡◌, ◌≢◌, ℕ, ◌+◌, ◌-◌, ◌<◌, ◌≤◌, Bool, true, false, cond, ◌&&◌, ◌||◌, leb, eqb, Some, None}
 use Rattle.md_model.specs.Sectors.{Geometry, chunk_of, block_of, put}
 use Rattle.md_model.specs.Devices.{Super, Stored}
 use Rattle.md_model.specs.Worlds.{Request, touches, World, IsInSync, IsInFlight}
@@ -34,20 +34,21 @@ pub record MayBegin (g : Geometry) (w : World) (n : ℕ) (p : Request) : Type 0 
   pub inside : p.start + p.sectors ≤ g.size
   pub unwritten : (d : ℕ) → p.written d ≡ false
 
--- record (super_1_sync): a member's superblock is stored, with its own bit 2 of the feature map as before
-abbrev pub has_bit : Option Super → Bool
-has_bit None = false
-has_bit (Some own) = own.recovering
-
+-- record (super_1_sync): a member's superblock is stored, with its own bit 2 of the feature map as it is kept, whatever stood there
 abbrev pub super_for : World → ℕ → Super
 super_for w k =
-    record { number = w.number k; events = w.events; role = w.role; recovering = has_bit (w.stored k).super }
+    record { number = w.number k; events = w.events; role = w.role; recovering = w.recovering k }
 
-abbrev pub recorded_device : World → ℕ → Stored
-recorded_device w k = record (w.stored k) { super = Some (super_for w k) }
+-- Bit 8 of a superblock says whether the log is read. That of a member in sync stays what it was. Elsewhere a write that failed may
+-- have left another one, and then a new superblock changes what is listed.
+abbrev pub KeepsList : World → ℕ → (ℕ → Bool) → Type 0
+KeepsList w k listed = IsInSync w k → (s : ℕ) → listed s ≡ (w.stored k).listed s
 
-abbrev pub recorded : World → ℕ → World
-recorded w k = record w { stored = put k (recorded_device w k) w.stored; due = put k false w.due }
+abbrev pub recorded_device : World → ℕ → (ℕ → Bool) → Stored
+recorded_device w k listed = record (w.stored k) { super = Some (super_for w k); listed = listed }
+
+abbrev pub recorded : World → ℕ → (ℕ → Bool) → World
+recorded w k listed = record w { stored = put k (recorded_device w k listed) w.stored; due = put k false w.due }
 
 -- store_marks (md_bitmap_unplug; the header as in md_bitmap_update_sb, a cleared bit as in md_bitmap_daemon_work): one sector of a member's bitmap is stored, as the marks in memory are; the first has the header
 abbrev pub bits_after : World → ℕ → (ℕ → Bool) → ℕ → Bool

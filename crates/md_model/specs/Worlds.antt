@@ -23,6 +23,7 @@ pub record World : Type 0 where
   pub due : ℕ → Bool  -- its superblock has to be stored
   pub known : ℕ → ℕ → Bool  -- the bits of its bitmap, as far as the mirror knows
   pub re_added : ℕ → Bool  -- this mirror re-added it, and it is Recovering
+  pub recovering : ℕ → Bool  -- bit 2 of its feature map, as the mirror keeps it: its device may have lost it
   pub role : ℕ → ℕ  -- of each device number, 65535 past max_dev
   pub entries : ℕ  -- max_dev
   pub present : ℕ → Bool  -- a member has this device number

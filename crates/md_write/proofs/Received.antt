@@ -43,8 +43,9 @@ module _ (n : ℕ) (p : Request) (first w : World) (is : IsReceiving n p first w
   pub receives_marks : (k b : ℕ) → IsReceiving n p first (marks_stored w k b)
   receives_marks k b = same_content (marks_stored w k b) (λ j s in_sync. kept k (marked_device w k b) refl j s) (λ j s out. kept k (marked_device w k b) refl j s) refl refl (λ j x. x)
 
-  pub receives_record : (k : ℕ) → IsReceiving n p first (recorded w k)
-  receives_record k = same_content (recorded w k) (λ j s in_sync. kept k (recorded_device w k) refl j s) (λ j s out. kept k (recorded_device w k) refl j s) refl refl (λ j x. x)
+  pub receives_record : (k : ℕ) (listed : ℕ → Bool) → IsReceiving n p first (recorded w k listed)
+  receives_record k listed =
+      same_content (recorded w k listed) (λ j s in_sync. kept k (recorded_device w k listed) refl j s) (λ j s out. kept k (recorded_device w k listed) refl j s) refl refl (λ j x. x)
 
   -- member k failed, with its data as they were outside of the request's sectors
   still_in_sync : (k j : ℕ) → model.is_in_sync (put k model.State.Faulty w.state j) ≡ true → (j ≢ k) × (IsInSync w j)
@@ -92,7 +93,7 @@ module _ (n : ℕ) (p : Request) (first w : World) (is : IsReceiving n p first w
       }
 
   pub receives_step : (g : Geometry) (e : Event) (u : World) → IsOfRequest n e → Step g w e u → IsReceiving n p first u
-  receives_step g (Event.Record k) u of step = subst (IsReceiving n p first) (sym step.1.1) (receives_record k)
+  receives_step g (Event.Record k) u of step = subst (IsReceiving n p first) (sym step.1.3) (receives_record k step.1.0)
   receives_step g (Event.StoreMarks k b) u of step = subst (IsReceiving n p first) (sym step.1.1) (receives_marks k b)
   receives_step g (Event.WriteMember m k) u of step =
       let may = step.1.1 in
