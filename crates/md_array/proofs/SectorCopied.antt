@@ -32,7 +32,6 @@ use Rattle.md_array.proofs.PartsApart.{HasParts, block_beside_data, data_alone, 
 use Rattle.md_array.proofs.ReadAsKept.{changed_read, read_beside_data}
 use Rattle.md_array.proofs.WorldsInSync.{in_sync_is, in_sync_there, number_at}
 use Rattle.md_array.proofs.WorldsLists.{got_within, set_itself}
-use Rattle.md_array.proofs.WorldsStates.{in_sync_recorded}
 use Rattle.md_array.proofs.WorldsTests.{and_is}
 
 -- ---- states
@@ -90,7 +89,7 @@ module _ (v : MirrorView) (c : IsConsistent v) (honest : AreHonest v.disks) (req
         let there = slice_get_within a.members k m is.member in
         let many = c.fits.as_many in
         let d = got_within v.disks k (omega arith) in
-        let has = c.supers running k d.0 m d.1 is.member (in_sync_recorded m.state is.in_sync) (honest k d.0 d.1) in
+        let has = c.supers running k d.0 m d.1 is.member is.in_sync (honest k d.0 d.1) in
         let known = has.known (m.superblock.data_offset + s) in
         let same : test ≡ (nat_lt s a.chunks.size && is_listed m.superblock d.0.content (m.superblock.data_offset + s)) =
         ap (λ (x : Stored). x.listed s) (stored_there v.disks a k m d.0 is.member d.1) in (
