@@ -33,6 +33,7 @@ pub mod Runs
 pub mod InTurn
 pub mod WholeCalls
 pub mod Lives
+pub mod Returning
 pub mod Left
 pub mod StopsWithin
 pub mod SmallLife
