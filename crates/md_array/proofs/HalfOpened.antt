@@ -134,7 +134,7 @@ module _ (a : ArrayView) (m : MemberView) (old : Disk) (left : List ℕ) (room :
 
 -- ---- it is as it was left
 module _ (t : Moment) (at_t : IsSoundAt t) (before : List Disk) (is : ArrayView)
-    (r : AreFoundAgain t before is.shared) (o : IsArrayOf before is)
+    (r : AreFoundAgain t before) (o : IsArrayOf before is)
     (k j : ℕ) (f : IsFoundAgain t.mirror.array r.left before k j) (n : MemberView) (is_member : IsMember is j n) (left : List ℕ) where
   abbrev was : ArrayView
   was = t.mirror.array
@@ -247,7 +247,7 @@ module _ (t : Moment) (at_t : IsSoundAt t) (before : List Disk) (is : ArrayView)
 
 -- ---- so is each device that an interrupted open leaves
 module _ (t : Moment) (at_t : IsSoundAt t) (before : List Disk) (is : ArrayView)
-    (r : AreFoundAgain t before is.shared) (o : IsArrayOf before is) (left : List (List ℕ)) (half : IsHalfOpened is before left)
+    (r : AreFoundAgain t before) (o : IsArrayOf before is) (left : List (List ℕ)) (half : IsHalfOpened is before left)
     (k j : ℕ) (at : r.at k ≡ Some j) (c : List ℕ) (there : slice_get left j ≡ Some c) where
   abbrev f : IsFoundAgain t.mirror.array r.left before k j
   f = r.again k j at

@@ -73,6 +73,7 @@ pub record IsSorted (t : Moment) (left : List Disk) : Type 0 where
   pub run : MirrorRun t events moment
   pub still : (a : Content) → MirrorRunWith t a events moment a
   pub counted : moment.failed_at ≡ t.failed_at
+  pub away : (d : ℕ) → moment.away d ≡ t.away d
   pub in_sync : (k : ℕ) → worlds.IsInSync (history_of moment).now k → worlds.IsInSync (world_of t.mirror t.requests) k
   pub cut : ℕ → Stored
   pub is_cut : stops.IsCut (geometry_of t.mirror.array) (history_of moment).now cut
@@ -86,6 +87,7 @@ sorted_like t found left same s = record {
   run = s.run;
   still = s.still;
   counted = s.counted;
+  away = s.away;
   in_sync = s.in_sync;
   cut = s.cut;
   is_cut = s.is_cut;
@@ -122,6 +124,7 @@ module _ (t : Moment) (at : IsSoundAt t) where
     run = at_rest t;
     still = λ x. (at_rest t, refl);
     counted = refl;
+    away = λ _. refl;
     in_sync = λ j on. on;
     cut = (world_of v t.requests).stored;
     is_cut = inl refl;
@@ -205,6 +208,7 @@ module _ (t : Moment) (at : IsSoundAt t) where
       run = at_rest t;
       still = λ x. (at_rest t, refl);
       counted = refl;
+      away = λ _. refl;
       in_sync = λ j on. on;
       cut = read_in a torn.found;
       is_cut = inr (subst (λ r. stops.IsTorn (geometry_of a) (world_of v r) (read_in a torn.found)) (sym l.in_flight) torn_cut);
@@ -250,6 +254,7 @@ module _ (t : Moment) (at : IsSoundAt t) where
           run = (next, t.requests, at_once v next t.requests t.requests e_marks does, at_rest (then_as t e_marks next t.requests));
           still = λ x. (next, t.requests, x, at_once v next t.requests t.requests e_marks does, refl, (at_rest (then_as t e_marks next t.requests), refl));
           counted = refl;
+          away = λ _. refl;
           in_sync = λ j on. subst (λ (w : World). worlds.IsInSync w j) does.step.1.1 on;
           cut = (world_of next t.requests).stored;
           is_cut = inl refl;
@@ -315,6 +320,7 @@ module _ (t : Moment) (at : IsSoundAt t) where
         run = at_rest t;
         still = λ x. (at_rest t, refl);
         counted = refl;
+        away = λ _. refl;
         in_sync = λ j on. on;
         cut = (world_of v t.requests).stored;
         is_cut = inl refl;
@@ -403,6 +409,7 @@ module _ (t : Moment) (at : IsSoundAt t) where
               run = (next, t.requests, at_once v next t.requests t.requests (Event.Record k) does, at_rest (then_as t (Event.Record k) next t.requests));
               still = λ x. (next, t.requests, x, at_once v next t.requests t.requests (Event.Record k) does, refl, (at_rest (then_as t (Event.Record k) next t.requests), refl));
               counted = refl;
+              away = λ _. refl;
               in_sync = λ j on. subst (λ (w : World). worlds.IsInSync w j) does.step.1.3 on;
               cut = (world_of next t.requests).stored;
               is_cut = inl refl;

@@ -32,6 +32,7 @@ pub mod MembersAt
 pub mod MembersRead
 pub mod MirrorContents
 pub mod MirrorLives
+pub mod Returned
 pub mod MirrorRuns
 pub mod OneMember
 pub mod OneWrite

@@ -60,7 +60,7 @@ module _ (m : MirrorView) (begins : Begins m) (es : List Event) (t : Moment) (r 
   same = same_geometry t at_t again.before next.array again.devices again.opens.array ∙ geometry_kept es (opened_as m) t r
 
   of_model : Reopens g opened (history_of stop) first w
-  of_model = subst (λ x. Reopens x opened (history_of stop) first w) (geometry_kept es (opened_as m) t r) (reopens t at_t next again.before again.devices again.opens m again.fit)
+  of_model = subst (λ x. Reopens x opened (history_of stop) first w) (geometry_kept es (opened_as m) t r) (reopens t at_t next again.before again.devices again.opens m again.others again.fit)
 
   start_of_model : runs.IsStart g first w
   start_of_model = start_again g opened (history_of stop) first w begins.start.small held_then.kept of_model

@@ -1,5 +1,5 @@
 -- A life of a mirror is one of the model, so that what always holds of the model holds of the mirror.
-use Rattle.std.proofs.Common.{◌≡◌, ℕ, ◌<◌, ◌≤◌, ◌⊎◌, inl, inr, List, [], ◌∷◌, ◌++◌, length, slice_get, Some, None, refl, sym, ap, ◌∙◌, subst, arith}
+use Rattle.std.proofs.Common.{◌≡◌, ℕ, ◌+◌, ◌-◌, ◌<◌, ◌≤◌, ◌⊎◌, inl, inr, true, false, cond, nat_lt, true≢false, List, [], ◌∷◌, ◌++◌, length, slice_get, Some, None, refl, sym, ap, ◌∙◌, subst, arith}
 use Rattle.std.specs.Prelude.{option_map, unwrap_or}
 use Rattle.std.proofs.lemmas.Option.{none-some, slice_get_past, slice_get_within}
 use Rattle.md_model.specs.Sectors.{Geometry, chunk_of}
@@ -12,14 +12,16 @@ use Rattle.md_model.specs.Openings as openings
 use Rattle.md_model.specs.Runs as runs
 use Rattle.md_model.specs.Stops as stops
 use Rattle.md_model.specs.Stops.{IsFit}
-use Rattle.md_model.proofs.Cases.{by_option}
+use Rattle.md_model.proofs.Cases.{below-nat_lt, by_option, by_test, not_below-nat_lt}
+use Rattle.md_model.proofs.Reopening.{freshest_own}
 use Rattle.md_model.specs.States.{is_in_sync}
 use Rattle.md_model.specs.Worlds as worlds
-use Rattle.md_model.proofs.OpeningCovers.{freshest_left, own_of, slot_of}
+use Rattle.md_model.proofs.OpeningCovers.{own_of}
 use Rattle.md_model.proofs.Fits as fits
 use Rattle.md_model.proofs.Lives.{always_covered, always_out, always_safe, always_stays_out}
-use Rattle.md_array.specs.View.{Disk, MirrorView}
-use Rattle.md_array.specs.Lives.{AreFoundAgain, AtEachMoment, FindsInSync, FitsWhenThere, KeepsGeometry, MirrorLife}
+use Rattle.md_array.specs.View.{Disk, MemberView, MirrorView}
+use Rattle.md_array.specs.Members.{IsInSync, IsMember}
+use Rattle.md_array.specs.Lives.{AreAllLeft, AreFoundAgain, AtEachMoment, FindsInSync, FitsWhenThere, IsFurther, KeepsGeometry, MirrorLife}
 use Rattle.md_array.specs.Opening.{IsOpenedFrom}
 use Rattle.md_array.specs.Runs.{Moment, history_of, opened_as}
 use Rattle.md_array.specs.Worlds.{geometry_of, none_in_flight, nothing_stored, stored_on, super_of, world_of}
@@ -27,14 +29,15 @@ use Rattle.md_array.proofs.LeftAtStops.{IsSorted, sorted}
 use Rattle.md_array.proofs.LeftContents.{read_in}
 use Rattle.md_array.proofs.Moments.{IsSoundAt, geometry_kept, life_keeps, life_then, run_keeps, run_then, sound_when_opened}
 use Rattle.md_array.proofs.MirrorRuns.{model_run, starts}
-use Rattle.md_array.proofs.Reopened.{read_alike, same_geometry}
+use Rattle.md_array.proofs.Reopened.{read_alike, recorded_first, same_geometry}
 use Rattle.md_array.proofs.WorldsInSync.{in_sync_is, in_sync_there}
-use Rattle.md_array.proofs.WorldsOpenedFrom.{opened_from, super_was}
-use Rattle.md_array.proofs.WorldsShown.{by_member}
+use Rattle.md_array.proofs.WorldsOpenedFrom.{opened_from, super_stays, super_was}
+use Rattle.md_array.proofs.WorldsShown.{by_member, own_is, state_at}
+use Rattle.md_array.proofs.WorldsStates.{same_in_sync}
 
 -- ---- the next opening is one of the model
 module _ (t : Moment) (at_t : IsSoundAt t) (next : MirrorView)
-    (before : List Disk) (devices : AreFoundAgain t before next.array.shared) (from_these : IsOpenedFrom before next) where
+    (before : List Disk) (devices : AreFoundAgain t before) (from_these : IsOpenedFrom before next) where
   abbrev g : Geometry
   g = geometry_of t.mirror.array
 
@@ -48,14 +51,14 @@ module _ (t : Moment) (at_t : IsSoundAt t) (next : MirrorView)
   abbrev stop : Moment
   stop = left.moment
 
-  -- the devices of which the next mirror is made
-  abbrev made_of : ℕ → Stored
+  -- the devices that were left, as the next mirror is made of them
+  abbrev pub made_of : ℕ → Stored
   made_of k = unwrap_or (option_map read (devices.at k)) nothing_stored
 
-  at_some : (k j : ℕ) → devices.at k ≡ Some j → made_of k ≡ read j
+  pub at_some : (k j : ℕ) → devices.at k ≡ Some j → made_of k ≡ read j
   at_some k j is = ap (λ o. unwrap_or (option_map read o) nothing_stored) is
 
-  at_none : (k : ℕ) → devices.at k ≡ None → made_of k ≡ nothing_stored
+  pub at_none : (k : ℕ) → devices.at k ≡ None → made_of k ≡ nothing_stored
   at_none k is = ap (λ o. unwrap_or (option_map read o) nothing_stored) is
 
   -- device k is there, as device j by now, unless it has no superblock
@@ -74,16 +77,46 @@ module _ (t : Moment) (at_t : IsSoundAt t) (next : MirrorView)
     λ k. by_option (devices.at k) (λ gone. inr (ap (λ (x : Stored). x.super) (at_none k gone))) (left_at k),
   )
 
-  opens : openings.IsOpenedFrom g read (super_of next.array.shared) (world_of next none_in_flight)
+  pub opens : openings.IsOpenedFrom g read (super_of next.array.shared) (world_of next none_in_flight)
   opens = subst (λ x. openings.IsOpenedFrom x read (super_of next.array.shared) (world_of next none_in_flight)) (same_geometry t at_t before next.array devices from_these.array) (opened_from before next devices.honest from_these)
 
-  -- each member of it is one that was left
-  as_read : (j : ℕ) → j < length next.array.members → made_of (devices.from j) ≡ read j
-  as_read j low =
-      let of_array = from_these.array in
-      let read_many = of_array.read.as_many in
-      let members_many = of_array.remembered.as_many in
-      at_some (devices.from j) j (devices.found j (omega arith))
+  -- ---- with further devices behind them
+  abbrev many : ℕ
+  many = length devices.left
+
+  abbrev further : ℕ → Stored
+  further j = unwrap_or (option_map (λ (_ : ℕ). nothing_stored) (devices.from j)) (read j)
+
+  abbrev pub all_of : ℕ → Stored
+  all_of k = cond (nat_lt k many) (made_of k) (further (k - many))
+
+  all_left : (k : ℕ) → nat_lt k many ≡ true → all_of k ≡ made_of k
+  all_left k low = ap (λ b. cond b (made_of k) (further (k - many))) low
+
+  all_further : (k : ℕ) → nat_lt k many ≡ false → all_of k ≡ further (k - many)
+  all_further k past = ap (λ b. cond b (made_of k) (further (k - many))) past
+
+  further_is : (j : ℕ) → devices.from j ≡ None → further j ≡ read j
+  further_is j none = ap (λ o. unwrap_or (option_map (λ (_ : ℕ). nothing_stored) o) (read j)) none
+
+  left_within : (k j : ℕ) → devices.at k ≡ Some j → k < many
+  left_within k j at = let f = devices.again k j at in slice_get_within devices.left k f.disk_left f.at_left
+
+  -- where device j stands
+  abbrev pub place : ℕ → ℕ
+  place j = unwrap_or (devices.from j) (many + j)
+
+  pub as_placed : (j : ℕ) → all_of (place j) ≡ read j
+  as_placed j = by_option (devices.from j)
+      (λ none.
+      let at : place j ≡ many + j = ap (λ o. unwrap_or o (many + j)) none in
+      let past : nat_lt (many + j) many ≡ false = not_below-nat_lt (many + j) many (omega arith) in
+      let back : (many + j) - many ≡ j = omega arith in
+      ap all_of at ∙ all_further (many + j) past ∙ ap further back ∙ further_is j none)
+      (λ k is.
+      let at : place j ≡ k = ap (λ o. unwrap_or o (many + j)) is in
+      let there = devices.found j k is in
+      ap all_of at ∙ all_left k (below-nat_lt k many (left_within k j there)) ∙ at_some k j there)
 
   -- a superblock is a member's
   of_member : (j : ℕ) (own : Super) → (read j).super ≡ Some own → j < length next.array.members
@@ -91,57 +124,112 @@ module _ (t : Moment) (at_t : IsSoundAt t) (next : MirrorView)
       (λ n is. slice_get_within next.array.members j n is)
       (λ past. absurd (none-some own (sym (ap (λ o. (stored_on next.array o (slice_get before j)).super) (slice_get_past next.array.members j past)) ∙ e)))
 
-  member_at : (j : ℕ) → j < length next.array.members → opens.at j < length next.array.members
-  member_at j low = let own = opens.opened.members.filled j low in of_member (opens.at j) own.0 (opens.super j own.0 own.1)
-
-  opens_again : openings.IsOpenedFrom g made_of (super_of next.array.shared) (world_of next none_in_flight)
+  pub opens_again : openings.IsOpenedFrom g all_of (super_of next.array.shared) (world_of next none_in_flight)
   opens_again = record {
     opened = opens.opened;
-    at = λ j. devices.from (opens.at j);
-    super = λ j own e. let was = opens.super j own e in ap (λ (x : Stored). x.super) (as_read (opens.at j) (of_member (opens.at j) own was)) ∙ was;
-    all = λ k own e. by_option (devices.at k)
-        (λ gone. absurd (none-some own (sym (ap (λ (x : Stored). x.super) (at_none k gone)) ∙ e)))
-        (λ j is. opens.all j own (sym (ap (λ (x : Stored). x.super) (at_some k j is)) ∙ e));
-    content = λ j s low in_. opens.content j s low in_ ∙ sym (ap (λ (x : Stored). x.content s) (as_read (opens.at j) (member_at j in_)));
-    listed = λ j s low in_. opens.listed j s low in_ ∙ sym (ap (λ (x : Stored). x.listed s) (as_read (opens.at j) (member_at j in_)));
-    bits = λ j s low on.
-        opens.bits j s low on
-        ∙ sym (ap (λ x. is_marked x (chunk_of g s)) (as_read (opens.at j) (member_at j (slot_of g (super_of next.array.shared) (world_of next none_in_flight) opens.opened j on))));
+    at = λ j. place (opens.at j);
+    super = λ j own e. ap (λ (x : Stored). x.super) (as_placed (opens.at j)) ∙ opens.super j own e;
+    all = λ k own e. by_test (nat_lt k many)
+        (λ low. by_option (devices.at k)
+        (λ gone. absurd (none-some own (sym (ap (λ (x : Stored). x.super) (at_none k gone)) ∙ sym (ap (λ (x : Stored). x.super) (all_left k low)) ∙ e)))
+        (λ j is. opens.all j own (sym (ap (λ (x : Stored). x.super) (at_some k j is)) ∙ sym (ap (λ (x : Stored). x.super) (all_left k low)) ∙ e)))
+        (λ past. let here = sym (ap (λ (x : Stored). x.super) (all_further k past)) ∙ e in by_option (devices.from (k - many))
+        (λ none. opens.all (k - many) own (sym (ap (λ (x : Stored). x.super) (further_is (k - many) none)) ∙ here))
+        (λ i is. absurd (none-some own (sym (ap (λ o. (unwrap_or (option_map (λ (_ : ℕ). nothing_stored) o) (read (k - many))).super) is) ∙ here))));
+    content = λ j s low in_. opens.content j s low in_ ∙ sym (ap (λ (x : Stored). x.content s) (as_placed (opens.at j)));
+    listed = λ j s low in_. opens.listed j s low in_ ∙ sym (ap (λ (x : Stored). x.listed s) (as_placed (opens.at j)));
+    bits = λ j s low on. opens.bits j s low on ∙ sym (ap (λ x. is_marked x (chunk_of g s)) (as_placed (opens.at j)));
   }
 
-  -- so that the superblock is the freshest of these
-  freshest : IsFreshest made_of (super_of next.array.shared)
-  freshest =
-      let fresh = opens_again.opened.freshest in
-      record {
-        at = opens_again.at fresh.at;
-        is = opens_again.super fresh.at (super_of next.array.shared) fresh.is;
-        greatest = λ k own e. let j = opens_again.all k own e in fresh.greatest j.0 own j.1;
-      }
-
-  -- a member in sync of it is found so
-  found_there : (k : ℕ) → worlds.IsInSync (world_of next none_in_flight) k → IsFound g made_of (super_of next.array.shared) (devices.from k)
-  found_there k on =
+  -- where none is further, the superblock is the freshest of those that were left
+  freshest : AreAllLeft t before devices → IsFreshest made_of (super_of next.array.shared)
+  freshest all =
       let first = super_of next.array.shared in
-      let w = world_of next none_in_flight in
-      let x = own_of g first w opens.opened k on in
+      let fresh = opens.opened.freshest in
+      let at = opens.at fresh.at in
+      let is = opens.super fresh.at first fresh.is in
+      let low = of_member at first is in
+      let read_many = from_these.array.read.as_many in
+      let members_many = from_these.array.remembered.as_many in
+      let k = all at (omega arith) in
       record {
-        own = x.0;
-        is = ap (λ (d : Stored). d.super) (as_read k (slot_of g first w opens.opened k on)) ∙ super_was before next devices.honest from_these k x.0 x.1;
-        in_sync = sym (ap is_in_sync (opens.opened.states.by_table k x.0 x.1)) ∙ on;
+        at = k.0;
+        is = ap (λ (x : Stored). x.super) (at_some k.0 at (devices.found at k.0 k.1)) ∙ is;
+        greatest = λ i own e. by_option (devices.at i)
+            (λ gone. absurd (none-some own (sym (ap (λ (x : Stored). x.super) (at_none i gone)) ∙ e)))
+            (λ j there. let x = opens.all j own (sym (ap (λ (x : Stored). x.super) (at_some i j there)) ∙ e) in fresh.greatest x.0 own x.1);
       }
 
-  freshest_found : (opened : Super) → stops.IsFreshestWithAbsent opened made_of (super_of next.array.shared)
-  freshest_found = freshest_left g made_of (super_of next.array.shared) (world_of next none_in_flight) opens_again
+  -- ---- the further ones are such of the model
+  module _ (opened : MirrorView) (others : (j : ℕ) (m : MemberView) → IsMember next.array j m → devices.from j ≡ None → IsFurther opened t m)
+      (fit : IsFit (super_of opened.array.shared) (super_of next.array.shared) t.failed_at) where
+    is_further : (j : ℕ) → devices.from j ≡ None → lives.IsFurther g (super_of opened.array.shared) (history_of stop) (super_of next.array.shared) (read j)
+    is_further j none =
+        let known : (own : Super) → (read j).super ≡ Some own → (m : MemberView) × IsMember next.array j m × (super_of m.superblock ≡ own) =
+        λ own e. own_is before next devices.honest from_these j own (super_stays before next devices.honest from_these j own e) in
+        record {
+          absent = λ own e.
+              let x = known own e in
+              let o = others j x.0 x.1 none in
+              record {
+                no_newer = subst (λ (v : Super). v.events ≤ opened.array.shared.events) x.2 o.no_newer;
+                away = ap stop.away (sym (ap (λ (v : Super). v.number) x.2)) ∙ left.away x.0.superblock.dev_number ∙ o.away;
+              };
+          out = λ own e.
+              let x = known own e in
+              sym (ap is_in_sync (opens.opened.states.by_table j own (super_stays before next devices.honest from_these j own e)))
+              ∙ ap is_in_sync (state_at before next devices.honest from_these j x.0 x.1) ∙ same_in_sync x.0.state ∙ (others j x.0 x.1 none).out;
+        }
 
-  pub reopens : (opened : MirrorView) → IsFit (super_of opened.array.shared) (super_of next.array.shared) t.failed_at
-      → Reopens g (super_of opened.array.shared) (history_of stop) (super_of next.array.shared) (world_of next none_in_flight)
-  reopens opened fit = record {
-    left = made_of;
-    is_left = are_left;
-    fit = subst (λ (n : ℕ). IsFit (super_of opened.array.shared) (super_of next.array.shared) n) (sym left.counted) fit;
-    opens = opens_again;
-  }
+    abbrev Each : ℕ → Type 0
+    Each k = (all_of k ≡ made_of k) ⊎ (((made_of k).super ≡ None) × lives.IsFurther g (super_of opened.array.shared) (history_of stop) (super_of next.array.shared) (all_of k))
+
+    nothing_further : (d : Stored) → d.super ≡ None → lives.IsFurther g (super_of opened.array.shared) (history_of stop) (super_of next.array.shared) d
+    nothing_further d none = record {
+      absent = λ own e. absurd (none-some own (sym none ∙ e));
+      out = λ own e. absurd (none-some own (sym none ∙ e));
+    }
+
+    each : (k : ℕ) → Each k
+    each k = by_test (nat_lt k many)
+        (λ low. inl (all_left k low))
+        (λ past. inr (
+          by_option (devices.at k)
+              (λ gone. ap (λ (x : Stored). x.super) (at_none k gone))
+              (λ j is. absurd (true≢false (sym (below-nat_lt k many (left_within k j is)) ∙ past))),
+          by_option (devices.from (k - many))
+              (λ none. subst (lives.IsFurther g (super_of opened.array.shared) (history_of stop) (super_of next.array.shared)) (sym (all_further k past ∙ further_is (k - many) none)) (is_further (k - many) none))
+              (λ i is. nothing_further (all_of k) (ap (λ (x : Stored). x.super) (all_further k past) ∙ ap (λ o. (unwrap_or (option_map (λ (_ : ℕ). nothing_stored) o) (read (k - many))).super) is)),
+        ))
+
+    pub reopens : Reopens g (super_of opened.array.shared) (history_of stop) (super_of next.array.shared) (world_of next none_in_flight)
+    reopens = record {
+      left = made_of;
+      is_left = are_left;
+      made_of = all_of;
+      each = each;
+      fit = subst (λ (n : ℕ). IsFit (super_of opened.array.shared) (super_of next.array.shared) n) (sym left.counted) fit;
+      opens = opens_again;
+    }
+
+    freshest_found : stops.IsFreshestWithAbsent (super_of opened.array.shared) made_of (super_of next.array.shared)
+    unfolding reopens
+    freshest_found = freshest_own g (super_of opened.array.shared) (history_of stop) (super_of next.array.shared) (world_of next none_in_flight) reopens
+
+    -- a member in sync of it is one that was left, and is found so
+    in_sync_from : (k : ℕ) (n : MemberView) → IsInSync next.array k n → (i : ℕ) × (devices.from k ≡ Some i)
+    in_sync_from k n on = by_option (devices.from k)
+        (λ none. absurd (true≢false (sym on.in_sync ∙ (others k n on.member none).out)))
+        (λ i is. (i, is))
+
+    found_there : (k i : ℕ) → devices.from k ≡ Some i → worlds.IsInSync (world_of next none_in_flight) k → IsFound g made_of (super_of next.array.shared) i
+    found_there k i is on =
+        let x = own_of g (super_of next.array.shared) (world_of next none_in_flight) opens.opened k on in
+        record {
+          own = x.0;
+          is = ap (λ (d : Stored). d.super) (at_some i k (devices.found k i is)) ∙ super_was before next devices.honest from_these k x.0 x.1;
+          in_sync = sym (ap is_in_sync (opens.opened.states.by_table k x.0 x.1)) ∙ on;
+        }
 
 -- ---- lives
 -- A life of the model, with the same moment at its end: its runs have the event within which a stop came.
@@ -165,7 +253,7 @@ model_life g m es (more ∷ rest) final last same at_m life =
         super_of next.array.shared,
         world_of next none_in_flight,
         model_run g (es ++ s.events) (opened_as m) s.moment same r,
-        subst (λ x. Reopens x (super_of m.array.shared) (history_of s.moment) (super_of next.array.shared) (world_of next none_in_flight)) kept (reopens t at_t next again.before again.devices again.opens m again.fit),
+        subst (λ x. Reopens x (super_of m.array.shared) (history_of s.moment) (super_of next.array.shared) (world_of next none_in_flight)) kept (reopens t at_t next again.before again.devices again.opens m again.others again.fit),
         y.2,
       ),
     )
@@ -188,7 +276,7 @@ keeps_geometry before m start es rest final last life = life_geometry m es rest 
 
 -- ---- and when the next superblock is fit
 pub fits_when_there : FitsWhenThere
-fits_when_there before m start one es t r found next devices opens late =
+fits_when_there before m start one es t r found next devices all opens late =
     let at_t = run_keeps es (opened_as m) t r (sound_when_opened before m start.honest start.opened) in
     let g = geometry_of m.array in
     let same = geometry_kept es (opened_as m) t r in
@@ -199,7 +287,7 @@ fits_when_there before m start one es t r found next devices opens late =
     (model_run g (es ++ s.events) (opened_as m) s.moment refl (run_then es s.events (opened_as m) t s.moment r s.run))
     there (super_of next.array.shared)
     (subst (λ x. stops.IsLeft x (history_of s.moment).now there) same (are_left t at_t next found devices opens))
-    (freshest t at_t next found devices opens) late (subst (λ (n : ℕ). n ≤ next.array.shared.events) (sym s.counted) devices.recorded))
+    (freshest t at_t next found devices opens all) late (subst (λ (n : ℕ). n ≤ next.array.shared.events) (sym s.counted) (recorded_first t at_t found next.array devices opens.array)))
 
 at_each : (P : Geometry → Super → runs.History → Type 0) → Always P → AtEachMoment P
 at_each P always before m start es rest final last life =
@@ -223,7 +311,7 @@ pub finds_in_sync : FindsInSync
 finds_in_sync before m start es rest final last life next again k n on =
     let at_t = life_keeps m es rest final last (sound_when_opened before m start.honest start.opened) life in
     let these = again.before in
-    let from = again.devices.from k in
+    let from = in_sync_from last at_t next these again.devices again.opens final again.others again.fit k n on in
     let s = left last at_t next these again.devices again.opens in
     let whole = life_then m es rest final last life s.events s.moment s.run in
     let same = keeps_geometry before m start es rest final last life in
@@ -231,8 +319,9 @@ finds_in_sync before m start es rest final last life next again k n on =
     let first = super_of next.array.shared in
     let safe = life_safe before m start whole.0 whole.1 final s.moment whole.2 found first
     (subst (λ x. stops.IsLeft x (history_of s.moment).now found) same (are_left last at_t next these again.devices again.opens))
-    (freshest_found last at_t next these again.devices again.opens (super_of final.array.shared))
+    (freshest_found last at_t next these again.devices again.opens final again.others again.fit)
     (subst (λ (c : ℕ). IsFit (super_of final.array.shared) first c) (sym s.counted) again.fit) in
-    in_sync_is last.mirror.disks last.mirror.array last.requests from
-    (s.in_sync from (safe.among from (subst (λ x. IsFound x found first from) same
-    (found_there last at_t next these again.devices again.opens k (in_sync_there next.disks next.array none_in_flight k n on)))))
+    let was = in_sync_is last.mirror.disks last.mirror.array last.requests from.0
+    (s.in_sync from.0 (safe.among from.0 (subst (λ x. IsFound x found first from.0) same
+    (found_there last at_t next these again.devices again.opens final again.others again.fit k from.0 from.1 (in_sync_there next.disks next.array none_in_flight k n on))))) in
+    (from.0, from.1, was.0, was.1)

@@ -30,7 +30,6 @@ use Rattle.md_array.proofs.ReadAsKept.{stays}
 use Rattle.md_array.proofs.WorldsReadMember.{IsReadMember, count_is, sound_size, width_old}
 use Rattle.md_array.proofs.WorldsLists.{got_same, got_within}
 use Rattle.md_array.proofs.WorldsShown.{read_at}
-use Rattle.md_array.proofs.WorldsSound.{freshest_at}
 use Rattle.md_array.proofs.WorldsSupers.{block_spells}
 
 -- the superblock of a device that was read
@@ -39,7 +38,7 @@ super_on content v r = record { fields = block_spells content v r; sound = subst
 
 -- ---- devices that are found again, and the array that they make
 module _ (t : Moment) (at_t : IsSoundAt t) (before : List Disk) (is : ArrayView)
-    (r : AreFoundAgain t before is.shared) (o : IsArrayOf before is) where
+    (r : AreFoundAgain t before) (o : IsArrayOf before is) where
   abbrev was : ArrayView
   was = t.mirror.array
 
@@ -129,32 +128,32 @@ module _ (t : Moment) (at_t : IsSoundAt t) (before : List Disk) (is : ArrayView)
         ]
 
   -- ---- the array is as it was
-  first : (info : MemberInfo) × (slice_get o.infos o.assembly.freshest ≡ Some info) × (info.superblock ≡ is.shared)
-  first = freshest_at o.infos o.assembly is o.assembled o.sound o.remembered
+  abbrev at_member : ℕ
+  at_member = r.recorded.device
 
   abbrev at_first : ℕ
-  at_first = o.assembly.freshest
+  at_first = r.recorded.place
 
-  found_first : IsFoundAgain was r.left before (r.from at_first) at_first
-  found_first =
-      let low = slice_get_within o.infos at_first first.0 first.1 in
-      let many = o.read.as_many in
-      r.again (r.from at_first) at_first (r.found at_first (omega arith))
-
-  abbrev at_member : ℕ
-  at_member = r.from at_first
+  found_first : IsFoundAgain was r.left before at_member at_first
+  found_first = r.again at_member at_first r.recorded.there
 
   first_member : (n : MemberView) × IsMember is at_first n
   first_member = member_at at_member at_first found_first
 
+  abbrev first_info : MemberInfo
+  first_info = info at_member at_first found_first first_member.0 first_member.1
+
+  recorded_there : t.failed_at ≤ first_info.superblock.events
+  recorded_there = r.recorded.recorded found_first.disk_now first_info.superblock found_first.at_now (own_there at_member at_first found_first first_member.0 first_member.1)
+
+  pub recorded_first : t.failed_at ≤ is.shared.events
+  recorded_first =
+      let low = recorded_there in
+      let fresh = (again at_member at_first found_first first_member.0 first_member.1).seen.fresh in
+      omega arith
+
   same_width : is.chunks.sectors ≡ was.chunks.sectors
-  same_width =
-      let n = first_member in
-      let x = again at_member at_first found_first n.0 n.1 in
-      let same : x.info ≡ first.0 = got_same o.infos at_first x.info first.0 x.listed first.1 in
-      let events : x.info.superblock.events ≡ is.shared.events = ap (λ (info : MemberInfo). info.superblock.events) same ∙ ap (λ (v : Superblock). v.events) first.2 in
-      let recorded : t.failed_at ≤ is.shared.events = r.recorded in
-      width at_member at_first found_first n.0 n.1 (omega arith)
+  same_width = width at_member at_first found_first first_member.0 first_member.1 recorded_there
 
   same_size : is.chunks.size ≡ was.chunks.size
   same_size = let n = first_member in chunks_size at_member at_first found_first n.0 n.1

@@ -59,6 +59,13 @@ at disks k = cond (nat_lt k (length disks)) (Some k) None
 at_itself : (disks : List Disk) (k : ℕ) → k < length disks → at disks k ≡ Some k
 at_itself disks k low = ap (λ b. cond b (Some k) None) (lt-ltb k (length disks) low)
 
+at_back : (disks : List Disk) (j k : ℕ) → at disks j ≡ Some k → at disks k ≡ Some j
+at_back disks j k is = by_test (nat_lt j (length disks))
+    (λ inside.
+    let same : j ≡ k = same_Some j k (sym (ap (λ b. cond b (Some j) None) inside) ∙ is) in
+    subst (λ (i : ℕ). at disks i ≡ Some j) same (at_itself disks j (is_below j (length disks) inside)))
+    (λ past. absurd (none-some k (sym (ap (λ b. cond b (Some j) None) past) ∙ is)))
+
 again : (v : MirrorView) → IsConsistent v → (k j : ℕ) → at v.disks k ≡ Some j → IsFoundAgain v.array v.disks v.disks k j
 again v sound k j is =
     by_test (nat_lt k (length v.disks))
@@ -84,18 +91,23 @@ pub small_life : (before : List Disk) (m mid next : MirrorView) → IsOpenedFrom
 small_life before m mid next opened one r opens late honest =
     let t : Moment = record (opened_as m) { mirror = mid; requests = r.requests } in
     let at_t = run_keeps (Event.Begin r.number r.request ∷ Event.Record 0 ∷ []) (opened_as m) t r.run (sound_when_opened before m honest opened) in
+    let members_many = opens.array.remembered.as_many in
+    let read_many = opens.array.read.as_many in
+    let serving = (sound_when_opened mid.disks next at_t.honest opens).sound.roles.serving opens.array.remembered.running in
+    let some = slice_get_within next.array.members serving.0 serving.1 serving.2.member in
     let reopened : IsReopened m t next = record {
       before = mid.disks;
       devices = record {
         left = mid.disks;
         is_left = inl refl;
         honest = at_t.honest;
-        from = λ j. j;
+        from = at mid.disks;
         at = at mid.disks;
-        found = at_itself mid.disks;
+        found = at_back mid.disks;
         again = again mid at_t.sound;
-        recorded = omega arith;
+        recorded = record { device = 0; place = 0; there = at_itself mid.disks 0 (omega arith); recorded = λ d v there on. omega arith };
       };
+      others = λ j n member none. let low = slice_get_within next.array.members j n member in absurd (none-some j (sym none ∙ at_itself mid.disks j (omega arith)));
       opens = opens;
       fit = record { recorded = omega arith; newer = inl late };
     } in

@@ -51,7 +51,7 @@ module _ (before : List Disk) (m : MirrorView) (honest : AreHonest before) (o : 
   pub super_was : (k : ℕ) (own : Super) → (w.stored k).super ≡ Some own → (was.stored k).super ≡ Some own
   super_was k own e = let x = own_is before m honest o k own e in super_before k x.0 x.1 ∙ ap Some x.2
 
-  super_stays : (k : ℕ) (own : Super) → (was.stored k).super ≡ Some own → (w.stored k).super ≡ Some own
+  pub super_stays : (k : ℕ) (own : Super) → (was.stored k).super ≡ Some own → (w.stored k).super ≡ Some own
   super_stays k own e = by_member a k
       (λ mv is. super_at before m honest o k mv is ∙ sym (super_before k mv is) ∙ e)
       (λ past. absurd (none-some own (sym (ap (λ (d : Stored). d.super) (none_before k past)) ∙ e)))

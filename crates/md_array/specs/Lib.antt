@@ -38,6 +38,7 @@ pub mod InTurn
 pub mod CopyEvents
 pub mod WholeCalls
 pub mod Lives
+pub mod Returning
 pub mod Left
 pub mod StopsWithin
 pub mod SmallLife

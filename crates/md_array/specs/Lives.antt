@@ -1,9 +1,10 @@
 -- One opening of a mirror's devices after another: runs, each but the last ended by a stop, and what the next mirror is made of.
-use Rattle.std.specs.Prelude.{◌≡◌, ℕ, ◌*◌, ◌<◌, ◌≤◌, false, List, [], ◌∷◌, length, Option, slice_get, Some}
+use Rattle.std.specs.Prelude.{◌≡◌, ℕ, ◌*◌, ◌<◌, ◌≤◌, true, false, List, [], ◌∷◌, length, Option, slice_get, Some, None}
 use Rattle.md_model.specs.Sectors.{Geometry, chunk_of}
 use Rattle.md_device.specs.Splice.{SameOutside}
 use Rattle.md_super.specs.declared.superblock.Superblock.{Superblock}
 use Rattle.md_members.specs.Areas.{bitmap_sectors}
+use Rattle.md_assembly.specs.States.{is_in_sync}
 use Rattle.md_model.specs.Devices.{Super, is_marked}
 use Rattle.md_model.specs.Events.{Event}
 use Rattle.md_model.specs.Fits.{HasOneView}
@@ -15,7 +16,7 @@ use Rattle.md_array.specs.Members.{IsInSync, IsMember}
 use Rattle.md_array.specs.HalfOpened.{IsHalfOpened}
 use Rattle.md_array.specs.Left.{IsLeft}
 use Rattle.md_array.specs.Opening.{IsArrayOf, IsOpenedFrom}
-use Rattle.md_array.specs.ReadAsKept.{AreReadAsKept, chunk_size_on}
+use Rattle.md_array.specs.ReadAsKept.{AreReadAsKept, IsSuperOn, chunk_size_on}
 use Rattle.md_array.specs.Runs.{IsStart, MirrorRun, MirrorRunWith, Moment, history_of, opened_as}
 use Rattle.md_array.specs.Worlds.{AreHonest, from_super, geometry_of, none_in_flight, stored_of, super_of, world_of}
 
@@ -36,22 +37,36 @@ pub record IsFoundAgain (a : ArrayView) (left now : List Disk) (k j : ℕ) : Typ
   pub at_now : slice_get now j ≡ Some disk_now
   pub as_left : IsAsLeft a member disk_left.content disk_now.content
 
--- These are some of the devices that were left, in any order, and this superblock of an array of them has recorded the last
--- failure.
-pub record AreFoundAgain (t : Moment) (before : List Disk) (shared : Superblock) : Type 0 where
+-- One of the devices that were left is there, and its superblock has recorded the last failure.
+pub record HasRecorded (t : Moment) (before : List Disk) (at : ℕ → Option ℕ) : Type 0 where
+  pub device : ℕ
+  pub place : ℕ
+  pub there : at device ≡ Some place
+  pub recorded : (d : Disk) (v : Superblock) → slice_get before place ≡ Some d → IsSuperOn d.content v → t.failed_at ≤ v.events
+
+-- Among these are some of the devices that were left, in any order, and one of those has recorded the last failure.
+pub record AreFoundAgain (t : Moment) (before : List Disk) : Type 0 where
   pub left : List Disk
   pub is_left : IsLeft t left
   pub honest : AreHonest before
-  pub from : ℕ → ℕ  -- which of those that were left each is
+  pub from : ℕ → Option ℕ  -- which of those that were left each is, if it is one
   pub at : ℕ → Option ℕ  -- and where each of those is now, if it is there
-  pub found : (j : ℕ) → j < length before → at (from j) ≡ Some j
+  pub found : (j k : ℕ) → from j ≡ Some k → at k ≡ Some j
   pub again : (k j : ℕ) → at k ≡ Some j → IsFoundAgain t.mirror.array left before k j
-  pub recorded : t.failed_at ≤ shared.events
+  pub recorded : HasRecorded t before at
 
--- The next mirror is made of such devices, and its superblock is fit.
+-- A device that the opening before left out, as a member of the next mirror: its events are not above the array's there, no member
+-- had its number since, and it is not found in sync. (With one that is, another life begins: `laws::returning_devices`.)
+pub record IsFurther (opened : MirrorView) (t : Moment) (m : MemberView) : Type 0 where
+  pub no_newer : m.superblock.events ≤ opened.array.shared.events
+  pub away : t.away m.superblock.dev_number ≡ true
+  pub out : is_in_sync m.state ≡ false
+
+-- The next mirror is made of such devices and of further ones, and its superblock is fit.
 pub record IsReopened (opened : MirrorView) (t : Moment) (next : MirrorView) : Type 0 where
   pub before : List Disk
-  pub devices : AreFoundAgain t before next.array.shared
+  pub devices : AreFoundAgain t before
+  pub others : (j : ℕ) (m : MemberView) → IsMember next.array j m → devices.from j ≡ None → IsFurther opened t m
   pub opens : IsOpenedFrom before next
   pub fit : IsFit (super_of opened.array.shared) (super_of next.array.shared) t.failed_at
 
@@ -111,7 +126,11 @@ FindsInSync =
     (before : List Disk) (m : MirrorView) → IsStart before m
     → (es : List Event) (rest : List (List Event)) (final : MirrorView) (last : Moment) → MirrorLife m es rest final last
     → (next : MirrorView) (again : IsReopened final last next)
-    → (k : ℕ) (n : MemberView) → IsInSync next.array k n → (o : MemberView) × IsInSync last.mirror.array (again.devices.from k) o
+    → (k : ℕ) (n : MemberView) → IsInSync next.array k n → (i : ℕ) × (again.devices.from k ≡ Some i) × (o : MemberView) × IsInSync last.mirror.array i o
+
+-- each of these devices was left
+abbrev pub AreAllLeft : (t : Moment) (before : List Disk) → AreFoundAgain t before → Type 0
+AreAllLeft t before devices = (j : ℕ) → j < length before → (k : ℕ) × (devices.from j ≡ Some k)
 
 -- The next superblock is fit where it is as new as the one of the opening before and has recorded the last failure, if no two
 -- superblocks of that opening were as new and told of other roles.
@@ -119,16 +138,16 @@ abbrev pub FitsWhenThere : Type 0
 FitsWhenThere =
     (before : List Disk) (m : MirrorView) → IsStart before m → HasOneView (super_of m.array.shared) (world_of m none_in_flight).stored
     → (es : List Event) (t : Moment) → MirrorRun (opened_as m) es t
-    → (found : List Disk) (next : MirrorView) → AreFoundAgain t found next.array.shared → IsOpenedFrom found next
+    → (found : List Disk) (next : MirrorView) (devices : AreFoundAgain t found) → AreAllLeft t found devices → IsOpenedFrom found next
     → m.array.shared.events ≤ next.array.shared.events
     → IsFit (super_of m.array.shared) (super_of next.array.shared) t.failed_at
 
--- An interrupted open of such devices leaves each as it was left, if its superblock has recorded the last failure.
+-- An interrupted open of such devices, with any others beside them, leaves each of them as it was left.
 abbrev pub StaysAsLeft : Type 0
 StaysAsLeft =
     (before : List Disk) (m : MirrorView) → IsStart before m
     → (es : List Event) (rest : List (List Event)) (final : MirrorView) (last : Moment) → MirrorLife m es rest final last
-    → (found : List Disk) (a : ArrayView) (devices : AreFoundAgain last found a.shared) → IsArrayOf found a
+    → (found : List Disk) (a : ArrayView) (devices : AreFoundAgain last found) → IsArrayOf found a
     → (left : List (List ℕ)) → IsHalfOpened a found left
     → (k j : ℕ) (at : devices.at k ≡ Some j) (c : List ℕ) → slice_get left j ≡ Some c
     → IsAsLeft last.mirror.array (devices.again k j at).member (devices.again k j at).disk_left.content c

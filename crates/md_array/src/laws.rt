@@ -12,6 +12,7 @@ ghost use Rattle.md_array.specs.View.{Disk, MemberView, MirrorView};
 ghost use Rattle.md_array.specs.Opening.{IsOpenedFrom};
 ghost use Rattle.md_array.specs.ReadAsKept.{AreReadAsKept};
 ghost use Rattle.md_array.specs.Lives.{AtEachMoment, ContentGoesAlong, FindsInSync, FitsWhenThere, IsReadAsKeptInLives, KeepsContent, KeepsGeometry, StaysAsLeft};
+ghost use Rattle.md_array.specs.Returning.{StartsAgain};
 ghost use Rattle.md_array.specs.Runs.{HasContent};
 ghost use Rattle.md_array.specs.StopsWithin.{StopsAsFailed, StopsAsTried, StopsAtEvents, StopsAtFailure, StopsAtSector, StopsAtWrite, StopsInMemory, StopsUndivided};
 ghost use Rattle.md_array.specs.Worlds.{AreHonest, geometry_of, none_in_flight, super_of, world_of, world_on};
@@ -47,8 +48,9 @@ pub fn opening()
 /// decoded: a premise, unless the write is done and neither superblock has more than 128 roles. Nothing is said
 /// of a stop within a write of marks that fails.
 ///
-/// An opening after a stop is of devices that were left, in any order, some of them missing (`IsReopened`).
-/// Its superblock is fit, which leaves out a stop while a failure awaits its record. Openings that were
+/// An opening after a stop is of devices that were left, in any order, some of them missing (`IsReopened`). Beside
+/// them may be further ones, which the opening before left out (`IsFurther`): they are not found in sync. Its
+/// superblock is fit, which leaves out a stop while a failure awaits its record. Openings that were
 /// themselves stopped may have written bitmaps between, if no chunk lost its mark and the header kept its chunk
 /// size (`half_opening`). Nothing is said of a mirror once it is halted.
 pub fn every_run()
@@ -87,6 +89,13 @@ pub fn every_run()
 /// other roles.
 pub fn fitness()
     ensures fits { FitsWhenThere }
+{}
+
+/// A device that an opening left out may come back at the next one before any data was let through, and be found in
+/// sync. With it another life begins: the opening is a start, whose stored marks cover what differs. Of the content
+/// from before nothing is said then.
+pub fn returning_devices()
+    ensures starts { StartsAgain }
 {}
 
 /// An interrupted open of a mirror's devices, at any moment of its life, leaves each as it was left, so that

@@ -14,7 +14,7 @@ use Rattle.md_model.specs.Behind.{IsBehind, HasDataOf, Leaves, IsDegraded, Keeps
 use Rattle.md_model.proofs.Cases.{by_test, never, none_some}
 use Rattle.md_model.proofs.Keeps.{IsKept, kept_step}
 use Rattle.md_model.proofs.Opened.{kept_opened}
-use Rattle.md_model.proofs.OpeningCovers.{freshest_left, found}
+use Rattle.md_model.proofs.Reopening.{bits_own, found_own, freshest_own}
 use Rattle.md_model.proofs.Safe.{leaves, safe_at_stop, cut_listed, cut_content}
 use Rattle.md_model.proofs.Lives.{start_again}
 use Rattle.md_model.proofs.Picked.{has_content}
@@ -66,9 +66,9 @@ module _ (g : Geometry) (small : IsWithinLimits g) (opened : Super) (h : History
       on_members : (i s : ℕ) → s < g.size → IsInSync next i → d.listed s ≡ false → (next.stored i).bits (chunk_of g s) ≡ false → d.content s ≡ b s
       on_members i s low x off bit =
           let l = leaves g small opened h t.kept r.left r.is_left in
-          let safe = safe_at_stop g small opened h t.kept r.left first r.is_left (freshest_left g r.left first next r.opens opened) r.fit in
-          let f = found g r.left first next r.opens i x in
-          has (r.opens.at i) s low (safe.among (r.opens.at i) f) off (l.bits (r.opens.at i) s f.own low f.is (sym (r.opens.bits i s low x) ∙ bit))
+          let safe = safe_at_stop g small opened h t.kept r.left first r.is_left (freshest_own g opened h first next r) r.fit in
+          let f = found_own g opened h first next r i x in
+          has (r.opens.at i) s low (safe.among (r.opens.at i) f) off (l.bits (r.opens.at i) s f.own low f.is (sym (bits_own g opened h first next r i s low x) ∙ bit))
           ∙ sym (c.unmarked i s low x bit)
 
   stays_behind : (d : Stored) → IsBehind g a d h.now → IsBehind g b d next
@@ -105,15 +105,15 @@ behind_with_data g a w device other same late = record {
 }
 
 pub keeps_data : KeepsData
-keeps_data g opened h first next r k low =
+keeps_data g opened h first next r k low same =
     let x = r.opens.opened.members.filled k low in
     let half : IsHalfOpened g (r.is_left.0 (r.opens.at k)) (r.left (r.opens.at k)) =
     ⊎_elim (λ (is : IsHalfOpened g (r.is_left.0 (r.opens.at k)) (r.left (r.opens.at k))). is)
-    (λ (gone : (r.left (r.opens.at k)).super ≡ None). absurd (none_some x.0 (sym gone ∙ r.opens.super k x.0 x.1)))
+    (λ (gone : (r.left (r.opens.at k)).super ≡ None). absurd (none_some x.0 (sym gone ∙ ap (λ (d : Stored). d.super) (sym same) ∙ r.opens.super k x.0 x.1)))
     (r.is_left.2 (r.opens.at k)) in
     record {
-      content = λ s inside. r.opens.content k s inside low ∙ ap (λ (f : ℕ → List ℕ). f s) half.content;
-      listed = λ s inside. r.opens.listed k s inside low ∙ ap (λ (f : ℕ → Bool). f s) half.listed;
+      content = λ s inside. r.opens.content k s inside low ∙ ap (λ (d : Stored). d.content s) same ∙ ap (λ (f : ℕ → List ℕ). f s) half.content;
+      listed = λ s inside. r.opens.listed k s inside low ∙ ap (λ (d : Stored). d.listed s) same ∙ ap (λ (f : ℕ → Bool). f s) half.listed;
     }
 
 -- a failure leaves the content as it is

@@ -13,6 +13,7 @@ pub mod Keeps
 pub mod Opened
 pub mod Safe
 pub mod Lives
+pub mod Reopening
 pub mod SmallRun
 pub mod Comings
 pub mod Picked
@@ -28,4 +29,5 @@ pub mod Returns
 pub mod ContentAlong
 pub mod LoneOpening
 pub mod LoneMember
+pub mod LoneJoined
 pub mod NeededGuards

@@ -9,15 +9,15 @@ use Rattle.md_model.specs.Stops.{IsSafeAtStop, KeepsOut, StaysOut}
 use Rattle.md_model.specs.Lives.{Reopens, Always, IsCovered}
 use Rattle.md_model.proofs.Keeps.{IsKept, kept_run}
 use Rattle.md_model.proofs.Opened.{kept_opened}
-use Rattle.md_model.proofs.OpeningCovers.{freshest_left, covered_again}
+use Rattle.md_model.proofs.Reopening.{freshest_own, covered_own}
 use Rattle.md_model.proofs.Safe.{covered_now, safe_at_stop, keeps_out, stays_out}
 
 -- an opening of what a stop left is a start again
 pub start_again : (g : Geometry) (opened : Super) (h : History) (first : Super) (next : World)
     → IsWithinLimits g → IsKept g opened h → Reopens g opened h first next → IsStart g first next
 start_again g opened h first next small t r =
-    let safe = safe_at_stop g small opened h t r.left first r.is_left (freshest_left g r.left first next r.opens opened) r.fit in
-    record { small = small; opening = r.opens.opened; covered = covered_again g r.left first next r.opens safe.covered }
+    let safe = safe_at_stop g small opened h t r.left first r.is_left (freshest_own g opened h first next r) r.fit in
+    record { small = small; opening = r.opens.opened; covered = covered_own g opened h first next r safe.covered }
 
 pub always : (P : Geometry → Super → History → Type 0)
     → ((g : Geometry) → IsWithinLimits g → (opened : Super) (h : History) → IsKept g opened h → P g opened h) → Always P

@@ -1,12 +1,12 @@
 -- An opening covers what was covered.
-use Rattle.std.proofs.Common.{inl, ◌⊎◌, ⊎_elim, ◌≡◌, ℕ, ◌<◌, true, sym, ap, ◌∙◌, true≢false, cond}
+use Rattle.std.proofs.Common.{◌⊎◌, ⊎_elim, ◌≡◌, ℕ, ◌<◌, true, sym, ap, ◌∙◌, true≢false, cond}
 use Rattle.std.specs.Prelude.{Some, None, nat_lt}
 use Rattle.md_model.specs.Sectors.{Geometry, chunk_of}
 use Rattle.md_model.specs.States.{is_in_sync}
 use Rattle.md_model.specs.Devices.{Super, Stored, Covered, is_accepted, is_marked}
 use Rattle.md_model.specs.Worlds.{World, IsInSync}
 use Rattle.md_model.specs.Assembly.{IsFound}
-use Rattle.md_model.specs.Stops.{IsHalfOpened, IsFreshestWithAbsent}
+use Rattle.md_model.specs.Stops.{IsHalfOpened}
 use Rattle.md_model.specs.Openings.{IsOpened, IsOpenedFrom}
 use Rattle.md_model.proofs.Tracked.{agree_as}
 use Rattle.md_model.proofs.Cases.{by_test, none_some, is_below, not_below}
@@ -26,12 +26,6 @@ pub own_of : (g : Geometry) (first : Super) (w : World) → IsOpened g first w �
 own_of g first w o k a = o.members.filled k (slot_of g first w o k a)
 
 module _ (g : Geometry) (left : ℕ → Stored) (first : Super) (w : World) (o : IsOpenedFrom g left first w) where
-  pub freshest_left : (opened : Super) → IsFreshestWithAbsent opened left first
-  freshest_left opened = record {
-    whose = inl (o.at o.opened.freshest.at, o.super o.opened.freshest.at first o.opened.freshest.is);
-    greatest = λ k own e. let x = o.all k own e in o.opened.freshest.greatest x.0 own x.1;
-  }
-
   pub found : (k : ℕ) → IsInSync w k → IsFound g left first (o.at k)
   found k a =
       let x = own_of g first w o.opened k a in

@@ -3,7 +3,7 @@ use Rattle.std.proofs.Common.{◌≡◌, ℕ, ◌<◌, Bool, true, false, cond, 
 use Rattle.std.specs.Prelude.{not, nat_lt}
 use Rattle.md_model.specs.Sectors.{Geometry, chunk_of}
 use Rattle.md_model.specs.States.{is_in_sync}
-use Rattle.md_model.specs.Devices.{Super, AgreeAt}
+use Rattle.md_model.specs.Devices.{Super, Stored, AgreeAt}
 use Rattle.md_model.specs.Worlds.{World, IsInSync}
 use Rattle.md_model.specs.Openings.{IsOpened}
 use Rattle.md_model.specs.Runs.{History, IsStart}
@@ -12,7 +12,8 @@ use Rattle.md_model.specs.Content.{Content, Holds, HoldsUnmarked, BecomesAtOpeni
 use Rattle.md_model.proofs.Cases.{by_test, never, both, is_below, not_below}
 use Rattle.md_model.proofs.Puts.{by_same}
 use Rattle.md_model.proofs.Keeps.{IsKept}
-use Rattle.md_model.proofs.OpeningCovers.{accepted-bits, slot_of, freshest_left, found}
+use Rattle.md_model.proofs.OpeningCovers.{accepted-bits, slot_of}
+use Rattle.md_model.proofs.Reopening.{bits_own, found_own, freshest_own, is_own}
 use Rattle.md_model.proofs.Safe.{leaves, safe_at_stop}
 
 abbrev tells : World → ℕ → ℕ → Bool
@@ -94,15 +95,16 @@ pub reopened_holds : (g : Geometry) (opened : Super) (h : History) (t : IsKept g
     → (i k s : ℕ) → s < g.size → IsInSync next i → IsInSync next k → (next.stored k).listed s ≡ false → (next.stored i).bits (chunk_of g s) ≡ false → (next.stored k).content s ≡ a s
 reopened_holds g opened h t a first next r start holds i k s low x on clear off =
     let l = leaves g start.small opened h t r.left r.is_left in
-    let safe = safe_at_stop g start.small opened h t r.left first r.is_left (freshest_left g r.left first next r.opens opened) r.fit in
-    let fi = found g r.left first next r.opens i x in
-    let fk = found g r.left first next r.opens k on in
+    let safe = safe_at_stop g start.small opened h t r.left first r.is_left (freshest_own g opened h first next r) r.fit in
+    let fi = found_own g opened h first next r i x in
+    let fk = found_own g opened h first next r k on in
+    let same = is_own g opened h first next r k on in
     let in_i = safe.among (r.opens.at i) fi in
     let in_k = safe.among (r.opens.at k) fk in
-    let bit = l.bits (r.opens.at i) s fi.own low fi.is (sym (r.opens.bits i s low x) ∙ off) in
+    let bit = l.bits (r.opens.at i) s fi.own low fi.is (sym (bits_own g opened h first next r i s low x) ∙ off) in
     let slot = slot_of g first next r.opens.opened k on in
-    r.opens.content k s low slot ∙ l.content (r.opens.at i) (r.opens.at k) s fk.own fk.is in_i bit
-    ∙ holds (r.opens.at i) (r.opens.at k) s low in_i in_k (sym (l.listed (r.opens.at k) s fk.own fk.is) ∙ sym (r.opens.listed k s low slot) ∙ clear) bit
+    r.opens.content k s low slot ∙ ap (λ (d : Stored). d.content s) same ∙ l.content (r.opens.at i) (r.opens.at k) s fk.own fk.is in_i bit
+    ∙ holds (r.opens.at i) (r.opens.at k) s low in_i in_k (sym (l.listed (r.opens.at k) s fk.own fk.is) ∙ sym (ap (λ (d : Stored). d.listed s) same) ∙ sym (r.opens.listed k s low slot) ∙ clear) bit
 
 pub has_content_again : (g : Geometry) (opened : Super) (h : History) (t : IsKept g opened h) (a : Content) (first : Super) (next : World) (r : Reopens g opened h first next)
     → IsStart g first next → HoldsUnmarked g a h.now → (b : Content) × BecomesAtOpening g next a b

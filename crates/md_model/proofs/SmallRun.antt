@@ -265,6 +265,8 @@ pub reopens : Reopens small_geometry (small_super 0) (opening small_world) (smal
 reopens = record {
   left = small_stored;
   is_left = as_it_was small_world;
+  made_of = small_stored;
+  each = λ k. inl refl;
   fit = record { recorded = omega arith; newer = inr (refl, λ _. refl) };
   opens = record {
     opened = small_opened;

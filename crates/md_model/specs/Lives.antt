@@ -1,19 +1,30 @@
 -- One opening after another (this project's own).
-use Rattle.std.specs.Prelude.{◌≡◌, ℕ, List, [], ◌∷◌}
+use Rattle.std.specs.Prelude.{◌≡◌, ◌⊎◌, ℕ, false, List, [], ◌∷◌, Some, None}
 use Rattle.md_model.specs.Sectors.{Geometry}
 use Rattle.md_model.specs.Devices.{Super, Stored, Covered}
 use Rattle.md_model.specs.Worlds.{World, IsInSync}
 use Rattle.md_model.specs.Openings.{IsOpenedFrom}
 use Rattle.md_model.specs.Events.{Event}
 use Rattle.md_model.specs.Runs.{History, opening, Run, IsStart}
-use Rattle.md_model.specs.Stops.{IsLeft, IsFit}
+use Rattle.md_model.specs.States.{is_in_sync}
+use Rattle.md_model.specs.Assembly.{state_by}
+use Rattle.md_model.specs.Stops.{IsAbsent, IsLeft, IsFit}
 
--- a stop, and an opening of what it left, by a superblock that is fit
+-- A further device, which the opening before left out, or that is none: it is absent since then, and not found in sync. (One
+-- that is found in sync begins another life: `CoversReturns`.)
+pub record IsFurther (g : Geometry) (opened : Super) (h : History) (first : Super) (device : Stored) : Type 0 where
+  pub absent : (own : Super) → device.super ≡ Some own → IsAbsent opened h.away own
+  pub out : (own : Super) → device.super ≡ Some own → is_in_sync (state_by g first own) ≡ false
+
+-- A stop, and an opening by a superblock that is fit. It is made of what the stop left, and, in places where that is none, of
+-- further devices.
 pub record Reopens (g : Geometry) (opened : Super) (h : History) (first : Super) (next : World) : Type 0 where
   pub left : ℕ → Stored
   pub is_left : IsLeft g h.now left
+  pub made_of : ℕ → Stored
+  pub each : (k : ℕ) → (made_of k ≡ left k) ⊎ (((left k).super ≡ None) × IsFurther g opened h first (made_of k))
   pub fit : IsFit opened first h.failed_at
-  pub opens : IsOpenedFrom g left first next
+  pub opens : IsOpenedFrom g made_of first next
 
 -- An array's life: events, a stop and an opening, events again, and so on. The last opening goes by the superblock final.
 abbrev pub Life : Geometry → Super → World → List Event → List (List Event) → Super → History → Type 0

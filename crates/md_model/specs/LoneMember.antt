@@ -1,5 +1,5 @@
 -- The mirror of two members, opened from member 1 alone while it was active: its role 0 is absent.
-use Rattle.std.specs.Prelude.{◌≡◌, ℕ, ◌≤◌, Bool, true, false, eqb, List, [], ◌∷◌, Some, None, zero, suc}
+use Rattle.std.specs.Prelude.{◌≡◌, ℕ, ◌≤◌, Bool, true, false, eqb, nat_lt, List, [], ◌∷◌, Some, None, zero, suc}
 use Rattle.md_model.specs.Sectors.{Geometry, put}
 use Rattle.md_model.specs.States.{State, is_in_sync}
 use Rattle.md_model.specs.States.State.{InSync, Faulty}
@@ -8,6 +8,7 @@ use Rattle.md_model.specs.Worlds.{World, IsInSync}
 use Rattle.md_model.specs.Assembly.{state_by, IsFreshest, IsFound}
 use Rattle.md_model.specs.Events.{Event}
 use Rattle.md_model.specs.Runs.{History}
+use Rattle.md_model.specs.Lives.{Reopens}
 use Rattle.md_model.specs.Stops.{IsLeft, IsFit, IsAbsent, IsFreshestWithAbsent, WasTried}
 use Rattle.md_model.specs.Returns.{beside, WasAway}
 use Rattle.md_model.specs.SmallArray.{small_role, small_super, small_device, small_world}
@@ -46,6 +47,19 @@ abbrev pub other_back : ℕ → Stored
 other_back zero = small_device None
 other_back (suc zero) = small_device (Some (small_super 0))
 other_back (suc (suc k)) = small_device None
+
+-- after such a write: the member's device, and member 0's beside it, which is faulty by then
+abbrev pub joined_stored : ℕ → Stored
+joined_stored zero = lone_stored later_super 0
+joined_stored (suc zero) = small_device (Some (small_super 0))
+joined_stored (suc (suc k)) = small_device None
+
+abbrev pub joined_number : ℕ → ℕ
+joined_number zero = 1
+joined_number (suc k) = 0
+
+abbrev pub lone_joined : World
+lone_joined = record (lone_at later_super) { members = 2; stored = joined_stored; number = joined_number; present = λ d. nat_lt d 2 }
 
 -- a write of one sector, whole
 abbrev pub lone_write : List Event
@@ -93,3 +107,11 @@ pub record IsBack (g : Geometry) (opened : Super) (w : World) (h : History) (bac
   pub at : ℕ
   pub beside_them : w.members ≤ at
   pub found : IsFound g (beside w.members left back) first at
+
+-- A stop, and an opening that takes in a device that the one before left out.
+pub record IsTakenIn (g : Geometry) (opened : Super) (h : History) (first : Super) (next : World) (back : Super) : Type 0 where
+  pub reopens : Reopens g opened h first next
+  pub member : ℕ
+  pub has : (next.stored member).super ≡ Some back
+  pub further : reopens.left (reopens.opens.at member) ≡ small_device None
+  pub faulty : next.state member ≡ Faulty

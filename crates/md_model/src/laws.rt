@@ -8,7 +8,7 @@ ghost use Rattle.md_model.specs.Devices.{Covered, Stored, Super, is_marked};
 ghost use Rattle.md_model.specs.Events.{Event};
 ghost use Rattle.md_model.specs.Fits.{FitsWhenThere, StepsRun};
 ghost use Rattle.md_model.specs.Lives.{Always, IsCovered, Reopens};
-ghost use Rattle.md_model.specs.LoneMember.{IsBack, IsKeptOut, IsShutOut, later_super, lone_at, lone_begin, lone_recorded, lone_world, lone_write, other_back};
+ghost use Rattle.md_model.specs.LoneMember.{IsBack, IsKeptOut, IsShutOut, IsTakenIn, later_super, lone_at, lone_begin, lone_joined, lone_recorded, lone_world, lone_write, other_back};
 ghost use Rattle.md_model.specs.NeededGuards.{ForgetsFailure, KeepsTheRole, WritesTooEarly, WritesUnmarked};
 ghost use Rattle.md_model.specs.Openings.{IsOpened, IsOpenedFrom};
 ghost use Rattle.md_model.specs.Returns.{CoversReturns};
@@ -73,6 +73,9 @@ pub fn lone_member()
     // At an opening after that it is out from the first, and stays so.
     ensures starts_again { IsStart small_geometry later_super (lone_at later_super) }
     ensures stays_out { IsKeptOut small_geometry later_super (opening (lone_at later_super)) (small_super 0) false }
+
+    // The opening after that may take it in: it is faulty there.
+    ensures taken_in { IsTakenIn small_geometry later_super (opening (lone_at later_super)) later_super lone_joined (small_super 0) }
 {}
 
 /// Guards that the law can't do without. Where one is left out, an opening finds members in sync that marks don't cover, or one
@@ -84,7 +87,8 @@ pub fn needed_guards()
     ensures failure_recorded { ForgetsFailure }
 {}
 
-/// The law of write intent, over every list of events, stops and openings that begins with devices that are covered.
+/// The law of write intent, over every list of events, stops and openings that begins with devices that are covered. An opening
+/// may leave devices out, and take in such as the one before left out, if they are not found in sync.
 pub fn every_run()
     // Wherever two members in sync differ, the marks stored on each of them have the chunk.
     ensures covered { Always IsCovered }
