@@ -96,3 +96,4 @@ pub mod CopyFailed
 pub mod CopyWrites
 pub mod ResyncMarked
 pub mod ReadingData
+pub mod StoppedCopies
