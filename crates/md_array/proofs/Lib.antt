@@ -24,6 +24,7 @@ pub mod Keeping
 pub mod Listed
 pub mod Listing
 pub mod Mapping
+pub mod MadeClean
 pub mod MarkSectors
 pub mod MarksFailed
 pub mod MarksStored

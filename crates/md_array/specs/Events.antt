@@ -91,6 +91,10 @@ StoreMarksHappens k block old new result =
 abbrev pub ClearHappens : ℕ → MirrorView → MirrorView → {T E : Type 0} → Result T E → Type 0
 ClearHappens chunk old new result = MatchResult result (λ _. Happens old (Event.ClearIdle chunk) new) (λ _. ⊤)
 
+-- make_clean
+abbrev pub CleanHappens : MirrorView → MirrorView → {T E : Type 0} → Result T E → Type 0
+CleanHappens old new result = MatchResult result (λ _. Happens old Event.MakeClean new) (λ _. ⊤)
+
 -- write_member: beside the request may be others
 abbrev pub HappensAmong : MirrorView → PendingView → Event → MirrorView → PendingView → Type 0
 HappensAmong old p e new q =

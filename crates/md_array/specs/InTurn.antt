@@ -8,7 +8,9 @@ use Rattle.md_array.specs.View.{ArrayView, MemberView, MirrorView, PendingView}
 use Rattle.md_array.specs.Members.{IsInSync, IsMember}
 use Rattle.md_array.specs.DiskWrites.{AtDevice}
 use Rattle.md_array.specs.Beginning.{Begins}
+use Rattle.md_array.specs.ClearingMarks.{Clears}
 use Rattle.md_array.specs.Finishing.{Finishes}
+use Rattle.md_array.specs.MakingClean.{MakesClean}
 use Rattle.md_array.specs.StoringMarks.{FailsToStoreMarks, HaltsStoringMarks, StoresMarkSector}
 use Rattle.md_array.specs.WritingMember.{FailsToWrite, HaltsWritingTo, IsNotDue, WritesTo}
 use Rattle.md_array.specs.Recording.{FailsToRecord, HaltsRecording, Records, super_write}
@@ -78,6 +80,8 @@ Did old before (Event.StoreMarks k b) new after = (after ≡ before) × StoresMa
 Did old before (Event.WriteMember n k) new after =
     (p q : PendingView) × IsUnder n p before × IsUnder n q after × IsPut n (Some (request_of q)) before after × WritesTo k old new p q
 Did old before (Event.Finish n) new after = (p : PendingView) × IsUnder n p before × IsPut n None before after × Finishes old new p
+Did old before (Event.ClearIdle c) new after = (after ≡ before) × Clears c old new
+Did old before Event.MakeClean new after = (after ≡ before) × MakesClean old new
 Did old before (Event.RecordFails k) new after = (after ≡ before) × FailsToRecord k old new
 Did old before (Event.StoreMarksFails k b) new after = (after ≡ before) × FailsToStoreMarks k b old new
 Did old before (Event.WriteMemberFails n k) new after =

@@ -24,6 +24,7 @@ pub mod Checking
 pub mod Failing
 pub mod Finishing
 pub mod ClearingMarks
+pub mod MakingClean
 pub mod Beginning
 pub mod ReadAsKept
 pub mod HalfOpened

@@ -15,6 +15,7 @@ mod finishing;
 mod in_sync;
 pub mod laws;
 mod lone_life;
+mod making_clean;
 mod marking;
 mod marking_resynced;
 mod member;
@@ -31,6 +32,7 @@ mod remembering;
 mod rising;
 mod step_fault;
 mod stored_marks;
+mod stored_sectors;
 mod storing;
 mod storing_marks;
 pub mod whole_calls;
@@ -41,4 +43,6 @@ pub use fault::OpenFault;
 pub use lone_life::small_life;
 pub use mirror::Mirror;
 pub use pending::Pending;
-pub use step_fault::{BeginFault, ClearFault, FinishFault, StoreFault, WriteMemberFault};
+pub use step_fault::{
+    BeginFault, CleanFault, ClearFault, FinishFault, StoreFault, WriteMemberFault,
+};

@@ -98,3 +98,23 @@ pub enum ClearFault {
     #[error("NotMarked")]
     NotMarked,
 }
+
+/// Why an array stays active.
+#[derive(Clone, Copy, Debug, PartialEq, Eq, Error)]
+pub enum CleanFault {
+    /// The mirror is halted.
+    #[error("Halted")]
+    Halted,
+    /// The request of this number is in flight. It is the first in the list.
+    #[error("InFlight {0}")]
+    InFlight(u64),
+    /// Members in sync may differ.
+    #[error("NotResynced")]
+    NotResynced,
+    /// It is clean.
+    #[error("AlreadyClean")]
+    AlreadyClean,
+    /// The event count has to rise and can't.
+    #[error("EventsFull")]
+    EventsFull,
+}

@@ -22,9 +22,9 @@ use md_device::{Device, WriteFault};
 use md_writes::store_bitmap_sector;
 
 // A sector of the bitmap has the bits of so many chunks. In the first, the header takes the room of some.
-const CHUNKS_OF_SECTOR: u32 = 4096;
+pub(crate) const CHUNKS_OF_SECTOR: u32 = 4096;
 
-const CHUNKS_OF_HEADER: u32 = 2048;
+pub(crate) const CHUNKS_OF_HEADER: u32 = 2048;
 
 impl<D: Device + Drop> Mirror<D> {
     /// Writes sector `block` of member k's bitmap by the marks in memory. Sector 0 holds the header too.

@@ -1,8 +1,5 @@
-pub mod Counts
-pub mod Going
-pub mod Steps
+pub mod Beside
 pub mod StoredMarks
-pub mod StoredRecords
 pub mod WrittenData
 pub mod Received
 pub mod Entries

@@ -1,7 +1,6 @@
--- Marks are stored sector by sector, and member by member.
-use Rattle.std.proofs.Common.{◌≡◌, ℕ, ◌+◌, ◌-◌, ◌<◌, ◌≤◌, Bool, true, false, cond, eqb, nat_lt, ◌&&◌, ◌↔◌, length, slice_get, Some, refl, sym, ap, ◌∙◌, subst, arith, eq-eqb, inl}
-use Rattle.std.proofs.lemmas.Option.{same_Some, slice_get_within}
-use Rattle.std.specs.Prelude.{option_map, Result, Ok, Err, MatchResult}
+-- Marks of some chunks are stored sector by sector.
+use Rattle.std.proofs.Common.{◌≡◌, ℕ, ◌+◌, ◌-◌, ◌<◌, ◌≤◌, Bool, true, false, cond, eqb, nat_lt, ◌&&◌, ◌↔◌, refl, sym, ap, ◌∙◌, subst, arith, eq-eqb, inl}
+use Rattle.std.specs.Prelude.{Result, Ok, Err, MatchResult}
 use Rattle.md_model.specs.Events.{Event}
 use Rattle.md_model.specs.Sectors.{block_of}
 use Rattle.md_model.proofs.Cases.{below-nat_lt}
@@ -11,62 +10,22 @@ use Rattle.md_array.specs.View.{ArrayView, MemberView, MirrorView}
 use Rattle.md_array.specs.Members.{IsInSync, IsMember}
 use Rattle.md_array.specs.Consistency.{IsConsistent}
 use Rattle.md_array.specs.InTurn.{IsSectorDue}
-use Rattle.md_array.specs.WritingMember.{HasMarksFrom, IsNotDue}
-use Rattle.md_write.specs.declared.stop.Stop.{Stop}
-use Rattle.md_write.specs.Progress.{alone, AreMarked, HasMarksIn, IsSameArray, IsStoring, StaysReady, Stores, StoresAll, StoresAt, StoresBelow, StoresOn, StopsStoring}
-use Rattle.md_write.proofs.Going.{goes_step, stores_nowhere, stores_on, was_in_sync}
-use Rattle.md_write.proofs.Steps.{now_at}
-
--- ---- the members, one after another
--- what a member that stays ready keeps, where these marks are in memory
-pub record IsLasting (marks : Bitmap) (Done : MemberView → Type 0) : Type 0 where
-  pub lasts : (a b : ArrayView) (k : ℕ) (n : MemberView) → a.marks ≡ marks → (s : StaysReady a b k n) → Done s.before → Done n
+use Rattle.md_array.specs.WritingMember.{HasMarksFrom}
+use Rattle.md_metadata.specs.declared.fault.PartFault.{PartFault}
+use Rattle.md_metadata.specs.Going.{IsSameArray, alone}
+use Rattle.md_metadata.specs.Storing.{IsStoring, StaysReady, Stores, StoresAt, StoresOn, StopsStoring}
+use Rattle.md_metadata.proofs.Going.{goes_step, stores_nowhere, stores_on, was_in_sync}
+use Rattle.md_metadata.proofs.Steps.{now_at}
+use Rattle.md_metadata.proofs.StoredMembers.{IsLasting}
+use Rattle.md_write.specs.Progress.{AreMarked, HasMarksIn}
 
 pub marks_last : (a : ArrayView) (first end : ℕ) → AreMarked a first end → IsLasting a.marks (HasMarksFrom first end)
 marks_last a first end are = record {
-  lasts = λ b c k n same s has x low high. s.marked x (ap (λ (m : Bitmap). is_set m.bytes x) same ∙ are.marked x low high) (has x low high);
+  lasts = λ b c k n same s has x low high.
+      let set = ap (λ (m : Bitmap). is_set m.bytes x) same ∙ are.marked x low high in
+      s.marked x (has x low high ∙ sym set) ∙ set;
 }
 
-pub records_last : (marks : Bitmap) → IsLasting marks IsNotDue
-records_last marks = record { lasts = λ a b k n same s done. s.recorded done }
-
-module _ (Done : MemberView → Type 0) where
-  -- one that has it already, or is not in sync
-  pub nothing_at : (k : ℕ) (m : MirrorView) → IsConsistent m → ((n : MemberView) → IsInSync m.array k n → Done n) → StoresAt k Done m m
-  nothing_at k m sound done = record { stores = stores_nowhere m sound; done = done }
-
-  pub below_none : (m : MirrorView) → IsConsistent m → StoresBelow 0 Done m m
-  below_none m sound = record { stores = stores_nowhere m sound; done = λ i n low in_sync. absurd (omega arith) }
-
-  pub below_more : (k : ℕ) (old mid new : MirrorView) → IsLasting old.array.marks Done → StoresBelow k Done old mid → StoresAt k Done mid new → StoresBelow (k + 1) Done old new
-  below_more k old mid new lasting g h = record {
-    stores = stores_on old mid new g.stores h.stores;
-    done = λ i n low in_sync.
-        by_same i k
-        (λ same. h.done n (subst (λ (j : ℕ). IsInSync new.array j n) same in_sync))
-        (λ apart.
-        let s : StaysReady mid.array new.array i n = h.stores.ready.each i n in_sync.member in
-        lasting.lasts mid.array new.array i n g.stores.goes.array.marks s (g.done i s.before (omega arith) (was_in_sync mid.array new.array i n s in_sync)));
-  }
-
-  pub below_all : (k : ℕ) (old new : MirrorView) → length new.array.members ≤ k → StoresBelow k Done old new → StoresAll Done old new
-  below_all k old new last g = record {
-    stores = g.stores;
-    done = λ i n in_sync. g.done i n (let low = slice_get_within new.array.members i n in_sync.member in omega arith) in_sync;
-  }
-
-  -- a member in sync has it still
-  pub last_on : (old mid new : MirrorView) → IsLasting old.array.marks Done → mid.array.marks ≡ old.array.marks → ((k : ℕ) (m : MemberView) → IsInSync mid.array k m → Done m) → Stores mid new
-      → (k : ℕ) (m : MemberView) → IsInSync new.array k m → Done m
-  last_on old mid new lasting same all h k m in_sync =
-      let s : StaysReady mid.array new.array k m = h.ready.each k m in_sync.member in
-      lasting.lasts mid.array new.array k m same s (all k s.before (was_in_sync mid.array new.array k m s in_sync))
-
--- what the observers tell of a member
-pub told : {X : Type 0} (f : MemberView → X) (a : ArrayView) (k : ℕ) (m : MemberView) (x : X) → option_map f (slice_get a.members k) ≡ Some x → IsMember a k m → f m ≡ x
-told f a k m x e at = same_Some (f m) x (sym (ap (option_map f) at) ∙ e)
-
--- ---- the sectors of one member
 pub marked_still : (a b : ArrayView) (first end : ℕ) → IsSameArray a b → AreMarked a first end → AreMarked b first end
 marked_still a b first end same are = record {
   some = are.some;
@@ -95,7 +54,8 @@ module _ (k first end : ℕ) where
         (λ here. h.done m in_sync c low high here)
         (λ apart.
         let s : StaysReady mid.array new.array k m = h.stores.ready.each k m in_sync.member in
-        s.marked c (ap (λ (x : Bitmap). is_set x.bytes c) g.stores.goes.array.marks ∙ are.marked c low high) (g.done s.before (was_in_sync mid.array new.array k m s in_sync) c low high (omega arith)));
+        let set = ap (λ (x : Bitmap). is_set x.bytes c) g.stores.goes.array.marks ∙ are.marked c low high in
+        s.marked c (g.done s.before (was_in_sync mid.array new.array k m s in_sync) c low high (omega arith) ∙ sym set) ∙ set);
   }
 
   pub up_all : (block : ℕ) (old new : MirrorView) → block_of (end - 1) < block → StoresUpTo k first end block old new → StoresAt k (HasMarksFrom first end) old new
@@ -126,10 +86,10 @@ module _ (k block first end : ℕ) (old new : MirrorView) (are : AreMarked old.a
             (are.marked c low high);
       }
 
-  pub stored_or_stops : IsConsistent old → IsSectorDue old.array k block → {T : Type 0} (result : Result T Stop) → MatchResult result (λ _. StoresOn k block old new) (StopsStoring old new)
+  pub stored_or_stops : IsConsistent old → IsSectorDue old.array k block → {T : Type 0} (result : Result T PartFault) → MatchResult result (λ _. StoresOn k block old new) (StopsStoring old new)
       → MatchResult result (λ _. StoresAt k (HasMarksIn block first end) old new) (StopsStoring old new)
   stored_or_stops sound due (Ok t) s = stored_in sound due s
-  stored_or_stops sound due (Err stop) s = s
+  stored_or_stops sound due (Err fault) s = s
 
 -- some of these marks are not stored
 pub sector_lacks : (a : ArrayView) (k block first end from to : ℕ) (answer : Bool) → AreMarked a first end

@@ -36,7 +36,7 @@ use Rattle.md_write.specs.Writing.{HaltsWrite, HasReceived, IsWritten, RefusesWr
 use Rattle.md_write.proofs.WrittenData.{put_under, under}
 use Rattle.md_write.proofs.WrittenData as written
 use Rattle.md_write.proofs.Entries.{without_last}
-use Rattle.md_write.proofs.Going.{fly_on}
+use Rattle.md_metadata.proofs.Going.{fly_on}
 use Rattle.md_write.proofs.Received.{HasBytes, IsReceiving, received, receives_begin, receives_step}
 
 div_mono : (w a b : ℕ) → 0 < w → a ≤ b → a / w ≤ b / w

@@ -16,12 +16,16 @@ use Rattle.md_array.specs.Finishing.{HasBytesOf}
 use Rattle.md_array.specs.InTurn.{IsPut, IsUnder, Requests}
 use Rattle.md_array.specs.Requests.{IsPending, among, has_written, request_of}
 use Rattle.md_array.specs.WritingMember.{HasMarksFrom, HasMarksOf, IsNotDue, RefusesWriteMember, WritesTo}
-use Rattle.md_write.specs.declared.stop.Stop.{Stop}
-use Rattle.md_write.specs.declared.stop.Stop.TheVariants as stop
-use Rattle.md_write.specs.Progress.{AllRecorded, RecordsAll, AreChunksOf, GoesOn, HaltsAfter, HaltsOn, IsLater, IsOfRequest, IsReadyToFinish, IsSameArray, LosesMember, LosesOn, Stores, StoresAll, StopsStoring, StopsWriting, WritesAt, WritesBelow, WritesOn, WritesToAll}
-use Rattle.md_write.proofs.Going.{goes_beside, goes_nowhere, goes_on, goes_step, halts_beside, halts_on, later_on, later_refl, loses_on, same_refl, stores_on}
-use Rattle.md_write.proofs.StoredMarks.{last_on, marked_still, marks_last, records_last}
-use Rattle.md_write.proofs.Steps.{failure_loses, failure_step, in_use_there, never_halted, recorded_in_sync}
+use Rattle.md_metadata.specs.declared.fault.PartFault.{PartFault}
+use Rattle.md_metadata.specs.declared.fault.PartFault.TheVariants as part
+use Rattle.md_metadata.specs.Going.{GoesOn, HaltsAfter, IsSameArray, LosesMember}
+use Rattle.md_metadata.specs.Storing.{AllRecorded, RecordsAll, Stores, StoresAll, StopsStoring}
+use Rattle.md_metadata.proofs.Going.{goes_nowhere, goes_on, goes_step, halts_on, loses_on, same_refl, stores_on}
+use Rattle.md_metadata.proofs.StoredMembers.{last_on, records_last}
+use Rattle.md_metadata.proofs.Steps.{failure_loses, failure_step, in_use_there, never_halted, recorded_in_sync}
+use Rattle.md_write.specs.Progress.{AreChunksOf, HaltsOn, IsLater, IsOfRequest, IsReadyToFinish, LosesOn, StopsWriting, WritesAt, WritesBelow, WritesOn, WritesToAll}
+use Rattle.md_write.proofs.Beside.{goes_beside, halts_beside, later_on, later_refl}
+use Rattle.md_write.proofs.StoredMarks.{marked_still, marks_last}
 
 or_left : (a b c : Bool) → (b ≡ true → c ≡ true) → (a || b) ≡ true → (a || c) ≡ true
 or_left true b c f e = refl
@@ -187,14 +191,14 @@ module _ (p q r : PendingView) (old mid new : MirrorView) where
     later = later_on p q r later h.later;
   }
 
-  pub stops_later : (s : Stop) → GoesOn (among p) (among q) (IsOfRequest p.ticket.number) old mid → IsLater p q → mid.array.halted ≡ old.array.halted → StopsWriting q r mid new s → StopsWriting p r old new s
-  stops_later stop.Failed g later run h = record {
+  pub stops_later : (fault : PartFault) → GoesOn (among p) (among q) (IsOfRequest p.ticket.number) old mid → IsLater p q → mid.array.halted ≡ old.array.halted → StopsWriting q r mid new fault → StopsWriting p r old new fault
+  stops_later (part.MemberFailed j) g later run h = record {
     loses = loses_on (among p) (among q) (among r) (IsOfRequest p.ticket.number) old mid new g run
         (of_same (λ (i : ℕ). LosesMember (among q) (among r) (IsOfRequest i) mid new) later h.loses);
     later = later_on p q r later h.later;
     still = h.still;
   }
-  stops_later stop.Halted g later run h = halts_later g later h
+  stops_later part.Halted g later run h = halts_later g later h
 
   pub written_more : (k : ℕ) → WritesBelow k p q old mid → WritesAt k q r mid new → WritesBelow (k + 1) p r old new
   written_more k g h = record {
@@ -218,13 +222,13 @@ written_all k p q old new last g = record {
 
 -- ---- all parts
 -- marks and records that stop
-pub storing_stops : (p : PendingView) (old new : MirrorView) → IsPending old.array p → (s : Stop) → StopsStoring old new s → StopsWriting p p old new s
-storing_stops p old new is stop.Failed h = record {
-  loses = record { goes = goes_beside p old new is h.goes; lost = h.lost; halted = h.halted };
+pub storing_stops : (p : PendingView) (old new : MirrorView) → IsPending old.array p → (fault : PartFault) → StopsStoring old new fault → StopsWriting p p old new fault
+storing_stops p old new is (part.MemberFailed k) h = record {
+  loses = record { goes = goes_beside p old new is h.loses.goes; lost = h.loses.lost; halted = h.loses.halted };
   later = later_refl p;
-  still = h.goes.pending p is;
+  still = h.loses.goes.pending p is;
 }
-storing_stops p old new is stop.Halted h = record { halts = halts_beside p old new is h; later = later_refl p }
+storing_stops p old new is part.Halted h = record { halts = halts_beside p old new is h; later = later_refl p }
 
 -- the chunks of the request, later on
 pub chunks_later : (a b : ArrayView) (p q : PendingView) (first end : ℕ) → IsSameArray a b → IsLater p q → AreChunksOf a p first end → AreChunksOf b q first end
@@ -253,7 +257,7 @@ module _ (p q : PendingView) (first end : ℕ) (a b c d e : MirrorView) (is : Is
   pub recorded_then : AllInSync d.array IsNotDue
   recorded_then = last_on IsNotDue b c d (records_last b.array.marks) y.stores.goes.array.marks y.done z
 
-  pub writes_or_stops : a.array.halted ≡ false → {T : Type 0} (result : Result T Stop) → MatchResult result (λ _. WritesToAll p q d e) (StopsWriting p q d e)
+  pub writes_or_stops : a.array.halted ≡ false → {T : Type 0} (result : Result T PartFault) → MatchResult result (λ _. WritesToAll p q d e) (StopsWriting p q d e)
       → MatchResult result (λ _. IsReadyToFinish p q a e) (StopsWriting p q a e)
   writes_or_stops run (Ok t) w = record {
     goes = goes_later p p q a d e (goes_beside p a d is all.goes) (later_refl p) w.writes.goes;
@@ -266,4 +270,4 @@ module _ (p q : PendingView) (first end : ℕ) (a b c d e : MirrorView) (is : Is
     };
     recorded = subst AllRecorded (sym w.writes.array) others.done;
   }
-  writes_or_stops run (Err s) w = stops_later p p q a d e s (goes_beside p a d is all.goes) (later_refl p) all.ready.halted w
+  writes_or_stops run (Err fault) w = stops_later p p q a d e fault (goes_beside p a d is all.goes) (later_refl p) all.ready.halted w

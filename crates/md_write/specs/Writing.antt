@@ -10,7 +10,8 @@ use Rattle.md_array.specs.Beginning.{Begins, HasMarked, RefusesBegin}
 use Rattle.md_array.specs.Requests.{AreInFlight, among, request_of}
 use Rattle.md_array.specs.InTurn.{AllLeftWhole, AllOf, HaltsAt, Leads, Requests}
 use Rattle.md_array.specs.Worlds.{AreHonest, geometry_of, world_of}
-use Rattle.md_write.specs.Progress.{AllRecorded, IsOfRequest}
+use Rattle.md_metadata.specs.Storing.{AllRecorded}
+use Rattle.md_write.specs.Progress.{IsOfRequest}
 
 -- Every member in sync holds the request's bytes at its sectors, those that it lists among them, and elsewhere each holds what it
 -- held. A content that the members in sync held before, they hold with the request's bytes.

@@ -6,16 +6,16 @@ ghost use Rattle.md_array.specs.Requests.{IsPending};
 ghost use Rattle.md_array.specs.WritingMember.{HasMarksOf, IsNotDue};
 ghost use Rattle.md_write.specs.Progress.{StopsWriting, WritesAt, WritesToAll};
 
-use crate::stop::Stop;
 use md_array::{Mirror, Pending, WriteMemberFault};
 use md_device::Device;
+use md_metadata::PartFault;
 
 // Writes the bytes to member k, if it is in sync and lacks them.
 fn write_to<D: Device + Drop>(
     mirror: &mut Mirror<D>,
     pending: &mut Pending<'_>,
     k: usize,
-) -> Result<(), Stop>
+) -> Result<(), PartFault>
     requires within { k < length mirror.old.array.members }
     requires sound { IsConsistent mirror.old }
     requires pending { IsPending mirror.old.array pending.old }
@@ -30,11 +30,11 @@ fn write_to<D: Device + Drop>(
     match mirror.write_member(pending, k) {
         Ok(()) => Ok(()),
         Err(WriteMemberFault::AlreadyWritten) => Ok(()),
-        Err(WriteMemberFault::MemberFailed(_)) => Err(Stop::Failed),
-        Err(WriteMemberFault::Halted) => Err(Stop::Halted),
-        Err(WriteMemberFault::NotActive) => Err(Stop::Halted),
-        Err(WriteMemberFault::NotMarked(_)) => Err(Stop::Halted),
-        Err(WriteMemberFault::NotRecorded(_)) => Err(Stop::Halted),
+        Err(WriteMemberFault::MemberFailed(j)) => Err(PartFault::MemberFailed(j)),
+        Err(WriteMemberFault::Halted) => Err(PartFault::Halted),
+        Err(WriteMemberFault::NotActive) => Err(PartFault::Halted),
+        Err(WriteMemberFault::NotMarked(_)) => Err(PartFault::Halted),
+        Err(WriteMemberFault::NotRecorded(_)) => Err(PartFault::Halted),
     }
 }
 
@@ -42,7 +42,7 @@ fn write_to<D: Device + Drop>(
 pub(crate) fn write_to_members<D: Device + Drop>(
     mirror: &mut Mirror<D>,
     pending: &mut Pending<'_>,
-) -> Result<(), Stop>
+) -> Result<(), PartFault>
     requires sound { IsConsistent mirror.old }
     requires pending { IsPending mirror.old.array pending.old }
     requires running { mirror.old.array.halted ≡ false }
@@ -51,8 +51,8 @@ pub(crate) fn write_to_members<D: Device + Drop>(
     ensures { MatchResult result (λ _. WritesToAll pending.old pending.new mirror.old mirror.new) (StopsWriting pending.old pending.new mirror.old mirror.new) }
 {
     for k in 0..mirror.members() {
-        if let Err(stop) = write_to(mirror, pending, k) {
-            return Err(stop);
+        if let Err(fault) = write_to(mirror, pending, k) {
+            return Err(fault);
         }
     }
     Ok(())

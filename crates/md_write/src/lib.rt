@@ -4,9 +4,6 @@
 mod chunks;
 mod data;
 mod marks;
-mod records;
-mod sectors;
-mod stop;
 mod writing;
 
 pub use writing::write;

@@ -3,13 +3,13 @@ ghost use Rattle.std.specs.Prelude.{◌≡◌, ◌+◌, ◌-◌, ◌<◌, ◌≤
 ghost use Rattle.md_members.specs.Areas.{bitmap_sectors};
 ghost use Rattle.md_array.specs.Consistency.{IsConsistent};
 ghost use Rattle.md_array.specs.WritingMember.{HasMarksFrom};
-ghost use Rattle.md_write.specs.Progress.{AreMarked, HasMarksIn, StoresAll, StoresAt, StopsStoring};
+ghost use Rattle.md_metadata.specs.Storing.{StoresAll, StoresAt, StopsStoring};
+ghost use Rattle.md_write.specs.Progress.{AreMarked, HasMarksIn};
 
 use crate::chunks::{block_of, chunks_in};
-use crate::sectors::store_sector;
-use crate::stop::Stop;
 use md_array::Mirror;
 use md_device::Device;
+use md_metadata::{PartFault, store_sector};
 
 // Stores a sector of the bitmap of member k, if the member is in sync and lacks one of the marks of these chunks there.
 fn store_lacking<D: Device + Drop>(
@@ -18,7 +18,7 @@ fn store_lacking<D: Device + Drop>(
     block: u32,
     first: u32,
     end: u32,
-) -> Result<(), Stop>
+) -> Result<(), PartFault>
     requires within { k < length mirror.old.array.members }
     requires block { block < bitmap_sectors mirror.old.array.marks.chunks }
     requires sound { IsConsistent mirror.old }
@@ -42,7 +42,7 @@ fn store_member_marks<D: Device + Drop>(
     k: usize,
     first: u32,
     end: u32,
-) -> Result<(), Stop>
+) -> Result<(), PartFault>
     requires within { k < length mirror.old.array.members }
     requires sound { IsConsistent mirror.old }
     requires running { mirror.old.array.halted ≡ false }
@@ -50,8 +50,8 @@ fn store_member_marks<D: Device + Drop>(
     ensures { MatchResult result (λ _. StoresAt k (HasMarksFrom first end) mirror.old mirror.new) (StopsStoring mirror.old mirror.new) }
 {
     for block in block_of(first)..block_of(end - 1) + 1 {
-        if let Err(stop) = store_lacking(mirror, k, block, first, end) {
-            return Err(stop);
+        if let Err(fault) = store_lacking(mirror, k, block, first, end) {
+            return Err(fault);
         }
     }
     Ok(())
@@ -62,15 +62,15 @@ pub(crate) fn store_marks<D: Device + Drop>(
     mirror: &mut Mirror<D>,
     first: u32,
     end: u32,
-) -> Result<(), Stop>
+) -> Result<(), PartFault>
     requires sound { IsConsistent mirror.old }
     requires running { mirror.old.array.halted ≡ false }
     requires marked { AreMarked mirror.old.array first end }
     ensures { MatchResult result (λ _. StoresAll (HasMarksFrom first end) mirror.old mirror.new) (StopsStoring mirror.old mirror.new) }
 {
     for k in 0..mirror.members() {
-        if let Err(stop) = store_member_marks(mirror, k, first, end) {
-            return Err(stop);
+        if let Err(fault) = store_member_marks(mirror, k, first, end) {
+            return Err(fault);
         }
     }
     Ok(())

@@ -9,10 +9,9 @@ ghost use Rattle.md_write.specs.Writing.{RefusesWrite, Writes};
 use crate::chunks::chunks_of;
 use crate::data::write_to_members;
 use crate::marks::store_marks;
-use crate::records::{store_other_records, store_records};
-use crate::stop::Stop;
 use md_array::{BeginFault, Mirror, Pending};
 use md_device::Device;
+use md_metadata::{PartFault, store_other_records, store_records};
 
 // Stores the marks of a request's chunks and what is due, and writes its bytes, until a member fails.
 fn write_once<D: Device + Drop>(
@@ -20,21 +19,21 @@ fn write_once<D: Device + Drop>(
     pending: &mut Pending<'_>,
     first: u32,
     end: u32,
-) -> Result<(), Stop>
+) -> Result<(), PartFault>
     requires sound { IsConsistent mirror.old }
     requires pending { IsPending mirror.old.array pending.old }
     requires running { mirror.old.array.halted ≡ false }
     requires chunks { AreChunksOf mirror.old.array pending.old first end }
     ensures { MatchResult result (λ _. IsReadyToFinish pending.old pending.new mirror.old mirror.new) (StopsWriting pending.old pending.new mirror.old mirror.new) }
 {
-    if let Err(stop) = store_marks(mirror, first, end) {
-        return Err(stop);
+    if let Err(fault) = store_marks(mirror, first, end) {
+        return Err(fault);
     }
-    if let Err(stop) = store_records(mirror) {
-        return Err(stop);
+    if let Err(fault) = store_records(mirror) {
+        return Err(fault);
     }
-    if let Err(stop) = store_other_records(mirror) {
-        return Err(stop);
+    if let Err(fault) = store_other_records(mirror) {
+        return Err(fault);
     }
     write_to_members(mirror, pending)
 }
@@ -55,8 +54,8 @@ fn write_all<D: Device + Drop>(
     loop {
         match write_once(mirror, pending, first, end) {
             Ok(()) => return Ok(()),
-            Err(Stop::Halted) => return Err(BeginFault::Halted),
-            Err(Stop::Failed) => {}
+            Err(PartFault::Halted) => return Err(BeginFault::Halted),
+            Err(PartFault::MemberFailed(_)) => {}
         }
     }
 }

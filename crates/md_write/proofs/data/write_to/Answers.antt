@@ -3,7 +3,7 @@ use Rattle.md_model.specs.Events.{Event}
 use Rattle.md_array.specs.Events.{HappensAmong, IfWritingFailed}
 use Rattle.md_array.specs.WritingMember.{RefusesWriteMember}
 use Rattle.md_write.proofs.WrittenData.{data_again, data_fails, data_halts, data_written, written_nothing}
-use Rattle.md_write.proofs.StoredMarks.{told}
+use Rattle.md_metadata.proofs.StoredMembers.{told}
 use Rattle.md_write.proofs.data.write_to.Goals as goal
 
 pub returns-in-Ok : goal.returns-in-Ok
@@ -24,7 +24,7 @@ returns-in-Err-MemberFailed g c =
     let new = c.write_member.new.self in
     let p = c.args.pending.now in
     let q = c.write_member.new.pending in
-    data_fails old new c.args.k p q c.requires.sound c.requires.pending at.ensures.sound at.ensures.pending at.field-0-0
+    data_fails old new c.args.k p q c.requires.sound c.requires.pending at.ensures.sound at.ensures.pending at.j
     (subst (RefusesWriteMember c.args.k old new p q) at.field-0-is at.ensures.gives)
     (subst (IfWritingFailed (HappensAmong old p (Event.WriteMemberFails p.ticket.number c.args.k) new q)) at.field-0-is at.ensures.event)
 

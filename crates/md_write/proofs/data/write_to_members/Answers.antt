@@ -30,7 +30,7 @@ write_to-requires-clause-recorded g c = recorded_on c.args.pending.now c.loop-k.
 pub returns-in-Err : goal.returns-in-Err
 returns-in-Err g c =
     let so_far = c.loop-k.invariant.writes in
-    stops_later c.args.pending.now c.loop-k.pending c.write_to.new.pending c.args.mirror.now c.loop-k.mirror c.write_to.new.mirror c.in-Err.stop
+    stops_later c.args.pending.now c.loop-k.pending c.write_to.new.pending c.args.mirror.now c.loop-k.mirror c.write_to.new.mirror c.in-Err.fault
     so_far.goes so_far.later (ap (λ (x : ArrayView). x.halted) so_far.array) c.in-Err.ensures
 
 pub loop-k-preserved : goal.loop-k-preserved

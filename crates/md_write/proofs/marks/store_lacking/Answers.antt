@@ -1,5 +1,6 @@
 use Rattle.md_write.specs.Progress.{HasMarksIn}
-use Rattle.md_write.proofs.StoredMarks.{nothing_at, sector_lacks, stored_or_stops, told}
+use Rattle.md_metadata.proofs.StoredMembers.{nothing_at, told}
+use Rattle.md_write.proofs.StoredMarks.{sector_lacks, stored_or_stops}
 use Rattle.md_write.proofs.marks.store_lacking.Goals as goal
 
 pub returns-then-not-is_in_sync : goal.returns-then-not-is_in_sync

@@ -1,7 +1,8 @@
 use Rattle.std.proofs.Common.{◌∙◌, arith}
 use Rattle.md_array.specs.WritingMember.{HasMarksFrom}
-use Rattle.md_write.proofs.Going.{stops_on}
-use Rattle.md_write.proofs.StoredMarks.{below_all, below_more, below_none, marked_still, marks_last}
+use Rattle.md_metadata.proofs.Going.{stops_on}
+use Rattle.md_metadata.proofs.StoredMembers.{below_all, below_more, below_none}
+use Rattle.md_write.proofs.StoredMarks.{marked_still, marks_last}
 use Rattle.md_write.proofs.marks.store_marks.Goals as goal
 
 pub loop-k-init : goal.loop-k-init
@@ -23,7 +24,7 @@ pub store_member_marks-requires-clause-marked : goal.store_member_marks-requires
 store_member_marks-requires-clause-marked g c = marked_still c.args.mirror.now.array c.loop-k.mirror.array c.args.first c.args.end c.loop-k.invariant.stores.goes.array c.requires.marked
 
 pub returns-in-Err : goal.returns-in-Err
-returns-in-Err g c = stops_on c.args.mirror.now c.loop-k.mirror c.store_member_marks.new.mirror c.in-Err.stop c.loop-k.invariant.stores c.in-Err.ensures
+returns-in-Err g c = stops_on c.args.mirror.now c.loop-k.mirror c.store_member_marks.new.mirror c.in-Err.fault c.loop-k.invariant.stores c.in-Err.ensures
 
 pub loop-k-preserved : goal.loop-k-preserved
 loop-k-preserved g c =

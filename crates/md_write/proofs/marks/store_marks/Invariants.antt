@@ -1,5 +1,5 @@
 use Rattle.md_array.specs.WritingMember.{HasMarksFrom}
-use Rattle.md_write.specs.Progress.{StoresBelow}
+use Rattle.md_metadata.specs.Storing.{StoresBelow}
 use Rattle.md_write.proofs.marks.store_marks.Given as goal
 
 abbrev pub invariant-loop-k : goal.invariant-loop-k

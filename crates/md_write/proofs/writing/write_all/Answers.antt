@@ -2,7 +2,8 @@ use Rattle.std.proofs.Common.{◌∙◌, refl, subst}
 use Rattle.md_array.specs.Requests.{among}
 use Rattle.md_write.specs.Progress.{IsOfRequest, StopsWriting}
 use Rattle.md_write.proofs.WrittenData.{chunks_later, goes_later, halts_later}
-use Rattle.md_write.proofs.Going.{goes_nowhere, later_on, later_refl}
+use Rattle.md_metadata.proofs.Going.{goes_nowhere}
+use Rattle.md_write.proofs.Beside.{later_on, later_refl}
 use Rattle.md_write.proofs.writing.write_all.Goals as goal
 
 pub loop-init : goal.loop-init
@@ -43,7 +44,7 @@ loop-preserved g c =
     let p = c.args.pending.now in
     let q = c.loop.pending in
     let r = c.write_once.new.pending in
-    let lost = subst (StopsWriting q r c.loop.mirror c.write_once.new.mirror) c.in-Err-Failed.field-0-is c.in-Err-Failed.ensures in
+    let lost = subst (StopsWriting q r c.loop.mirror c.write_once.new.mirror) c.in-Err-MemberFailed.field-0-is c.in-Err-MemberFailed.ensures in
     record {
       goes = goes_later p q r c.args.mirror.now c.loop.mirror c.write_once.new.mirror c.loop.invariant.goes c.loop.invariant.later lost.loses.goes;
       later = later_on p q r c.loop.invariant.later lost.later;
@@ -54,5 +55,5 @@ loop-preserved g c =
 
 pub loop-smaller : goal.loop-smaller
 loop-smaller g c =
-    let lost = subst (StopsWriting c.loop.pending c.write_once.new.pending c.loop.mirror c.write_once.new.mirror) c.in-Err-Failed.field-0-is c.in-Err-Failed.ensures in
+    let lost = subst (StopsWriting c.loop.pending c.write_once.new.pending c.loop.mirror c.write_once.new.mirror) c.in-Err-MemberFailed.field-0-is c.in-Err-MemberFailed.ensures in
     lost.loses.lost

@@ -1,0 +1,156 @@
+-- Parts of a call, one after another.
+use Rattle.std.proofs.Common.{◌≡◌, ℕ, Option, [], ◌∷◌, ◌++◌, Some, refl, sym, ap, ◌∙◌, subst, arith}
+use Rattle.md_model.specs.Events.{Event}
+use Rattle.md_bitmap.specs.Marks.{Bitmap, is_set}
+use Rattle.md_inflight.specs.Inflight.{InflightList, lookup}
+use Rattle.md_array.specs.declared.extent.Extent.{Extent}
+use Rattle.md_assembly.specs.States.{is_in_sync}
+use Rattle.md_array.specs.View.{ArrayView, MemberView, MirrorView}
+use Rattle.md_array.specs.Members.{IsInSync}
+use Rattle.md_array.specs.Consistency.{IsConsistent}
+use Rattle.md_array.specs.InTurn.{InTurn, IsInOrder, Requests}
+use Rattle.md_array.specs.Requests.{AreInFlight}
+use Rattle.md_array.proofs.Turns.{all_on, turn_on, turn_then}
+use Rattle.md_metadata.specs.declared.fault.PartFault.{PartFault}
+use Rattle.md_metadata.specs.declared.fault.PartFault.TheVariants.{Halted, MemberFailed}
+use Rattle.md_metadata.specs.Going.{GoesOn, HaltsAfter, IsSameArray, LosesMember, StepsBy, alone}
+use Rattle.md_metadata.specs.Storing.{AllStayReady, IsStoring, StaysReady, Stores, StopsStoring}
+
+pub same_refl : (a : ArrayView) → IsSameArray a a
+same_refl a = record { chunks = refl; marks = refl; as_many = refl; requests = refl; resynced = refl; fewer = omega arith }
+
+pub same_on : (a b c : ArrayView) → IsSameArray a b → IsSameArray b c → IsSameArray a c
+same_on a b c x y = record {
+  chunks = y.chunks ∙ x.chunks;
+  marks = y.marks ∙ x.marks;
+  as_many = y.as_many ∙ x.as_many;
+  requests = y.requests ∙ x.requests;
+  resynced = y.resynced ∙ x.resynced;
+  fewer = let l = x.fewer in let m = y.fewer in omega arith;
+}
+
+-- requests in flight are in each list that is the same
+pub fly_on : (a b : ArrayView) → IsSameArray a b → (others : Requests) → AreInFlight a others → AreInFlight b others
+fly_on a b same others in_flight n p e = ap (λ (l : InflightList Extent). lookup l.entries n) same.requests ∙ in_flight n p e
+
+pub goes_nowhere : (F : Requests → Requests) (IsOf : Event → Type 0) (m : MirrorView) → IsConsistent m → GoesOn F F IsOf m m
+goes_nowhere F IsOf m sound = record {
+  events = [];
+  steps = tt;
+  leads = λ previous others in_flight. (refl, refl);
+  array = same_refl m.array;
+  sound = sound;
+  pending = λ o is. is;
+}
+
+-- one event in its turn
+pub goes_step : (F G : Requests → Requests) (IsOf : Event → Type 0) (e : Event) (old new : MirrorView) → StepsBy F G IsOf e old new
+    → ((previous : Option Event) → IsInOrder previous old.array e) → GoesOn F G IsOf old new
+goes_step F G IsOf e old new s order = record {
+  events = e ∷ [];
+  steps = (s.of, tt);
+  leads = λ previous others in_flight. (new, G others, order previous, s.did others, λ honest whole. s.happens honest whole others in_flight, (refl, refl));
+  array = s.array;
+  sound = s.sound;
+  pending = s.pending;
+}
+
+module _ (F G H : Requests → Requests) (IsOf : Event → Type 0) (old mid new : MirrorView) where
+  -- two events, of which the second is in its turn after the first
+  pub goes_two : (e f : Event) → StepsBy F G IsOf e old mid → ((previous : Option Event) → IsInOrder previous old.array e) → StepsBy G H IsOf f mid new → IsInOrder (Some e) mid.array f
+      → GoesOn F H IsOf old new
+  goes_two e f s first t second = record {
+    events = e ∷ f ∷ [];
+    steps = (s.of, (t.of, tt));
+    leads = λ previous others in_flight.
+        let there = fly_on old.array mid.array s.array others in_flight in (
+          mid,
+          G others,
+          first previous,
+          s.did others,
+          λ honest whole. s.happens honest whole others in_flight,
+          (new, H others, second, t.did others, λ honest whole. t.happens honest whole others there, (refl, refl)),
+        );
+    array = same_on old.array mid.array new.array s.array t.array;
+    sound = t.sound;
+    pending = λ o is. t.pending o (s.pending o is);
+  }
+
+  pub goes_on : GoesOn F G IsOf old mid → GoesOn G H IsOf mid new → GoesOn F H IsOf old new
+  goes_on g h = record {
+    events = g.events ++ h.events;
+    steps = all_on IsOf g.events h.events g.steps h.steps;
+    leads = λ previous others in_flight.
+        let there = fly_on old.array mid.array g.array others in_flight in
+        turn_on g.events h.events previous old (F others) (λ m s. (m ≡ new) × (s ≡ H others))
+        (turn_then g.events previous old (F others)
+        (λ m s. (m ≡ mid) × (s ≡ G others))
+        (λ m s. (last : Option Event) → InTurn last m s h.events (λ m s. (m ≡ new) × (s ≡ H others)))
+        (λ m s at last.
+        subst (λ (x : MirrorView). InTurn last x s h.events (λ m s. (m ≡ new) × (s ≡ H others))) (sym at.0)
+        (subst (λ (x : Requests). InTurn last mid x h.events (λ m s. (m ≡ new) × (s ≡ H others))) (sym at.1)
+        (h.leads last others there)))
+        (g.leads previous others in_flight));
+    array = same_on old.array mid.array new.array g.array h.array;
+    sound = h.sound;
+    pending = λ o is. h.pending o (g.pending o is);
+  }
+
+  pub loses_on : GoesOn F G IsOf old mid → mid.array.halted ≡ old.array.halted → LosesMember G H IsOf mid new → LosesMember F H IsOf old new
+  loses_on g running h = record {
+    goes = goes_on g h.goes;
+    lost = let l = g.array.fewer in let m = h.lost in omega arith;
+    halted = h.halted ∙ running;
+  }
+
+pub halts_on : (F G H : Requests → Requests) (IsOf : Event → Type 0) (old mid new : MirrorView) → GoesOn F G IsOf old mid → HaltsAfter G H IsOf mid new → HaltsAfter F H IsOf old new
+halts_on F G H IsOf old mid new g h = record {
+  mid = h.mid;
+  goes = goes_on F G H IsOf old mid h.mid g h.goes;
+  failing = h.failing;
+  of = h.of;
+  halts = h.halts;
+  sound = h.sound;
+  pending = λ o is. h.pending o (g.pending o is);
+}
+
+-- ---- marks and records
+pub ready_refl : (a : ArrayView) → AllStayReady a a
+ready_refl a = record {
+  each = λ k n at. record { before = n; member = at; state = refl; marked = λ c was. was; recorded = λ x. x };
+  halted = refl;
+}
+
+pub ready_on : (a b c : ArrayView) → b.marks ≡ a.marks → AllStayReady a b → AllStayReady b c → AllStayReady a c
+ready_on a b c same g h = record {
+  each = λ k n at.
+      let late : StaysReady b c k n = h.each k n at in
+      let early : StaysReady a b k late.before = g.each k late.before late.member in
+      let bit : (x : ℕ) → is_set b.marks.bytes x ≡ is_set a.marks.bytes x = λ x. ap (λ (m : Bitmap). is_set m.bytes x) same in
+      record {
+        before = early.before;
+        member = early.member;
+        state = early.state ∙ late.state;
+        marked = λ x was. late.marked x (early.marked x was ∙ sym (bit x)) ∙ bit x;
+        recorded = λ x. late.recorded (early.recorded x);
+      };
+  halted = h.halted ∙ g.halted;
+}
+
+-- who is in sync was so
+pub was_in_sync : (a b : ArrayView) (k : ℕ) (n : MemberView) (s : StaysReady a b k n) → IsInSync b k n → IsInSync a k s.before
+was_in_sync a b k n s in_sync = record { member = s.member; in_sync = ap is_in_sync s.state ∙ in_sync.in_sync }
+
+pub stores_nowhere : (m : MirrorView) → IsConsistent m → Stores m m
+stores_nowhere m sound = record { goes = goes_nowhere alone IsStoring m sound; ready = ready_refl m.array }
+
+module _ (old mid new : MirrorView) where
+  pub stores_on : Stores old mid → Stores mid new → Stores old new
+  stores_on g h = record {
+    goes = goes_on alone alone alone IsStoring old mid new g.goes h.goes;
+    ready = ready_on old.array mid.array new.array g.goes.array.marks g.ready h.ready;
+  }
+
+  pub stops_on : (fault : PartFault) → Stores old mid → StopsStoring mid new fault → StopsStoring old new fault
+  stops_on Halted g h = halts_on alone alone alone IsStoring old mid new g.goes h
+  stops_on (MemberFailed k) g h = record { loses = loses_on alone alone alone IsStoring old mid new g.goes g.ready.halted h.loses; faulty = h.faulty }

@@ -1,0 +1,5 @@
+pub mod Counts
+pub mod Going
+pub mod Steps
+pub mod StoredMembers
+pub mod StoredRecords

@@ -1,0 +1,127 @@
+-- Records are stored in their turn.
+use Rattle.std.proofs.Common.{◌+◌, ◌≤◌, length, ◌≡◌, ℕ, ◌<◌, true, slice_get, Option, Some, refl, sym, subst, ap, ◌∙◌, arith, inr}
+use Rattle.std.proofs.lemmas.Option.{slice_get_within}
+use Rattle.std.specs.Prelude.{Result, Ok, Err, MatchResult}
+use Rattle.md_model.specs.Events.{Event}
+use Rattle.md_model.proofs.Puts.{by_same}
+use Rattle.md_assembly.specs.States.{is_in_sync}
+use Rattle.md_array.specs.View.{ArrayView, MemberView, MirrorView}
+use Rattle.md_array.specs.Members.{AllInSync, IsInSync, IsMember, is_recorded}
+use Rattle.md_array.specs.Consistency.{IsConsistent}
+use Rattle.md_array.specs.InTurn.{IsRecordDue, IsSectorDue}
+use Rattle.md_array.specs.WritingMember.{IsNotDue}
+use Rattle.md_array.proofs.WorldsLists.{at_set_same}
+use Rattle.md_metadata.specs.declared.fault.PartFault.{PartFault}
+use Rattle.md_metadata.specs.declared.fault.PartFault.TheVariants.{Halted, MemberFailed}
+use Rattle.md_metadata.specs.Going.{IsFaulty, alone}
+use Rattle.md_metadata.specs.Storing.{IsRecorded, IsStoring, RecordsAll, RecordsAt, RecordsBelow, RecordsOn, StaysReady, StoresAt, StoresOn, StopsRecording, StopsStoring}
+use Rattle.md_metadata.proofs.Going.{goes_step, goes_two, halts_on, ready_on, stores_nowhere, stores_on, was_in_sync}
+use Rattle.md_metadata.proofs.Steps.{now_at, recorded_in_sync}
+
+-- the first sector comes before a record that is due
+pub header_due : (a : ArrayView) (k : ℕ) → ((m : MemberView) → IsMember a k m → m.due ≡ true) → IsSectorDue a k 0
+header_due a k due m in_sync = inr (refl, due m in_sync.member)
+
+-- ---- after the first sector
+module _ (k : ℕ) (old mid : MirrorView) (s : StoresOn k 0 old mid) where
+  abbrev now : MemberView
+  now = record s.gives.member { stored = s.gives.stored }
+
+  is_now : (m : MemberView) → IsMember mid.array k m → m ≡ now
+  is_now = now_at old.array mid.array k s.gives.member now s.gives.may.in_sync.member refl s.gives.array
+
+  now_in_sync : IsInSync mid.array k now
+  now_in_sync = record {
+    member = ap (λ (x : ArrayView). slice_get x.members k) s.gives.array
+        ∙ at_set_same old.array.members k now (slice_get_within old.array.members k s.gives.member s.gives.may.in_sync.member);
+    in_sync = s.gives.may.in_sync.in_sync;
+  }
+
+  pub still_recorded : (m : MemberView) → IsMember mid.array k m → is_recorded m.state ≡ true
+  still_recorded m at = recorded_in_sync m.state (ap (λ (x : MemberView). is_in_sync x.state) (is_now m at) ∙ s.gives.may.in_sync.in_sync)
+
+  pub in_sync_due : ((m : MemberView) → IsMember old.array k m → m.due ≡ true) → ((j : ℕ) (m : MemberView) → j < k → IsInSync old.array j m → IsNotDue m)
+      → IsRecordDue (Some (Event.StoreMarks k 0)) mid.array k
+  in_sync_due due earlier = record {
+    due = λ m at. ap (λ (x : MemberView). x.due) (is_now m at) ∙ due s.gives.member s.gives.may.in_sync.member;
+    header = λ m in_sync. refl;
+    first = λ j m in_sync before.
+        let r : StaysReady old.array mid.array j m = s.ready.each j m in_sync.member in
+        r.recorded (earlier j r.before (before now now_in_sync) (was_in_sync old.array mid.array j m r in_sync));
+  }
+
+  module _ (new : MirrorView) (first : IsSectorDue old.array k 0) (second : IsRecordDue (Some (Event.StoreMarks k 0)) mid.array k) where
+    recorded_after : RecordsOn k mid new → StoresAt k IsNotDue old new
+    recorded_after r = record {
+      stores = record {
+        goes = goes_two alone alone alone IsStoring old mid new (Event.StoreMarks k 0) (Event.Record k) s.step (λ previous. first) r.step second;
+        ready = ready_on old.array mid.array new.array s.step.array.marks s.ready r.ready;
+      };
+      done = λ m in_sync. r.done m in_sync.member;
+    }
+
+    stops_after : (fault : PartFault) → StopsRecording k mid new fault → StopsStoring old new fault
+    stops_after (MemberFailed j) (at, l) = record {
+      loses = record {
+        goes = goes_two alone alone alone IsStoring old mid new (Event.StoreMarks k 0) (Event.RecordFails k) s.step (λ previous. first) l.step second;
+        lost = let x = s.step.array.fewer in let y = l.lost in omega arith;
+        halted = l.halted ∙ s.ready.halted;
+      };
+      faulty = subst (λ (i : ℕ). IsFaulty i new.array) (sym at) l.faulty;
+    }
+    stops_after Halted h = halts_on alone alone alone IsStoring old mid new (goes_step alone alone IsStoring (Event.StoreMarks k 0) old mid s.step (λ previous. first)) h
+
+    pub recorded_or_stops : {T : Type 0} (result : Result T PartFault) → MatchResult result (λ _. RecordsOn k mid new) (StopsRecording k mid new)
+        → MatchResult result (λ _. StoresAt k IsNotDue old new) (StopsStoring old new)
+    recorded_or_stops (Ok t) r = recorded_after r
+    recorded_or_stops (Err fault) r = stops_after fault r
+
+-- ---- of a member that is not in sync
+module _ (k : ℕ) (old new : MirrorView) where
+  pub other_due : ((m : MemberView) → IsInSync old.array k m → ⊥) → ((m : MemberView) → IsMember old.array k m → m.due ≡ true) → AllInSync old.array IsNotDue
+      → (previous : Option Event) → IsRecordDue previous old.array k
+  other_due out due recorded previous = record { due = due; header = λ m in_sync. absurd (out m in_sync); first = λ j m in_sync before. recorded j m in_sync }
+
+  module _ (order : (previous : Option Event) → IsRecordDue previous old.array k) where
+    other_stops : (fault : PartFault) → StopsRecording k old new fault → StopsStoring old new fault
+    other_stops (MemberFailed j) (at, l) = record {
+      loses = record { goes = goes_step alone alone IsStoring (Event.RecordFails k) old new l.step order; lost = l.lost; halted = l.halted };
+      faulty = subst (λ (i : ℕ). IsFaulty i new.array) (sym at) l.faulty;
+    }
+    other_stops Halted h = h
+
+    pub other_or_stops : {T : Type 0} (result : Result T PartFault) → MatchResult result (λ _. RecordsOn k old new) (StopsRecording k old new)
+        → MatchResult result (λ _. RecordsAt k old new) (StopsStoring old new)
+    other_or_stops (Ok t) r = record {
+      stores = record { goes = goes_step alone alone IsStoring (Event.Record k) old new r.step order; ready = r.ready };
+      done = λ m at active. r.done m at;
+    }
+    other_or_stops (Err fault) r = other_stops fault r
+
+-- ---- the members, one after another
+-- a member that is in sync, that is not kept up to date, or whose record is not due
+pub recorded_nothing : (k : ℕ) (m : MirrorView) → IsConsistent m → ((n : MemberView) → IsMember m.array k n → IsRecorded n) → RecordsAt k m m
+recorded_nothing k m sound done = record { stores = stores_nowhere m sound; done = done }
+
+pub recorded_none : (m : MirrorView) → IsConsistent m → RecordsBelow 0 m m
+recorded_none m sound = record { stores = stores_nowhere m sound; done = λ i n low at. absurd (omega arith) }
+
+pub recorded_still : (a b : ArrayView) (i : ℕ) (n : MemberView) (s : StaysReady a b i n) → IsRecorded s.before → IsRecorded n
+recorded_still a b i n s is active = s.recorded (is (ap is_recorded s.state ∙ active))
+
+pub recorded_more : (k : ℕ) (old mid new : MirrorView) → RecordsBelow k old mid → RecordsAt k mid new → RecordsBelow (k + 1) old new
+recorded_more k old mid new g h = record {
+  stores = stores_on old mid new g.stores h.stores;
+  done = λ i n low at.
+      by_same i k
+      (λ same. h.done n (subst (λ (j : ℕ). IsMember new.array j n) same at))
+      (λ apart.
+      let s : StaysReady mid.array new.array i n = h.stores.ready.each i n at in
+      recorded_still mid.array new.array i n s (g.done i s.before (omega arith) s.member));
+}
+
+pub recorded_all : (k : ℕ) (old new : MirrorView) → length new.array.members ≤ k → RecordsBelow k old new → RecordsAll old new
+recorded_all k old new last g = record {
+  stores = g.stores;
+  done = λ i n at. g.done i n (let low = slice_get_within new.array.members i n at in omega arith) at;
+}

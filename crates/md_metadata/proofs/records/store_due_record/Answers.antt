@@ -1,0 +1,48 @@
+use Rattle.std.proofs.Common.{◌≡◌, true}
+use Rattle.md_array.specs.View.{MemberView}
+use Rattle.md_array.specs.Members.{IsMember}
+use Rattle.md_array.specs.WritingMember.{IsNotDue}
+use Rattle.md_metadata.proofs.StoredMembers.{nothing_at, told}
+use Rattle.md_metadata.proofs.StoredRecords.{header_due, in_sync_due, recorded_or_stops, still_recorded}
+use Rattle.md_metadata.proofs.records.store_due_record.Goals as goal
+use Rattle.md_metadata.proofs.records.store_due_record.Goals.{then-not-is_in_sync-via-then-not-is_in_sync, then-not-is_in_sync-via-else-not-is_in_sync+then-not-due}
+
+pub returns-then-not-is_in_sync : goal.returns-then-not-is_in_sync
+returns-then-not-is_in_sync g c =
+    nothing_at IsNotDue c.args.k c.args.mirror.now c.requires.sound
+    (λ n in_sync.
+    let state = told (λ m. m.state) c.args.mirror.now.array c.args.k n c.state.result c.state.ensures in_sync.member in
+    let yes = in_sync.in_sync in
+    let answer = c.is_in_sync.ensures in
+    elim c.then-not-is_in_sync.branch [
+      | then-not-is_in_sync-via-then-not-is_in_sync w ↦ let out = w.if-not-is_in_sync.true in absurd cc
+      | then-not-is_in_sync-via-else-not-is_in_sync+then-not-due w ↦
+          let due = told (λ m. m.due) c.args.mirror.now.array c.args.k n w.due.result w.due.ensures in_sync.member in
+          let out = w.if-not-due.true in
+          cc
+    ])
+
+pub store_sector-requires-clause-in_sync : goal.store_sector-requires-clause-in_sync
+store_sector-requires-clause-in_sync g c m at =
+    let state = told (λ x. x.state) c.args.mirror.now.array c.args.k m c.state.result c.state.ensures at in
+    let answer = c.is_in_sync.ensures in
+    let yes = c.if-not-is_in_sync.false in
+    cc
+
+pub store_sector-requires-clause-due : goal.store_sector-requires-clause-due
+store_sector-requires-clause-due g c =
+    header_due c.args.mirror.now.array c.args.k
+    (λ m at. let due = told (λ x. x.due) c.args.mirror.now.array c.args.k m c.due.result c.due.ensures at in let yes = c.if-not-due.false in cc)
+
+pub store_record-requires-clause-active : goal.store_record-requires-clause-active
+store_record-requires-clause-active g c = still_recorded c.args.k c.args.mirror.now c.store_sector.new.mirror c.in_default.ensures
+
+pub returns : goal.returns
+returns g c =
+    let k = c.args.k in
+    let old = c.args.mirror.now in
+    let mid = c.store_sector.new.mirror in
+    let s = c.in_default.ensures in
+    let due : (m : MemberView) → IsMember old.array k m → m.due ≡ true =
+    λ m at. let told_due = told (λ x. x.due) old.array k m c.due.result c.due.ensures at in let yes = c.if-not-due.false in cc in
+    recorded_or_stops k old mid s c.store_record.new.mirror (header_due old.array k due) (in_sync_due k old mid s due c.requires.earlier) c.store_record.result c.store_record.ensures

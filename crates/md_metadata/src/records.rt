@@ -1,0 +1,104 @@
+// Storing the superblocks that are due.
+ghost use Rattle.std.specs.Prelude.{◌≡◌, ◌<◌, ℕ, MatchResult, Some, length, true, false};
+ghost use Rattle.md_model.specs.Events.{Event};
+ghost use Rattle.md_array.specs.Consistency.{IsConsistent};
+ghost use Rattle.md_array.specs.Members.{AllInSync, IsInSync, IsMember, is_recorded};
+ghost use Rattle.md_array.specs.View.{MemberView};
+ghost use Rattle.md_array.specs.WritingMember.{IsNotDue};
+ghost use Rattle.md_metadata.specs.Storing.{RecordsAll, RecordsAt, RecordsOn, StoresAll, StoresAt, StopsRecording, StopsStoring};
+
+use crate::fault::PartFault;
+use crate::sectors::store_sector;
+use md_array::{Mirror, StoreFault};
+use md_assembly::MemberState;
+use md_device::Device;
+
+/// Stores the superblock of member k, which is kept up to date. Of a member in sync the first sector of its
+/// bitmap is to be stored right before. Takes no memory.
+pub fn store_record<D: Device + Drop>(mirror: &mut Mirror<D>, k: usize) -> Result<(), PartFault>
+    requires within { k < length mirror.old.array.members }
+    requires sound { IsConsistent mirror.old }
+    requires running { mirror.old.array.halted ≡ false }
+    requires active { (m : MemberView) → IsMember mirror.old.array k m → is_recorded m.state ≡ true }
+    ensures { MatchResult result (λ _. RecordsOn k mirror.old mirror.new) (StopsRecording k mirror.old mirror.new) }
+{
+    match mirror.record(k) {
+        Ok(()) => Ok(()),
+        Err(StoreFault::MemberFailed(j)) => Err(PartFault::MemberFailed(j)),
+        Err(StoreFault::Halted) => Err(PartFault::Halted),
+        Err(StoreFault::NotActive) => Err(PartFault::Halted),
+    }
+}
+
+// Stores the superblock of member k, if it is in sync and its record is due, and right before it the first sector of its bitmap.
+fn store_due_record<D: Device + Drop>(mirror: &mut Mirror<D>, k: usize) -> Result<(), PartFault>
+    requires within { k < length mirror.old.array.members }
+    requires sound { IsConsistent mirror.old }
+    requires running { mirror.old.array.halted ≡ false }
+    requires earlier { (j : ℕ) (m : MemberView) → j < k → IsInSync mirror.old.array j m → IsNotDue m }
+    ensures { MatchResult result (λ _. StoresAt k IsNotDue mirror.old mirror.new) (StopsStoring mirror.old mirror.new) }
+{
+    if !mirror.state(k).is_in_sync() || !mirror.due(k) {
+        return Ok(());
+    }
+    if let Err(fault) = store_sector(mirror, k, 0) {
+        return Err(fault);
+    }
+    store_record(mirror, k)
+}
+
+// Stores the superblock of member k, if it is kept up to date but not in sync, and its record is due.
+fn store_other_record<D: Device + Drop>(mirror: &mut Mirror<D>, k: usize) -> Result<(), PartFault>
+    requires within { k < length mirror.old.array.members }
+    requires sound { IsConsistent mirror.old }
+    requires running { mirror.old.array.halted ≡ false }
+    requires recorded { AllInSync mirror.old.array IsNotDue }
+    ensures { MatchResult result (λ _. RecordsAt k mirror.old mirror.new) (StopsStoring mirror.old mirror.new) }
+{
+    let state = mirror.state(k);
+    if state.is_in_sync() || !is_recorded(state) || !mirror.due(k) {
+        return Ok(());
+    }
+    store_record(mirror, k)
+}
+
+/// Stores the superblock of each member in sync of which it is due, by index, and right before it the first
+/// sector of its bitmap. Takes no memory.
+pub fn store_records<D: Device + Drop>(mirror: &mut Mirror<D>) -> Result<(), PartFault>
+    requires sound { IsConsistent mirror.old }
+    requires running { mirror.old.array.halted ≡ false }
+    ensures { MatchResult result (λ _. StoresAll IsNotDue mirror.old mirror.new) (StopsStoring mirror.old mirror.new) }
+{
+    for k in 0..mirror.members() {
+        if let Err(fault) = store_due_record(mirror, k) {
+            return Err(fault);
+        }
+    }
+    Ok(())
+}
+
+/// Stores the superblock of each spare and of each recovering member of which it is due, by index, once those
+/// of the members in sync are stored. Takes no memory.
+pub fn store_other_records<D: Device + Drop>(mirror: &mut Mirror<D>) -> Result<(), PartFault>
+    requires sound { IsConsistent mirror.old }
+    requires running { mirror.old.array.halted ≡ false }
+    requires recorded { AllInSync mirror.old.array IsNotDue }
+    ensures { MatchResult result (λ _. RecordsAll mirror.old mirror.new) (StopsStoring mirror.old mirror.new) }
+{
+    for k in 0..mirror.members() {
+        if let Err(fault) = store_other_record(mirror, k) {
+            return Err(fault);
+        }
+    }
+    Ok(())
+}
+
+// Whether the superblock of a member in this state is kept up to date.
+fn is_recorded(state: MemberState) -> bool
+    ensures { result ≡ is_recorded state }
+{
+    match state {
+        MemberState::InSync(_) | MemberState::Recovering(_) | MemberState::Spare => true,
+        MemberState::Stale(_) | MemberState::Faulty => false,
+    }
+}

@@ -1,0 +1,45 @@
+-- Marks and records are stored beside a request in flight.
+use Rattle.std.proofs.Common.{ℕ, refl, ap, ◌∙◌}
+use Rattle.md_model.specs.Events.{Event}
+use Rattle.md_array.specs.View.{MirrorView, PendingView}
+use Rattle.md_array.specs.Requests.{IsPending, among}
+use Rattle.md_array.proofs.InFlight.{among_in_flight}
+use Rattle.md_array.proofs.Turns.{all_such}
+use Rattle.md_metadata.specs.Going.{GoesOn, HaltsAfter, alone}
+use Rattle.md_metadata.specs.Storing.{IsStoring}
+use Rattle.md_write.specs.Progress.{IsLater, IsOfRequest}
+
+storing_of : (n : ℕ) (e : Event) → IsStoring e → IsOfRequest n e
+storing_of n (Event.Record k) s = tt
+storing_of n (Event.StoreMarks k b) s = tt
+storing_of n (Event.RecordFails k) s = tt
+storing_of n (Event.StoreMarksFails k b) s = tt
+storing_of n e s = absurd s
+
+module _ (p : PendingView) (old new : MirrorView) (is : IsPending old.array p) where
+  pub goes_beside : GoesOn alone alone IsStoring old new → GoesOn (among p) (among p) (IsOfRequest p.ticket.number) old new
+  goes_beside g = record {
+    events = g.events;
+    steps = all_such IsStoring (IsOfRequest p.ticket.number) (storing_of p.ticket.number) g.events g.steps;
+    leads = λ previous others in_flight. g.leads previous (among p others) (among_in_flight old.array p is others in_flight);
+    array = g.array;
+    sound = g.sound;
+    pending = g.pending;
+  }
+
+pub halts_beside : (p : PendingView) (old new : MirrorView) → IsPending old.array p → HaltsAfter alone alone IsStoring old new → HaltsAfter (among p) (among p) (IsOfRequest p.ticket.number) old new
+halts_beside p old new is h = record {
+  mid = h.mid;
+  goes = goes_beside p old h.mid is h.goes;
+  failing = h.failing;
+  of = storing_of p.ticket.number h.failing h.of;
+  halts = λ others. h.halts (among p others);
+  sound = h.sound;
+  pending = h.pending;
+}
+
+pub later_refl : (p : PendingView) → IsLater p p
+later_refl p = record { request = refl; more = λ d x. x }
+
+pub later_on : (p q r : PendingView) → IsLater p q → IsLater q r → IsLater p r
+later_on p q r g h = record { request = h.request ∙ ap (λ (x : PendingView). record x { written = r.written }) g.request; more = λ d x. h.more d (g.more d x) }

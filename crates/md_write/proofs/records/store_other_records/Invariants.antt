@@ -1,5 +1,0 @@
-use Rattle.md_write.specs.Progress.{RecordsBelow}
-use Rattle.md_write.proofs.records.store_other_records.Given as goal
-
-abbrev pub invariant-loop-k : goal.invariant-loop-k
-invariant-loop-k g l = RecordsBelow l.k l.fn.mirror l.mirror

@@ -1,6 +1,0 @@
-use Rattle.md_array.specs.WritingMember.{IsNotDue}
-use Rattle.md_write.specs.Progress.{StoresBelow}
-use Rattle.md_write.proofs.records.store_records.Given as goal
-
-abbrev pub invariant-loop-k : goal.invariant-loop-k
-invariant-loop-k g l = StoresBelow l.k IsNotDue l.fn.mirror l.mirror
