@@ -20,7 +20,7 @@ use Rattle.md_array.proofs.SectorCopied.{copied_is_consistent, copy_happens}
 use Rattle.md_array.proofs.WorldsLists.{at_set_same, got_same, got_within}
 
 -- ---- what is asked of a run, of its first sector and of the others
-abbrev first_may : (from k s n : ℕ) (a : ArrayView) → MayCopy from k s (suc n) a → MayCopy from k s 1 a
+abbrev pub first_may : (from k s n : ℕ) (a : ArrayView) → MayCopy from k s (suc n) a → MayCopy from k s 1 a
 first_may from k s n a may = record {
   chunk = may.chunk;
   may = may.may;
@@ -32,7 +32,7 @@ first_may from k s n a may = record {
   apart = may.apart;
 }
 
-abbrev others_may : (from k s n : ℕ) (a : ArrayView) → MayCopy from k s (suc n) a → MayCopy from k (s + 1) n a
+abbrev pub others_may : (from k s n : ℕ) (a : ArrayView) → MayCopy from k s (suc n) a → MayCopy from k (s + 1) n a
 others_may from k s n a may = record {
   chunk = may.chunk;
   may = may.may;
@@ -46,7 +46,7 @@ others_may from k s n a may = record {
 
 -- ---- the bytes that the source holds
 module _ (v : MirrorView) (from s : ℕ) (bytes : List ℕ) (holds : HoldsData v from s bytes) where
-  first_holds : (n : ℕ) → n ≤ length bytes → HoldsData v from s (take n bytes)
+  pub first_holds : (n : ℕ) → n ≤ length bytes → HoldsData v from s (take n bytes)
   unfolding part
   first_holds n low d m at is honest =
       let whole = holds d m at is honest in
@@ -54,7 +54,7 @@ module _ (v : MirrorView) (from s : ℕ) (bytes : List ℕ) (holds : HoldsData v
       ∙ sym (take-take n (length bytes) (drop (512 * (m.superblock.data_offset + s)) d.content) low)
       ∙ ap (take n) whole
 
-  others_hold : (v' : MirrorView) → v'.array ≡ v.array → slice_get v'.disks from ≡ slice_get v.disks from → 512 ≤ length bytes → HoldsData v' from (s + 1) (drop 512 bytes)
+  pub others_hold : (v' : MirrorView) → v'.array ≡ v.array → slice_get v'.disks from ≡ slice_get v.disks from → 512 ≤ length bytes → HoldsData v' from (s + 1) (drop 512 bytes)
   unfolding part
   others_hold v' same_array same_disk long d m at is honest =
       let whole = holds d m (sym same_disk ∙ at) (ap (λ (x : ArrayView). slice_get x.members from) (sym same_array) ∙ is) honest in
@@ -187,7 +187,7 @@ split from k s n bytes old after c may long holds done =
       left = others_done from k s n bytes old after c may long d.0 e.0 d.1 e.1 done;
     }
 
-long_left : (n : ℕ) (bytes : List ℕ) → length bytes ≡ 512 * suc (suc n) → length (drop 512 bytes) ≡ 512 * suc n
+pub long_left : (n : ℕ) (bytes : List ℕ) → length bytes ≡ 512 * suc (suc n) → length (drop 512 bytes) ≡ 512 * suc n
 long_left n bytes long = let l = length-drop 512 bytes in omega arith
 
 -- ---- the chain

@@ -1,5 +1,6 @@
 //! What holds of calls that are lists of events.
 
+ghost use Rattle.md_array.specs.CopyEvents.{StopsAtCopies};
 ghost use Rattle.md_array.specs.WholeCalls.{CallsAreRuns, RunsGoOn};
 
 /// A call that is a list of events (`Leads`) is a run of the mirror, from any moment of its life on, and
@@ -9,4 +10,11 @@ ghost use Rattle.md_array.specs.WholeCalls.{CallsAreRuns, RunsGoOn};
 pub fn every_call()
     ensures run { CallsAreRuns }
     ensures goes_on { RunsGoOn }
+{}
+
+/// Sectors are copied by one write of the device, but are an event each. What a stop leaves within that
+/// write stands on the devices after a copy of some of the sectors. So it is what a stop between two events
+/// leaves, of another list.
+pub fn stopped_copies()
+    ensures { StopsAtCopies }
 {}
