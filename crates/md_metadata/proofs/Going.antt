@@ -117,7 +117,8 @@ halts_on F G H IsOf old mid new g h = record {
 -- ---- marks and records
 pub ready_refl : (a : ArrayView) → AllStayReady a a
 ready_refl a = record {
-  each = λ k n at. record { before = n; member = at; state = refl; marked = λ c was. was; recorded = λ x. x };
+  each = λ k n at. record { before = n; member = at; same = refl; marked = λ c was. was; recorded = λ x. x };
+  others = refl;
   halted = refl;
 }
 
@@ -130,16 +131,21 @@ ready_on a b c same g h = record {
       record {
         before = early.before;
         member = early.member;
-        state = early.state ∙ late.state;
+        same = late.same ∙ ap (λ (x : MemberView). record x { stored = n.stored; due = n.due }) early.same;
         marked = λ x was. late.marked x (early.marked x was ∙ sym (bit x)) ∙ bit x;
         recorded = λ x. late.recorded (early.recorded x);
       };
+  others = h.others ∙ ap (λ (x : ArrayView). record x { members = c.members }) g.others;
   halted = h.halted ∙ g.halted;
 }
 
+-- it is in the state in which it was
+pub same_state : (a b : ArrayView) (k : ℕ) (n : MemberView) (s : StaysReady a b k n) → s.before.state ≡ n.state
+same_state a b k n s = sym (ap (λ (x : MemberView). x.state) s.same)
+
 -- who is in sync was so
 pub was_in_sync : (a b : ArrayView) (k : ℕ) (n : MemberView) (s : StaysReady a b k n) → IsInSync b k n → IsInSync a k s.before
-was_in_sync a b k n s in_sync = record { member = s.member; in_sync = ap is_in_sync s.state ∙ in_sync.in_sync }
+was_in_sync a b k n s in_sync = record { member = s.member; in_sync = ap is_in_sync (same_state a b k n s) ∙ in_sync.in_sync }
 
 pub stores_nowhere : (m : MirrorView) → IsConsistent m → Stores m m
 stores_nowhere m sound = record { goes = goes_nowhere alone IsStoring m sound; ready = ready_refl m.array }

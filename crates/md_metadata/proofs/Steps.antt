@@ -1,5 +1,5 @@
 -- What the steps give, as parts of a call.
-use Rattle.std.proofs.Common.{◌≡◌, ℕ, ◌<◌, ◌≤◌, Bool, true, false, cond, eqb, nat_lt, ◌&&◌, length, map, set, slice_get, count_by, Option, Some, refl, sym, ap, ◌∙◌, subst, arith, inl, inr, length-set}
+use Rattle.std.proofs.Common.{◌≡◌, ℕ, ◌<◌, ◌≤◌, Bool, true, false, cond, eqb, nat_lt, ◌&&◌, List, length, map, set, slice_get, count_by, Option, Some, refl, sym, ap, ◌∙◌, subst, arith, inl, inr, length-set}
 use Rattle.std.specs.Prelude.{option_map}
 use Rattle.std.proofs.lemmas.List.{length-map}
 use Rattle.std.proofs.lemmas.Option.{same_Some, slice_get-map, slice_get_within}
@@ -31,7 +31,10 @@ use Rattle.md_metadata.proofs.Counts.{count_map, set_alike, set_fewer}
 use Rattle.md_metadata.proofs.Going.{goes_nowhere, goes_step}
 
 -- ---- a member is changed
-module _ (a b : ArrayView) (k : ℕ) (m n : MemberView) (at : IsMember a k m) (state : n.state ≡ m.state) (is : b ≡ record a { members = set a.members k n }) where
+module _ (a b : ArrayView) (k : ℕ) (m n : MemberView) (at : IsMember a k m) (like : n ≡ record m { stored = n.stored; due = n.due }) (is : b ≡ record a { members = set a.members k n }) where
+  state : n.state ≡ m.state
+  state = ap (λ (x : MemberView). x.state) like
+
   pub same_array : IsSameArray a b
   same_array = record {
     chunks = ap (λ (x : ArrayView). x.chunks) is;
@@ -50,11 +53,12 @@ module _ (a b : ArrayView) (k : ℕ) (m n : MemberView) (at : IsMember a k m) (s
         (λ same it. record {
           before = m;
           member = ap (slice_get a.members) same ∙ at;
-          state = sym state ∙ ap (λ (y : MemberView). y.state) (sym it);
+          same = subst (λ (y : MemberView). y ≡ record m { stored = y.stored; due = y.due }) (sym it) like;
           marked = λ c was. ap (λ (y : MemberView). is_set y.stored.bytes c) it ∙ marks c was;
           recorded = λ not_due. ap (λ (y : MemberView). y.due) it ∙ due not_due;
         })
-        (λ apart other. record { before = x; member = other; state = refl; marked = λ c was. was; recorded = λ not_due. not_due });
+        (λ apart other. record { before = x; member = other; same = refl; marked = λ c was. was; recorded = λ not_due. not_due });
+    others = is ∙ ap (λ (xs : List MemberView). record a { members = xs }) (sym (ap (λ (x : ArrayView). x.members) is));
     halted = ap (λ (x : ArrayView). x.halted) is;
   }
 

@@ -15,7 +15,7 @@ use Rattle.md_metadata.specs.declared.fault.PartFault.{PartFault}
 use Rattle.md_metadata.specs.declared.fault.PartFault.TheVariants.{Halted, MemberFailed}
 use Rattle.md_metadata.specs.Going.{IsFaulty, alone}
 use Rattle.md_metadata.specs.Storing.{IsRecorded, IsStoring, RecordsAll, RecordsAt, RecordsBelow, RecordsOn, StaysReady, StoresAt, StoresOn, StopsRecording, StopsStoring}
-use Rattle.md_metadata.proofs.Going.{goes_step, goes_two, halts_on, ready_on, stores_nowhere, stores_on, was_in_sync}
+use Rattle.md_metadata.proofs.Going.{goes_step, goes_two, halts_on, ready_on, same_state, stores_nowhere, stores_on, was_in_sync}
 use Rattle.md_metadata.proofs.Steps.{now_at, recorded_in_sync}
 
 -- the first sector comes before a record that is due
@@ -107,7 +107,7 @@ pub recorded_none : (m : MirrorView) → IsConsistent m → RecordsBelow 0 m m
 recorded_none m sound = record { stores = stores_nowhere m sound; done = λ i n low at. absurd (omega arith) }
 
 pub recorded_still : (a b : ArrayView) (i : ℕ) (n : MemberView) (s : StaysReady a b i n) → IsRecorded s.before → IsRecorded n
-recorded_still a b i n s is active = s.recorded (is (ap is_recorded s.state ∙ active))
+recorded_still a b i n s is active = s.recorded (is (ap is_recorded (same_state a b i n s) ∙ active))
 
 pub recorded_more : (k : ℕ) (old mid new : MirrorView) → RecordsBelow k old mid → RecordsAt k mid new → RecordsBelow (k + 1) old new
 recorded_more k old mid new g h = record {

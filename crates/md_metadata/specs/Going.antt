@@ -45,6 +45,15 @@ pub record GoesOn (F G : Requests → Requests) (IsOf : Event → Type 0) (old n
   pub sound : IsConsistent new
   pub pending : (o : PendingView) → IsPending old.array o → IsPending new.array o
 
+-- The same, whatever becomes of the marks and of the array's fields.
+pub record LeadsBy (IsOf : Event → Type 0) (old new : MirrorView) : Type 0 where
+  pub events : List Event
+  pub steps : AllOf IsOf events
+  pub leads : (previous : Option Event) (others : Requests) → AreInFlight old.array others → Leads previous old others events new others
+  pub requests : new.array.requests ≡ old.array.requests
+  pub sound : IsConsistent new
+  pub pending : (o : PendingView) → IsPending old.array o → IsPending new.array o
+
 -- a member failed
 pub record LosesMember (F G : Requests → Requests) (IsOf : Event → Type 0) (old new : MirrorView) : Type 0 where
   pub goes : GoesOn F G IsOf old new

@@ -1,7 +1,7 @@
 -- Marks and superblocks are stored on the members, whatever requests are in flight.
 use Rattle.std.specs.Prelude.{◌≡◌, ℕ, ◌<◌, true}
 use Rattle.md_model.specs.Events.{Event}
-use Rattle.md_bitmap.specs.Marks.{is_set}
+use Rattle.md_bitmap.specs.Marks.{Bitmap, is_set}
 use Rattle.md_array.specs.View.{ArrayView, MemberView, MirrorView}
 use Rattle.md_array.specs.Members.{IsInSync, IsMember, is_recorded}
 use Rattle.md_array.specs.StoringMarks.{StoresMarkSector}
@@ -18,17 +18,19 @@ IsStoring (Event.RecordFails k) = Unit {0}
 IsStoring (Event.StoreMarksFails k b) = Unit {0}
 IsStoring e = ⊥
 
--- A member is what it was: what is stored of its marks as they are in memory stays so, and its superblock is not due anew.
+-- A member is what it was, but for what is stored. What is stored of its marks as they are in memory stays so, and its superblock is
+-- not due anew.
 pub record StaysReady (old new : ArrayView) (k : ℕ) (n : MemberView) : Type 0 where
   pub before : MemberView
   pub member : IsMember old k before
-  pub state : before.state ≡ n.state
+  pub same : n ≡ record before { stored = n.stored; due = n.due }
   pub marked : (c : ℕ) → is_set before.stored.bytes c ≡ is_set old.marks.bytes c → is_set n.stored.bytes c ≡ is_set old.marks.bytes c
   pub recorded : IsNotDue before → IsNotDue n
 
 -- nothing failed
 pub record AllStayReady (old new : ArrayView) : Type 0 where
   pub each : (k : ℕ) (n : MemberView) → IsMember new k n → StaysReady old new k n
+  pub others : new ≡ record old { members = new.members }
   pub halted : new.halted ≡ old.halted
 
 -- marks and superblocks were stored, and nothing failed
@@ -103,3 +105,7 @@ pub record LosesRecording (k : ℕ) (old new : MirrorView) : Type 0 where
 abbrev pub StopsRecording : ℕ → MirrorView → MirrorView → PartFault → Type 0
 StopsRecording k old new Halted = HaltsAfter alone alone IsStoring old new
 StopsRecording k old new (MemberFailed j) = (j ≡ k) × LosesRecording k old new
+
+-- the member has all marks stored as these are
+abbrev pub HasAllMarks : Bitmap → MemberView → Type 0
+HasAllMarks marks m = (c : ℕ) → c < marks.chunks → is_set m.stored.bytes c ≡ is_set marks.bytes c

@@ -4,10 +4,14 @@
 //! member fails on the way, the caller chooses whether to begin again.
 #![tactic(auto)]
 
+mod all_marks;
+mod clearing;
 mod fault;
 mod records;
 mod sectors;
 
+pub use all_marks::store_all_marks;
+pub use clearing::clear_marks;
 pub use fault::PartFault;
 pub use records::{store_other_records, store_record, store_records};
 pub use sectors::store_sector;

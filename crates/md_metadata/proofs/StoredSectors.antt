@@ -1,0 +1,89 @@
+-- All marks are stored, sector by sector and member by member.
+use Rattle.std.proofs.Common.{◌≡◌, ℕ, ◌+◌, ◌<◌, ◌≤◌, ◌↔◌, Bool, true, false, cond, eqb, nat_lt, ◌&&◌, refl, sym, ap, ◌∙◌, subst, arith, eq-eqb, inl}
+use Rattle.std.proofs.lemmas.Bool.{lt-ltb}
+use Rattle.std.specs.Prelude.{Result, Ok, Err, MatchResult}
+use Rattle.md_model.specs.Events.{Event}
+use Rattle.md_model.specs.Sectors.{block_of}
+use Rattle.md_model.proofs.Puts.{by_same}
+use Rattle.md_bitmap.specs.Marks.{Bitmap, is_set}
+use Rattle.md_bitmap.specs.Sectors.{bitmap_sectors}
+use Rattle.md_array.specs.View.{ArrayView, MemberView, MirrorView}
+use Rattle.md_array.specs.Members.{IsInSync, IsMember}
+use Rattle.md_array.specs.Consistency.{IsConsistent}
+use Rattle.md_array.specs.InTurn.{HasSector, IsSectorDue}
+use Rattle.md_metadata.specs.declared.fault.PartFault.{PartFault}
+use Rattle.md_metadata.specs.Going.{alone}
+use Rattle.md_metadata.specs.Storing.{HasAllMarks, IsStoring, StaysReady, Stores, StoresAt, StoresOn, StopsStoring}
+use Rattle.md_metadata.proofs.Going.{goes_step, stores_nowhere, stores_on, was_in_sync}
+use Rattle.md_metadata.proofs.Steps.{now_at}
+use Rattle.md_metadata.proofs.StoredMembers.{IsLasting}
+
+pub all_marks_last : (marks : Bitmap) → IsLasting marks (HasAllMarks marks)
+all_marks_last marks = record {
+  lasts = λ a b k n same s has c low.
+      let bit = ap (λ (m : Bitmap). is_set m.bytes c) same in
+      s.marked c (has c low ∙ sym bit) ∙ bit;
+}
+
+-- where the bits differ, the sector is due
+pub unlike_due : (a : ArrayView) (k block : ℕ) (answer : Bool) → answer ≡ false → ((m : MemberView) → IsMember a k m → (answer ≡ true) ↔ HasSector a block m) → IsSectorDue a k block
+unlike_due a k block answer unlike tells m in_sync = inl (λ has. let yes = (tells m in_sync.member).1 has in cc)
+
+-- ---- one sector of one member
+hit : (b x y : Bool) → b ≡ true → cond b x y ≡ x
+hit true x y e = refl
+hit false x y e = absurd cc
+
+module _ (k block : ℕ) (old new : MirrorView) where
+  sector_in : IsConsistent old → IsSectorDue old.array k block → StoresOn k block old new → StoresAt k (HasSector old.array block) old new
+  sector_in sound due s =
+      let r = s.gives in
+      record {
+        stores = record { goes = goes_step alone alone IsStoring (Event.StoreMarks k block) old new s.step (λ previous. due); ready = s.ready };
+        done = λ m in_sync c here low.
+            let it = now_at old.array new.array k r.member (record r.member { stored = r.stored }) r.may.in_sync.member refl r.array m in_sync.member in
+            let chunks = sound.chunks.member_count k r.member r.may.in_sync.member in
+            let inside : c < r.member.stored.chunks = omega arith in
+            ap (λ (x : MemberView). is_set x.stored.bytes c) it ∙ r.has_stored.bits c
+            ∙ hit (eqb (block_of c) block && nat_lt c r.member.stored.chunks) _ _
+            (ap (λ (b : Bool). b && nat_lt c r.member.stored.chunks) (eq-eqb _ _ here) ∙ lt-ltb c r.member.stored.chunks inside);
+      }
+
+  pub sector_or_stops : IsConsistent old → IsSectorDue old.array k block → {T : Type 0} (result : Result T PartFault) → MatchResult result (λ _. StoresOn k block old new) (StopsStoring old new)
+      → MatchResult result (λ _. StoresAt k (HasSector old.array block) old new) (StopsStoring old new)
+  sector_or_stops sound due (Ok t) s = sector_in sound due s
+  sector_or_stops sound due (Err fault) s = s
+
+-- ---- the sectors of one member
+-- those before this one are stored
+pub record StoresUpTo (k block : ℕ) (old new : MirrorView) : Type 0 where
+  pub stores : Stores old new
+  pub done : (m : MemberView) → IsInSync new.array k m → (c : ℕ) → c < old.array.marks.chunks → block_of c < block → is_set m.stored.bytes c ≡ is_set old.array.marks.bytes c
+
+-- each chunk's bit is in one of them
+block_within : (c chunks : ℕ) → c < chunks → block_of c < bitmap_sectors chunks
+block_within c chunks low = omega arith
+
+module _ (k : ℕ) where
+  pub up_none : (m : MirrorView) → IsConsistent m → StoresUpTo k 0 m m
+  up_none m sound = record { stores = stores_nowhere m sound; done = λ n in_sync c low before. absurd (omega arith) }
+
+  pub up_more : (block : ℕ) (old mid new : MirrorView) → StoresUpTo k block old mid → StoresAt k (HasSector mid.array block) mid new → StoresUpTo k (block + 1) old new
+  up_more block old mid new g h = record {
+    stores = stores_on old mid new g.stores h.stores;
+    done = λ m in_sync c low before.
+        let same : mid.array.marks ≡ old.array.marks = g.stores.goes.array.marks in
+        let bit = ap (λ (x : Bitmap). is_set x.bytes c) same in
+        let there : c < mid.array.marks.chunks = subst (λ (x : Bitmap). c < x.chunks) (sym same) low in
+        by_same (block_of c) block
+        (λ here. h.done m in_sync c here there ∙ bit)
+        (λ apart.
+        let s : StaysReady mid.array new.array k m = h.stores.ready.each k m in_sync.member in
+        s.marked c (g.done s.before (was_in_sync mid.array new.array k m s in_sync) c low (omega arith) ∙ sym bit) ∙ bit);
+  }
+
+  pub up_all : (block : ℕ) (old new : MirrorView) → bitmap_sectors old.array.marks.chunks ≤ block → StoresUpTo k block old new → StoresAt k (HasAllMarks old.array.marks) old new
+  up_all block old new past g = record {
+    stores = g.stores;
+    done = λ m in_sync c low. g.done m in_sync c low (let within = block_within c old.array.marks.chunks low in omega arith);
+  }
