@@ -98,3 +98,4 @@ pub mod CopyWrites
 pub mod ResyncMarked
 pub mod ReadingData
 pub mod StoppedCopies
+pub mod ReadTurns
