@@ -78,7 +78,7 @@ module _ (k chunk : ℕ) (old new : MirrorView) (c : IsConsistent old) (f : Fail
       let may = may_copy_chunk old c honest requests in_flight f.copy.may.chunk f.copy.may.may in
       let chunk_may = subst (MayCopyChunk (world_of old requests)) f.in_chunk may in
       does_failing k w old new c f.fails m at requests e honest (w, f.fails.disks) in_flight
-      (f.copy.may.may.running, (left k w old new c f.fails m at requests, in_sync_there old.disks a requests k m f.copy.may.in_sync, chunk_may, left_by_copy requests t, fails))
+      (f.copy.may.may.idle.running, (left k w old new c f.fails m at requests, in_sync_there old.disks a requests k m f.copy.may.in_sync, chunk_may, left_by_copy requests t, fails))
       (λ _. refl)
       (λ d e was is.
       let parts = parts_of old c k d m was at in

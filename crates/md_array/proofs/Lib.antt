@@ -99,3 +99,4 @@ pub mod CopyWrites
 pub mod ResyncMarked
 pub mod ReadingData
 pub mod StoppedCopies
+pub mod ReadTurns

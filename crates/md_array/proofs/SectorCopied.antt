@@ -1,7 +1,7 @@
 -- A sector is copied from a member in sync to another: no more than that sector of its data changes, and that is the model's event.
 use Rattle.std.proofs.Common.{◌≡◌, ◌≢◌, ℕ, ◌+◌, ◌*◌, ◌<◌, ◌≤◌, ◌↔◌, ◌⊎◌, inl, inr, true, false, cond, Bool, ◌&&◌, nat_lt, true≢false, List, [], slice_get, Option, Some, None, refl, sym, ap, ◌∙◌, subst, arith, eq-eqb}
 use Rattle.std.proofs.lemmas.Bool.{cases_lt}
-use Rattle.std.proofs.lemmas.Option.{none-some, slice_get_within}
+use Rattle.std.proofs.lemmas.Option.{slice_get_within}
 use Rattle.md_badblocks.specs.Runs.{IsBad}
 use Rattle.md_bitmap.specs.Marks.{is_set}
 use Rattle.md_device.specs.Splice.{SameOutside, part}
@@ -9,7 +9,6 @@ use Rattle.md_device.proofs.Splices.{part-spliced}
 use Rattle.md_assembly.specs.States.{is_in_sync, takes_role}
 use Rattle.md_assembly.specs.declared.state.MemberState.{MemberState}
 use Rattle.md_assembly.specs.declared.state.MemberState.TheVariants.{Faulty, InSync, Recovering, Spare, Stale}
-use Rattle.md_inflight.specs.Inflight.{lookup}
 use Rattle.md_model.specs.Sectors.{put}
 use Rattle.md_model.specs.Devices.{Stored}
 use Rattle.md_model.specs.Events.{Event, Step}
@@ -22,11 +21,13 @@ use Rattle.md_array.specs.View.{ArrayView, Disk, MemberView, MirrorView}
 use Rattle.md_array.specs.Consistency.{HasPlaces, HasSuper, IsConsistent}
 use Rattle.md_array.specs.CopyingData.{CopiesSector, Lists, MayCopy, MayCopyChunk, run_write}
 use Rattle.md_array.specs.Events.{Happens}
+use Rattle.md_array.specs.MakingClean.{first_number}
 use Rattle.md_array.specs.Members.{IsInSync, IsMember, is_in_sync_as}
 use Rattle.md_array.specs.Requests.{AreInFlight}
 use Rattle.md_array.specs.Worlds.{AreHonest, geometry_of, is_listed, stored_of, super_in, world_of}
 use Rattle.md_array.proofs.Honesty.{tried_honest}
 use Rattle.md_array.proofs.Listed.{listed_kept, still_next}
+use Rattle.md_array.proofs.MadeClean.{none_listed}
 use Rattle.md_array.proofs.OneMember.{ChangesMember, changed_in_flight, changed_is_consistent, changed_world, member_there, stored_there}
 use Rattle.md_array.proofs.PartsApart.{HasParts, block_beside_data, data_alone, data_elsewhere, log_beside_data, parts_of}
 use Rattle.md_array.proofs.ReadAsKept.{changed_read, read_beside_data}
@@ -49,13 +50,13 @@ has_role (Stale r) e = absurd (true≢false (sym e))
 has_role Spare e = absurd (true≢false (sym e))
 has_role Faulty e = absurd (true≢false (sym e))
 
--- nothing is in flight where the list is empty
-pub none_there : (a : ArrayView) (requests : ℕ → Option Request) → AreInFlight a requests → a.requests.entries ≡ [] → (n : ℕ) → requests n ≡ None
+-- nothing is in flight where the list has no first
+pub none_there : (a : ArrayView) (requests : ℕ → Option Request) → AreInFlight a requests → first_number a ≡ None → (n : ℕ) → requests n ≡ None
 none_there a requests listed none n = by (requests n) refl
   where
     by : (r : Option Request) → requests n ≡ r → r ≡ None
     by None e = refl
-    by (Some p) e = absurd (none-some _ (sym (ap (λ (es : List _). lookup es n) none) ∙ listed n p e))
+    by (Some p) e = absurd (none_listed a.requests.entries n (record { start = p.start; sectors = p.sectors }) none (listed n p e))
 
 -- ---- what a copy asks is what the model asks
 module _ (v : MirrorView) (c : IsConsistent v) (honest : AreHonest v.disks) (requests : ℕ → Option Request) (in_flight : AreInFlight v.array requests) where
@@ -71,7 +72,7 @@ module _ (v : MirrorView) (c : IsConsistent v) (honest : AreHonest v.disks) (req
 
   pub may_copy_chunk : (chunk : ℕ) → MayCopyChunk chunk a → model.MayCopyChunk world chunk
   may_copy_chunk chunk may = record {
-    idle = none_there a requests in_flight may.idle;
+    idle = none_there a requests in_flight may.idle.none;
     marked = and_is (nat_lt chunk a.marks.chunks) (is_set a.marks.bytes chunk) (marked_there chunk may.marked) may.marked;
     stored = λ i on.
         let x = in_sync_is v.disks a requests i on in
@@ -110,7 +111,7 @@ module _ (v : MirrorView) (c : IsConsistent v) (honest : AreHonest v.disks) (req
   may_copy from k s may =
       let source = may.source s (omega arith) (omega arith) in
       let low : s < a.chunks.size = let inside = may.inside in omega arith in
-      let running = may.may.running in
+      let running = may.may.idle.running in
       let is = in_sync_as source.role source.member.state source.in_sync in
       let on : IsInSync a from source.member = record { member = source.at; in_sync = is.0 } in
       record {
@@ -229,7 +230,7 @@ module _ (from k s : ℕ) (old new : MirrorView) (c : IsConsistent old) (t : Cop
         ∙ (λ i. record w { stored = put k (stored_copied i) w.stored; due = due i; known = known i; re_added = re_added i })
 
     step : Step (geometry_of array) w (Event.Copy from k s) (world_of new requests)
-    step = (t.may.may.running, (may_copy old c honest requests in_flight from k s t.may, world_copied))
+    step = (t.may.may.idle.running, (may_copy old c honest requests in_flight from k s t.may, world_copied))
 
   pub copy_happens : Happens old (Event.Copy from k s) new
   copy_happens honest requests in_flight =

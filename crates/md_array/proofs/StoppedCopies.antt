@@ -1,6 +1,5 @@
 -- A stop within a copy of sectors leaves some of them copied: those are events, one after another.
 use Rattle.std.proofs.Common.{◌≡◌, ◌≢◌, ◌∙◌, ◌⊎◌, ⊎_elim, inl, inr, ℕ, zero, suc, ◌+◌, ◌*◌, ◌<◌, ◌≤◌, true, List, [], ◌∷◌, ◌++◌, length, take, drop, drop-drop, map, set, slice_get, Option, Some, refl, sym, ap, subst, arith, length-set}
-use Rattle.std.proofs.lemmas.Bool.{cases_lt}
 use Rattle.std.proofs.lemmas.List.{length-drop, length-map, length-take-le, take-append-drop}
 use Rattle.std.proofs.lemmas.Option.{same_Some, slice_get_within}
 use Rattle.md_device.specs.Device.{held, written}
@@ -11,7 +10,7 @@ use Rattle.md_model.specs.Events.{Event}
 use Rattle.md_model.proofs.Puts.{by_same}
 use Rattle.md_writes.specs.Writes.{IsCutShort}
 use Rattle.md_writes.proofs.Runs.{cut_one}
-use Rattle.md_array.specs.View.{ArrayView, Disk, MemberView, MirrorView}
+use Rattle.md_array.specs.View.{Disk, MemberView, MirrorView}
 use Rattle.md_array.specs.Consistency.{IsConsistent}
 use Rattle.md_array.specs.CopyEvents.{StopsAtCopies, copies_at}
 use Rattle.md_array.specs.CopyingData.{CopiesSector, CopiesTo, MayCopy, run_write}
@@ -19,7 +18,7 @@ use Rattle.md_array.specs.DeviceChanges.{StaysHonest}
 use Rattle.md_array.specs.InTurn.{Leads, Requests}
 use Rattle.md_array.specs.ReadingData.{HoldsData}
 use Rattle.md_array.specs.Requests.{AreInFlight}
-use Rattle.md_array.proofs.CopiedRun.{first_holds, first_may, long_left, others_hold, others_may}
+use Rattle.md_array.proofs.CopiedRun.{first_holds, first_may, others_hold, others_may}
 use Rattle.md_array.proofs.DataWritten.{part-spliced_within}
 use Rattle.md_array.proofs.OneWrite.{at_device, set_elsewhere}
 use Rattle.md_array.proofs.PartsApart.{parts_of}

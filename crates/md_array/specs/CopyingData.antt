@@ -1,6 +1,6 @@
 -- Sectors are copied from a member in sync to another, as a resync does (sync_request and sync_request_write of raid1.c in the
 -- kernel's md driver; the order of sources, and that marks are stored first, are this project's own).
-use Rattle.std.specs.Prelude.{◌≡◌, ◌≢◌, ℕ, zero, suc, ◌+◌, ◌*◌, ◌/◌, ◌<◌, ◌≤◌, true, false, List, [], ◌∷◌, length}
+use Rattle.std.specs.Prelude.{◌≡◌, ◌≢◌, ℕ, zero, suc, ◌+◌, ◌*◌, ◌/◌, ◌<◌, ◌≤◌, true, List, [], ◌∷◌, length}
 use Rattle.md_badblocks.specs.Runs.{IsBad}
 use Rattle.md_bitmap.specs.Marks.{is_set}
 use Rattle.md_device.specs.Device.{written}
@@ -9,6 +9,7 @@ use Rattle.md_writes.specs.Writes.{Write}
 use Rattle.md_array.specs.declared.copy_fault.CopyFault.{CopyFault}
 use Rattle.md_array.specs.declared.copy_fault.CopyFault.TheVariants.{Halted, MemberFailed}
 use Rattle.md_array.specs.DiskWrites.{AtDevice, IsTried, IsWritten}
+use Rattle.md_array.specs.MakingClean.{IsIdle}
 use Rattle.md_array.specs.Members.{AllInSync, IsInSync, IsMember, is_in_sync_as}
 use Rattle.md_array.specs.ReadingData.{HoldsData}
 use Rattle.md_array.specs.Rising.{Fails, Halts}
@@ -25,8 +26,7 @@ Lists m s = IsBad m.bad (m.superblock.data_offset + s)
 
 -- A chunk is copied while nothing is in flight, and once each member in sync has its mark stored.
 pub record MayCopyChunk (chunk : ℕ) (a : ArrayView) : Type 0 where
-  pub running : a.halted ≡ false
-  pub idle : a.requests.entries ≡ []
+  pub idle : IsIdle a
   pub marked : is_set a.marks.bytes chunk ≡ true
   pub stored : AllInSync a (λ m. is_set m.stored.bytes chunk ≡ true)
 

@@ -37,6 +37,7 @@ pub mod MarkingResynced
 pub mod InTurn
 pub mod CopyEvents
 pub mod WholeCalls
+pub mod ReadInTurn
 pub mod Lives
 pub mod Returning
 pub mod Left

@@ -1,10 +1,11 @@
 -- The array is known to be resynced, or no longer.
-use Rattle.std.specs.Prelude.{◌≡◌, ℕ, ◌+◌, ◌/◌, ◌<◌, Bool, true, false, List, [], slice_get, Some}
+use Rattle.std.specs.Prelude.{◌≡◌, ℕ, ◌+◌, ◌/◌, ◌<◌, Bool, true, List, slice_get, Some}
 use Rattle.md_bitmap.specs.Marks.{is_set}
 use Rattle.md_device.specs.Device.{held}
 use Rattle.md_array.specs.CopyingData.{Lists}
+use Rattle.md_array.specs.MakingClean.{IsIdle}
 use Rattle.md_array.specs.Members.{IsInSync}
-use Rattle.md_array.specs.View.{ArrayView, Disk, MemberView, MirrorView}
+use Rattle.md_array.specs.View.{Disk, MemberView, MirrorView}
 
 -- a sector of a member's data
 abbrev pub sector_of : MemberView → Disk → ℕ → List ℕ
@@ -26,11 +27,6 @@ AllAgreeAt v s =
 abbrev pub AllAgreeWhereMarked : MirrorView → Type 0
 AllAgreeWhereMarked v =
     (s : ℕ) → s < v.array.chunks.size → is_set v.array.marks.bytes (s / v.array.chunks.sectors) ≡ true → AllAgreeAt v s
-
--- the mirror runs, and nothing is in flight
-pub record IsIdle (a : ArrayView) : Type 0 where
-  pub running : a.halted ≡ false
-  pub none : a.requests.entries ≡ []
 
 -- it is kept that the array is resynced, or that it is not; nothing else changes
 pub record MarksResynced (is : Bool) (old new : MirrorView) : Type 0 where

@@ -3,7 +3,8 @@ ghost use Rattle.std.specs.Prelude.{◌≡◌, true, false};
 ghost use Rattle.md_model.specs.Events.{Event};
 ghost use Rattle.md_array.specs.Consistency.{IsConsistent};
 ghost use Rattle.md_array.specs.Events.{Happens};
-ghost use Rattle.md_array.specs.MarkingResynced.{AllAgreeWhereMarked, BecomesResynced, IsIdle, MarksResynced};
+ghost use Rattle.md_array.specs.MakingClean.{IsIdle};
+ghost use Rattle.md_array.specs.MarkingResynced.{AllAgreeWhereMarked, BecomesResynced, MarksResynced};
 ghost use Rattle.md_array.specs.Requests.{IsPending};
 ghost use Rattle.md_array.specs.View.{PendingView};
 

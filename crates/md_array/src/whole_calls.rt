@@ -1,6 +1,7 @@
 //! What holds of calls that are lists of events.
 
 ghost use Rattle.md_array.specs.CopyEvents.{StopsAtCopies};
+ghost use Rattle.md_array.specs.ReadInTurn.{ReadingCallsAreRuns};
 ghost use Rattle.md_array.specs.WholeCalls.{CallsAreRuns, RunsGoOn};
 
 /// A call that is a list of events (`Leads`) is a run of the mirror, from any moment of its life on, and
@@ -10,6 +11,12 @@ ghost use Rattle.md_array.specs.WholeCalls.{CallsAreRuns, RunsGoOn};
 pub fn every_call()
     ensures run { CallsAreRuns }
     ensures goes_on { RunsGoOn }
+{}
+
+/// So is a call that reads devices before its events and after the last (`LeadsReading`), and writes no
+/// superblock that fails.
+pub fn every_reading_call()
+    ensures { ReadingCallsAreRuns }
 {}
 
 /// Sectors are copied by one write of the device, but are an event each. What a stop leaves within that
