@@ -6,3 +6,4 @@ pub mod Steps
 pub mod StoredMembers
 pub mod StoredSectors
 pub mod StoredRecords
+pub mod Stopped

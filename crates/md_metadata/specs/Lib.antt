@@ -1,3 +1,4 @@
 pub mod Going
 pub mod Storing
 pub mod Clearing
+pub mod Stopping

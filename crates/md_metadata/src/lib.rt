@@ -9,9 +9,13 @@ mod clearing;
 mod fault;
 mod records;
 mod sectors;
+mod stop_fault;
+mod stopping;
 
 pub use all_marks::store_all_marks;
 pub use clearing::clear_marks;
 pub use fault::PartFault;
 pub use records::{store_other_records, store_record, store_records};
 pub use sectors::store_sector;
+pub use stop_fault::StopFault;
+pub use stopping::stop;

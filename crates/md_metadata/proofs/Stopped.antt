@@ -1,0 +1,226 @@
+-- A stop is put together.
+use Rattle.std.proofs.Common.{◌≡◌, ◌≢◌, ℕ, Bool, true, false, cond, not, ◌&&◌, ◌==◌, refl, sym, ap, ◌∙◌, subst, arith, inl, inr}
+use Rattle.std.specs.Prelude.{Result, Ok, Err, MatchResult}
+use Rattle.std.proofs.lemmas.Bool.Decides.{eqb_tells}
+use Rattle.md_model.specs.Events.{Event}
+use Rattle.md_bitmap.specs.Marks.{Bitmap, is_set}
+use Rattle.md_array.specs.declared.step_fault.CleanFault.{CleanFault}
+use Rattle.md_array.specs.declared.step_fault.CleanFault.TheVariants as clean
+use Rattle.md_array.specs.View.{ArrayView, MemberView, MirrorView, PendingView}
+use Rattle.md_array.specs.Consistency.{IsConsistent}
+use Rattle.md_array.specs.Events.{CleanHappens}
+use Rattle.md_array.specs.MakingClean.{CannotRise, IsIdle, MakesClean, RefusesClean, made_clean}
+use Rattle.md_array.specs.Members.{clean_offset, is_degraded, is_recorded}
+use Rattle.md_array.specs.Requests.{IsPending}
+use Rattle.md_array.specs.Rising.{HasSpentEvents, made_due}
+use Rattle.md_array.specs.WritingMember.{IsNotDue}
+use Rattle.md_metadata.specs.declared.fault.PartFault.{PartFault}
+use Rattle.md_metadata.specs.Clearing.{ClearsAll, IsClearing, MayClearAll}
+use Rattle.md_metadata.specs.Going.{HaltsAfter, LeadsBy, alone, recorded_count}
+use Rattle.md_metadata.specs.Storing.{IsStoring, HasAllMarks, LosesStoring, RecordsAll, StoresAll, StopsStoring}
+use Rattle.md_metadata.specs.Stopping.{CleansIfActive, ClearsIfFull, FailsStop, HaltsStop, HasAllMarksIf, IsCleared, IsSettled, IsStopping, MayStop, Stops, StoresSettled, clears_marks, makes_clean}
+use Rattle.md_metadata.proofs.Counts.{count_map}
+use Rattle.md_metadata.proofs.Going.{stops_on, stores_on}
+use Rattle.md_metadata.proofs.Leading.{goes_leads, leads_as, leads_nowhere, leads_once, leads_then}
+use Rattle.md_metadata.proofs.StoredMembers.{IsLasting, last_on}
+use Rattle.md_metadata.proofs.StoredSectors.{all_marks_last}
+
+-- ---- what is looked at first
+both_true : (a b : Bool) → (a && b) ≡ true → (a ≡ true) × (b ≡ true)
+both_true true b e = (refl, e)
+both_true false b e = absurd cc
+
+not_same : (x y : ℕ) → not (x == y) ≡ true → x ≢ y
+not_same x y e same = elim (eqb_tells x y) [ inl alike ↦ let t = alike.0 in absurd cc | inr apart ↦ apart.1 same ]
+
+flipped : (b : Bool) → not b ≡ true → b ≡ false
+flipped true e = absurd cc
+flipped false e = refl
+
+pub cannot_rise : (a : ArrayView) → IsIdle a → makes_clean a ≡ true → HasSpentEvents a → CannotRise a
+cannot_rise a idle makes spent =
+    let both = both_true a.resynced _ makes in
+    record { idle = idle; resynced = both.0; active = not_same a.shared.resync_offset clean_offset both.1; spent = spent }
+
+-- ---- in memory
+clearing_stops : (e : Event) → IsClearing e → IsStopping e
+clearing_stops (Event.ClearIdle c) is = tt
+clearing_stops e is = absurd is
+
+pub may_clear : (a : ArrayView) → IsIdle a → clears_marks a ≡ true → MayClearAll a
+may_clear a idle clears =
+    let both = both_true a.resynced _ clears in
+    record { idle = idle; resynced = both.0; full = flipped (is_degraded a) both.1 }
+
+module _ (old new : MirrorView) where
+  pub cleared_all : clears_marks old.array ≡ true → ClearsAll old new → ClearsIfFull old new
+  cleared_all clears c = record {
+    goes = leads_as IsClearing IsStopping clearing_stops old new c.remarks.goes;
+    disks = c.remarks.disks;
+    marks = record { chunks = c.remarks.chunks; bits = λ x. c.none x ∙ sym (ap (λ b. not b && is_set old.array.marks.bytes x) clears) };
+    array = c.remarks.array;
+  }
+
+pub cleared_none : (m : MirrorView) → IsConsistent m → clears_marks m.array ≡ false → ClearsIfFull m m
+cleared_none m sound keeps = record {
+  goes = leads_nowhere IsStopping m sound;
+  disks = refl;
+  marks = record { chunks = refl; bits = λ x. sym (ap (λ b. not b && is_set m.array.marks.bytes x) keeps) };
+  array = refl;
+}
+
+module _ (old new : MirrorView) (idle : IsIdle old.array) (makes : makes_clean old.array ≡ true) (unspent : HasSpentEvents old.array → ⊥) where
+  resynced : old.array.resynced ≡ true
+  resynced = (both_true old.array.resynced _ makes).0
+
+  active : old.array.shared.resync_offset ≢ clean_offset
+  active = not_same old.array.shared.resync_offset clean_offset (both_true old.array.resynced _ makes).1
+
+  clean_refused : {P : Type 0} (fault : CleanFault) → RefusesClean old new fault → P
+  clean_refused clean.Halted r = absurd (let yes = r.reason in let out = idle.running in cc)
+  clean_refused (clean.InFlight n) r = absurd (let yes = r.reason.first in let out = idle.none in cc)
+  clean_refused clean.NotResynced r = absurd (let yes = r.reason.not_yet in let out = resynced in cc)
+  clean_refused clean.AlreadyClean r = absurd (active r.reason.clean)
+  clean_refused clean.EventsFull r = absurd (unspent r.reason.spent)
+
+  pub clean_made : {T : Type 0} (result : Result T CleanFault) → MatchResult result (λ _. MakesClean old new) (RefusesClean old new)
+      → CleanHappens old new result → IsConsistent new → ((o : PendingView) → IsPending old.array o → IsPending new.array o) → CleansIfActive old new
+  clean_made (Ok t) c happens sound pending = record {
+    goes = leads_once IsStopping Event.MakeClean old new tt (λ previous. tt) (λ others. (refl, c)) (λ honest whole others in_flight. happens honest others in_flight)
+        (ap (λ (x : ArrayView). x.requests) c.array) sound pending;
+    disks = c.disks;
+    array = c.array ∙ sym (ap (λ b. cond b (made_clean old.array) old.array) makes);
+  }
+  clean_made (Err fault) r happens sound pending = clean_refused fault r
+
+pub clean_already : (m : MirrorView) → IsConsistent m → makes_clean m.array ≡ false → CleansIfActive m m
+clean_already m sound keeps = record {
+  goes = leads_nowhere IsStopping m sound;
+  disks = refl;
+  array = sym (ap (λ b. cond b (made_clean m.array) m.array) keeps);
+}
+
+-- both together
+module _ (a : ArrayView) (marks : Bitmap) where
+  abbrev marked : ArrayView
+  marked = record a { marks = marks }
+
+  clean_then : (b : Bool) → cond b (made_clean marked) marked ≡ record (cond b (made_clean a) a) { marks = marks }
+  clean_then true = refl
+  clean_then false = refl
+
+  same_marks : (b : Bool) → (cond b (made_clean marked) marked).marks ≡ marks
+  same_marks true = refl
+  same_marks false = refl
+
+  same_requests : (b : Bool) → (cond b (made_clean marked) marked).requests ≡ a.requests
+  same_requests true = refl
+  same_requests false = refl
+
+  same_halted : (b : Bool) → (cond b (made_clean marked) marked).halted ≡ a.halted
+  same_halted true = refl
+  same_halted false = refl
+
+  same_resynced : (b : Bool) → (cond b (made_clean marked) marked).resynced ≡ a.resynced
+  same_resynced true = refl
+  same_resynced false = refl
+
+  same_count : (b : Bool) → recorded_count (cond b (made_clean marked) marked) ≡ recorded_count a
+  same_count true = count_map (λ (m : MemberView). is_recorded m.state) made_due (λ x. refl) a.members
+  same_count false = refl
+
+storing_stops : (e : Event) → IsStoring e → IsStopping e
+storing_stops (Event.Record k) is = tt
+storing_stops (Event.StoreMarks k b) is = tt
+storing_stops (Event.RecordFails k) is = tt
+storing_stops (Event.StoreMarksFails k b) is = tt
+storing_stops e is = absurd is
+
+module _ (old b c : MirrorView) (x : ClearsIfFull old b) (y : CleansIfActive b c) where
+  abbrev up : ArrayView
+  up = record old.array { marks = b.array.marks }
+
+  -- the array that comes of it
+  is_settled : c.array ≡ cond (makes_clean old.array) (made_clean up) up
+  is_settled = y.array ∙ ap (λ (z : ArrayView). cond (makes_clean z) (made_clean z) z) x.array
+
+  of_settled : {X : Type 0} (of : ArrayView → X) (v : X) → of (cond (makes_clean old.array) (made_clean up) up) ≡ v → of c.array ≡ v
+  of_settled of v e = ap of is_settled ∙ e
+
+  marks_settled : c.array.marks ≡ b.array.marks
+  marks_settled = of_settled (λ (z : ArrayView). z.marks) b.array.marks (same_marks old.array b.array.marks (makes_clean old.array))
+
+  pub marks_cleared : (d : ArrayView) → d.marks ≡ c.array.marks → IsCleared old.array d
+  marks_cleared d same = record {
+    chunks = ap (λ (m : Bitmap). m.chunks) (same ∙ marks_settled) ∙ x.marks.chunks;
+    bits = λ i. ap (λ (m : Bitmap). is_set m.bytes i) (same ∙ marks_settled) ∙ x.marks.bits i;
+  }
+
+  pub settles : IsSettled old.array c.array
+  settles = record {
+    marks = marks_cleared c.array refl;
+    array = is_settled ∙ clean_then old.array b.array.marks (makes_clean old.array)
+        ∙ ap (λ (m : Bitmap). record (cond (makes_clean old.array) (made_clean old.array) old.array) { marks = m }) (sym marks_settled);
+  }
+
+  pub settled_halted : c.array.halted ≡ old.array.halted
+  settled_halted = of_settled (λ (z : ArrayView). z.halted) old.array.halted (same_halted old.array b.array.marks (makes_clean old.array))
+
+  settled_resynced : c.array.resynced ≡ old.array.resynced
+  settled_resynced = of_settled (λ (z : ArrayView). z.resynced) old.array.resynced (same_resynced old.array b.array.marks (makes_clean old.array))
+
+  settled_count : recorded_count c.array ≡ recorded_count old.array
+  settled_count = of_settled recorded_count (recorded_count old.array) (same_count old.array b.array.marks (makes_clean old.array))
+
+  settled_goes : LeadsBy IsStopping old c
+  settled_goes = leads_then IsStopping old b c x.goes y.goes
+
+  module _ (may : MayStop old.array) (d : MirrorView) where
+    pub stops : StoresSettled (clears_marks old.array) c d → Stops old d
+    stops s = record {
+      may = may;
+      goes = leads_then IsStopping old c d settled_goes (leads_as IsStoring IsStopping storing_stops c d (goes_leads IsStoring c d s.stores.goes));
+      settled = c.array;
+      settles = settles;
+      stored = s.stores.ready;
+      marks = λ clears i m in_sync. subst (λ (z : Bitmap). HasAllMarks z m) (sym s.stores.goes.array.marks) (s.marks clears i m in_sync);
+      recorded = s.recorded;
+    }
+
+    pub stop_fails : (k : ℕ) → LosesStoring k c d → FailsStop k old d
+    stop_fails k l = record {
+      may = may;
+      goes = leads_then IsStopping old c d settled_goes (leads_as IsStoring IsStopping storing_stops c d (goes_leads IsStoring c d l.loses.goes));
+      faulty = l.faulty;
+      lost = let less = l.loses.lost in let count = settled_count in omega arith;
+      running = l.loses.halted ∙ settled_halted ∙ may.idle.running;
+      marks = marks_cleared d.array l.loses.goes.array.marks;
+      resynced = l.loses.goes.array.resynced ∙ settled_resynced;
+    }
+
+    pub stop_halts : HaltsAfter alone alone IsStoring c d → HaltsStop old d
+    stop_halts h = record {
+      may = may;
+      mid = h.mid;
+      goes = leads_then IsStopping old c h.mid settled_goes (leads_as IsStoring IsStopping storing_stops c h.mid (goes_leads IsStoring c h.mid h.goes));
+      failing = h.failing;
+      of = storing_stops h.failing h.of;
+      halts = h.halts;
+    }
+
+-- ---- what is stored
+pub marks_if_last : (clears : Bool) (marks : Bitmap) → IsLasting marks (HasAllMarksIf clears marks)
+marks_if_last clears marks = record { lasts = λ a b k n same s has is. (all_marks_last marks).lasts a b k n same s (has is) }
+
+pub settled_stored : (clears : Bool) (a b c d : MirrorView) → StoresAll (HasAllMarksIf clears a.array.marks) a b → StoresAll IsNotDue b c → RecordsAll c d → StoresSettled clears a d
+settled_stored clears a b c d x y others = record {
+  stores = stores_on a c d (stores_on a b c x.stores y.stores) others.stores;
+  marks = λ is i m in_sync.
+      last_on (HasAllMarksIf clears a.array.marks) a b d (marks_if_last clears a.array.marks) x.stores.goes.array.marks x.done (stores_on b c d y.stores others.stores) i m in_sync is;
+  recorded = others.done;
+}
+
+pub settled_or_stops : (clears : Bool) (a b c d : MirrorView) → StoresAll (HasAllMarksIf clears a.array.marks) a b → StoresAll IsNotDue b c
+    → {T : Type 0} (result : Result T PartFault) → MatchResult result (λ _. RecordsAll c d) (StopsStoring c d) → MatchResult result (λ _. StoresSettled clears a d) (StopsStoring a d)
+settled_or_stops clears a b c d x y (Ok t) others = settled_stored clears a b c d x y others
+settled_or_stops clears a b c d x y (Err fault) s = stops_on a c d fault (stores_on a b c x.stores y.stores) s

@@ -1,0 +1,31 @@
+use Rattle.std.proofs.Common.{Bool, subst, inr}
+use Rattle.md_metadata.specs.Storing.{StopsStoring}
+use Rattle.md_metadata.specs.Stopping.{StoresSettled}
+use Rattle.md_metadata.proofs.Stopped.{stop_fails, stop_halts, stops}
+use Rattle.md_metadata.proofs.stopping.stop.Goals as goal
+
+pub returns-in-Ok-clause-gives : goal.returns-in-Ok-clause-gives
+returns-in-Ok-clause-gives g c =
+    let old = c.args.mirror.now in
+    let b = c.clear_if_full.new.mirror in
+    let d = c.clean_if_active.new.mirror in
+    let e = c.store_settled.new.mirror in
+    stops old b d c.clear_if_full.ensures c.clean_if_active.ensures c.in_default.ensures e (subst (λ (x : Bool). StoresSettled x d e) c.clears_marks-clears.ensures c.in-Ok.ensures)
+
+pub returns-in-Err-Halted-clause-gives : goal.returns-in-Err-Halted-clause-gives
+returns-in-Err-Halted-clause-gives g c =
+    let old = c.args.mirror.now in
+    let b = c.clear_if_full.new.mirror in
+    let d = c.clean_if_active.new.mirror in
+    let e = c.store_settled.new.mirror in
+    let at = c.in-Err-Halted in
+    inr (stop_halts old b d c.clear_if_full.ensures c.clean_if_active.ensures c.in_default.ensures e (subst (StopsStoring d e) at.field-0-is at.ensures))
+
+pub returns-in-Err-MemberFailed-clause-gives : goal.returns-in-Err-MemberFailed-clause-gives
+returns-in-Err-MemberFailed-clause-gives g c =
+    let old = c.args.mirror.now in
+    let b = c.clear_if_full.new.mirror in
+    let d = c.clean_if_active.new.mirror in
+    let e = c.store_settled.new.mirror in
+    let at = c.in-Err-MemberFailed in
+    stop_fails old b d c.clear_if_full.ensures c.clean_if_active.ensures c.in_default.ensures e at.k (subst (StopsStoring d e) at.field-0-is at.ensures)
