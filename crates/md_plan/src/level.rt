@@ -74,7 +74,22 @@ fn light(loads: &[u32], bound: u32) -> u32
     sources
 }
 
-// Moves chunks along a route, from its end to its root, as many as the end has room for.
+// What the source at which a route begins holds above the bound.
+fn excess_at_root(shelves: &[Shelf], loads: &[u32], route: &Route, bound: u32) -> u32
+    requires shelves { length shelves.now ≡ 32 }
+    requires loads { length loads.now ≡ 32 }
+    requires found { route.now.found ≢ 0 }
+{
+    let mut root = route.found.trailing_zeros();
+    'steps: for step in (0..32usize).rev() {
+        if let Some(from) = step_back(shelves, route.layers[step], root) {
+            root = from;
+        }
+    }
+    loads[root as usize].saturating_sub(bound)
+}
+
+// Moves chunks along a route, from its end to its root: as many as the end has room for and the root is to lose.
 fn carry(
     cells: &mut Vec<Cell>,
     shelves: &mut Vec<Shelf>,
@@ -90,14 +105,11 @@ fn carry(
     ensures shelves { length shelves.new.items ≡ 32 }
 {
     let mut to = route.found.trailing_zeros();
-    let mut most = bound.saturating_sub(loads[to as usize]);
+    let room = bound.saturating_sub(loads[to as usize]);
+    let mut most = room.min(excess_at_root(shelves, loads, route, bound));
     'steps: for step in (0..32usize).rev() {
         if most > 0 {
             if let Some(from) = step_back(shelves, route.layers[step], to) {
-                let excess = loads[from as usize].saturating_sub(bound);
-                if excess > 0 {
-                    most = most.min(excess);
-                }
                 most = hand_on(cells, shelves, from, to, most)?;
                 loads[from as usize] = loads[from as usize].saturating_sub(most);
                 loads[to as usize] = loads[to as usize].saturating_add(most);
