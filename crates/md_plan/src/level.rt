@@ -48,7 +48,7 @@ pub(crate) fn level(alloc: Global, cells: &mut Vec<Cell>) -> Result<(), NoMemory
 }
 
 // What each of some sources holds on average, rounded up.
-fn mean_load(loads: &[u32], sources: u32) -> u32
+pub(crate) fn mean_load(loads: &[u32], sources: u32) -> u32
     requires { length loads.now ≡ 32 }
 {
     let mut sum = 0u64;
