@@ -1,6 +1,6 @@
 //! Times the planner and the checker on made tables, for bench/plan. The arguments are a number of
-//! chunks, how often each table is planned, and perhaps the name of one table, whose masks are then
-//! printed in place of being planned. What was planned goes to standard output, the least times to
+//! chunks, how often each table is planned, and perhaps the name of one table, which is then the only
+//! one; planned no time, its masks are printed. What was planned goes to standard output, the least times to
 //! standard error.
 #![tactic(auto)]
 
@@ -34,7 +34,11 @@ fn main(rt: HostRuntime) -> anyhow::Result<()> {
     if let Some(word) = env::args(&rt)?.nth(3) {
         for (name, shape) in NAMED {
             if word.as_str() == name {
-                print_masks(&rt, shape, chunks)?;
+                if passes == 0 {
+                    print_masks(&rt, shape, chunks)?;
+                } else {
+                    time(&rt, name, shape, chunks, passes)?;
+                }
             }
         }
         return Ok(());

@@ -41,3 +41,8 @@ pub record IsPlaced (old new : List Cell) : Type 0 where
   pub counts : (q : ℕ → Bool) → count_with q new ≡ count_with q old
   pub allowed : AreAllowed new
   pub long : length new ≡ length old
+
+-- chunks of classes may have changed sources, and cells may have been parted
+pub record IsLevelled (old new : List Cell) : Type 0 where
+  pub counts : (q : ℕ → Bool) → count_with q new ≡ count_with q old
+  pub allowed : AreAllowed new

@@ -17,7 +17,9 @@ mod place;
 mod planner;
 mod pull;
 mod reach;
+mod route;
 mod search;
+mod shelf;
 mod shift;
 
 pub use planner::{Planned, plan};

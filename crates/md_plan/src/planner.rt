@@ -53,7 +53,7 @@ fn plan_rows(alloc: Global, rows: &[Row]) -> Result<Planned, NoMemory>
     } = group(alloc, rows)?;
     let classes = cells.len();
     choose_sources(alloc, &mut cells)?;
-    level(&mut cells);
+    level(alloc, &mut cells)?;
     let mut loads = add_loads(&cells);
     let bound = balance(&mut cells, &mut loads)?;
     let Given { slots, orphans } = give_out(alloc, rows, &class_of, &mut cells, classes)?;

@@ -7,7 +7,7 @@ use crate::cell::Cell;
 use md_cert::{NoMemory, has_source};
 
 // Moves up to so many chunks of a cell to another source.
-fn move_part(
+pub(crate) fn move_part(
     cells: &mut Vec<Cell>,
     at: usize,
     from: u32,

@@ -1,5 +1,10 @@
-use Rattle.md_plan.specs.Classes.{IsPlaced}
+use Rattle.std.proofs.Common.{◌≡◌, length}
+use Rattle.md_plan.specs.Classes.{IsLevelled}
 use Rattle.md_plan.proofs.level.level.Given as goal
 
-abbrev pub invariant-passes : goal.invariant-passes
-invariant-passes l = IsPlaced l.fn.cells.items l.cells.items
+abbrev pub invariant-paths : goal.invariant-paths
+invariant-paths l = record {
+  levelled : IsLevelled l.fn.cells.items l.cells.items;
+  shelves : length l.shelves.items ≡ 32;
+  loads : length l.loads ≡ 32;
+}
