@@ -1,0 +1,17 @@
+//! Tests of what stands below the commands: superblocks, new members, assembly, opened mirrors, rebuilds.
+#![tactic(auto)]
+
+#[cfg(test)]
+mod assembly;
+#[cfg(test)]
+mod collector_reports;
+#[cfg(test)]
+mod mirrors;
+#[cfg(test)]
+mod new_members;
+#[cfg(test)]
+mod plans;
+#[cfg(test)]
+mod rebuild_tables;
+#[cfg(test)]
+mod superblocks;

@@ -1,0 +1,222 @@
+// All steps of a write in all orders, a few steps deep, from several points of a write on.
+ghost use Rattle.std.specs.Prelude.{◌≡◌, ◌%◌, length};
+
+use crate::expected_steps::Expected;
+use crate::run::Run;
+use crate::steps::Step;
+use example_members::{bitmap, put, sealed, vault, zeros};
+use md_array::Mirror;
+use md_device::{Device, FaultDevice, MemDevice};
+use std::alloc::Global;
+use std::process::Abort;
+use std::test::Fail;
+
+const SECTOR: [u8; 512] = [0xa5; 512];
+
+// The small device: its data area starts here, and it has no log.
+const DATA: u64 = 24;
+
+const SECTORS: u64 = 88;
+
+const STEPS: [Step; 10] = [
+    Step::Begin(8),
+    Step::Begin(9),
+    Step::Record(0),
+    Step::Record(1),
+    Step::StoreMarks(0),
+    Step::StoreMarks(1),
+    Step::WriteMember(0),
+    Step::WriteMember(1),
+    Step::Finish,
+    Step::ClearIdle,
+];
+
+// The points from which the orders go on: the opening, one at which data may be written, and one at
+// which they are written on both members.
+const OPENED: [Step; 0] = [];
+
+const READY: [Step; 5] = [
+    Step::Begin(8),
+    Step::StoreMarks(0),
+    Step::StoreMarks(1),
+    Step::Record(0),
+    Step::Record(1),
+];
+
+const WRITTEN: [Step; 7] = [
+    Step::Begin(8),
+    Step::StoreMarks(0),
+    Step::StoreMarks(1),
+    Step::Record(0),
+    Step::Record(1),
+    Step::WriteMember(0),
+    Step::WriteMember(1),
+];
+
+const NEVER: u64 = u64::MAX;
+
+// How many writes a device takes before all of them fail.
+const LIMITS: [u64; 5] = [0, 1, 2, 3, NEVER];
+
+// A member of the vault's array on a small device, with no marks.
+fn small_member(alloc: Global, number: u32) -> Result<MemDevice, Fail> {
+    let mut superblock = vault();
+    put(&mut superblock, 128, &DATA.to_le_bytes());
+    put(&mut superblock, 160, &number.to_le_bytes());
+    put(&mut superblock, 186, &[0; 6]);
+    let mut marks = bitmap();
+    put(&mut marks, 256, &[0]);
+    let mut device = zeros(alloc, SECTORS)?;
+    device.write(8, &sealed(superblock, 2))?;
+    device.write(16, &marks)?;
+    Ok(device)
+}
+
+fn copied(alloc: Global, device: &MemDevice) -> Result<MemDevice, Fail> {
+    let bytes = device.bytes().to_vec(alloc)?;
+    if bytes.len() % 512 != 0 {
+        return Err(Fail::new("a part of a sector"));
+    }
+    Ok(MemDevice::from_bytes(bytes))
+}
+
+// A mirror on copies of these images, whose devices take so many writes.
+fn open_copies<'a>(alloc: Global, images: &[MemDevice], writes: [u64; 2]) -> Result<Run<'a>, Fail> {
+    let mut devices = Vec::new(alloc);
+    for (image, writes) in images.iter().zip(writes) {
+        let first = writes.saturating_add(1);
+        let device = FaultDevice::new(copied(alloc, image)?, Vec::new(alloc), first, NEVER, false);
+        devices.push(device)?;
+    }
+    Run::open(alloc, devices)
+}
+
+// Whether the mirror shows what it has to.
+fn is_as_expected<D: Device + Drop>(mirror: &Mirror<D>, expected: &Expected) -> bool {
+    let marked = if expected.marked { 1 } else { 0 };
+    let clean = mirror.shared().resync_offset == u64::MAX;
+    mirror.members() == expected.count
+        && mirror.events() == expected.events
+        && mirror.halted() == expected.halted
+        && mirror.degraded() == expected.is_degraded()
+        && mirror.in_flight() == expected.first_in_flight()
+        && mirror.marks().count() == marked
+        && clean == expected.clean
+        && are_members_as_expected(mirror, expected)
+}
+
+fn are_members_as_expected<D: Device + Drop>(mirror: &Mirror<D>, expected: &Expected) -> bool {
+    for (k, member) in expected.members.iter().enumerate() {
+        if k < mirror.members()
+            && (mirror.state(k).is_in_sync() != member.in_sync || mirror.due(k) != member.due)
+        {
+            return false;
+        }
+    }
+    true
+}
+
+// Whether a device has the bytes of `SECTOR` at sectors 8 and 9 of the array where it has to.
+fn has_data(device: &MemDevice, has: [bool; 2]) -> bool {
+    let bytes = device.bytes();
+    for (start, has) in [(512 * (DATA + 8), has[0]), (512 * (DATA + 9), has[1])] {
+        let want = if has { 0xa5 } else { 0 };
+        if bytes.get(start as usize) != Some(&want) {
+            return false;
+        }
+    }
+    true
+}
+
+// Order `n`: its steps are the digits of the number, the last one first.
+fn steps_of(n: u32) -> [Step; 4] {
+    let at = |divisor: u32| STEPS[(n / divisor % 10) as usize];
+    [at(1), at(10), at(100), at(1000)]
+}
+
+// Makes the steps on the mirror, and compares each answer and what the mirror shows then.
+fn follow<'a>(
+    rt: &impl Abort,
+    run: &mut Run<'a>,
+    expected: &mut Expected,
+    steps: &[Step],
+    bytes: &'a [u8],
+)
+    requires { length bytes.now % 512 ≡ 0 }
+{
+    for step in steps {
+        let answer = run.make(*step, bytes);
+        let wanted = expected.answer(*step);
+        assert_eq!(rt; answer, wanted, "at {step:?} of {steps:?}");
+        let shown = is_as_expected(run.mirror(), expected);
+        assert!(rt; shown, "after {step:?} of {steps:?}");
+    }
+}
+
+fn play(
+    rt: &impl Abort,
+    alloc: Global,
+    images: &[MemDevice],
+    writes: [u64; 2],
+    start: &[Step],
+    steps: &[Step],
+) -> Result<(), Fail> {
+    let mut run = open_copies(alloc, images, writes)?;
+    let mut expected = Expected::opened(images.len(), 10, writes);
+    follow(rt, &mut run, &mut expected, start, &SECTOR);
+    follow(rt, &mut run, &mut expected, steps, &SECTOR);
+    for (device, member) in run.into_devices().into_iter().zip(expected.members) {
+        let written = has_data(&device.into_inner(), member.has);
+        assert!(rt; written, "after {steps:?}");
+    }
+    Ok(())
+}
+
+fn small_members(alloc: Global, numbers: &[u32]) -> Result<Vec<MemDevice>, Fail> {
+    let mut images = Vec::new(alloc);
+    for number in numbers {
+        images.push(small_member(alloc, *number)?)?;
+    }
+    Ok(images)
+}
+
+#[test]
+fn every_order(rt: HostRuntime) -> Result<(), Fail> {
+    let alloc = rt.alloc();
+    let images = small_members(alloc, &[0, 1])?;
+    for n in 0..10_000 {
+        for start in [OPENED.as_slice(), READY.as_slice(), WRITTEN.as_slice()] {
+            play(&rt, alloc, &images, [NEVER; 2], start, &steps_of(n))?;
+        }
+    }
+    Ok(())
+}
+
+#[test]
+fn every_order_of_one_member(rt: HostRuntime) -> Result<(), Fail> {
+    let alloc = rt.alloc();
+    let images = small_members(alloc, &[1])?;
+    for n in 0..10_000 {
+        for start in [OPENED.as_slice(), READY.as_slice()] {
+            play(&rt, alloc, &images, [NEVER; 2], start, &steps_of(n))?;
+        }
+    }
+    Ok(())
+}
+
+#[test]
+fn every_order_with_failing_writes(rt: HostRuntime) -> Result<(), Fail> {
+    let alloc = rt.alloc();
+    let images = small_members(alloc, &[0, 1])?;
+    for n in 0..1_000 {
+        let [a, b, c, _] = steps_of(n);
+        for first in LIMITS {
+            for second in LIMITS {
+                for start in [OPENED.as_slice(), READY.as_slice(), WRITTEN.as_slice()] {
+                    play(&rt, alloc, &images, [first, second], start, &[a, b, c])?;
+                }
+            }
+        }
+    }
+    Ok(())
+}
