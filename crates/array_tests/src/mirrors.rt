@@ -2,10 +2,11 @@
 ghost use Rattle.std.specs.Prelude.{◌≡◌, ◌*◌, IfOk, length};
 
 use example_members::{bitmap, member_image, open, put, sealed, vault};
-use md_array::{Mirror, OpenFault, small_life};
+use md_array::{Mirror, OpenFault};
 use md_assembly::MemberState;
 use md_bitmap::Marks;
 use md_device::{Device, FaultDevice, MemDevice};
+use md_laws::small_life;
 use md_members::read_member;
 use std::alloc::Global;
 use std::test::Fail;

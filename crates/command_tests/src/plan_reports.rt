@@ -1,6 +1,7 @@
 // The report of a plan.
 use md_cert::{Certificate, ChunkList, Plan, Slot, Slots};
-use md_examine::{Output, plan_report};
+use md_examine::Output;
+use md_report::plan_report;
 use std::alloc::{AllocError, Global};
 use std::test::Fail;
 

@@ -1,36 +1,16 @@
 -- What holds of a mirror between its calls: opening gives it, and each call keeps it.
-use Rattle.std.specs.Prelude.{◌≡◌, ℕ, ◌<◌, ◌≤◌, ◌/◌, true, false, List, length, slice_get, Some, ◌↔◌}
-use Rattle.std.specs.Int.{div_ceil, w32, cast_signed}
+use Rattle.std.specs.Prelude.{◌≡◌, ℕ, true, false, List, slice_get, Some, ◌↔◌}
+use Rattle.std.specs.Int.{w32, cast_signed}
 use Rattle.md_format.specs.Fields.{number_at}
 use Rattle.md_model.specs.Devices.{Super}
-use Rattle.md_bitmap.specs.Marks.{is_set}
-use Rattle.md_assembly.specs.States.{is_in_sync, takes_role, role_in, has_recovery_offset}
-use Rattle.md_array.specs.View.{Disk, MemberView, ArrayView, MirrorView}
-use Rattle.md_array.specs.Members.{IsMember, IsInSync}
+use Rattle.md_assembly.specs.States.{is_in_sync, has_recovery_offset}
+use Rattle.md_state.specs.View.{Disk, MemberView, MirrorView}
+use Rattle.md_state.specs.Members.{IsMember}
+use Rattle.md_state.specs.Requests.{AreInside}
 use Rattle.md_array.specs.Fits.{Fits}
-use Rattle.md_array.specs.Requests.{AreInside}
 use Rattle.md_array.specs.Worlds.{super_in, block_on, is_listed, is_listed_next}
 use Rattle.md_badblocks.specs.Runs.{IsBad}
-
--- Members have numbers of their own. One that is in sync or recovering has the role that the array's superblock gives its
--- number, and no other has it.
-pub record HasRoles (a : ArrayView) : Type 0 where
-  pub few : length a.members ≤ 64
-  pub numbers : (j k : ℕ) (m n : MemberView) → IsMember a j m → IsMember a k n → m.superblock.dev_number ≡ n.superblock.dev_number → j ≡ k
-  pub shared : (k role : ℕ) (m : MemberView) → IsMember a k m → takes_role role m.state ≡ true → role_in a.shared m.superblock.dev_number ≡ role
-  pub below : (k role : ℕ) (m : MemberView) → IsMember a k m → takes_role role m.state ≡ true → role < a.shared.raid_disks
-  pub one_each : (j k role : ℕ) (m n : MemberView) → IsMember a j m → IsMember a k n → takes_role role m.state ≡ true → takes_role role n.state ≡ true → j ≡ k
-  pub serving : a.halted ≡ false → (k : ℕ) × (m : MemberView) × IsInSync a k m
-
--- Marks, in memory and stored, are of the array's chunks. In memory no bit past the last one is set.
-pub record HasChunks (a : ArrayView) : Type 0 where
-  pub size : a.chunks.size ≡ a.shared.size
-  pub count : a.marks.chunks ≡ div_ceil a.chunks.size a.chunks.sectors
-  pub wide : 0 < a.chunks.sectors
-  pub none_past : (c : ℕ) → a.marks.chunks ≤ c → is_set a.marks.bytes c ≡ false
-  pub member_size : (k : ℕ) (m : MemberView) → IsMember a k m → m.superblock.size ≡ a.shared.size
-  pub member_width : (k : ℕ) (m : MemberView) → IsMember a k m → m.header.chunksize / 512 ≡ a.chunks.sectors
-  pub member_count : (k : ℕ) (m : MemberView) → IsMember a k m → m.stored.chunks ≡ a.marks.chunks
+use Rattle.md_state.specs.InMemory.{HasChunks, HasRoles}
 
 -- these 4096 bytes of a superblock place the member's parts where its own fields do
 pub record HasPlaces (m : MemberView) (block : List ℕ) : Type 0 where

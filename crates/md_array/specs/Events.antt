@@ -5,19 +5,19 @@ use Rattle.md_model.specs.Worlds.{Request}
 use Rattle.md_model.specs.Content.{Content, Becomes, HoldsBetween, HoldsInFlight}
 use Rattle.md_model.specs.Events.{Event, Step}
 use Rattle.md_model.specs.Runs.{failed_after}
-use Rattle.md_array.specs.declared.step_fault.StoreFault.{StoreFault}
-use Rattle.md_array.specs.declared.step_fault.StoreFault.TheVariants.{MemberFailed}
-use Rattle.md_array.specs.declared.step_fault.WriteMemberFault.{WriteMemberFault}
-use Rattle.md_array.specs.declared.step_fault.WriteMemberFault.TheVariants as write_fault
-use Rattle.md_array.specs.View.{Disk, MemberView, MirrorView, PendingView}
-use Rattle.md_array.specs.Members.{IsMember}
+use Rattle.md_state.specs.declared.step_fault.StoreFault.{StoreFault}
+use Rattle.md_state.specs.declared.step_fault.StoreFault.TheVariants.{MemberFailed}
+use Rattle.md_state.specs.declared.step_fault.WriteMemberFault.{WriteMemberFault}
+use Rattle.md_state.specs.declared.step_fault.WriteMemberFault.TheVariants as write_fault
+use Rattle.md_state.specs.View.{Disk, MemberView, MirrorView, PendingView}
+use Rattle.md_state.specs.Members.{IsMember}
 use Rattle.md_array.specs.Consistency.{IsConsistent}
 use Rattle.md_writes.specs.Writes.{Write}
-use Rattle.md_array.specs.CopyingData.{IsDone}
-use Rattle.md_array.specs.DiskWrites.{AtDevice, IsFailed, IsWritten}
+use Rattle.md_state.specs.CopyingData.{IsDone}
+use Rattle.md_state.specs.DiskWrites.{AtDevice, IsFailed, IsWritten}
+use Rattle.md_state.specs.Requests.{AreInFlight, among, request_of}
 use Rattle.md_array.specs.ReadAsKept.{AreReadAsKept}
 use Rattle.md_array.specs.Recording.{super_write}
-use Rattle.md_array.specs.Requests.{AreInFlight, among, request_of}
 use Rattle.md_array.specs.Worlds.{AreHonest, world_of, geometry_of, super_in, block_on}
 
 -- The devices before and after an event: one is written at most, and once. The sectors of one write of a resync are an event each.

@@ -4,18 +4,18 @@ use Rattle.md_model.specs.Sectors.{block_of}
 use Rattle.md_model.specs.Worlds.{Request}
 use Rattle.md_model.specs.Events.{Event}
 use Rattle.md_bitmap.specs.Marks.{is_set}
-use Rattle.md_array.specs.View.{ArrayView, MemberView, MirrorView, PendingView}
-use Rattle.md_array.specs.Members.{IsInSync, IsMember}
-use Rattle.md_array.specs.DiskWrites.{AtDevice}
-use Rattle.md_array.specs.Beginning.{Begins}
-use Rattle.md_array.specs.ClearingMarks.{Clears}
-use Rattle.md_array.specs.Finishing.{Finishes}
-use Rattle.md_array.specs.MakingClean.{MakesClean}
-use Rattle.md_array.specs.StoringMarks.{FailsToStoreMarks, HaltsStoringMarks, StoresMarkSector}
-use Rattle.md_array.specs.WritingMember.{FailsToWrite, HaltsWritingTo, IsNotDue, WritesTo}
+use Rattle.md_state.specs.View.{ArrayView, MemberView, MirrorView, PendingView}
+use Rattle.md_state.specs.Members.{IsInSync, IsMember}
+use Rattle.md_state.specs.DiskWrites.{AtDevice}
+use Rattle.md_state.specs.Beginning.{Begins}
+use Rattle.md_state.specs.ClearingMarks.{Clears}
+use Rattle.md_state.specs.Finishing.{Finishes}
+use Rattle.md_state.specs.MakingClean.{MakesClean}
+use Rattle.md_state.specs.StoringMarks.{FailsToStoreMarks, HaltsStoringMarks, StoresMarkSector}
+use Rattle.md_state.specs.WritingMember.{FailsToWrite, HaltsWritingTo, IsNotDue, WritesTo}
+use Rattle.md_state.specs.Requests.{request_of}
+use Rattle.md_state.specs.CopyingData.{CopiesSector, FailsToCopy, HaltsCopying}
 use Rattle.md_array.specs.Recording.{FailsToRecord, HaltsRecording, Records, super_write}
-use Rattle.md_array.specs.Requests.{request_of}
-use Rattle.md_array.specs.CopyingData.{CopiesSector, FailsToCopy, HaltsCopying}
 use Rattle.md_array.specs.MarkingResynced.{BecomesResynced, MarksResynced}
 use Rattle.md_array.specs.Events.{Does, IsOldNewOrNone}
 use Rattle.md_array.specs.Worlds.{AreHonest}

@@ -1,45 +1,26 @@
-pub mod View
-pub mod Members
-pub mod Permitting
-pub mod OwnFields
-pub mod DeviceChanges
+-- Devices are read as members, one after another.
 pub mod Reading
-pub mod Kept
+-- Marks are stored on members: which bytes are written, and what stands on the devices after it.
 pub mod Storing
+-- What opening devices as a mirror gives: the array that they make, whose marks are stored where they have to be.
 pub mod Opening
+-- Why devices are not opened as a mirror.
 pub mod Refusals
+-- What holds of a mirror between its calls: opening gives it, and each call keeps it.
 pub mod Consistency
+-- Devices and the array that is kept of them fit one another, so that marks may be stored on the members.
 pub mod Fits
-pub mod Remembering
+-- The mirror as the array's world: each device's bytes are read for what assembly, marks and data are.
 pub mod Worlds
-pub mod Requests
-pub mod DiskWrites
-pub mod Rising
-pub mod Trying
-pub mod OutOfSync
+-- A member's superblock is stored.
 pub mod Recording
-pub mod StoringMarks
-pub mod WritingMember
-pub mod Checking
-pub mod Failing
-pub mod Finishing
-pub mod ClearingMarks
-pub mod MakingClean
-pub mod Beginning
+-- What an opening would read of the members' devices is what the mirror keeps of them.
 pub mod ReadAsKept
-pub mod HalfOpened
+-- The steps as events of the model: what each makes of the world, where devices do what they answer.
 pub mod Events
-pub mod Rests
-pub mod Runs
-pub mod ReadingData
-pub mod CopyingData
+-- The array is known to be resynced, or no longer.
 pub mod MarkingResynced
+-- Whole calls: the events that a call does, one after another (this project's own).
 pub mod InTurn
-pub mod CopyEvents
-pub mod WholeCalls
-pub mod ReadInTurn
-pub mod Lives
-pub mod Returning
-pub mod Left
-pub mod StopsWithin
-pub mod SmallLife
+-- What md_array needs of CopyEvents.
+pub mod CopyEventsAtSteps

@@ -2,10 +2,10 @@
 use Rattle.std.specs.Prelude.{◌≡◌, ℕ, ◌+◌, ◌/◌, ◌<◌, Bool, true, List, slice_get, Some}
 use Rattle.md_bitmap.specs.Marks.{is_set}
 use Rattle.md_device.specs.Device.{held}
-use Rattle.md_array.specs.CopyingData.{Lists}
-use Rattle.md_array.specs.MakingClean.{IsIdle}
-use Rattle.md_array.specs.Members.{IsInSync}
-use Rattle.md_array.specs.View.{Disk, MemberView, MirrorView}
+use Rattle.md_state.specs.CopyingData.{Lists}
+use Rattle.md_state.specs.MakingClean.{IsIdle}
+use Rattle.md_state.specs.Members.{IsInSync}
+use Rattle.md_state.specs.View.{Disk, MemberView, MirrorView}
 
 -- a sector of a member's data
 abbrev pub sector_of : MemberView → Disk → ℕ → List ℕ

@@ -4,9 +4,9 @@ use Rattle.md_members.specs.declared.info.MemberInfo.{MemberInfo}
 use Rattle.md_assembly.specs.declared.assembling.Assembly.{Assembly}
 use Rattle.md_assembly.specs.Assembled.{IsAssembled}
 use Rattle.md_assembly.specs.Faults.{NoFault}
-use Rattle.md_array.specs.View.{Disk, ArrayView, MirrorView}
+use Rattle.md_state.specs.View.{Disk, ArrayView, MirrorView}
+use Rattle.md_state.specs.Kept.{IsRemembered}
 use Rattle.md_array.specs.Reading.{AreRead}
-use Rattle.md_array.specs.Kept.{IsRemembered}
 use Rattle.md_array.specs.Storing.{AreMarked}
 
 -- the array that these devices make, as it is kept

@@ -5,10 +5,10 @@ use Rattle.md_members.specs.declared.fault.MemberFault.TheVariants as member_fau
 use Rattle.md_members.specs.declared.fault.MemberFault.TheVariants.{NoMemory as NoMemoryOfMember}
 use Rattle.md_members.specs.declared.info.MemberInfo.{MemberInfo}
 use Rattle.md_members.specs.Members as members
+use Rattle.md_state.specs.View.{Disk}
+use Rattle.md_state.specs.DeviceChanges.{FailsAt}
 use Rattle.md_array.specs.declared.fault.OpenFault.{OpenFault}
 use Rattle.md_array.specs.declared.fault.OpenFault.TheVariants.{Member, NoMemory}
-use Rattle.md_array.specs.View.{Disk}
-use Rattle.md_array.specs.DeviceChanges.{FailsAt}
 
 -- each device was read as a member
 pub record AreRead (disks : List Disk) (infos : List MemberInfo) : Type 0 where

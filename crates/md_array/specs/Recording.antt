@@ -6,13 +6,13 @@ use Rattle.md_super.specs.Faults.{NoFault}
 use Rattle.md_super.specs.Format.{IsSuper}
 use Rattle.md_super.specs.Merge.{merged}
 use Rattle.md_writes.specs.Writes.{Write}
-use Rattle.md_array.specs.declared.step_fault.StoreFault.{StoreFault}
-use Rattle.md_array.specs.declared.step_fault.StoreFault.TheVariants.{Halted, NotActive, MemberFailed}
-use Rattle.md_array.specs.View.{MemberView, ArrayView, MirrorView}
-use Rattle.md_array.specs.Members.{IsMember, is_recorded}
-use Rattle.md_array.specs.OutOfSync.{IsInactive}
-use Rattle.md_array.specs.DiskWrites.{IsWritten}
-use Rattle.md_array.specs.Trying.{Refuses, RefusesHalted, FailsWriting, HaltsWriting}
+use Rattle.md_state.specs.declared.step_fault.StoreFault.{StoreFault}
+use Rattle.md_state.specs.declared.step_fault.StoreFault.TheVariants.{Halted, NotActive, MemberFailed}
+use Rattle.md_state.specs.View.{MemberView, ArrayView, MirrorView}
+use Rattle.md_state.specs.Members.{IsMember, is_recorded}
+use Rattle.md_state.specs.OutOfSync.{IsInactive}
+use Rattle.md_state.specs.DiskWrites.{IsWritten}
+use Rattle.md_state.specs.Trying.{Refuses, RefusesHalted, FailsWriting, HaltsWriting}
 
 -- the array's fields and the member's own, at sector 8
 abbrev pub super_write : ArrayView → MemberView → Write

@@ -5,10 +5,10 @@ use Rattle.md_assembly.specs.declared.fault.AssembleFault.{AssembleFault}
 use Rattle.md_assembly.specs.declared.fault.AssembleFault.TheVariants as assemble_fault
 use Rattle.md_assembly.specs.declared.fault.AssembleFault.TheVariants.{NoMemory as NoMemoryOfAssembly}
 use Rattle.md_assembly.specs.Faults.{IsFirstFault}
+use Rattle.md_state.specs.View.{Disk, ArrayView}
+use Rattle.md_state.specs.DeviceChanges.{IsUntouched}
 use Rattle.md_array.specs.declared.fault.OpenFault.{OpenFault}
 use Rattle.md_array.specs.declared.fault.OpenFault.TheVariants.{Member, Assemble, MetadataFault, NoMemory}
-use Rattle.md_array.specs.View.{Disk, ArrayView}
-use Rattle.md_array.specs.DeviceChanges.{IsUntouched}
 use Rattle.md_array.specs.Reading.{AreRead, RefusesMember}
 use Rattle.md_array.specs.Storing.{StopsAtMember}
 use Rattle.md_array.specs.Opening.{IsArrayOf}

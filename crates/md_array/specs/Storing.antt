@@ -1,36 +1,17 @@
 -- Marks are stored on members: which bytes are written, and what stands on the devices after it.
-use Rattle.std.specs.Prelude.{◌≡◌, ◌⊎◌, ℕ, ◌*◌, ◌<◌, true, List, ◌++◌, ◌∷◌, length, slice_get, Some}
+use Rattle.std.specs.Prelude.{◌≡◌, ◌⊎◌, ℕ, ◌*◌, ◌<◌, true, List, ◌++◌, ◌∷◌, slice_get, Some}
 use Rattle.md_device.specs.Splice.{SameOutside}
 use Rattle.md_bitmap.specs.declared.header.BitmapHeader.{BitmapHeader}
-use Rattle.md_bitmap.specs.Header.{CountsFit, SettingsFit}
 use Rattle.md_members.specs.Areas.{bitmap_sectors}
 use Rattle.md_members.specs.Reading.{BitmapStartsAt}
 use Rattle.md_array.specs.declared.fault.OpenFault.{OpenFault}
 use Rattle.md_array.specs.declared.fault.OpenFault.TheVariants.{MetadataFault}
 use Rattle.md_writes.specs.Bitmaps.{bitmap_writes}
 use Rattle.md_writes.specs.Writes.{Write, IsAnyIn, IsCutShort, after}
-use Rattle.md_array.specs.View.{Disk, MemberView, ArrayView}
-use Rattle.md_array.specs.Members.{IsMember, NeedsMarks}
-use Rattle.md_array.specs.DeviceChanges.{AreSame, EachPair, IsLeftAlone, LeavesOn}
-
--- the header that is stored with a member's marks: the array's uuid, size, events and events_cleared, state 0, the rest its
--- own; its numbers fit their fields
-pub record IsHeaderFor (a : ArrayView) (m : MemberView) (h : BitmapHeader) : Type 0 where
-  pub uuid : h.uuid ≡ a.shared.set_uuid
-  pub events : h.events ≡ a.shared.events
-  pub events_cleared : h.events_cleared ≡ a.events_cleared
-  pub sync_size : h.sync_size ≡ a.shared.size
-  pub state : h.state ≡ 0
-  pub chunksize : h.chunksize ≡ m.header.chunksize
-  pub daemon_sleep : h.daemon_sleep ≡ m.header.daemon_sleep
-  pub write_behind : h.write_behind ≡ m.header.write_behind
-  pub sectors_reserved : h.sectors_reserved ≡ m.header.sectors_reserved
-  pub nodes : h.nodes ≡ m.header.nodes
-  pub cluster_name : h.cluster_name ≡ m.header.cluster_name
-  pub uuid_long : length h.uuid ≡ 16
-  pub name_long : length h.cluster_name ≡ 64
-  pub counts_fit : CountsFit h
-  pub settings_fit : SettingsFit h
+use Rattle.md_state.specs.View.{Disk, MemberView, ArrayView}
+use Rattle.md_state.specs.Members.{IsMember, NeedsMarks}
+use Rattle.md_state.specs.DeviceChanges.{AreSame, EachPair, IsLeftAlone, LeavesOn}
+use Rattle.md_state.specs.Headers.{IsHeaderFor}
 
 -- the writes by which a member's marks are stored
 pub record AreMarkWrites (a : ArrayView) (m : MemberView) (start : ℕ) (writes : List Write) : Type 0 where

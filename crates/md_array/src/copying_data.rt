@@ -1,15 +1,15 @@
 // Copying sectors to a member in sync.
-ghost use Rattle.std.specs.Prelude.{◌≡◌, ◌/◌, ◌<◌, MatchResult, length};
+ghost use Rattle.std.specs.Prelude.{◌/◌, ◌<◌, MatchResult, length};
+ghost use Rattle.md_state.specs.CopyingData.{CopiesTo, IsCopy, RefusesCopy};
+ghost use Rattle.md_state.specs.Requests.{IsPending};
+ghost use Rattle.md_state.specs.View.{PendingView};
 ghost use Rattle.md_array.specs.Consistency.{IsConsistent};
-ghost use Rattle.md_array.specs.CopyEvents.{CopyHappens};
-ghost use Rattle.md_array.specs.CopyingData.{CopiesTo, IsCopy, RefusesCopy};
-ghost use Rattle.md_array.specs.Requests.{IsPending};
-ghost use Rattle.md_array.specs.View.{PendingView};
+ghost use Rattle.md_array.specs.CopyEventsAtSteps.{CopyHappens};
 
-use crate::copy_fault::CopyFault;
 use crate::mirror::Mirror;
 use crate::writing_member::put_on;
 use md_device::Device;
+use md_state::CopyFault;
 
 impl<D: Device + Drop> Mirror<D> {
     /// Writes to member k what another member in sync holds from this sector of the array on, in one

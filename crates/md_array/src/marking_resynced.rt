@@ -1,14 +1,13 @@
 // Keeping whether the array is resynced.
-ghost use Rattle.std.specs.Prelude.{◌≡◌, true, false};
+ghost use Rattle.std.specs.Prelude.{true, false};
 ghost use Rattle.md_model.specs.Events.{Event};
+ghost use Rattle.md_state.specs.MakingClean.{IsIdle};
+ghost use Rattle.md_state.specs.Requests.{IsPending};
+ghost use Rattle.md_state.specs.View.{PendingView};
 ghost use Rattle.md_array.specs.Consistency.{IsConsistent};
 ghost use Rattle.md_array.specs.Events.{Happens};
-ghost use Rattle.md_array.specs.MakingClean.{IsIdle};
 ghost use Rattle.md_array.specs.MarkingResynced.{AllAgreeWhereMarked, BecomesResynced, MarksResynced};
-ghost use Rattle.md_array.specs.Requests.{IsPending};
-ghost use Rattle.md_array.specs.View.{PendingView};
 
-use crate::array::Array;
 use crate::mirror::Mirror;
 use md_device::Device;
 
@@ -38,13 +37,5 @@ impl<D: Device + Drop> Mirror<D> {
         ensures pending { (p : PendingView) → IsPending self.old.array p → IsPending self.new.array p }
     {
         self.array.note_resynced(false);
-    }
-}
-
-impl Array {
-    fn note_resynced(&mut self, is: bool)
-        ensures { self.new ≡ record self.old { resynced = is } }
-    {
-        self.resynced = is;
     }
 }

@@ -1,15 +1,14 @@
 // The mirror, and what can be seen of it.
 ghost use Rattle.std.specs.Prelude.{◌≡◌, ◌↔◌, ◌<◌, ℕ, IsTrue, Some, length, map, option_map, slice_get};
 ghost use Rattle.std.specs.Int.{bit_at, div_ceil};
-ghost use Rattle.md_array.specs.Members.{IsMember, IsPermitted, NeedsMarks, is_degraded};
-ghost use Rattle.md_array.specs.View.{MemberView, disk_of};
+ghost use Rattle.md_state.specs.Members.{IsMember, IsPermitted, NeedsMarks, is_degraded};
+ghost use Rattle.md_state.specs.View.{MemberView, disk_of};
 
-use crate::array::Array;
-use crate::marking::needs_marks;
 use md_assembly::MemberState;
 use md_badblocks::BadSet;
 use md_bitmap::{Chunks, Marks};
 use md_device::Device;
+use md_state::{Array, needs_marks};
 use md_super::Superblock;
 use std::marker::Model;
 
@@ -25,7 +24,7 @@ pub struct Mirror<D: Device + Drop> {
 
 impl<D: Device + Drop> Model for Mirror<D> {
     ghost use Rattle.std.specs.Prelude.{map};
-    ghost use Rattle.md_array.specs.View.{MirrorView, disk_of};
+    ghost use Rattle.md_state.specs.View.{MirrorView, disk_of};
 
     ghost Value = { MirrorView };
 

@@ -1,18 +1,18 @@
 // Opening devices as a mirror.
 ghost use Rattle.std.specs.Prelude.{◌≡◌, IfOk, IfErr, MatchResult, length, map};
+ghost use Rattle.md_state.specs.View.{disk_of};
+ghost use Rattle.md_state.specs.DeviceChanges.{IsUntouched};
 ghost use Rattle.md_array.specs.Consistency.{IsConsistent};
-ghost use Rattle.md_array.specs.View.{disk_of};
-ghost use Rattle.md_array.specs.DeviceChanges.{IsUntouched};
 ghost use Rattle.md_array.specs.Opening.{IsArrayOf, IsOpenedFrom};
 ghost use Rattle.md_array.specs.Refusals.{RefusesArray, RefusesOpen, assembly_refusal_of};
 
-use crate::array::Array;
 use crate::fault::OpenFault;
 use crate::mirror::Mirror;
 use crate::reading::read_members;
 use crate::storing::store_needed_marks;
 use md_assembly::{AssembleFault, assemble};
 use md_device::Device;
+use md_state::Array;
 use std::alloc::Global;
 
 impl<D: Device + Drop> Mirror<D> {

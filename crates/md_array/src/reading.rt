@@ -1,8 +1,8 @@
 // The members of a list of devices.
-ghost use Rattle.std.specs.Prelude.{◌≡◌, ◌<◌, ◌≤◌, ◌+◌, MatchResult, length, map};
-ghost use Rattle.md_array.specs.DeviceChanges.{IsUntouched};
+ghost use Rattle.std.specs.Prelude.{◌≡◌, ◌<◌, MatchResult, map};
+ghost use Rattle.md_state.specs.DeviceChanges.{IsUntouched};
+ghost use Rattle.md_state.specs.View.{disk_of};
 ghost use Rattle.md_array.specs.Reading.{AreRead, RefusesRead, refusal_of};
-ghost use Rattle.md_array.specs.View.{disk_of};
 
 use crate::fault::OpenFault;
 use md_device::Device;

@@ -1,21 +1,18 @@
 // Storing a member's superblock.
-ghost use Rattle.std.specs.Prelude.{◌≡◌, ◌<◌, ◌≤◌, ◌*◌, [], ◌∷◌, MatchResult, false, length, set};
+ghost use Rattle.std.specs.Prelude.{◌<◌, ◌≤◌, ◌*◌, [], ◌∷◌, MatchResult, length};
 ghost use Rattle.md_device.specs.Splice.{SameOutside};
 ghost use Rattle.md_members.specs.Members.{sectors_of};
 ghost use Rattle.md_super.specs.Merge.{merged};
 ghost use Rattle.md_writes.specs.Writes.{MakesWrites};
+ghost use Rattle.md_state.specs.Requests.{IsPending};
+ghost use Rattle.md_state.specs.View.{PendingView};
 ghost use Rattle.md_array.specs.Consistency.{IsConsistent};
 ghost use Rattle.md_array.specs.Events.{RecordHappens};
-ghost use Rattle.md_array.specs.Members.{IsMember};
 ghost use Rattle.md_array.specs.Recording.{IsReadable, Records, RefusesRecord, super_write};
-ghost use Rattle.md_array.specs.Requests.{IsPending};
-ghost use Rattle.md_array.specs.View.{MemberView, PendingView};
 
-use crate::array::Array;
-use crate::member::Member;
 use crate::mirror::Mirror;
-use crate::step_fault::StoreFault;
 use md_device::{Device, WriteFault};
+use md_state::{Array, Member, StoreFault};
 use md_super::{SUPER_SECTOR, encode_member};
 use md_writes::put;
 
@@ -41,17 +38,6 @@ impl<D: Device + Drop> Mirror<D> {
         }
         self.array.note_recorded(k);
         Ok(())
-    }
-}
-
-impl Array {
-    // Member k's superblock is stored as it is kept.
-    fn note_recorded(&mut self, k: usize)
-        requires { k < length self.old.members }
-        ensures { (m : MemberView) → IsMember self.old k m → self.new ≡ record self.old { members = set self.old.members k (record m { due = false }) } }
-    {
-        let member = &mut self.members[k];
-        member.due = false;
     }
 }
 

@@ -1,9 +1,9 @@
 // Whether marks are stored.
 ghost use Rattle.std.specs.Prelude.{◌≡◌, ◌↔◌, ◌<◌, ◌≤◌, true, length};
+ghost use Rattle.md_state.specs.Members.{IsMember};
+ghost use Rattle.md_state.specs.View.{MemberView};
+ghost use Rattle.md_state.specs.WritingMember.{HasMarksFrom};
 ghost use Rattle.md_array.specs.Consistency.{IsConsistent};
-ghost use Rattle.md_array.specs.Members.{IsMember};
-ghost use Rattle.md_array.specs.View.{MemberView};
-ghost use Rattle.md_array.specs.WritingMember.{HasMarksFrom};
 
 use crate::mirror::Mirror;
 use md_device::Device;

@@ -1,74 +1,17 @@
 // Storing marks on the members.
-ghost use Rattle.std.specs.Prelude.{◌≡◌, ◌≤◌, ◌≤ℤ◌, ◌+ℤ◌, pos, OnOk, OnErr, MatchResult, length, map};
-ghost use Rattle.md_bitmap.specs.Header.{CountsFit, SettingsFit};
-ghost use Rattle.md_bitmap.specs.Sound.{IsSound};
+ghost use Rattle.std.specs.Prelude.{◌≤◌, ◌≤ℤ◌, ◌+ℤ◌, pos, OnOk, OnErr, MatchResult, map};
 ghost use Rattle.md_members.specs.Reading.{BitmapStartsAt};
+ghost use Rattle.md_state.specs.Members.{NeedsMarks};
+ghost use Rattle.md_state.specs.DeviceChanges.{StaysHonest};
+ghost use Rattle.md_state.specs.View.{disk_of};
 ghost use Rattle.md_array.specs.Fits.{Fits, FitsMember};
-ghost use Rattle.md_array.specs.Members.{NeedsMarks};
-ghost use Rattle.md_array.specs.DeviceChanges.{StaysHonest};
-ghost use Rattle.md_array.specs.Storing.{AreMarked, FailsToStore, IsHeaderFor, IsMarkedBy, RefusesMarks, StoresMarks};
-ghost use Rattle.md_array.specs.View.{disk_of};
+ghost use Rattle.md_array.specs.Storing.{AreMarked, FailsToStore, IsMarkedBy, RefusesMarks, StoresMarks};
 
-use crate::array::Array;
 use crate::fault::OpenFault;
-use crate::marking::needs_marks;
-use crate::member::Member;
-use md_bitmap::BitmapHeader;
 use md_device::{Device, WriteFault};
+use md_state::{Array, Member, needs_marks};
 use md_super::{SUPER_SECTOR, Superblock};
 use md_writes::store_bitmap;
-
-impl Array {
-    /// The header that is stored with a member's marks.
-    pub(crate) fn header_for(&self, member: &Member) -> BitmapHeader
-        requires { IsSound self.now.shared.size member.now.header.chunksize }
-        ensures { IsHeaderFor self.now member.now result }
-    {
-        fitting(BitmapHeader {
-            uuid: self.shared.set_uuid,
-            events: self.shared.events,
-            events_cleared: self.events_cleared,
-            sync_size: self.shared.size,
-            state: 0,
-            chunksize: member.header.chunksize,
-            daemon_sleep: member.header.daemon_sleep,
-            write_behind: member.header.write_behind,
-            sectors_reserved: member.header.sectors_reserved,
-            nodes: member.header.nodes,
-            cluster_name: member.header.cluster_name,
-        })
-    }
-}
-
-// A header as it is: what it holds fits its fields.
-fn fitting(header: BitmapHeader) -> BitmapHeader
-    ensures same { result ≡ header }
-    ensures uuid { length header.uuid ≡ 16 }
-    ensures name { length header.cluster_name ≡ 64 }
-    ensures counts { CountsFit header }
-    ensures settings { SettingsFit header }
-{
-    let uuid: &[u8] = header.uuid.as_bytes();
-    let name: &[u8] = &header.cluster_name;
-    prove!(uuid.len() == 16);
-    prove!(name.len() == 64);
-    let BitmapHeader {
-        events,
-        events_cleared,
-        sync_size,
-        ..
-    } = header;
-    let BitmapHeader {
-        state,
-        chunksize,
-        daemon_sleep,
-        write_behind,
-        sectors_reserved,
-        nodes,
-        ..
-    } = header;
-    header
-}
 
 /// Stores marks on each member in sync whose bitmap was not accepted, in the order of the members,
 /// up to the first on which a write fails.

@@ -1,30 +1,20 @@
 // Storing a sector of a member's bitmap.
-ghost use Rattle.std.specs.Prelude.{◌≡◌, ◌<◌, ◌≤◌, ◌==◌, ◌*◌, [], ◌∷◌, ℕ, MatchResult, cond, length};
-ghost use Rattle.md_bitmap.specs.Marks.{is_set};
+ghost use Rattle.std.specs.Prelude.{◌<◌, ◌*◌, [], ◌∷◌, MatchResult, length};
 ghost use Rattle.md_device.specs.Splice.{SameOutside};
 ghost use Rattle.md_members.specs.Areas.{bitmap_sectors};
 ghost use Rattle.md_writes.specs.Writes.{MakesWrites, Write};
+ghost use Rattle.md_state.specs.Requests.{IsPending};
+ghost use Rattle.md_state.specs.StoringMarks.{IsMarkWrite, RefusesMarkSector, StoresMarkSector};
+ghost use Rattle.md_state.specs.View.{PendingView, disk_of};
 ghost use Rattle.md_array.specs.Consistency.{IsConsistent};
 ghost use Rattle.md_array.specs.Fits.{FitsMember};
 ghost use Rattle.md_array.specs.Events.{StoreMarksHappens};
-ghost use Rattle.md_array.specs.Members.{IsMember};
-ghost use Rattle.md_array.specs.Requests.{IsPending};
-ghost use Rattle.md_array.specs.StoringMarks.{HasStored, HasStoredOf, IsMarkWrite, RefusesMarkSector, StoresMarkSector};
-ghost use Rattle.md_array.specs.View.{MemberView, PendingView, disk_of};
 
-use crate::array::Array;
-use crate::member::Member;
 use crate::mirror::Mirror;
-use crate::step_fault::StoreFault;
 use crate::storing::bitmap_start;
-use md_bitmap::Marks;
 use md_device::{Device, WriteFault};
+use md_state::{Array, Member, StoreFault};
 use md_writes::store_bitmap_sector;
-
-// A sector of the bitmap has the bits of so many chunks. In the first, the header takes the room of some.
-pub(crate) const CHUNKS_OF_SECTOR: u32 = 4096;
-
-pub(crate) const CHUNKS_OF_HEADER: u32 = 2048;
 
 impl<D: Device + Drop> Mirror<D> {
     /// Writes sector `block` of member k's bitmap by the marks in memory. Sector 0 holds the header too.
@@ -49,19 +39,6 @@ impl<D: Device + Drop> Mirror<D> {
     }
 }
 
-impl Array {
-    // Sector `block` of member k's bitmap is stored as the marks are.
-    fn note_stored(&mut self, k: usize, block: u32)
-        requires within { k < length self.old.members }
-        requires few { block ≤ 257 }
-        requires alike { (m : MemberView) → IsMember self.old k m → m.stored.chunks ≡ self.old.marks.chunks }
-        ensures { (m : MemberView) → IsMember self.old k m → HasStoredOf k block m self.old self.new }
-    {
-        let member = &mut self.members[k];
-        copy_block(&self.marks, &mut member.stored, block);
-    }
-}
-
 // Writes a sector of a member's bitmap on its device.
 fn store_block<D: Device>(
     device: &mut D,
@@ -77,30 +54,4 @@ fn store_block<D: Device>(
     let start = bitmap_start(&member.superblock);
     let header = array.header_for(member);
     store_bitmap_sector(device, start, &header, &array.marks, block)
-}
-
-// Copies the marks of a sector's chunks.
-fn copy_block(marks: &Marks, stored: &mut Marks, block: u32)
-    requires few { block ≤ 257 }
-    requires alike { stored.old.chunks ≡ marks.now.chunks }
-    ensures { HasStored marks.now stored.old block stored.new }
-{
-    let first = (CHUNKS_OF_SECTOR * block).saturating_sub(CHUNKS_OF_HEADER);
-    let end = CHUNKS_OF_SECTOR * block + (CHUNKS_OF_SECTOR - CHUNKS_OF_HEADER);
-    for chunk in first..end.min(marks.chunks()) {
-        copy_mark(marks, stored, chunk);
-    }
-}
-
-fn copy_mark(marks: &Marks, stored: &mut Marks, chunk: u32)
-    requires marked { chunk < marks.now.chunks }
-    requires stored { chunk < stored.old.chunks }
-    ensures chunks { stored.new.chunks ≡ stored.old.chunks }
-    ensures bits { (c : ℕ) → is_set stored.new.bytes c ≡ cond (c == chunk) (is_set marks.now.bytes chunk) (is_set stored.old.bytes c) }
-{
-    if marks.is_marked(chunk) {
-        stored.mark(chunk);
-    } else {
-        stored.unmark(chunk);
-    }
 }

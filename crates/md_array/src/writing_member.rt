@@ -1,20 +1,15 @@
 // Writing a request's bytes to a member.
-ghost use Rattle.std.specs.Prelude.{◌≡◌, ◌+◌, ◌*◌, ◌%◌, ◌<◌, ◌≤◌, List, Some, MatchResult, length, map, slice_get};
-ghost use Rattle.md_array.specs.Beginning.{IsInRange};
-ghost use Rattle.md_array.specs.Consistency.{HasChunks, IsConsistent};
-ghost use Rattle.md_array.specs.DiskWrites.{IsFailed, IsWritten};
+ghost use Rattle.std.specs.Prelude.{◌≡◌, ◌+◌, ◌*◌, ◌%◌, ◌<◌, ◌≤◌, Some, MatchResult, length, map, slice_get};
+ghost use Rattle.md_state.specs.DiskWrites.{IsFailed, IsWritten};
+ghost use Rattle.md_state.specs.Requests.{IsPending};
+ghost use Rattle.md_state.specs.View.{Disk, PendingView, disk_of};
+ghost use Rattle.md_state.specs.WritingMember.{RefusesWriteMember, WritesTo};
+ghost use Rattle.md_array.specs.Consistency.{IsConsistent};
 ghost use Rattle.md_array.specs.Events.{WriteMemberHappens};
-ghost use Rattle.md_array.specs.Members.{IsMember};
-ghost use Rattle.md_array.specs.Requests.{IsPending, request_sectors};
-ghost use Rattle.md_array.specs.View.{Disk, MemberView, PendingView, disk_of};
-ghost use Rattle.md_array.specs.WritingMember.{MayWrite, RefusesWriteMember, WritesTo};
 
-use crate::array::Array;
-use crate::marking::{chunks_of, is_in_sync};
 use crate::mirror::Mirror;
-use crate::pending::Pending;
-use crate::step_fault::WriteMemberFault;
 use md_device::{Device, WriteFault};
+use md_state::{Pending, WriteMemberFault};
 use md_writes::put;
 
 impl<D: Device + Drop> Mirror<D> {
@@ -44,36 +39,6 @@ impl<D: Device + Drop> Mirror<D> {
             return Err(self.array.write_failed(k));
         }
         pending.written.push(number);
-        Ok(())
-    }
-}
-
-impl Array {
-    // Whether member k may get the bytes: data come after marks and records.
-    fn check_write(&self, pending: &Pending<'_>, k: usize) -> Result<(), WriteMemberFault>
-        requires within { k < length self.now.members }
-        requires chunks { HasChunks self.now }
-        requires range { IsInRange self.now pending.now.sector (request_sectors pending.now) }
-        ensures { (disks : List Disk) → MatchResult result (λ _. (m : MemberView) → IsMember self.now k m → MayWrite k self.now pending.now m)
-            (RefusesWriteMember k (record { disks = disks; array = self.now }) (record { disks = disks; array = self.now }) pending.now pending.now) }
-    {
-        if self.halted {
-            return Err(WriteMemberFault::Halted);
-        }
-        let member = &self.members[k];
-        if !is_in_sync(member.state) {
-            return Err(WriteMemberFault::NotActive);
-        }
-        let (first, end) = chunks_of(self.chunks, pending.sector, pending.sectors());
-        if let Some(j) = self.first_unmarked(first, end) {
-            return Err(WriteMemberFault::NotMarked(j));
-        }
-        if let Some(j) = self.first_due() {
-            return Err(WriteMemberFault::NotRecorded(j));
-        }
-        if pending.has_written(member.superblock.dev_number) {
-            return Err(WriteMemberFault::AlreadyWritten);
-        }
         Ok(())
     }
 }

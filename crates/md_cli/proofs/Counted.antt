@@ -8,7 +8,7 @@ use Rattle.md_create.specs.Geometry.{HasDevice, IsGeometry}
 use Rattle.md_create.specs.Values.{AreMembers, device_of, devices_of}
 use Rattle.md_create.specs.declared.params.CreateParams.{CreateParams}
 use Rattle.md_create.specs.declared.params.NewMember.{NewMember}
-use Rattle.md_array.specs.View.{Disk}
+use Rattle.md_state.specs.View.{Disk}
 use Rattle.md_cli.specs.Creating.{first_size, sectors_on, sizes_of}
 use Rattle.md_cli.specs.Taking.{Word, image_list, is_missing}
 use Rattle.md_cli.proofs.Listed.{is_image, word_at}

@@ -9,7 +9,7 @@ use Rattle.md_create.specs.Geometry.{IsGeometry}
 use Rattle.md_create.specs.Values.{AreMembers}
 use Rattle.md_create.specs.declared.params.CreateParams.{CreateParams}
 use Rattle.md_create.specs.declared.params.NewMember.{NewMember}
-use Rattle.md_array.specs.View.{Disk}
+use Rattle.md_state.specs.View.{Disk}
 use Rattle.md_cli.specs.Creating.{AreLaidOut, AreNewMembers, At, sizes_of}
 use Rattle.md_cli.specs.Taking.{image_list}
 use Rattle.md_cli.proofs.Counted.{has_room, member_count}

@@ -6,7 +6,7 @@ use Rattle.md_examine.specs.Sink.{Flushes, Puts}
 use Rattle.md_cli.specs.declared.fault.CommandFault.{CommandFault}
 use Rattle.md_cli.specs.declared.fault.CommandFault.TheVariants.{OutputFault}
 use Rattle.md_cli.specs.declared.report.Report.{Report}
-use Rattle.md_array.specs.View.{ArrayView}
+use Rattle.md_state.specs.View.{ArrayView}
 use Rattle.md_cli.specs.declared.array_report.ArrayReport.{ArrayReport}
 use Rattle.md_cli.specs.Arrays.{IsArrayText, WritesReport}
 use Rattle.md_cli.specs.Examining.{Examines, RefusesOrFails, ShownBy}

@@ -7,7 +7,7 @@ use Rattle.std.proofs.lemmas.List.{map-set}
 use Rattle.md_create.specs.declared.params.NewMember.{NewMember}
 use Rattle.md_create.specs.Layout.{writes_of}
 use Rattle.md_create.specs.Writes.{DoesWrites, StopsInWrites}
-use Rattle.md_array.specs.View.{Disk, disk_of}
+use Rattle.md_state.specs.View.{Disk, disk_of}
 use Rattle.md_cli.specs.Creating.{AreLaidOut, At, FailsToLayOut, LaysOut}
 
 get_set_same : {X : Type 0} (xs : List X) (i : ℕ) (x : X) → i < length xs → slice_get (set xs i x) i ≡ Some x

@@ -3,7 +3,7 @@ use Rattle.std.proofs.Common.{◌≡◌, ◌∙◌, ◌+◌, ℕ, List, [], ◌�
 use Rattle.std.proofs.lemmas.List.{append-nil, append_assoc, map-append, reverse-append}
 use Rattle.md_device.specs.declared.device.Device.{Ghosts}
 use Rattle.md_device.specs.Overlay.{Overlay}
-use Rattle.md_array.specs.View.{Disk, disk_of}
+use Rattle.md_state.specs.View.{Disk, disk_of}
 use Rattle.md_cli.specs.Arrays.{overlaid}
 use Rattle.md_cli.specs.Overlays.{overlay_over}
 

@@ -6,7 +6,7 @@ use Rattle.std.specs.Borrow.{Bor}
 use Rattle.std.proofs.lemmas.List.{drop_more, length-map}
 use Rattle.std.proofs.lemmas.Nat.{div-mul-add}
 use Rattle.clap.specs.Words.{Text}
-use Rattle.md_array.specs.View.{Disk, disk_of}
+use Rattle.md_state.specs.View.{Disk, disk_of}
 use Rattle.md_cli.specs.Creating.{first_size, sizes_of}
 use Rattle.md_cli.specs.Taking.{is_missing}
 use Rattle.md_cli.proofs.Listed.{text_at, no_text}

@@ -2,7 +2,7 @@
 use Rattle.md_device.specs.declared.device.Device.{Ghosts}
 use Rattle.std.proofs.Common.{◌≡◌, ◌∙◌, ℕ, Bool, true, List, length, Option, Result, subst, inl}
 use Rattle.clap.specs.Words.{Text}
-use Rattle.md_array.specs.View.{Disk}
+use Rattle.md_state.specs.View.{Disk}
 use Rattle.md_array.specs.Refusals.{RefusesOpen}
 use Rattle.md_array.specs.declared.fault.OpenFault.{OpenFault}
 use Rattle.md_array.specs.declared.fault.OpenFault.TheVariants as opening

@@ -2,13 +2,13 @@
 use Rattle.md_device.specs.declared.device.Device.{Ghosts}
 use Rattle.std.specs.Prelude.{◌≡◌, ◌⊎◌, ◌<◌, ℕ, Bool, true, List, [], length, map, Option, Result, Err, MatchResult}
 use Rattle.clap.specs.Words.{Text}
-use Rattle.md_array.specs.View.{ArrayView, Disk, MirrorView, disk_of}
+use Rattle.md_state.specs.View.{ArrayView, Disk, MirrorView, disk_of}
 use Rattle.md_array.specs.Opening.{IsOpenedFrom}
 use Rattle.md_array.specs.Refusals.{RefusesOpen}
 use Rattle.md_array.specs.declared.fault.OpenFault.{OpenFault}
 use Rattle.md_examine.specs.Sink.{Puts}
-use Rattle.md_examine.specs.SummaryReport.{summary_text}
-use Rattle.md_examine.specs.DetailReport.{detail_text}
+use Rattle.md_report.specs.SummaryReport.{summary_text}
+use Rattle.md_report.specs.DetailReport.{detail_text}
 use Rattle.md_cli.specs.declared.array_report.ArrayReport.{ArrayReport}
 use Rattle.md_cli.specs.declared.array_report.ArrayReport.TheVariants.{Summary, Detail, Plan}
 use Rattle.md_cli.specs.declared.fault.CommandFault.{CommandFault}

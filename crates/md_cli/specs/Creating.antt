@@ -8,7 +8,7 @@ use Rattle.md_create.specs.Writes.{DoesWrites, StopsInWrites}
 use Rattle.md_create.specs.declared.params.CreateParams.{CreateParams}
 use Rattle.md_create.specs.declared.params.NewMember.{NewMember}
 use Rattle.md_create.specs.declared.fault.CreateFault.TheVariants.{BadGeometry, NoMemory}
-use Rattle.md_array.specs.View.{Disk, of_disks}
+use Rattle.md_state.specs.View.{Disk, of_disks}
 use Rattle.md_cli.specs.declared.array_report.ArrayReport.TheVariants.{Summary}
 use Rattle.md_cli.specs.declared.fault.CommandFault.{CommandFault}
 use Rattle.md_cli.specs.declared.fault.CommandFault.TheVariants as fault

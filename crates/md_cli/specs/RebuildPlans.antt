@@ -8,13 +8,13 @@ use Rattle.md_cert.specs.Plans.{IsCertified}
 use Rattle.md_cert.specs.Tables.{orphans_of}
 use Rattle.md_cert.specs.Verdicts.{IsVerdict}
 use Rattle.md_plan.specs.declared.planner.Planned.{Planned}
-use Rattle.md_array.specs.View.{ArrayView, MemberView}
-use Rattle.md_array.specs.Members.{IsMember}
+use Rattle.md_state.specs.View.{ArrayView, MemberView}
+use Rattle.md_state.specs.Members.{IsMember}
 use Rattle.md_copy.specs.Sources.{IsTableOf}
 use Rattle.md_copy.specs.Targets.{IsTarget}
 use Rattle.md_copy.specs.declared.fault.RebuildFault.{RebuildFault}
 use Rattle.md_copy.specs.declared.fault.RebuildFault.TheVariants.{NotSpare, NoMemory}
-use Rattle.md_examine.specs.PlanReport.{plan_text}
+use Rattle.md_report.specs.PlanReport.{plan_text}
 use Rattle.md_cli.specs.declared.fault.CommandFault.{CommandFault}
 use Rattle.md_cli.specs.declared.fault.CommandFault.TheVariants.{BadMember, Rebuild}
 

@@ -1,7 +1,7 @@
 // The commands that show a whole array.
 ghost use Rattle.std.specs.Prelude.{◌≡◌, IfOk, length, map, false};
+ghost use Rattle.md_state.specs.View.{disk_of};
 ghost use Rattle.md_array.specs.Consistency.{IsConsistent};
-ghost use Rattle.md_array.specs.View.{disk_of};
 ghost use Rattle.md_cli.specs.Arrays.{OpensDevices, UsesImages, WritesReport};
 ghost use Rattle.md_cli.specs.Images.{allows};
 ghost use Rattle.md_cli.specs.Taking.{image_list};
@@ -16,7 +16,8 @@ use crate::rebuild_plan::plan_rebuild;
 use crate::taking::{put_back, take_images};
 use md_array::Mirror;
 use md_device::{Access, Device};
-use md_examine::{Sink, detail, plan_report, summary};
+use md_examine::Sink;
+use md_report::{detail, plan_report, summary};
 use std::alloc::Global;
 use std::io::Write;
 

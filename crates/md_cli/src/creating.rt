@@ -1,6 +1,6 @@
 // The command that makes an array.
 ghost use Rattle.std.specs.Prelude.{◌≡◌, ℕ, IfOk, length, map, true};
-ghost use Rattle.md_array.specs.View.{disk_of};
+ghost use Rattle.md_state.specs.View.{disk_of};
 ghost use Rattle.md_cli.specs.Arrays.{UsesImages};
 ghost use Rattle.md_cli.specs.Creating.{CreatesOn};
 ghost use Rattle.md_cli.specs.Images.{allows};

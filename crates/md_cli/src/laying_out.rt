@@ -1,6 +1,6 @@
 // Laying new members out on their devices.
 ghost use Rattle.std.specs.Prelude.{◌≡◌, ◌≤◌, ◌<◌, ◌*◌, ℕ, Some, length, map, slice_get};
-ghost use Rattle.md_array.specs.View.{Disk, disk_of};
+ghost use Rattle.md_state.specs.View.{Disk, disk_of};
 ghost use Rattle.md_cli.specs.Creating.{AreLaidOut, At, FailsToLayOut};
 
 use md_create::{NewMember, lay_out};

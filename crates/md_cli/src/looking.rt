@@ -1,6 +1,6 @@
 // Showing the array of images that are only looked at.
 ghost use Rattle.std.specs.Prelude.{◌≡◌, ◌≤◌, [], false, IfOk, length, map, vec_capacity};
-ghost use Rattle.md_array.specs.View.{disk_of};
+ghost use Rattle.md_state.specs.View.{disk_of};
 ghost use Rattle.md_cli.specs.Arrays.{LooksAtDevices, UsesImages};
 ghost use Rattle.md_cli.specs.Images.{allows};
 ghost use Rattle.md_cli.specs.Overlays.{overlay_over};

@@ -1,6 +1,6 @@
 // The sizes of the devices that an array is made of.
 ghost use Rattle.std.specs.Prelude.{◌≡◌, IfOk, drop, map};
-ghost use Rattle.md_array.specs.View.{disk_of};
+ghost use Rattle.md_state.specs.View.{disk_of};
 ghost use Rattle.md_cli.specs.Creating.{first_size, sizes_of};
 
 use crate::image_word::is_missing;

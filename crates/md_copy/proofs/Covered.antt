@@ -8,9 +8,9 @@ use Rattle.md_badblocks.specs.declared.run.Run.{Run}
 use Rattle.md_badblocks.specs.Runs.{IsBad, LiesIn, RisesFrom}
 use Rattle.md_bitmap.specs.Chunks.{InChunk}
 use Rattle.md_bitmap.specs.Marks.{Bitmap, is_set}
-use Rattle.md_array.specs.View.{ArrayView, MemberView}
-use Rattle.md_array.specs.Members.{IsInSync}
-use Rattle.md_array.specs.Permitting.{ListsAny}
+use Rattle.md_state.specs.View.{ArrayView, MemberView}
+use Rattle.md_state.specs.Members.{IsInSync}
+use Rattle.md_state.specs.Permitting.{ListsAny}
 use Rattle.md_copy.specs.Sources.{KeepsMarks}
 
 -- the run that has a bad sector

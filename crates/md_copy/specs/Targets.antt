@@ -3,8 +3,8 @@ use Rattle.std.specs.Prelude.{◌≡◌, ℕ, ◌<◌, ⊤, false}
 use Rattle.md_assembly.specs.declared.state.MemberState.{MemberState}
 use Rattle.md_assembly.specs.declared.state.MemberState.TheVariants.{InSync, Recovering, Stale, Spare, Faulty}
 use Rattle.md_assembly.specs.States.{takes_role}
-use Rattle.md_array.specs.View.{ArrayView, MemberView}
-use Rattle.md_array.specs.Members.{IsMember}
+use Rattle.md_state.specs.View.{ArrayView, MemberView}
+use Rattle.md_state.specs.Members.{IsMember}
 
 -- no member in sync or recovering has the role
 abbrev pub IsFree : ArrayView → ℕ → Type 0

@@ -5,6 +5,3 @@ pub mod Lines
 pub mod SuperblockReport
 pub mod BitmapReport
 pub mod BadblocksReport
-pub mod SummaryReport
-pub mod DetailReport
-pub mod PlanReport

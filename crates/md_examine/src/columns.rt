@@ -13,11 +13,7 @@ static SPACES: [u8; WIDEST] = [b' '; WIDEST];
 
 /// A text and a number.
 #[tactic(auto, using(crate::proofs::Puts::puts_then))]
-pub(crate) fn number_after<S: Sink, I: Integer>(
-    out: &mut S,
-    text: &[u8],
-    n: I,
-) -> Result<(), SinkFault>
+pub fn number_after<S: Sink, I: Integer>(out: &mut S, text: &[u8], n: I) -> Result<(), SinkFault>
     ensures { PutsOrFails S.contents S.failed out.old out.new (text.now ++ I.text n) result }
 {
     let mut buffer = Buffer::new();
@@ -28,11 +24,7 @@ pub(crate) fn number_after<S: Sink, I: Integer>(
 
 /// A text that ends with its column. One that is longer goes past it.
 #[tactic(auto, unfolding(crate::specs::Lines::right_aligned), using(crate::proofs::Puts::puts_then))]
-pub(crate) fn right_aligned<S: Sink>(
-    out: &mut S,
-    width: usize,
-    text: &[u8],
-) -> Result<(), SinkFault>
+pub fn right_aligned<S: Sink>(out: &mut S, width: usize, text: &[u8]) -> Result<(), SinkFault>
     requires { width ≤ 12 }
     ensures { PutsOrFails S.contents S.failed out.old out.new (right_aligned width text.now) result }
 {
@@ -42,7 +34,7 @@ pub(crate) fn right_aligned<S: Sink>(
 }
 
 /// A number that ends with its column.
-pub(crate) fn right_aligned_number<S: Sink, I: Integer>(
+pub fn right_aligned_number<S: Sink, I: Integer>(
     out: &mut S,
     width: usize,
     n: I,

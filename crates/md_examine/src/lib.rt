@@ -1,24 +1,19 @@
-//! Reports on the parts of an array, as text.
+//! Reports on the parts of a member, as text: a superblock, a bitmap, bad blocks.
 #![tactic(auto)]
 
 mod badblocks_report;
 mod bitmap_report;
 mod buffered;
 mod columns;
-mod detail_report;
 mod lines;
-mod member_lines;
-mod plan_lines;
 mod sink;
-mod summary_report;
 mod superblock_report;
 mod values;
 
 pub use badblocks_report::examine_badblocks;
 pub use bitmap_report::examine_bitmap;
 pub use buffered::Buffered;
-pub use detail_report::detail;
-pub use plan_lines::plan_report;
+pub use columns::{number_after, right_aligned, right_aligned_number};
+pub use lines::{decimal_line, name_line, sectors_line, three_part_line, uuid_line};
 pub use sink::{Output, Sink, SinkFault};
-pub use summary_report::summary;
-pub use superblock_report::examine;
+pub use superblock_report::{cleanness, examine};

@@ -40,9 +40,9 @@ pub(crate) fn two_part_line<S: Sink>(
     Ok(())
 }
 
-// A value in three parts.
+/// A value in three parts.
 #[tactic(auto, unfolding(crate::specs::Lines::line_text), using(crate::proofs::Puts::puts_then))]
-pub(crate) fn three_part_line<S: Sink>(
+pub fn three_part_line<S: Sink>(
     out: &mut S,
     label: &str,
     first: &[u8],
@@ -54,12 +54,8 @@ pub(crate) fn three_part_line<S: Sink>(
     four_part_line(out, label, first, second, third, b"")
 }
 
-// A number.
-pub(crate) fn decimal_line<S: Sink, I: Integer>(
-    out: &mut S,
-    label: &str,
-    n: I,
-) -> Result<(), SinkFault>
+/// A number.
+pub fn decimal_line<S: Sink, I: Integer>(out: &mut S, label: &str, n: I) -> Result<(), SinkFault>
     ensures { PutsOrFails S.contents S.failed out.old out.new (line_text label.now (I.text n)) result }
 {
     let mut buffer = Buffer::new();
@@ -79,8 +75,8 @@ pub(crate) fn unit_line<S: Sink, I: Integer>(
     two_part_line(out, label, buffer.format(n).as_bytes(), unit)
 }
 
-// A number of sectors.
-pub(crate) fn sectors_line<S: Sink>(out: &mut S, label: &str, n: u64) -> Result<(), SinkFault>
+/// A number of sectors.
+pub fn sectors_line<S: Sink>(out: &mut S, label: &str, n: u64) -> Result<(), SinkFault>
     ensures { PutsOrFails S.contents S.failed out.old out.new (line_text label.now (sectors_text n)) result }
 {
     let mut buffer = Buffer::new();
@@ -108,8 +104,8 @@ pub(crate) fn hex8_line<S: Sink>(out: &mut S, label: &str, n: u32) -> Result<(),
     line(out, label, &hex_digits(n))
 }
 
-// An identifier.
-pub(crate) fn uuid_line<S: Sink>(out: &mut S, label: &str, id: &Uuid) -> Result<(), SinkFault>
+/// An identifier.
+pub fn uuid_line<S: Sink>(out: &mut S, label: &str, id: &Uuid) -> Result<(), SinkFault>
     ensures { PutsOrFails S.contents S.failed out.old out.new (line_text label.now (hyphenated_text lower id.now)) result }
 {
     let mut buffer = Uuid::encode_buffer();
@@ -117,8 +113,8 @@ pub(crate) fn uuid_line<S: Sink>(out: &mut S, label: &str, id: &Uuid) -> Result<
     line(out, label, text.as_bytes())
 }
 
-// A name.
-pub(crate) fn name_line<S: Sink>(out: &mut S, label: &str, name: &[u8; 32]) -> Result<(), SinkFault>
+/// A name.
+pub fn name_line<S: Sink>(out: &mut S, label: &str, name: &[u8; 32]) -> Result<(), SinkFault>
     ensures { PutsOrFails S.contents S.failed out.old out.new (line_text label.now (name_text name.now)) result }
 {
     let shown = shown_bytes(name);

@@ -128,7 +128,7 @@ fn cleanness_line<S: Sink>(out: &mut S, v: &Superblock) -> Result<(), SinkFault>
 }
 
 /// Whether the array was stopped in order, or is not known to have been.
-pub(crate) fn cleanness(v: &Superblock) -> &'static str
+pub fn cleanness(v: &Superblock) -> &'static str
     ensures { result.now ≡ state_text v.now }
 {
     if v.resync_offset == u64::MAX {

@@ -6,15 +6,15 @@ use Rattle.std.proofs.lemmas.Bool.Decides.{eqb_tells, nat_tests}
 use Rattle.std.proofs.lemmas.Option.{none-some}
 use Rattle.md_model.specs.Events.{Event}
 use Rattle.md_bitmap.specs.Marks.{is_set}
-use Rattle.md_array.specs.declared.extent.Extent.{Extent}
-use Rattle.md_array.specs.declared.step_fault.ClearFault.{ClearFault}
-use Rattle.md_array.specs.declared.step_fault.ClearFault.TheVariants.{Halted, NotResynced, Degraded, Busy, NotMarked}
-use Rattle.md_array.specs.View.{ArrayView, MirrorView, PendingView}
-use Rattle.md_array.specs.ClearingMarks.{Clears, RefusesClear, first_touching}
+use Rattle.md_state.specs.declared.extent.Extent.{Extent}
+use Rattle.md_state.specs.declared.step_fault.ClearFault.{ClearFault}
+use Rattle.md_state.specs.declared.step_fault.ClearFault.TheVariants.{Halted, NotResynced, Degraded, Busy, NotMarked}
+use Rattle.md_state.specs.View.{ArrayView, MirrorView, PendingView}
+use Rattle.md_state.specs.ClearingMarks.{Clears, RefusesClear, first_touching}
+use Rattle.md_state.specs.MakingClean.{first_number}
+use Rattle.md_state.specs.Requests.{IsPending}
 use Rattle.md_array.specs.Consistency.{IsConsistent}
 use Rattle.md_array.specs.Events.{ClearHappens}
-use Rattle.md_array.specs.MakingClean.{first_number}
-use Rattle.md_array.specs.Requests.{IsPending}
 use Rattle.md_metadata.specs.Clearing.{ClearsAll, ClearsMark, IsClearing, MayClearAll, Remarks}
 use Rattle.md_metadata.proofs.Leading.{leads_nowhere, leads_once, leads_then}
 

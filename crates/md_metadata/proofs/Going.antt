@@ -3,14 +3,14 @@ use Rattle.std.proofs.Common.{◌≡◌, ℕ, Option, [], ◌∷◌, ◌++◌, S
 use Rattle.md_model.specs.Events.{Event}
 use Rattle.md_bitmap.specs.Marks.{Bitmap, is_set}
 use Rattle.md_inflight.specs.Inflight.{InflightList, lookup}
-use Rattle.md_array.specs.declared.extent.Extent.{Extent}
+use Rattle.md_state.specs.declared.extent.Extent.{Extent}
 use Rattle.md_assembly.specs.States.{is_in_sync}
-use Rattle.md_array.specs.View.{ArrayView, MemberView, MirrorView}
-use Rattle.md_array.specs.Members.{IsInSync}
+use Rattle.md_state.specs.View.{ArrayView, MemberView, MirrorView}
+use Rattle.md_state.specs.Members.{IsInSync}
+use Rattle.md_state.specs.Requests.{AreInFlight}
 use Rattle.md_array.specs.Consistency.{IsConsistent}
 use Rattle.md_array.specs.InTurn.{InTurn, IsInOrder, Requests}
-use Rattle.md_array.specs.Requests.{AreInFlight}
-use Rattle.md_array.proofs.Turns.{all_on, turn_on, turn_then}
+use Rattle.md_array.proofs.Steps.Turns.{all_on, turn_on, turn_then}
 use Rattle.md_metadata.specs.declared.fault.PartFault.{PartFault}
 use Rattle.md_metadata.specs.declared.fault.PartFault.TheVariants.{Halted, MemberFailed}
 use Rattle.md_metadata.specs.Going.{GoesOn, HaltsAfter, IsSameArray, LosesMember, StepsBy, alone}

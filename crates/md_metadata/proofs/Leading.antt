@@ -2,14 +2,14 @@
 use Rattle.std.proofs.Common.{◌≡◌, Option, [], ◌∷◌, ◌++◌, refl, sym, ap, ◌∙◌, subst}
 use Rattle.md_inflight.specs.Inflight.{InflightList, lookup}
 use Rattle.md_model.specs.Events.{Event}
-use Rattle.md_array.specs.declared.extent.Extent.{Extent}
-use Rattle.md_array.specs.View.{MirrorView, PendingView}
+use Rattle.md_state.specs.declared.extent.Extent.{Extent}
+use Rattle.md_state.specs.View.{MirrorView, PendingView}
+use Rattle.md_state.specs.Requests.{AreInFlight, IsPending}
 use Rattle.md_array.specs.Consistency.{IsConsistent}
 use Rattle.md_array.specs.Events.{Does}
 use Rattle.md_array.specs.InTurn.{Did, InTurn, IsInOrder, LeftWhole, Requests}
-use Rattle.md_array.specs.Requests.{AreInFlight, IsPending}
 use Rattle.md_array.specs.Worlds.{AreHonest}
-use Rattle.md_array.proofs.Turns.{all_on, all_such, turn_on, turn_then}
+use Rattle.md_array.proofs.Steps.Turns.{all_on, all_such, turn_on, turn_then}
 use Rattle.md_metadata.specs.Going.{GoesOn, LeadsBy, alone}
 
 pub leads_nowhere : (IsOf : Event → Type 0) (m : MirrorView) → IsConsistent m → LeadsBy IsOf m m

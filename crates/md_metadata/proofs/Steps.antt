@@ -9,21 +9,21 @@ use Rattle.md_bitmap.specs.Marks.{is_set}
 use Rattle.md_assembly.specs.declared.state.MemberState.{MemberState}
 use Rattle.md_assembly.specs.declared.state.MemberState.TheVariants.{InSync, Recovering, Stale, Spare, Faulty}
 use Rattle.md_assembly.specs.States.{is_in_sync}
-use Rattle.md_array.specs.declared.step_fault.StoreFault.TheVariants.{Halted, NotActive, MemberFailed}
-use Rattle.md_array.specs.View.{ArrayView, MemberView, MirrorView, PendingView}
-use Rattle.md_array.specs.Members.{IsMember, is_recorded}
+use Rattle.md_state.specs.declared.step_fault.StoreFault.TheVariants.{Halted, NotActive, MemberFailed}
+use Rattle.md_state.specs.View.{ArrayView, MemberView, MirrorView, PendingView}
+use Rattle.md_state.specs.Members.{IsMember, is_recorded}
+use Rattle.md_state.specs.Requests.{AreInFlight, IsPending}
+use Rattle.md_state.specs.Rising.{Fails, made_due, made_faulty}
+use Rattle.md_state.specs.StoringMarks.{FailsToStoreMarks, RefusesMarkSector, StoresMarkSector}
+use Rattle.md_state.specs.Trying.{RefusesHalted}
+use Rattle.md_state.specs.WritingMember.{IsNotDue}
 use Rattle.md_array.specs.Consistency.{IsConsistent}
 use Rattle.md_array.specs.Events.{Does, Happens, HappensIfOldNewOrNone}
 use Rattle.md_array.specs.InTurn.{Did, IsInOrder, IsSectorDue, LeftWhole, Requests}
 use Rattle.md_array.specs.Recording.{FailsToRecord, Records, RefusesRecord}
-use Rattle.md_array.specs.Requests.{AreInFlight, IsPending}
-use Rattle.md_array.specs.Rising.{Fails, made_due, made_faulty}
-use Rattle.md_array.specs.StoringMarks.{FailsToStoreMarks, RefusesMarkSector, StoresMarkSector}
-use Rattle.md_array.specs.Trying.{RefusesHalted}
 use Rattle.md_array.specs.Worlds.{AreHonest}
-use Rattle.md_array.specs.WritingMember.{IsNotDue}
-use Rattle.md_array.proofs.Replaced.{of_set}
-use Rattle.md_array.proofs.WorldsLists.{at_set_same}
+use Rattle.md_array.proofs.General.Replaced.{of_set}
+use Rattle.md_array.proofs.General.Indices.{at_set_same}
 use Rattle.md_metadata.specs.declared.fault.PartFault.TheVariants as part
 use Rattle.md_metadata.specs.Going.{HaltsAfter, IsFaulty, IsSameArray, LosesMember, StepsBy, alone, recorded_count}
 use Rattle.md_metadata.specs.Storing.{AllStayReady, IsStoring, LosesStoring, RecordsOn, StopsRecording, StoresOn}

@@ -4,16 +4,16 @@ use Rattle.std.specs.Prelude.{Result, Ok, Err, MatchResult}
 use Rattle.std.proofs.lemmas.Bool.Decides.{eqb_tells}
 use Rattle.md_model.specs.Events.{Event}
 use Rattle.md_bitmap.specs.Marks.{Bitmap, is_set}
-use Rattle.md_array.specs.declared.step_fault.CleanFault.{CleanFault}
-use Rattle.md_array.specs.declared.step_fault.CleanFault.TheVariants as clean
-use Rattle.md_array.specs.View.{ArrayView, MemberView, MirrorView, PendingView}
+use Rattle.md_state.specs.declared.step_fault.CleanFault.{CleanFault}
+use Rattle.md_state.specs.declared.step_fault.CleanFault.TheVariants as clean
+use Rattle.md_state.specs.View.{ArrayView, MemberView, MirrorView, PendingView}
+use Rattle.md_state.specs.MakingClean.{CannotRise, IsIdle, MakesClean, RefusesClean, made_clean}
+use Rattle.md_state.specs.Members.{clean_offset, is_degraded, is_recorded}
+use Rattle.md_state.specs.Requests.{IsPending}
+use Rattle.md_state.specs.Rising.{HasSpentEvents, made_due}
+use Rattle.md_state.specs.WritingMember.{IsNotDue}
 use Rattle.md_array.specs.Consistency.{IsConsistent}
 use Rattle.md_array.specs.Events.{CleanHappens}
-use Rattle.md_array.specs.MakingClean.{CannotRise, IsIdle, MakesClean, RefusesClean, made_clean}
-use Rattle.md_array.specs.Members.{clean_offset, is_degraded, is_recorded}
-use Rattle.md_array.specs.Requests.{IsPending}
-use Rattle.md_array.specs.Rising.{HasSpentEvents, made_due}
-use Rattle.md_array.specs.WritingMember.{IsNotDue}
 use Rattle.md_metadata.specs.declared.fault.PartFault.{PartFault}
 use Rattle.md_metadata.specs.Clearing.{ClearsAll, IsClearing, MayClearAll}
 use Rattle.md_metadata.specs.Going.{HaltsAfter, LeadsBy, alone, recorded_count}

@@ -4,10 +4,10 @@ use Rattle.std.proofs.lemmas.Option.{same_Some, slice_get_within}
 use Rattle.std.specs.Prelude.{option_map}
 use Rattle.md_model.proofs.Puts.{by_same}
 use Rattle.md_bitmap.specs.Marks.{Bitmap}
-use Rattle.md_array.specs.View.{ArrayView, MemberView, MirrorView}
-use Rattle.md_array.specs.Members.{IsInSync, IsMember}
+use Rattle.md_state.specs.View.{ArrayView, MemberView, MirrorView}
+use Rattle.md_state.specs.Members.{IsInSync, IsMember}
+use Rattle.md_state.specs.WritingMember.{IsNotDue}
 use Rattle.md_array.specs.Consistency.{IsConsistent}
-use Rattle.md_array.specs.WritingMember.{IsNotDue}
 use Rattle.md_metadata.specs.Storing.{StaysReady, Stores, StoresAll, StoresAt, StoresBelow}
 use Rattle.md_metadata.proofs.Going.{stores_nowhere, stores_on, was_in_sync}
 

@@ -5,12 +5,12 @@ use Rattle.std.specs.Prelude.{Result, Ok, Err, MatchResult}
 use Rattle.md_model.specs.Events.{Event}
 use Rattle.md_model.proofs.Puts.{by_same}
 use Rattle.md_assembly.specs.States.{is_in_sync}
-use Rattle.md_array.specs.View.{ArrayView, MemberView, MirrorView}
-use Rattle.md_array.specs.Members.{AllInSync, IsInSync, IsMember, is_recorded}
+use Rattle.md_state.specs.View.{ArrayView, MemberView, MirrorView}
+use Rattle.md_state.specs.Members.{AllInSync, IsInSync, IsMember, is_recorded}
+use Rattle.md_state.specs.WritingMember.{IsNotDue}
 use Rattle.md_array.specs.Consistency.{IsConsistent}
 use Rattle.md_array.specs.InTurn.{IsRecordDue, IsSectorDue}
-use Rattle.md_array.specs.WritingMember.{IsNotDue}
-use Rattle.md_array.proofs.WorldsLists.{at_set_same}
+use Rattle.md_array.proofs.General.Indices.{at_set_same}
 use Rattle.md_metadata.specs.declared.fault.PartFault.{PartFault}
 use Rattle.md_metadata.specs.declared.fault.PartFault.TheVariants.{Halted, MemberFailed}
 use Rattle.md_metadata.specs.Going.{IsFaulty, alone}

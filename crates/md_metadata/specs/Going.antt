@@ -2,10 +2,10 @@
 use Rattle.std.specs.Prelude.{◌≡◌, ℕ, ◌<◌, ◌≤◌, List, length, count_by, Option}
 use Rattle.md_model.specs.Events.{Event}
 use Rattle.md_assembly.specs.declared.state.MemberState.TheVariants.{Faulty}
-use Rattle.md_array.specs.View.{ArrayView, MemberView, MirrorView, PendingView}
+use Rattle.md_state.specs.View.{ArrayView, MemberView, MirrorView, PendingView}
+use Rattle.md_state.specs.Members.{IsMember, is_recorded}
+use Rattle.md_state.specs.Requests.{AreInFlight, IsPending}
 use Rattle.md_array.specs.Consistency.{IsConsistent}
-use Rattle.md_array.specs.Members.{IsMember, is_recorded}
-use Rattle.md_array.specs.Requests.{AreInFlight, IsPending}
 use Rattle.md_array.specs.Events.{Does}
 use Rattle.md_array.specs.InTurn.{AllOf, Did, HaltsAt, LeftWhole, Leads, Requests}
 use Rattle.md_array.specs.Worlds.{AreHonest}

@@ -2,12 +2,12 @@
 use Rattle.std.specs.Prelude.{◌≡◌, ◌⊎◌, ℕ, ◌<◌, Bool, true, false, cond, not, ◌&&◌, ◌==◌}
 use Rattle.md_model.specs.Events.{Event}
 use Rattle.md_bitmap.specs.Marks.{Bitmap, is_set}
-use Rattle.md_array.specs.View.{ArrayView, MemberView, MirrorView}
+use Rattle.md_state.specs.View.{ArrayView, MemberView, MirrorView}
+use Rattle.md_state.specs.MakingClean.{CannotRise, HasInFlight, IsIdle, made_clean}
+use Rattle.md_state.specs.Members.{AllInSync, clean_offset, is_degraded}
+use Rattle.md_state.specs.Rising.{HasSpentEvents}
+use Rattle.md_state.specs.Trying.{Refuses, RefusesHalted}
 use Rattle.md_array.specs.InTurn.{HaltsAt, Requests}
-use Rattle.md_array.specs.MakingClean.{CannotRise, HasInFlight, IsIdle, made_clean}
-use Rattle.md_array.specs.Members.{AllInSync, clean_offset, is_degraded}
-use Rattle.md_array.specs.Rising.{HasSpentEvents}
-use Rattle.md_array.specs.Trying.{Refuses, RefusesHalted}
 use Rattle.md_metadata.specs.declared.stop_fault.StopFault.{StopFault}
 use Rattle.md_metadata.specs.declared.stop_fault.StopFault.TheVariants.{Halted, InFlight, EventsFull, MemberFailed}
 use Rattle.md_metadata.specs.Going.{IsFaulty, LeadsBy, recorded_count}

@@ -2,10 +2,10 @@
 use Rattle.std.specs.Prelude.{◌≡◌, ℕ, ◌<◌, true}
 use Rattle.md_model.specs.Events.{Event}
 use Rattle.md_bitmap.specs.Marks.{Bitmap, is_set}
-use Rattle.md_array.specs.View.{ArrayView, MemberView, MirrorView}
-use Rattle.md_array.specs.Members.{IsInSync, IsMember, is_recorded}
-use Rattle.md_array.specs.StoringMarks.{StoresMarkSector}
-use Rattle.md_array.specs.WritingMember.{IsNotDue}
+use Rattle.md_state.specs.View.{ArrayView, MemberView, MirrorView}
+use Rattle.md_state.specs.Members.{IsInSync, IsMember, is_recorded}
+use Rattle.md_state.specs.StoringMarks.{StoresMarkSector}
+use Rattle.md_state.specs.WritingMember.{IsNotDue}
 use Rattle.md_metadata.specs.declared.fault.PartFault.{PartFault}
 use Rattle.md_metadata.specs.declared.fault.PartFault.TheVariants.{Halted, MemberFailed}
 use Rattle.md_metadata.specs.Going.{GoesOn, HaltsAfter, IsFaulty, LosesMember, StepsBy, alone, recorded_count}

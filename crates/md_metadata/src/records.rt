@@ -1,10 +1,10 @@
 // Storing the superblocks that are due.
 ghost use Rattle.std.specs.Prelude.{◌≡◌, ◌<◌, ℕ, MatchResult, Some, length, true, false};
 ghost use Rattle.md_model.specs.Events.{Event};
+ghost use Rattle.md_state.specs.Members.{AllInSync, IsInSync, IsMember, is_recorded};
+ghost use Rattle.md_state.specs.View.{MemberView};
+ghost use Rattle.md_state.specs.WritingMember.{IsNotDue};
 ghost use Rattle.md_array.specs.Consistency.{IsConsistent};
-ghost use Rattle.md_array.specs.Members.{AllInSync, IsInSync, IsMember, is_recorded};
-ghost use Rattle.md_array.specs.View.{MemberView};
-ghost use Rattle.md_array.specs.WritingMember.{IsNotDue};
 ghost use Rattle.md_metadata.specs.Storing.{RecordsAll, RecordsAt, RecordsOn, StoresAll, StoresAt, StopsRecording, StopsStoring};
 
 use crate::fault::PartFault;

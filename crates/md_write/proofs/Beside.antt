@@ -1,10 +1,10 @@
 -- Marks and records are stored beside a request in flight.
 use Rattle.std.proofs.Common.{ℕ, refl, ap, ◌∙◌}
 use Rattle.md_model.specs.Events.{Event}
-use Rattle.md_array.specs.View.{MirrorView, PendingView}
-use Rattle.md_array.specs.Requests.{IsPending, among}
-use Rattle.md_array.proofs.InFlight.{among_in_flight}
-use Rattle.md_array.proofs.Turns.{all_such}
+use Rattle.md_state.specs.View.{MirrorView, PendingView}
+use Rattle.md_state.specs.Requests.{IsPending, among}
+use Rattle.md_array.proofs.Steps.InFlight.{among_in_flight}
+use Rattle.md_array.proofs.Steps.Turns.{all_such}
 use Rattle.md_metadata.specs.Going.{GoesOn, HaltsAfter, alone}
 use Rattle.md_metadata.specs.Storing.{IsStoring}
 use Rattle.md_write.specs.Progress.{IsLater, IsOfRequest}

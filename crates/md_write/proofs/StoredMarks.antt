@@ -6,11 +6,11 @@ use Rattle.md_model.specs.Sectors.{block_of}
 use Rattle.md_model.proofs.Cases.{below-nat_lt}
 use Rattle.md_model.proofs.Puts.{by_same}
 use Rattle.md_bitmap.specs.Marks.{Bitmap, is_set}
-use Rattle.md_array.specs.View.{ArrayView, MemberView, MirrorView}
-use Rattle.md_array.specs.Members.{IsInSync, IsMember}
+use Rattle.md_state.specs.View.{ArrayView, MemberView, MirrorView}
+use Rattle.md_state.specs.Members.{IsInSync, IsMember}
+use Rattle.md_state.specs.WritingMember.{HasMarksFrom}
 use Rattle.md_array.specs.Consistency.{IsConsistent}
 use Rattle.md_array.specs.InTurn.{IsSectorDue}
-use Rattle.md_array.specs.WritingMember.{HasMarksFrom}
 use Rattle.md_metadata.specs.declared.fault.PartFault.{PartFault}
 use Rattle.md_metadata.specs.Going.{IsSameArray, alone}
 use Rattle.md_metadata.specs.Storing.{IsStoring, StaysReady, Stores, StoresAt, StoresOn, StopsStoring}

@@ -14,23 +14,23 @@ use Rattle.md_bitmap.specs.Marks.{is_set}
 use Rattle.md_bitmap.specs.declared.chunks.Chunks.{Chunks}
 use Rattle.md_bitmap.proofs.Limits.{div-lt-div_ceil}
 use Rattle.md_inflight.specs.Inflight.{InflightList, lookup, without}
-use Rattle.md_array.specs.declared.extent.Extent.{Extent}
-use Rattle.md_array.specs.declared.step_fault.BeginFault.{BeginFault}
-use Rattle.md_array.specs.declared.step_fault.BeginFault.TheVariants as begin
-use Rattle.md_array.specs.declared.step_fault.FinishFault.{FinishFault}
-use Rattle.md_array.specs.declared.step_fault.FinishFault.TheVariants as finish
-use Rattle.md_array.specs.View.{ArrayView, MirrorView, PendingView}
-use Rattle.md_array.specs.Beginning.{Begins, HasMarked, RefusesBegin, has_sector_of, has_to_rise}
-use Rattle.md_array.specs.Rising.{risen}
+use Rattle.md_state.specs.declared.extent.Extent.{Extent}
+use Rattle.md_state.specs.declared.step_fault.BeginFault.{BeginFault}
+use Rattle.md_state.specs.declared.step_fault.BeginFault.TheVariants as begin
+use Rattle.md_state.specs.declared.step_fault.FinishFault.{FinishFault}
+use Rattle.md_state.specs.declared.step_fault.FinishFault.TheVariants as finish
+use Rattle.md_state.specs.View.{ArrayView, MirrorView, PendingView}
+use Rattle.md_state.specs.Beginning.{Begins, HasMarked, RefusesBegin, has_sector_of, has_to_rise}
+use Rattle.md_state.specs.Rising.{risen}
+use Rattle.md_state.specs.Finishing.{Finishes, MayFinish, RefusesFinish}
+use Rattle.md_state.specs.Requests.{AreInFlight, IsPending, among, request_of}
 use Rattle.md_array.specs.Consistency.{IsConsistent}
 use Rattle.md_array.specs.Events.{BeginHappens, Does, FinishHappens}
-use Rattle.md_array.specs.Finishing.{Finishes, MayFinish, RefusesFinish}
 use Rattle.md_array.specs.InTurn.{AllLeftWhole, InTurn, IsPut, Requests}
-use Rattle.md_array.specs.Requests.{AreInFlight, IsPending, among, request_of}
 use Rattle.md_array.specs.Worlds.{AreHonest, geometry_of, world_of}
-use Rattle.md_array.proofs.InFlight.{found_with_last}
-use Rattle.md_array.proofs.Turns.{turn_on, turn_then, turn_through}
-use Rattle.md_array.proofs.WorldsInSync.{in_sync_is, number_at}
+use Rattle.md_array.proofs.Steps.InFlight.{found_with_last}
+use Rattle.md_array.proofs.Steps.Turns.{turn_on, turn_then, turn_through}
+use Rattle.md_array.proofs.Worlds.InSync.{in_sync_is, number_at}
 use Rattle.md_write.specs.Progress.{AreChunksOf, HaltsOn, IsOfRequest, IsReadyToFinish}
 use Rattle.md_write.specs.Writing.{HaltsWrite, HasReceived, IsWritten, RefusesWrite, Writes, events_of}
 use Rattle.md_write.proofs.WrittenData.{put_under, under}

@@ -7,15 +7,15 @@ use Rattle.md_model.specs.Events.{Event}
 use Rattle.md_model.proofs.Puts.{by_same, put-hit, put-miss}
 use Rattle.md_bitmap.specs.declared.chunks.Chunks.{Chunks}
 use Rattle.md_assembly.specs.States.{is_in_sync}
-use Rattle.md_array.specs.declared.step_fault.WriteMemberFault.TheVariants.{Halted, NotActive, NotMarked, NotRecorded, AlreadyWritten, MemberFailed}
-use Rattle.md_array.specs.View.{ArrayView, MemberView, MirrorView, PendingView}
-use Rattle.md_array.specs.Members.{AllInSync, IsInSync, IsMember}
+use Rattle.md_state.specs.declared.step_fault.WriteMemberFault.TheVariants.{Halted, NotActive, NotMarked, NotRecorded, AlreadyWritten, MemberFailed}
+use Rattle.md_state.specs.View.{ArrayView, MemberView, MirrorView, PendingView}
+use Rattle.md_state.specs.Members.{AllInSync, IsInSync, IsMember}
+use Rattle.md_state.specs.Finishing.{HasBytesOf}
+use Rattle.md_state.specs.Requests.{IsPending, among, has_written, request_of}
+use Rattle.md_state.specs.WritingMember.{HasMarksFrom, HasMarksOf, IsNotDue, RefusesWriteMember, WritesTo}
 use Rattle.md_array.specs.Consistency.{IsConsistent}
 use Rattle.md_array.specs.Events.{HappensAmong}
-use Rattle.md_array.specs.Finishing.{HasBytesOf}
 use Rattle.md_array.specs.InTurn.{IsPut, IsUnder, Requests}
-use Rattle.md_array.specs.Requests.{IsPending, among, has_written, request_of}
-use Rattle.md_array.specs.WritingMember.{HasMarksFrom, HasMarksOf, IsNotDue, RefusesWriteMember, WritesTo}
 use Rattle.md_metadata.specs.declared.fault.PartFault.{PartFault}
 use Rattle.md_metadata.specs.declared.fault.PartFault.TheVariants as part
 use Rattle.md_metadata.specs.Going.{GoesOn, HaltsAfter, IsSameArray, LosesMember}

@@ -3,11 +3,11 @@ use Rattle.std.specs.Prelude.{◌≡◌, ◌⊎◌, ℕ, ◌/◌, true, false, L
 use Rattle.md_model.specs.Content.{Content, HoldsBetween, with_request}
 use Rattle.md_model.specs.Worlds.{Request, touches, IsInSync}
 use Rattle.md_model.specs.Events.{Event}
-use Rattle.md_array.specs.declared.step_fault.BeginFault.{BeginFault}
-use Rattle.md_array.specs.declared.step_fault.BeginFault.TheVariants.{Halted}
-use Rattle.md_array.specs.View.{MirrorView, PendingView}
-use Rattle.md_array.specs.Beginning.{Begins, HasMarked, RefusesBegin}
-use Rattle.md_array.specs.Requests.{AreInFlight, among, request_of}
+use Rattle.md_state.specs.declared.step_fault.BeginFault.{BeginFault}
+use Rattle.md_state.specs.declared.step_fault.BeginFault.TheVariants.{Halted}
+use Rattle.md_state.specs.View.{MirrorView, PendingView}
+use Rattle.md_state.specs.Beginning.{Begins, HasMarked, RefusesBegin}
+use Rattle.md_state.specs.Requests.{AreInFlight, among, request_of}
 use Rattle.md_array.specs.InTurn.{AllLeftWhole, AllOf, HaltsAt, Leads, Requests}
 use Rattle.md_array.specs.Worlds.{AreHonest, geometry_of, world_of}
 use Rattle.md_metadata.specs.Storing.{AllRecorded}

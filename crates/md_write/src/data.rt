@@ -1,9 +1,9 @@
 // Writing a request's bytes to the members.
 ghost use Rattle.std.specs.Prelude.{◌≡◌, ◌<◌, MatchResult, length, false};
+ghost use Rattle.md_state.specs.Members.{AllInSync};
+ghost use Rattle.md_state.specs.Requests.{IsPending};
+ghost use Rattle.md_state.specs.WritingMember.{HasMarksOf, IsNotDue};
 ghost use Rattle.md_array.specs.Consistency.{IsConsistent};
-ghost use Rattle.md_array.specs.Members.{AllInSync};
-ghost use Rattle.md_array.specs.Requests.{IsPending};
-ghost use Rattle.md_array.specs.WritingMember.{HasMarksOf, IsNotDue};
 ghost use Rattle.md_write.specs.Progress.{StopsWriting, WritesAt, WritesToAll};
 
 use md_array::{Mirror, Pending, WriteMemberFault};

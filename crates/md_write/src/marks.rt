@@ -1,8 +1,8 @@
 // Storing the marks of a request.
 ghost use Rattle.std.specs.Prelude.{◌≡◌, ◌+◌, ◌-◌, ◌<◌, ◌≤◌, MatchResult, length, false};
 ghost use Rattle.md_members.specs.Areas.{bitmap_sectors};
+ghost use Rattle.md_state.specs.WritingMember.{HasMarksFrom};
 ghost use Rattle.md_array.specs.Consistency.{IsConsistent};
-ghost use Rattle.md_array.specs.WritingMember.{HasMarksFrom};
 ghost use Rattle.md_metadata.specs.Storing.{StoresAll, StoresAt, StopsStoring};
 ghost use Rattle.md_write.specs.Progress.{AreMarked, HasMarksIn};
 

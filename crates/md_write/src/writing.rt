@@ -1,8 +1,8 @@
 // Writing to the array.
 ghost use Rattle.std.specs.Prelude.{◌≡◌, ◌%◌, MatchResult, length, false};
+ghost use Rattle.md_state.specs.Requests.{IsPending};
+ghost use Rattle.md_state.specs.View.{PendingView};
 ghost use Rattle.md_array.specs.Consistency.{IsConsistent};
-ghost use Rattle.md_array.specs.Requests.{IsPending};
-ghost use Rattle.md_array.specs.View.{PendingView};
 ghost use Rattle.md_write.specs.Progress.{AreChunksOf, HaltsOn, IsReadyToFinish, StopsWriting};
 ghost use Rattle.md_write.specs.Writing.{RefusesWrite, Writes};
 

@@ -21,7 +21,7 @@ pub(crate) struct Run<'a> {
 impl<'a> Model for Run<'a> {
     ghost use Rattle.std.specs.Prelude.{IfSome};
     ghost use Rattle.md_array.specs.Consistency.{IsConsistent};
-    ghost use Rattle.md_array.specs.Requests.{IsPending};
+    ghost use Rattle.md_state.specs.Requests.{IsPending};
 
     ghost Value = { Unit {0} };
 

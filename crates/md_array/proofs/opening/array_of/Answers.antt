@@ -2,8 +2,8 @@ use Rattle.std.proofs.Common.{List, map, subst}
 use Rattle.md_members.specs.declared.info.MemberInfo.{MemberInfo}
 use Rattle.md_assembly.specs.Assembled.{IsAssembled}
 use Rattle.md_assembly.specs.Faults.{NoFault}
-use Rattle.md_array.specs.View.{disk_of}
-use Rattle.md_array.proofs.Whole.{are_whole}
+use Rattle.md_state.specs.View.{disk_of}
+use Rattle.md_array.proofs.Openings.Whole.{are_whole}
 use Rattle.md_array.proofs.opening.array_of.Goals as goal
 
 pub remember-requires-clause-whole : goal.remember-requires-clause-whole

@@ -1,7 +1,7 @@
 use Rattle.std.proofs.Common.{map}
-use Rattle.md_array.specs.View.{disk_of}
-use Rattle.md_array.proofs.Fitting.{fits}
-use Rattle.md_array.proofs.Opened.{fits_after, marked_after, marks_refused}
+use Rattle.md_state.specs.View.{disk_of}
+use Rattle.md_array.proofs.Openings.Fitting.{fits}
+use Rattle.md_array.proofs.Openings.Opened.{fits_after, marked_after, marks_refused}
 use Rattle.md_array.proofs.opening.open_array.Goals as goal
 
 pub store_needed_marks-requires : goal.store_needed_marks-requires

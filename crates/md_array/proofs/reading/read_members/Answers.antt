@@ -1,11 +1,11 @@
 use Rattle.std.proofs.Common.{arith, rules, ◌≡◌, ℕ, ◌+◌, ◌<◌, ◌∙◌, ap, sym, map, length, List, set, subst, get_or}
 use Rattle.std.proofs.lemmas.List.{length_push, map-set}
-use Rattle.md_array.specs.View.{Disk, disk_of}
+use Rattle.md_state.specs.View.{Disk, disk_of}
 use Rattle.md_members.specs.declared.info.MemberInfo.{MemberInfo}
-use Rattle.md_array.specs.DeviceChanges.{IsUntouched, LeavesAsWas, StaysHonest}
+use Rattle.md_state.specs.DeviceChanges.{IsUntouched, LeavesAsWas, StaysHonest}
 use Rattle.md_array.specs.Reading.{RefusesRead, refusal_of}
-use Rattle.md_array.proofs.InTurn.{disk_at, still_untouched}
-use Rattle.md_array.proofs.MembersRead.{AreReadSoFar, read_more, refused_at}
+use Rattle.md_array.proofs.Openings.DevicesInTurn.{disk_at, still_untouched}
+use Rattle.md_array.proofs.Openings.MembersRead.{AreReadSoFar, read_more, refused_at}
 use Rattle.md_array.proofs.reading.read_members.Goals as goal
 
 untouched : {D : Type 0} (disk : D → Disk) (before : List Disk) (devices : List D) (k : ℕ) (x new : D) → k < length devices → IsUntouched before (map disk devices)

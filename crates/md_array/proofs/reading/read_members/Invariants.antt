@@ -1,7 +1,7 @@
 use Rattle.std.proofs.Common.{◌≡◌, ◌≤◌, length, map}
-use Rattle.md_array.specs.DeviceChanges.{IsUntouched}
-use Rattle.md_array.specs.View.{disk_of}
-use Rattle.md_array.proofs.MembersRead.{AreReadSoFar}
+use Rattle.md_state.specs.DeviceChanges.{IsUntouched}
+use Rattle.md_state.specs.View.{disk_of}
+use Rattle.md_array.proofs.Openings.MembersRead.{AreReadSoFar}
 use Rattle.md_array.proofs.reading.read_members.Given as goal
 
 abbrev pub invariant-loop-k : goal.invariant-loop-k

@@ -3,11 +3,11 @@ use Rattle.std.specs.Prelude.{Some, slice_get}
 use Rattle.std.proofs.lemmas.List.{map-set}
 use Rattle.std.proofs.lemmas.Option.{same_Some}
 use Rattle.md_device.specs.Device.{held}
-use Rattle.md_array.specs.DeviceChanges.{IsUntouched}
-use Rattle.md_array.specs.View.{Disk, disk_of}
-use Rattle.md_array.proofs.InTurn.{disk_at, none_touched, still_untouched}
-use Rattle.md_array.proofs.OneWrite.{at_device, here}
-use Rattle.md_array.proofs.ReadingData.{both_answers}
+use Rattle.md_state.specs.DeviceChanges.{IsUntouched}
+use Rattle.md_state.specs.View.{Disk, disk_of}
+use Rattle.md_array.proofs.Openings.DevicesInTurn.{disk_at, none_touched, still_untouched}
+use Rattle.md_array.proofs.Steps.OneWrite.{at_device, here}
+use Rattle.md_array.proofs.General.ReadingData.{both_answers}
 use Rattle.md_array.proofs.reading_data.read_from.Goals as goal
 
 pub sector_on-start-requires : goal.sector_on-start-requires

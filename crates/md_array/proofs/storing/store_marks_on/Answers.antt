@@ -1,7 +1,8 @@
 use Rattle.std.proofs.Common.{OnOk, OnErr, subst, sym}
-use Rattle.md_array.specs.View.{MemberView, disk_of}
-use Rattle.md_array.specs.Storing.{FailsToStore, IsHeaderFor, StoresMarks}
-use Rattle.md_array.proofs.StoredOn.{fails_to_store, stores}
+use Rattle.md_state.specs.View.{MemberView, disk_of}
+use Rattle.md_state.specs.Headers.{IsHeaderFor}
+use Rattle.md_array.specs.Storing.{FailsToStore, StoresMarks}
+use Rattle.md_array.proofs.Openings.StoredOn.{fails_to_store, stores}
 use Rattle.md_array.proofs.storing.store_marks_on.Goals as goal
 
 pub returns-clause-ok : goal.returns-clause-ok

@@ -1,12 +1,12 @@
 use Rattle.std.proofs.Common.{arith, ◌≡◌, ◌∙◌, ◌+◌, ◌<◌, ap, sym, map, length, List, ℕ, refl, subst, get_or, length-set}
 use Rattle.std.proofs.lemmas.List.{length-map, map-set}
 use Rattle.std.proofs.lemmas.Option.{slice_get_read}
-use Rattle.md_array.specs.View.{ArrayView, Disk, MemberView, disk_of}
-use Rattle.md_array.specs.Members.{IsMember, NeedsMarks}
+use Rattle.md_state.specs.View.{ArrayView, Disk, MemberView, disk_of}
+use Rattle.md_state.specs.Members.{IsMember, NeedsMarks}
 use Rattle.md_array.specs.Storing.{FailsToStore, IsMarkedBy, StopsAtMember}
-use Rattle.md_array.proofs.Answered.{err_gives, ok_gives}
-use Rattle.md_array.proofs.InTurn.{disk_at}
-use Rattle.md_array.proofs.MarksStored.{AreStoredTo, stored_all, stored_more, stored_none, stopped_at}
+use Rattle.md_array.proofs.General.Answered.{err_gives, ok_gives}
+use Rattle.md_array.proofs.Openings.DevicesInTurn.{disk_at}
+use Rattle.md_array.proofs.Openings.MarksStored.{AreStoredTo, stored_all, stored_more, stored_none, stopped_at}
 use Rattle.md_array.proofs.storing.store_needed_marks.Goals as goal
 
 -- the member at an index of the array

@@ -1,6 +1,6 @@
 use Rattle.std.proofs.Common.{◌*◌, ◌+◌, ◌≤◌, Result, Ok, Err, MatchResult, length, arith, subst}
 use Rattle.md_writes.specs.Writes.{Write}
-use Rattle.md_array.proofs.OneWrite.{here, is_failed, is_written}
+use Rattle.md_array.proofs.Steps.OneWrite.{here, is_failed, is_written}
 use Rattle.md_array.proofs.writing_member.put_on.Goals as goal
 
 -- what each answer gives, gives this too

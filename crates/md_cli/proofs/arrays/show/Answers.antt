@@ -1,8 +1,8 @@
 use Rattle.std.proofs.Common.{ℕ, List, refl, subst}
 use Rattle.md_examine.specs.Sink.{Puts}
-use Rattle.md_examine.specs.SummaryReport.{summary_text}
-use Rattle.md_examine.specs.DetailReport.{detail_text}
-use Rattle.md_examine.specs.PlanReport.{plan_text}
+use Rattle.md_report.specs.SummaryReport.{summary_text}
+use Rattle.md_report.specs.DetailReport.{detail_text}
+use Rattle.md_report.specs.PlanReport.{plan_text}
 use Rattle.md_cli.specs.declared.array_report.ArrayReport.TheVariants.{Summary, Detail, Plan}
 use Rattle.md_cli.proofs.Flushed.{written}
 use Rattle.md_cli.proofs.arrays.show.Goals as goal

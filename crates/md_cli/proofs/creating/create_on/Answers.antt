@@ -1,7 +1,7 @@
 use Rattle.std.proofs.Common.{◌≡◌, ◌∙◌, ◌<◌, List, [], length, map, Err, ap, sym, subst, refl, inl, inr, arith}
 use Rattle.std.specs.Prelude.{slice_get, slice_index_or}
 use Rattle.std.proofs.lemmas.List.{length-map}
-use Rattle.md_array.specs.View.{disk_of}
+use Rattle.md_state.specs.View.{disk_of}
 use Rattle.md_cli.specs.declared.array_report.ArrayReport.TheVariants.{Summary}
 use Rattle.md_cli.specs.declared.fault.CommandFault.TheVariants.{MetadataFault}
 use Rattle.md_cli.specs.Arrays.{OpensDevices}

@@ -1,7 +1,7 @@
 use Rattle.std.proofs.Common.{◌≡◌, ◌∙◌, ◌+◌, ◌<◌, length, map, refl, sym, subst, arith}
 use Rattle.std.specs.Prelude.{slice_index_or}
 use Rattle.std.proofs.lemmas.Option.{slice_get_read}
-use Rattle.md_array.specs.View.{disk_of}
+use Rattle.md_state.specs.View.{disk_of}
 use Rattle.md_cli.specs.Creating.{AreLaidOut, At, FailsToLayOut}
 use Rattle.md_cli.proofs.Laid.{IsLaidTo, all_laid, did, did_not, disk_at, does_on_disk, laid_up_to, one_laid, stopped_here, stops_on_disk, with_disk}
 use Rattle.md_cli.proofs.laying_out.lay_out_each.Goals as goal

@@ -1,5 +1,5 @@
 use Rattle.std.proofs.Common.{map}
-use Rattle.md_array.specs.View.{disk_of}
+use Rattle.md_state.specs.View.{disk_of}
 use Rattle.md_cli.proofs.Laid.{IsLaidTo}
 use Rattle.md_cli.proofs.laying_out.lay_out_each.Given as goal
 

@@ -1,6 +1,6 @@
 use Rattle.std.proofs.Common.{◌≡◌, ◌∙◌, List, length, map, ap, subst, sym, inl}
 use Rattle.std.proofs.lemmas.List.{length-map}
-use Rattle.md_array.specs.View.{Disk, disk_of}
+use Rattle.md_state.specs.View.{Disk, disk_of}
 use Rattle.md_cli.specs.Arrays.{OpensDevices, overlaid}
 use Rattle.md_cli.proofs.Overlaid.{overlay_ghosts, shown_over}
 use Rattle.md_cli.proofs.looking.look_at_devices.Goals as goal

@@ -1,5 +1,5 @@
 use Rattle.std.proofs.Common.{◌∙◌, ◌+◌, ◌++◌, ◌∷◌, [], map, ap, sym, subst, arith}
-use Rattle.md_array.specs.View.{disk_of}
+use Rattle.md_state.specs.View.{disk_of}
 use Rattle.md_cli.proofs.Sizes.{IsSizedTo, all_sized, none_sized, one_sized}
 use Rattle.md_cli.proofs.sizing.sizes_of.Goals as goal
 

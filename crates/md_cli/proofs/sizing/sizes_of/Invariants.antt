@@ -1,5 +1,5 @@
 use Rattle.std.proofs.Common.{◌≤◌, map}
-use Rattle.md_array.specs.View.{disk_of}
+use Rattle.md_state.specs.View.{disk_of}
 use Rattle.md_cli.proofs.Sizes.{IsSizedTo}
 use Rattle.md_cli.proofs.sizing.sizes_of.Given as goal
 

@@ -1,7 +1,7 @@
 use Rattle.std.proofs.Common.{◌≡◌, true}
-use Rattle.md_array.specs.View.{MemberView}
-use Rattle.md_array.specs.Members.{IsMember}
-use Rattle.md_array.specs.WritingMember.{IsNotDue}
+use Rattle.md_state.specs.View.{MemberView}
+use Rattle.md_state.specs.Members.{IsMember}
+use Rattle.md_state.specs.WritingMember.{IsNotDue}
 use Rattle.md_metadata.proofs.StoredMembers.{nothing_at, told}
 use Rattle.md_metadata.proofs.StoredRecords.{header_due, in_sync_due, recorded_or_stops, still_recorded}
 use Rattle.md_metadata.proofs.records.store_due_record.Goals as goal

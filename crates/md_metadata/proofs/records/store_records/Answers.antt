@@ -1,5 +1,5 @@
 use Rattle.std.proofs.Common.{◌∙◌, arith}
-use Rattle.md_array.specs.WritingMember.{IsNotDue}
+use Rattle.md_state.specs.WritingMember.{IsNotDue}
 use Rattle.md_metadata.proofs.Going.{stops_on}
 use Rattle.md_metadata.proofs.StoredMembers.{below_all, below_more, below_none, records_last}
 use Rattle.md_metadata.proofs.records.store_records.Goals as goal

@@ -1,5 +1,5 @@
 use Rattle.std.proofs.Common.{ap, arith}
-use Rattle.md_array.specs.View.{ArrayView}
+use Rattle.md_state.specs.View.{ArrayView}
 use Rattle.md_write.proofs.WrittenData.{marked_on, recorded_on, running_on, stops_later, written_all, written_more, written_none}
 use Rattle.md_write.proofs.data.write_to_members.Goals as goal
 

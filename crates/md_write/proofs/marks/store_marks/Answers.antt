@@ -1,5 +1,5 @@
 use Rattle.std.proofs.Common.{◌∙◌, arith}
-use Rattle.md_array.specs.WritingMember.{HasMarksFrom}
+use Rattle.md_state.specs.WritingMember.{HasMarksFrom}
 use Rattle.md_metadata.proofs.Going.{stops_on}
 use Rattle.md_metadata.proofs.StoredMembers.{below_all, below_more, below_none}
 use Rattle.md_write.proofs.StoredMarks.{marked_still, marks_last}

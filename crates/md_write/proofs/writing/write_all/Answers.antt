@@ -1,5 +1,5 @@
 use Rattle.std.proofs.Common.{◌∙◌, refl, subst}
-use Rattle.md_array.specs.Requests.{among}
+use Rattle.md_state.specs.Requests.{among}
 use Rattle.md_write.specs.Progress.{IsOfRequest, StopsWriting}
 use Rattle.md_write.proofs.WrittenData.{chunks_later, goes_later, halts_later}
 use Rattle.md_metadata.proofs.Going.{goes_nowhere}

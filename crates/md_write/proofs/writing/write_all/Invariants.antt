@@ -1,5 +1,5 @@
 use Rattle.std.proofs.Common.{◌≡◌, false}
-use Rattle.md_array.specs.Requests.{IsPending, among}
+use Rattle.md_state.specs.Requests.{IsPending, among}
 use Rattle.md_metadata.specs.Going.{GoesOn, recorded_count}
 use Rattle.md_write.specs.Progress.{AreChunksOf, IsLater, IsOfRequest}
 use Rattle.md_write.proofs.writing.write_all.Given as goal

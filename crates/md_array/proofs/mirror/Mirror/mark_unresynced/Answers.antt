@@ -1,9 +1,9 @@
 use Rattle.std.proofs.Common.{false, map, refl, sym, subst}
+use Rattle.md_state.specs.MakingClean.{IsIdle}
+use Rattle.md_state.specs.View.{MirrorView, disk_of}
 use Rattle.md_array.specs.Consistency.{IsConsistent}
-use Rattle.md_array.specs.MakingClean.{IsIdle}
 use Rattle.md_array.specs.MarkingResynced.{MarksResynced}
-use Rattle.md_array.specs.View.{MirrorView, disk_of}
-use Rattle.md_array.proofs.ResyncMarked.{marked_is_consistent, marked_keeps_pending, unresynced_happens}
+use Rattle.md_array.proofs.Worlds.ResyncMarked.{marked_is_consistent, marked_keeps_pending, unresynced_happens}
 use Rattle.md_array.proofs.mirror.Mirror.mark_unresynced.Goals as goal
 
 pub returns : goal.returns

@@ -1,8 +1,8 @@
 use Rattle.std.proofs.Common.{map, subst, sym, arith}
 use Rattle.std.proofs.lemmas.List.{with_items_is}
-use Rattle.md_array.specs.View.{disk_of}
+use Rattle.md_state.specs.View.{disk_of}
 use Rattle.md_array.specs.Consistency.{IsConsistent}
-use Rattle.md_array.proofs.Consistent.{consistent}
+use Rattle.md_array.proofs.Openings.Consistent.{consistent}
 use Rattle.md_array.proofs.mirror.Mirror.open.Goals as goal
 
 pub returns-in-Ok-clause-sound : goal.returns-in-Ok-clause-sound

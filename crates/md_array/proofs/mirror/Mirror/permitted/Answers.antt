@@ -1,7 +1,7 @@
 use Rattle.std.proofs.Common.{◌≡◌, ◌↔◌, subst}
 use Rattle.std.specs.Int.{bit_at}
-use Rattle.md_array.specs.View.{MirrorView}
-use Rattle.md_array.specs.Members.{IsPermitted}
+use Rattle.md_state.specs.View.{MirrorView}
+use Rattle.md_state.specs.Members.{IsPermitted}
 use Rattle.md_array.proofs.mirror.Mirror.permitted.Goals as goal
 
 pub returns : goal.returns

@@ -1,9 +1,9 @@
 use Rattle.std.proofs.Common.{◌≡◌, ◌∙◌, List, map, subst}
 use Rattle.std.specs.Prelude.{Some, slice_get}
 use Rattle.std.proofs.lemmas.List.{with_items_is}
-use Rattle.md_array.specs.View.{Disk, MirrorView, disk_of}
-use Rattle.md_array.proofs.ReadingData.{data_rests, each_answer, fails_to_read, read_fits, reads_data}
-use Rattle.md_array.proofs.Rests.{rests_sound}
+use Rattle.md_state.specs.View.{Disk, MirrorView, disk_of}
+use Rattle.md_array.proofs.General.ReadingData.{data_rests, each_answer, fails_to_read, read_fits, reads_data}
+use Rattle.md_array.proofs.General.Resting.{rests_sound}
 use Rattle.md_array.proofs.mirror.Mirror.read_data.Goals as goal
 
 pub read_from-requires-clause-room : goal.read_from-requires-clause-room

@@ -1,15 +1,15 @@
 use Rattle.std.proofs.Common.{◌<◌, length, map, set, subst}
 use Rattle.std.proofs.lemmas.Result.{err_from_is_err_and}
-use Rattle.md_array.specs.View.{MirrorView, disk_of}
-use Rattle.md_array.specs.Checking.{IsActive}
-use Rattle.md_array.specs.Members.{IsMember}
+use Rattle.md_state.specs.View.{MirrorView, disk_of}
+use Rattle.md_state.specs.Checking.{IsActive}
+use Rattle.md_state.specs.Members.{IsMember}
 use Rattle.md_array.specs.Recording.{MayRecord, Records, RefusesRecord, super_write}
-use Rattle.md_array.proofs.Answered.{err_of, ok_of}
-use Rattle.md_array.proofs.MembersAt.{member_read}
-use Rattle.md_array.proofs.OneWrite.{fits_now, fits_there, is_failed, is_written, within_devices, within_members}
-use Rattle.md_array.proofs.StoresKeep.{record_refused_happens, record_refused_is_consistent, record_refused_is_pending}
-use Rattle.md_array.proofs.SuperRecorded.{record_happens, recorded_is_consistent, recorded_is_pending}
-use Rattle.md_array.proofs.StepsRefused.{record_failed, record_refused}
+use Rattle.md_state.proofs.Members.At.{member_read}
+use Rattle.md_array.proofs.General.Answered.{err_of, ok_of}
+use Rattle.md_array.proofs.Steps.OneWrite.{fits_now, fits_there, is_failed, is_written, within_devices, within_members}
+use Rattle.md_array.proofs.Steps.StoresKeep.{record_refused_happens, record_refused_is_consistent, record_refused_is_pending}
+use Rattle.md_array.proofs.Steps.SuperRecorded.{record_happens, recorded_is_consistent, recorded_is_pending}
+use Rattle.md_array.proofs.Steps.Refused.{record_failed, record_refused}
 use Rattle.md_array.proofs.mirror.Mirror.record.Given as given
 use Rattle.md_array.proofs.mirror.Mirror.record.Goals as goal
 use Rattle.md_array.proofs.mirror.Mirror.record.Goals.{After-index_mut, After-store_superblock}

@@ -1,8 +1,8 @@
 use Rattle.std.proofs.Common.{◌≡◌, ◌<◌, ◌↔◌, IsTrue, length, subst, sym}
-use Rattle.md_array.specs.View.{MemberView, MirrorView}
-use Rattle.md_array.specs.Members.{IsMember, NeedsMarks}
-use Rattle.md_array.proofs.Listing.{same_listed}
-use Rattle.md_array.proofs.MembersAt.{member_read}
+use Rattle.md_state.specs.View.{MemberView, MirrorView}
+use Rattle.md_state.specs.Members.{IsMember, NeedsMarks}
+use Rattle.md_state.proofs.Members.Indices.{same_listed}
+use Rattle.md_state.proofs.Members.At.{member_read}
 use Rattle.md_array.proofs.mirror.Mirror.stored_marks_at_opening.Goals as goal
 
 pub returns : goal.returns

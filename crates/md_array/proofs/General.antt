@@ -1,0 +1,16 @@
+-- What is said of lists, tests and answers, of no array in particular.
+
+-- What a call says where it is known whether it failed.
+pub mod Answered
+-- Devices that do what they answer do so after a call.
+pub mod Honesty
+-- Lists by their indices.
+pub mod Indices
+-- Sectors are read from a member's device.
+pub mod ReadingData
+-- A list with one element replaced.
+pub mod Replaced
+-- A mirror whose devices were only read is consistent as before.
+pub mod Resting
+-- Tests that come out one way.
+pub mod Tests

@@ -1,0 +1,39 @@
+-- A member's marks are stored by the writes of its bitmap.
+use Rattle.std.proofs.Common.{ℕ, ◌*◌, Result, Ok, Err, OnOk, OnErr, refl}
+use Rattle.md_device.specs.declared.device.Device.{Ghosts}
+use Rattle.md_device.specs.Splice.{SameOutside}
+use Rattle.md_bitmap.specs.declared.header.BitmapHeader.{BitmapHeader}
+use Rattle.md_members.specs.Areas.{bitmap_sectors}
+use Rattle.md_members.specs.Reading.{BitmapStartsAt}
+use Rattle.md_writes.specs.Bitmaps.{bitmap_writes}
+use Rattle.md_writes.specs.Writes.{MakesWrites}
+use Rattle.md_state.specs.View.{ArrayView, MemberView, disk_of}
+use Rattle.md_state.specs.Headers.{IsHeaderFor}
+use Rattle.md_array.specs.Storing.{AreMarkWrites, FailsToStore, StoresMarks}
+
+module _ {D : Type 0} (g : Ghosts D) (a : ArrayView) (m : MemberView) (start : ℕ) (h : BitmapHeader) (old new : D) (at : BitmapStartsAt m.superblock start) (is : IsHeaderFor a m h)
+    (outside : SameOutside (512 * start) (512 * bitmap_sectors m.stored.chunks) (g.content old) (g.content new)) where
+  writes_are : AreMarkWrites a m start (bitmap_writes start h m.stored (bitmap_sectors m.stored.chunks))
+  writes_are = record { at = at; header = h; header_is = is; writes_are = refl }
+
+  pub stores : {T E : Type 0} (result : Result T E) → MakesWrites g (bitmap_writes start h m.stored (bitmap_sectors m.stored.chunks)) old new result
+      → OnOk result (StoresMarks a m (disk_of g old) (disk_of g new))
+  stores (Ok x) does = record { start = start; writes = bitmap_writes start h m.stored (bitmap_sectors m.stored.chunks); are = writes_are; done = does.all_done; within = does.within; outside = outside }
+  stores (Err e) stops = tt
+
+  pub fails_to_store : {T E : Type 0} (result : Result T E) → MakesWrites g (bitmap_writes start h m.stored (bitmap_sectors m.stored.chunks)) old new result
+      → OnErr result (FailsToStore a m (disk_of g old) (disk_of g new))
+  fails_to_store (Ok x) does = tt
+  fails_to_store (Err e) stops = record {
+    start = start;
+    writes = bitmap_writes start h m.stored (bitmap_sectors m.stored.chunks);
+    are = writes_are;
+    failed = stops.failed;
+    made = stops.done;
+    tried = stops.tried;
+    rest = stops.rest;
+    order = stops.order;
+    stopped = stops.outside;
+    within = stops.within;
+    outside = outside;
+  }

@@ -1,0 +1,104 @@
+-- A write of a superblock fails: where it left the old superblock, the new one or none, that is the model's event.
+use Rattle.std.proofs.Common.{◌≡◌, ℕ, ◌*◌, inl, inr, Bool, true, Some, slice_get, Option, refl, sym, ap, ◌∙◌, subst}
+use Rattle.std.proofs.lemmas.Option.{same_Some}
+use Rattle.md_device.specs.Splice.{SameOutside}
+use Rattle.md_assembly.specs.States.{is_in_sync}
+use Rattle.md_model.specs.Devices.{Stored}
+use Rattle.md_model.specs.Worlds.{Request}
+use Rattle.md_model.specs.Failures.{LeftBySuper}
+use Rattle.md_model.specs.Events.{Event}
+use Rattle.md_model.proofs.Cases.{none_some}
+use Rattle.md_writes.specs.Writes.{Write}
+use Rattle.md_state.specs.View.{ArrayView, Disk, MemberView, MirrorView}
+use Rattle.md_array.specs.Consistency.{IsConsistent}
+use Rattle.md_array.specs.Events.{HappensIfOldNewOrNone, IsOldNewOrNone}
+use Rattle.md_array.specs.ReadAsKept.{HasOwnSuper}
+use Rattle.md_array.specs.Recording.{FailsToRecord, super_write}
+use Rattle.md_array.specs.Worlds.{block_on, is_listed, stored_of, super_in, super_of, world_of, world_on}
+use Rattle.md_array.proofs.Worlds.Listed.{listed_kept, listed_unread, next_kept}
+use Rattle.md_array.proofs.Steps.OneMember.{stored_there}
+use Rattle.md_array.proofs.Worlds.PartsApart.{log_beside_super, parts_of, super_alone}
+use Rattle.md_array.proofs.Worlds.ReadAsKept.{own_stays, own_written}
+use Rattle.md_array.proofs.Steps.SuperRecorded.{listed_written, lists_alike, readable_super, super_is_for}
+use Rattle.md_array.proofs.Worlds.Failed.{IsThere, does_failing, left, member_fails, there_is}
+use Rattle.md_array.proofs.Worlds.InSync.{in_sync_of}
+use Rattle.md_array.proofs.Worlds.Supers.{super_shown}
+
+module _ (k : ℕ) (old new : MirrorView) (c : IsConsistent old) (f : FailsToRecord k old new) where
+  abbrev a : ArrayView
+  a = old.array
+
+  abbrev m : MemberView
+  m = f.member
+
+  abbrev w : Write
+  w = super_write a m
+
+  -- the log of a member in sync lists what it listed
+  lists_left : (t : IsThere k old.disks new.disks) → is_in_sync m.state ≡ true → t.old.honest ≡ true → IsOldNewOrNone w.bytes t.old t.new → (sector : ℕ) → is_listed m.superblock t.new.content sector ≡ is_listed m.superblock t.old.content sector
+  lists_left t in_sync honest leaves sector =
+      let outside : SameOutside (512 * 8) 4096 t.old.content t.new.content =
+      subst (λ (n : ℕ). SameOutside (512 * 8) n t.old.content t.new.content) f.may.readable.size (f.fails.disks.tried.outside t.old t.new t.was t.is) in
+      let log = log_beside_super a m t.old.content t.new.content (parts_of old c k t.old m t.was f.may.at) outside in
+      let has = c.supers f.may.running k t.old m t.was f.may.at in_sync honest in
+      let before = next_kept m.superblock t.old.content t.new.content log sector ∙ sym (has.listed sector) in
+      elim leaves [
+        | inl same ↦ listed_kept m.superblock t.old.content t.new.content log sector same
+        | inr other ↦
+            elim other [
+              | inl next ↦ listed_written a m t.new.content f.may.readable next sector ∙ before
+              | inr none ↦ listed_unread m.superblock t.new.content none sector ∙ before
+            ]
+      ]
+
+  left_by_super : (requests : ℕ → Option Request) (t : IsThere k old.disks new.disks) → t.old.honest ≡ true → IsOldNewOrNone w.bytes t.old t.new
+      → LeftBySuper (world_of old requests) k (left k w old new c f.fails m f.may.at requests)
+  left_by_super requests t honest leaves =
+      let was : (world_of old requests).stored k ≡ stored_of a m t.old.content = stored_there old.disks a k m t.old f.may.at t.was in
+      let is : (world_on new.disks a requests).stored k ≡ stored_of a m t.new.content = stored_there new.disks a k m t.new f.may.at t.is in
+      let outside : SameOutside (512 * 8) 4096 t.old.content t.new.content =
+      subst (λ (n : ℕ). SameOutside (512 * 8) n t.old.content t.new.content) f.may.readable.size (f.fails.disks.tried.outside t.old t.new t.was t.is) in
+      let super_left = ap (λ (s : Stored). s.super) is in
+      record {
+        rest = is ∙ super_alone a m t.old.content t.new.content (parts_of old c k t.old m t.was f.may.at) outside
+            ∙ (λ i. record (sym was i) { super = sym super_left i; listed = sym (ap (λ (s : Stored). s.listed) is) i });
+        listed = λ on s.
+            let in_sync = in_sync_of old.disks a requests k m f.may.at on in
+            ap (λ (x : Stored). x.listed s) is
+            ∙ ap (λ (l : ℕ → Bool). l s) (lists_alike a m t.old.content t.new.content (lists_left t in_sync honest leaves))
+            ∙ ap (λ (x : Stored). x.listed s) (sym was);
+        super = elim leaves [
+          | inl same ↦ inl (super_left ∙ ap super_in same ∙ sym (ap (λ (s : Stored). s.super) was))
+          | inr other ↦
+              elim other [
+                | inl next ↦ inr (inl (super_left ∙ ap super_in next ∙ readable_super a m f.may.readable ∙ ap Some (super_is_for old.disks a requests k m f.may.at)))
+                | inr none ↦ inr (inr (super_left ∙ none))
+              ]
+        ];
+      }
+
+  -- a superblock that is read there is still the member's
+  own_left : (d e : Disk) → slice_get old.disks k ≡ Some d → slice_get new.disks k ≡ Some e → IsOldNewOrNone w.bytes d e
+      → HasOwnSuper a.shared m.superblock d.content → HasOwnSuper a.shared m.superblock e.content
+  own_left d e was is leaves has =
+      let outside : SameOutside (512 * 8) 4096 d.content e.content =
+      subst (λ (n : ℕ). SameOutside (512 * 8) n d.content e.content) f.may.readable.size (f.fails.disks.tried.outside d e was is) in
+      elim leaves [
+        | inl same ↦ own_stays a.shared m.superblock d.content e.content same (log_beside_super a m d.content e.content (parts_of old c k d m was f.may.at) outside) has
+        | inr other ↦
+            elim other [
+              | inl next ↦ own_written a m e.content f.may.readable next
+              | inr none ↦ λ v on. absurd (none_some (super_of v) (sym none ∙ super_shown (block_on e.content) v on.fields on.sound))
+            ]
+      ]
+
+  pub record_fails_happens : HappensIfOldNewOrNone k old new
+  record_fails_happens n at leaves honest requests in_flight =
+      let t = there_is old k m w new.disks c f.may.at f.fails.disks.tried in
+      let same : n ≡ m = same_Some n m (sym at ∙ f.may.at) in
+      let whole = subst (λ (x : MemberView). IsOldNewOrNone (super_write a x).bytes t.old t.new) same (leaves t.old t.new t.was t.is) in
+      let by_super = left_by_super requests t (honest k t.old t.was) whole in
+      does_failing k w old new c f.fails m f.may.at requests (Event.RecordFails k) honest (super_write a m, f.fails.disks) in_flight
+      (f.may.running, (left k w old new c f.fails m f.may.at requests, by_super, member_fails k w old new c f.fails m f.may.at requests f.may.active))
+      (λ _. refl)
+      (λ d e was is. own_left d e was is (subst (λ (x : MemberView). IsOldNewOrNone (super_write a x).bytes d e) same (leaves d e was is)))

@@ -1,0 +1,168 @@
+-- The device of a member that was read, beside what is kept of it.
+use Rattle.std.proofs.Common.{◌≡◌, ℕ, ◌+◌, ◌*◌, ◌/◌, ◌<◌, ◌≤◌, true, nat_lt, List, Some, refl, sym, ap, ◌∙◌, subst, arith, add-mul, lt_of_mul-lt-mul_right, ◌&&◌}
+use Rattle.std.specs.Int.{div_ceil}
+use Rattle.std.proofs.lemmas.Grind.{div_ceil_times}
+use Rattle.md_super.specs.declared.superblock.Superblock.{Superblock}
+use Rattle.md_super.specs.Faults.{NoFault}
+use Rattle.md_bitmap.specs.Sound.{IsChunkSize, chunk_count}
+use Rattle.md_bitmap.proofs.Limits.{div-lt-div_ceil, div_ceil-sectors}
+use Rattle.md_members.specs.declared.info.MemberInfo.{MemberInfo}
+use Rattle.md_members.specs.Areas.{BitmapIsPlaced, IsPlaced, bitmap_sectors}
+use Rattle.md_members.specs.Reading.{BitmapStartsAt, chunks_of}
+use Rattle.md_members.specs.Members as members
+use Rattle.md_members.specs.Members.{IsAccepted, sectors_of}
+use Rattle.md_assembly.specs.States.{state_of}
+use Rattle.md_model.specs.Devices.{is_accepted}
+use Rattle.md_state.specs.View.{ArrayView, MemberView}
+use Rattle.md_state.specs.Members.{is_recorded}
+use Rattle.md_state.specs.Kept.{IsKept}
+use Rattle.md_array.specs.ReadAsKept.{HasOwnSuper, HasWidth, chunk_size_on}
+use Rattle.md_array.specs.Worlds.{block_on, from_super, is_listed, stored_of, super_in, super_of}
+use Rattle.md_array.proofs.Openings.OwnFields.{state_same, super_same}
+use Rattle.md_array.proofs.Worlds.PartsApart.{HasParts}
+use Rattle.md_array.proofs.Worlds.Listed.{listed_kept_of, same_log}
+use Rattle.md_array.proofs.Worlds.Member.{Fits, fits_there}
+use Rattle.md_array.proofs.Worlds.Outside.{starts_at}
+use Rattle.md_array.proofs.Worlds.Read.{HasRead, header_there, read_of}
+use Rattle.md_array.proofs.Worlds.Supers.{block_spells, device_super}
+
+-- a member as it was read of a device that does what it answers, and as it is kept
+pub record IsReadMember (a : ArrayView) (m : MemberView) (info : MemberInfo) (content : List ℕ) : Type 0 where
+  pub read : members.IsMember content true info
+  pub kept : IsKept a.shared.events info (state_of a.shared info.superblock) m
+  pub uuid : info.superblock.set_uuid ≡ a.shared.set_uuid
+  pub raid_disks : info.superblock.raid_disks ≡ a.shared.raid_disks
+  pub size : info.superblock.size ≡ a.shared.size
+  pub array_size : a.chunks.size ≡ a.shared.size
+  pub width : a.chunks.sectors ≡ m.header.chunksize / 512
+  pub count : a.marks.chunks ≡ m.stored.chunks
+  pub fresh : info.superblock.events ≤ a.shared.events
+
+-- a quotient rounded up is no more than a number whose product is enough
+not_above : (s w p q : ℕ) → p * w < s + w → s ≤ q * w → p ≤ q
+not_above s w p q below enough =
+    let expand : (q + 1) * w ≡ q * w + 1 * w = add-mul q 1 w in
+    let less : p * w < (q + 1) * w = omega arith in
+    let h : p < q + 1 = lt_of_mul-lt-mul_right w less in
+    omega arith
+
+-- as many chunks by the array's sectors as the marks have
+chunks_past : (size width bytes count c : ℕ) → IsChunkSize bytes → width ≡ bytes / 512 → count ≡ chunk_count size bytes → size ≤ c * width → count ≤ c
+chunks_past size width bytes count c sound w n past =
+    let least = sound.least in
+    let positive : 0 < width = omega arith in
+    let same : div_ceil size width ≡ chunk_count size bytes = ap (div_ceil size) w ∙ div_ceil-sectors size bytes sound in
+    let bounds = div_ceil_times size width positive in
+    let fewer : div_ceil size width ≤ c = not_above size width (div_ceil size width) c bounds.1 past in
+    omega arith
+
+chunk_within : (size width bytes count s : ℕ) → IsChunkSize bytes → width ≡ bytes / 512 → count ≡ chunk_count size bytes → s < size → s / width < count
+chunk_within size width bytes count s sound w n below =
+    let least = sound.least in
+    let positive : 0 < width = omega arith in
+    let same : div_ceil size width ≡ chunk_count size bytes = ap (div_ceil size) w ∙ div_ceil-sectors size bytes sound in
+    let low = div-lt-div_ceil size width s positive below in
+    omega arith
+
+module _ (a : ArrayView) (m : MemberView) (info : MemberInfo) (content : List ℕ) (o : IsReadMember a m info content) where
+  abbrev own : Superblock
+  own = m.superblock
+
+  abbrev start : ℕ
+  start = from_super own.bitmap_offset
+
+  abbrev sectors : ℕ
+  sectors = bitmap_sectors m.stored.chunks
+
+  pub reads : HasRead content own m.header info.marks
+  reads = read_of content info own m.header o.read o.kept.superblock o.kept.header
+
+  pub starts : BitmapStartsAt own start
+  starts = subst (BitmapStartsAt own) (sym (starts_at own reads.bitmap.start reads.bitmap.at)) reads.bitmap.at
+
+  chunks : m.stored.chunks ≡ chunks_of own m.header
+  chunks = o.kept.chunks ∙ ap (λ (v : Superblock). chunk_count v.size m.header.chunksize) (sym o.kept.superblock)
+
+  pub placed : IsPlaced (sectors_of content) own sectors
+  placed = subst (λ n. IsPlaced (sectors_of content) own (bitmap_sectors n)) (sym chunks) reads.bitmap.placed
+
+  pub bitmap_placed : BitmapIsPlaced (sectors_of content) own sectors
+  bitmap_placed = placed.bitmap reads.there
+
+  pub size_is : a.chunks.size ≡ own.size
+  size_is = o.array_size ∙ sym o.size ∙ ap (λ (v : Superblock). v.size) (sym o.kept.superblock)
+
+  uuid_is : own.set_uuid ≡ a.shared.set_uuid
+  uuid_is = ap (λ (v : Superblock). v.set_uuid) o.kept.superblock ∙ o.uuid
+
+  pub not_fresher_own : own.events ≤ a.shared.events
+  not_fresher_own = subst (λ (v : Superblock). v.events ≤ a.shared.events) (sym o.kept.superblock) o.fresh
+
+  super_is : super_of own ≡ super_of info.superblock
+  super_is = ap super_of o.kept.superblock ∙ super_same info.bad info.superblock
+
+  pub state_is : m.state ≡ state_of a.shared own
+  state_is = o.kept.state_is ∙ sym (ap (state_of a.shared) o.kept.superblock ∙ state_same info.bad info.superblock a.shared)
+
+  pub due_is : m.due ≡ (is_recorded m.state && nat_lt own.events a.shared.events)
+  due_is = o.kept.due ∙ ap (λ s. is_recorded s && nat_lt info.superblock.events a.shared.events) (sym o.kept.state_is)
+      ∙ ap (λ (v : Superblock). is_recorded m.state && nat_lt v.events a.shared.events) (sym o.kept.superblock)
+
+  pub super_old : super_in (block_on content) ≡ Some (super_of own)
+  super_old = device_super content info.superblock o.read.superblock ∙ ap Some (sym super_is)
+
+  -- ---- the chunks
+  pub sound_size : IsChunkSize m.header.chunksize
+  sound_size = m.header.sound.chunk_size
+
+  pub count_is : a.marks.chunks ≡ chunk_count a.chunks.size m.header.chunksize
+  count_is = o.count ∙ chunks ∙ ap (λ n. chunk_count n m.header.chunksize) (sym size_is)
+
+  pub none_past : (c : ℕ) → a.chunks.size ≤ c * a.chunks.sectors → a.marks.chunks ≤ c
+  none_past c past = chunks_past a.chunks.size a.chunks.sectors m.header.chunksize a.marks.chunks c sound_size o.width count_is past
+
+  pub chunk_of_sector : (s : ℕ) → s < a.chunks.size → s / a.chunks.sectors < a.marks.chunks
+  chunk_of_sector s below = chunk_within a.chunks.size a.chunks.sectors m.header.chunksize a.marks.chunks s sound_size o.width count_is below
+
+  pub accepted_fits : IsAccepted own m.header → Fits a own m.header
+  accepted_fits acc = record { uuid = acc.uuid ∙ uuid_is; size = acc.size ∙ sym size_is ∙ o.array_size; state = acc.state; events = acc.events }
+
+  -- a bitmap that the world accepts before is accepted in memory
+  pub accepted_before : is_accepted (stored_of a m content) ≡ true → IsAccepted own m.header
+  accepted_before e =
+      let f = fits_there a m content m.header super_old (header_there content own m.header start reads.bitmap.header starts) e in
+      record { uuid = f.uuid ∙ sym uuid_is; size = f.size ∙ sym o.array_size ∙ size_is; state = f.state; events = f.events }
+
+  -- ---- an opening would read what is kept
+  pub parts : HasParts a m content
+  parts = record { placed = placed; bitmap = bitmap_placed; size = sym size_is; count = sym o.count }
+
+  pub sound_block : NoFault (block_on content)
+  sound_block = subst NoFault (o.read.superblock.read.from_device refl) o.read.superblock.sound
+
+  pub own_old : HasOwnSuper a.shared own content
+  own_old v on =
+      let info_on = block_spells content info.superblock o.read.superblock in
+      let spelled = on.fields in
+      let kept = o.kept.superblock in
+      record {
+        set_uuid = spelled.set_uuid ∙ sym info_on.set_uuid ∙ o.uuid;
+        size = spelled.size ∙ sym info_on.size ∙ o.size;
+        raid_disks = spelled.raid_disks ∙ sym info_on.raid_disks ∙ o.raid_disks;
+        data_offset = spelled.data_offset ∙ sym info_on.data_offset ∙ sym (ap (λ (x : Superblock). x.data_offset) kept);
+        bitmap_offset = spelled.bitmap_offset ∙ sym info_on.bitmap_offset ∙ sym (ap (λ (x : Superblock). x.bitmap_offset) kept);
+        bblog_size = spelled.bblog_size ∙ sym info_on.bblog_size ∙ sym (ap (λ (x : Superblock). x.bblog_size) kept);
+        bblog_offset = spelled.bblog_offset ∙ sym info_on.bblog_offset ∙ sym (ap (λ (x : Superblock). x.bblog_offset) kept);
+        listed = λ sector.
+            same_log v info.superblock content sector
+            (spelled.feature_map ∙ sym info_on.feature_map) (spelled.bblog_shift ∙ sym info_on.bblog_shift) (spelled.bblog_size ∙ sym info_on.bblog_size) (spelled.bblog_offset ∙ sym info_on.bblog_offset)
+            ∙ sym (listed_kept_of content info.superblock info.bad info_on sound_block sector)
+            ∙ sym (ap (λ (x : Superblock). is_listed x content sector) kept);
+        no_newer = let same : v.events ≡ info.superblock.events = spelled.events ∙ sym info_on.events in let fresh = o.fresh in omega arith;
+      }
+
+  pub chunk_size_old : chunk_size_on own content ≡ m.header.chunksize
+  chunk_size_old = sym (header_there content own m.header start reads.bitmap.header starts).chunksize
+
+  pub width_old : HasWidth a.chunks.sectors own content
+  width_old = ap (λ (n : ℕ). n / 512) chunk_size_old ∙ sym o.width

@@ -1,8 +1,0 @@
-use Rattle.std.proofs.Common.{◌<◌, ℕ}
-use Rattle.md_array.specs.View.{MemberView}
-use Rattle.md_array.specs.Members.{IsInSync}
-use Rattle.md_array.specs.WritingMember.{HasMarksFrom}
-use Rattle.md_array.proofs.array.Array.first_unmarked.Given as goal
-
-abbrev pub invariant-loop-k : goal.invariant-loop-k
-invariant-loop-k l = (i : ℕ) (m : MemberView) → i < l.k → IsInSync l.self i m → HasMarksFrom l.first l.end m

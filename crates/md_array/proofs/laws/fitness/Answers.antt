@@ -1,5 +1,0 @@
-use Rattle.md_array.proofs.MirrorLives.{fits_when_there}
-use Rattle.md_array.proofs.laws.fitness.Goals as goal
-
-pub returns : goal.returns
-returns c = record { fits = fits_when_there }

@@ -1,5 +1,0 @@
-use Rattle.md_array.proofs.HalfOpened.{stays_as_left}
-use Rattle.md_array.proofs.laws.half_opening.Goals as goal
-
-pub returns : goal.returns
-returns c = record { as_left = stays_as_left }

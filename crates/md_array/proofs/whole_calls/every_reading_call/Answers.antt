@@ -1,5 +1,0 @@
-use Rattle.md_array.proofs.ReadTurns.{reading_call_is_run}
-use Rattle.md_array.proofs.whole_calls.every_reading_call.Goals as goal
-
-pub returns : goal.returns
-returns c = reading_call_is_run

@@ -1,0 +1,114 @@
+-- The states of the world's members are those of assembly.
+use Rattle.std.proofs.Common.{◌≡◌, ℕ, true, false, true≢false, ◌&&◌, nat_lt, List, Some, sym, ap, ◌∙◌, subst}
+use Rattle.md_assembly.specs.declared.state.MemberState.{MemberState}
+use Rattle.md_assembly.specs.States.{has_recovery_offset, is_in_sync, role_in, state_of, takes_role}
+use Rattle.md_model.specs.States as model
+use Rattle.md_model.specs.Assembly as model_assembly
+use Rattle.md_model.specs.Assembly.{IsFreshest}
+use Rattle.md_model.specs.Devices.{Super}
+use Rattle.md_model.specs.Openings.{HasStates}
+use Rattle.md_model.specs.Worlds as worlds
+use Rattle.md_state.specs.View.{Disk, ArrayView, MemberView, MirrorView}
+use Rattle.md_state.specs.Members.{IsMember}
+use Rattle.md_array.specs.Opening.{IsOpenedFrom}
+use Rattle.md_array.specs.Worlds.{AreHonest, geometry_of, super_of, kind_of, world_of, none_in_flight}
+use Rattle.md_array.proofs.Openings.OwnFields.{state_same}
+use Rattle.md_array.proofs.Worlds.ReadMember.{due_is, state_is}
+use Rattle.md_array.proofs.Worlds.Shown.{IsShown, at_is, at_past, by_member, in_sync_there, own_is, shown, state_at, state_past}
+use Rattle.md_array.proofs.Openings.Sound.{roles_distinct, some_in_sync}
+use Rattle.md_array.proofs.Worlds.States.{active_takes_role, same_recorded, same_state}
+use Rattle.md_laws.proofs.Openings.Present as present
+
+module _ (before : List Disk) (m : MirrorView) (honest : AreHonest before) (o : IsOpenedFrom before m) where
+  abbrev a : ArrayView
+  a = m.array
+
+  abbrev w : worlds.World
+  w = world_of m none_in_flight
+
+  abbrev first : Super
+  first = super_of a.shared
+
+  abbrev seen : (k : ℕ) (mv : MemberView) → IsMember a k mv → IsShown before m o.array.infos k mv
+  seen = shown before m honest o
+
+  state_here : (k : ℕ) (mv : MemberView) → IsMember a k mv → w.state k ≡ kind_of (state_of a.shared mv.superblock)
+  state_here k mv is =
+      let s = seen k mv is in
+      state_at before m honest o k mv is ∙ ap kind_of (state_is a mv s.info s.old.content s.opened.member)
+
+  by_table : (k : ℕ) (own : Super) → (w.stored k).super ≡ Some own → w.state k ≡ model_assembly.state_by (geometry_of a) first own
+  by_table k own e =
+      let x = own_is before m honest o k own e in
+      state_here k x.0 x.1 ∙ same_state a x.0.superblock ∙ ap (model_assembly.state_by (geometry_of a) first) x.2
+
+  some : (k : ℕ) × (worlds.IsInSync w k)
+  some =
+      let x = some_in_sync o.array.infos o.array.assembly a o.array.assembled o.array.sound o.array.remembered in
+      let mv = present.member_of before m honest o x.0 x.1 x.2 in
+      let s = seen x.0 mv.0 mv.1 in (
+        x.0,
+        in_sync_there before m honest o x.0 mv.0 mv.1
+            (ap is_in_sync (state_is a mv.0 s.info s.old.content s.opened.member ∙ ap (state_of a.shared) (present.same_info before m honest o x.0 x.1 mv.0 x.2 mv.1) ∙ state_same x.1.bad x.1.superblock a.shared) ∙ x.3),
+      )
+
+  -- the state by the superblock that was read
+  state_read : (k : ℕ) (mv : MemberView) (is : IsMember a k mv) → state_of a.shared mv.superblock ≡ state_of a.shared (seen k mv is).info.superblock
+  state_read k mv is =
+      let info = (seen k mv is).info in
+      ap (state_of a.shared) (present.superblock_is before m honest o k mv is) ∙ state_same info.bad info.superblock a.shared
+
+  -- an active member takes its role
+  record IsActive (k : ℕ) : Type 0 where
+    member : MemberView
+    is : IsMember a k member
+    takes : takes_role (role_in a.shared member.superblock.dev_number) (state_of a.shared member.superblock) ≡ true
+
+  active : (k : ℕ) → model.is_active (w.state k) ≡ true → IsActive k
+  active k e = by_member a k
+      (λ mv is. record { member = mv; is = is; takes = active_takes_role a.shared mv.superblock (ap model.is_active (sym (state_here k mv is)) ∙ e) })
+      (λ past. absurd (true≢false (sym e ∙ ap model.is_active (state_past before m honest o k past))))
+
+  one_each : (j k : ℕ) → model.is_active (w.state j) ≡ true → model.is_active (w.state k) ≡ true → w.role (w.number j) ≡ w.role (w.number k) → j ≡ k
+  one_each j k aj ak same =
+      let x = active j aj in
+      let y = active k ak in
+      let s = seen j x.member x.is in
+      let t = seen k y.member y.is in
+      let role = role_in a.shared x.member.superblock.dev_number in
+      let roles : role_in a.shared y.member.superblock.dev_number ≡ role =
+      ap (role_in a.shared) (sym (present.number_here before m honest o k y.member y.is)) ∙ sym same ∙ ap (role_in a.shared) (present.number_here before m honest o j x.member x.is) in
+      roles_distinct o.array.infos o.array.assembly a o.array.assembled o.array.sound o.array.remembered j k role s.info t.info s.listed t.listed
+      (subst (λ (s : MemberState). takes_role role s ≡ true) (state_read j x.member x.is) x.takes)
+      (subst (λ (s : MemberState). takes_role role s ≡ true) (state_read k y.member y.is)
+      (subst (λ r. takes_role r (state_of a.shared y.member.superblock) ≡ true) roles y.takes))
+
+  due : (k : ℕ) (own : Super) → (w.stored k).super ≡ Some own → w.due k ≡ (model.is_recorded (w.state k) && nat_lt own.events first.events)
+  due k own e =
+      let x = own_is before m honest o k own e in
+      let s = seen k x.0 x.1 in
+      at_is a k false (λ mv. mv.due) x.0 x.1
+      ∙ due_is a x.0 s.info s.old.content s.opened.member
+      ∙ ap (λ b. b && nat_lt x.0.superblock.events a.shared.events) (sym (same_recorded x.0.state) ∙ ap model.is_recorded (sym (state_at before m honest o k x.0 x.1)))
+      ∙ ap (λ (v : Super). model.is_recorded (w.state k) && nat_lt v.events first.events) x.2
+
+  re_added : (k : ℕ) → w.re_added k ≡ false
+  re_added k = by_member a k
+      (λ mv is. at_is a k false (λ x. x.re_added) mv is ∙ (seen k mv is).opened.member.kept.re_added)
+      (λ past. at_past a k false (λ x. x.re_added) past)
+
+  recovering : (k : ℕ) (own : Super) → (w.stored k).super ≡ Some own → w.recovering k ≡ own.recovering
+  recovering k own e =
+      let x = own_is before m honest o k own e in
+      at_is a k false (λ mv. has_recovery_offset mv.superblock) x.0 x.1 ∙ ap (λ (v : Super). v.recovering) x.2
+
+  pub has_states : HasStates (geometry_of a) first w
+  has_states = record {
+    by_table = by_table;
+    past = state_past before m honest o;
+    some = some;
+    one_each = one_each;
+    due = due;
+    re_added = re_added;
+    recovering = recovering;
+  }

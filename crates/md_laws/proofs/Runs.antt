@@ -1,0 +1,22 @@
+-- Lists of events, and lives.
+
+-- A call's events are a run of the mirror.
+pub mod CallRuns
+-- The content that the members in sync of a mirror hold goes along each run of it.
+pub mod ContentRuns
+-- The content that the members in sync of a mirror hold, over its openings.
+pub mod MirrorContents
+-- A life of a mirror is one of the model, so that what always holds of the model holds of the mirror.
+pub mod MirrorLives
+-- A run of a mirror is a run of the model, so that the model's laws hold of it.
+pub mod MirrorRuns
+-- What holds of a mirror at each moment of a run, and of a life.
+pub mod Moments
+-- Lists of events with reads between them, joined and carried along.
+pub mod ReadTurns
+-- A mirror whose devices were only read is as good as before.
+pub mod Rests
+-- An opening with devices that come back before any data was let through is a start.
+pub mod Returned
+-- A mirror of one member that is opened, has a run of two events and is opened again has a life.
+pub mod SmallLife

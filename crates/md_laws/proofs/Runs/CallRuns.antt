@@ -1,0 +1,26 @@
+-- A call's events are a run of the mirror.
+use Rattle.std.proofs.Common.{◌≡◌, List, [], ◌∷◌, Option, Some}
+use Rattle.md_model.specs.Events.{Event}
+use Rattle.md_state.specs.View.{MirrorView}
+use Rattle.md_array.specs.InTurn.{AllLeftWhole, InTurn, Requests}
+use Rattle.md_array.specs.Worlds.{AreHonest}
+use Rattle.md_laws.specs.Runs.{MirrorRun, Moment, then_as}
+use Rattle.md_laws.specs.WholeCalls.{CallsAreRuns, RunsGoOn}
+use Rattle.md_laws.proofs.Runs.MirrorRuns.{rests_run}
+use Rattle.md_laws.proofs.Runs.Rests.{at_once, at_rest}
+
+-- a call's events go on with a mirror's run
+pub then_run : (es : List Event) (previous : Option Event) (h : Moment) (Then : MirrorView → Requests → Type 0) (t : InTurn previous h.mirror h.requests es Then)
+    → AreHonest h.mirror.disks → AllLeftWhole es previous h.mirror h.requests Then t → (last : Moment) × MirrorRun h es last × Then last.mirror last.requests
+then_run [] previous h Then t honest whole = (h, at_rest h, t)
+then_run (e ∷ es) previous h Then t honest whole =
+    let does = t.4 honest whole.0 in
+    let rest = then_run es (Some e) (then_as h e t.0 t.1) Then t.5 does.honest whole.1 in
+    (rest.0, (t.0, t.1, at_once h.mirror t.0 h.requests t.1 e does, rest.1), rest.2)
+
+pub run_on : RunsGoOn
+run_on [] fs h mid last r s = rests_run fs h mid last r s
+run_on (e ∷ es) fs h mid last r s = (r.0, r.1, r.2, run_on es fs (then_as h e r.0 r.1) mid last r.3 s)
+
+pub call_is_run : CallsAreRuns
+call_is_run es previous h new after t honest whole = then_run es previous h (λ m r. (m ≡ new) × (r ≡ after)) t honest whole

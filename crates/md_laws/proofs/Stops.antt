@@ -1,0 +1,14 @@
+-- What a stop leaves.
+
+-- What a stop leaves within the write of an event: devices that the event might leave at its end, or that a torn write leaves.
+pub mod AsFailed
+-- What a stop within a step leaves.
+pub mod AtSteps
+-- A superblock that ends within its first sector is read by that sector.
+pub mod FirstSector
+-- What a stop leaves within a call is what one leaves between two calls, or in the midst of a write of data.
+pub mod LeftAtStops
+-- What is read of devices goes by what stands on them.
+pub mod LeftContents
+-- A stop within a copy of sectors leaves some of them copied: those are events, one after another.
+pub mod StoppedCopies

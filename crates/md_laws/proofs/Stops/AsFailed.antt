@@ -1,0 +1,223 @@
+-- What a stop leaves within the write of an event: devices that the event might leave at its end, or that a torn write leaves.
+use Rattle.std.proofs.Common.{◌≡◌, ◌≢◌, ◌∙◌, ◌⊎◌, ⊎_elim, inl, inr, ℕ, zero, suc, ◌*◌, ◌<◌, List, [], ◌∷◌, length, map, slice_get, Some, sym, ap, refl, subst, arith}
+use Rattle.std.proofs.lemmas.Bool.{cases_lt}
+use Rattle.std.proofs.lemmas.List.{length-map}
+use Rattle.std.proofs.lemmas.Option.{none-some, same_Some, slice_get_past, slice_get_within}
+use Rattle.md_device.specs.Splice.{SameOutside, spliced}
+use Rattle.md_device.specs.Device.{held, written}
+use Rattle.md_device.specs.Stops.{IsMixed}
+use Rattle.md_writes.specs.Writes.{IsAnyIn, IsCutShort, Write}
+use Rattle.md_writes.proofs.Runs.{cut_one}
+use Rattle.md_model.specs.Events.{Event}
+use Rattle.md_model.proofs.Puts.{by_same}
+use Rattle.md_state.specs.DeviceChanges.{LeavesOn, StaysHonest}
+use Rattle.md_state.specs.DiskWrites.{IsFailed, IsTried, IsWritten}
+use Rattle.md_state.specs.View.{Disk}
+use Rattle.md_array.specs.Worlds.{AreHonest}
+use Rattle.md_laws.specs.StopsWithin.{IsLeftBut, MayAllBeLeft, StopsAsFailed, StopsAsTried, StopsAtEvents, StopsUndivided}
+use Rattle.md_array.proofs.General.Indices.{got_in_map, got_within}
+use Rattle.md_array.proofs.WrittenParts.{whole, with_part}
+use Rattle.md_laws.proofs.Stops.AtSteps.{same_lists, stops_at_failure, stops_at_sector, stops_at_write, stops_in_memory}
+
+-- devices with these contents in place of theirs
+abbrev with_contents : List Disk → List (List ℕ) → List Disk
+with_contents [] cs = []
+with_contents (d ∷ ds) [] = d ∷ ds
+with_contents (d ∷ ds) (c ∷ cs) = record d { content = c } ∷ with_contents ds cs
+
+long_with : (ds : List Disk) (cs : List (List ℕ)) → length (with_contents ds cs) ≡ length ds
+long_with [] cs = refl
+long_with (d ∷ ds) [] = refl
+long_with (d ∷ ds) (c ∷ cs) = let rest = long_with ds cs in omega arith
+
+contents_with : (ds : List Disk) (cs : List (List ℕ)) → length cs ≡ length ds → map (λ (d : Disk). d.content) (with_contents ds cs) ≡ cs
+contents_with [] [] long = refl
+contents_with [] (c ∷ cs) long = absurd (omega arith)
+contents_with (d ∷ ds) [] long = absurd (omega arith)
+contents_with (d ∷ ds) (c ∷ cs) long = ap (λ (xs : List (List ℕ)). c ∷ xs) (contents_with ds cs (omega arith))
+
+got_with : (ds : List Disk) (cs : List (List ℕ)) (k : ℕ) (d : Disk) (c : List ℕ) → slice_get ds k ≡ Some d → slice_get cs k ≡ Some c
+    → slice_get (with_contents ds cs) k ≡ Some (record d { content = c })
+got_with [] cs k d c at is = absurd (none-some d at)
+got_with (x ∷ ds) [] k d c at is = absurd (none-some c is)
+got_with (x ∷ ds) (y ∷ cs) zero d c at is =
+    let a : x ≡ d = same_Some x d at in
+    let b : y ≡ c = same_Some y c is in
+    λ i. Some (record (a i) { content = b i })
+got_with (x ∷ ds) (y ∷ cs) (suc k) d c at is = got_with ds cs k d c at is
+
+module _ (k : ℕ) (w : Write) (before after : List Disk) (left : List (List ℕ)) (P : List ℕ → List ℕ → Type 0) (tried : IsTried k w before after) (but : IsLeftBut k P before left) where
+  abbrev found : List Disk
+  found = with_contents after left
+
+  -- device k, as it is found
+  record IsFoundAt (d e : Disk) : Type 0 where
+    then_was : Disk
+    at_then : slice_get after k ≡ Some then_was
+    bytes : List ℕ
+    at_left : slice_get left k ≡ Some bytes
+    same : e ≡ record then_was { content = bytes }
+
+  found_at : (d e : Disk) → slice_get before k ≡ Some d → slice_get found k ≡ Some e → IsFoundAt d e
+  found_at d e was is =
+      let low = slice_get_within before k d was in
+      let many = tried.as_many in
+      let long = but.as_many in
+      let a = got_within after k (omega arith) in
+      let c = got_within left k (omega arith) in
+      record {
+        then_was = a.0;
+        at_then = a.1;
+        bytes = c.0;
+        at_left = c.1;
+        same = same_Some e (record a.0 { content = c.0 }) (sym is ∙ got_with after left k a.0 c.0 a.1 c.1);
+      }
+
+  others_found : (j : ℕ) → j ≢ k → slice_get found j ≡ slice_get before j
+  others_found j apart =
+      let many = tried.as_many in
+      let long = but.as_many in
+      let all = long_with after left in
+      ⊎_elim
+      (λ (low : j < length before).
+      let d = got_within before j low in
+      let c = got_within left j (omega arith) in
+      let same : c.0 ≡ d.0.content = but.others j apart d.0 c.0 d.1 c.1 in
+      got_with after left j d.0 c.0 (tried.others j apart ∙ d.1) c.1 ∙ (λ i. Some (record d.0 { content = same i })) ∙ sym d.1)
+      (λ past. slice_get_past found j (omega arith) ∙ sym (slice_get_past before j past))
+      (cases_lt j (length before))
+
+  found_tried : ((d : Disk) (c : List ℕ) → slice_get before k ≡ Some d → P d.content c → SameOutside (512 * w.sector) (length w.bytes) d.content c) → IsTried k w before found
+  found_tried outside = record {
+    as_many = long_with after left ∙ tried.as_many;
+    others = others_found;
+    stays = λ d e was is.
+        let x = found_at d e was is in
+        let stayed = tried.stays d x.then_was was x.at_then in
+        subst (λ (y : Disk). StaysHonest d y) (sym x.same) (record { honest = stayed.honest; counted = stayed.counted });
+    outside = λ d e was is.
+        let x = found_at d e was is in
+        subst (λ (y : Disk). SameOutside (512 * w.sector) (length w.bytes) d.content y.content) (sym x.same) (outside d x.bytes was (but.this d x.bytes was x.at_left));
+  }
+
+  contents_found : map (λ (d : Disk). d.content) found ≡ left
+  contents_found = contents_with after left (but.as_many ∙ sym tried.as_many)
+
+pub stops_as_failed : StopsAsFailed
+stops_as_failed k w old new left honest fails may =
+    let but = stops_at_failure k w old.disks new.disks left honest fails.disks may in
+    let tried = fails.disks.tried in (
+      record { disks = with_contents new.disks left; array = new.array },
+      record {
+        disks = record {
+          tried = found_tried k w old.disks new.disks left (IsAnyIn w) tried but (λ d c was any. any);
+          failed = λ d e was is h.
+              let x = found_at k w old.disks new.disks left (IsAnyIn w) tried but d e was is in
+              subst (λ (y : Disk). d.failures < y.failures) (sym x.same) (fails.disks.failed d x.then_was was x.at_then h);
+          within = λ d e was is h.
+              let x = found_at k w old.disks new.disks left (IsAnyIn w) tried but d e was is in
+              subst (λ (y : Disk). LeavesOn (IsAnyIn w d.content) d y) (sym x.same) (fails.disks.within d x.then_was was x.at_then h);
+        };
+        array = fails.array;
+      },
+      contents_found k w old.disks new.disks left (IsAnyIn w) tried but,
+    )
+
+-- what a stop leaves within a write that fails, as of a torn write
+pub failed_as_tried : (k : ℕ) (w : Write) (before after : List Disk) (left : List (List ℕ)) → AreHonest before → IsFailed k w before after → MayAllBeLeft before after left
+    → (disks : List Disk) × IsTried k w before disks × (map (λ d. d.content) disks ≡ left)
+failed_as_tried k w before after left honest failed may =
+    let but = stops_at_failure k w before after left honest failed may in
+    (with_contents after left, found_tried k w before after left (IsAnyIn w) failed.tried but (λ d c was any. any), contents_found k w before after left (IsAnyIn w) failed.tried but)
+
+pub stops_as_tried : StopsAsTried
+stops_as_tried k w before after left honest writes may =
+    let cut : List ℕ → List ℕ → Type 0 = λ was c. IsCutShort was (w ∷ []) c in
+    let but = stops_at_write k w before after left honest writes may in (
+      with_contents after left,
+      found_tried k w before after left cut writes.tried but
+          (λ d c was short.
+          let low = slice_get_within before k d was in
+          let many = writes.tried.as_many in
+          let e = got_within after k (omega arith) in
+          ⊎_elim
+          (λ (done : c ≡ written d.content w.sector w.bytes). subst (SameOutside (512 * w.sector) (length w.bytes) d.content) (writes.done d e.0 was e.1 (honest k d was) ∙ sym done) (writes.tried.outside d e.0 was e.1))
+          (λ (mixed : IsMixed w.sector w.bytes d.content c). mixed.outside)
+          (cut_one d.content c w short)),
+      contents_found k w before after left cut writes.tried but,
+    )
+
+-- a write of one sector is done, or is not
+sector_done : (k : ℕ) (w : Write) (before after : List Disk) (left : List (List ℕ)) → AreHonest before → IsWritten k w before after → IsLeftBut k (λ was c. (c ≡ was) ⊎ (c ≡ written was w.sector w.bytes)) before left
+    → (left ≡ map (λ (d : Disk). d.content) before) ⊎ (left ≡ map (λ (d : Disk). d.content) after)
+sector_done k w before after left honest writes but =
+    let many = writes.tried.as_many in
+    let long = but.as_many in
+    ⊎_elim
+    (λ (low : k < length before).
+    let d = got_within before k low in
+    let c = got_within left k (omega arith) in
+    ⊎_elim
+    (λ (none : c.0 ≡ d.0.content). inl (same_lists (map (λ (x : Disk). x.content) before) left (long ∙ sym (length-map before (λ (x : Disk). x.content)))
+    (λ j x y at is. by_same j k
+    (λ here. same_Some y c.0 (sym is ∙ ap (slice_get left) here ∙ c.1) ∙ none ∙ sym (same_Some x d.0.content (sym at ∙ ap (slice_get (map (λ (z : Disk). z.content) before)) here ∙ got_in_map (λ (z : Disk). z.content) before k d.0 d.1)))
+    (λ apart.
+    let inside = slice_get_within left j y is in
+    let b = got_within before j (omega arith) in
+    but.others j apart b.0 y b.1 is ∙ sym (same_Some x b.0.content (sym at ∙ got_in_map (λ (z : Disk). z.content) before j b.0 b.1))))))
+    (λ (done : c.0 ≡ written d.0.content w.sector w.bytes). inr (same_lists (map (λ (x : Disk). x.content) after) left (long ∙ sym many ∙ sym (length-map after (λ (x : Disk). x.content)))
+    (λ j x y at is. by_same j k
+    (λ here.
+    let e = got_within after k (omega arith) in
+    same_Some y c.0 (sym is ∙ ap (slice_get left) here ∙ c.1) ∙ done ∙ sym (writes.done d.0 e.0 d.1 e.1 (honest k d.0 d.1))
+    ∙ sym (same_Some x e.0.content (sym at ∙ ap (slice_get (map (λ (z : Disk). z.content) after)) here ∙ got_in_map (λ (z : Disk). z.content) after k e.0 e.1)))
+    (λ apart.
+    let inside = slice_get_within left j y is in
+    let b = got_within before j (omega arith) in
+    but.others j apart b.0 y b.1 is ∙ sym (same_Some x b.0.content (sym at ∙ got_in_map (λ (z : Disk). z.content) after j b.0 (writes.tried.others j apart ∙ b.1)))))))
+    (but.this d.0 c.0 d.1 c.1))
+    (λ past. inl (same_lists (map (λ (x : Disk). x.content) before) left (long ∙ sym (length-map before (λ (x : Disk). x.content)))
+    (λ j x y at is.
+    let inside = slice_get_within left j y is in
+    let b = got_within before j (omega arith) in
+    but.others j (λ here. absurd (omega arith)) b.0 y b.1 is ∙ sym (same_Some x b.0.content (sym at ∙ got_in_map (λ (z : Disk). z.content) before j b.0 b.1)))))
+    (cases_lt k (length before))
+
+pub stops_undivided : StopsUndivided
+unfolding spliced
+stops_undivided k w before after left honest writes may undivided =
+    let but = stops_at_write k w before after left honest writes may in
+    sector_done k w before after left honest writes (record {
+      as_many = but.as_many;
+      others = but.others;
+      this = λ d c was is. ⊎_elim (λ done. inr done)
+          (λ (mixed : IsMixed w.sector w.bytes d.content c). ⊎_elim
+          (λ (same : held c w.sector (length w.bytes) ≡ held d.content w.sector (length w.bytes)). inl (with_part (512 * w.sector) (length w.bytes) d.content c mixed.outside _ same ∙ sym (whole d.content (512 * w.sector) (length w.bytes))))
+          (λ (new : held c w.sector (length w.bytes) ≡ w.bytes). inr (with_part (512 * w.sector) (length w.bytes) d.content c mixed.outside w.bytes new))
+          (undivided d c was is))
+          (cut_one d.content c w (but.this d c was is));
+    })
+
+in_memory : (before after : List Disk) (left : List (List ℕ)) → after ≡ before → MayAllBeLeft before after left → left ≡ map (λ (d : Disk). d.content) before
+in_memory before after left same may = stops_in_memory before left (subst (λ (x : List Disk). MayAllBeLeft before x left) same may)
+
+pub stops_at_events : StopsAtEvents
+stops_at_events (Event.Record k) before after left honest writes may = (writes.0, writes.1, stops_at_write k writes.0 before after left honest writes.1 may)
+stops_at_events (Event.WriteMember n k) before after left honest writes may = (writes.0, writes.1, stops_at_write k writes.0 before after left honest writes.1 may)
+stops_at_events (Event.StoreMarks k b) before after left honest writes may =
+    sector_done k writes.0 before after left honest writes.2 (stops_at_sector k writes.0 before after left writes.1 honest writes.2 may)
+stops_at_events (Event.RecordFails k) before after left honest writes may = (writes.0, writes.1, stops_at_failure k writes.0 before after left honest writes.1 may)
+stops_at_events (Event.StoreMarksFails k b) before after left honest writes may = (writes.0, writes.1, stops_at_failure k writes.0 before after left honest writes.1 may)
+stops_at_events (Event.WriteMemberFails n k) before after left honest writes may = (writes.0, writes.1, stops_at_failure k writes.0 before after left honest writes.1 may)
+stops_at_events (Event.CopyFails k c) before after left honest writes may = (writes.0, writes.1, stops_at_failure k writes.0 before after left honest writes.1 may)
+stops_at_events (Event.Copy from k s) before after left honest writes may = tt
+stops_at_events Event.Resynced before after left honest writes may = in_memory before after left writes may
+stops_at_events Event.Unresynced before after left honest writes may = in_memory before after left writes may
+stops_at_events (Event.Remove k) before after left honest writes may = tt
+stops_at_events (Event.Add number new) before after left honest writes may = tt
+stops_at_events (Event.ReAdd own device new) before after left honest writes may = tt
+stops_at_events Event.MakeClean before after left honest writes may = in_memory before after left writes may
+stops_at_events (Event.Begin n p) before after left honest writes may = in_memory before after left writes may
+stops_at_events (Event.Finish n) before after left honest writes may = in_memory before after left writes may
+stops_at_events (Event.ClearIdle c) before after left honest writes may = in_memory before after left writes may
+stops_at_events (Event.Fail k) before after left honest writes may = in_memory before after left writes may

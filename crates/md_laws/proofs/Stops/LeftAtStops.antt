@@ -1,0 +1,501 @@
+-- What a stop leaves within a call is what one leaves between two calls, or in the midst of a write of data.
+use Rattle.std.proofs.Common.{◌≡◌, ◌≢◌, ℕ, ◌+◌, ◌*◌, ◌/◌, ◌<◌, ◌≤◌, ◌⊎◌, inl, inr, false, true≢false, List, [], ◌∷◌, length, set, slice_get, take, Option, Some, None, refl, sym, ap, ◌∙◌, subst, arith, length-set}
+use Rattle.std.proofs.lemmas.Option.{same_Some, slice_get_within}
+use Rattle.md_device.specs.Device.{written}
+use Rattle.md_device.specs.Splice.{SameOutside}
+use Rattle.md_device.proofs.Leaving.{leaves_none}
+use Rattle.md_device.proofs.Splices.{part-spliced, spliced_outside}
+use Rattle.md_format.specs.Fields.{number_at}
+use Rattle.md_members.specs.Areas.{BitmapIsPlaced, IsPlaced, bitmap_sectors}
+use Rattle.md_members.specs.Members.{sectors_of}
+use Rattle.md_bitmap.proofs.Blocks.{length-bitmap_sector}
+use Rattle.md_writes.specs.Writes.{IsCutShort, Write}
+use Rattle.md_writes.proofs.Runs.{cut_one}
+use Rattle.md_model.specs.Content.{Content}
+use Rattle.md_model.specs.Devices.{Stored, Super}
+use Rattle.md_model.specs.Events.{Event}
+use Rattle.md_model.specs.Stops as stops
+use Rattle.md_model.specs.Worlds as worlds
+use Rattle.md_model.specs.Worlds.{World}
+use Rattle.md_model.proofs.Cases.{none_some}
+use Rattle.md_model.proofs.Puts.{by_same}
+use Rattle.md_state.specs.View.{ArrayView, Disk, MemberView, MirrorView}
+use Rattle.md_state.specs.Members.{IsMember}
+use Rattle.md_state.specs.DeviceChanges.{LeavesOn, StaysHonest}
+use Rattle.md_state.specs.DiskWrites.{IsFailed, IsTried, IsWritten}
+use Rattle.md_state.specs.Requests.{among, request_of, request_sectors}
+use Rattle.md_state.specs.StoringMarks.{StoresMarkSector}
+use Rattle.md_state.specs.WritingMember.{MayWrite, data_write}
+use Rattle.md_array.specs.ReadAsKept.{HasOwnSuper, IsReadAsKept}
+use Rattle.md_array.specs.Recording.{MayRecord, Records, super_write}
+use Rattle.md_array.specs.Worlds.{block_on, geometry_of, is_listed, stored_of, stored_on, super_in, super_of, world_of}
+use Rattle.md_laws.specs.StopsWithin.{MayAllBeLeft}
+use Rattle.md_laws.specs.Left.{IsLeft, IsLeftRecording, IsLeftRecordingShort, IsLeftWriting, contents_of}
+use Rattle.md_laws.specs.Runs.{MirrorRun, MirrorRunWith, Moment, history_of, then_as}
+use Rattle.md_array.proofs.Steps.DataWritten.{may_write}
+use Rattle.md_array.proofs.Steps.InFlight.{inside_of, not_touched, whole_of}
+use Rattle.md_array.proofs.Steps.MarkSectors.{read_marked, store_marks_happens}
+use Rattle.md_array.proofs.Steps.OneMember.{stored_there}
+use Rattle.md_array.proofs.Worlds.Listed.{IsLogKept, listed_same_bit}
+use Rattle.md_array.proofs.Worlds.PartsApart.{HasParts, data_alone, data_elsewhere, header_beside_super, log_beside_super, parts_of, super_alone}
+use Rattle.md_array.proofs.Worlds.ReadAsKept.{own_stays_as, own_written_as, read_beside_data}
+use Rattle.md_array.proofs.Steps.SuperRecorded.{lists_alike, record_happens}
+use Rattle.md_array.proofs.General.Indices.{at_set_same, got_in_map, got_other, got_same, got_within}
+use Rattle.md_array.proofs.Worlds.Supers.{super_shown}
+use Rattle.md_laws.proofs.Stops.LeftContents.{got_like, read_changed, read_in, read_same}
+use Rattle.md_laws.proofs.Runs.Moments.{IsSoundAt}
+use Rattle.md_laws.proofs.Stops.FirstSector.{ReadsAs, first_part, first_sector, reads_first, reads_same}
+use Rattle.md_laws.proofs.Stops.AsFailed.{failed_as_tried, stops_as_tried, stops_at_events}
+use Rattle.md_laws.proofs.Stops.AtSteps.{stops_at_write}
+use Rattle.md_laws.proofs.Runs.Rests.{at_once, at_rest}
+
+-- ---- one device, as a stop left it
+-- parts are on a device as long as another
+pub parts_on : (a : ArrayView) (m : MemberView) (old new : List ℕ) → length new ≡ length old → HasParts a m old → HasParts a m new
+parts_on a m old new long has =
+    let sectors : sectors_of old ≡ sectors_of new = ap (λ (n : ℕ). n / 512) (sym long) in
+    record {
+      placed = subst (λ (n : ℕ). IsPlaced n m.superblock (bitmap_sectors m.stored.chunks)) sectors has.placed;
+      bitmap = subst (λ (n : ℕ). BitmapIsPlaced n m.superblock (bitmap_sectors m.stored.chunks)) sectors has.bitmap;
+      size = has.size;
+      count = has.count;
+    }
+
+-- an opening would read of it what is kept
+pub record IsLeftDevice (a : ArrayView) (m : MemberView) (failed_at : ℕ) (content : List ℕ) : Type 0 where
+  pub parts : HasParts a m content
+  pub read : IsReadAsKept a m failed_at content
+
+-- ---- what is left, sorted: after events of these, of which at most one was not there before
+pub record IsSorted (t : Moment) (left : List Disk) : Type 0 where
+  pub events : List Event
+  pub moment : Moment
+  pub run : MirrorRun t events moment
+  pub still : (a : Content) → MirrorRunWith t a events moment a
+  pub counted : moment.failed_at ≡ t.failed_at
+  pub away : (d : ℕ) → moment.away d ≡ t.away d
+  pub in_sync : (k : ℕ) → worlds.IsInSync (history_of moment).now k → worlds.IsInSync (world_of t.mirror t.requests) k
+  pub cut : ℕ → Stored
+  pub is_cut : stops.IsCut (geometry_of t.mirror.array) (history_of moment).now cut
+  pub read : (k : ℕ) → (read_in t.mirror.array left k ≡ cut k) ⊎ ((read_in t.mirror.array left k).super ≡ None)
+  pub device : (k : ℕ) (e : Disk) (m : MemberView) → slice_get left k ≡ Some e → IsMember t.mirror.array k m → IsLeftDevice t.mirror.array m t.failed_at e.content
+
+sorted_like : (t : Moment) (found left : List Disk) → contents_of found ≡ contents_of left → IsSorted t found → IsSorted t left
+sorted_like t found left same s = record {
+  events = s.events;
+  moment = s.moment;
+  run = s.run;
+  still = s.still;
+  counted = s.counted;
+  away = s.away;
+  in_sync = s.in_sync;
+  cut = s.cut;
+  is_cut = s.is_cut;
+  read = λ k. let here = read_same t.mirror.array left found (sym same) k in elim (s.read k) [
+    | inl is ↦ inl (here ∙ is)
+    | inr none ↦ inr (ap (λ (x : Stored). x.super) here ∙ none)
+  ];
+  device = λ k e m at is. let d = got_like found left same k e at in subst (IsLeftDevice t.mirror.array m t.failed_at) d.2 (s.device k d.0 m d.1 is);
+}
+
+-- ---- a write of a request's data that the stop broke off: any bytes may stand in its range
+record IsTorn (t : Moment) (left : List Disk) : Type 0 where
+  l : IsLeftWriting t left
+  member : MemberView
+  may : MayWrite l.on t.mirror.array l.request member
+  found : List Disk
+  tried : IsTried l.on (data_write member l.request) t.mirror.disks found
+  same : contents_of found ≡ contents_of left
+
+module _ (t : Moment) (at : IsSoundAt t) where
+  abbrev v : MirrorView
+  v = t.mirror
+
+  abbrev a : ArrayView
+  a = t.mirror.array
+
+  as_it_was : (k : ℕ) (d : Disk) (m : MemberView) → slice_get v.disks k ≡ Some d → IsMember a k m → IsLeftDevice a m t.failed_at d.content
+  as_it_was k d m there is = record { parts = parts_of v at.sound k d m there is; read = at.read k d m there is }
+
+  between : IsSorted t v.disks
+  between = record {
+    events = [];
+    moment = t;
+    run = at_rest t;
+    still = λ x. (at_rest t, refl);
+    counted = refl;
+    away = λ _. refl;
+    in_sync = λ j on. on;
+    cut = (world_of v t.requests).stored;
+    is_cut = inl refl;
+    read = λ k. inl refl;
+    device = as_it_was;
+  }
+
+  -- one device was written, or it was tried
+  module _ (k : ℕ) (m : MemberView) (w : Write) (disks : List Disk) (is_member : IsMember a k m) (tried : IsTried k w v.disks disks) where
+    there_before : (e : Disk) → slice_get disks k ≡ Some e → (d : Disk) × (slice_get v.disks k ≡ Some d)
+    there_before e is = let low = slice_get_within disks k e is in let many = tried.as_many in got_within v.disks k (omega arith)
+
+    each_device : ((d e : Disk) → slice_get v.disks k ≡ Some d → slice_get disks k ≡ Some e → IsLeftDevice a m t.failed_at e.content)
+        → (j : ℕ) (e : Disk) (n : MemberView) → slice_get disks j ≡ Some e → IsMember a j n → IsLeftDevice a n t.failed_at e.content
+    each_device this j e n there is = by_same j k
+        (λ here.
+        let now : slice_get disks k ≡ Some e = sym (ap (slice_get disks) here) ∙ there in
+        let d = there_before e now in
+        let same : n ≡ m = same_Some n m (sym is ∙ ap (slice_get a.members) here ∙ is_member) in
+        subst (λ (x : MemberView). IsLeftDevice a x t.failed_at e.content) (sym same) (this d.0 e d.1 now))
+        (λ apart. as_it_was j e n (sym (tried.others j apart) ∙ there) is)
+
+    elsewhere : (j : ℕ) → j ≢ k → read_in a disks j ≡ read_in a v.disks j
+    elsewhere j apart = ap (stored_on a (slice_get a.members j)) (tried.others j apart)
+
+  -- ---- within a write of data
+  module _ (left : List Disk) (torn : IsTorn t left) where
+    abbrev l : IsLeftWriting t left
+    l = torn.l
+
+    abbrev k : ℕ
+    k = torn.l.on
+
+    abbrev m : MemberView
+    m = torn.member
+
+    is_member : IsMember a k m
+    is_member = torn.may.intent.in_sync.member
+
+    torn_device : (d e : Disk) → slice_get v.disks k ≡ Some d → slice_get torn.found k ≡ Some e → IsLeftDevice a m t.failed_at e.content
+    torn_device d e was is =
+        let parts = parts_of v at.sound k d m was is_member in
+        let same = torn.tried.outside d e was is in
+        record {
+          parts = parts_on a m d.content e.content same.size parts;
+          read = read_beside_data a m d.content e.content parts l.request.sector (request_sectors l.request) (inside_of v l.request at.sound l.pending)
+              (subst (λ (x : ℕ). SameOutside (512 * (m.superblock.data_offset + l.request.sector)) x d.content e.content) (whole_of a l.request l.pending) same)
+              t.failed_at (at.read k d m was is_member);
+        }
+
+    torn_cut : stops.IsTorn (geometry_of a) (world_of v (among l.request l.others)) (read_in a torn.found)
+    torn_cut =
+        let low = slice_get_within a.members k m is_member in
+        let as_many = at.sound.fits.as_many in
+        let many = torn.tried.as_many in
+        let d = got_within v.disks k (omega arith) in
+        let e = got_within torn.found k (omega arith) in
+        let parts = parts_of v at.sound k d.0 m d.1 is_member in
+        let n = request_sectors l.request in
+        let inside = inside_of v l.request at.sound l.pending in
+        let same = subst (λ (x : ℕ). SameOutside (512 * (m.superblock.data_offset + l.request.sector)) x d.0.content e.0.content) (whole_of a l.request l.pending) (torn.tried.outside d.0 e.0 d.1 e.1) in
+        let was : read_in a v.disks k ≡ stored_of a m d.0.content = stored_there v.disks a k m d.0 is_member d.1 in
+        let is : read_in a torn.found k ≡ stored_of a m e.0.content = stored_there torn.found a k m e.0 is_member e.1 in
+        record {
+          number = l.request.ticket.number;
+          request = request_of l.request;
+          on = k;
+          let_through = may_write k v l.request at.sound l.pending m torn.may l.others;
+          others = λ j apart. ap (stored_on a (slice_get a.members j)) (torn.tried.others j apart);
+          rest = is ∙ data_alone a m d.0.content e.0.content parts l.request.sector n inside same
+              ∙ (λ i. record (sym was i) { content = ap (λ (x : Stored). x.content) (sym is) i });
+          outside = λ s off. ap (λ (x : Stored). x.content s) is
+              ∙ data_elsewhere a m d.0.content e.0.content parts l.request.sector n inside same s (not_touched (request_of l.request) s off)
+              ∙ sym (ap (λ (x : Stored). x.content s) was);
+        }
+
+    torn_sorted : IsSorted t left
+    torn_sorted = sorted_like t torn.found left torn.same (record {
+      events = [];
+      moment = t;
+      run = at_rest t;
+      still = λ x. (at_rest t, refl);
+      counted = refl;
+      away = λ _. refl;
+      in_sync = λ j on. on;
+      cut = read_in a torn.found;
+      is_cut = inr (subst (λ r. stops.IsTorn (geometry_of a) (world_of v r) (read_in a torn.found)) (sym l.in_flight) torn_cut);
+      read = λ j. inl refl;
+      device = each_device k m (data_write m l.request) torn.found is_member torn.tried torn_device;
+    })
+
+  writing : (left : List Disk) → IsLeftWriting t left → IsSorted t left
+  writing left l =
+      let wrote : (m : MemberView) → MayWrite l.on a l.request m → IsWritten l.on (data_write m l.request) v.disks l.next.disks → IsTorn t left =
+      λ m may done. let f = stops_as_tried l.on (data_write m l.request) v.disks l.next.disks (contents_of left) at.honest done l.within in record { l = l; member = m; may = may; found = f.0; tried = f.1; same = f.2 } in
+      let failed : (m : MemberView) → MayWrite l.on a l.request m → IsFailed l.on (data_write m l.request) v.disks l.next.disks → IsTorn t left =
+      λ m may tried. let f = failed_as_tried l.on (data_write m l.request) v.disks l.next.disks (contents_of left) at.honest tried l.within in record { l = l; member = m; may = may; found = f.0; tried = f.1; same = f.2 } in
+      torn_sorted left (elim l.call [
+        | inl done ↦ wrote done.member done.may done.disks
+        | inr other ↦
+            elim other [
+              | inl fails ↦ failed fails.member fails.may fails.fails.disks
+              | inr halts ↦ failed halts.member halts.may halts.halts.disks
+            ]
+      ])
+
+  -- ---- within a write of marks that is done: before it or after it
+  module _ (k block : ℕ) (inside : block < bitmap_sectors a.marks.chunks) (next : MirrorView) (r : StoresMarkSector k block v next) where
+    abbrev e_marks : Event
+    e_marks = Event.StoreMarks k block
+
+    marked_device : (d e : Disk) → slice_get v.disks k ≡ Some d → slice_get next.disks k ≡ Some e → IsLeftDevice a r.member t.failed_at e.content
+    marked_device d e was is =
+        let m = r.member in
+        let is_member = r.may.in_sync.member in
+        record {
+          parts = parts_on a m d.content e.content (r.disks.tried.outside d e was is).size (parts_of v at.sound k d m was is_member);
+          read = read_marked k block v next at.sound inside r d e was is (at.honest k d was) t.requests t.failed_at (at.read k d m was is_member);
+        }
+
+    marked : IsSorted t next.disks
+    marked =
+        let does = store_marks_happens k block v next at.sound inside r at.honest t.requests at.in_flight in
+        record {
+          events = e_marks ∷ [];
+          moment = then_as t e_marks next t.requests;
+          run = (next, t.requests, at_once v next t.requests t.requests e_marks does, at_rest (then_as t e_marks next t.requests));
+          still = λ x. (next, t.requests, x, at_once v next t.requests t.requests e_marks does, refl, (at_rest (then_as t e_marks next t.requests), refl));
+          counted = refl;
+          away = λ _. refl;
+          in_sync = λ j on. subst (λ (w : World). worlds.IsInSync w j) does.step.1.1 on;
+          cut = (world_of next t.requests).stored;
+          is_cut = inl refl;
+          read = λ j. inl (sym (ap (λ (x : ArrayView). read_in x next.disks j) r.array ∙ read_changed a k r.member (record r.member { stored = r.stored }) r.may.in_sync.member refl next.disks j));
+          device = each_device k r.member r.write next.disks r.may.in_sync.member r.disks.tried marked_device;
+        }
+
+    stored_sorted : (left : List Disk) → MayAllBeLeft v.disks next.disks (contents_of left) → IsSorted t left
+    stored_sorted left within =
+        let long : length r.write.bytes ≡ 512 = ap (λ (x : Write). length x.bytes) r.may.write.is ∙ length-bitmap_sector r.may.write.header a.marks block in
+        elim (stops_at_events e_marks v.disks next.disks (contents_of left) at.honest (r.write, long, r.disks) within) [
+          | inl before ↦ sorted_like t v.disks left (sym before) between
+          | inr after ↦ sorted_like t next.disks left (sym after) marked
+        ]
+
+  -- ---- within a write of a superblock
+  module _ (k : ℕ) (m : MemberView) (may : MayRecord k a m) where
+    abbrev w : Write
+    w = super_write a m
+
+    -- device k, where no more than the superblock was written
+    module _ (disks : List Disk) (tried : IsTried k w v.disks disks) (d e : Disk) (was : slice_get v.disks k ≡ Some d) (is : slice_get disks k ≡ Some e) where
+      beside : SameOutside (512 * 8) 4096 d.content e.content
+      beside = subst (λ (n : ℕ). SameOutside (512 * 8) n d.content e.content) may.readable.size (tried.outside d e was is)
+
+      parts : HasParts a m d.content
+      parts = parts_of v at.sound k d m was may.at
+
+      log_kept : IsLogKept m.superblock d.content e.content
+      log_kept = log_beside_super a m d.content e.content parts beside
+
+      -- it has the superblock that is read there, and lists what this content would list
+      read_super : (s : Option Super) (content : List ℕ) → super_in (block_on e.content) ≡ s → ((sector : ℕ) → is_listed m.superblock e.content sector ≡ is_listed m.superblock content sector)
+          → read_in a disks k ≡ record (stored_of a m d.content) { super = s; listed = (stored_of a m content).listed }
+      read_super s content same lists =
+          stored_there disks a k m e may.at is ∙ super_alone a m d.content e.content parts beside
+          ∙ (λ i. record (stored_of a m d.content) { super = same i; listed = lists_alike a m content e.content lists i })
+
+      super_device : HasOwnSuper a.shared m.superblock e.content → IsLeftDevice a m t.failed_at e.content
+      super_device has = record {
+        parts = parts_on a m d.content e.content beside.size parts;
+        read = record {
+          super = has;
+          header = elim (at.read k d m was may.at).header [
+            | inl width ↦ inl (ap (λ (h : List ℕ). number_at 4 52 h / 512) (header_beside_super a m d.content e.content parts beside) ∙ width)
+            | inr gone ↦ absurd (true≢false (sym may.active ∙ gone.0))
+          ];
+        };
+      }
+
+      abbrev block : List ℕ
+      block = block_on e.content
+
+      each_super : HasOwnSuper a.shared m.superblock e.content → (j : ℕ) (x : Disk) (n : MemberView) → slice_get disks j ≡ Some x → IsMember a j n → IsLeftDevice a n t.failed_at x.content
+      each_super has = each_device k m w disks may.at tried
+          (λ b x _ there. subst (λ (y : Disk). IsLeftDevice a m t.failed_at y.content) (got_same disks k e x is there) (super_device has))
+
+      -- the old one is read there, or none
+      unrecorded : ReadsAs block (block_on d.content) ⊎ (super_in block ≡ None) → IsSorted t disks
+      unrecorded reads = record {
+        events = [];
+        moment = t;
+        run = at_rest t;
+        still = λ x. (at_rest t, refl);
+        counted = refl;
+        away = λ _. refl;
+        in_sync = λ j on. on;
+        cut = (world_of v t.requests).stored;
+        is_cut = inl refl;
+        read = λ j. by_same j k
+            (λ here. subst (λ (i : ℕ). (read_in a disks i ≡ read_in a v.disks i) ⊎ ((read_in a disks i).super ≡ None)) (sym here) (elim reads [
+              | inl same ↦ inl (read_super (super_in (block_on d.content)) d.content same.decoded (λ sector. listed_same_bit m.superblock d.content e.content log_kept sector same.decoded same.map) ∙ sym (stored_there v.disks a k m d may.at was))
+              | inr none ↦ inr (ap (λ (x : Stored). x.super) (stored_there disks a k m e may.at is) ∙ none)
+            ]))
+            (λ apart. inl (elsewhere k m w disks may.at tried j apart));
+        device = each_super (elim reads [
+          | inl same ↦ own_stays_as a.shared m.superblock d.content e.content (λ v on. let was = same.read v on.fields on.sound in record { fields = was.0; sound = was.1 })
+              log_kept (at.read k d m was may.at).super
+          | inr none ↦ λ v on. absurd (none_some (super_of v) (sym none ∙ super_shown block v on.fields on.sound))
+        ]);
+      }
+
+    -- the mirror once it is recorded
+    module _ (d : Disk) (was : slice_get v.disks k ≡ Some d) where
+      abbrev new : Disk
+      new = record d { content = written d.content 8 w.bytes }
+
+      abbrev next : MirrorView
+      next = record { disks = set v.disks k new; array = record a { members = set a.members k (record m { due = false }) } }
+
+      low : k < length v.disks
+      low = slice_get_within v.disks k d was
+
+      new_there : slice_get next.disks k ≡ Some new
+      new_there = at_set_same v.disks k new low
+
+      room : 512 * 8 + 4096 ≤ length d.content
+      room = let long = (at.sound.fits.each k d m was may.at).long in omega arith
+
+      new_tried : IsTried k w v.disks next.disks
+      new_tried = record {
+        as_many = length-set v.disks k new;
+        others = λ j apart. got_other v.disks k j new apart;
+        stays = λ b e before after. let one = got_same v.disks k d b was before in let other = got_same next.disks k new e new_there after in
+            subst (λ (x : Disk). StaysHonest x e) one (subst (StaysHonest d) other (record { honest = refl; counted = omega arith }));
+        outside = λ b e before after. let one = got_same v.disks k d b was before in let other = got_same next.disks k new e new_there after in
+            subst (λ (x : Disk). SameOutside (512 * 8) (length w.bytes) x.content e.content) one
+            (subst (λ (x : Disk). SameOutside (512 * 8) (length w.bytes) d.content x.content) other (spliced_outside d.content (512 * 8) w.bytes (length w.bytes) refl (let size = may.readable.size in let fits = room in omega arith)));
+      }
+
+      records : Records k v next
+      records = record {
+        member = m;
+        may = may;
+        disks = record {
+          tried = new_tried;
+          done = λ b e before after _. let one = got_same v.disks k d b was before in let other = got_same next.disks k new e new_there after in
+              ap (λ (x : Disk). x.content) (sym other) ∙ ap (λ (x : Disk). written x.content 8 w.bytes) one;
+          within = λ b e before after _. let one = got_same v.disks k d b was before in let other = got_same next.disks k new e new_there after in
+              subst (λ (x : Disk). LeavesOn (IsCutShort b.content (w ∷ [])) b x) other (subst (λ (x : Disk). LeavesOn (IsCutShort b.content (w ∷ [])) b (record x { content = written d.content 8 w.bytes })) (sym one)
+              (leaves_none b.stops (IsCutShort b.content (w ∷ []))));
+        };
+        array = refl;
+      }
+
+      block_new : block_on new.content ≡ w.bytes
+      block_new = part-spliced d.content (512 * 8) w.bytes 4096 (sym may.readable.size) (let fits = room in omega arith)
+
+      -- the new one is read there
+      module _ (disks : List Disk) (tried : IsTried k w v.disks disks) (e : Disk) (is : slice_get disks k ≡ Some e) (reads : ReadsAs (block_on e.content) w.bytes) where
+        lists_next : (sector : ℕ) → is_listed m.superblock e.content sector ≡ is_listed m.superblock new.content sector
+        lists_next sector =
+            listed_same_bit m.superblock new.content e.content
+            (λ there. log_kept disks tried d e was is there ∙ sym (log_kept next.disks new_tried d new was new_there there)) sector
+            (reads.decoded ∙ sym (ap super_in block_new)) (reads.map ∙ sym (ap (number_at 4 8) block_new))
+
+        read_next : (j : ℕ) → read_in a disks j ≡ read_in next.array next.disks j
+        read_next j =
+            by_same j k
+            (λ here. subst (λ (i : ℕ). read_in a disks i ≡ read_in a next.disks i) (sym here)
+            (read_super disks tried d e was is (super_in w.bytes) new.content reads.decoded lists_next
+            ∙ sym (read_super next.disks new_tried d new was new_there (super_in w.bytes) new.content (ap super_in block_new) (λ _. refl))))
+            (λ apart. elsewhere k m w disks may.at tried j apart ∙ sym (elsewhere k m w next.disks may.at new_tried j apart))
+            ∙ sym (read_changed a k m (record m { due = false }) may.at refl next.disks j)
+
+        recorded : IsSorted t disks
+        recorded =
+            let does = record_happens k v next at.sound records at.honest t.requests at.in_flight in
+            record {
+              events = Event.Record k ∷ [];
+              moment = then_as t (Event.Record k) next t.requests;
+              run = (next, t.requests, at_once v next t.requests t.requests (Event.Record k) does, at_rest (then_as t (Event.Record k) next t.requests));
+              still = λ x. (next, t.requests, x, at_once v next t.requests t.requests (Event.Record k) does, refl, (at_rest (then_as t (Event.Record k) next t.requests), refl));
+              counted = refl;
+              away = λ _. refl;
+              in_sync = λ j on. subst (λ (w : World). worlds.IsInSync w j) does.step.1.3 on;
+              cut = (world_of next t.requests).stored;
+              is_cut = inl refl;
+              read = λ j. inl (read_next j);
+              device = each_super disks tried d e was is (own_written_as a m e.content may.readable (λ v on. (reads.read v on.fields on.sound).0));
+            }
+
+  -- such a write left the old one, the new one or none
+  pub record IsRecordCut (left : List Disk) : Type 0 where
+    pub on : ℕ
+    pub member : MemberView
+    pub may : MayRecord on a member
+    pub found : List Disk
+    pub tried : IsTried on (super_write a member) v.disks found
+    pub same : contents_of found ≡ contents_of left
+
+  record_cut : (left : List Disk) (c : IsRecordCut left)
+      → ((d e : Disk) → slice_get v.disks c.on ≡ Some d → slice_get c.found c.on ≡ Some e
+      → ReadsAs (block_on e.content) (block_on d.content) ⊎ (ReadsAs (block_on e.content) (super_write a c.member).bytes ⊎ (super_in (block_on e.content) ≡ None)))
+      → IsSorted t left
+  record_cut left c reads =
+      let low = slice_get_within a.members c.on c.member c.may.at in
+      let as_many = at.sound.fits.as_many in
+      let many = c.tried.as_many in
+      let d = got_within v.disks c.on (omega arith) in
+      let e = got_within c.found c.on (omega arith) in
+      sorted_like t c.found left c.same (elim (reads d.0 e.0 d.1 e.1) [
+        | inl old ↦ unrecorded c.on c.member c.may c.found c.tried d.0 e.0 d.1 e.1 (inl old)
+        | inr other ↦
+            elim other [
+              | inl new ↦ recorded c.on c.member c.may d.0 d.1 c.found c.tried e.0 e.1 new
+              | inr none ↦ unrecorded c.on c.member c.may c.found c.tried d.0 e.0 d.1 e.1 (inr none)
+            ]
+      ])
+
+  recording : (left : List Disk) → IsLeftRecording t left → IsSorted t left
+  recording left l =
+      let wrote : (m : MemberView) → MayRecord l.on a m → IsWritten l.on (super_write a m) v.disks l.next.disks → IsRecordCut left =
+      λ m may done. let f = stops_as_tried l.on (super_write a m) v.disks l.next.disks (contents_of left) at.honest done l.within in record { on = l.on; member = m; may = may; found = f.0; tried = f.1; same = f.2 } in
+      let failed : (m : MemberView) → MayRecord l.on a m → IsFailed l.on (super_write a m) v.disks l.next.disks → IsRecordCut left =
+      λ m may tried. let f = failed_as_tried l.on (super_write a m) v.disks l.next.disks (contents_of left) at.honest tried l.within in record { on = l.on; member = m; may = may; found = f.0; tried = f.1; same = f.2 } in
+      let whole : (c : IsRecordCut left) → c.on ≡ l.on → IsSorted t left =
+      λ c here. record_cut left c (λ d e was is.
+      let x = got_like left c.found (sym c.same) c.on e is in
+      let leaves = l.super c.member (ap (slice_get a.members) (sym here) ∙ c.may.at) d x.0 (ap (slice_get v.disks) (sym here) ∙ was) (ap (slice_get left) (sym here) ∙ x.1) in
+      elim leaves [
+        | inl old ↦ inl (reads_same (block_on e.content) (block_on d.content) (ap block_on (sym x.2) ∙ old))
+        | inr other ↦
+            elim other [
+              | inl new ↦ inr (inl (reads_same (block_on e.content) (super_write a c.member).bytes (ap block_on (sym x.2) ∙ new)))
+              | inr none ↦ inr (inr (ap (λ (b : List ℕ). super_in (block_on b)) (sym x.2) ∙ none))
+            ]
+      ]) in
+      elim l.call [
+        | inl done ↦ whole (wrote done.member done.may done.disks) refl
+        | inr other ↦
+            elim other [
+              | inl fails ↦ whole (failed fails.member fails.may fails.fails.disks) refl
+              | inr halts ↦ whole (failed halts.member halts.may halts.halts.disks) refl
+            ]
+      ]
+
+  -- where both superblocks end in the first sector, that one tells which is read
+  recording_short : (left : List Disk) → IsLeftRecordingShort t left → IsSorted t left
+  recording_short left l =
+      let m = l.call.member in
+      let w = super_write a m in
+      let size = l.call.may.readable.size in
+      let f = stops_as_tried l.on w v.disks l.next.disks (contents_of left) at.honest l.call.disks l.within in
+      let but = stops_at_write l.on w v.disks l.next.disks (contents_of left) at.honest l.call.disks l.within in
+      record_cut left (record { on = l.on; member = m; may = l.call.may; found = f.0; tried = f.1; same = f.2 }) (λ d e was is.
+      let x = got_like left f.0 (sym f.2) l.on e is in
+      let long = (at.sound.fits.each l.on d m was l.call.may.at).long in
+      let same = ap block_on (sym x.2) in
+      elim (cut_one d.content x.0.content w (but.this d x.0.content was (got_in_map (λ (y : Disk). y.content) left l.on x.0 x.1))) [
+        | inl done ↦ inr (inl (reads_same (block_on e.content) w.bytes (same ∙ ap block_on done ∙ part-spliced d.content (512 * 8) w.bytes 4096 (sym size) (omega arith))))
+        | inr mixed ↦
+            elim (mixed.each 0 (omega arith)) [
+              | inl old ↦ inl (reads_first (block_on e.content) (block_on d.content) (ap (take 512) same ∙ first_sector x.0.content ∙ old ∙ sym (first_sector d.content)) (l.old d was))
+              | inr new ↦ inr (inl (reads_first (block_on e.content) w.bytes (ap (take 512) same ∙ first_sector x.0.content ∙ new ∙ first_part w.bytes) l.new))
+            ]
+      ])
+
+  pub sorted : (left : List Disk) → IsLeft t left → IsSorted t left
+  sorted left (inl same) = sorted_like t v.disks left (sym same) between
+  sorted left (inr (inl l)) = stored_sorted l.on l.block l.inside l.next l.call left l.within
+  sorted left (inr (inr (inl l))) = writing left l
+  sorted left (inr (inr (inr (inl l)))) = recording left l
+  sorted left (inr (inr (inr (inr l)))) = recording_short left l

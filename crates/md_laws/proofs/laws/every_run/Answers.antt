@@ -1,0 +1,18 @@
+use Rattle.md_laws.proofs.Openings.HalfOpened.{read_as_kept}
+use Rattle.md_laws.proofs.Runs.MirrorContents as contents
+use Rattle.md_laws.proofs.Runs.MirrorLives as lives
+use Rattle.md_laws.proofs.laws.every_run.Goals as goal
+
+pub returns : goal.returns
+returns c = record {
+  covered = lives.life_covered;
+  at_stop = lives.life_safe;
+  finds_in_sync = lives.finds_in_sync;
+  keeps_out = lives.life_keeps_out;
+  stays_out = lives.life_stays_out;
+  has_content = contents.content_at_first;
+  content_along = contents.content_along;
+  keeps_content = contents.content_kept;
+  read_as_kept = read_as_kept;
+  keeps_geometry = lives.keeps_geometry;
+}

@@ -1,0 +1,75 @@
+-- What a stop leaves of a mirror's devices: it comes between two calls or within one, of which its own contract says what may be
+-- left (`MayAllBeLeft`).
+use Rattle.std.specs.Prelude.{◌≡◌, ◌⊎◌, ℕ, ◌+◌, ◌*◌, ◌<◌, ◌≤◌, List, map, Option, slice_get, Some}
+use Rattle.md_format.specs.Fields.{number_at}
+use Rattle.md_members.specs.Areas.{bitmap_sectors}
+use Rattle.md_model.specs.Worlds.{Request}
+use Rattle.md_state.specs.View.{Disk, MemberView, MirrorView, PendingView}
+use Rattle.md_state.specs.DiskWrites.{AtDevice}
+use Rattle.md_state.specs.Members.{IsMember}
+use Rattle.md_state.specs.Requests.{IsPending, among}
+use Rattle.md_state.specs.StoringMarks.{StoresMarkSector}
+use Rattle.md_state.specs.WritingMember.{FailsToWrite, HaltsWritingTo, WritesTo}
+use Rattle.md_array.specs.Events.{IsOldNewOrNone}
+use Rattle.md_array.specs.Recording.{FailsToRecord, HaltsRecording, Records, super_write}
+use Rattle.md_array.specs.Worlds.{block_on}
+use Rattle.md_laws.specs.Runs.{Moment}
+use Rattle.md_laws.specs.StopsWithin.{MayAllBeLeft}
+
+-- Of devices that were left what stands on them counts, and no more.
+abbrev pub contents_of : List Disk → List (List ℕ)
+contents_of disks = map (λ d. d.content) disks
+
+-- within a call that leads from the mirror at t to the next one
+abbrev pub IsLeftWithin : Moment → MirrorView → List Disk → Type 0
+IsLeftWithin t next left = MayAllBeLeft t.mirror.disks next.disks (contents_of left)
+
+-- Within `write_member`, whatever comes of the write.
+pub record IsLeftWriting (t : Moment) (left : List Disk) : Type 0 where
+  pub request : PendingView
+  pub others : ℕ → Option Request
+  pub in_flight : t.requests ≡ among request others
+  pub pending : IsPending t.mirror.array request
+  pub on : ℕ
+  pub next : MirrorView
+  pub then : PendingView  -- the request after it
+  pub call : WritesTo on t.mirror next request then ⊎ (FailsToWrite on t.mirror next request then ⊎ HaltsWritingTo on t.mirror next request then)
+  pub within : IsLeftWithin t next left
+
+-- Within `record`, whatever comes of the write, where it left the old superblock, the new one or none: a premise on such stops.
+pub record IsLeftRecording (t : Moment) (left : List Disk) : Type 0 where
+  pub on : ℕ
+  pub next : MirrorView
+  pub call : Records on t.mirror next ⊎ (FailsToRecord on t.mirror next ⊎ HaltsRecording on t.mirror next)
+  pub within : IsLeftWithin t next left
+  pub super : (m : MemberView) → IsMember t.mirror.array on m → AtDevice on t.mirror.disks left (IsOldNewOrNone (super_write t.mirror.array m).bytes)
+
+-- a superblock of at most 128 roles ends within its first sector
+abbrev pub EndsInFirstSector : List ℕ → Type 0
+EndsInFirstSector block = 256 + 2 * number_at 4 220 block ≤ 512
+
+-- Within `record`, without that premise: the write is done, and both superblocks, the one that stands there and the one that is
+-- written, end within the first sector.
+pub record IsLeftRecordingShort (t : Moment) (left : List Disk) : Type 0 where
+  pub on : ℕ
+  pub next : MirrorView
+  pub call : Records on t.mirror next
+  pub within : IsLeftWithin t next left
+  pub old : (d : Disk) → slice_get t.mirror.disks on ≡ Some d → EndsInFirstSector (block_on d.content)
+  pub new : EndsInFirstSector (super_write t.mirror.array call.member).bytes
+
+-- Within `store_marks`, where its write is done. One that fails is a failure that awaits its record.
+pub record IsLeftStoring (t : Moment) (left : List Disk) : Type 0 where
+  pub on : ℕ
+  pub block : ℕ
+  pub inside : block < bitmap_sectors t.mirror.array.marks.chunks
+  pub next : MirrorView
+  pub call : StoresMarkSector on block t.mirror next
+  pub within : IsLeftWithin t next left
+
+-- What a stop leaves at t, or within a call from t. A call that is refused, `begin`, `finish` and `clear_idle` leave what was
+-- there (`stops_at_steps`).
+abbrev pub IsLeft : Moment → List Disk → Type 0
+IsLeft t left =
+    (contents_of left ≡ contents_of t.mirror.disks)
+    ⊎ (IsLeftStoring t left ⊎ (IsLeftWriting t left ⊎ (IsLeftRecording t left ⊎ IsLeftRecordingShort t left)))

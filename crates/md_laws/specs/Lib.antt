@@ -1,0 +1,25 @@
+-- What an interrupted open leaves: it was stopped, or one of its writes failed. Its own contract says what that may be.
+pub mod HalfOpened
+-- Lists of events of a mirror, from its opening on: each is done by a call, as the calls' contracts say (`Does`). Between them
+-- devices may be read, and reads may fail: that is no event, and the world stays.
+pub mod Runs
+-- A copy of a run of sectors is the model's events, one a sector.
+pub mod CopyEvents
+-- What is done by a call that is a list of events.
+pub mod WholeCalls
+-- Whole calls that read devices: the events that such a call does, one after another, with reads before each and after the
+-- last.
+pub mod ReadInTurn
+-- One opening of a mirror's devices after another: runs, each but the last ended by a stop, and what the next mirror is made
+-- of.
+pub mod Lives
+-- Devices that an opening left out, and that come back at the next one before any data was let through: they may be found in
+-- sync, and then another life begins.
+pub mod Returning
+-- What a stop leaves of a mirror's devices: it comes between two calls or within one, of which its own contract says what may
+-- be left (`MayAllBeLeft`).
+pub mod Left
+-- What a stop within a call leaves of a mirror's devices.
+pub mod StopsWithin
+-- A life of a mirror of one member: what the laws on lives ask can be met.
+pub mod SmallLife

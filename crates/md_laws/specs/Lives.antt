@@ -1,0 +1,153 @@
+-- One opening of a mirror's devices after another: runs, each but the last ended by a stop, and what the next mirror is made of.
+use Rattle.std.specs.Prelude.{◌≡◌, ℕ, ◌*◌, ◌<◌, ◌≤◌, true, false, List, [], ◌∷◌, length, Option, slice_get, Some, None}
+use Rattle.md_model.specs.Sectors.{Geometry, chunk_of}
+use Rattle.md_device.specs.Splice.{SameOutside}
+use Rattle.md_super.specs.declared.superblock.Superblock.{Superblock}
+use Rattle.md_members.specs.Areas.{bitmap_sectors}
+use Rattle.md_assembly.specs.States.{is_in_sync}
+use Rattle.md_model.specs.Devices.{Super, is_marked}
+use Rattle.md_model.specs.Events.{Event}
+use Rattle.md_model.specs.Fits.{HasOneView}
+use Rattle.md_model.specs.Content.{Content, BecomesAtOpening, Holds}
+use Rattle.md_model.specs.Runs.{History}
+use Rattle.md_model.specs.Stops.{IsFit}
+use Rattle.md_state.specs.View.{ArrayView, Disk, MemberView, MirrorView}
+use Rattle.md_state.specs.Members.{IsInSync, IsMember}
+use Rattle.md_array.specs.Opening.{IsArrayOf, IsOpenedFrom}
+use Rattle.md_array.specs.ReadAsKept.{AreReadAsKept, IsSuperOn, chunk_size_on}
+use Rattle.md_array.specs.Worlds.{AreHonest, from_super, geometry_of, none_in_flight, stored_of, super_of, world_of}
+use Rattle.md_laws.specs.HalfOpened.{IsHalfOpened}
+use Rattle.md_laws.specs.Left.{IsLeft}
+use Rattle.md_laws.specs.Runs.{IsStart, MirrorRun, MirrorRunWith, Moment, history_of, opened_as}
+
+-- A device is as it was left; but openings that were themselves stopped may have written its bitmap. Then no chunk lost its
+-- mark, and the header has the chunk size that it had.
+pub record IsAsLeft (a : ArrayView) (m : MemberView) (left now : List ℕ) : Type 0 where
+  pub outside : SameOutside (512 * from_super m.superblock.bitmap_offset) (512 * bitmap_sectors m.stored.chunks) left now
+  pub chunk_size : chunk_size_on m.superblock now ≡ chunk_size_on m.superblock left
+  pub marks : (s : ℕ) → s < a.chunks.size → is_marked (stored_of a m now) (chunk_of (geometry_of a) s) ≡ false → is_marked (stored_of a m left) (chunk_of (geometry_of a) s) ≡ false
+
+-- device k of those that were left is device j of these
+pub record IsFoundAgain (a : ArrayView) (left now : List Disk) (k j : ℕ) : Type 0 where
+  pub member : MemberView
+  pub is_member : IsMember a k member
+  pub disk_left : Disk
+  pub at_left : slice_get left k ≡ Some disk_left
+  pub disk_now : Disk
+  pub at_now : slice_get now j ≡ Some disk_now
+  pub as_left : IsAsLeft a member disk_left.content disk_now.content
+
+-- One of the devices that were left is there, and its superblock has recorded the last failure.
+pub record HasRecorded (t : Moment) (before : List Disk) (at : ℕ → Option ℕ) : Type 0 where
+  pub device : ℕ
+  pub place : ℕ
+  pub there : at device ≡ Some place
+  pub recorded : (d : Disk) (v : Superblock) → slice_get before place ≡ Some d → IsSuperOn d.content v → t.failed_at ≤ v.events
+
+-- Among these are some of the devices that were left, in any order, and one of those has recorded the last failure.
+pub record AreFoundAgain (t : Moment) (before : List Disk) : Type 0 where
+  pub left : List Disk
+  pub is_left : IsLeft t left
+  pub honest : AreHonest before
+  pub from : ℕ → Option ℕ  -- which of those that were left each is, if it is one
+  pub at : ℕ → Option ℕ  -- and where each of those is now, if it is there
+  pub found : (j k : ℕ) → from j ≡ Some k → at k ≡ Some j
+  pub again : (k j : ℕ) → at k ≡ Some j → IsFoundAgain t.mirror.array left before k j
+  pub recorded : HasRecorded t before at
+
+-- A device that the opening before left out, as a member of the next mirror: its events are not above the array's there, no member
+-- had its number since, and it is not found in sync. (With one that is, another life begins: `laws::returning_devices`.)
+pub record IsFurther (opened : MirrorView) (t : Moment) (m : MemberView) : Type 0 where
+  pub no_newer : m.superblock.events ≤ opened.array.shared.events
+  pub away : t.away m.superblock.dev_number ≡ true
+  pub out : is_in_sync m.state ≡ false
+
+-- The next mirror is made of such devices and of further ones, and its superblock is fit.
+pub record IsReopened (opened : MirrorView) (t : Moment) (next : MirrorView) : Type 0 where
+  pub before : List Disk
+  pub devices : AreFoundAgain t before
+  pub others : (j : ℕ) (m : MemberView) → IsMember next.array j m → devices.from j ≡ None → IsFurther opened t m
+  pub opens : IsOpenedFrom before next
+  pub fit : IsFit (super_of opened.array.shared) (super_of next.array.shared) t.failed_at
+
+-- A mirror's life: events, a stop and an opening, events again, and so on. The last opening gave the mirror final.
+abbrev pub MirrorLife : MirrorView → List Event → List (List Event) → MirrorView → Moment → Type 0
+MirrorLife m es [] final last = (final ≡ m) × MirrorRun (opened_as m) es last
+MirrorLife m es (more ∷ rest) final last =
+    (t : Moment) × (next : MirrorView) × MirrorRun (opened_as m) es t × IsReopened m t next × MirrorLife next more rest final last
+
+-- it holds of the array, the superblock of the last opening and the past since then, at each moment of each life
+abbrev pub AtEachMoment : (Geometry → Super → History → Type 0) → Type 0
+AtEachMoment Holds =
+    (before : List Disk) (m : MirrorView) → IsStart before m
+    → (es : List Event) (rest : List (List Event)) (final : MirrorView) (last : Moment) → MirrorLife m es rest final last
+    → Holds (geometry_of m.array) (super_of final.array.shared) (history_of last)
+
+-- the same with the array's content. An opening may change it where each member that is found in sync has the chunk's mark,
+-- and nowhere else.
+abbrev pub MirrorLifeWith : MirrorView → Content → List Event → List (List Event) → MirrorView → Moment → Content → Type 0
+MirrorLifeWith m a es [] final last b = (final ≡ m) × MirrorRunWith (opened_as m) a es last b
+MirrorLifeWith m a es (more ∷ rest) final last b =
+    (t : Moment) × (next : MirrorView) × (c d : Content)
+    × MirrorRunWith (opened_as m) a es t c × IsReopened m t next × BecomesAtOpening (geometry_of next.array) (world_of next none_in_flight) c d
+    × MirrorLifeWith next d more rest final last b
+
+-- A content that the members in sync hold at the first opening goes along every life,
+abbrev pub ContentGoesAlong : Type 0
+ContentGoesAlong =
+    (before : List Disk) (m : MirrorView) (a : Content) → IsStart before m → Holds (geometry_of m.array) a (world_of m none_in_flight)
+    → (es : List Event) (rest : List (List Event)) (final : MirrorView) (last : Moment) → MirrorLife m es rest final last
+    → (b : Content) × MirrorLifeWith m a es rest final last b
+
+-- and they hold it wherever it went.
+abbrev pub KeepsContent : Type 0
+KeepsContent =
+    (before : List Disk) (m : MirrorView) (a : Content) → IsStart before m → Holds (geometry_of m.array) a (world_of m none_in_flight)
+    → (es : List Event) (rest : List (List Event)) (final : MirrorView) (last : Moment) (b : Content) → MirrorLifeWith m a es rest final last b
+    → Holds (geometry_of m.array) b (world_of last.mirror last.requests)
+
+-- At each moment of each life an opening would read of the devices what the mirror keeps of them, and the array has the chunks
+-- and the roles of the first opening.
+abbrev pub IsReadAsKeptInLives : Type 0
+IsReadAsKeptInLives =
+    (before : List Disk) (m : MirrorView) → IsStart before m
+    → (es : List Event) (rest : List (List Event)) (final : MirrorView) (last : Moment) → MirrorLife m es rest final last
+    → AreReadAsKept last.mirror last.failed_at
+
+abbrev pub KeepsGeometry : Type 0
+KeepsGeometry =
+    (before : List Disk) (m : MirrorView) → IsStart before m
+    → (es : List Event) (rest : List (List Event)) (final : MirrorView) (last : Moment) → MirrorLife m es rest final last
+    → geometry_of last.mirror.array ≡ geometry_of m.array
+
+-- A member in sync of the mirror that is opened of what a stop left was in sync at the stop, on the same device.
+abbrev pub FindsInSync : Type 0
+FindsInSync =
+    (before : List Disk) (m : MirrorView) → IsStart before m
+    → (es : List Event) (rest : List (List Event)) (final : MirrorView) (last : Moment) → MirrorLife m es rest final last
+    → (next : MirrorView) (again : IsReopened final last next)
+    → (k : ℕ) (n : MemberView) → IsInSync next.array k n → (i : ℕ) × (again.devices.from k ≡ Some i) × (o : MemberView) × IsInSync last.mirror.array i o
+
+-- each of these devices was left
+abbrev pub AreAllLeft : (t : Moment) (before : List Disk) → AreFoundAgain t before → Type 0
+AreAllLeft t before devices = (j : ℕ) → j < length before → (k : ℕ) × (devices.from j ≡ Some k)
+
+-- The next superblock is fit where it is as new as the one of the opening before and has recorded the last failure, if no two
+-- superblocks of that opening were as new and told of other roles.
+abbrev pub FitsWhenThere : Type 0
+FitsWhenThere =
+    (before : List Disk) (m : MirrorView) → IsStart before m → HasOneView (super_of m.array.shared) (world_of m none_in_flight).stored
+    → (es : List Event) (t : Moment) → MirrorRun (opened_as m) es t
+    → (found : List Disk) (next : MirrorView) (devices : AreFoundAgain t found) → AreAllLeft t found devices → IsOpenedFrom found next
+    → m.array.shared.events ≤ next.array.shared.events
+    → IsFit (super_of m.array.shared) (super_of next.array.shared) t.failed_at
+
+-- An interrupted open of such devices, with any others beside them, leaves each of them as it was left.
+abbrev pub StaysAsLeft : Type 0
+StaysAsLeft =
+    (before : List Disk) (m : MirrorView) → IsStart before m
+    → (es : List Event) (rest : List (List Event)) (final : MirrorView) (last : Moment) → MirrorLife m es rest final last
+    → (found : List Disk) (a : ArrayView) (devices : AreFoundAgain last found) → IsArrayOf found a
+    → (left : List (List ℕ)) → IsHalfOpened a found left
+    → (k j : ℕ) (at : devices.at k ≡ Some j) (c : List ℕ) → slice_get left j ≡ Some c
+    → IsAsLeft last.mirror.array (devices.again k j at).member (devices.again k j at).disk_left.content c

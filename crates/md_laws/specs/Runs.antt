@@ -1,0 +1,68 @@
+-- Lists of events of a mirror, from its opening on: each is done by a call, as the calls' contracts say (`Does`). Between them
+-- devices may be read, and reads may fail: that is no event, and the world stays.
+use Rattle.std.specs.Prelude.{◌≡◌, ℕ, Bool, false, not, List, [], ◌∷◌, Option}
+use Rattle.md_model.specs.Devices.{Covered}
+use Rattle.md_model.specs.Worlds.{Request, IsInSync}
+use Rattle.md_model.specs.Content.{Content, Becomes, Holds}
+use Rattle.md_model.specs.Events.{Event}
+use Rattle.md_model.specs.Runs.{History, away_after, failed_after, tried_after}
+use Rattle.md_state.specs.Rising.{has_number}
+use Rattle.md_state.specs.View.{Disk, MirrorView}
+use Rattle.md_state.specs.Rests.{Rests}
+use Rattle.md_array.specs.Opening.{IsOpenedFrom}
+use Rattle.md_array.specs.Events.{Does}
+use Rattle.md_array.specs.Worlds.{AreHonest, geometry_of, none_in_flight, world_of, world_on}
+
+-- a mirror with the requests in flight, and what of its past the laws speak of
+pub record Moment : Type 0 where
+  pub mirror : MirrorView
+  pub requests : ℕ → Option Request
+  pub failed_at : ℕ  -- the count after the last failure, or 0
+  pub tried : Bool  -- data was written to a member, or a write of it failed
+  pub away : ℕ → Bool  -- no member had this number at any moment since the opening
+
+-- the same of the mirror's world
+abbrev pub history_of : Moment → History
+history_of t = record { now = world_of t.mirror t.requests; failed_at = t.failed_at; tried = t.tried; away = t.away }
+
+abbrev pub opened_as : MirrorView → Moment
+opened_as m = record { mirror = m; requests = none_in_flight; failed_at = 0; tried = false; away = λ d. not (has_number m.array d) }
+
+abbrev pub then_as : Moment → Event → MirrorView → (ℕ → Option Request) → Moment
+then_as t e m requests =
+    record { mirror = m; requests = requests; failed_at = failed_after e (world_of m requests) t.failed_at; tried = tried_after e t.tried; away = away_after e t.away }
+
+-- since the one moment devices were only read
+pub record HasRested (t last : Moment) : Type 0 where
+  pub rests : Rests t.mirror last.mirror
+  pub is : last ≡ record t { mirror = last.mirror }
+
+-- devices were only read, and then the event was done
+pub record RestsThenDoes (old : MirrorView) (before : ℕ → Option Request) (e : Event) (new : MirrorView) (after : ℕ → Option Request) : Type 0 where
+  pub mid : MirrorView
+  pub rests : Rests old mid
+  pub does : Does mid before e new after
+
+-- these events, one after another, lead from the one moment to the other
+abbrev pub MirrorRun : Moment → List Event → Moment → Type 0
+MirrorRun t [] last = HasRested t last
+MirrorRun t (e ∷ es) last =
+    (m : MirrorView) × (requests : ℕ → Option Request) × RestsThenDoes t.mirror t.requests e m requests × MirrorRun (then_as t e m requests) es last
+
+-- the same with the array's content, before them and after them
+abbrev pub MirrorRunWith : Moment → Content → List Event → Moment → Content → Type 0
+MirrorRunWith t a [] last b = HasRested t last × (b ≡ a)
+MirrorRunWith t a (e ∷ es) last b =
+    (m : MirrorView) × (requests : ℕ → Option Request) × (c : Content) × RestsThenDoes t.mirror t.requests e m requests
+    × Becomes (geometry_of t.mirror.array) e (world_of t.mirror t.requests) a c × MirrorRunWith (then_as t e m requests) c es last b
+
+-- Devices that do what they answer were opened as this mirror, and their stored marks covered what the members in sync differ in.
+pub record IsStart (before : List Disk) (m : MirrorView) : Type 0 where
+  pub honest : AreHonest before
+  pub opened : IsOpenedFrom before m
+  pub covered : Covered (geometry_of m.array) (world_on before m.array none_in_flight).stored (IsInSync (world_of m none_in_flight))
+
+-- There is a content that the members in sync hold at the opening.
+abbrev pub HasContent : Type 0
+HasContent =
+    (before : List Disk) (m : MirrorView) → IsStart before m → (a : Content) × Holds (geometry_of m.array) a (world_of m none_in_flight)

@@ -1,0 +1,23 @@
+-- A life of a mirror of one member: what the laws on lives ask can be met.
+use Rattle.std.specs.Prelude.{ℕ, List, [], ◌∷◌, Option}
+use Rattle.md_model.specs.Events.{Event}
+use Rattle.md_model.specs.Worlds.{Request}
+use Rattle.md_state.specs.View.{Disk, MirrorView}
+use Rattle.md_laws.specs.Lives.{MirrorLife}
+use Rattle.md_laws.specs.Runs.{IsStart, MirrorRun, opened_as}
+
+-- A request begins and the superblock of member 0 is stored: a run of two events, from the opening on.
+pub record RunsTwice (old new : MirrorView) : Type 0 where
+  pub number : ℕ
+  pub request : Request
+  pub requests : ℕ → Option Request
+  pub run : MirrorRun (opened_as old) (Event.Begin number request ∷ Event.Record 0 ∷ []) (record (opened_as old) { mirror = new; requests = requests })
+
+-- These devices were opened, with stored marks that cover what differs. There was such a run, and then the devices were opened
+-- again as this mirror.
+pub record HasSmallLife (before : List Disk) (next : MirrorView) : Type 0 where
+  pub first : MirrorView
+  pub start : IsStart before first
+  pub number : ℕ
+  pub request : Request
+  pub life : MirrorLife first (Event.Begin number request ∷ Event.Record 0 ∷ []) ([] ∷ []) next (opened_as next)

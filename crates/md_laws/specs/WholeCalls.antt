@@ -1,0 +1,19 @@
+-- What is done by a call that is a list of events.
+use Rattle.std.specs.Prelude.{◌≡◌, List, ◌++◌, Option}
+use Rattle.md_model.specs.Events.{Event}
+use Rattle.md_state.specs.View.{MirrorView}
+use Rattle.md_array.specs.InTurn.{AllLeftWhole, Leads, Requests}
+use Rattle.md_array.specs.Worlds.{AreHonest}
+use Rattle.md_laws.specs.Runs.{MirrorRun, Moment}
+
+-- From any moment of a mirror such a call is a run, and ends where the call says: so the laws over runs speak of it, and of a stop
+-- within one of its events.
+abbrev pub CallsAreRuns : Type 0
+CallsAreRuns =
+    (es : List Event) (previous : Option Event) (t : Moment) (new : MirrorView) (after : Requests) (leads : Leads previous t.mirror t.requests es new after)
+    → AreHonest t.mirror.disks → AllLeftWhole es previous t.mirror t.requests (λ m r. (m ≡ new) × (r ≡ after)) leads
+    → (last : Moment) × MirrorRun t es last × ((last.mirror ≡ new) × (last.requests ≡ after))
+
+-- a run after a run
+abbrev pub RunsGoOn : Type 0
+RunsGoOn = (es fs : List Event) (t mid last : Moment) → MirrorRun t es mid → MirrorRun mid fs last → MirrorRun t (es ++ fs) last

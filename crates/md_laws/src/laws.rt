@@ -1,0 +1,124 @@
+//! What holds of the definitions alone.
+
+ghost use Rattle.std.specs.Prelude.{◌≡◌, ◌+◌, ◌<◌, ◌↔◌, ℕ, List, true};
+ghost use Rattle.md_badblocks.specs.Runs.{IsBad};
+ghost use Rattle.md_model.specs.Devices.{Covered};
+ghost use Rattle.md_model.specs.Lives.{IsCovered};
+ghost use Rattle.md_model.specs.Openings as openings;
+ghost use Rattle.md_model.specs.Stops.{IsSafeAtStop, KeepsOut, StaysOut};
+ghost use Rattle.md_model.specs.Worlds.{IsInSync};
+ghost use Rattle.md_state.specs.Members.{IsMember};
+ghost use Rattle.md_state.specs.View.{Disk, MemberView, MirrorView};
+ghost use Rattle.md_array.specs.Opening.{IsOpenedFrom};
+ghost use Rattle.md_array.specs.ReadAsKept.{AreReadAsKept};
+ghost use Rattle.md_array.specs.Worlds.{AreHonest, geometry_of, none_in_flight, super_of, world_of, world_on};
+ghost use Rattle.md_laws.specs.Lives.{AtEachMoment, ContentGoesAlong, FindsInSync, FitsWhenThere, IsReadAsKeptInLives, KeepsContent, KeepsGeometry, StaysAsLeft};
+ghost use Rattle.md_laws.specs.Returning.{StartsAgain};
+ghost use Rattle.md_laws.specs.Runs.{HasContent};
+ghost use Rattle.md_laws.specs.StopsWithin.{StopsAsFailed, StopsAsTried, StopsAtEvents, StopsAtFailure, StopsAtSector, StopsAtWrite, StopsInMemory, StopsUndivided};
+
+/// A mirror that was opened from devices that do what they answer is an opened world of the model, by
+/// the array's superblock: the opening stored all marks where the bitmap was not accepted, and nothing
+/// else. So where the stored marks covered what differs, they do so after it; and the bad sets that are
+/// kept are those that the members' logs list.
+pub fn opening()
+    ensures opened { (before : List Disk) (m : MirrorView) → AreHonest before → IsOpenedFrom before m
+        → openings.IsOpened (geometry_of m.array) (super_of m.array.shared) (world_of m none_in_flight) }
+    ensures opened_from { (before : List Disk) (m : MirrorView) → AreHonest before → IsOpenedFrom before m
+        → openings.IsOpenedFrom (geometry_of m.array) (world_on before m.array none_in_flight).stored (super_of m.array.shared) (world_of m none_in_flight) }
+    ensures covered { (before : List Disk) (m : MirrorView) → AreHonest before → IsOpenedFrom before m
+        → Covered (geometry_of m.array) (world_on before m.array none_in_flight).stored (IsInSync (world_of m none_in_flight))
+        → Covered (geometry_of m.array) (world_of m none_in_flight).stored (IsInSync (world_of m none_in_flight)) }
+    ensures listed { (before : List Disk) (m : MirrorView) → AreHonest before → IsOpenedFrom before m
+        → (k : ℕ) (mv : MemberView) → IsMember m.array k mv → (s : ℕ) → s < m.array.chunks.size
+        → (((world_of m none_in_flight).stored k).listed s ≡ true) ↔ IsBad mv.bad (mv.superblock.data_offset + s) }
+    ensures read { (before : List Disk) (m : MirrorView) → AreHonest before → IsOpenedFrom before m → AreReadAsKept m 0 }
+    ensures honest { (before : List Disk) (m : MirrorView) → AreHonest before → IsOpenedFrom before m → AreHonest m.disks }
+{}
+
+/// What looks back, at each moment of a mirror's life. It was opened from devices that do what they
+/// answer, whose stored marks covered what they differ in. Calls did events, any of them in any order. It
+/// was stopped between two calls or within one, and opened again from some of the devices that were left;
+/// and so on.
+///
+/// An event is what a call's contract says of it (`Does`): a step that answered Ok, or a write that failed
+/// and made its member faulty. A refused call is none. What a stop within a call leaves is what the call's
+/// own contract gives (`IsLeft`): of its write each sector as before or as written, or any bytes in its range
+/// where the write fails. A stop within `record` left the old superblock, the new one or none that can be
+/// decoded: a premise, unless the write is done and neither superblock has more than 128 roles. Nothing is said
+/// of a stop within a write of marks that fails.
+///
+/// An opening after a stop is of devices that were left, in any order, some of them missing (`IsReopened`). Beside
+/// them may be further ones, which the opening before left out (`IsFurther`): they are not found in sync. Its
+/// superblock is fit, which leaves out a stop while a failure awaits its record. Openings that were
+/// themselves stopped may have written bitmaps between, if no chunk lost its mark and the header kept its chunk
+/// size (`half_opening`). Nothing is said of a mirror once it is halted.
+pub fn every_run()
+    // Wherever two members in sync differ, the marks stored on each of them have the chunk.
+    ensures covered { AtEachMoment IsCovered }
+
+    // A stop leaves devices of which an opening finds only members in sync that were so, whose marks cover
+    // what differs; and all of these, where each has recorded all but the last change.
+    ensures at_stop { AtEachMoment IsSafeAtStop }
+
+    // So each member in sync of the mirror that is opened then was in sync.
+    ensures finds_in_sync { FindsInSync }
+
+    // Once data was let through, a device that the last opening left out is not found in sync beside a
+    // member that was.
+    ensures keeps_out { AtEachMoment KeepsOut }
+
+    // One that the superblock of the last opening calls out of sync stays so, with data or without.
+    ensures stays_out { AtEachMoment StaysOut }
+
+    // There is a content that the members in sync hold at the first opening; any such content goes along the
+    // life, and they hold what it becomes. Only the end of a request changes it, and a resync or an opening in
+    // chunks that each of them has marked.
+    ensures has_content { HasContent }
+    ensures content_along { ContentGoesAlong }
+    ensures keeps_content { KeepsContent }
+
+    // An opening would read of the devices what the mirror keeps of them; chunks and roles are those of the
+    // first opening.
+    ensures read_as_kept { IsReadAsKeptInLives }
+    ensures keeps_geometry { KeepsGeometry }
+{}
+
+/// When the superblock of the next opening is fit: it is enough that one of its devices is as new as the opening
+/// before and has recorded the last failure, if no two superblocks of that opening were as new and told of
+/// other roles.
+pub fn fitness()
+    ensures fits { FitsWhenThere }
+{}
+
+/// A device that an opening left out may come back at the next one before any data was let through, and be found in
+/// sync. With it another life begins: the opening is a start, whose stored marks cover what differs. Of the content
+/// from before nothing is said then.
+pub fn returning_devices()
+    ensures starts { StartsAgain }
+{}
+
+/// An interrupted open of a mirror's devices, at any moment of its life, leaves each as it was left, so that
+/// the next open may find it. It was stopped, or one of its writes failed: what that leaves of a device is what
+/// the contract of `open` gives. A failed write of a bitmap's first sector has to have left the header. The
+/// superblock that the open went by has to have recorded the last failure. An open that makes no array leaves
+/// every device untouched, by its contract.
+pub fn half_opening()
+    ensures as_left { StaysAsLeft }
+{}
+
+/// What a stop at any moment of a step leaves, where the step makes a write to one device, or none. Each event
+/// is of such a step (`Does`).
+pub fn stops_at_steps()
+    ensures memory { StopsInMemory }
+    ensures written { StopsAtWrite }
+    ensures sector { StopsAtSector }
+    ensures failed { StopsAtFailure }
+
+    // So a stop within the call of an event is before it, after it, or within its one write; and what it leaves
+    // within a write, the same write might leave that failed, or was torn.
+    ensures event { StopsAtEvents }
+    ensures as_failed { StopsAsFailed }
+    ensures as_tried { StopsAsTried }
+    ensures undivided { StopsUndivided }
+{}

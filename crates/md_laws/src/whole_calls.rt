@@ -1,0 +1,27 @@
+//! What holds of calls that are lists of events.
+
+ghost use Rattle.md_laws.specs.CopyEvents.{StopsAtCopies};
+ghost use Rattle.md_laws.specs.ReadInTurn.{ReadingCallsAreRuns};
+ghost use Rattle.md_laws.specs.WholeCalls.{CallsAreRuns, RunsGoOn};
+
+/// A call that is a list of events (`Leads`) is a run of the mirror, from any moment of its life on, and
+/// goes on with the run before it. So `every_run` speaks of it. It is asked that devices do what they
+/// answer, and that each write of a superblock that failed on the way left the old superblock, the new one
+/// or none.
+pub fn every_call()
+    ensures run { CallsAreRuns }
+    ensures goes_on { RunsGoOn }
+{}
+
+/// So is a call that reads devices before its events and after the last (`LeadsReading`), and writes no
+/// superblock that fails.
+pub fn every_reading_call()
+    ensures { ReadingCallsAreRuns }
+{}
+
+/// Sectors are copied by one write of the device, but are an event each. What a stop leaves within that
+/// write stands on the devices after a copy of some of the sectors. So it is what a stop between two events
+/// leaves, of another list.
+pub fn stopped_copies()
+    ensures { StopsAtCopies }
+{}

@@ -1,0 +1,3 @@
+pub mod SummaryReport
+pub mod DetailReport
+pub mod PlanReport

@@ -1,0 +1,13 @@
+use Rattle.std.proofs.Common.{◌∙◌, ap, sym}
+use Rattle.md_assembly.specs.States.{is_in_sync}
+use Rattle.md_state.specs.View.{ArrayView, MemberView}
+use Rattle.md_state.proofs.Members.At.{member_read}
+use Rattle.md_state.proofs.array.Array.check_in_sync.Goals as goal
+
+pub returns-else-is_in_sync : goal.returns-else-is_in_sync
+returns-else-is_in_sync c = record {
+  running = sym (ap (λ (a : ArrayView). a.halted) c.self.view_is) ∙ c.if-self.false;
+  member = c.index.result.now;
+  at = member_read c.args.self.now _ c.args.k c.index.result.now c.self.view_is c.requires c.index.ensures;
+  out = sym (ap (λ (m : MemberView). is_in_sync m.state) c.behind-self.view_is) ∙ sym c.is_in_sync.ensures ∙ c.if-is_in_sync.false;
+}

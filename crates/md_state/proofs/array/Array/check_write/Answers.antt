@@ -1,0 +1,103 @@
+use Rattle.std.proofs.Common.{◌≡◌, ◌∙◌, ◌<◌, ◌+◌, ◌-◌, ◌/◌, ℕ, true, sym, ap, refl, rules}
+use Rattle.md_assembly.specs.States.{is_in_sync}
+use Rattle.md_state.specs.View.{ArrayView, MemberView, PendingView}
+use Rattle.md_state.specs.Members.{IsInSync, IsMember}
+use Rattle.md_state.specs.Requests.{has_written, request_sectors}
+use Rattle.md_state.proofs.Members.FirstLacking.{all_recorded, first_to_record}
+use Rattle.md_state.proofs.Members.Indices.{same_listed}
+use Rattle.md_state.proofs.Members.At.{member_read}
+use Rattle.md_state.proofs.Changes.RequestChunks.{AreChunksOf, all_marked, first_unmarked}
+use Rattle.md_state.proofs.array.Array.check_write.Goals as goal
+
+-- a member that was read in a state of that kind
+in_sync_at : (a : ArrayView) (k : ℕ) (m inside : MemberView) (answer : _) → IsMember a k m → inside ≡ m → answer ≡ is_in_sync inside.state → answer ≡ true → IsInSync a k m
+in_sync_at a k m inside answer at same told is = record { member = at; in_sync = ap (λ (x : MemberView). is_in_sync x.state) (sym same) ∙ sym told ∙ is }
+
+chunks_are : (a b : ArrayView) (p q : PendingView) (n first end : ℕ) → a ≡ b → p ≡ q → 0 < b.chunks.sectors → 0 < request_sectors q → n ≡ request_sectors q → first ≡ p.sector / a.chunks.sectors
+    → end ≡ ((p.sector + n) - 1) / a.chunks.sectors + 1 → AreChunksOf b.chunks.sectors q.sector (request_sectors q) first end
+chunks_are a b p q n first end same_array same_request wide some count first_is end_is = record {
+  wide = wide;
+  some = some;
+  first_is = first_is ∙ rw (same_array, same_request) refl;
+  end_is = end_is ∙ rw (same_array, same_request, count) refl;
+}
+
+pub returns-then-not-is_in_sync : goal.returns-then-not-is_in_sync
+returns-then-not-is_in_sync c disks =
+    let m = c.index-member.result.now in
+    let at = member_read c.args.self.now _ c.args.k m c.self.view_is c.requires.within c.index-member.ensures in
+    let state : is_in_sync c.member.inside.state ≡ is_in_sync m.state = ap (λ (x : MemberView). is_in_sync x.state) c.member.view_is in
+    let told = c.is_in_sync.ensures in
+    let not_in = c.if-not-is_in_sync.true in
+    (record { unchanged = refl; reason = record { running = search rules; member = m; at = at; out = cc } }, refl)
+
+pub returns-in-Some : goal.returns-in-Some
+returns-in-Some c disks =
+    let m = c.index-member.result.now in
+    let at = member_read c.args.self.now _ c.args.k m c.self.view_is c.requires.within c.index-member.ensures in
+    let in_sync = in_sync_at c.args.self.now c.args.k m _ _ at c.member.view_is c.is_in_sync.ensures c.if-not-is_in_sync.false in
+    let are = chunks_are _ c.args.self.now _ c.args.pending.now _ _ _ c.self.view_is c.pending.view_is c.requires.chunks.wide c.requires.range.some c.sectors.ensures c.chunks_of-first.ensures.first c.chunks_of-first.ensures.end in (
+      record {
+        unchanged = refl;
+        reason = record { running = search rules; member = m; in_sync = in_sync; first = first_unmarked c.args.self.now c.args.pending.now _ _ are c.in-Some.j c.in-Some.ensures };
+      },
+      refl,
+    )
+
+pub returns-in-Some-first_due : goal.returns-in-Some-first_due
+returns-in-Some-first_due c disks =
+    let m = c.index-member.result.now in
+    let at = member_read c.args.self.now _ c.args.k m c.self.view_is c.requires.within c.index-member.ensures in
+    let in_sync = in_sync_at c.args.self.now c.args.k m _ _ at c.member.view_is c.is_in_sync.ensures c.if-not-is_in_sync.false in
+    let are = chunks_are _ c.args.self.now _ c.args.pending.now _ _ _ c.self.view_is c.pending.view_is c.requires.chunks.wide c.requires.range.some c.sectors.ensures c.chunks_of-first.ensures.first c.chunks_of-first.ensures.end in (
+      record {
+        unchanged = refl;
+        reason = record {
+          running = search rules;
+          member = m;
+          in_sync = in_sync;
+          marked = all_marked c.args.self.now c.args.pending.now _ _ are c.in_default.ensures;
+          first = first_to_record c.args.self.now c.in-Some-first_due.j (sym c.first_due.ensures ∙ c.in-Some-first_due.is);
+        };
+      },
+      refl,
+    )
+
+pub returns-then-has_written : goal.returns-then-has_written
+returns-then-has_written c disks =
+    let m = c.index-member.result.now in
+    let at = member_read c.args.self.now _ c.args.k m c.self.view_is c.requires.within c.index-member.ensures in
+    let in_sync = in_sync_at c.args.self.now c.args.k m _ _ at c.member.view_is c.is_in_sync.ensures c.if-not-is_in_sync.false in
+    let are = chunks_are _ c.args.self.now _ c.args.pending.now _ _ _ c.self.view_is c.pending.view_is c.requires.chunks.wide c.requires.range.some c.sectors.ensures c.chunks_of-first.ensures.first c.chunks_of-first.ensures.end in (
+      record {
+        unchanged = refl;
+        reason = record {
+          member = m;
+          intent = record {
+            running = search rules;
+            in_sync = in_sync;
+            marked = all_marked c.args.self.now c.args.pending.now _ _ are c.in_default.ensures;
+            recorded = all_recorded c.args.self.now (sym c.first_due.ensures ∙ c.in_default-first_due.is);
+          };
+          written = ap (λ (x : MemberView). has_written c.args.pending.now x.superblock.dev_number) (sym c.member.view_is) ∙ sym c.has_written.ensures ∙ c.if-has_written.true;
+        };
+      },
+      refl,
+    )
+
+pub returns : goal.returns
+returns c disks n there =
+    let m = c.index-member.result.now in
+    let at = member_read c.args.self.now _ c.args.k m c.self.view_is c.requires.within c.index-member.ensures in
+    let in_sync = in_sync_at c.args.self.now c.args.k m _ _ at c.member.view_is c.is_in_sync.ensures c.if-not-is_in_sync.false in
+    let are = chunks_are _ c.args.self.now _ c.args.pending.now _ _ _ c.self.view_is c.pending.view_is c.requires.chunks.wide c.requires.range.some c.sectors.ensures c.chunks_of-first.ensures.first c.chunks_of-first.ensures.end in
+    let same : n ≡ m = same_listed c.args.self.now.members c.args.k n m there at in
+    rw same (record {
+      intent = record {
+        running = search rules;
+        in_sync = in_sync;
+        marked = all_marked c.args.self.now c.args.pending.now _ _ are c.in_default.ensures;
+        recorded = all_recorded c.args.self.now (sym c.first_due.ensures ∙ c.in_default-first_due.is);
+      };
+      unwritten = ap (λ (x : MemberView). has_written c.args.pending.now x.superblock.dev_number) (sym c.member.view_is) ∙ sym c.has_written.ensures ∙ c.if-has_written.false;
+    })

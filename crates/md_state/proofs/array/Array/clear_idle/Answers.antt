@@ -1,0 +1,14 @@
+use Rattle.std.proofs.Common.{refl}
+use Rattle.md_state.specs.View.{ArrayView}
+use Rattle.md_bitmap.specs.Marks.{Bitmap}
+use Rattle.md_state.specs.ClearingMarks.{Clears, IsWithout, MayClear}
+use Rattle.md_state.proofs.array.Array.clear_idle.Goals as goal
+
+cleared : (a : ArrayView) (chunk : _) (marks : Bitmap) (disks : _) → MayClear chunk a → IsWithout chunk a.marks marks
+    → Clears chunk (record { disks = disks; array = a }) (record { disks = disks; array = record a { marks = marks } })
+cleared a chunk marks disks may left = record { may = may; disks = refl; left = left; array = refl }
+
+pub returns : goal.returns
+returns c disks =
+    let may = c.in_default.ensures disks in
+    rw (← c.self.view_is) (cleared _ c.args.chunk c.unmark.new.self disks (rw c.self.view_is may) (record { chunks = c.unmark.ensures.chunks; bits = c.unmark.ensures.bits }))

@@ -1,0 +1,8 @@
+use Rattle.std.proofs.Common.{◌<◌, ℕ}
+use Rattle.md_state.specs.View.{MemberView}
+use Rattle.md_state.specs.Members.{IsInSync}
+use Rattle.md_state.specs.WritingMember.{HasMarksFrom}
+use Rattle.md_state.proofs.array.Array.first_unmarked.Given as goal
+
+abbrev pub invariant-loop-k : goal.invariant-loop-k
+invariant-loop-k l = (i : ℕ) (m : MemberView) → i < l.k → IsInSync l.self i m → HasMarksFrom l.first l.end m

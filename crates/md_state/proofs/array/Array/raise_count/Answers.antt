@@ -1,0 +1,21 @@
+use Rattle.std.proofs.Common.{◌≡◌, ◌∙◌, ap, sym, map, length, List, true, false}
+use Rattle.std.proofs.lemmas.List.{length-map, with_items_is}
+use Rattle.md_state.specs.View.{MemberView}
+use Rattle.md_state.specs.Rising.{made_due, risen}
+use Rattle.md_state.proofs.Changes.Raised.{raised}
+use Rattle.md_state.proofs.array.Array.raise_count.Goals as goal
+
+long : (xs ys : List MemberView) → ys ≡ map made_due xs → length ys ≡ length xs
+long xs ys is = ap length is ∙ length-map xs made_due
+
+pub returns-then-full : goal.returns-then-full
+returns-then-full c =
+    let items = with_items_is c.self.inside.members c.make_due.new.members (long c.deref_mut.result.now c.make_due.new.members c.make_due.ensures ∙ c.deref_mut.ensures.len) in
+    let due = items ∙ c.make_due.ensures ∙ ap (map made_due) c.deref_mut.ensures.value in
+    raised c.args.self.now _ _ true _ (c.self.view_is ∙ c.drop_absent_roles.ensures) due ∙ ap (risen c.args.self.now) (sym c.if-full.true)
+
+pub returns-else-full : goal.returns-else-full
+returns-else-full c =
+    let items = with_items_is c.self.inside.members c.make_due.new.members (long c.deref_mut.result.now c.make_due.new.members c.make_due.ensures ∙ c.deref_mut.ensures.len) in
+    let due = items ∙ c.make_due.ensures ∙ ap (map made_due) c.deref_mut.ensures.value in
+    raised c.args.self.now _ _ false _ (c.self.view_is ∙ c.drop_absent_roles.ensures) due ∙ ap (risen c.args.self.now) (sym c.if-full.false)

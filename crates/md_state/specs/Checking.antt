@@ -1,0 +1,28 @@
+-- What is looked at before something is stored on a member.
+use Rattle.std.specs.Prelude.{◌≡◌, ℕ, true, false}
+use Rattle.md_assembly.specs.States.{is_in_sync}
+use Rattle.md_state.specs.declared.step_fault.StoreFault.{StoreFault}
+use Rattle.md_state.specs.declared.step_fault.StoreFault.TheVariants.{Halted, NotActive, MemberFailed}
+use Rattle.md_state.specs.View.{MemberView, ArrayView}
+use Rattle.md_state.specs.Members.{IsMember, is_recorded}
+use Rattle.md_state.specs.OutOfSync.{IsInactive, IsNotInSync}
+
+-- the mirror runs, and member k is kept up to date
+pub record IsActive (k : ℕ) (a : ArrayView) : Type 0 where
+  pub running : a.halted ≡ false
+  pub active : (m : MemberView) → IsMember a k m → is_recorded m.state ≡ true
+
+abbrev pub RefusesInactive : ℕ → ArrayView → StoreFault → Type 0
+RefusesInactive k a Halted = a.halted ≡ true
+RefusesInactive k a NotActive = IsInactive k a
+RefusesInactive k a (MemberFailed j) = ⊥
+
+-- the mirror runs, and member k is in sync
+pub record IsServing (k : ℕ) (a : ArrayView) : Type 0 where
+  pub running : a.halted ≡ false
+  pub in_sync : (m : MemberView) → IsMember a k m → is_in_sync m.state ≡ true
+
+abbrev pub RefusesOutOfSync : ℕ → ArrayView → StoreFault → Type 0
+RefusesOutOfSync k a Halted = a.halted ≡ true
+RefusesOutOfSync k a NotActive = IsNotInSync k a
+RefusesOutOfSync k a (MemberFailed j) = ⊥

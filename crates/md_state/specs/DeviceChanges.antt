@@ -1,0 +1,44 @@
+-- Devices before and after a call.
+use Rattle.std.specs.Prelude.{◌≡◌, ℕ, ◌<◌, ◌≤◌, true, List, length, slice_get, Some}
+use Rattle.md_device.specs.Stops.{LeavesMore}
+use Rattle.md_state.specs.View.{Disk}
+
+-- a device is what it was
+abbrev pub IsUnchanged : Disk → Disk → Type 0
+IsUnchanged old new = new.content ≡ old.content
+
+-- between two moments of it a stop leaves what has P
+abbrev pub LeavesOn : (List ℕ → Type 0) → Disk → Disk → Type 0
+LeavesOn P d e = LeavesMore d.stops e.stops P
+
+-- and nothing but what it was
+abbrev pub LeavesAsWas : Disk → Disk → Type 0
+LeavesAsWas d e = d.honest ≡ true → LeavesOn (λ left. left ≡ d.content) d e
+
+-- nothing was written on it, and a stop leaves it as it was
+abbrev pub IsLeftAlone : Disk → Disk → Type 0
+IsLeftAlone d e = IsUnchanged d e × LeavesAsWas d e
+
+-- it stays honest or not, and its failures are counted
+pub record StaysHonest (old new : Disk) : Type 0 where
+  pub honest : new.honest ≡ old.honest
+  pub counted : old.failures ≤ new.failures
+
+-- of each device before and after
+abbrev pub EachPair : (ℕ → Disk → Disk → Type 0) → List Disk → List Disk → Type 0
+EachPair Related before after = (k : ℕ) (d e : Disk) → slice_get before k ≡ Some d → slice_get after k ≡ Some e → Related k d e
+
+-- as many devices, each as honest as it was
+pub record AreSame (before after : List Disk) : Type 0 where
+  pub as_many : length after ≡ length before
+  pub honest : EachPair (λ _. StaysHonest) before after
+
+-- nothing was written, and a stop leaves each as it was
+pub record IsUntouched (before after : List Disk) : Type 0 where
+  pub same : AreSame before after
+  pub content : EachPair (λ _. IsUnchanged) before after
+  pub within : EachPair (λ _. LeavesAsWas) before after
+
+-- a call on device k failed
+abbrev pub FailsAt : List Disk → List Disk → ℕ → Type 0
+FailsAt before after k = (d e : Disk) → slice_get before k ≡ Some d → slice_get after k ≡ Some e → d.failures < e.failures

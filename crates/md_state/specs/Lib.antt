@@ -1,0 +1,53 @@
+-- A mirror as contracts see it: its devices, and what it keeps in memory of the array and of each member.
+pub mod View
+-- Facts of the members of an array, by their indices.
+pub mod Members
+-- Where a chunk may be read, found by going through a list of members.
+pub mod Permitting
+-- A member's own fields of its superblock, as they are stored next: those that were read, but for what they say of the bad
+-- block log. That is this project's own.
+pub mod OwnFields
+-- Devices before and after a call.
+pub mod DeviceChanges
+-- What is kept in memory of the members that were read, and of the array that they make.
+pub mod Kept
+-- The header that is stored with marks.
+pub mod Headers
+-- What holds of an array in memory between calls: its members' roles, and its chunks.
+pub mod InMemory
+-- How an array is remembered: what the members that were read have to be, and what is found by going through those that are
+-- kept, in a list.
+pub mod Remembering
+-- Requests in flight: the mirror's list of them, what their callers have, and what the model says of both.
+pub mod Requests
+-- One write to one of a mirror's devices.
+pub mod DiskWrites
+-- The event count of the array rises, and a member fails (this project's own rules, after md_update_sb and md_error).
+pub mod Rising
+-- What steps have in common: a refusal, and a write to a member that fails.
+pub mod Trying
+-- Members that a step of a running mirror refuses.
+pub mod OutOfSync
+-- A sector of a member's bitmap is stored, as the marks in memory are.
+pub mod StoringMarks
+-- A member gets a request's bytes.
+pub mod WritingMember
+-- What is looked at before something is stored on a member.
+pub mod Checking
+-- What a call answers where a write to a member failed.
+pub mod Failing
+-- A request that each member in sync has is no longer in flight.
+pub mod Finishing
+-- A mark goes from memory.
+pub mod ClearingMarks
+-- An active array becomes clean, as at a stop.
+pub mod MakingClean
+-- A request begins: it is entered, and its chunks are marked in memory.
+pub mod Beginning
+-- Nothing was written: devices may have been read, and some of these reads may have failed.
+pub mod Rests
+-- Sectors of the array are read from a member.
+pub mod ReadingData
+-- Sectors are copied from a member in sync to another, as a resync does (sync_request and sync_request_write of raid1.c in the
+-- kernel's md driver; the order of sources, and that marks are stored first, are this project's own).
+pub mod CopyingData

@@ -1,0 +1,75 @@
+-- Facts of the members of an array, by their indices.
+use Rattle.std.specs.Prelude.{◌≡◌, ℕ, ◌+◌, ◌-◌, ◌^◌, ◌<◌, ◌==◌, Bool, true, false, not, slice_get, Some}
+use Rattle.std.specs.List.{list_any, range_with_len}
+use Rattle.md_bitmap.specs.Chunks.{InChunk}
+use Rattle.md_badblocks.specs.Runs.{IsBad}
+use Rattle.md_members.specs.Members.{IsAccepted}
+use Rattle.md_assembly.specs.declared.state.MemberState.{MemberState}
+use Rattle.md_assembly.specs.declared.state.MemberState.TheVariants.{InSync, Recovering, Stale, Spare, Faulty}
+use Rattle.md_assembly.specs.States.{is_in_sync}
+use Rattle.md_state.specs.View.{MemberView, ArrayView}
+
+-- this is member k
+abbrev pub IsMember : ArrayView → ℕ → MemberView → Type 0
+IsMember a k m = slice_get a.members k ≡ Some m
+
+-- member k is in sync
+pub record IsInSync (a : ArrayView) (k : ℕ) (m : MemberView) : Type 0 where
+  pub member : IsMember a k m
+  pub in_sync : is_in_sync m.state ≡ true
+
+-- all members in sync have it
+abbrev pub AllInSync : ArrayView → (MemberView → Type 0) → Type 0
+AllInSync a Holds = (i : ℕ) (m : MemberView) → IsInSync a i m → Holds m
+
+-- member j is the first in sync of which it doesn't hold
+pub record IsFirstInSyncWithout (a : ArrayView) (Holds : MemberView → Type 0) (j : ℕ) : Type 0 where
+  pub member : MemberView
+  pub in_sync : IsInSync a j member
+  pub lacks : Holds member → ⊥
+  pub earlier : (i : ℕ) (m : MemberView) → i < j → IsInSync a i m → Holds m
+
+-- its superblock is kept up to date
+abbrev pub is_recorded : MemberState → Bool
+is_recorded (InSync role) = true
+is_recorded (Recovering role) = true
+is_recorded (Stale role) = false
+is_recorded Spare = true
+is_recorded Faulty = false
+
+-- it is in sync in this role
+abbrev pub is_in_sync_as : ℕ → MemberState → Bool
+is_in_sync_as wanted (InSync role) = role == wanted
+is_in_sync_as wanted _ = false
+
+-- some member is in sync in the role
+abbrev pub is_filled : ArrayView → ℕ → Bool
+is_filled a role = list_any (λ m. is_in_sync_as role m.state) a.members
+
+-- Some role has no member in sync. The roles of members in sync differ and are below raid_disks, so that it is the same to
+-- say that there are fewer members in sync than raid disks.
+abbrev pub is_degraded : ArrayView → Bool
+is_degraded a = list_any (λ role. not (is_filled a role)) (range_with_len 0 a.shared.raid_disks)
+
+-- the member is in sync, and the bitmap that was read on it is not accepted: every chunk counts as marked
+pub record NeedsMarks (m : MemberView) : Type 0 where
+  pub in_sync : is_in_sync m.state ≡ true
+  pub refused : IsAccepted m.superblock m.header → ⊥
+
+-- all members in sync are one
+abbrev pub IsAlone : ArrayView → Type 0
+IsAlone a = (j k : ℕ) (m n : MemberView) → IsInSync a j m → IsInSync a k n → j ≡ k
+
+-- the member in sync in a role lists no sector of the chunk, so that the chunk may be read there
+abbrev pub IsPermitted : ArrayView → ℕ → ℕ → Type 0
+IsPermitted a chunk role =
+    (k : ℕ) × (m : MemberView) × IsMember a k m × (is_in_sync_as role m.state ≡ true)
+    × ((s : ℕ) → InChunk a.chunks.sectors a.chunks.size chunk s → IsBad m.bad (m.superblock.data_offset + s) → ⊥)
+
+-- resync_offset of a clean array
+abbrev pub clean_offset : ℕ
+clean_offset = 2 ^ 64 - 1
+
+-- the role of a device that has failed (MD_DISK_ROLE_FAULTY of md_p.h)
+abbrev pub faulty_role : ℕ
+faulty_role = 0xfffe

@@ -1,0 +1,19 @@
+-- Members that a step of a running mirror refuses.
+use Rattle.std.specs.Prelude.{◌≡◌, ℕ, false}
+use Rattle.md_assembly.specs.States.{is_in_sync}
+use Rattle.md_state.specs.View.{MemberView, ArrayView}
+use Rattle.md_state.specs.Members.{IsMember, is_recorded}
+
+-- one that is not in sync
+pub record IsNotInSync (k : ℕ) (a : ArrayView) : Type 0 where
+  pub running : a.halted ≡ false
+  pub member : MemberView
+  pub at : IsMember a k member
+  pub out : is_in_sync member.state ≡ false
+
+-- one that is stale or has failed
+pub record IsInactive (k : ℕ) (a : ArrayView) : Type 0 where
+  pub running : a.halted ≡ false
+  pub member : MemberView
+  pub at : IsMember a k member
+  pub inactive : is_recorded member.state ≡ false

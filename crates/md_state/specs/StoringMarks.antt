@@ -1,0 +1,67 @@
+-- A sector of a member's bitmap is stored, as the marks in memory are.
+use Rattle.std.specs.Prelude.{◌≡◌, ℕ, false, cond, ◌&&◌, ◌⊎◌, eqb, nat_lt, set}
+use Rattle.md_model.specs.Sectors.{block_of}
+use Rattle.md_bitmap.specs.declared.header.BitmapHeader.{BitmapHeader}
+use Rattle.md_bitmap.specs.Marks.{Bitmap, is_set}
+use Rattle.md_members.specs.Reading.{BitmapStartsAt}
+use Rattle.md_writes.specs.Bitmaps.{bitmap_write}
+use Rattle.md_writes.specs.Writes.{Write}
+use Rattle.md_state.specs.declared.step_fault.StoreFault.{StoreFault}
+use Rattle.md_state.specs.declared.step_fault.StoreFault.TheVariants.{Halted, NotActive, MemberFailed}
+use Rattle.md_state.specs.View.{MemberView, ArrayView, MirrorView}
+use Rattle.md_state.specs.Members.{IsInSync}
+use Rattle.md_state.specs.Headers.{IsHeaderFor}
+use Rattle.md_state.specs.DiskWrites.{IsWritten}
+use Rattle.md_state.specs.Trying.{Refuses, RefusesHalted, FailsWriting, HaltsWriting}
+use Rattle.md_state.specs.OutOfSync.{IsNotInSync}
+
+-- the write of a sector of a member's bitmap, the header's among them
+pub record IsMarkWrite (a : ArrayView) (m : MemberView) (block : ℕ) (w : Write) : Type 0 where
+  pub start : ℕ
+  pub starts : BitmapStartsAt m.superblock start
+  pub header : BitmapHeader
+  pub header_is : IsHeaderFor a m header
+  pub is : w ≡ bitmap_write start header a.marks block
+
+-- the marks that are stored on a member then: those of the sector's chunks as in memory, the others as before
+pub record HasStored (marks old : Bitmap) (block : ℕ) (new : Bitmap) : Type 0 where
+  pub chunks : new.chunks ≡ old.chunks
+  pub bits : (c : ℕ) → is_set new.bytes c ≡ cond (eqb (block_of c) block && nat_lt c old.chunks) (is_set marks.bytes c) (is_set old.bytes c)
+
+-- so it is kept of member k
+pub record HasStoredOf (k block : ℕ) (m : MemberView) (old new : ArrayView) : Type 0 where
+  pub stored : Bitmap
+  pub has_stored : HasStored old.marks m.stored block stored
+  pub array : new ≡ record old { members = set old.members k (record m { stored = stored }) }
+
+-- member k's marks may be stored by this write
+pub record MayStoreMarks (k block : ℕ) (a : ArrayView) (m : MemberView) (w : Write) : Type 0 where
+  pub running : a.halted ≡ false
+  pub in_sync : IsInSync a k m
+  pub write : IsMarkWrite a m block w
+
+pub record StoresMarkSector (k block : ℕ) (old new : MirrorView) : Type 0 where
+  pub member : MemberView
+  pub write : Write
+  pub may : MayStoreMarks k block old.array member write
+  pub disks : IsWritten k write old.disks new.disks
+  pub stored : Bitmap
+  pub has_stored : HasStored old.array.marks member.stored block stored
+  pub array : new.array ≡ record old.array { members = set old.array.members k (record member { stored = stored }) }
+
+pub record FailsToStoreMarks (k block : ℕ) (old new : MirrorView) : Type 0 where
+  pub member : MemberView
+  pub write : Write
+  pub may : MayStoreMarks k block old.array member write
+  pub fails : FailsWriting k write old new
+
+pub record HaltsStoringMarks (k block : ℕ) (old new : MirrorView) : Type 0 where
+  pub member : MemberView
+  pub write : Write
+  pub may : MayStoreMarks k block old.array member write
+  pub halts : HaltsWriting k write old new
+
+abbrev pub RefusesMarkSector : ℕ → ℕ → MirrorView → MirrorView → StoreFault → Type 0
+RefusesMarkSector k block old new Halted = RefusesHalted old new ⊎ HaltsStoringMarks k block old new
+RefusesMarkSector k block old new NotActive = Refuses old new (IsNotInSync k old.array)
+RefusesMarkSector k block old new (MemberFailed j) = (j ≡ k) × FailsToStoreMarks k block old new

@@ -1,0 +1,39 @@
+//! What a mirror keeps in memory, without its devices: the array, its members, requests in flight, counts and marks.
+#![tactic(auto)]
+
+mod array;
+mod beginning;
+mod checking;
+mod clearing_marks;
+mod copy_fault;
+mod copying;
+mod extent;
+mod failing;
+mod finishing;
+mod header;
+mod in_sync;
+mod making_clean;
+mod marking;
+mod marking_resynced;
+mod member;
+mod observing;
+mod own_fields;
+mod pending;
+mod permitting;
+mod recording;
+mod remembering;
+mod rising;
+mod step_fault;
+mod storing_marks;
+mod writing_member;
+
+pub use array::Array;
+pub use copy_fault::CopyFault;
+pub use extent::Extent;
+pub use marking::needs_marks;
+pub use member::Member;
+pub use pending::Pending;
+pub use step_fault::{
+    BeginFault, CleanFault, ClearFault, FinishFault, StoreFault, WriteMemberFault,
+};
+pub use storing_marks::{CHUNKS_OF_HEADER, CHUNKS_OF_SECTOR};

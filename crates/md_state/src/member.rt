@@ -1,0 +1,35 @@
+// What the mirror keeps of a member.
+use md_assembly::MemberState;
+use md_badblocks::BadSet;
+use md_bitmap::{BitmapHeader, Marks};
+use md_super::Superblock;
+use std::marker::Model;
+
+/// A member, but for its device. Of the superblock the member's own fields count, as they are stored
+/// next; those of the array are shared.
+#[derive(Debug, Drop)]
+pub struct Member {
+    pub superblock: Superblock,
+    pub header: BitmapHeader,
+    pub stored: Marks,
+    pub bad: BadSet,
+    pub state: MemberState,
+    pub due: bool,
+    pub re_added: bool,
+}
+
+impl Model for Member {
+    ghost use Rattle.md_state.specs.View.{MemberView};
+
+    ghost Value = { MemberView };
+
+    ghost view = { λ m. record {
+      superblock = m.superblock;
+      header = m.header;
+      stored = m.stored;
+      bad = m.bad;
+      state = m.state;
+      due = m.due;
+      re_added = m.re_added;
+    } };
+}

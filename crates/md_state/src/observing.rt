@@ -1,0 +1,44 @@
+// What is found by going through the members.
+ghost use Rattle.std.specs.Prelude.{◌≡◌, ◌↔◌, ◌<◌, ℕ};
+ghost use Rattle.std.specs.Int.{bit_at, div_ceil};
+ghost use Rattle.md_state.specs.Members.{IsPermitted, is_degraded, is_filled, is_in_sync_as};
+
+use crate::array::Array;
+use crate::permitting::permitted_roles;
+use md_assembly::MemberState;
+
+impl Array {
+    /// Whether some role has no member in sync.
+    pub fn is_degraded(&self) -> bool
+        ensures { result ≡ is_degraded self.now }
+    {
+        (0..self.shared.raid_disks).any(|role| !self.is_filled(role))
+    }
+
+    /// The roles in which a chunk may be read: bit r is set where the member that is in sync in role r
+    /// lists no sector of it.
+    pub fn permitted(&self, chunk: u32) -> u32
+        requires { chunk < div_ceil self.now.chunks.size self.now.chunks.sectors }
+        ensures { (role : ℕ) → role < 32 → (bit_at result role ≡ 1) ↔ IsPermitted self.now chunk role }
+    {
+        permitted_roles(&self.members, self.chunks, chunk)
+    }
+
+    // Whether a member is in sync in the role.
+    fn is_filled(&self, role: u32) -> bool
+        ensures { result ≡ is_filled self.now role }
+    {
+        self.members
+            .iter()
+            .any(|member| is_in_sync_as(member.state, role))
+    }
+}
+
+fn is_in_sync_as(state: MemberState, wanted: u32) -> bool
+    ensures { result ≡ is_in_sync_as wanted state }
+{
+    match state {
+        MemberState::InSync(role) => u32::from(role) == wanted,
+        _ => false,
+    }
+}

@@ -1,0 +1,43 @@
+// Whether a request's bytes may be written to a member.
+ghost use Rattle.std.specs.Prelude.{◌<◌, List, Some, MatchResult, length};
+ghost use Rattle.md_state.specs.Beginning.{IsInRange};
+ghost use Rattle.md_state.specs.InMemory.{HasChunks};
+ghost use Rattle.md_state.specs.Members.{IsMember};
+ghost use Rattle.md_state.specs.Requests.{request_sectors};
+ghost use Rattle.md_state.specs.View.{Disk, MemberView};
+ghost use Rattle.md_state.specs.WritingMember.{MayWrite, RefusesWriteMember};
+
+use crate::array::Array;
+use crate::marking::{chunks_of, is_in_sync};
+use crate::pending::Pending;
+use crate::step_fault::WriteMemberFault;
+
+impl Array {
+    /// Whether member k may get the bytes: data come after marks and records.
+    pub fn check_write(&self, pending: &Pending<'_>, k: usize) -> Result<(), WriteMemberFault>
+        requires within { k < length self.now.members }
+        requires chunks { HasChunks self.now }
+        requires range { IsInRange self.now pending.now.sector (request_sectors pending.now) }
+        ensures { (disks : List Disk) → MatchResult result (λ _. (m : MemberView) → IsMember self.now k m → MayWrite k self.now pending.now m)
+            (RefusesWriteMember k (record { disks = disks; array = self.now }) (record { disks = disks; array = self.now }) pending.now pending.now) }
+    {
+        if self.halted {
+            return Err(WriteMemberFault::Halted);
+        }
+        let member = &self.members[k];
+        if !is_in_sync(member.state) {
+            return Err(WriteMemberFault::NotActive);
+        }
+        let (first, end) = chunks_of(self.chunks, pending.sector, pending.sectors());
+        if let Some(j) = self.first_unmarked(first, end) {
+            return Err(WriteMemberFault::NotMarked(j));
+        }
+        if let Some(j) = self.first_due() {
+            return Err(WriteMemberFault::NotRecorded(j));
+        }
+        if pending.has_written(member.superblock.dev_number) {
+            return Err(WriteMemberFault::AlreadyWritten);
+        }
+        Ok(())
+    }
+}
