@@ -6,5 +6,3 @@ pub mod Openings
 pub mod Steps
 -- The bytes on a mirror's devices, as the model's world.
 pub mod Worlds
--- Sectors of a write to the data, of which some are written.
-pub mod WrittenParts

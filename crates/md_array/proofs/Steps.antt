@@ -53,3 +53,5 @@ pub mod Turns
 pub mod WriteKeeps
 -- A request's bytes go to a member.
 pub mod WriteToMember
+-- Sectors of a write to the data, of which some are written.
+pub mod WrittenParts

@@ -22,5 +22,5 @@ pub mod Events
 pub mod MarkingResynced
 -- Whole calls: the events that a call does, one after another (this project's own).
 pub mod InTurn
--- What md_array needs of CopyEvents.
-pub mod CopyEventsAtSteps
+-- A copy of a run of sectors is the model's events, one a sector.
+pub mod CopyEvents

@@ -4,7 +4,7 @@ ghost use Rattle.md_state.specs.CopyingData.{CopiesTo, IsCopy, RefusesCopy};
 ghost use Rattle.md_state.specs.Requests.{IsPending};
 ghost use Rattle.md_state.specs.View.{PendingView};
 ghost use Rattle.md_array.specs.Consistency.{IsConsistent};
-ghost use Rattle.md_array.specs.CopyEventsAtSteps.{CopyHappens};
+ghost use Rattle.md_array.specs.CopyEvents.{CopyHappens};
 
 use crate::mirror::Mirror;
 use crate::writing_member::put_on;

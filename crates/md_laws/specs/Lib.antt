@@ -3,8 +3,6 @@ pub mod HalfOpened
 -- Lists of events of a mirror, from its opening on: each is done by a call, as the calls' contracts say (`Does`). Between them
 -- devices may be read, and reads may fail: that is no event, and the world stays.
 pub mod Runs
--- A copy of a run of sectors is the model's events, one a sector.
-pub mod CopyEvents
 -- What is done by a call that is a list of events.
 pub mod WholeCalls
 -- Whole calls that read devices: the events that such a call does, one after another, with reads before each and after the
@@ -21,5 +19,7 @@ pub mod Returning
 pub mod Left
 -- What a stop within a call leaves of a mirror's devices.
 pub mod StopsWithin
+-- What a stop leaves within the copy of a run of sectors.
+pub mod StoppedCopies
 -- A life of a mirror of one member: what the laws on lives ask can be met.
 pub mod SmallLife

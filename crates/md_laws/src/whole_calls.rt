@@ -1,6 +1,6 @@
 //! What holds of calls that are lists of events.
 
-ghost use Rattle.md_laws.specs.CopyEvents.{StopsAtCopies};
+ghost use Rattle.md_laws.specs.StoppedCopies.{StopsAtCopies};
 ghost use Rattle.md_laws.specs.ReadInTurn.{ReadingCallsAreRuns};
 ghost use Rattle.md_laws.specs.WholeCalls.{CallsAreRuns, RunsGoOn};
 

@@ -10,7 +10,7 @@ use Rattle.md_state.specs.CopyingData.{AnswersCopy, CopiesTo, IsCopy, IsDone, Ma
 use Rattle.md_state.specs.DiskWrites.{IsFailed, IsWritten}
 use Rattle.md_state.specs.Requests.{AreInFlight, IsPending}
 use Rattle.md_array.specs.Consistency.{IsConsistent}
-use Rattle.md_array.specs.CopyEventsAtSteps.{CopiesInTurn}
+use Rattle.md_array.specs.CopyEvents.{CopiesInTurn}
 use Rattle.md_array.specs.InTurn.{Leads, Requests}
 use Rattle.md_array.proofs.Steps.CopiedRun.{copies_lead, run_is_consistent}
 use Rattle.md_array.proofs.Worlds.CopyFailed.{fails_to_copy}

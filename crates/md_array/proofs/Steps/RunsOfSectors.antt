@@ -4,7 +4,7 @@ use Rattle.std.proofs.lemmas.List.{drop_at, length-append, length-drop, length-t
 use Rattle.md_device.specs.Splice.{SameOutside, part, spliced}
 use Rattle.md_device.proofs.Splices.{part_before}
 use Rattle.md_array.proofs.Steps.DataWritten.{part-spliced_within}
-use Rattle.md_array.proofs.WrittenParts.{with_part}
+use Rattle.md_array.proofs.Steps.WrittenParts.{with_part}
 
 module _ (at a b : ℕ) (old new : List ℕ) (same : SameOutside at (a + b) old new) (low : at + a ≤ length old) where
   -- the first part is new, and the rest is old

@@ -16,7 +16,7 @@ use Rattle.md_state.specs.DiskWrites.{IsFailed}
 use Rattle.md_state.specs.Members.{IsMember}
 use Rattle.md_state.specs.Requests.{IsPending}
 use Rattle.md_array.specs.Consistency.{IsConsistent}
-use Rattle.md_array.specs.CopyEventsAtSteps.{IfCopyingFailed}
+use Rattle.md_array.specs.CopyEvents.{IfCopyingFailed}
 use Rattle.md_array.specs.Events.{Happens}
 use Rattle.md_array.specs.Worlds.{geometry_of, stored_of, world_of, world_on}
 use Rattle.md_array.proofs.Steps.AfterFailure.{failed_is_consistent, failed_is_pending, halted_is_consistent, halted_is_pending}

@@ -17,14 +17,14 @@ use Rattle.md_state.specs.ReadingData.{HoldsData}
 use Rattle.md_state.specs.Requests.{AreInFlight}
 use Rattle.md_array.specs.Consistency.{IsConsistent}
 use Rattle.md_array.specs.InTurn.{Leads, Requests}
-use Rattle.md_laws.specs.CopyEvents.{StopsAtCopies, copies_at}
+use Rattle.md_laws.specs.StoppedCopies.{StopsAtCopies, copies_at}
 use Rattle.md_array.proofs.Steps.CopiedRun.{first_holds, first_may, others_hold, others_may}
 use Rattle.md_array.proofs.Steps.DataWritten.{part-spliced_within}
 use Rattle.md_array.proofs.Steps.OneWrite.{at_device, set_elsewhere}
 use Rattle.md_array.proofs.Worlds.PartsApart.{parts_of}
 use Rattle.md_array.proofs.Steps.RunsOfSectors.{first_half, half, second_half}
 use Rattle.md_array.proofs.Worlds.SectorCopied.{copied_is_consistent, copy_happens}
-use Rattle.md_array.proofs.WrittenParts.{with_part}
+use Rattle.md_array.proofs.Steps.WrittenParts.{with_part}
 use Rattle.md_array.proofs.General.Indices.{at_set_same, got_in_map, got_within}
 use Rattle.md_laws.proofs.Stops.AtSteps.{same_lists, stops_at_write}
 

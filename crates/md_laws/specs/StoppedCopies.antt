@@ -1,4 +1,4 @@
--- A copy of a run of sectors is the model's events, one a sector.
+-- What a stop leaves within the copy of a run of sectors.
 use Rattle.std.specs.Prelude.{◌≡◌, ℕ, List, [], ◌∷◌, map, Option}
 use Rattle.md_model.specs.Events.{Event}
 use Rattle.md_state.specs.CopyingData.{CopiesTo}
@@ -9,7 +9,6 @@ use Rattle.md_array.specs.InTurn.{Leads, Requests}
 use Rattle.md_array.specs.Worlds.{AreHonest}
 use Rattle.md_laws.specs.StopsWithin.{MayAllBeLeft}
 
--- ---- a stop within the write
 -- the events of these sectors
 abbrev pub copies_at : ℕ → ℕ → List ℕ → List Event
 copies_at from k [] = []

@@ -1,4 +1,4 @@
--- What md_array needs of CopyEvents.
+-- A copy of a run of sectors is the model's events, one a sector.
 use Rattle.std.specs.Prelude.{◌≡◌, ℕ, ◌*◌, ◌/◌, List, length, Option, ⊤, Result, MatchResult}
 use Rattle.md_model.specs.Events.{Event}
 use Rattle.md_state.specs.declared.copy_fault.CopyFault.{CopyFault}
