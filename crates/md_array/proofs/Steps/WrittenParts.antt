@@ -5,7 +5,7 @@ use Rattle.md_device.specs.Splice.{SameOutside, part}
 use Rattle.md_device.specs.Device.{written}
 
 -- a content by its part before, in and after a range
-whole : (xs : List ℕ) (at n : ℕ) → xs ≡ take at xs ++ (part xs at n ++ drop (at + n) xs)
+pub whole : (xs : List ℕ) (at n : ℕ) → xs ≡ take at xs ++ (part xs at n ++ drop (at + n) xs)
 unfolding part
 whole xs at n = sym (take-append-drop at xs) ∙ ap (λ ys. take at xs ++ ys) (sym (take-append-drop n (drop at xs)) ∙ ap (λ zs. take n (drop at xs) ++ zs) (drop-drop n at xs))
 
