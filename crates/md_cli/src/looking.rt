@@ -40,7 +40,7 @@ fn lay_over<D: Device + Drop>(
 fn take_back<D: Device + Drop>(mut overlays: Vec<OverlayDevice<D>>, devices: &mut Vec<D>)
     requires empty { devices.old.items ≡ [] }
     requires room { length overlays.items ≤ vec_capacity devices.old }
-    ensures { length devices.new.items ≡ length overlays.items }
+    ensures below { devices.new.items ≡ map (λ o. o.inner) overlays.items }
 {
     while let Some(overlay) = overlays.pop() {
         if devices.push(overlay.into_inner()).is_err() {

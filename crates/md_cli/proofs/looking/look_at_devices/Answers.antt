@@ -16,5 +16,5 @@ returns-clause-gives g c =
           subst (λ (disks : List Disk). OpensDevices g.S.Sink.contents g.S.Sink.failed c.args.report disks (map (disk_of ghosts) c.show_devices-overlays.result.0.items) c.args.out.now c.show_devices-overlays.new.out c.show_devices-overlays.result.1) over
           c.show_devices-overlays.ensures.gives;
       as_many =
-          length-map c.take_back.new.devices.items (disk_of g.D.Device) ∙ c.take_back.ensures ∙ c.show_devices-overlays.ensures.as_many ∙ ap length c.lay_over.ensures.overlays ∙ length-map c.args.devices.items _ ∙ sym (length-map c.args.devices.items (disk_of g.D.Device));
+          length-map c.take_back.new.devices.items (disk_of g.D.Device) ∙ ap length c.take_back.ensures.below ∙ length-map c.show_devices-overlays.result.0.items (λ o. o.inner) ∙ c.show_devices-overlays.ensures.as_many ∙ ap length c.lay_over.ensures.overlays ∙ length-map c.args.devices.items _ ∙ sym (length-map c.args.devices.items (disk_of g.D.Device));
     })
