@@ -14,7 +14,7 @@ use std::marker::Model;
 
 /// An array on its devices. Members are counted from 0, in the order of the devices that were opened.
 ///
-/// Contracts see the devices and all that is kept in memory (`specs/View.antt`). No observer takes
+/// Contracts see the devices and all that is kept in memory (`specs/View.antt` of `md_state`). No observer takes
 /// memory.
 #[derive(Drop)]
 pub struct Mirror<D: Device + Drop> {

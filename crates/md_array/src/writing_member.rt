@@ -35,10 +35,18 @@ impl<D: Device + Drop> Mirror<D> {
         let own = self.own(k);
         let number = own.dev_number;
         let start = own.data_offset;
-        if put_on(&mut self.devices, k, start, pending.sector, pending.bytes).is_err() {
+        if put_on(
+            &mut self.devices,
+            k,
+            start,
+            pending.sector(),
+            pending.bytes(),
+        )
+        .is_err()
+        {
             return Err(self.array.write_failed(k));
         }
-        pending.written.push(number);
+        self.array.note_written(pending, number);
         Ok(())
     }
 }

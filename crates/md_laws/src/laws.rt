@@ -1,4 +1,4 @@
-//! What holds of the definitions alone.
+//! The laws of mirrors: what holds at each moment of each life. The bodies are empty, and the contracts are the theorems.
 
 ghost use Rattle.std.specs.Prelude.{◌≡◌, ◌+◌, ◌<◌, ◌↔◌, ℕ, List, true};
 ghost use Rattle.md_badblocks.specs.Runs.{IsBad};

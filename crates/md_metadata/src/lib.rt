@@ -1,6 +1,7 @@
-//! Storing what the members have to know of an array, by the steps alone: marks and superblocks.
+//! `stop`, and the parts of whole calls that store what the members have to know of an array, marks and superblocks: by the
+//! steps alone.
 //!
-//! Parts of whole calls. The contract of each says which events it does, and what holds after them; where a
+//! The contract of each part says which events it does, and what holds after them; where a
 //! member fails on the way, the caller chooses whether to begin again.
 #![tactic(auto)]
 

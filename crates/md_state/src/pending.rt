@@ -14,10 +14,10 @@ use std::marker::Model;
 /// mirror that is halted, whose `finish` only hands it back.
 #[derive(Drop)]
 pub struct Pending<'a> {
-    pub ticket: Ticket,
-    pub sector: u64,
-    pub bytes: &'a [u8],
-    pub written: ArrayVec<u32, 64>,
+    pub(crate) ticket: Ticket,
+    pub(crate) sector: u64,
+    pub(crate) bytes: &'a [u8],
+    pub(crate) written: ArrayVec<u32, 64>,
 }
 
 impl<'a> Model for Pending<'a> {
@@ -41,6 +41,20 @@ impl<'a> Pending<'a> {
         ensures { result ≡ request_sectors self.now }
     {
         self.bytes.len() as u64 / 512
+    }
+
+    /// The first of its sectors, of the array.
+    pub fn sector(&self) -> u64
+        ensures { result ≡ self.now.sector }
+    {
+        self.sector
+    }
+
+    /// Its bytes.
+    pub fn bytes(&self) -> &'a [u8]
+        ensures { result.now ≡ self.now.bytes }
+    {
+        self.bytes
     }
 
     // Whether the member of this number has the bytes.

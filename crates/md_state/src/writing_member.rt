@@ -1,5 +1,5 @@
 // Whether a request's bytes may be written to a member.
-ghost use Rattle.std.specs.Prelude.{◌<◌, List, Some, MatchResult, length};
+ghost use Rattle.std.specs.Prelude.{◌≡◌, ◌<◌, List, [], ◌∷◌, ◌++◌, Some, MatchResult, length};
 ghost use Rattle.md_state.specs.Beginning.{IsInRange};
 ghost use Rattle.md_state.specs.InMemory.{HasChunks};
 ghost use Rattle.md_state.specs.Members.{IsMember};
@@ -39,5 +39,13 @@ impl Array {
             return Err(WriteMemberFault::AlreadyWritten);
         }
         Ok(())
+    }
+
+    /// The member of this number has the bytes. Only a mirror that wrote them may say so.
+    pub fn note_written(&self, pending: &mut Pending<'_>, dev_number: u32)
+        requires room { length pending.old.written < 64 }
+        ensures { pending.new ≡ record pending.old { written = pending.old.written ++ dev_number ∷ [] } }
+    {
+        pending.written.push(dev_number);
     }
 }

@@ -2,7 +2,6 @@
 use Rattle.std.proofs.Common.{◌≡◌, ◌∙◌, ℕ, ◌+◌, List, ◌++◌, take, drop, drop-drop, sym, ap, refl}
 use Rattle.std.proofs.lemmas.List.{take-append-drop}
 use Rattle.md_device.specs.Splice.{SameOutside, part}
-use Rattle.md_device.specs.Device.{written}
 
 -- a content by its part before, in and after a range
 pub whole : (xs : List ℕ) (at n : ℕ) → xs ≡ take at xs ++ (part xs at n ++ drop (at + n) xs)

@@ -1,7 +1,7 @@
-use Rattle.std.proofs.Common.{◌≡◌, ◌∙◌, ◌+◌, ◌*◌, ◌≤◌, List, [], lit<, length, map, subst, sym}
+use Rattle.std.proofs.Common.{◌≡◌, ◌∙◌, List, [], ◌∷◌, ◌++◌, map, refl, subst, sym}
 use Rattle.std.specs.Prelude.{Some, slice_get}
 use Rattle.std.proofs.lemmas.List.{with_items_is}
-use Rattle.md_state.specs.View.{Disk, MirrorView, PendingView, disk_of}
+use Rattle.md_state.specs.View.{Disk, MirrorView, disk_of}
 use Rattle.md_state.specs.Requests.{IsPending}
 use Rattle.md_array.specs.Consistency.{IsConsistent}
 use Rattle.md_array.proofs.General.Answered.{err_of, ok_of}
@@ -28,8 +28,7 @@ pub put_on-requires-clause-room : goal.put_on-requires-clause-room
 put_on-requires-clause-room g c d at =
     let v = c.args.self.now in
     let there : slice_get v.disks c.args.k ≡ Some d = subst (λ (x : MirrorView). slice_get x.disks c.args.k ≡ Some d) c.self.view_is (rw c.deref_mut.ensures.value at at) in
-    subst (λ (p : PendingView). 512 * (c.own-own.result.now.data_offset + p.sector) + length p.bytes ≤ length d.content) (sym c.pending.view_is)
-    (on_device v c.args.k c.args.pending.now c.own-own.result.now c.own-own.ensures c.requires.sound c.requires.pending d there)
+    rw (c.sector.ensures, c.bytes.ensures) (on_device v c.args.k c.args.pending.now c.own-own.result.now c.own-own.ensures c.requires.sound c.requires.pending d there)
 
 pub returns-then-is_err : goal.returns-then-is_err
 returns-then-is_err g c =
@@ -37,8 +36,8 @@ returns-then-is_err g c =
     let after : List Disk = map disk c.put_on.new.devices in
     let failed = err_of c.put_on.result _ _ c.if-is_err.ensures.value c.put_on.ensures in
     let same = with_items_is c.self.inside.devices c.put_on.new.devices (c.put_on.auto.devices ∙ c.deref_mut.ensures.len) in
-    let refused = fails_to_write _ c.args.self.now _ c.args.pending.now c.self.view_is c.pending.view_is c.args.k c.own-own.result.now c.own-own.ensures (c.in_default.ensures []) after c.write_failed.new.self c.write_failed.result
-    (rw c.deref_mut.ensures.value at failed) c.write_failed.ensures in
+    let refused = fails_to_write _ c.args.self.now _ c.args.pending.now c.self.view_is refl c.args.k c.own-own.result.now c.own-own.ensures (c.in_default.ensures []) after c.write_failed.new.self c.write_failed.result
+    (rw (c.deref_mut.ensures.value, c.sector.ensures, c.bytes.ensures) at failed) c.write_failed.ensures in
     rw same (record {
       gives = refused;
       event = refused_write_event c.args.k _ _ _ _ c.requires.sound c.requires.pending c.write_failed.result refused;
@@ -47,11 +46,9 @@ returns-then-is_err g c =
       pending = refused_write_pending c.args.k _ _ _ _ c.requires.sound c.requires.pending c.write_failed.result refused;
     })
 
-pub push-requires : goal.push-requires
-push-requires g c = (
-  lit< tt,
-  room_left _ c.args.self.now _ c.args.pending.now c.self.view_is c.pending.view_is c.args.k c.own-own.result.now c.own-own.ensures (c.in_default.ensures []) c.requires.pending,
-)
+pub note_written-requires : goal.note_written-requires
+note_written-requires g c =
+    record { room = room_left _ c.args.self.now _ c.args.pending.now c.self.view_is refl c.args.k c.own-own.result.now c.own-own.ensures (c.in_default.ensures []) c.requires.pending }
 
 pub returns : goal.returns
 returns g c =
@@ -59,9 +56,9 @@ returns g c =
     let after : List Disk = map disk c.put_on.new.devices in
     let done = ok_of c.put_on.result _ _ c.if-is_err.ensures.value c.put_on.ensures in
     let same = with_items_is c.self.inside.devices c.put_on.new.devices (c.put_on.auto.devices ∙ c.deref_mut.ensures.len) in
-    let written = writes_to _ c.args.self.now _ c.args.pending.now c.self.view_is c.pending.view_is c.args.k c.own-own.result.now c.own-own.ensures (c.in_default.ensures []) after c.push.new.self.items
-    (rw c.deref_mut.ensures.value at done) c.push.ensures.items in
-    rw same (record {
+    let written = writes_to _ c.args.self.now _ c.args.pending.now c.self.view_is refl c.args.k c.own-own.result.now c.own-own.ensures (c.in_default.ensures []) after (c.args.pending.now.written ++ c.own-own.result.now.dev_number ∷ [])
+    (rw (c.deref_mut.ensures.value, c.sector.ensures, c.bytes.ensures) at done) refl in
+    rw (same, c.note_written.ensures) (record {
       gives = written;
       event = write_member_happens c.args.k _ _ _ _ c.requires.sound c.requires.pending written;
       sound = written_is_consistent c.args.k _ _ _ _ c.requires.sound c.requires.pending written;
