@@ -72,6 +72,7 @@ StopsUndivided =
     → (left ≡ map (λ d. d.content) before) ⊎ (left ≡ map (λ d. d.content) after)
 
 -- What a stop leaves at a moment of the call of an event: what was there before it or what is after it, or its one write cut short.
+-- Of a copy nothing is said here, as one write does many (`StoppedCopies`); nor of members that come and go, which no call does yet.
 abbrev pub IsLeftBy : Event → List Disk → List Disk → List (List ℕ) → Type 0
 IsLeftBy (Event.Record k) before after left = (w : Write) × IsWritten k w before after × IsLeftBut k (λ old c. IsCutShort old (w ∷ []) c) before left
 IsLeftBy (Event.WriteMember n k) before after left = (w : Write) × IsWritten k w before after × IsLeftBut k (λ old c. IsCutShort old (w ∷ []) c) before left

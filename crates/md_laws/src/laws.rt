@@ -46,7 +46,7 @@ pub fn opening()
 /// own contract gives (`IsLeft`): of its write each sector as before or as written, or any bytes in its range
 /// where the write fails. A stop within `record` left the old superblock, the new one or none that can be
 /// decoded: a premise, unless the write is done and neither superblock has more than 128 roles. Nothing is said
-/// of a stop within a write of marks that fails.
+/// of a stop within a write of marks, or of a copy, that fails.
 ///
 /// An opening after a stop is of devices that were left, in any order, some of them missing (`IsReopened`). Beside
 /// them may be further ones, which the opening before left out (`IsFurther`): they are not found in sync. Its

@@ -31,6 +31,7 @@ pub fn store_sector<D: Device + Drop>(
         Ok(()) => Ok(()),
         Err(StoreFault::MemberFailed(j)) => Err(PartFault::MemberFailed(j)),
         Err(StoreFault::Halted) => Err(PartFault::Halted),
+        // It can't be: the member is in sync.
         Err(StoreFault::NotActive) => Err(PartFault::Halted),
     }
 }

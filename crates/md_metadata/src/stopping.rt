@@ -89,7 +89,7 @@ fn clean_if_active<D: Device + Drop>(mirror: &mut Mirror<D>)
     ensures { CleansIfActive mirror.old mirror.new }
 {
     if makes_clean(mirror) {
-        // Nothing refuses it.
+        // It can't be refused: the mirror runs, nothing is in flight, the array is resynced, and the count may rise.
         let _made = mirror.make_clean();
     }
 }

@@ -9,13 +9,20 @@ use std::marker::Model;
 /// All that a mirror keeps in memory.
 #[derive(Debug, Drop)]
 pub struct Array {
+    /// In the order of the devices that were opened.
     pub members: Vec<Member>,
+    /// The array's fields, as they are stored next in each member's superblock.
     pub shared: Superblock,
     pub chunks: Chunks,
+    /// The chunks that are marked in memory.
     pub marks: Marks,
+    /// The event count as it last rose while the array was not degraded.
     pub events_cleared: u64,
+    /// False from an opening of an array that was not stopped, until a resync.
     pub resynced: bool,
+    /// A failed write could not be recorded: nothing is written any more.
     pub halted: bool,
+    /// The sectors of each request in flight.
     pub requests: Inflight<Extent>,
 }
 

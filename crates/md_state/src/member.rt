@@ -9,12 +9,18 @@ use std::marker::Model;
 /// next; those of the array are shared.
 #[derive(Debug, Drop)]
 pub struct Member {
+    /// As it is stored next, but for the array's fields.
     pub superblock: Superblock,
+    /// Its bitmap's header, as it was read.
     pub header: BitmapHeader,
+    /// The marks that are on its device, as far as is known.
     pub stored: Marks,
+    /// The sectors of its device that its log lists.
     pub bad: BadSet,
     pub state: MemberState,
+    /// Its superblock has to be stored.
     pub due: bool,
+    /// This mirror took it back. No call does that yet.
     pub re_added: bool,
 }
 

@@ -11,6 +11,7 @@ use md_bitmap::Marks;
 /// A sector of the bitmap has the bits of so many chunks. In the first, the header takes the room of some.
 pub const CHUNKS_OF_SECTOR: u32 = 4096;
 
+/// The bits of so many chunks are left to the first sector.
 pub const CHUNKS_OF_HEADER: u32 = 2048;
 
 impl Array {
