@@ -1,0 +1,133 @@
+-- What is known of the members, and of one role.
+use Rattle.std.proofs.Common.{◌≡◌, ◌↔◌, ℕ, ◌+◌, ◌-◌, ◌/◌, ◌^◌, ◌<◌, ◌≤◌, Bool, true, false, List, [], ◌∷◌, length, slice_get, Some, sym, ap, ◌∙◌, subst, arith, inl, inr}
+use Rattle.std.specs.Prelude.{option_map}
+use Rattle.std.proofs.lemmas.Option.{same_Some, slice_get_within}
+use Rattle.md_badblocks.specs.declared.run.Run.{Run}
+use Rattle.md_badblocks.specs.Runs.{IsBad, RisesFrom}
+use Rattle.md_model.proofs.Puts.{by_same}
+use Rattle.md_assembly.specs.declared.state.MemberState.{MemberState}
+use Rattle.md_array.proofs.General.Indices.{got_within}
+use Rattle.md_array.proofs.Worlds.SectorCopied.{in_sync_as}
+use Rattle.md_state.specs.CopyingData.{Lists}
+use Rattle.md_state.specs.DiskWrites.{AtDevice}
+use Rattle.md_array.specs.Consistency.{IsConsistent}
+use Rattle.md_device.specs.Device.{held}
+use Rattle.md_state.specs.Members.{IsMember, is_in_sync_as}
+use Rattle.md_state.specs.ReadingData.{FailsToRead, ReadsData}
+use Rattle.md_state.specs.Rests.{Rests}
+use Rattle.md_state.specs.View.{ArrayView, MemberView, MirrorView}
+use Rattle.md_read.specs.declared.roles.Answer.{Answer}
+use Rattle.md_read.specs.declared.roles.Answer.TheVariants as answer
+use Rattle.md_read.specs.Reading.{GivesIn, HasRole, IsInRole, NotGivenIn, TriesRole}
+
+pub told : {X : Type 0} (f : MemberView → X) (a : ArrayView) (k : ℕ) (m : MemberView) (x : X) → option_map f (slice_get a.members k) ≡ Some x → IsMember a k m → f m ≡ x
+told f a k m x e at = same_Some (f m) x (sym (ap (option_map f) at) ∙ e)
+
+-- ---- what is listed
+pub bad_below : (low sector : ℕ) (runs : List Run) → RisesFrom low runs → IsBad runs sector → sector < 2 ^ 54
+bad_below low sector [] rises bad = absurd bad
+bad_below low sector (run ∷ rest) rises bad = elim bad [
+  | inl here ↦ let before = here.1 in let top = rises.2 in omega arith
+  | inr later ↦ bad_below (run.start + run.len + 1) sector rest rises.3 later
+]
+
+abbrev pub ListsSome : MemberView → ℕ → ℕ → Type 0
+ListsSome m sector sectors = (s : ℕ) × Lists m s × (sector ≤ s) × (s < sector + sectors)
+
+abbrev pub ListsAll : MemberView → ℕ → ℕ → Type 0
+ListsAll m sector sectors = (s : ℕ) → sector ≤ s → s < sector + sectors → Lists m s
+
+none_bad : (runs : List Run) (sector : ℕ) → length runs ≡ 0 → IsBad runs sector → ⊥
+none_bad [] sector none bad = bad
+none_bad (run ∷ rest) sector none bad = absurd (omega arith)
+
+pub empty_lists : (m : MemberView) (sector sectors : ℕ) → length m.bad ≡ 0 → (false ≡ true) ↔ ListsSome m sector sectors
+empty_lists m sector sectors none = (λ e. absurd cc, λ l. absurd (none_bad m.bad (m.superblock.data_offset + l.0) none l.1))
+
+pub past_lists : (m : MemberView) (sector sectors low : ℕ) → RisesFrom low m.bad → 2 ^ 64 ≤ m.superblock.data_offset + sector → (false ≡ true) ↔ ListsSome m sector sectors
+past_lists m sector sectors low rises past = (
+  λ e. absurd cc,
+  λ l. let below = bad_below low _ m.bad rises l.1 in let from = l.2 in absurd (omega arith),
+)
+
+pub meets_lists : (m : MemberView) (sector sectors first : ℕ) (meets : Bool) → first ≡ m.superblock.data_offset + sector
+    → ((meets ≡ true) ↔ ((x : ℕ) × IsBad m.bad x × (first ≤ x) × (x < first + sectors))) → (meets ≡ true) ↔ ListsSome m sector sectors
+meets_lists m sector sectors first meets at iff = (
+  λ met.
+      let found = iff.0 met in
+      let from = found.2 in
+      let below = found.3 in
+      let s : ℕ = found.0 - m.superblock.data_offset in
+      let same : found.0 ≡ m.superblock.data_offset + s = omega arith in
+      (s, subst (IsBad m.bad) same found.1, omega arith, omega arith),
+  λ l.
+      let from = l.2 in
+      let below = l.3 in
+      iff.1 (m.superblock.data_offset + l.0, l.1, omega arith, omega arith),
+)
+
+-- ---- who is in the role
+pub record NoneInRoleBelow (a : ArrayView) (role k : ℕ) : Type 0 where
+  pub none : (j : ℕ) (m : MemberView) → j < k → IsMember a j m → is_in_sync_as role m.state ≡ true → ⊥
+
+pub none_more : (a : ArrayView) (role k : ℕ) → NoneInRoleBelow a role k → ((m : MemberView) → IsMember a k m → is_in_sync_as role m.state ≡ false) → NoneInRoleBelow a role (k + 1)
+none_more a role k before out = record {
+  none = λ j m low at is.
+      by_same j k
+      (λ same. let off = out m (subst (λ (i : ℕ). IsMember a i m) same at) in cc)
+      (λ apart. before.none j m (omega arith) at is);
+}
+
+pub none_in_role : (a : ArrayView) (role k : ℕ) → length a.members ≤ k → NoneInRoleBelow a role k → HasRole a role → ⊥
+none_in_role a role k last before has =
+    let low = slice_get_within a.members has.0 has.1.member has.1.at in
+    before.none has.0 has.1.member (omega arith) has.1.at has.1.in_sync
+
+pub in_role : (a : ArrayView) (role k : ℕ) (state : MemberState) → option_map (λ (m : MemberView). m.state) (slice_get a.members k) ≡ Some state → k < length a.members → is_in_sync_as role state ≡ true → IsInRole a role k
+in_role a role k state told_state low is =
+    let found = got_within a.members k low in
+    record { member = found.0; at = found.1; in_sync = ap (is_in_sync_as role) (told (λ m. m.state) a k found.0 state told_state found.1) ∙ is }
+
+-- no other is
+pub only_one : (v : MirrorView) → IsConsistent v → (role k j : ℕ) → IsInRole v.array role k → (m : MemberView) → IsMember v.array j m → is_in_sync_as role m.state ≡ true → j ≡ k
+only_one v sound role k j is m at as_role =
+    sound.roles.one_each j k role m is.member at is.at (in_sync_as role m.state as_role).1 (in_sync_as role is.member.state is.in_sync).1
+
+-- ---- what came of it
+module _ (old : MirrorView) (sound : IsConsistent old) (role k sector sectors : ℕ) (is : IsInRole old.array role k) where
+  -- all of them are listed
+  pub all_listed : (new : MirrorView) → ListsAll is.member sector sectors → (s : ℕ) → sector ≤ s → s < sector + sectors → NotGivenIn role s old new
+  all_listed new all s from below j m at as_role =
+      let same : j ≡ k = only_one old sound role k j is m at as_role in
+      let it : m ≡ is.member = same_Some m is.member (sym at ∙ subst (λ (i : ℕ). IsMember old.array i is.member) (sym same) is.at) in
+      inl (subst (λ (x : MemberView). Lists x s) (sym it) (all s from below))
+
+  -- of one sector whose read failed
+  pub one_failed : (new : MirrorView) → FailsToRead k old new → (s : ℕ) → NotGivenIn role s old new
+  one_failed new fails s j m at as_role =
+      let same : j ≡ k = only_one old sound role k j is m at as_role in
+      inr (subst (λ (i : ℕ). AtDevice i old.disks new.disks (λ d e. d.honest ≡ true → d.failures < e.failures)) (sym same) fails.failed)
+
+  -- it gave them
+  pub gives_in : (new : MirrorView) (bytes : List ℕ) → length bytes / 512 ≡ sectors → (ListsSome is.member sector sectors → ⊥) → ReadsData k sector bytes old new → GivesIn role sector bytes old new
+  gives_in new bytes count none reads = record {
+    from = k;
+    is = is;
+    unlisted = λ s from below lists. none (s, lists, from, omega arith);
+    holds = λ d m at there honest.
+        let low = slice_get_within old.disks k d at in
+        let many = reads.rests.disks.same.as_many in
+        let e = got_within new.disks k (omega arith) in
+        let stays = reads.rests.disks.same.honest k d e.0 at e.1 in
+        let kept = reads.rests.disks.content k d e.0 at e.1 in
+        subst (λ (c : List ℕ). held c (m.superblock.data_offset + sector) (length bytes) ≡ bytes) kept
+        (reads.holds e.0 m e.1 (ap (λ (a : ArrayView). slice_get a.members k) reads.rests.array ∙ there) (stays.honest ∙ honest));
+  }
+
+-- not read: of one sector it is known that the role does not give it
+pub unread_answer : (role sector : ℕ) (was bytes : List ℕ) (old new : MirrorView) (a : Answer) → (length was / 512 ≡ 1 → a ≡ answer.None) → (1 < length was / 512 → a ≡ answer.Some)
+    → 512 ≤ length was → Rests old new → (length was / 512 ≡ 1 → (s : ℕ) → sector ≤ s → s < sector + length was / 512 → NotGivenIn role s old new) → TriesRole role sector was bytes old new a
+unread_answer role sector was bytes old new a one more some rests none =
+    by_same (length was / 512) 1
+    (λ same. subst (TriesRole role sector was bytes old new) (sym (one same)) (rests, none same))
+    (λ apart. let many : 1 < length was / 512 = omega arith in subst (TriesRole role sector was bytes old new) (sym (more many)) (rests, many))

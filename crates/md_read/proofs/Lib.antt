@@ -1,0 +1,5 @@
+pub mod AllListed
+pub mod InRoles
+pub mod ReadAnswers
+pub mod RunsRead
+pub mod SectorsGiven

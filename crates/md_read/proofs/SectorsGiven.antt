@@ -1,0 +1,77 @@
+-- A run of sectors that was given is so in each of them.
+use Rattle.std.proofs.Common.{◌≡◌, ℕ, ◌+◌, ◌*◌, ◌-◌, ◌/◌, ◌%◌, ◌<◌, ◌≤◌, List, ◌++◌, length, take, drop, refl, sym, ap, ◌∙◌, arith, length-append, length-drop, drop-drop}
+use Rattle.std.proofs.lemmas.List.{drop-append-le, drop-take, drop_at, length-take-le, take-append-le, take-take}
+use Rattle.std.proofs.lemmas.Slice.{take-put_mid_below}
+use borrow.Rule.Slice.PartMut.{put_mid}
+use Rattle.md_device.proofs.Splices.{length-part}
+use Rattle.md_device.specs.Device.{held}
+use Rattle.md_device.specs.Splice.{part}
+use Rattle.md_state.specs.View.{MirrorView}
+use Rattle.md_read.specs.Reading.{GivesRun, IsGiven}
+
+-- ---- parts of lists
+part_front : (xs ys : List ℕ) (at n : ℕ) → at + n ≤ length xs → part (xs ++ ys) at n ≡ part xs at n
+unfolding part
+part_front xs ys at n inside =
+    let long = length-drop at xs in
+    ap (take n) (drop-append-le at xs ys (omega arith)) ∙ take-append-le n (drop at xs) ys (omega arith)
+
+part_end : (xs ys : List ℕ) (at n : ℕ) → part (xs ++ ys) (length xs + at) n ≡ part ys at n
+unfolding part
+part_end xs ys at n = ap (take n) (sym (drop-drop at (length xs) (xs ++ ys)) ∙ ap (drop at) (drop_at xs ys (length xs) refl))
+
+part_part : (xs : List ℕ) (at long inner n : ℕ) → inner + n ≤ long → part (part xs at long) inner n ≡ part xs (at + inner) n
+unfolding part
+part_part xs at long inner n inside =
+    let whole : inner + (long - inner) ≡ long = omega arith in
+    ap (λ (m : ℕ). take n (drop inner (take m (drop at xs)))) (sym whole)
+    ∙ ap (take n) (drop-take inner (long - inner) (drop at xs))
+    ∙ take-take n (long - inner) (drop inner (drop at xs)) (omega arith)
+    ∙ ap (take n) (drop-drop inner at xs)
+
+pub held_front : (xs ys : List ℕ) (i : ℕ) → i < length xs / 512 → held (xs ++ ys) i 512 ≡ held xs i 512
+held_front xs ys i low = part_front xs ys (512 * i) 512 (omega arith)
+
+-- where the list's rest, from a place on, was replaced
+module _ (done n : ℕ) (xs ys : List ℕ) (inside : done ≤ length xs) where
+  pub length-replaced : n ≡ length xs - done → length ys ≡ n → length (put_mid done n xs ys) ≡ length xs
+  length-replaced rest as_long =
+      let front = length-take-le done xs inside in
+      let past = length-drop done xs in
+      let none = length-drop n (drop done xs) in
+      length-append (take done xs) (ys ++ drop n (drop done xs)) ∙ ap (λ (m : ℕ). length (take done xs) + m) (length-append ys (drop n (drop done xs))) ∙ (omega arith)
+
+  pub held_before : (i : ℕ) → i < done / 512 → held (put_mid done n xs ys) i 512 ≡ held xs i 512
+  unfolding part
+  held_before i low =
+      sym (drop-take (512 * i) 512 (put_mid done n xs ys)) ∙ ap (drop (512 * i)) (take-put_mid_below done n xs ys (512 * i + 512) (omega arith) inside)
+      ∙ drop-take (512 * i) 512 xs
+
+  pub held_after : (i : ℕ) → done % 512 ≡ 0 → i < length ys / 512 → held (put_mid done n xs ys) (done / 512 + i) 512 ≡ held ys i 512
+  held_after i whole low =
+      let front : length (take done xs) ≡ done = length-take-le done xs inside in
+      let place : 512 * (done / 512 + i) ≡ length (take done xs) + 512 * i = omega arith in
+      ap (λ (at : ℕ). part (put_mid done n xs ys) at 512) place
+      ∙ part_end (take done xs) (ys ++ drop n (drop done xs)) (512 * i) 512
+      ∙ held_front ys (drop n (drop done xs)) i low
+
+-- ---- each sector
+module _ (old new : MirrorView) (sector : ℕ) (bytes : List ℕ) (run : GivesRun sector bytes old new) (i : ℕ) (low : i < length bytes / 512) where
+  long : length (held bytes i 512) ≡ 512
+  long = length-part bytes (512 * i) 512 (omega arith)
+
+  pub sector_given : IsGiven (sector + i) (held bytes i 512) old new
+  sector_given = record {
+    from = run.gives.from;
+    role = run.role;
+    is = run.gives.is;
+    unlisted = run.gives.unlisted (sector + i) (omega arith) (omega arith);
+    holds = λ d m at there honest.
+        let start : ℕ = m.superblock.data_offset + sector in
+        let moved : 512 * (m.superblock.data_offset + (sector + i)) ≡ 512 * start + 512 * i = omega arith in
+        ap (λ (n : ℕ). held d.content (m.superblock.data_offset + (sector + i)) n) long
+        ∙ ap (λ (n : ℕ). part d.content n 512) moved
+        ∙ sym (part_part d.content (512 * start) (length bytes) (512 * i) 512 (omega arith))
+        ∙ ap (λ (xs : List ℕ). part xs (512 * i) 512) (run.gives.holds d m at there honest);
+    lowest = λ lower below. run.lowest lower below (sector + i) (omega arith) (omega arith);
+  }

@@ -1,0 +1,20 @@
+use Rattle.std.proofs.Common.{◌≡◌, ℕ, ◌+◌, ◌-◌, ◌/◌, ◌%◌, ◌<◌, ◌≤◌, length}
+use Rattle.md_state.specs.Rests.{Rests}
+use Rattle.md_array.specs.Consistency.{IsConsistent}
+use Rattle.md_device.specs.Device.{held}
+use Rattle.md_read.specs.Reading.{IsGiven}
+use Rattle.md_read.proofs.runs.read_runs.Given as goal
+
+abbrev pub decreases-loop-done : goal.decreases-loop-done
+decreases-loop-done g l = length l.fn.buf - l.done
+
+abbrev pub invariant-loop-done : goal.invariant-loop-done
+invariant-loop-done g l =
+    record {
+      rests : Rests l.fn.mirror l.mirror;
+      sound : IsConsistent l.mirror;
+      long : length l.buf ≡ length l.fn.buf;
+      whole : l.done % 512 ≡ 0;
+      few : l.done ≤ length l.fn.buf;
+      given : (i : ℕ) → i < l.done / 512 → IsGiven (l.sector + i) (held l.buf i 512) l.fn.mirror l.mirror;
+    }

@@ -1,0 +1,126 @@
+-- Sectors of the array are read from its members (read_balance and raid1_read_request of raid1.c in the kernel's md driver; which
+-- member is read is this project's own).
+use Rattle.std.specs.Prelude.{◌≡◌, ◌⊎◌, ℕ, ◌+◌, ◌-◌, ◌/◌, ◌<◌, ◌≤◌, ◌&&◌, nat_le, Bool, true, false, List, length, Option}
+use Rattle.md_badblocks.specs.declared.run.Run.{Run}
+use Rattle.md_device.specs.Device.{held}
+use Rattle.md_model.specs.Content.{Content, HoldsAtRest}
+use Rattle.md_model.specs.Worlds.{IsQuiet, Request}
+use Rattle.md_state.specs.Beginning.{IsInRange, IsOutOfRange}
+use Rattle.md_state.specs.CopyingData.{Lists}
+use Rattle.md_state.specs.DiskWrites.{AtDevice}
+use Rattle.md_state.specs.Members.{IsMember, is_in_sync_as}
+use Rattle.md_state.specs.ReadingData.{HoldsData}
+use Rattle.md_state.specs.Requests.{AreInFlight}
+use Rattle.md_state.specs.Rests.{Rests}
+use Rattle.md_state.specs.Trying.{Refuses, RefusesHalted}
+use Rattle.md_state.specs.View.{ArrayView, MemberView, MirrorView}
+use Rattle.md_array.specs.Worlds.{AreHonest, geometry_of, world_of}
+use Rattle.md_read.specs.declared.fault.UnreadFault.{UnreadFault}
+use Rattle.md_read.specs.declared.fault.UnreadFault.TheVariants.{Halted, NotResynced, OutOfRange, Unreadable}
+use Rattle.md_read.specs.declared.roles.Answer.{Answer}
+use Rattle.md_read.specs.declared.roles.Answer.TheVariants as answer
+
+pub record IsInRole (a : ArrayView) (role k : ℕ) : Type 0 where
+  pub member : MemberView
+  pub at : IsMember a k member
+  pub in_sync : is_in_sync_as role member.state ≡ true
+
+abbrev pub HasRole : ArrayView → ℕ → Type 0
+HasRole a role = (k : ℕ) × IsInRole a role k
+
+-- a read of member k's device failed
+abbrev pub HasFailed : ℕ → MirrorView → MirrorView → Type 0
+HasFailed k old new = AtDevice k old.disks new.disks (λ d e. d.honest ≡ true → d.failures < e.failures)
+
+-- whoever is in sync in the role did not give the sector: it lists it, or failed
+abbrev pub NotGivenIn : ℕ → ℕ → MirrorView → MirrorView → Type 0
+NotGivenIn role s old new = (k : ℕ) (m : MemberView) → IsMember old.array k m → is_in_sync_as role m.state ≡ true → Lists m s ⊎ HasFailed k old new
+
+-- the sector's bytes are those of the member in sync of the lowest role that gave it
+pub record IsGiven (s : ℕ) (bytes : List ℕ) (old new : MirrorView) : Type 0 where
+  pub from : ℕ
+  pub role : ℕ
+  pub is : IsInRole old.array role from
+  pub unlisted : Lists is.member s → ⊥
+  pub holds : HoldsData old from s bytes
+  pub lowest : (lower : ℕ) → lower < role → NotGivenIn lower s old new
+
+pub record MayReadAt (a : ArrayView) (sector sectors : ℕ) : Type 0 where
+  pub running : a.halted ≡ false
+  pub range : IsInRange a sector sectors
+  pub resynced : a.resynced ≡ true
+
+-- Where devices do what they answer, and the members in sync hold a content at rest, these are its bytes in each sector that no
+-- request in flight touches.
+abbrev pub AreOfContent : ℕ → List ℕ → MirrorView → Type 0
+AreOfContent sector bytes v =
+    AreHonest v.disks → (requests : ℕ → Option Request) → AreInFlight v.array requests → (a : Content) → HoldsAtRest (geometry_of v.array) a (world_of v requests)
+    → (i : ℕ) → i < length bytes / 512 → IsQuiet (world_of v requests) (sector + i) → held bytes i 512 ≡ a (sector + i)
+
+pub record Reads (sector : ℕ) (bytes : List ℕ) (old new : MirrorView) : Type 0 where
+  pub may : MayReadAt old.array sector (length bytes / 512)
+  pub rests : Rests old new
+  pub given : (i : ℕ) → i < length bytes / 512 → IsGiven (sector + i) (held bytes i 512) old new
+  pub content : AreOfContent sector bytes old
+
+-- no member in sync gave this sector, and each before it was given: its bytes stand in their place
+pub record IsUnreadable (sector s : ℕ) (bytes : List ℕ) (old new : MirrorView) : Type 0 where
+  pub rests : Rests old new
+  pub from : sector ≤ s
+  pub below : s < sector + length bytes / 512
+  pub none : (role : ℕ) → NotGivenIn role s old new
+  pub earlier : (i : ℕ) → sector + i < s → IsGiven (sector + i) (held bytes i 512) old new
+
+pub record IsNotResynced (a : ArrayView) (sector sectors : ℕ) : Type 0 where
+  pub running : a.halted ≡ false
+  pub range : IsInRange a sector sectors
+  pub not_yet : a.resynced ≡ false
+
+abbrev pub RefusesRead : ℕ → List ℕ → MirrorView → MirrorView → UnreadFault → Type 0
+RefusesRead sector bytes old new Halted = RefusesHalted old new
+RefusesRead sector bytes old new OutOfRange = Refuses old new (IsOutOfRange old.array sector (length bytes / 512))
+RefusesRead sector bytes old new NotResynced = Refuses old new (IsNotResynced old.array sector (length bytes / 512))
+RefusesRead sector bytes old new (Unreadable s) = MayReadAt old.array sector (length bytes / 512) × IsUnreadable sector s bytes old new
+
+-- ---- one role
+-- the run has so many sectors from this one on
+abbrev pub has_all : ℕ → ℕ → Run → Bool
+has_all start len run = nat_le run.start start && (nat_le len run.len && nat_le (start - run.start) (run.len - len))
+
+-- The member in the role gave these sectors, and lists none of them.
+pub record GivesIn (role sector : ℕ) (bytes : List ℕ) (old new : MirrorView) : Type 0 where
+  pub from : ℕ
+  pub is : IsInRole old.array role from
+  pub unlisted : (s : ℕ) → sector ≤ s → s < sector + length bytes / 512 → Lists is.member s → ⊥
+  pub holds : HoldsData old from sector bytes
+
+abbrev pub TriesRole : ℕ → ℕ → List ℕ → List ℕ → MirrorView → MirrorView → Answer → Type 0
+TriesRole role sector was bytes old new answer.Given = Rests old new × GivesIn role sector bytes old new
+TriesRole role sector was bytes old new answer.None = Rests old new × ((s : ℕ) → sector ≤ s → s < sector + length was / 512 → NotGivenIn role s old new)
+TriesRole role sector was bytes old new answer.Some = Rests old new × (1 < length was / 512)
+
+-- ---- a run of sectors
+pub record GivesRun (sector : ℕ) (bytes : List ℕ) (old new : MirrorView) : Type 0 where
+  pub role : ℕ
+  pub gives : GivesIn role sector bytes old new
+  pub lowest : (lower : ℕ) → lower < role → (s : ℕ) → sector ≤ s → s < sector + length bytes / 512 → NotGivenIn lower s old new
+
+abbrev pub TriesRoles : ℕ → List ℕ → List ℕ → MirrorView → MirrorView → Answer → Type 0
+TriesRoles sector was bytes old new answer.Given = Rests old new × GivesRun sector bytes old new
+TriesRoles sector was bytes old new answer.None = Rests old new × ((role s : ℕ) → sector ≤ s → s < sector + length was / 512 → NotGivenIn role s old new)
+TriesRoles sector was bytes old new answer.Some = Rests old new × (1 < length was / 512)
+
+-- so many of the sectors were given, and where none was, no member in sync gave the first
+pub record GivesFront (sector : ℕ) (was bytes : List ℕ) (old new : MirrorView) (sectors : ℕ) : Type 0 where
+  pub rests : Rests old new
+  pub few : sectors ≤ length was / 512
+  pub given : (i : ℕ) → i < sectors → IsGiven (sector + i) (held bytes i 512) old new
+  pub none : sectors ≡ 0 → (role : ℕ) → NotGivenIn role sector old new
+
+pub record GivesAll (sector : ℕ) (bytes : List ℕ) (old new : MirrorView) : Type 0 where
+  pub rests : Rests old new
+  pub given : (i : ℕ) → i < length bytes / 512 → IsGiven (sector + i) (held bytes i 512) old new
+
+abbrev pub IsGivenUpTo : ℕ → List ℕ → UnreadFault → MirrorView → MirrorView → Type 0
+IsGivenUpTo sector bytes (Unreadable s) old new = IsUnreadable sector s bytes old new
+IsGivenUpTo sector bytes fault old new = ⊥

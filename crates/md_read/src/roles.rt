@@ -1,0 +1,124 @@
+// Reading sectors of the array in one role.
+ghost use Rattle.std.specs.Prelude.{◌≡◌, ◌+◌, ◌*◌, ◌/◌, ◌%◌, ◌<◌, ◌≤◌, ◌↔◌, ℕ, MatchOption, length, true};
+ghost use Rattle.std.specs.List.{list_any};
+ghost use Rattle.md_state.specs.Members.{IsMember, is_in_sync_as};
+ghost use Rattle.md_state.specs.CopyingData.{Lists};
+ghost use Rattle.md_state.specs.View.{MemberView};
+ghost use Rattle.md_array.specs.Consistency.{IsConsistent};
+ghost use Rattle.md_read.specs.Reading.{HasRole, IsInRole, TriesRole, has_all};
+
+use md_array::Mirror;
+use md_assembly::MemberState;
+use md_badblocks::Run;
+use md_device::Device;
+
+/// What came of reading some sectors in a role.
+#[derive(Clone, Copy, Debug, PartialEq, Eq)]
+pub(crate) enum Answer {
+    /// The member in sync in the role gave them.
+    Given,
+    /// It gives none of them, or there is none.
+    None,
+    /// It may give some of them.
+    Some,
+}
+
+// The member in sync in a role.
+fn member_in<D: Device + Drop>(mirror: &Mirror<D>, role: u32) -> Option<usize>
+    ensures { MatchOption result (HasRole mirror.now.array role → ⊥) (IsInRole mirror.now.array role) }
+{
+    for k in 0..mirror.members() {
+        if is_in_sync_as(mirror.state(k), role) {
+            return Some(k);
+        }
+    }
+    None
+}
+
+fn is_in_sync_as(state: MemberState, wanted: u32) -> bool
+    ensures { result ≡ is_in_sync_as wanted state }
+{
+    match state {
+        MemberState::InSync(role) => u32::from(role) == wanted,
+        _ => false,
+    }
+}
+
+// Whether member k lists one of these sectors of the array. No list has sectors from 2^54 on.
+fn lists_some<D: Device + Drop>(mirror: &Mirror<D>, k: usize, sector: u64, sectors: u64) -> bool
+    requires within { k < length mirror.now.array.members }
+    ensures { (m : MemberView) → IsMember mirror.now.array k m → (result ≡ true) ↔ ((s : ℕ) × Lists m s × (sector ≤ s) × (s < sector + sectors)) }
+{
+    let bad = mirror.bad(k);
+    if bad.runs().is_empty() {
+        return false;
+    }
+    let Some(first) = mirror.own(k).data_offset.checked_add(sector) else {
+        return false;
+    };
+    bad.meets(first, sectors)
+}
+
+// Whether member k lists each of these sectors of the array.
+fn lists_all<D: Device + Drop>(mirror: &Mirror<D>, k: usize, sector: u64, sectors: u64) -> bool
+    requires within { k < length mirror.now.array.members }
+    requires some { 0 < sectors }
+    ensures { (m : MemberView) → IsMember mirror.now.array k m → (result ≡ true) ↔ ((s : ℕ) → sector ≤ s → s < sector + sectors → Lists m s) }
+{
+    let runs = mirror.bad(k).runs();
+    let Some(first) = mirror.own(k).data_offset.checked_add(sector) else {
+        return false;
+    };
+    one_has(runs, first, sectors)
+}
+
+// Whether one of these runs has all `len` sectors from `start` on.
+fn one_has(runs: &[Run], start: u64, len: u64) -> bool
+    ensures { result ≡ list_any (has_all start len) runs.now }
+{
+    runs.iter().any(|run| run.start <= start
+        && len <= run.len
+        && start - run.start <= run.len - len)
+}
+
+/// Reads these sectors of the array from the member in sync in a role, if it lists none of them.
+pub(crate) fn read_in<D: Device + Drop>(
+    mirror: &mut Mirror<D>,
+    role: u32,
+    sector: u64,
+    buf: &mut [u8],
+) -> Answer
+    requires some { 512 ≤ length buf.old }
+    requires whole { length buf.old % 512 ≡ 0 }
+    requires inside { sector + length buf.old / 512 ≤ mirror.old.array.chunks.size }
+    requires sound { IsConsistent mirror.old }
+    ensures { TriesRole role sector buf.old buf.new mirror.old mirror.new result }
+{
+    let sectors = buf.len() as u64 / 512;
+    let Some(k) = member_in(mirror, role) else {
+        return Answer::None;
+    };
+    if lists_some(mirror, k, sector, sectors) {
+        if lists_all(mirror, k, sector, sectors) {
+            return Answer::None;
+        }
+        return Answer::Some;
+    }
+    match mirror.read_data(k, sector, buf) {
+        Ok(()) => Answer::Given,
+        Err(_) => unread(sectors),
+    }
+}
+
+// Of one sector it is known that the member doesn't give it.
+fn unread(sectors: u64) -> Answer
+    requires { 0 < sectors }
+    ensures one { sectors ≡ 1 → result ≡ Answer.None }
+    ensures more { 1 < sectors → result ≡ Answer.Some }
+{
+    if sectors == 1 {
+        Answer::None
+    } else {
+        Answer::Some
+    }
+}

@@ -1,0 +1,70 @@
+// Reading runs of sectors, each from one member.
+ghost use Rattle.std.specs.Prelude.{◌≡◌, ◌+◌, ◌*◌, ◌/◌, ◌%◌, ◌^◌, ◌<◌, ◌≤◌, MatchResult, length};
+ghost use Rattle.md_array.specs.Consistency.{IsConsistent};
+ghost use Rattle.md_read.specs.Reading.{GivesAll, GivesFront, IsGivenUpTo, TriesRoles};
+
+use crate::fault::UnreadFault;
+use crate::roles::{Answer, read_in};
+use md_array::Mirror;
+use md_device::Device;
+
+// Reads these sectors in the lowest role whose member may give some of them.
+fn read_run<D: Device + Drop>(mirror: &mut Mirror<D>, sector: u64, buf: &mut [u8]) -> Answer
+    requires some { 512 ≤ length buf.old }
+    requires whole { length buf.old % 512 ≡ 0 }
+    requires inside { sector + length buf.old / 512 ≤ mirror.old.array.chunks.size }
+    requires sound { IsConsistent mirror.old }
+    ensures { TriesRoles sector buf.old buf.new mirror.old mirror.new result }
+{
+    for role in 0..mirror.shared().raid_disks {
+        match read_in(mirror, role, sector, buf) {
+            Answer::Given => return Answer::Given,
+            Answer::Some => return Answer::Some,
+            Answer::None => {}
+        }
+    }
+    Answer::None
+}
+
+// Reads the first of these sectors, and as many of those after it as the same read gives: all, half of them,
+// or fewer. The answer is how many, 0 where no member in sync gave the first.
+fn read_front<D: Device + Drop>(mirror: &mut Mirror<D>, sector: u64, buf: &mut [u8]) -> u64
+    requires some { 512 ≤ length buf.old }
+    requires whole { length buf.old % 512 ≡ 0 }
+    requires inside { sector + length buf.old / 512 ≤ mirror.old.array.chunks.size }
+    requires sound { IsConsistent mirror.old }
+    ensures { GivesFront sector buf.old buf.new mirror.old mirror.new result }
+{
+    let mut sectors = buf.len() / 512;
+    loop {
+        match read_run(mirror, sector, &mut buf[..512 * sectors]) {
+            Answer::Given => return sectors as u64,
+            Answer::None => return 0,
+            Answer::Some => sectors /= 2,
+        }
+    }
+}
+
+/// Reads these sectors of the array.
+pub(crate) fn read_runs<D: Device + Drop>(
+    mirror: &mut Mirror<D>,
+    sector: u64,
+    buf: &mut [u8],
+) -> Result<(), UnreadFault>
+    requires whole { length buf.old % 512 ≡ 0 }
+    requires inside { sector + length buf.old / 512 ≤ mirror.old.array.chunks.size }
+    requires fits { sector + length buf.old / 512 < 2 ^ 64 }
+    requires sound { IsConsistent mirror.old }
+    ensures { MatchResult result (λ _. GivesAll sector buf.new mirror.old mirror.new) (λ fault. IsGivenUpTo sector buf.new fault mirror.old mirror.new) }
+{
+    let mut done = 0;
+    while done < buf.len() {
+        let at = sector + done as u64 / 512;
+        let given = read_front(mirror, at, &mut buf[done..]);
+        if given == 0 {
+            return Err(UnreadFault::Unreadable(at));
+        }
+        done += 512 * given as usize;
+    }
+    Ok(())
+}

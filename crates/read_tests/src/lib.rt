@@ -1,0 +1,5 @@
+//! Tests of reading.
+#![tactic(auto)]
+
+#[cfg(test)]
+mod reads;
