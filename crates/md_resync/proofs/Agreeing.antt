@@ -1,0 +1,148 @@
+-- Members in sync are made to agree in marked chunks, and a content is kept meanwhile.
+use Rattle.std.proofs.Common.{◌≡◌, ℕ, ◌+◌, List, [], ◌∷◌, length, slice_get, Option, Some, None, refl, sym, ap, ◌∙◌, subst, arith, inl, inr}
+use Rattle.std.proofs.lemmas.Bool.{cases_lt}
+use Rattle.std.proofs.lemmas.Option.{slice_get_within}
+use Rattle.md_model.specs.Content.{Becomes, Content, HoldsBetween}
+use Rattle.md_model.specs.Sectors.{Geometry}
+use Rattle.md_model.specs.Events.{Event}
+use Rattle.md_model.specs.Worlds.{World}
+use Rattle.md_state.specs.View.{ArrayView, Disk, MemberView, MirrorView}
+use Rattle.md_state.specs.MakingClean.{IsIdle}
+use Rattle.md_state.specs.Members.{IsAlone, IsInSync}
+use Rattle.md_state.specs.Requests.{AreInFlight}
+use Rattle.md_state.specs.Rests.{Rests}
+use Rattle.md_array.specs.Consistency.{IsConsistent}
+use Rattle.md_array.specs.InTurn.{AllOf, LeftWhole, Requests}
+use Rattle.md_array.specs.MarkingResynced.{AllAgreeWhereMarked, sector_of}
+use Rattle.md_array.specs.Worlds.{AreHonest, geometry_of, world_of}
+use Rattle.md_array.proofs.General.Honesty.{same_honest}
+use Rattle.md_array.proofs.General.Indices.{got_same}
+use Rattle.md_array.proofs.General.Resting.{geometry_rests, world_rests}
+use Rattle.md_laws.specs.ReadInTurn.{LeadsReading}
+use Rattle.md_array.proofs.Steps.Turns.{all_such}
+use Rattle.md_metadata.specs.Clearing.{IsClearing}
+use Rattle.md_resync.specs.Copying.{Copies, CopiesMarked, CopyingGoesOn, IsCopying}
+use Rattle.md_resync.specs.Resyncing.{Advances, Agrees, IsOfResync, KeepsContent, NoneInSync}
+use Rattle.md_resync.proofs.CopiedRuns.{copies_none}
+
+-- ---- who is in sync
+pub alone_if_none : (a : ArrayView) → NoneInSync 0 (length a.members) a → IsAlone a
+alone_if_none a none j k m n one other = absurd (none j m (omega arith) (slice_get_within a.members j m one.member) one)
+
+-- no member but this one
+only : (a : ArrayView) (first : ℕ) → NoneInSync 0 first a → NoneInSync (first + 1) (length a.members) a → (j : ℕ) (m : MemberView) → IsInSync a j m → j ≡ first
+only a first before after j m is = elim (cases_lt j first) [
+  | inl low ↦ absurd (before j m (omega arith) low is)
+  | inr high ↦ elim (cases_lt first j) [
+    | inl above ↦ absurd (after j m (omega arith) (slice_get_within a.members j m is.member) is)
+    | inr below ↦ omega arith
+  ]
+]
+
+pub alone_if_one : (a : ArrayView) (first : ℕ) → NoneInSync 0 first a → NoneInSync (first + 1) (length a.members) a → IsAlone a
+alone_if_one a first before after j k m n one other = only a first before after j m one ∙ sym (only a first before after k n other)
+
+-- one alone agrees with itself
+pub alone_agrees : (v : MirrorView) → IsAlone v.array → AllAgreeWhereMarked v
+alone_agrees v alone s low marked j k m n d e one other free free_too =
+    let same = alone j k m n one.in_sync other.in_sync in
+    let member : m ≡ n = got_same v.array.members k m n (sym (ap (slice_get v.array.members) same) ∙ one.in_sync.member) other.in_sync.member in
+    let disk : d ≡ e = got_same v.disks k d e (sym (ap (slice_get v.disks) same) ∙ one.disk) other.disk in
+    ap (λ (x : MemberView). sector_of x d s) member ∙ ap (λ (x : Disk). sector_of n x s) disk
+
+-- ---- a content along events that leave it
+-- an event of a resync but its end
+pub record IsCalm (e : Event) : Type 0 where
+  pub of : IsOfResync e
+  pub becomes : (g : Geometry) (w : World) (a : Content) → Becomes g e w a a
+  pub whole : (old new : MirrorView) → LeftWhole old e new
+
+pub copying_is_calm : (e : Event) → IsCopying e → IsCalm e
+copying_is_calm (Event.Begin n p) is = absurd is
+copying_is_calm (Event.Record k) is = absurd is
+copying_is_calm (Event.StoreMarks k b) is = absurd is
+copying_is_calm (Event.WriteMember n k) is = absurd is
+copying_is_calm (Event.Finish n) is = absurd is
+copying_is_calm (Event.ClearIdle c) is = absurd is
+copying_is_calm (Event.Fail k) is = absurd is
+copying_is_calm (Event.RecordFails k) is = absurd is
+copying_is_calm (Event.StoreMarksFails k b) is = absurd is
+copying_is_calm (Event.WriteMemberFails n k) is = absurd is
+copying_is_calm (Event.CopyFails k c) is = record { of = tt; becomes = λ g w a. refl; whole = λ old new. tt }
+copying_is_calm (Event.Copy from k s) is = record { of = tt; becomes = λ g w a. refl; whole = λ old new. tt }
+copying_is_calm (Event.Resynced) is = absurd is
+copying_is_calm (Event.Unresynced) is = absurd is
+copying_is_calm (Event.MakeClean) is = absurd is
+copying_is_calm (Event.Remove k) is = absurd is
+copying_is_calm (Event.Add d left) is = absurd is
+copying_is_calm (Event.ReAdd own device left) is = absurd is
+
+pub clearing_is_calm : (e : Event) → IsClearing e → IsCalm e
+clearing_is_calm (Event.Begin n p) is = absurd is
+clearing_is_calm (Event.Record k) is = absurd is
+clearing_is_calm (Event.StoreMarks k b) is = absurd is
+clearing_is_calm (Event.WriteMember n k) is = absurd is
+clearing_is_calm (Event.Finish n) is = absurd is
+clearing_is_calm (Event.ClearIdle c) is = record { of = tt; becomes = λ g w a. refl; whole = λ old new. tt }
+clearing_is_calm (Event.Fail k) is = absurd is
+clearing_is_calm (Event.RecordFails k) is = absurd is
+clearing_is_calm (Event.StoreMarksFails k b) is = absurd is
+clearing_is_calm (Event.WriteMemberFails n k) is = absurd is
+clearing_is_calm (Event.CopyFails k c) is = absurd is
+clearing_is_calm (Event.Copy from k s) is = absurd is
+clearing_is_calm (Event.Resynced) is = absurd is
+clearing_is_calm (Event.Unresynced) is = absurd is
+clearing_is_calm (Event.MakeClean) is = absurd is
+clearing_is_calm (Event.Remove k) is = absurd is
+clearing_is_calm (Event.Add d left) is = absurd is
+clearing_is_calm (Event.ReAdd own device left) is = absurd is
+
+read_holds : (old new : MirrorView) (requests : Requests) (a : Content) → Rests old new → HoldsBetween (geometry_of old.array) a (world_of old requests) → HoldsBetween (geometry_of new.array) a (world_of new requests)
+read_holds old new requests a rests holds =
+    subst (λ (g : Geometry). HoldsBetween g a (world_of new requests)) (sym (geometry_rests old new rests))
+    (subst (λ (w : World). HoldsBetween (geometry_of old.array) a w) (sym (world_rests old new rests requests)) holds)
+
+pub held_along : (es : List Event) (previous : Option Event) (old : MirrorView) (before : Requests) (a : Content) (new : MirrorView) (after : Requests) → AllOf IsCalm es → AreHonest old.disks
+    → HoldsBetween (geometry_of old.array) a (world_of old before) → LeadsReading previous old before es new after
+    → HoldsBetween (geometry_of new.array) a (world_of new after) × (geometry_of new.array ≡ geometry_of old.array)
+held_along [] previous old before a new after all honest holds t =
+    let there = read_holds old t.0 before a t.1 holds in (
+      subst (λ (m : MirrorView). HoldsBetween (geometry_of m.array) a (world_of m after)) t.2.0
+          (subst (λ (r : Requests). HoldsBetween (geometry_of t.0.array) a (world_of t.0 r)) t.2.1 there),
+      subst (λ (m : MirrorView). geometry_of m.array ≡ geometry_of old.array) t.2.0 (geometry_rests old t.0 t.1),
+    )
+held_along (e ∷ es) previous old before a new after all honest holds t =
+    let there = read_holds old t.0 before a t.3 holds in
+    let does = t.6 (same_honest old.disks t.0.disks t.3.disks.same honest) (all.0.whole t.0 t.1) in
+    let mid = subst (λ (g : Geometry). HoldsBetween g a (world_of t.1 t.2)) (sym does.geometry) (does.content a a there (all.0.becomes (geometry_of t.0.array) (world_of t.0 before) a)) in
+    let more = held_along es (Some e) t.1 t.2 a new after all.1 does.honest mid t.7 in
+    (more.0, more.1 ∙ does.geometry ∙ geometry_rests old t.0 t.3)
+
+pub calm_content : (es : List Event) (old new : MirrorView) → AllOf IsCalm es
+    → ((previous : Option Event) (requests : Requests) → AreInFlight old.array requests → LeadsReading previous old requests es new requests) → KeepsContent old new
+calm_content es old new all leads honest requests in_flight a holds =
+    let along = held_along es None old requests a new requests all honest holds (leads None requests in_flight) in
+    subst (λ (g : Geometry). HoldsBetween g a (world_of new requests)) along.1 along.0
+
+-- ---- members in sync agree
+pub copies_advance : (old new : MirrorView) → CopyingGoesOn old new → IsIdle new.array → Advances old new
+copies_advance old new g idle = record {
+  goes = record { events = g.events; steps = all_such IsCopying IsOfResync (λ e is. (copying_is_calm e is).of) g.events g.steps; leads = g.leads };
+  same = g.same;
+  idle = idle;
+  sound = g.sound;
+}
+
+agrees_by : (old new : MirrorView) → IsIdle old.array → Copies old new → AllAgreeWhereMarked new → Agrees old new
+agrees_by old new idle g agree = record {
+  advances = copies_advance old new g.goes (subst IsIdle (sym g.array) idle);
+  array = g.array;
+  agree = agree;
+  content = calm_content g.goes.events old new (all_such IsCopying IsCalm copying_is_calm g.goes.events g.goes.steps) g.goes.leads;
+}
+
+pub agrees_copied : (old new : MirrorView) → IsIdle old.array → CopiesMarked old new → Agrees old new
+agrees_copied old new idle g = agrees_by old new idle g.copies g.agree
+
+pub agrees_alone : (v : MirrorView) → IsIdle v.array → IsConsistent v → IsAlone v.array → Agrees v v
+agrees_alone v idle sound alone = agrees_by v v idle (copies_none v sound) (alone_agrees v alone)

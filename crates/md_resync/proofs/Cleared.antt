@@ -1,0 +1,123 @@
+-- All marks are cleared, and that is stored.
+use Rattle.std.proofs.Common.{◌≡◌, ℕ, ◌<◌, true, false, List, slice_get, length, refl, sym, ap, ◌∙◌, subst, arith}
+use Rattle.md_model.specs.Content.{HoldsBetween}
+use Rattle.md_model.specs.Sectors.{Geometry}
+use Rattle.md_array.specs.Worlds.{geometry_of, world_of}
+use Rattle.md_bitmap.specs.Marks.{Bitmap, is_set}
+use Rattle.md_state.specs.DeviceChanges.{AreSame, StaysHonest}
+use Rattle.md_state.specs.View.{ArrayView, Disk, MemberView, MirrorView}
+use Rattle.md_state.specs.MakingClean.{IsIdle}
+use Rattle.md_state.specs.Members.{AllInSync, is_degraded}
+use Rattle.md_array.specs.Consistency.{IsConsistent}
+use Rattle.md_array.specs.MarkingResynced.{AllAgreeAt, IsServed}
+use Rattle.md_array.proofs.General.Indices.{got_same}
+use Rattle.md_array.proofs.Steps.Turns.{all_such}
+use Rattle.md_laws.proofs.Runs.ReadTurns.{unread}
+use Rattle.md_metadata.specs.Clearing.{ClearsAll, IsClearing, Remarks}
+use Rattle.md_metadata.specs.Storing.{HasAllMarks}
+use Rattle.md_resync.specs.declared.fault.ResyncFault.{ResyncFault}
+use Rattle.md_resync.specs.declared.fault.ResyncFault.TheVariants.{Halted, InFlight, MemberFailed, NoMemory, ReadFault}
+use Rattle.md_resync.specs.Resyncing.{Advances, ClearsStored, HasSameMembers, IsOfResync, KeepsContent, StopsIdle, StopsMarks, StoresMarks}
+use Rattle.md_resync.proofs.Advancing.{advances_on, goes_none, goes_on, none_flies}
+use Rattle.md_resync.proofs.Agreeing.{IsCalm, calm_content, clearing_is_calm}
+use Rattle.md_array.proofs.General.Honesty.{same_honest}
+
+pub same_disks : (before after : List Disk) → after ≡ before → AreSame before after
+same_disks before after same = subst (AreSame before) (sym same) (record { as_many = refl; honest = λ k d e was is. let it = got_same before k e d is was in subst (λ (x : Disk). StaysHonest d x) (sym it) (record { honest = refl; counted = omega arith }) })
+
+pub advances_none : (v : MirrorView) → IsIdle v.array → IsConsistent v → Advances v v
+advances_none v idle sound = record { goes = goes_none v; same = same_disks v.disks v.disks refl; idle = idle; sound = sound }
+
+pub same_members : (a : ArrayView) → HasSameMembers a a
+same_members a = record { as_many = refl; each = λ k m n was is. let it = got_same a.members k n m is was in it ∙ ap (λ (x : MemberView). record m { stored = x.stored }) (sym it) }
+
+-- a content is kept by one part and then by another
+pub content_on : (old mid new : MirrorView) → IsIdle old.array → AreSame old.disks mid.disks → geometry_of mid.array ≡ geometry_of old.array → KeepsContent old mid → KeepsContent mid new → KeepsContent old new
+content_on old mid new idle same geometry first second honest requests in_flight a holds =
+    let there = first honest requests in_flight a holds in
+    subst (λ (g : Geometry). HoldsBetween g a (world_of new requests)) geometry
+    (second (same_honest old.disks mid.disks same honest) requests (none_flies old.array mid.array idle requests in_flight) a
+    (subst (λ (g : Geometry). HoldsBetween g a (world_of mid requests)) (sym geometry) there))
+
+-- the same members on the same devices agree as before
+pub agree_same : (old new : MirrorView) → new.disks ≡ old.disks → new.array.members ≡ old.array.members → (s : ℕ) → AllAgreeAt old s → AllAgreeAt new s
+agree_same old new disks members s agree j k m n d e one other = agree j k m n d e (was j m d one) (was k n e other)
+  where
+    was : (i : ℕ) (x : MemberView) (y : Disk) → IsServed new i x y → IsServed old i x y
+    was i x y is = record {
+      in_sync = record { member = sym (ap (λ (xs : List MemberView). slice_get xs i) members) ∙ is.in_sync.member; in_sync = is.in_sync.in_sync };
+      disk = sym (ap (λ (xs : List Disk). slice_get xs i) disks) ∙ is.disk;
+      honest = is.honest;
+    }
+
+-- ---- in memory
+module _ (old mid : MirrorView) (idle : IsIdle old.array) (r : Remarks old mid) where
+  pub clearing_idle : IsIdle mid.array
+  clearing_idle = subst IsIdle (sym r.array) (record { running = idle.running; none = idle.none })
+
+  pub clearing_advances : Advances old mid
+  clearing_advances = record {
+    goes = record {
+      events = r.goes.events;
+      steps = all_such IsClearing IsOfResync (λ e is. (clearing_is_calm e is).of) r.goes.events r.goes.steps;
+      leads = λ previous requests in_flight. unread r.goes.events previous old requests (λ m x. (m ≡ mid) × (x ≡ requests)) (r.goes.leads previous requests in_flight);
+    };
+    same = same_disks old.disks mid.disks r.disks;
+    idle = clearing_idle;
+    sound = r.goes.sound;
+  }
+
+  pub clearing_content : KeepsContent old mid
+  unfolding clearing_advances
+  clearing_content = calm_content r.goes.events old mid (all_such IsClearing IsCalm clearing_is_calm r.goes.events r.goes.steps) clearing_advances.goes.leads
+
+-- ---- and on the members
+pub cleared_stored : (old mid new : MirrorView) → IsIdle old.array → is_degraded old.array ≡ false → ClearsAll old mid → StoresMarks mid new → ClearsStored old new
+cleared_stored old mid new idle full c s =
+    let array = c.remarks.array in
+    let members = ap (λ (x : ArrayView). x.members) array in
+    let marks = ap (λ (x : ArrayView). x.marks) s.array in
+    record {
+      advances = advances_on old mid new idle (clearing_advances old mid idle c.remarks) s.advances;
+      members = record {
+        as_many = s.members.as_many ∙ ap length members;
+        each = λ k m n was is. s.members.each k m n (ap (λ (xs : List MemberView). slice_get xs k) members ∙ was) is;
+      };
+      array = s.array ∙ ap (λ (x : ArrayView). record x { members = new.array.members }) array
+          ∙ ap (λ (x : Bitmap). record old.array { members = new.array.members; marks = x }) (sym marks);
+      kept = λ degraded. absurd cc;
+      cleared = λ _ x. ap (λ (b : Bitmap). is_set b.bytes x) marks ∙ c.none x;
+      stored = s.stored;
+      agree = λ x low agree. s.agree x (subst (λ (v : ArrayView). x < v.chunks.size) (sym array) low) (agree_same old mid c.remarks.disks members x agree);
+      content = content_on old mid new idle (same_disks old.disks mid.disks c.remarks.disks) (ap geometry_of array) (clearing_content old mid idle c.remarks) s.content;
+    }
+
+pub cleared_nothing : (v : MirrorView) → IsIdle v.array → IsConsistent v → is_degraded v.array ≡ true → AllInSync v.array (HasAllMarks v.array.marks) → ClearsStored v v
+cleared_nothing v idle sound degraded stored = record {
+  advances = advances_none v idle sound;
+  members = same_members v.array;
+  array = refl;
+  kept = λ _. refl;
+  cleared = λ full. absurd cc;
+  stored = stored;
+  agree = λ s low agree. agree;
+  content = λ honest requests in_flight a holds. holds;
+}
+
+-- ---- where it stops
+pub marks_stop : (old mid new : MirrorView) (fault : ResyncFault) → IsIdle old.array → Advances old mid → StopsMarks mid new fault → StopsMarks old new fault
+marks_stop old mid new Halted idle g h = record {
+  halts = record { mid = h.halts.mid; goes = goes_on old mid h.halts.mid idle g.goes h.halts.goes; failing = h.halts.failing; of = h.halts.of; halts = h.halts.halts };
+  halted = h.halted;
+}
+marks_stop old mid new (InFlight n) idle g h = h
+marks_stop old mid new NoMemory idle g h = h
+marks_stop old mid new (ReadFault k chunk) idle g h = h
+marks_stop old mid new (MemberFailed k) idle g h = record { advances = advances_on old mid new idle g h.advances; faulty = h.faulty }
+
+pub marks_stop_idle : (old new : MirrorView) (fault : ResyncFault) → StopsMarks old new fault → StopsIdle old new fault
+marks_stop_idle old new Halted h = h
+marks_stop_idle old new (InFlight n) h = h
+marks_stop_idle old new NoMemory h = absurd h
+marks_stop_idle old new (ReadFault k chunk) h = absurd h
+marks_stop_idle old new (MemberFailed k) h = h

@@ -1,0 +1,9 @@
+pub mod Bests
+pub mod CopiedRuns
+pub mod CopiedChunks
+pub mod Advancing
+pub mod Agreeing
+pub mod Settled
+pub mod Cleared
+pub mod Resynced
+pub mod MarksStored

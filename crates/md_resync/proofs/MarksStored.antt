@@ -1,0 +1,322 @@
+-- A sector of a bitmap is stored: the data is as it was, so that members agree as before.
+use Rattle.std.proofs.Common.{◌≡◌, ℕ, ◌+◌, ◌*◌, ◌<◌, inl, inr, true, cond, List, [], ◌∷◌, length, length-set, Option, Some, None, drop, set, slice_get, refl, sym, ap, ◌∙◌, subst, arith}
+use Rattle.std.proofs.lemmas.Bool.{cases_lt}
+use Rattle.std.proofs.lemmas.Option.{none-some, slice_get_within}
+use Rattle.md_bitmap.proofs.Padded.{length-padded}
+use Rattle.md_device.specs.Splice.{SameOutside}
+use Rattle.md_members.specs.Areas.{bitmap_sectors}
+use Rattle.md_model.proofs.Cases.{below-nat_lt}
+use Rattle.md_model.proofs.Puts.{by_same}
+use Rattle.md_bitmap.specs.Marks.{Bitmap}
+use Rattle.md_model.specs.Devices.{Stored}
+use Rattle.md_model.specs.Events.{Event}
+use Rattle.md_writes.specs.Writes.{Write}
+use Rattle.md_state.specs.CopyingData.{Lists}
+use Rattle.md_state.specs.DeviceChanges.{AreSame}
+use Rattle.md_state.specs.Members.{IsInSync}
+use Rattle.md_state.specs.StoringMarks.{StoresMarkSector}
+use Rattle.md_state.specs.View.{ArrayView, Disk, MemberView, MirrorView}
+use Rattle.md_array.specs.Consistency.{IsConsistent}
+use Rattle.md_array.specs.InTurn.{AllOf, HaltsAt, IsSectorDue, Leads, Requests}
+use Rattle.md_array.specs.MarkingResynced.{AllAgreeAt, IsServed, sector_of}
+use Rattle.md_array.specs.Worlds.{from_super, none_in_flight}
+use Rattle.md_array.proofs.Steps.Turns.{all_such}
+use Rattle.md_laws.proofs.Runs.ReadTurns.{unread}
+use Rattle.md_metadata.specs.Going as metadata
+use Rattle.md_metadata.specs.Going.{IsFaulty, alone}
+use Rattle.md_inflight.specs.Inflight.{InflightList}
+use Rattle.md_state.specs.declared.extent.Extent.{Extent}
+use Rattle.md_metadata.specs.Storing.{AllStayReady, HasAllMarks}
+use Rattle.md_state.specs.MakingClean.{IsIdle, first_number}
+use Rattle.md_state.specs.Requests.{AreInFlight}
+use Rattle.md_array.proofs.General.Indices.{at_set_same, got_other, got_same, got_within}
+use Rattle.md_array.proofs.Steps.MarkSectors.{marks_stored_is_consistent}
+use Rattle.md_array.proofs.Worlds.Outside.{starts_at}
+use Rattle.md_array.proofs.Worlds.PartsApart.{marks_alone, parts_of}
+use Rattle.md_resync.specs.Resyncing.{FailsToWrite, GoesOn, HaltsIdle, HasSameMembers, IsOfResync, StoresMarks}
+use Rattle.md_resync.proofs.Agreeing.{IsCalm, calm_content}
+use Rattle.md_resync.proofs.Cleared.{same_disks, same_members}
+use Rattle.md_resync.proofs.CopiedRuns.{same_then, tried_same}
+use Rattle.md_resync.proofs.Resynced.{members_on}
+
+module _ (k block : ℕ) (old new : MirrorView) (c : IsConsistent old) (low : block < bitmap_sectors old.array.marks.chunks) (r : StoresMarkSector k block old new) where
+  abbrev m : MemberView
+  m = r.member
+
+  abbrev n : MemberView
+  n = record r.member { stored = r.stored }
+
+  abbrev start : ℕ
+  start = from_super m.superblock.bitmap_offset
+
+  members_are : new.array.members ≡ set old.array.members k n
+  members_are = ap (λ (a : ArrayView). a.members) r.array
+
+  sector_is : r.write.sector ≡ start + block
+  sector_is = ap (λ (w : Write). w.sector) r.may.write.is ∙ ap (λ (x : ℕ). x + block) (sym (starts_at m.superblock r.may.write.start r.may.write.starts))
+
+  length_is : length r.write.bytes ≡ 512
+  length_is = ap (λ (w : Write). length w.bytes) r.may.write.is ∙ length-padded 512 (drop (512 * block) _)
+
+  data_stays : (s : ℕ) → s < old.array.chunks.size → (d e : Disk) → slice_get old.disks k ≡ Some d → slice_get new.disks k ≡ Some e → sector_of m e s ≡ sector_of m d s
+  data_stays s below d e was is =
+      let outside = subst (λ (x : ℕ). SameOutside (512 * x) 512 d.content e.content) sector_is
+      (subst (λ (x : ℕ). SameOutside (512 * r.write.sector) x d.content e.content) length_is (r.disks.tried.outside d e was is)) in
+      let count = c.chunks.member_count k m r.may.in_sync.member in
+      let low_of_member = subst (λ (x : ℕ). block < bitmap_sectors x) (sym count) low in
+      let alone = marks_alone old.array m d.content e.content (parts_of old c k d m was r.may.in_sync.member) block low_of_member outside in
+      let within = below-nat_lt s old.array.chunks.size below in
+      sym (ap (λ b. cond b (sector_of m e s) []) within) ∙ ap (λ (x : Stored). x.content s) alone ∙ ap (λ b. cond b (sector_of m d s) []) within
+
+  -- a member in sync, and what it was
+  record WasServed (s j : ℕ) (x : MemberView) (e : Disk) : Type 0 where
+    member : MemberView
+    disk : Disk
+    served : IsServed old j member disk
+    listed : Lists member s → Lists x s
+    sector : sector_of x e s ≡ sector_of member disk s
+
+  was_served : (s : ℕ) → s < old.array.chunks.size → (j : ℕ) (x : MemberView) (e : Disk) → IsServed new j x e → WasServed s j x e
+  was_served s below j x e is = by_same j k
+      (λ here.
+      let inside = slice_get_within old.array.members k m r.may.in_sync.member in
+      let at : slice_get new.disks k ≡ Some e = sym (ap (slice_get new.disks) here) ∙ is.disk in
+      let x_is : x ≡ n = got_same new.array.members k x n (sym (ap (slice_get new.array.members) here) ∙ is.in_sync.member) (ap (λ (xs : List MemberView). slice_get xs k) members_are ∙ at_set_same old.array.members k n inside) in
+      let many = r.disks.tried.as_many in
+      let there = slice_get_within new.disks k e at in
+      let d = got_within old.disks k (omega arith) in
+      let stays = r.disks.tried.stays d.0 e d.1 at in
+      record {
+        member = m;
+        disk = d.0;
+        served = record {
+          in_sync = record { member = ap (slice_get old.array.members) here ∙ r.may.in_sync.member; in_sync = r.may.in_sync.in_sync };
+          disk = ap (slice_get old.disks) here ∙ d.1;
+          honest = sym stays.honest ∙ is.honest;
+        };
+        listed = λ lists. subst (λ (y : MemberView). Lists y s) (sym x_is) lists;
+        sector = ap (λ (y : MemberView). sector_of y e s) x_is ∙ data_stays s below d.0 e d.1 at;
+      })
+      (λ apart. record {
+        member = x;
+        disk = e;
+        served = record {
+          in_sync = record { member = sym (got_other old.array.members k j n apart) ∙ sym (ap (λ (xs : List MemberView). slice_get xs j) members_are) ∙ is.in_sync.member; in_sync = is.in_sync.in_sync };
+          disk = sym (r.disks.tried.others j apart) ∙ is.disk;
+          honest = is.honest;
+        };
+        listed = λ lists. lists;
+        sector = refl;
+      })
+
+  pub mark_agrees : (s : ℕ) → s < old.array.chunks.size → AllAgreeAt old s → AllAgreeAt new s
+  mark_agrees s below agree i j x y d e one other free free_too =
+      let a = was_served s below i x d one in
+      let b = was_served s below j y e other in
+      a.sector ∙ agree i j a.member b.member a.disk b.disk a.served b.served (λ lists. free (a.listed lists)) (λ lists. free_too (b.listed lists)) ∙ sym b.sector
+
+  mark_members : HasSameMembers old.array new.array
+  mark_members = record {
+    as_many = ap length members_are ∙ length-set old.array.members k n;
+    each = λ j x y was is.
+        let at : slice_get (set old.array.members k n) j ≡ Some y = ap (λ (xs : List MemberView). slice_get xs j) (sym members_are) ∙ is in
+        by_same j k
+        (λ here.
+        let inside = slice_get_within old.array.members k m r.may.in_sync.member in
+        let x_is : x ≡ m = got_same old.array.members k x m (sym (ap (slice_get old.array.members) here) ∙ was) r.may.in_sync.member in
+        let y_is : y ≡ n = got_same (set old.array.members k n) k y n (sym (ap (slice_get (set old.array.members k n)) here) ∙ at) (at_set_same old.array.members k n inside) in
+        y_is ∙ ap (λ (z : MemberView). record z { stored = r.stored }) (sym x_is) ∙ ap (λ (b : Bitmap). record x { stored = b }) (sym (ap (λ (z : MemberView). z.stored) y_is)))
+        (λ apart.
+        let same : y ≡ x = got_same old.array.members j y x (sym (got_other old.array.members k j n apart) ∙ at) was in
+        same ∙ ap (λ (z : MemberView). record x { stored = z.stored }) (sym same));
+  }
+
+-- ---- sector by sector, where nothing fails
+abbrev pub IsMarkStored : Event → Type 0
+IsMarkStored (Event.StoreMarks k b) = Unit {0}
+IsMarkStored e = ⊥
+
+-- a sector that is due is one of the bitmap
+due_within : (a : ArrayView) (k block : ℕ) (m : MemberView) → IsInSync a k m → IsSectorDue a k block → block < bitmap_sectors a.marks.chunks
+due_within a k block m is due = elim (cases_lt block (bitmap_sectors a.marks.chunks)) [
+  | inl low ↦ low
+  | inr high ↦ elim (due m is) [
+    | inl lacks ↦ absurd (lacks (λ c here below. absurd (omega arith)))
+    | inr first ↦ let zero = first.0 in omega arith
+  ]
+]
+
+pub record LeavesData (old new : MirrorView) : Type 0 where
+  pub same : AreSame old.disks new.disks
+  pub members : HasSameMembers old.array new.array
+  pub size : new.array.chunks.size ≡ old.array.chunks.size
+  pub agree : (s : ℕ) → s < old.array.chunks.size → AllAgreeAt old s → AllAgreeAt new s
+
+leaves_step : (k block : ℕ) (old mid new : MirrorView) (c : IsConsistent old) (low : block < bitmap_sectors old.array.marks.chunks) (r : StoresMarkSector k block old mid) → LeavesData mid new → LeavesData old new
+leaves_step k block old mid new c low r rest =
+    let size : mid.array.chunks.size ≡ old.array.chunks.size = ap (λ (a : ArrayView). a.chunks.size) r.array in
+    record {
+      same = same_then old.disks mid.disks new.disks (tried_same k r.write old.disks mid.disks r.disks.tried) rest.same;
+      members = members_on old.array mid.array new.array (mark_members k block old mid c low r) rest.members;
+      size = rest.size ∙ size;
+      agree = λ s below agree. rest.agree s (subst (λ (x : ℕ). s < x) (sym size) below) (mark_agrees k block old mid c low r s below agree);
+    }
+
+pub leaves_along : (es : List Event) (previous : Option Event) (old : MirrorView) (before : Requests) (new : MirrorView) (after : Requests) → AllOf IsMarkStored es → IsConsistent old
+    → Leads previous old before es new after → LeavesData old new
+leaves_along [] previous old before new after all sound t = subst (LeavesData old) t.0 (record { same = same_disks old.disks old.disks refl; members = same_members old.array; size = refl; agree = λ s below agree. agree })
+leaves_along (Event.StoreMarks k b ∷ es) previous old before new after all sound t =
+    let r = t.3.1 in
+    let low = due_within old.array k b r.member r.may.in_sync t.2 in
+    leaves_step k b old t.0 new sound low r (leaves_along es (Some (Event.StoreMarks k b)) t.0 t.1 new after all.1 (marks_stored_is_consistent k b old t.0 sound low r) t.5)
+leaves_along (Event.Begin number p ∷ es) previous old before new after all sound t = absurd all.0
+leaves_along (Event.Record k ∷ es) previous old before new after all sound t = absurd all.0
+leaves_along (Event.WriteMember number k ∷ es) previous old before new after all sound t = absurd all.0
+leaves_along (Event.Finish number ∷ es) previous old before new after all sound t = absurd all.0
+leaves_along (Event.ClearIdle chunk ∷ es) previous old before new after all sound t = absurd all.0
+leaves_along (Event.Fail k ∷ es) previous old before new after all sound t = absurd all.0
+leaves_along (Event.RecordFails k ∷ es) previous old before new after all sound t = absurd all.0
+leaves_along (Event.StoreMarksFails k b ∷ es) previous old before new after all sound t = absurd all.0
+leaves_along (Event.WriteMemberFails number k ∷ es) previous old before new after all sound t = absurd all.0
+leaves_along (Event.CopyFails k chunk ∷ es) previous old before new after all sound t = absurd all.0
+leaves_along (Event.Copy from k s ∷ es) previous old before new after all sound t = absurd all.0
+leaves_along (Event.Resynced ∷ es) previous old before new after all sound t = absurd all.0
+leaves_along (Event.Unresynced ∷ es) previous old before new after all sound t = absurd all.0
+leaves_along (Event.MakeClean ∷ es) previous old before new after all sound t = absurd all.0
+leaves_along (Event.Remove k ∷ es) previous old before new after all sound t = absurd all.0
+leaves_along (Event.Add d left ∷ es) previous old before new after all sound t = absurd all.0
+leaves_along (Event.ReAdd own device left ∷ es) previous old before new after all sound t = absurd all.0
+
+mark_is_calm : (e : Event) → IsMarkStored e → IsCalm e
+mark_is_calm (Event.StoreMarks k b) is = record { of = tt; becomes = λ g w a. refl; whole = λ old new. tt }
+mark_is_calm (Event.Begin number p) is = absurd is
+mark_is_calm (Event.Record k) is = absurd is
+mark_is_calm (Event.WriteMember number k) is = absurd is
+mark_is_calm (Event.Finish number) is = absurd is
+mark_is_calm (Event.ClearIdle chunk) is = absurd is
+mark_is_calm (Event.Fail k) is = absurd is
+mark_is_calm (Event.RecordFails k) is = absurd is
+mark_is_calm (Event.StoreMarksFails k b) is = absurd is
+mark_is_calm (Event.WriteMemberFails number k) is = absurd is
+mark_is_calm (Event.CopyFails k chunk) is = absurd is
+mark_is_calm (Event.Copy from k s) is = absurd is
+mark_is_calm (Event.Resynced) is = absurd is
+mark_is_calm (Event.Unresynced) is = absurd is
+mark_is_calm (Event.MakeClean) is = absurd is
+mark_is_calm (Event.Remove k) is = absurd is
+mark_is_calm (Event.Add d left) is = absurd is
+mark_is_calm (Event.ReAdd own device left) is = absurd is
+
+-- all of it, where only marks are stored on the way
+pub stores_marks : (old new : MirrorView) → IsIdle old.array → IsConsistent old → metadata.GoesOn alone alone IsMarkStored old new → AllStayReady old.array new.array
+    → ((k : ℕ) (m : MemberView) → IsInSync new.array k m → HasAllMarks old.array.marks m) → StoresMarks old new
+stores_marks old new idle sound g ready done =
+    let leaves = leaves_along g.events None old none_in_flight new none_in_flight g.steps sound (g.leads None none_in_flight (λ number p e. absurd (none-some p e))) in
+    let leads = λ (previous : Option Event) (requests : Requests) (in_flight : AreInFlight old.array requests).
+    unread g.events previous old requests (λ v x. (v ≡ new) × (x ≡ requests)) (g.leads previous requests in_flight) in
+    record {
+      advances = record {
+        goes = record { events = g.events; steps = all_such IsMarkStored IsOfResync (λ e is. (mark_is_calm e is).of) g.events g.steps; leads = leads };
+        same = leaves.same;
+        idle = subst IsIdle (sym ready.others) (record { running = idle.running; none = idle.none });
+        sound = g.sound;
+      };
+      members = leaves.members;
+      array = ready.others;
+      stored = λ k m is. subst (λ (x : Bitmap). HasAllMarks x m) (sym (ap (λ (a : ArrayView). a.marks) ready.others)) (done k m is);
+      agree = leaves.agree;
+      content = calm_content g.events old new (all_such IsMarkStored IsCalm mark_is_calm g.events g.steps) leads;
+    }
+
+-- ---- where a write fails
+abbrev pub IsMarking : Event → Type 0
+IsMarking (Event.StoreMarks k b) = Unit {0}
+IsMarking (Event.StoreMarksFails k b) = Unit {0}
+IsMarking e = ⊥
+
+marking_of : (e : Event) → IsMarking e → IsOfResync e
+marking_of (Event.StoreMarks k b) is = tt
+marking_of (Event.StoreMarksFails k b) is = tt
+marking_of (Event.Begin number p) is = absurd is
+marking_of (Event.Record k) is = absurd is
+marking_of (Event.WriteMember number k) is = absurd is
+marking_of (Event.Finish number) is = absurd is
+marking_of (Event.ClearIdle chunk) is = absurd is
+marking_of (Event.Fail k) is = absurd is
+marking_of (Event.RecordFails k) is = absurd is
+marking_of (Event.WriteMemberFails number k) is = absurd is
+marking_of (Event.CopyFails k chunk) is = absurd is
+marking_of (Event.Copy from k s) is = absurd is
+marking_of (Event.Resynced) is = absurd is
+marking_of (Event.Unresynced) is = absurd is
+marking_of (Event.MakeClean) is = absurd is
+marking_of (Event.Remove k) is = absurd is
+marking_of (Event.Add d left) is = absurd is
+marking_of (Event.ReAdd own device left) is = absurd is
+
+same_along : (es : List Event) (previous : Option Event) (old : MirrorView) (before : Requests) (new : MirrorView) (after : Requests) → AllOf IsMarking es → Leads previous old before es new after → AreSame old.disks new.disks
+same_along [] previous old before new after all t = same_disks old.disks new.disks (ap (λ (v : MirrorView). v.disks) (sym t.0))
+same_along (Event.StoreMarks k b ∷ es) previous old before new after all t =
+    same_then old.disks t.0.disks new.disks (tried_same k t.3.1.write old.disks t.0.disks t.3.1.disks.tried) (same_along es (Some (Event.StoreMarks k b)) t.0 t.1 new after all.1 t.5)
+same_along (Event.StoreMarksFails k b ∷ es) previous old before new after all t =
+    same_then old.disks t.0.disks new.disks (tried_same k t.3.1.write old.disks t.0.disks t.3.1.fails.disks.tried) (same_along es (Some (Event.StoreMarksFails k b)) t.0 t.1 new after all.1 t.5)
+same_along (Event.Begin number p ∷ es) previous old before new after all t = absurd all.0
+same_along (Event.Record k ∷ es) previous old before new after all t = absurd all.0
+same_along (Event.WriteMember number k ∷ es) previous old before new after all t = absurd all.0
+same_along (Event.Finish number ∷ es) previous old before new after all t = absurd all.0
+same_along (Event.ClearIdle chunk ∷ es) previous old before new after all t = absurd all.0
+same_along (Event.Fail k ∷ es) previous old before new after all t = absurd all.0
+same_along (Event.RecordFails k ∷ es) previous old before new after all t = absurd all.0
+same_along (Event.WriteMemberFails number k ∷ es) previous old before new after all t = absurd all.0
+same_along (Event.CopyFails k chunk ∷ es) previous old before new after all t = absurd all.0
+same_along (Event.Copy from k s ∷ es) previous old before new after all t = absurd all.0
+same_along (Event.Resynced ∷ es) previous old before new after all t = absurd all.0
+same_along (Event.Unresynced ∷ es) previous old before new after all t = absurd all.0
+same_along (Event.MakeClean ∷ es) previous old before new after all t = absurd all.0
+same_along (Event.Remove k ∷ es) previous old before new after all t = absurd all.0
+same_along (Event.Add d left ∷ es) previous old before new after all t = absurd all.0
+same_along (Event.ReAdd own device left ∷ es) previous old before new after all t = absurd all.0
+
+marking_goes : (old new : MirrorView) → metadata.GoesOn alone alone IsMarking old new → GoesOn old new
+marking_goes old new g = record {
+  events = g.events;
+  steps = all_such IsMarking IsOfResync marking_of g.events g.steps;
+  leads = λ previous requests in_flight. unread g.events previous old requests (λ v x. (v ≡ new) × (x ≡ requests)) (g.leads previous requests in_flight);
+}
+
+pub loses_marks : (k : ℕ) (old new : MirrorView) → IsIdle old.array → metadata.LosesMember alone alone IsMarking old new → IsFaulty k new.array → FailsToWrite k old new
+loses_marks k old new idle l faulty = record {
+  advances = record {
+    goes = marking_goes old new l.goes;
+    same = same_along l.goes.events None old none_in_flight new none_in_flight l.goes.steps (l.goes.leads None none_in_flight (λ number p e. absurd (none-some p e)));
+    idle = record { running = l.halted ∙ idle.running; none = subst (λ (x : InflightList Extent). first_number (record old.array { requests = x }) ≡ None) (sym l.goes.array.requests) idle.none };
+    sound = l.goes.sound;
+  };
+  faulty = faulty;
+}
+
+halted_at : (e : Event) (old new : MirrorView) → IsMarking e → HaltsAt old none_in_flight e new → new.array.halted ≡ true
+halted_at (Event.StoreMarks k b) old new is h = absurd h
+halted_at (Event.StoreMarksFails k b) old new is h = ap (λ (a : ArrayView). a.halted) h.halts.array.array
+halted_at (Event.Begin number p) old new is h = absurd is
+halted_at (Event.Record k) old new is h = absurd is
+halted_at (Event.WriteMember number k) old new is h = absurd is
+halted_at (Event.Finish number) old new is h = absurd is
+halted_at (Event.ClearIdle chunk) old new is h = absurd is
+halted_at (Event.Fail k) old new is h = absurd is
+halted_at (Event.RecordFails k) old new is h = absurd is
+halted_at (Event.WriteMemberFails number k) old new is h = absurd is
+halted_at (Event.CopyFails k chunk) old new is h = absurd is
+halted_at (Event.Copy from k s) old new is h = absurd is
+halted_at (Event.Resynced) old new is h = absurd is
+halted_at (Event.Unresynced) old new is h = absurd is
+halted_at (Event.MakeClean) old new is h = absurd is
+halted_at (Event.Remove k) old new is h = absurd is
+halted_at (Event.Add d left) old new is h = absurd is
+halted_at (Event.ReAdd own device left) old new is h = absurd is
+
+pub halts_marks : (old new : MirrorView) → metadata.HaltsAfter alone alone IsMarking old new → HaltsIdle old new
+halts_marks old new h = record {
+  halts = record { mid = h.mid; goes = marking_goes old h.mid h.goes; failing = h.failing; of = marking_of h.failing h.of; halts = h.halts };
+  halted = halted_at h.failing h.mid new h.of (h.halts none_in_flight);
+}

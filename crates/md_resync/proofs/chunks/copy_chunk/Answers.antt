@@ -1,0 +1,35 @@
+use Rattle.std.proofs.Common.{◌∙◌, ◌+◌, refl, ap, arith}
+use Rattle.md_bitmap.specs.declared.chunks.Chunks.{Chunks}
+use Rattle.md_resync.proofs.CopiedChunks.{agrees_more, agrees_none, chunk_copied, part_left, range_of, stops_then}
+use Rattle.md_resync.proofs.chunks.copy_chunk.Goals as goal
+
+pub loop-sector-init : goal.loop-sector-init
+loop-sector-init g c = record { agrees = agrees_none c.range-start.result.0 c.args.mirror.now c.requires.sound; from = omega arith; long = refl }
+
+pub copy_run-requires-clause-room : goal.copy_run-requires-clause-room
+copy_run-requires-clause-room g c = let long = c.loop-sector.invariant.long in let room = c.requires.room in omega arith
+
+pub copy_run-requires-clause-sound : goal.copy_run-requires-clause-sound
+copy_run-requires-clause-sound g c = c.loop-sector.invariant.agrees.copies.goes.sound
+
+pub copy_run-requires-clause-part : goal.copy_run-requires-clause-part
+copy_run-requires-clause-part g c =
+    let end = c.range-start.ensures.end in
+    let size = ap (λ (x : Chunks). x.size) c.chunks.ensures in
+    part_left c.args.chunk c.range-start.result.0 c.range-start.result.1 c.args.mirror.now c.requires.sound (range_of c.args.chunk c.range-start.result.0 c.range-start.result.1 c.chunks.result c.args.mirror.now.array.chunks c.chunks.ensures c.range-start.ensures.sectors) c.loop-sector.sector c.loop-sector.mirror
+    c.loop-sector.invariant.agrees.copies.array c.requires.may c.loop-sector.invariant.from (omega arith)
+
+pub returns-in-Err : goal.returns-in-Err
+returns-in-Err g c = stops_then c.args.mirror.now c.loop-sector.mirror c.copy_run.new.mirror c.in-Err.fault c.loop-sector.invariant.agrees.copies c.in-Err.ensures
+
+pub loop-sector-preserved : goal.loop-sector-preserved
+loop-sector-preserved g c = record {
+  agrees = agrees_more c.range-start.result.0 c.loop-sector.sector (c.range-start.result.0 + c.range-start.result.1) c.in-Ok.next c.args.mirror.now c.loop-sector.mirror c.copy_run.new.mirror c.loop-sector.invariant.agrees c.in-Ok.ensures;
+  from = let from = c.loop-sector.invariant.from in let above = c.in-Ok.ensures.above in omega arith;
+  long = c.copy_run.auto.buffer ∙ c.loop-sector.invariant.long;
+}
+
+pub returns : goal.returns
+returns g c =
+    let past = c.loop-sector-test.false in
+    chunk_copied c.args.chunk c.range-start.result.0 c.range-start.result.1 c.args.mirror.now c.requires.sound (range_of c.args.chunk c.range-start.result.0 c.range-start.result.1 c.chunks.result c.args.mirror.now.array.chunks c.chunks.ensures c.range-start.ensures.sectors) c.loop-sector.sector c.loop-sector.mirror (omega arith) c.loop-sector.invariant.agrees

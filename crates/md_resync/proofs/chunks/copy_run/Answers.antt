@@ -1,0 +1,62 @@
+use Rattle.std.proofs.Common.{◌∙◌, length, ◌-◌, ◌*◌, ◌/◌, ◌≤◌, arith, sym}
+use Rattle.std.proofs.lemmas.List.{length-take-le}
+use Rattle.md_state.specs.ReadingData.{FailsToRead, ReadsData}
+use Rattle.md_array.proofs.General.Answered.{err_of, ok_of}
+use Rattle.md_resync.proofs.CopiedChunks.{copies_run, copies_unfree, fails_reading, run_read, stops_then}
+use Rattle.md_resync.proofs.CopiedRuns.{copies_read}
+use Rattle.md_resync.proofs.chunks.copy_run.Goals as goal
+
+pub returns-in_default : goal.returns-in_default
+returns-in_default g c = copies_unfree c.args.sector c.args.end c.args.mirror.now c.requires.sound c.requires.some c.in_default.ensures.source
+
+pub returns-then-is_err : goal.returns-then-is_err
+returns-then-is_err g c =
+    let old = c.args.mirror.now in
+    let new = c.read_data.new.self in
+    let next = c.end_of_run-next.result in
+    let run = c.end_of_run-next.ensures in
+    let low = c.min.ensures in
+    let to = run.to in
+    let within : next ≤ c.args.end = omega arith in
+    let from = c.in-Some.from in
+    let fails = err_of c.read_data.result (ReadsData from c.args.sector c.read_data.new.buf old new) (FailsToRead from old new) (sym c.if-is_err.true ∙ c.is_err.ensures.value) c.read_data.ensures.gives in
+    fails_reading c.args.chunk c.args.sector c.args.end next from old c.requires.sound c.requires.part run.from within run.source new fails
+
+pub copy_to_members-requires-clause-run : goal.copy_to_members-requires-clause-run
+copy_to_members-requires-clause-run g c =
+    let old = c.args.mirror.now in
+    let new = c.read_data.new.self in
+    let next = c.end_of_run-next.result in
+    let run = c.end_of_run-next.ensures in
+    let low = c.min.ensures in
+    let to = run.to in
+    let within : next ≤ c.args.end = omega arith in
+    let few : next - c.args.sector ≤ length c.args.buffer.now / 512 = omega arith in
+    let long = length-take-le (512 * (next - c.args.sector)) c.args.buffer.now (omega arith) in
+    let from = c.in-Some.from in
+    let reads = ok_of c.read_data.result (ReadsData from c.args.sector c.read_data.new.buf old new) (FailsToRead from old new) (sym c.if-is_err.false ∙ c.is_err.ensures.value) c.read_data.ensures.gives in
+    run_read c.args.chunk c.args.sector c.args.end next from old c.requires.sound c.requires.part run.from within run.source c.read_data.new.buf (c.read_data.auto.buf ∙ long) new reads
+
+pub returns-in-Ok : goal.returns-in-Ok
+returns-in-Ok g c =
+    let old = c.args.mirror.now in
+    let new = c.read_data.new.self in
+    let next = c.end_of_run-next.result in
+    let run = c.end_of_run-next.ensures in
+    let low = c.min.ensures in
+    let to = run.to in
+    let within : next ≤ c.args.end = omega arith in
+    let few : next - c.args.sector ≤ length c.args.buffer.now / 512 = omega arith in
+    let long = length-take-le (512 * (next - c.args.sector)) c.args.buffer.now (omega arith) in
+    let from = c.in-Some.from in
+    let reads = ok_of c.read_data.result (ReadsData from c.args.sector c.read_data.new.buf old new) (FailsToRead from old new) (sym c.if-is_err.false ∙ c.is_err.ensures.value) c.read_data.ensures.gives in
+    copies_run c.args.chunk c.args.sector c.args.end next from old c.requires.sound c.requires.part run.from within run.source c.read_data.new.buf (c.read_data.auto.buf ∙ long) new reads
+    c.copy_to_members.new.mirror c.in-Ok.ensures
+
+pub returns-in-Err : goal.returns-in-Err
+returns-in-Err g c =
+    let old = c.args.mirror.now in
+    let new = c.read_data.new.self in
+    let from = c.in-Some.from in
+    let reads = ok_of c.read_data.result (ReadsData from c.args.sector c.read_data.new.buf old new) (FailsToRead from old new) (sym c.if-is_err.false ∙ c.is_err.ensures.value) c.read_data.ensures.gives in
+    stops_then old new c.copy_to_members.new.mirror c.in-Err.fault (copies_read old new reads.rests c.requires.sound) c.in-Err.ensures

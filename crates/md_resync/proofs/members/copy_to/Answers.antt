@@ -1,0 +1,59 @@
+use Rattle.std.proofs.Common.{◌≡◌, ◌/◌, true, arith, subst}
+use Rattle.md_array.specs.CopyEvents.{IfCopyingFailed}
+use Rattle.md_array.specs.Events.{Happens}
+use Rattle.md_assembly.specs.States.{is_in_sync}
+use Rattle.md_model.specs.Events.{Event}
+use Rattle.md_state.specs.CopyingData.{RefusesCopy}
+use Rattle.md_state.specs.ReadingData.{HoldsData}
+use Rattle.md_metadata.proofs.StoredMembers.{told}
+use Rattle.md_resync.proofs.Bests.{member_at}
+use Rattle.md_resync.proofs.CopiedRuns.{gives_nothing, gives_to, halts_copying, loses_copying, run_is_copy}
+use Rattle.md_resync.proofs.members.copy_to.Goals as goal
+use Rattle.md_resync.proofs.members.copy_to.Goals.{then-k-from-via-then-k-from, then-k-from-via-else-k-from+then-not-is_in_sync}
+
+pub returns-then-k-from : goal.returns-then-k-from
+returns-then-k-from g c =
+    let old = c.args.mirror.now in
+    gives_nothing c.args.k c.args.sector c.args.bytes.now old c.requires.sound
+    (λ m in_sync. elim c.then-k-from.branch [
+      | then-k-from-via-then-k-from w ↦ subst (λ k. HoldsData old k c.args.sector c.args.bytes.now) (let same = w.if-k-from.true in omega arith) c.requires.run.holds
+      | then-k-from-via-else-k-from+then-not-is_in_sync w ↦
+          let state = told (λ x. x.state) old.array c.args.k m w.state.result w.state.ensures in_sync.member in
+          let yes = in_sync.in_sync in
+          let answer = w.is_in_sync.ensures in
+          let no = w.if-not-is_in_sync.true in
+          absurd cc
+    ])
+
+pub copy_data-requires-clause-copy : goal.copy_data-requires-clause-copy
+copy_data-requires-clause-copy g c =
+    let old = c.args.mirror.now in
+    let m = member_at old.array c.args.k c.requires.within in
+    let state = told (λ x. x.state) old.array c.args.k m.0 c.state.result c.state.ensures m.1 in
+    let answer = c.is_in_sync.ensures in
+    let yes = c.if-not-is_in_sync.false in
+    let in_sync : is_in_sync m.0.state ≡ true = cc in
+    run_is_copy c.args.from c.args.k c.args.sector c.args.bytes.now old c.requires.run m.0 (record { member = m.1; in_sync = in_sync })
+    (λ same. let no = c.if-k-from.false in omega arith)
+
+pub returns-in-Ok : goal.returns-in-Ok
+returns-in-Ok g c =
+    let e = c.in-Ok.ensures in
+    gives_to c.args.k c.args.sector c.args.bytes.now c.args.mirror.now c.copy_data.new.self c.requires.sound e.gives e.event
+
+pub returns-in-Err-MemberFailed : goal.returns-in-Err-MemberFailed
+returns-in-Err-MemberFailed g c =
+    let at = c.in-Err-MemberFailed in
+    let old = c.args.mirror.now in
+    let new = c.copy_data.new.self in
+    let chunk = c.args.sector / old.array.chunks.sectors in
+    loses_copying c.args.k chunk old new at.j (subst (RefusesCopy c.args.k chunk old new) at.field-0-is at.ensures.gives)
+    (subst (IfCopyingFailed (Happens old (Event.CopyFails c.args.k chunk) new)) at.field-0-is at.ensures.event) at.ensures.sound
+
+pub returns-in-Err-Halted : goal.returns-in-Err-Halted
+returns-in-Err-Halted g c =
+    let at = c.in-Err-Halted in
+    let old = c.args.mirror.now in
+    let new = c.copy_data.new.self in
+    let chunk = c.args.sector / old.array.chunks.sectors in
+    halts_copying c.args.k chunk old new c.requires.sound (subst (RefusesCopy c.args.k chunk old new) at.field-0-is at.ensures.gives) at.ensures.sound

@@ -1,0 +1,5 @@
+use Rattle.md_resync.specs.Copying.{GivesBelow}
+use Rattle.md_resync.proofs.members.copy_to_members.Given as goal
+
+abbrev pub invariant-loop-k : goal.invariant-loop-k
+invariant-loop-k g l = GivesBelow l.k l.sector l.bytes l.fn.mirror l.mirror

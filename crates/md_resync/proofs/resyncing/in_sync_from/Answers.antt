@@ -1,0 +1,31 @@
+use Rattle.std.proofs.Common.{◌≡◌, arith, inl, inr, subst}
+use Rattle.std.proofs.lemmas.Bool.{cases_lt}
+use Rattle.md_state.specs.Members.{IsInSync}
+use Rattle.md_metadata.proofs.StoredMembers.{told}
+use Rattle.md_resync.proofs.resyncing.in_sync_from.Goals as goal
+
+pub loop-k-init : goal.loop-k-init
+loop-k-init g c = record { none = λ j m from below is. absurd (omega arith) }
+
+pub loop-k-preserved : goal.loop-k-preserved
+loop-k-preserved g c =
+    let a = c.args.mirror.now.array in
+    record {
+      none = λ j m from below is. elim (cases_lt j c.loop-k.k) [
+        | inl low ↦ c.loop-k.invariant.none j m from low is
+        | inr high ↦
+            let here : j ≡ c.loop-k.k = omega arith in
+            let at = subst (λ i. IsInSync a i m) here is in
+            let state = told (λ x. x.state) a c.loop-k.k m c.state.result c.state.ensures at.member in
+            let yes = at.in_sync in
+            let answer = c.is_in_sync.ensures in
+            let out = c.if-is_in_sync.false in
+            absurd cc
+      ];
+    }
+
+pub returns-clause-first : goal.returns-clause-first
+returns-clause-first g c j m from below is =
+    let past = c.loop-k-test.false in
+    let count = c.members-k-end.ensures in
+    c.loop-k.invariant.none j m from (omega arith) is

@@ -1,0 +1,12 @@
+use Rattle.std.proofs.Common.{◌≡◌, false}
+use Rattle.md_resync.proofs.Agreeing.{agrees_alone, agrees_copied}
+use Rattle.md_resync.proofs.resyncing.make_agree.Goals as goal
+
+pub returns-then-not-has_two_in_sync : goal.returns-then-not-has_two_in_sync
+returns-then-not-has_two_in_sync g c =
+    let out = c.if-not-has_two_in_sync.true in
+    let none : c.has_two_in_sync.result ≡ false = cc in
+    agrees_alone c.args.mirror.now c.requires.may.idle c.requires.sound (c.has_two_in_sync.ensures none)
+
+pub returns-in-Ok : goal.returns-in-Ok
+returns-in-Ok g c = agrees_copied c.args.mirror.now c.copy_marked.new.mirror c.requires.may.idle c.in-Ok.ensures

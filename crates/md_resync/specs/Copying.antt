@@ -1,0 +1,146 @@
+-- Marked chunks are copied, run by run.
+use Rattle.std.specs.Prelude.{◌≡◌, ◌⊎◌, ℕ, ◌+◌, ◌*◌, ◌/◌, ◌<◌, ◌≤◌, true, List, length, Option}
+use Rattle.md_bitmap.specs.Marks.{is_set}
+use Rattle.md_model.specs.Events.{Event}
+use Rattle.md_state.specs.CopyingData.{IsSource, MayCopyChunk}
+use Rattle.md_state.specs.DeviceChanges.{AreSame}
+use Rattle.md_state.specs.DiskWrites.{AtDevice}
+use Rattle.md_state.specs.MakingClean.{IsIdle}
+use Rattle.md_state.specs.Members.{AllInSync, IsInSync}
+use Rattle.md_state.specs.ReadingData.{HoldsData}
+use Rattle.md_state.specs.Requests.{AreInFlight}
+use Rattle.md_state.specs.View.{ArrayView, MemberView, MirrorView}
+use Rattle.md_array.specs.Consistency.{IsConsistent}
+use Rattle.md_array.specs.InTurn.{AllOf, HaltsAt, Requests}
+use Rattle.md_array.specs.MarkingResynced.{AllAgreeAt, AllAgreeWhereMarked}
+use Rattle.md_laws.specs.ReadInTurn.{LeadsReading}
+use Rattle.md_metadata.specs.Going.{IsFaulty}
+use Rattle.md_metadata.specs.Storing.{HasAllMarks}
+use Rattle.md_resync.specs.declared.fault.ResyncFault.{ResyncFault}
+use Rattle.md_resync.specs.declared.fault.ResyncFault.TheVariants.{Halted, InFlight, MemberFailed, NoMemory, ReadFault}
+
+abbrev pub IsCopying : Event → Type 0
+IsCopying (Event.Copy from k s) = Unit {0}
+IsCopying (Event.CopyFails k c) = Unit {0}
+IsCopying e = ⊥
+
+-- Sectors were copied, one after another, and devices were read between them.
+pub record CopyingGoesOn (old new : MirrorView) : Type 0 where
+  pub events : List Event
+  pub steps : AllOf IsCopying events
+  pub leads : (previous : Option Event) (requests : Requests) → AreInFlight old.array requests → LeadsReading previous old requests events new requests
+  pub same : AreSame old.disks new.disks
+  pub sound : IsConsistent new
+
+-- and nothing changed that is kept in memory
+pub record Copies (old new : MirrorView) : Type 0 where
+  pub goes : CopyingGoesOn old new
+  pub array : new.array ≡ old.array
+
+-- ---- one run of sectors
+-- The sectors are of one chunk and have this source, which holds these bytes there.
+pub record IsRun (from sector : ℕ) (bytes : List ℕ) (v : MirrorView) : Type 0 where
+  pub chunk : ℕ
+  pub sectors : ℕ
+  pub some : 0 < sectors
+  pub long : length bytes ≡ 512 * sectors
+  pub may : MayCopyChunk chunk v.array
+  pub in_chunk : (s : ℕ) → sector ≤ s → s < sector + sectors → s / v.array.chunks.sectors ≡ chunk
+  pub inside : sector + sectors ≤ v.array.chunks.size
+  pub source : (s : ℕ) → sector ≤ s → s < sector + sectors → IsSource from s v.array
+  pub holds : HoldsData v from sector bytes
+
+-- the sector is none of those of the bytes
+abbrev pub IsBeside : ℕ → List ℕ → ℕ → Type 0
+IsBeside sector bytes s = (s < sector) ⊎ (512 * sector + length bytes ≤ 512 * s)
+
+-- Member k has the bytes, if it is in sync; who had them has them, and members that agreed in another sector agree there.
+pub record GivesTo (k sector : ℕ) (bytes : List ℕ) (old new : MirrorView) : Type 0 where
+  pub copies : Copies old new
+  pub given : (m : MemberView) → IsInSync new.array k m → HoldsData new k sector bytes
+  pub kept : (j : ℕ) → HoldsData old j sector bytes → HoldsData new j sector bytes
+  pub agree : (s : ℕ) → IsBeside sector bytes s → AllAgreeAt old s → AllAgreeAt new s
+
+-- so has each member in sync before this one
+pub record GivesBelow (k sector : ℕ) (bytes : List ℕ) (old new : MirrorView) : Type 0 where
+  pub copies : Copies old new
+  pub given : (j : ℕ) (m : MemberView) → j < k → IsInSync new.array j m → HoldsData new j sector bytes
+  pub kept : (j : ℕ) → HoldsData old j sector bytes → HoldsData new j sector bytes
+  pub agree : (s : ℕ) → IsBeside sector bytes s → AllAgreeAt old s → AllAgreeAt new s
+
+-- so has each
+pub record GivesAll (sector : ℕ) (bytes : List ℕ) (old new : MirrorView) : Type 0 where
+  pub copies : Copies old new
+  pub given : (j : ℕ) (m : MemberView) → IsInSync new.array j m → HoldsData new j sector bytes
+  pub agree : (s : ℕ) → IsBeside sector bytes s → AllAgreeAt old s → AllAgreeAt new s
+
+-- ---- chunks
+-- these sectors are of this chunk, which may be copied
+pub record IsPart (chunk sector end : ℕ) (a : ArrayView) : Type 0 where
+  pub may : MayCopyChunk chunk a
+  pub in_chunk : (s : ℕ) → sector ≤ s → s < end → s / a.chunks.sectors ≡ chunk
+  pub inside : end ≤ a.chunks.size
+
+-- Members in sync agree in these sectors, and wherever they agreed.
+pub record AgreesTo (sector next : ℕ) (old new : MirrorView) : Type 0 where
+  pub copies : Copies old new
+  pub agree : (s : ℕ) → sector ≤ s → s < next → AllAgreeAt new s
+  pub still : (s : ℕ) → AllAgreeAt old s → AllAgreeAt new s
+
+pub record CopiesRun (sector end next : ℕ) (old new : MirrorView) : Type 0 where
+  pub above : sector < next
+  pub within : next ≤ end
+  pub agrees : AgreesTo sector next old new
+
+-- in each sector of a chunk
+pub record CopiesChunk (chunk : ℕ) (old new : MirrorView) : Type 0 where
+  pub copies : Copies old new
+  pub agree : (s : ℕ) → s < old.array.chunks.size → s / old.array.chunks.sectors ≡ chunk → AllAgreeAt new s
+  pub still : (s : ℕ) → AllAgreeAt old s → AllAgreeAt new s
+
+-- so it is, if the chunk is marked
+pub record CopiesIfMarked (chunk : ℕ) (old new : MirrorView) : Type 0 where
+  pub copies : Copies old new
+  pub agree : is_set old.array.marks.bytes chunk ≡ true → (s : ℕ) → s < old.array.chunks.size → s / old.array.chunks.sectors ≡ chunk → AllAgreeAt new s
+  pub still : (s : ℕ) → AllAgreeAt old s → AllAgreeAt new s
+
+-- nothing is in flight, and each member in sync has the marks of memory stored
+pub record MayCopyMarked (a : ArrayView) : Type 0 where
+  pub idle : IsIdle a
+  pub stored : AllInSync a (HasAllMarks a.marks)
+
+pub record CopiesMarked (old new : MirrorView) : Type 0 where
+  pub copies : Copies old new
+  pub agree : AllAgreeWhereMarked new
+
+-- ---- why it does not come to its end
+-- member k, which is in sync, could not be read in a marked chunk
+pub record FailsReading (k chunk : ℕ) (old new : MirrorView) : Type 0 where
+  pub copies : Copies old new
+  pub marked : is_set old.array.marks.bytes chunk ≡ true
+  pub member : MemberView
+  pub in_sync : IsInSync old.array k member
+  pub failed : AtDevice k old.disks new.disks (λ d e. d.honest ≡ true → d.failures < e.failures)
+
+-- member k could not be written
+pub record LosesCopying (k : ℕ) (old new : MirrorView) : Type 0 where
+  pub goes : CopyingGoesOn old new
+  pub idle : IsIdle new.array
+  pub faulty : IsFaulty k new.array
+
+-- and can't be made faulty, so that the mirror is halted
+pub record HaltsCopying (old new : MirrorView) : Type 0 where
+  pub mid : MirrorView
+  pub goes : CopyingGoesOn old mid
+  pub failing : Event
+  pub of : IsCopying failing
+  pub halts : (requests : Requests) → HaltsAt mid requests failing new
+  pub sound : IsConsistent new
+  pub halted : new.array.halted ≡ true
+
+abbrev pub StopsCopying : MirrorView → MirrorView → ResyncFault → Type 0
+StopsCopying old new Halted = HaltsCopying old new
+StopsCopying old new (InFlight n) = ⊥
+StopsCopying old new NoMemory = ⊥
+StopsCopying old new (ReadFault k chunk) = FailsReading k chunk old new
+StopsCopying old new (MemberFailed k) = LosesCopying k old new

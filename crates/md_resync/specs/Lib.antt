@@ -1,0 +1,3 @@
+pub mod Sources
+pub mod Resyncing
+pub mod Copying

@@ -1,0 +1,196 @@
+-- A whole resync.
+use Rattle.std.specs.Prelude.{◌≡◌, ◌⊎◌, ℕ, ◌<◌, ◌≤◌, ◌/◌, true, false, List, length, Option}
+use Rattle.md_bitmap.specs.Marks.{is_set}
+use Rattle.md_model.specs.Content.{Content, HoldsBetween}
+use Rattle.md_model.specs.Events.{Event}
+use Rattle.md_state.specs.DeviceChanges.{AreSame}
+use Rattle.md_state.specs.DiskWrites.{AtDevice}
+use Rattle.md_state.specs.MakingClean.{HasInFlight, IsIdle}
+use Rattle.md_state.specs.Members.{AllInSync, IsInSync, IsMember, is_degraded}
+use Rattle.md_state.specs.Requests.{AreInFlight}
+use Rattle.md_state.specs.Trying.{Refuses, RefusesHalted}
+use Rattle.md_state.specs.View.{ArrayView, MemberView, MirrorView}
+use Rattle.md_array.specs.Consistency.{IsConsistent}
+use Rattle.md_array.specs.Events.{Happens}
+use Rattle.md_array.specs.InTurn.{AllOf, HaltsAt, Requests}
+use Rattle.md_array.specs.MarkingResynced.{AllAgreeAt, AllAgreeWhereMarked, MarksResynced}
+use Rattle.md_array.specs.Worlds.{AreHonest, geometry_of, world_of}
+use Rattle.md_laws.specs.ReadInTurn.{LeadsReading}
+use Rattle.md_metadata.specs.Going.{IsFaulty}
+use Rattle.md_metadata.specs.Storing.{HasAllMarks}
+use Rattle.md_resync.specs.declared.fault.ResyncFault.{ResyncFault}
+use Rattle.md_resync.specs.declared.fault.ResyncFault.TheVariants.{Halted, InFlight, MemberFailed, NoMemory, ReadFault}
+
+-- an event of a resync
+abbrev pub IsOfResync : Event → Type 0
+IsOfResync (Event.StoreMarks k b) = Unit {0}
+IsOfResync (Event.StoreMarksFails k b) = Unit {0}
+IsOfResync (Event.Copy from k s) = Unit {0}
+IsOfResync (Event.CopyFails k c) = Unit {0}
+IsOfResync Event.Resynced = Unit {0}
+IsOfResync Event.Unresynced = Unit {0}
+IsOfResync (Event.ClearIdle c) = Unit {0}
+IsOfResync e = ⊥
+
+-- Such events were done, one after another; devices were read between them.
+pub record GoesOn (old new : MirrorView) : Type 0 where
+  pub events : List Event
+  pub steps : AllOf IsOfResync events
+  pub leads : (previous : Option Event) (requests : Requests) → AreInFlight old.array requests → LeadsReading previous old requests events new requests
+
+-- member by member nothing but the stored marks changed
+pub record HasSameMembers (old new : ArrayView) : Type 0 where
+  pub as_many : length new.members ≡ length old.members
+  pub each : (k : ℕ) (m n : MemberView) → IsMember old k m → IsMember new k n → n ≡ record m { stored = n.stored }
+
+-- what the mirror keeps of the array after it
+pub record IsResynced (old new : ArrayView) : Type 0 where
+  pub members : HasSameMembers old new
+  pub array : new ≡ record old { members = new.members; marks = new.marks; resynced = true }
+  pub kept : is_degraded old ≡ true → new.marks ≡ old.marks
+  pub cleared : is_degraded old ≡ false → (c : ℕ) → is_set new.marks.bytes c ≡ false
+  pub stored : AllInSync new (HasAllMarks new.marks)
+
+-- A content that members in sync held before it turns into one that they hold after it: the same in each chunk that had no mark in
+-- memory, and throughout where the array was resynced.
+abbrev pub SettlesContent : MirrorView → MirrorView → Type 0
+SettlesContent old new =
+    AreHonest old.disks → (requests : Requests) → AreInFlight old.array requests → (a : Content) → HoldsBetween (geometry_of old.array) a (world_of old requests)
+    → (b : Content) × HoldsBetween (geometry_of old.array) b (world_of new requests)
+    × ((s : ℕ) → s < old.array.chunks.size → is_set old.array.marks.bytes (s / old.array.chunks.sectors) ≡ false → b s ≡ a s)
+    × (old.array.resynced ≡ true → (s : ℕ) → s < old.array.chunks.size → b s ≡ a s)
+
+pub record Resyncs (old new : MirrorView) : Type 0 where
+  pub goes : GoesOn old new
+  pub array : IsResynced old.array new.array
+  pub agree : (s : ℕ) → s < old.array.chunks.size → is_set old.array.marks.bytes (s / old.array.chunks.sectors) ≡ true → AllAgreeAt new s
+  pub content : SettlesContent old new
+
+-- it did not come to its end, and that is kept
+pub record Stops (old new : MirrorView) : Type 0 where
+  pub goes : GoesOn old new
+  pub unresynced : new.array.resynced ≡ false
+  pub running : new.array.halted ≡ false
+
+-- member k, which is in sync, could not be read in a marked chunk; marks are stored, and none is cleared
+pub record StopsReading (k chunk : ℕ) (old new : MirrorView) : Type 0 where
+  pub stops : Stops old new
+  pub members : HasSameMembers old.array new.array
+  pub marks : new.array.marks ≡ old.array.marks
+  pub stored : AllInSync new.array (HasAllMarks new.array.marks)
+  pub marked : is_set old.array.marks.bytes chunk ≡ true
+  pub member : MemberView
+  pub in_sync : IsInSync old.array k member
+  pub failed : AtDevice k old.disks new.disks (λ d e. d.honest ≡ true → d.failures < e.failures)
+
+-- a write to member k failed
+pub record LosesMember (k : ℕ) (old new : MirrorView) : Type 0 where
+  pub stops : Stops old new
+  pub faulty : IsFaulty k new.array
+
+-- After some events a write failed on a member that can't be made faulty, and the mirror is halted.
+pub record HaltsResync (old new : MirrorView) : Type 0 where
+  pub mid : MirrorView
+  pub goes : GoesOn old mid
+  pub failing : Event
+  pub of : IsOfResync failing
+  pub halts : (requests : Requests) → HaltsAt mid requests failing new
+
+-- no device was used
+pub record FindsNoMemory (old new : MirrorView) : Type 0 where
+  pub goes : GoesOn old new
+  pub marks : MarksResynced false old new
+
+abbrev pub RefusesResync : MirrorView → MirrorView → ResyncFault → Type 0
+RefusesResync old new Halted = RefusesHalted old new ⊎ HaltsResync old new
+RefusesResync old new (InFlight n) = Refuses old new (HasInFlight n old.array)
+RefusesResync old new NoMemory = FindsNoMemory old new
+RefusesResync old new (ReadFault k chunk) = StopsReading k chunk old new
+RefusesResync old new (MemberFailed k) = LosesMember k old new
+
+-- ---- before it is kept that the array is not resynced
+-- its events were done, and nothing is in flight
+pub record Advances (old new : MirrorView) : Type 0 where
+  pub goes : GoesOn old new
+  pub same : AreSame old.disks new.disks
+  pub idle : IsIdle new.array
+  pub sound : IsConsistent new
+
+pub record FailsToAgree (k chunk : ℕ) (old new : MirrorView) : Type 0 where
+  pub advances : Advances old new
+  pub members : HasSameMembers old.array new.array
+  pub marks : new.array.marks ≡ old.array.marks
+  pub stored : AllInSync new.array (HasAllMarks new.array.marks)
+  pub marked : is_set old.array.marks.bytes chunk ≡ true
+  pub member : MemberView
+  pub in_sync : IsInSync old.array k member
+  pub failed : AtDevice k old.disks new.disks (λ d e. d.honest ≡ true → d.failures < e.failures)
+
+pub record FailsToWrite (k : ℕ) (old new : MirrorView) : Type 0 where
+  pub advances : Advances old new
+  pub faulty : IsFaulty k new.array
+
+pub record HaltsIdle (old new : MirrorView) : Type 0 where
+  pub halts : HaltsResync old new
+  pub halted : new.array.halted ≡ true
+
+abbrev pub StopsIdle : MirrorView → MirrorView → ResyncFault → Type 0
+StopsIdle old new Halted = HaltsIdle old new
+StopsIdle old new (InFlight n) = ⊥
+StopsIdle old new NoMemory = new ≡ old
+StopsIdle old new (ReadFault k chunk) = FailsToAgree k chunk old new
+StopsIdle old new (MemberFailed k) = FailsToWrite k old new
+
+pub record Unresyncs (old new : MirrorView) : Type 0 where
+  pub marks : MarksResynced false old new
+  pub happens : Happens old Event.Unresynced new
+
+-- ---- its parts
+-- A content that members in sync held before it they hold after it.
+abbrev pub KeepsContent : MirrorView → MirrorView → Type 0
+KeepsContent old new =
+    AreHonest old.disks → (requests : Requests) → AreInFlight old.array requests → (a : Content) → HoldsBetween (geometry_of old.array) a (world_of old requests)
+    → HoldsBetween (geometry_of old.array) a (world_of new requests)
+
+-- The marks of memory are stored on each member in sync, and nothing else changed.
+pub record StoresMarks (old new : MirrorView) : Type 0 where
+  pub advances : Advances old new
+  pub members : HasSameMembers old.array new.array
+  pub array : new.array ≡ record old.array { members = new.array.members }
+  pub stored : AllInSync new.array (HasAllMarks new.array.marks)
+  pub agree : (s : ℕ) → s < old.array.chunks.size → AllAgreeAt old s → AllAgreeAt new s
+  pub content : KeepsContent old new
+
+abbrev pub StopsMarks : MirrorView → MirrorView → ResyncFault → Type 0
+StopsMarks old new Halted = HaltsIdle old new
+StopsMarks old new (InFlight n) = ⊥
+StopsMarks old new NoMemory = ⊥
+StopsMarks old new (ReadFault k chunk) = ⊥
+StopsMarks old new (MemberFailed k) = FailsToWrite k old new
+
+-- none of these members is in sync
+abbrev pub NoneInSync : ℕ → ℕ → ArrayView → Type 0
+NoneInSync start end a = (j : ℕ) (m : MemberView) → start ≤ j → j < end → IsInSync a j m → ⊥
+
+-- members in sync agree in marked chunks
+pub record Agrees (old new : MirrorView) : Type 0 where
+  pub advances : Advances old new
+  pub array : new.array ≡ old.array
+  pub agree : AllAgreeWhereMarked new
+  pub content : KeepsContent old new
+
+-- unless the array is degraded no chunk has a mark any more, stored or in memory
+pub record ClearsStored (old new : MirrorView) : Type 0 where
+  pub advances : Advances old new
+  pub members : HasSameMembers old.array new.array
+  pub array : new.array ≡ record old.array { members = new.array.members; marks = new.array.marks }
+  pub kept : is_degraded old.array ≡ true → new.array.marks ≡ old.array.marks
+  pub cleared : is_degraded old.array ≡ false → (c : ℕ) → is_set new.array.marks.bytes c ≡ false
+  pub stored : AllInSync new.array (HasAllMarks new.array.marks)
+  pub agree : (s : ℕ) → s < old.array.chunks.size → AllAgreeAt old s → AllAgreeAt new s
+  pub content : KeepsContent old new
+
+-- unless the mirror is halted it is kept that the array is not resynced
+pub record GivesUp (old new : MirrorView) : Type 0 where
+  pub halted : old.array.halted ≡ true → new ≡ old
+  pub running : old.array.halted ≡ false → Unresyncs old new

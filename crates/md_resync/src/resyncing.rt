@@ -1,0 +1,59 @@
+// Making members agree where they may differ.
+ghost use Rattle.std.specs.Prelude.{◌≡◌, ◌<◌, ◌≤◌, IfSome, MatchOption, MatchResult, false, length};
+ghost use Rattle.md_state.specs.Members.{IsAlone};
+ghost use Rattle.md_array.specs.Consistency.{IsConsistent};
+ghost use Rattle.md_resync.specs.Copying.{MayCopyMarked, StopsCopying};
+ghost use Rattle.md_resync.specs.Resyncing.{Agrees, NoneInSync};
+
+use crate::chunks::copy_marked;
+use crate::fault::ResyncFault;
+use md_array::Mirror;
+use md_device::Device;
+
+/// Makes members in sync agree in each marked chunk, through a buffer of at least one sector. Each sector goes from the
+/// member of the lowest role that does not list it to the other members in sync. With one member in sync nothing is
+/// read. The first failure ends it.
+pub fn make_agree<D: Device + Drop>(
+    mirror: &mut Mirror<D>,
+    buffer: &mut [u8],
+) -> Result<(), ResyncFault>
+    requires room { 512 ≤ length buffer.old }
+    requires sound { IsConsistent mirror.old }
+    requires may { MayCopyMarked mirror.old.array }
+    ensures { MatchResult result (λ _. Agrees mirror.old mirror.new) (StopsCopying mirror.old mirror.new) }
+{
+    if !has_two_in_sync(mirror) {
+        return Ok(());
+    }
+    match copy_marked(mirror, buffer) {
+        Ok(()) => Ok(()),
+        Err(fault) => Err(fault),
+    }
+}
+
+// Whether more than one member is in sync: one alone is not read.
+fn has_two_in_sync<D: Device + Drop>(mirror: &Mirror<D>) -> bool
+    requires sound { IsConsistent mirror.now }
+    ensures { result ≡ false → IsAlone mirror.now.array }
+{
+    let Some(first) = in_sync_from(mirror, 0) else {
+        return false;
+    };
+    match in_sync_from(mirror, first + 1) {
+        Some(_) => true,
+        None => false,
+    }
+}
+
+// The first member in sync of those from this index on.
+fn in_sync_from<D: Device + Drop>(mirror: &Mirror<D>, start: usize) -> Option<usize>
+    ensures within { IfSome result (λ first. first < length mirror.now.array.members) }
+    ensures first { MatchOption result (NoneInSync start (length mirror.now.array.members) mirror.now.array) (λ first. NoneInSync start first mirror.now.array) }
+{
+    for k in start..mirror.members() {
+        if mirror.state(k).is_in_sync() {
+            return Some(k);
+        }
+    }
+    None
+}
