@@ -44,11 +44,16 @@ def names_of(fault, found):
     return names
 
 
+# Faults of calls that no command gives: in an array that was just opened no request is in flight.
+OF_REQUESTS_IN_FLIGHT = {"InFlight #", "NumbersSpent", "Overlaps #"}
+
+
 def declared():
-    """The names of all faults, each with the variants that it is made of."""
+    """The names of all faults that a command may be refused for, each with the variants that it is made of."""
     names = names_of("CommandFault", enums())
     # Wherever memory runs out, the command answers `NoMemory' alone.
-    return {"NoMemory" if name.endswith(" NoMemory") else name: path for name, path in names.items()}
+    found = {"NoMemory" if name.endswith(" NoMemory") else name: path for name, path in names.items()}
+    return {name: path for name, path in found.items() if name not in OF_REQUESTS_IN_FLIGHT}
 
 
 def advice():

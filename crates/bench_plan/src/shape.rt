@@ -1,4 +1,5 @@
 // The tables that are timed, by the masks of their chunks.
+ghost use Rattle.std.specs.Prelude.{◌<◌};
 
 /// What the masks of a table are like.
 #[derive(Clone, Copy, Debug, PartialEq, Eq)]
@@ -21,10 +22,12 @@ pub(crate) enum Shape {
     Ladder,
     /// A source that falls, and random ones below it: in this order the chunks take what later ones need.
     Falling,
+    /// The same masks in another order: the highest source falls with each chunk, and begins anew after 32.
+    FallMix,
 }
 
 /// Every shape with its name.
-pub(crate) const NAMED: [(&str, Shape); 9] = [
+pub(crate) const NAMED: [(&str, Shape); 10] = [
     ("all", Shape::All),
     ("skewed", Shape::Skewed),
     ("chain", Shape::Chain),
@@ -34,6 +37,7 @@ pub(crate) const NAMED: [(&str, Shape); 9] = [
     ("random", Shape::Random),
     ("ladder", Shape::Ladder),
     ("falling", Shape::Falling),
+    ("fallmix", Shape::FallMix),
 ];
 
 /// The mask of a chunk of a table of so many chunks, by a random number.
@@ -56,11 +60,16 @@ pub(crate) fn mask_of(shape: Shape, chunk: u32, chunks: u32, random: u32) -> u32
             let low = chunk % 16;
             (1u32 << low) | ((random >> (16 + low)) << 16)
         }
-        Shape::Falling => {
-            let high = 31 - (chunk / (chunks / 32 + 1)) % 32;
-            (1u32 << high) | (random & ((1u32 << high).wrapping_sub(1)))
-        }
+        Shape::Falling => below_or_at(31 - (chunk / (chunks / 32 + 1)) % 32, random),
+        Shape::FallMix => below_or_at(31 - chunk % 32, random),
     }
+}
+
+// A source, and random ones below it.
+fn below_or_at(high: u32, random: u32) -> u32
+    requires { high < 32 }
+{
+    (1u32 << high) | (random & ((1u32 << high).wrapping_sub(1)))
 }
 
 /// The next state of a plain generator of numbers (xorshift).

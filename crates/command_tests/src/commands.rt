@@ -1,45 +1,47 @@
 // One run of the program over images in memory.
-use md_cli::{MemImages, Messages, run};
-use md_device::{Device, MemDevice};
-use md_examine::Output;
+use crate::checks::{holds, reads};
+use example_members::{image, vault};
+use md_cli::{Messages, run};
+use md_commands::Input;
+use md_device::{FaultDevice, MemDevice};
+use md_examine::Sink;
+use md_images::MemImages;
 use std::alloc::Global;
+use std::process::Abort;
 use std::test::Fail;
 
-// The status, and what was written to the output and to the errors.
-#[derive(Drop)]
-pub(crate) struct Answer {
-    pub(crate) status: u8,
-    pub(crate) out: Vec<u8>,
-    pub(crate) err: Vec<u8>,
+pub(crate) type HeldImages = MemImages<FaultDevice<MemDevice>>;
+
+// The vault's member, on a device whose reads of these sectors fail.
+pub(crate) fn member(alloc: Global, bad: &[u64]) -> Result<FaultDevice<MemDevice>, Fail> {
+    let bad = Vec::from_slice(alloc, bad)?;
+    let device = image(alloc, &vault())?;
+    Ok(FaultDevice::new(device, bad, 1, 0, false))
 }
 
-pub(crate) fn run_words<'a, D: Device + Drop + Send>(
+// A run that is refused with these words on the errors.
+pub(crate) fn is_refused<'a, S: Sink>(
+    rt: &impl Abort,
     alloc: Global,
     words: &'a [&'a str],
-    images: &mut MemImages<D>,
-) -> Result<Answer, Fail> {
-    run_told(alloc, words, images, Messages::Plain)
-}
-
-pub(crate) fn run_told<'a, D: Device + Drop + Send>(
-    alloc: Global,
-    words: &'a [&'a str],
-    images: &mut MemImages<D>,
+    images: &mut HeldImages,
+    out: &mut S,
     messages: Messages,
-) -> Result<Answer, Fail> {
-    let mut out = Output::new(vec![in alloc]?);
+    said: &str,
+) -> Result<(), Fail> {
     let mut err: Vec<u8> = vec![in alloc]?;
-    let status = run(alloc, words, images, &mut out, &mut err, messages);
-    Ok(Answer {
-        status,
-        out: out.into_inner(),
-        err,
-    })
+    let mut input = Input::new([].as_slice());
+    let status = run(alloc, words, images, &mut input, out, &mut err, messages);
+    holds(rt, "the status", status == 1);
+    reads(rt, "the errors", &err, said);
+    drop(err);
+    Ok(())
 }
 
-// Whether the device under a name has the same bytes as another.
-pub(crate) fn is_kept(images: &MemImages<MemDevice>, name: &str, same: &MemDevice) -> bool {
-    images
-        .device(name)
-        .is_some_and(|device| device.bytes() == same.bytes())
+// The device has the bytes of the vault's member.
+pub(crate) fn is_kept(rt: &impl Abort, alloc: Global, device: &MemDevice) -> Result<(), Fail> {
+    let before = image(alloc, &vault())?;
+    holds(rt, "the image is kept", device.bytes() == before.bytes());
+    drop(before);
+    Ok(())
 }

@@ -1,18 +1,12 @@
-//! Tests of the commands and their reports, over images in memory.
+//! Tests of commands on images in memory that fail or are protected, of reports, and of where these go.
 #![tactic(auto)]
 
 #[cfg(test)]
-mod bitmap_and_log_reports;
+mod checks;
 #[cfg(test)]
 mod commands;
 #[cfg(test)]
-mod commands_on_arrays;
-#[cfg(test)]
-mod examine_report;
-#[cfg(test)]
-mod fault_texts;
-#[cfg(test)]
-mod plan_command;
+mod faults_in_memory;
 #[cfg(test)]
 mod plan_reports;
 #[cfg(test)]

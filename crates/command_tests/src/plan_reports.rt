@@ -1,8 +1,10 @@
 // The report of a plan.
+use crate::checks::reads;
 use md_cert::{Certificate, ChunkList, Plan, Slot, Slots};
 use md_examine::Output;
 use md_report::plan_report;
 use std::alloc::{AllocError, Global};
+use std::process::Abort;
 use std::test::Fail;
 
 const ONE_ROUND: &str = "\
@@ -43,28 +45,39 @@ fn slot(chunk: u32, source: u8) -> Slot {
     }
 }
 
+fn reports(
+    rt: &impl Abort,
+    alloc: Global,
+    plan: &Plan,
+    certificate: &Certificate,
+    orphans: &[u32],
+    text: &str,
+) -> Result<(), Fail> {
+    let mut out = Output::new(vec![in alloc]?);
+    plan_report(&mut out, plan, certificate, orphans)?;
+    let shown: Vec<u8> = out.into_inner();
+    reads(rt, "the report", &shown, text);
+    Ok(())
+}
+
 #[test]
 fn a_plan_with_its_certificate(rt: HostRuntime) -> Result<(), Fail> {
     let alloc = rt.alloc();
     let crosswise = plan(alloc, &[slot(0, 1), slot(1, 0)], 1)?;
-    let mut out = Output::new(vec![in alloc]?);
-    plan_report(&mut out, &crosswise, &certificate(alloc, &[1])?, &[])?;
-    let text: Vec<u8> = out.into_inner();
-    assert_eq!(rt; text.as_slice(), ONE_ROUND.as_bytes());
-    Ok(())
+    let certificate = certificate(alloc, &[1])?;
+    let reported = reports(&rt, alloc, &crosswise, &certificate, &[], ONE_ROUND);
+    drop(crosswise);
+    drop(certificate);
+    reported
 }
 
 #[test]
 fn orphans_alone(rt: HostRuntime) -> Result<(), Fail> {
     let alloc = rt.alloc();
-    let mut out = Output::new(vec![in alloc]?);
-    plan_report(
-        &mut out,
-        &plan(alloc, &[], 0)?,
-        &certificate(alloc, &[])?,
-        &[3, 1048575],
-    )?;
-    let text: Vec<u8> = out.into_inner();
-    assert_eq!(rt; text.as_slice(), NO_ROUNDS.as_bytes());
-    Ok(())
+    let empty = plan(alloc, &[], 0)?;
+    let certificate = certificate(alloc, &[])?;
+    let reported = reports(&rt, alloc, &empty, &certificate, &[3, 1048575], NO_ROUNDS);
+    drop(empty);
+    drop(certificate);
+    reported
 }

@@ -12,5 +12,7 @@ pub mod ReadingData
 pub mod Replaced
 -- A mirror whose devices were only read is consistent as before.
 pub mod Resting
+-- A list with one element taken out.
+pub mod TakenOut
 -- Tests that come out one way.
 pub mod Tests

@@ -29,6 +29,10 @@ pub mod MadeClean
 pub mod MarkSectors
 -- A write of a sector of marks fails: that is the model's event, whatever it left of the sector.
 pub mod MarksFailed
+-- A member that is failed by a call is the model's failed one, and the mirror stays consistent.
+pub mod MemberFailed
+-- A member that is removed leaves the model's world with its device.
+pub mod MemberRemoved
 -- A write goes to one device of a mirror, and its member is changed in memory: what stays of the mirror, and its world.
 pub mod OneMember
 -- One write to the device of a member.

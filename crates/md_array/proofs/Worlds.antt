@@ -6,6 +6,8 @@ pub mod Bad
 pub mod CopyFailed
 -- The device of a member, before and after the opening.
 pub mod Device
+-- The entry of a member without a role becomes that of a failed device, in the array and in its world.
+pub mod EntryDropped
 -- A member that failed by a write is the model's failed one, whatever the write left of its device.
 pub mod Failed
 -- The members in sync of an array are those of its world.
@@ -38,6 +40,8 @@ pub mod Shown
 pub mod States
 -- A superblock that was read is the one that the world shows.
 pub mod Supers
+-- A member that is not in sync is taken out of an array, with its device, and out of its world.
+pub mod TakenOut
 -- A member becomes faulty in the array as it does in its world.
 pub mod Without
 -- What stands in a bitmap's area once its sectors are written.

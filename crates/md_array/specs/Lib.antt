@@ -24,3 +24,5 @@ pub mod MarkingResynced
 pub mod InTurn
 -- A copy of a run of sectors is the model's events, one a sector.
 pub mod CopyEvents
+-- Members that are failed by a call, or leave, as events of the model.
+pub mod MemberEvents

@@ -4,15 +4,18 @@
 mod beginning;
 mod clearing_marks;
 mod copying_data;
+mod failing_members;
 mod fault;
 mod finishing;
 mod making_clean;
 mod marking_resynced;
 mod mirror;
+mod missing;
 mod opening;
 mod reading;
 mod reading_data;
 mod recording;
+mod removing;
 mod stored_marks;
 mod stored_sectors;
 mod storing;
@@ -21,7 +24,7 @@ mod writing_member;
 
 pub use fault::OpenFault;
 pub use md_state::{
-    BeginFault, CleanFault, ClearFault, CopyFault, FinishFault, Pending, StoreFault,
-    WriteMemberFault,
+    BeginFault, CleanFault, ClearFault, CopyFault, FailFault, FinishFault, Pending, RemoveFault,
+    StoreFault, WriteMemberFault,
 };
 pub use mirror::Mirror;

@@ -10,8 +10,8 @@ use Rattle.md_create.specs.declared.params.CreateParams.{CreateParams}
 use Rattle.md_create.specs.declared.params.NewMember.{NewMember}
 use Rattle.md_state.specs.View.{Disk}
 use Rattle.md_cli.specs.Creating.{first_size, sectors_on, sizes_of}
-use Rattle.md_cli.specs.Taking.{Word, image_list, is_missing}
-use Rattle.md_cli.proofs.Listed.{is_image, word_at}
+use Rattle.md_images.specs.Taking.{Word, image_list, is_missing}
+use Rattle.md_images.proofs.Listed.{is_image, word_at}
 
 -- how many of the words name images
 abbrev present : List Text → ℕ

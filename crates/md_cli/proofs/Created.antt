@@ -11,7 +11,7 @@ use Rattle.md_create.specs.declared.params.CreateParams.{CreateParams}
 use Rattle.md_create.specs.declared.params.NewMember.{NewMember}
 use Rattle.md_state.specs.View.{Disk}
 use Rattle.md_cli.specs.Creating.{AreLaidOut, AreNewMembers, At, sizes_of}
-use Rattle.md_cli.specs.Taking.{image_list}
+use Rattle.md_images.specs.Taking.{image_list}
 use Rattle.md_cli.proofs.Counted.{has_room, member_count}
 use Rattle.md_cli.proofs.Sizes.{all_dropped}
 

@@ -2,14 +2,15 @@
 use Rattle.std.proofs.Common.{◌≡◌, ◌∙◌, Bool, true, ℕ, List, [], Option, Some, None, Result, Ok, Err, IfOk, MatchResult, sym, subst, inr}
 use Rattle.std.specs.Io.KnownBytes.{Appends}
 use Rattle.std.proofs.lemmas.List.{append-nil}
+use Rattle.md_examine.specs.declared.sink.Sink.{Ghosts}
 use Rattle.md_examine.specs.Sink.{Flushes, Puts}
+use Rattle.md_state.specs.View.{ArrayView}
 use Rattle.md_cli.specs.declared.fault.CommandFault.{CommandFault}
 use Rattle.md_cli.specs.declared.fault.CommandFault.TheVariants.{OutputFault}
-use Rattle.md_cli.specs.declared.report.Report.{Report}
-use Rattle.md_state.specs.View.{ArrayView}
-use Rattle.md_cli.specs.declared.array_report.ArrayReport.{ArrayReport}
-use Rattle.md_cli.specs.Arrays.{IsArrayText, WritesReport}
+use Rattle.md_words.specs.declared.report.Report.{Report}
 use Rattle.md_cli.specs.Examining.{Examines, RefusesOrFails, ShownBy}
+use Rattle.md_cli.specs.RebuildPlans.{IsPlanText}
+use Rattle.md_cli.specs.Reports.{ShowsPlan}
 use Rattle.md_cli.specs.Running.{status_of}
 
 appends_none : (a b c : Option (List ℕ)) (text : List ℕ) → Appends a b text → Appends b c [] → Appends a c text
@@ -26,10 +27,6 @@ module _ {S : Type 0} (contents : S → Option (List ℕ)) (failed : S → Bool)
   put_all : Puts contents failed a b text → Puts contents failed b c [] → Puts contents failed a c text
   put_all p q = record { appends = appends_none (contents a) (contents b) (contents c) text p.appends q.appends; well = q.well ∙ p.well }
 
-  pub written : (report : ArrayReport) (array : ArrayView) (result : Result (Unit {0}) CommandFault) → IsArrayText report array text → Puts contents failed a b text → PassesOn result → WritesReport contents failed report array a c result
-  written report array (Ok v) is p q = (text, is, put_all p q.puts)
-  written report array (Err f) is p q = inr q
-
   pub examined : (report : Report) (content : List ℕ) (honest : Bool) (Failed : Type 0) (result : Result (Unit {0}) CommandFault) → ShownBy report content honest text → Puts contents failed a b text → PassesOn result → Examines report contents failed a c content honest Failed result
   examined report content honest Failed (Ok v) shown p q = (text, shown, put_all p q.puts)
   examined report content honest Failed (Err f) shown p q = subst (λ (e : CommandFault). RefusesOrFails report failed a c content honest Failed e) (sym q.0) (q.1, text, shown)
@@ -37,6 +34,13 @@ module _ {S : Type 0} (contents : S → Option (List ℕ)) (failed : S → Bool)
   pub flushed_at : (result : Result (Unit {0}) CommandFault) → PassesOn result → IfOk result (λ _. flushed c)
   flushed_at (Ok v) q = q.flushed
   flushed_at (Err f) q = tt
+
+-- a plan of a rebuild that was put out
+module _ {S : Type 0} (s : Ghosts S) (a b c : S) (text : List ℕ) where
+  pub plan_shown : (array : ArrayView) (k : ℕ) (result : Result (Unit {0}) CommandFault) → IsPlanText array k text → Puts s.contents s.failed a b text
+      → PassesOn s.contents s.failed s.is_flushed a b c text result → ShowsPlan s array k a c result
+  plan_shown array k (Ok v) is p q = (text, is, put_all s.contents s.failed s.is_flushed a b c text p q.puts)
+  plan_shown array k (Err f) is p q = inr q
 
 -- a command that is done answers 0
 pub when_done : {P : Type 0} (result : Result (Unit {0}) CommandFault) (status : ℕ) → status ≡ status_of result → status ≡ 0 → IfOk result (λ _. P) → P

@@ -8,8 +8,8 @@ use Rattle.std.proofs.lemmas.Nat.{div-mul-add}
 use Rattle.clap.specs.Words.{Text}
 use Rattle.md_state.specs.View.{Disk, disk_of}
 use Rattle.md_cli.specs.Creating.{first_size, sizes_of}
-use Rattle.md_cli.specs.Taking.{is_missing}
-use Rattle.md_cli.proofs.Listed.{text_at, no_text}
+use Rattle.md_images.specs.Taking.{is_missing}
+use Rattle.md_images.proofs.Listed.{text_at, no_text}
 
 -- what the first word adds
 sizes_step : (word : Text) (words : List Text) (disks : List Disk) → sizes_of (word ∷ words) disks ≡ cond (is_missing true word) (None ∷ sizes_of words disks) (first_size disks ∷ sizes_of words (drop 1 disks))

@@ -8,7 +8,7 @@ use Rattle.md_array.specs.declared.fault.OpenFault.{OpenFault}
 use Rattle.md_array.specs.declared.fault.OpenFault.TheVariants as opening
 use Rattle.md_cli.specs.declared.fault.CommandFault.{CommandFault}
 use Rattle.md_cli.specs.Arrays.{UsesImages, Work, disks}
-use Rattle.md_cli.specs.Taking.{AreOut, ArePut, TakesImages, Word, names_of}
+use Rattle.md_images.specs.Taking.{AreOut, ArePut, TakesImages, Word, names_of}
 
 module _ {D : Type 0} where
   together : (before mid after : Text → Option D) (names : List Text) (n : ℕ) (taken given : List D) → AreOut before mid names n taken → ArePut mid after names n given → ArePut before after names n given

@@ -9,11 +9,11 @@ use Rattle.md_create.specs.declared.params.CreateParams.{CreateParams}
 use Rattle.md_create.specs.declared.params.NewMember.{NewMember}
 use Rattle.md_create.specs.declared.fault.CreateFault.TheVariants.{BadGeometry, NoMemory}
 use Rattle.md_state.specs.View.{Disk, of_disks}
-use Rattle.md_cli.specs.declared.array_report.ArrayReport.TheVariants.{Summary}
+use Rattle.md_examine.specs.declared.sink.Sink.{Ghosts}
 use Rattle.md_cli.specs.declared.fault.CommandFault.{CommandFault}
 use Rattle.md_cli.specs.declared.fault.CommandFault.TheVariants as fault
-use Rattle.md_cli.specs.Arrays.{OpensDevices}
-use Rattle.md_cli.specs.Taking.{image_list, is_missing}
+use Rattle.md_cli.specs.Arrays.{ShowsDevices}
+use Rattle.md_images.specs.Taking.{image_list, is_missing}
 
 -- the sectors of a device
 abbrev pub sectors_on : Disk → ℕ
@@ -56,7 +56,7 @@ pub record AreNewMembers (params : CreateParams) (words : List Text) (disks : Li
   pub are : AreMembers params (sizes_of words disks) size members
   pub as_many : length members ≡ length disks
 
-module _ {S : Type 0} (contents : S → Option (List ℕ)) (failed : S → Bool) (params : CreateParams) (words : List Text) where
+module _ {S : Type 0} (s : Ghosts S) (params : CreateParams) (words : List Text) where
   -- Before the first write: the devices make no array, or there is no memory.
   abbrev pub IsRefusal : List Disk → CommandFault → Type 0
   IsRefusal disks (fault.Create BadGeometry) = (size : ℕ) → IsGeometry params (sizes_of words disks) size → ⊥
@@ -88,7 +88,7 @@ module _ {S : Type 0} (contents : S → Option (List ℕ)) (failed : S → Bool)
     pub made : AreNewMembers params words before members
     pub middle : List Disk
     pub laid_out : AreLaidOut before middle members (length before)
-    pub opened : OpensDevices contents failed Summary middle after old new result
+    pub opened : ShowsDevices s middle after old new result
 
   abbrev pub CreatesOn : List Disk → List Disk → S → S → Result (Unit {0}) CommandFault → Type 0
   CreatesOn before after old new result =

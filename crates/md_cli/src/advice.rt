@@ -1,11 +1,15 @@
 // What to do about a fault. The texts are those of docs/FAULTS.md, which a test compares with them.
 use crate::fault::CommandFault;
 use crate::option_fault::OptionFault;
-use md_array::OpenFault;
+use md_array::{BeginFault, OpenFault};
 use md_assembly::AssembleFault;
+use md_commands::DataFault;
 use md_copy::RebuildFault;
 use md_create::CreateFault;
 use md_members::MemberFault;
+use md_metadata::StopFault;
+use md_read::UnreadFault;
+use md_resync::ResyncFault;
 use md_super::SuperFault;
 
 /// What to do about a command that is refused. Of an image that can't be opened the fault's own words
@@ -33,9 +37,8 @@ pub(crate) fn advice(fault: &CommandFault) -> &'static str {
         CommandFault::Rebuild(RebuildFault::NotSpare) => {
             "`detail` shows the state of each member: a recovering one can be rebuilt, and a spare where a role is free"
         }
-        CommandFault::OutputFault => {
-            "give it an output that takes the whole report, and drop what came so far"
-        }
+        CommandFault::Data(fault) => data_advice(*fault),
+        CommandFault::OutputFault => ANOTHER_OUTPUT,
         CommandFault::Create(CreateFault::NoMemory)
         | CommandFault::Open(OpenFault::NoMemory)
         | CommandFault::Rebuild(RebuildFault::NoMemory)
@@ -44,6 +47,79 @@ pub(crate) fn advice(fault: &CommandFault) -> &'static str {
 }
 
 const MORE_MEMORY: &str = "try again with more memory";
+
+const ANOTHER_OUTPUT: &str =
+    "give it an output that takes the whole report, and drop what came so far";
+
+const WITHIN_ARRAY: &str = "`detail` shows the size of the array; a sector has 512 bytes";
+
+const RESYNC_FIRST: &str = "run `resync` first";
+
+const SEE_DEVICE: &str =
+    "see why the device can't be written (`dmesg`, free space, write protection); run the command again";
+
+const TELL_OTHERS: &str =
+    "see why the device can't be written (`dmesg`, free space, write protection); run `stop` on the images, which tells the others";
+
+const NEW_ARRAY: &str = "make a new array, and copy the data to it";
+
+// Of faults that no command gives: no request is in flight in an array that was just opened.
+const AGAIN: &str = "run the command again";
+
+fn data_advice(fault: DataFault) -> &'static str {
+    match fault {
+        DataFault::InputFault => "see why its file or program fails; nothing was written",
+        DataFault::BadLength => "give it a multiple of 512 bytes",
+        DataFault::OutOfRange => WITHIN_ARRAY,
+        DataFault::Resync(fault) => resync_advice(fault),
+        DataFault::Read(fault) => read_advice(fault),
+        DataFault::Write(fault) => write_advice(fault),
+        DataFault::Stop(fault) => stop_advice(fault),
+        DataFault::NoMemory => MORE_MEMORY,
+        DataFault::OutputFault => ANOTHER_OUTPUT,
+    }
+}
+
+fn resync_advice(fault: ResyncFault) -> &'static str {
+    match fault {
+        ResyncFault::ReadFault(_, _) => {
+            "copy the disk with a tool that goes past bad sectors, and use the copy; or leave the image out"
+        }
+        ResyncFault::MemberFailed(_) => TELL_OTHERS,
+        ResyncFault::Halted => SEE_DEVICE,
+        ResyncFault::InFlight(_) => AGAIN,
+        ResyncFault::NoMemory => MORE_MEMORY,
+    }
+}
+
+fn read_advice(fault: UnreadFault) -> &'static str {
+    match fault {
+        UnreadFault::OutOfRange => WITHIN_ARRAY,
+        UnreadFault::NotResynced => RESYNC_FIRST,
+        UnreadFault::Unreadable(_) => "read the sectors before it and those after it",
+        UnreadFault::Halted => SEE_DEVICE,
+    }
+}
+
+fn write_advice(fault: BeginFault) -> &'static str {
+    match fault {
+        BeginFault::OutOfRange => WITHIN_ARRAY,
+        BeginFault::NotResynced => RESYNC_FIRST,
+        BeginFault::EventsFull => NEW_ARRAY,
+        BeginFault::Halted => SEE_DEVICE,
+        BeginFault::Overlaps(_) | BeginFault::NumbersSpent => AGAIN,
+        BeginFault::NoMemory => MORE_MEMORY,
+    }
+}
+
+fn stop_advice(fault: StopFault) -> &'static str {
+    match fault {
+        StopFault::EventsFull => NEW_ARRAY,
+        StopFault::MemberFailed(_) => TELL_OTHERS,
+        StopFault::Halted => SEE_DEVICE,
+        StopFault::InFlight(_) => AGAIN,
+    }
+}
 
 fn option_advice(fault: OptionFault) -> &'static str {
     match fault {

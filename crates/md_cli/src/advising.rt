@@ -1,11 +1,13 @@
 // The line for people after a fault.
 use crate::advice::advice;
 use crate::fault::CommandFault;
-use crate::image_refusal::ImageRefusal;
-use crate::image_word::is_missing;
 use md_array::OpenFault;
 use md_assembly::AssembleFault;
+use md_commands::DataFault;
 use md_device::ImageFault;
+use md_images::{ImageRefusal, is_missing};
+use md_metadata::StopFault;
+use md_resync::ResyncFault;
 use std::io::Write;
 
 // The image that a fault is about.
@@ -23,6 +25,7 @@ fn culprit_of(fault: &CommandFault) -> Option<Culprit> {
         CommandFault::MetadataFault(word) => Some(Culprit::Word(*word)),
         CommandFault::Member(_) | CommandFault::NoBitmap => Some(Culprit::Word(0)),
         CommandFault::Open(fault) => culprit_of_opening(*fault),
+        CommandFault::Data(fault) => culprit_of_data(*fault),
         _ => None,
     }
 }
@@ -37,6 +40,15 @@ fn culprit_of_opening(fault: OpenFault) -> Option<Culprit> {
         }
         OpenFault::Assemble(AssembleFault::NoBitmap(device)) => Some(Culprit::Device(device)),
         OpenFault::Assemble(AssembleFault::Geometry(device)) => Some(Culprit::Device(device)),
+        _ => None,
+    }
+}
+
+fn culprit_of_data(fault: DataFault) -> Option<Culprit> {
+    match fault {
+        DataFault::Resync(ResyncFault::ReadFault(device, _)) => Some(Culprit::Device(device)),
+        DataFault::Resync(ResyncFault::MemberFailed(device)) => Some(Culprit::Device(device)),
+        DataFault::Stop(StopFault::MemberFailed(device)) => Some(Culprit::Device(device)),
         _ => None,
     }
 }

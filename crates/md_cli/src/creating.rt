@@ -3,20 +3,17 @@ ghost use Rattle.std.specs.Prelude.{◌≡◌, ℕ, IfOk, length, map, true};
 ghost use Rattle.md_state.specs.View.{disk_of};
 ghost use Rattle.md_cli.specs.Arrays.{UsesImages};
 ghost use Rattle.md_cli.specs.Creating.{CreatesOn};
-ghost use Rattle.md_cli.specs.Images.{allows};
-ghost use Rattle.md_cli.specs.Taking.{image_list, word_of};
+ghost use Rattle.md_images.specs.Images.{allows};
+ghost use Rattle.md_images.specs.Taking.{image_list, word_of};
 
-use crate::array_report::ArrayReport;
-use crate::arrays::show_devices;
 use crate::fault::CommandFault;
-use crate::image_word::{ImageWord, image_list};
-use crate::images::Images;
 use crate::laying_out::lay_out_each;
+use crate::showing::show_devices;
 use crate::sizing::sizes_of;
-use crate::taking::{put_back, take_images};
 use md_create::{CreateParams, create};
 use md_device::{Access, Device};
 use md_examine::Sink;
+use md_images::{ImageWord, Images, image_list, put_back, take_images};
 use std::alloc::Global;
 
 // Makes an array of the devices, opens it and shows it in a line. The devices come back in their
@@ -32,7 +29,7 @@ fn create_on<D: Device + Drop, S: Sink>(
     requires words { map word_of words.now ≡ image_list true (map (λ s. s.now) names.now) }
     requires as_many { length devices.items ≡ length words.now }
     ensures as_many { length result.0.items ≡ length devices.items }
-    ensures gives { CreatesOn S.contents S.failed params.now (map (λ s. s.now) names.now) (map (disk_of D.Device) devices.items) (map (disk_of D.Device) result.0.items) out.old out.new result.1 }
+    ensures gives { CreatesOn S.Sink params.now (map (λ s. s.now) names.now) (map (disk_of D.Device) devices.items) (map (disk_of D.Device) result.0.items) out.old out.new result.1 }
     ensures flushed { IfOk result.1 (λ _. S.is_flushed out.new) }
 {
     let Ok(sizes) = sizes_of(alloc, names, devices.as_slice()) else {
@@ -49,7 +46,7 @@ fn create_on<D: Device + Drop, S: Sink>(
             Err(CommandFault::MetadataFault(words[place].index)),
         );
     }
-    show_devices(alloc, ArrayReport::Summary, devices, out)
+    show_devices(alloc, devices, out)
 }
 
 /// Makes an array of the images, shows it in a line, and puts the images back.
@@ -60,7 +57,7 @@ pub(crate) fn create_images<I: Images, S: Sink>(
     names: &[&str],
     out: &mut S,
 ) -> Result<(), CommandFault>
-    ensures gives { UsesImages I.Dev.Device (CreatesOn S.contents S.failed params.now (map (λ s. s.now) names.now)) (images.new ≡ images.old) (I.known images.old) (λ n. allows Access.Change (I.changeable images.old n)) (I.device_at images.old) (I.device_at images.new) (image_list true (map (λ s. s.now) names.now)) out.old out.new result }
+    ensures gives { UsesImages I.Dev.Device (CreatesOn S.Sink params.now (map (λ s. s.now) names.now)) (images.new ≡ images.old) (I.known images.old) (λ n. allows Access.Change (I.changeable images.old n)) (I.device_at images.old) (I.device_at images.new) (image_list true (map (λ s. s.now) names.now)) out.old out.new result }
     ensures flushed { IfOk result (λ _. S.is_flushed out.new) }
 {
     let Ok(list) = image_list(alloc, names, true) else {

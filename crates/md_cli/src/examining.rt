@@ -1,16 +1,15 @@
 // The commands that show a report on one image.
 ghost use Rattle.std.specs.Prelude.{◌≡◌, ◌≢◌, ◌<◌, ℕ, Err, IfOk, List, [], ◌∷◌, length, map};
 ghost use Rattle.md_cli.specs.Examining.{Examines, ExaminesOne};
-ghost use Rattle.md_cli.specs.declared.report.Report.TheVariants.{Superblock, Bitmap, BadBlocks};
+ghost use Rattle.md_words.specs.declared.report.Report.TheVariants.{Superblock, Bitmap, BadBlocks};
 
 use crate::fault::CommandFault;
-use crate::image_refusal::ImageRefusal;
-use crate::images::Images;
 use crate::output::pass_on;
-use crate::report::Report;
 use md_device::{Access, Device};
 use md_examine::{Sink, examine, examine_badblocks, examine_bitmap};
+use md_images::{ImageRefusal, Images};
 use md_members::{read_member, read_super};
+use md_words::Report;
 use std::alloc::Global;
 
 // Shows the superblock.

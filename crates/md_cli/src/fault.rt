@@ -1,11 +1,12 @@
 // Why a command is refused. A message is the fault's name and its values, one space between them:
 // the program shows it after its own name.
-use crate::image_refusal::ImageRefusal;
 use crate::option_fault::OptionFault;
 use md_array::OpenFault;
+use md_commands::DataFault;
 use md_copy::RebuildFault;
 use md_create::CreateFault;
 use md_examine::SinkFault;
+use md_images::{ImageRefusal, ImagesFault};
 use md_members::MemberFault;
 use thiserror::Error;
 
@@ -44,12 +45,40 @@ pub enum CommandFault {
     /// No rebuild of the member is planned.
     #[error("{0}")]
     Rebuild(RebuildFault),
+    /// The array's data are not read or written, or it is not resynchronised or stopped.
+    #[error("{0}")]
+    Data(DataFault),
     /// The report can't be written.
     #[error("OutputFault")]
     OutputFault,
     /// There was no memory for the command's own lists.
     #[error("NoMemory")]
     NoMemory,
+}
+
+impl From<ImagesFault> for CommandFault {
+    ghost use Rattle.std.specs.Prelude.{◌≡◌};
+    ghost use Rattle.md_cli.specs.Arrays.{of_images};
+
+    ghost from_gives = { λ f e. e ≡ of_images f };
+
+    fn from(fault: ImagesFault) -> CommandFault {
+        match fault {
+            ImagesFault::BadImage(word, refusal) => CommandFault::BadImage(word, refusal),
+            ImagesFault::NoMemory => CommandFault::NoMemory,
+        }
+    }
+}
+
+impl From<DataFault> for CommandFault {
+    ghost use Rattle.std.specs.Prelude.{◌≡◌};
+    ghost use Rattle.md_cli.specs.declared.fault.CommandFault.TheVariants.{Data};
+
+    ghost from_gives = { λ fault e. e ≡ Data fault };
+
+    fn from(fault: DataFault) -> CommandFault {
+        CommandFault::Data(fault)
+    }
 }
 
 impl From<SinkFault> for CommandFault {

@@ -1,12 +1,12 @@
 // From the options of `create` to what the array is made from.
 ghost use Rattle.std.specs.Prelude.{◌≡◌, ℕ, IfOk, IfErr, None, Some};
 ghost use Rattle.uuid.specs.Text.{parsed};
-ghost use Rattle.md_cli.specs.Asked.{options_of};
+ghost use Rattle.md_words.specs.Asked.{options_of};
 ghost use Rattle.md_cli.specs.Planning.{IsPlan, bytes_of, is_raid1, option_fault, sectors_of, set_name_of};
 
 use crate::option_fault::OptionFault;
-use crate::options::CreateOptions;
 use md_create::CreateParams;
+use md_words::CreateOptions;
 use uuid::Uuid;
 
 // The longest name of an array, in bytes.

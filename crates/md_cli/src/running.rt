@@ -1,24 +1,23 @@
 // One command.
 ghost use Rattle.std.specs.Prelude.{◌≡◌, ◌≢◌, ◌⊎◌, [], IfOk, map};
 ghost use Rattle.clap.specs.Words.{fault_of};
-ghost use Rattle.md_cli.specs.Asked.{ask_of, asked, creates, image_words, options_of};
-ghost use Rattle.md_cli.specs.Running.{Does, DoesCommand, IsIdle, ShowsArray, status_of};
-ghost use Rattle.md_cli.specs.Words.{mdcli};
+ghost use Rattle.md_words.specs.Asked.{ask_of, asked, image_words, options_of};
+ghost use Rattle.md_cli.specs.Performing.{streams};
+ghost use Rattle.md_cli.specs.Running.{Does, DoesCommand, IsIdle, MakesArray, PerformsOnArray, status_of};
+ghost use Rattle.md_words.specs.Words.{mdcli};
 
 use crate::advising::advise;
-use crate::array_report::ArrayReport;
-use crate::arrays::show_images;
+use crate::arrays::perform_on_images;
 use crate::creating::create_images;
 use crate::examining::examine_images;
 use crate::fault::CommandFault;
-use crate::images::Images;
 use crate::looking::look_at_images;
 use crate::messages::Messages;
-use crate::options::CreateOptions;
-use crate::parsing::parse;
 use crate::planning::plan;
-use crate::request::Action;
+use md_commands::Source;
 use md_examine::Sink;
+use md_images::Images;
+use md_words::{Action, ArrayTask, CreateOptions, parse};
 use std::alloc::Global;
 use std::io::Write;
 
@@ -28,21 +27,22 @@ use std::io::Write;
 /// Out of memory in the parse is status 2 too. That it is answered only then is tested, since no
 /// clause can tell whether memory was there.
 ///
-/// A refusal's line goes to `err`, as `mdcli: BadImage 0`; so does the line of advice after it, where
-/// that is asked for, a line for each image on which marks were stored, and the parser's text. No clause speaks of what is written to `err`, nor of
-/// whether that can be written.
-pub fn run<'a, I: Images, S: Sink, E: Write>(
+/// `input` is read by `write` alone. A refusal's line goes to `err`, as `mdcli: BadImage 0`; so does the
+/// line of advice after it, where that is asked for, a line for each image on which marks were stored, and
+/// the parser's text. No clause speaks of what is written to `err`, nor of whether that can be written.
+pub fn run<'a, I: Images, R: Source, S: Sink, E: Write>(
     alloc: Global,
     words: &'a [&'a str],
     images: &mut I,
+    input: &mut R,
     out: &mut S,
     err: &mut E,
     messages: Messages,
 ) -> u8
-    ensures refused { fault_of mdcli (map (λ s. s.now) words.entry.now) ≢ [] → (result ≡ 2) × IsIdle images.old images.new out.old out.new }
+    ensures refused { fault_of mdcli (map (λ s. s.now) words.entry.now) ≢ [] → (result ≡ 2) × IsIdle images.old images.new (streams input.old out.old) (streams input.new out.new) }
     ensures taken { fault_of mdcli (map (λ s. s.now) words.entry.now) ≡ [] →
-        ((result ≡ 2) × IsIdle images.old images.new out.old out.new)
-        ⊎ DoesCommand I.Dev.Device S.contents S.failed I.known I.device_at I.changeable (asked (map (λ s. s.now) words.entry.now)) (image_words (map (λ s. s.now) words.entry.now)) images.old images.new out.old out.new result }
+        ((result ≡ 2) × IsIdle images.old images.new (streams input.old out.old) (streams input.new out.new))
+        ⊎ DoesCommand I.Dev.Device R.Source S.Sink I.known I.device_at I.changeable (asked (map (λ s. s.now) words.entry.now)) (image_words (map (λ s. s.now) words.entry.now)) images.old images.new (streams input.old out.old) (streams input.new out.new) result }
     ensures flushed { result ≡ 0 → S.is_flushed out.new }
 {
     let request = match parse(alloc, words) {
@@ -53,48 +53,50 @@ pub fn run<'a, I: Images, S: Sink, E: Write>(
         }
     };
     let names = request.images.as_slice();
-    let outcome = act(alloc, request.action, images, names, out, err);
+    let outcome = act(alloc, request.action, images, names, input, out, err);
     answer(outcome, request.action, names, messages, err)
 }
 
 // Does a command on the images that are named.
-fn act<I: Images, S: Sink, E: Write>(
+fn act<I: Images, R: Source, S: Sink, E: Write>(
     alloc: Global,
     action: Action<'_>,
     images: &mut I,
     names: &[&str],
+    input: &mut R,
     out: &mut S,
     err: &mut E,
 ) -> Result<(), CommandFault>
-    ensures gives { Does I.Dev.Device S.contents S.failed I.known I.device_at I.changeable (ask_of action.entry) (map (λ s. s.now) names.now) images.old images.new out.old out.new result }
+    ensures gives { Does I.Dev.Device R.Source S.Sink I.known I.device_at I.changeable (ask_of action.entry) (map (λ s. s.now) names.now) images.old images.new (streams input.old out.old) (streams input.new out.new) result }
     ensures flushed { IfOk result (λ _. S.is_flushed out.new) }
 {
     match action {
         Action::Examine(report) => examine_images(alloc, report, images, names, out),
         Action::Create(options) => create_array(alloc, options, images, names, out),
-        Action::Show(report, readonly) => {
-            show_array(alloc, report, readonly, images, names, out, err)
+        Action::Perform(task, readonly) => {
+            perform_on_array(alloc, task, readonly, images, names, input, out, err)
         }
     }
 }
 
-// Shows an array.
-fn show_array<I: Images, S: Sink, E: Write>(
+// Does a task with an array.
+fn perform_on_array<I: Images, R: Source, S: Sink, E: Write>(
     alloc: Global,
-    report: ArrayReport,
+    task: ArrayTask,
     readonly: bool,
     images: &mut I,
     names: &[&str],
+    input: &mut R,
     out: &mut S,
     err: &mut E,
 ) -> Result<(), CommandFault>
-    ensures gives { ShowsArray I.Dev.Device S.contents S.failed I.known I.device_at I.changeable report readonly (map (λ s. s.now) names.now) images.old images.new out.old out.new result }
+    ensures gives { PerformsOnArray I.Dev.Device R.Source S.Sink I.known I.device_at I.changeable task readonly (map (λ s. s.now) names.now) images.old images.new (streams input.old out.old) (streams input.new out.new) result }
     ensures flushed { IfOk result (λ _. S.is_flushed out.new) }
 {
     if readonly {
-        return look_at_images(alloc, report, images, names, out);
+        return look_at_images(alloc, task, images, names, input, out);
     }
-    show_images(alloc, report, images, names, out, err)
+    perform_on_images(alloc, task, images, names, input, out, err)
 }
 
 // Makes an array. No image is touched before the options are accepted.
@@ -105,7 +107,7 @@ fn create_array<I: Images, S: Sink>(
     names: &[&str],
     out: &mut S,
 ) -> Result<(), CommandFault>
-    ensures gives { Does I.Dev.Device S.contents S.failed I.known I.device_at I.changeable (creates (options_of options.entry)) (map (λ s. s.now) names.now) images.old images.new out.old out.new result }
+    ensures gives { MakesArray I.Dev.Device S.Sink I.known I.device_at I.changeable (options_of options.entry) (map (λ s. s.now) names.now) images.old images.new out.old out.new result }
     ensures flushed { IfOk result (λ _. S.is_flushed out.new) }
 {
     match plan(&options, names.len()) {

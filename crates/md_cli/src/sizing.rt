@@ -3,8 +3,8 @@ ghost use Rattle.std.specs.Prelude.{◌≡◌, IfOk, drop, map};
 ghost use Rattle.md_state.specs.View.{disk_of};
 ghost use Rattle.md_cli.specs.Creating.{first_size, sizes_of};
 
-use crate::image_word::is_missing;
 use md_device::Device;
+use md_images::is_missing;
 use std::alloc::{AllocError, Global};
 
 // The size of the next device, in sectors.

@@ -6,6 +6,8 @@ pub mod CallRuns
 pub mod ContentRuns
 -- The content that the members in sync of a mirror hold, over its openings.
 pub mod MirrorContents
+-- A member that failed differs from the content only in marked chunks.
+pub mod LeftBehind
 -- A life of a mirror is one of the model, so that what always holds of the model holds of the mirror.
 pub mod MirrorLives
 -- A run of a mirror is a run of the model, so that the model's laws hold of it.

@@ -23,3 +23,5 @@ pub mod StopsWithin
 pub mod StoppedCopies
 -- A life of a mirror of one member: what the laws on lives ask can be met.
 pub mod SmallLife
+-- What a member that failed still has of the array's content.
+pub mod LeftBehind

@@ -12,6 +12,7 @@ ghost use Rattle.md_state.specs.View.{Disk, MemberView, MirrorView};
 ghost use Rattle.md_array.specs.Opening.{IsOpenedFrom};
 ghost use Rattle.md_array.specs.ReadAsKept.{AreReadAsKept};
 ghost use Rattle.md_array.specs.Worlds.{AreHonest, geometry_of, none_in_flight, super_of, world_of, world_on};
+ghost use Rattle.md_laws.specs.LeftBehind.{LiesBehind};
 ghost use Rattle.md_laws.specs.Lives.{AtEachMoment, ContentGoesAlong, FindsInSync, FitsWhenThere, IsReadAsKeptInLives, KeepsContent, KeepsGeometry, StaysAsLeft};
 ghost use Rattle.md_laws.specs.Returning.{StartsAgain};
 ghost use Rattle.md_laws.specs.Runs.{HasContent};
@@ -96,6 +97,13 @@ pub fn fitness()
 /// from before nothing is said then.
 pub fn returning_devices()
     ensures starts { StartsAgain }
+{}
+
+/// What a member that was in sync and failed, by a call or by a write, has of the array's content from then on, as
+/// long as some role is empty: all but the marked chunks. So the chunks that `missing` names of one that is taken back
+/// suffice. It is said up to the next stop.
+pub fn leaving_members()
+    ensures behind { LiesBehind }
 {}
 
 /// An interrupted open of a mirror's devices, at any moment of its life, leaves each as it was left, so that

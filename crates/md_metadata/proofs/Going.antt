@@ -1,20 +1,21 @@
 -- Parts of a call, one after another.
-use Rattle.std.proofs.Common.{◌≡◌, ℕ, Option, [], ◌∷◌, ◌++◌, Some, refl, sym, ap, ◌∙◌, subst, arith}
+use Rattle.std.proofs.Common.{◌≡◌, ℕ, ◌<◌, List, Option, [], ◌∷◌, ◌++◌, Some, refl, sym, ap, ◌∙◌, subst, arith}
+use Rattle.std.proofs.lemmas.List.{append_assoc}
 use Rattle.md_model.specs.Events.{Event}
 use Rattle.md_bitmap.specs.Marks.{Bitmap, is_set}
 use Rattle.md_inflight.specs.Inflight.{InflightList, lookup}
 use Rattle.md_state.specs.declared.extent.Extent.{Extent}
 use Rattle.md_assembly.specs.States.{is_in_sync}
 use Rattle.md_state.specs.View.{ArrayView, MemberView, MirrorView}
-use Rattle.md_state.specs.Members.{IsInSync}
+use Rattle.md_state.specs.Members.{IsInSync, is_recorded}
 use Rattle.md_state.specs.Requests.{AreInFlight}
 use Rattle.md_array.specs.Consistency.{IsConsistent}
 use Rattle.md_array.specs.InTurn.{InTurn, IsInOrder, Requests}
-use Rattle.md_array.proofs.Steps.Turns.{all_on, turn_on, turn_then}
+use Rattle.md_array.proofs.Steps.Turns.{all_on, all_such, turn_on, turn_then}
 use Rattle.md_metadata.specs.declared.fault.PartFault.{PartFault}
 use Rattle.md_metadata.specs.declared.fault.PartFault.TheVariants.{Halted, MemberFailed}
-use Rattle.md_metadata.specs.Going.{GoesOn, HaltsAfter, IsSameArray, LosesMember, StepsBy, alone}
-use Rattle.md_metadata.specs.Storing.{AllStayReady, IsStoring, StaysReady, Stores, StopsStoring}
+use Rattle.md_metadata.specs.Going.{GoesOn, HaltsAfter, IsFaulty, IsSameArray, LosesMember, StepsBy, alone, recorded_count}
+use Rattle.md_metadata.specs.Storing.{AllStayReady, IsFailureOf, IsUpToDate, IsMarking, IsRecording, IsSector, IsStored, IsStoring, LosesStoring, StaysReady, Stores, StoresAll, StopsStoring}
 
 pub same_refl : (a : ArrayView) → IsSameArray a a
 same_refl a = record { chunks = refl; marks = refl; as_many = refl; requests = refl; resynced = refl; fewer = omega arith }
@@ -147,16 +148,141 @@ same_state a b k n s = sym (ap (λ (x : MemberView). x.state) s.same)
 pub was_in_sync : (a b : ArrayView) (k : ℕ) (n : MemberView) (s : StaysReady a b k n) → IsInSync b k n → IsInSync a k s.before
 was_in_sync a b k n s in_sync = record { member = s.member; in_sync = ap is_in_sync (same_state a b k n s) ∙ in_sync.in_sync }
 
-pub stores_nowhere : (m : MirrorView) → IsConsistent m → Stores m m
-stores_nowhere m sound = record { goes = goes_nowhere alone IsStoring m sound; ready = ready_refl m.array }
+-- who is kept up to date was so
+pub kept_before : (a b : ArrayView) (k : ℕ) → AllStayReady a b → IsUpToDate b k → IsUpToDate a k
+kept_before a b k ready is =
+    let s : StaysReady a b k is.member = ready.each k is.member is.at in
+    record { member = s.before; at = s.member; recorded = ap is_recorded (same_state a b k is.member s) ∙ is.recorded }
 
-module _ (old mid new : MirrorView) where
-  pub stores_on : Stores old mid → Stores mid new → Stores old new
-  stores_on g h = record {
-    goes = goes_on alone alone alone IsStoring old mid new g.goes h.goes;
-    ready = ready_on old.array mid.array new.array g.goes.array.marks g.ready h.ready;
+-- ---- kinds of events
+module _ (Of Such : Event → Type 0) (widen : (e : Event) → Of e → Such e) where
+  pub step_as : (F G : Requests → Requests) (e : Event) (old new : MirrorView) → StepsBy F G Of e old new → StepsBy F G Such e old new
+  step_as F G e old new s = record { of = widen e s.of; did = s.did; happens = s.happens; array = s.array; sound = s.sound; pending = s.pending }
+
+  pub goes_as : (F G : Requests → Requests) (old new : MirrorView) → GoesOn F G Of old new → GoesOn F G Such old new
+  goes_as F G old new g = record {
+    events = g.events;
+    steps = all_such Of Such widen g.events g.steps;
+    leads = g.leads;
+    array = g.array;
+    sound = g.sound;
+    pending = g.pending;
   }
 
-  pub stops_on : (fault : PartFault) → Stores old mid → StopsStoring mid new fault → StopsStoring old new fault
-  stops_on Halted g h = halts_on alone alone alone IsStoring old mid new g.goes h
-  stops_on (MemberFailed k) g h = record { loses = loses_on alone alone alone IsStoring old mid new g.goes g.ready.halted h.loses; faulty = h.faulty }
+  module _ (old new : MirrorView) where
+    pub stores_as : Stores Of old new → Stores Such old new
+    unfolding goes_as
+    stores_as g = record { goes = goes_as alone alone old new g.goes; stored = g.stored; ready = g.ready }
+
+    pub all_as : (Done : MemberView → Type 0) → StoresAll Of Done old new → StoresAll Such Done old new
+    all_as Done g = record { stores = stores_as g.stores; done = g.done }
+
+    pub stops_as : (fault : PartFault) → StopsStoring Of old new fault → StopsStoring Such old new fault
+    unfolding goes_as
+    stops_as Halted h = record {
+      mid = h.mid;
+      goes = goes_as alone alone old h.mid h.goes;
+      failing = h.failing;
+      of = widen h.failing h.of;
+      halts = h.halts;
+      sound = h.sound;
+      pending = h.pending;
+    }
+    stops_as (MemberFailed k) h = record {
+      loses = record { goes = goes_as alone alone old new h.loses.goes; lost = h.loses.lost; halted = h.loses.halted };
+      was = h.was;
+      last = h.last;
+      faulty = h.faulty;
+    }
+
+pub sector_marks : (block : ℕ) (e : Event) → IsSector block e → IsMarking e
+sector_marks block (Event.StoreMarks k b) is = tt
+sector_marks block (Event.StoreMarksFails k b) is = tt
+sector_marks block e is = absurd is
+
+pub first_records : (e : Event) → IsSector 0 e → IsRecording e
+first_records (Event.StoreMarks k b) is = is
+first_records (Event.StoreMarksFails k b) is = is
+first_records e is = absurd is
+
+pub marking_stores : (e : Event) → IsMarking e → IsStoring e
+marking_stores (Event.StoreMarks k b) is = tt
+marking_stores (Event.StoreMarksFails k b) is = tt
+marking_stores e is = absurd is
+
+pub recording_stores : (e : Event) → IsRecording e → IsStoring e
+recording_stores (Event.Record k) is = tt
+recording_stores (Event.StoreMarks k b) is = tt
+recording_stores (Event.RecordFails k) is = tt
+recording_stores (Event.StoreMarksFails k b) is = tt
+recording_stores e is = absurd is
+
+-- ---- something is stored
+module _ (Of : Event → Type 0) where
+  pub stores_nowhere : (m : MirrorView) → IsConsistent m → Stores Of m m
+  unfolding goes_nowhere
+  stores_nowhere m sound = record { goes = goes_nowhere alone Of m sound; stored = tt; ready = ready_refl m.array }
+
+  pub stores_step : (e : Event) (old new : MirrorView) → IsStored e → StepsBy alone alone Of e old new → ((previous : Option Event) → IsInOrder previous old.array e)
+      → AllStayReady old.array new.array → Stores Of old new
+  unfolding goes_step
+  stores_step e old new is s order ready = record { goes = goes_step alone alone Of e old new s order; stored = (is, tt); ready = ready }
+
+  -- the write of it failed
+  pub step_loses : (k : ℕ) (e : Event) (old new : MirrorView) → IsFailureOf k e → StepsBy alone alone Of e old new → ((previous : Option Event) → IsInOrder previous old.array e)
+      → recorded_count new.array < recorded_count old.array → new.array.halted ≡ old.array.halted → IsUpToDate old.array k → IsFaulty k new.array → LosesStoring Of k old new
+  unfolding goes_step
+  step_loses k e old new is s order lost halted was faulty = record {
+    loses = record { goes = goes_step alone alone Of e old new s order; lost = lost; halted = halted };
+    was = was;
+    last = record { before = []; stored = tt; failing = e; of = is; list = refl };
+    faulty = faulty;
+  }
+
+  module _ (old mid new : MirrorView) where
+    pub stores_two : (e f : Event) → IsStored e → IsStored f → StepsBy alone alone Of e old mid → ((previous : Option Event) → IsInOrder previous old.array e)
+        → StepsBy alone alone Of f mid new → IsInOrder (Some e) mid.array f → AllStayReady old.array new.array → Stores Of old new
+    unfolding goes_two
+    stores_two e f first_is second_is s first t second ready = record {
+      goes = goes_two alone alone alone Of old mid new e f s first t second;
+      stored = (first_is, (second_is, tt));
+      ready = ready;
+    }
+
+    pub two_lose : (k : ℕ) (e f : Event) → IsStored e → IsFailureOf k f → StepsBy alone alone Of e old mid → ((previous : Option Event) → IsInOrder previous old.array e)
+        → StepsBy alone alone Of f mid new → IsInOrder (Some e) mid.array f → recorded_count new.array < recorded_count old.array → new.array.halted ≡ old.array.halted
+        → IsUpToDate old.array k → IsFaulty k new.array → LosesStoring Of k old new
+    unfolding goes_two
+    two_lose k e f first_is second_is s first t second lost halted was faulty = record {
+      loses = record { goes = goes_two alone alone alone Of old mid new e f s first t second; lost = lost; halted = halted };
+      was = was;
+      last = record { before = e ∷ []; stored = (first_is, tt); failing = f; of = second_is; list = refl };
+      faulty = faulty;
+    }
+
+    pub stores_on : Stores Of old mid → Stores Of mid new → Stores Of old new
+    unfolding goes_on
+    stores_on g h = record {
+      goes = goes_on alone alone alone Of old mid new g.goes h.goes;
+      stored = all_on IsStored g.goes.events h.goes.events g.stored h.stored;
+      ready = ready_on old.array mid.array new.array g.goes.array.marks g.ready h.ready;
+    }
+
+    loses_then : (k : ℕ) → Stores Of old mid → LosesStoring Of k mid new → LosesStoring Of k old new
+    unfolding goes_on loses_on
+    loses_then k g h = record {
+      loses = loses_on alone alone alone Of old mid new g.goes g.ready.halted h.loses;
+      was = kept_before old.array mid.array k g.ready h.was;
+      last = record {
+        before = g.goes.events ++ h.last.before;
+        stored = all_on IsStored g.goes.events h.last.before g.stored h.last.stored;
+        failing = h.last.failing;
+        of = h.last.of;
+        list = ap (λ (es : List Event). g.goes.events ++ es) h.last.list ∙ sym (append_assoc g.goes.events h.last.before (h.last.failing ∷ []));
+      };
+      faulty = h.faulty;
+    }
+
+    pub stops_on : (fault : PartFault) → Stores Of old mid → StopsStoring Of mid new fault → StopsStoring Of old new fault
+    stops_on Halted g h = halts_on alone alone alone Of old mid new g.goes h
+    stops_on (MemberFailed k) g h = loses_then k g h

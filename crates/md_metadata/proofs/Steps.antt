@@ -26,9 +26,9 @@ use Rattle.md_array.proofs.General.Replaced.{of_set}
 use Rattle.md_array.proofs.General.Indices.{at_set_same}
 use Rattle.md_metadata.specs.declared.fault.PartFault.TheVariants as part
 use Rattle.md_metadata.specs.Going.{HaltsAfter, IsFaulty, IsSameArray, LosesMember, StepsBy, alone, recorded_count}
-use Rattle.md_metadata.specs.Storing.{AllStayReady, IsStoring, LosesStoring, RecordsOn, StopsRecording, StoresOn}
+use Rattle.md_metadata.specs.Storing.{AllStayReady, IsRecording, IsSector, LosesStoring, RecordsOn, StopsRecording, StoresOn}
 use Rattle.md_metadata.proofs.Counts.{count_map, set_alike, set_fewer}
-use Rattle.md_metadata.proofs.Going.{goes_nowhere, goes_step}
+use Rattle.md_metadata.proofs.Going.{goes_nowhere, goes_step, step_loses}
 
 -- ---- a member is changed
 module _ (a b : ArrayView) (k : ℕ) (m n : MemberView) (at : IsMember a k m) (like : n ≡ record m { stored = n.stored; due = n.due }) (is : b ≡ record a { members = set a.members k n }) where
@@ -147,7 +147,7 @@ module _ (old new : MirrorView) (k block : ℕ) (sound : IsConsistent new) (pend
       let n = record r.member { stored = r.stored } in
       record {
         step = record {
-          of = tt;
+          of = refl;
           did = λ others. (refl, r);
           happens = λ honest whole others in_flight. happens honest others in_flight;
           array = same_array old.array new.array k r.member n r.may.in_sync.member refl r.array;
@@ -163,23 +163,24 @@ module _ (old new : MirrorView) (k block : ℕ) (sound : IsConsistent new) (pend
   sector_in_use f = in_use_there old.array k f.member f.fails.array.member f.fails.array.at f.may.in_sync.member (recorded_in_sync f.member.state f.may.in_sync.in_sync)
 
   pub sector_fails : IsSectorDue old.array k block → (j : ℕ) → RefusesMarkSector k block old new (MemberFailed j) → Happens old (Event.StoreMarksFails k block) new
-      → LosesStoring j old new
+      → LosesStoring (IsSector block) j old new
   sector_fails due j r happens =
       let f = r.1 in
-      record {
-        loses = failure_loses alone alone IsStoring (Event.StoreMarksFails k block) old new k f.fails.array (sector_in_use f)
-            (failure_step alone alone IsStoring (Event.StoreMarksFails k block) old new k f.fails.array (sector_in_use f) tt (λ others. (refl, f))
-            (λ honest whole others in_flight. happens honest others in_flight) sound pending) (λ previous. due);
-        faulty = subst (λ (i : ℕ). IsFaulty i new.array) (sym r.0) (faulty_after old.array new.array k f.fails.array (sector_in_use f));
-      }
+      let used = sector_in_use f in
+      let step = failure_step alone alone (IsSector block) (Event.StoreMarksFails k block) old new k f.fails.array used refl (λ others. (refl, f))
+      (λ honest whole others in_flight. happens honest others in_flight) sound pending in
+      subst (λ (i : ℕ). LosesStoring (IsSector block) i old new) (sym r.0)
+      (step_loses (IsSector block) k (Event.StoreMarksFails k block) old new refl step (λ previous. due)
+      (fewer_after old.array new.array k f.fails.array used) (halted_after old.array new.array k f.fails.array used)
+      (record { member = f.fails.array.member; at = f.fails.array.at; recorded = used }) (faulty_after old.array new.array k f.fails.array used))
 
-  pub sector_halts : old.array.halted ≡ false → IsConsistent old → RefusesMarkSector k block old new Halted → HaltsAfter alone alone IsStoring old new
+  pub sector_halts : old.array.halted ≡ false → IsConsistent old → RefusesMarkSector k block old new Halted → HaltsAfter alone alone (IsSector block) old new
   sector_halts run before (inl r) = never_halted old new run r
   sector_halts run before (inr h) = record {
     mid = old;
-    goes = goes_nowhere alone IsStoring old before;
+    goes = goes_nowhere alone (IsSector block) old before;
     failing = Event.StoreMarksFails k block;
-    of = tt;
+    of = refl;
     halts = λ others. h;
     sound = sound;
     pending = pending;
@@ -214,19 +215,20 @@ module _ (old new : MirrorView) (k : ℕ) (sound : IsConsistent new) (pending : 
       let f = r.1 in (
         r.0,
         record {
-          step = failure_step alone alone IsStoring (Event.RecordFails k) old new k f.fails.array (record_in_use f) tt (λ others. (refl, f))
+          step = failure_step alone alone IsRecording (Event.RecordFails k) old new k f.fails.array (record_in_use f) tt (λ others. (refl, f))
               (λ honest whole others in_flight. happens f.member f.may.at (whole f.member f.may.at) honest others in_flight) sound pending;
           lost = fewer_after old.array new.array k f.fails.array (record_in_use f);
           halted = halted_after old.array new.array k f.fails.array (record_in_use f);
+          was = record { member = f.fails.array.member; at = f.fails.array.at; recorded = record_in_use f };
           faulty = faulty_after old.array new.array k f.fails.array (record_in_use f);
         },
       )
 
-  pub record_halts : old.array.halted ≡ false → IsConsistent old → RefusesRecord k old new Halted → HaltsAfter alone alone IsStoring old new
+  pub record_halts : old.array.halted ≡ false → IsConsistent old → RefusesRecord k old new Halted → HaltsAfter alone alone IsRecording old new
   record_halts run before (inl r) = never_halted old new run r
   record_halts run before (inr h) = record {
     mid = old;
-    goes = goes_nowhere alone IsStoring old before;
+    goes = goes_nowhere alone IsRecording old before;
     failing = Event.RecordFails k;
     of = tt;
     halts = λ others. h;

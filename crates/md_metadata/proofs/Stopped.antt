@@ -16,11 +16,11 @@ use Rattle.md_array.specs.Consistency.{IsConsistent}
 use Rattle.md_array.specs.Events.{CleanHappens}
 use Rattle.md_metadata.specs.declared.fault.PartFault.{PartFault}
 use Rattle.md_metadata.specs.Clearing.{ClearsAll, IsClearing, MayClearAll}
-use Rattle.md_metadata.specs.Going.{HaltsAfter, LeadsBy, alone, recorded_count}
-use Rattle.md_metadata.specs.Storing.{IsStoring, HasAllMarks, LosesStoring, RecordsAll, StoresAll, StopsStoring}
-use Rattle.md_metadata.specs.Stopping.{CleansIfActive, ClearsIfFull, FailsStop, HaltsStop, HasAllMarksIf, IsCleared, IsSettled, IsStopping, MayStop, Stops, StoresSettled, clears_marks, makes_clean}
+use Rattle.md_metadata.specs.Going.{GoesOn, HaltsAfter, LeadsBy, alone, recorded_count}
+use Rattle.md_metadata.specs.Storing.{HasAllMarks, IsMarking, IsRecording, IsStoring, LosesStoring, RecordsAll, StoresAll, StopsStoring}
+use Rattle.md_metadata.specs.Stopping.{CleansIfActive, ClearsIfFull, FailsStop, HaltsStop, HasAllMarksIf, IsCleared, IsSettled, IsSettling, IsStopping, IsStoringIf, MayStop, Settles, Stops, StoresSettled, clears_marks, makes_clean}
 use Rattle.md_metadata.proofs.Counts.{count_map}
-use Rattle.md_metadata.proofs.Going.{stops_on, stores_on}
+use Rattle.md_metadata.proofs.Going.{all_as, marking_stores, recording_stores, stops_as, stops_on, stores_as, stores_on}
 use Rattle.md_metadata.proofs.Leading.{goes_leads, leads_as, leads_nowhere, leads_once, leads_then}
 use Rattle.md_metadata.proofs.StoredMembers.{IsLasting, last_on}
 use Rattle.md_metadata.proofs.StoredSectors.{all_marks_last}
@@ -43,9 +43,14 @@ cannot_rise a idle makes spent =
     record { idle = idle; resynced = both.0; active = not_same a.shared.resync_offset clean_offset both.1; spent = spent }
 
 -- ---- in memory
-clearing_stops : (e : Event) → IsClearing e → IsStopping e
-clearing_stops (Event.ClearIdle c) is = tt
-clearing_stops e is = absurd is
+clearing_settles : (e : Event) → IsClearing e → IsSettling e
+clearing_settles (Event.ClearIdle c) is = tt
+clearing_settles e is = absurd is
+
+settling_stops : (e : Event) → IsSettling e → IsStopping e
+settling_stops (Event.ClearIdle c) is = tt
+settling_stops Event.MakeClean is = tt
+settling_stops e is = absurd is
 
 pub may_clear : (a : ArrayView) → IsIdle a → clears_marks a ≡ true → MayClearAll a
 may_clear a idle clears =
@@ -55,7 +60,7 @@ may_clear a idle clears =
 module _ (old new : MirrorView) where
   pub cleared_all : clears_marks old.array ≡ true → ClearsAll old new → ClearsIfFull old new
   cleared_all clears c = record {
-    goes = leads_as IsClearing IsStopping clearing_stops old new c.remarks.goes;
+    goes = leads_as IsClearing IsSettling clearing_settles old new c.remarks.goes;
     disks = c.remarks.disks;
     marks = record { chunks = c.remarks.chunks; bits = λ x. c.none x ∙ sym (ap (λ b. not b && is_set old.array.marks.bytes x) clears) };
     array = c.remarks.array;
@@ -63,7 +68,7 @@ module _ (old new : MirrorView) where
 
 pub cleared_none : (m : MirrorView) → IsConsistent m → clears_marks m.array ≡ false → ClearsIfFull m m
 cleared_none m sound keeps = record {
-  goes = leads_nowhere IsStopping m sound;
+  goes = leads_nowhere IsSettling m sound;
   disks = refl;
   marks = record { chunks = refl; bits = λ x. sym (ap (λ b. not b && is_set m.array.marks.bytes x) keeps) };
   array = refl;
@@ -86,7 +91,7 @@ module _ (old new : MirrorView) (idle : IsIdle old.array) (makes : makes_clean o
   pub clean_made : {T : Type 0} (result : Result T CleanFault) → MatchResult result (λ _. MakesClean old new) (RefusesClean old new)
       → CleanHappens old new result → IsConsistent new → ((o : PendingView) → IsPending old.array o → IsPending new.array o) → CleansIfActive old new
   clean_made (Ok t) c happens sound pending = record {
-    goes = leads_once IsStopping Event.MakeClean old new tt (λ previous. tt) (λ others. (refl, c)) (λ honest whole others in_flight. happens honest others in_flight)
+    goes = leads_once IsSettling Event.MakeClean old new tt (λ previous. tt) (λ others. (refl, c)) (λ honest whole others in_flight. happens honest others in_flight)
         (ap (λ (x : ArrayView). x.requests) c.array) sound pending;
     disks = c.disks;
     array = c.array ∙ sym (ap (λ b. cond b (made_clean old.array) old.array) makes);
@@ -95,7 +100,7 @@ module _ (old new : MirrorView) (idle : IsIdle old.array) (makes : makes_clean o
 
 pub clean_already : (m : MirrorView) → IsConsistent m → makes_clean m.array ≡ false → CleansIfActive m m
 clean_already m sound keeps = record {
-  goes = leads_nowhere IsStopping m sound;
+  goes = leads_nowhere IsSettling m sound;
   disks = refl;
   array = sym (ap (λ b. cond b (made_clean m.array) m.array) keeps);
 }
@@ -136,6 +141,19 @@ storing_stops (Event.RecordFails k) is = tt
 storing_stops (Event.StoreMarksFails k b) is = tt
 storing_stops e is = absurd is
 
+-- marks where they were cleared, and records
+pub marking_if : (clears : Bool) → clears ≡ true → (e : Event) → IsMarking e → IsStoringIf clears e
+marking_if true so e is = marking_stores e is
+marking_if false so e is = absurd cc
+
+pub recording_if : (clears : Bool) (e : Event) → IsRecording e → IsStoringIf clears e
+recording_if true e is = recording_stores e is
+recording_if false e is = is
+
+storing_if_stops : (clears : Bool) (e : Event) → IsStoringIf clears e → IsStopping e
+storing_if_stops true e is = storing_stops e is
+storing_if_stops false e is = storing_stops e (recording_stores e is)
+
 module _ (old b c : MirrorView) (x : ClearsIfFull old b) (y : CleansIfActive b c) where
   abbrev up : ArrayView
   up = record old.array { marks = b.array.marks }
@@ -156,8 +174,8 @@ module _ (old b c : MirrorView) (x : ClearsIfFull old b) (y : CleansIfActive b c
     bits = λ i. ap (λ (m : Bitmap). is_set m.bytes i) (same ∙ marks_settled) ∙ x.marks.bits i;
   }
 
-  pub settles : IsSettled old.array c.array
-  settles = record {
+  array_settled : IsSettled old.array c.array
+  array_settled = record {
     marks = marks_cleared c.array refl;
     array = is_settled ∙ clean_then old.array b.array.marks (makes_clean old.array)
         ∙ ap (λ (m : Bitmap). record (cond (makes_clean old.array) (made_clean old.array) old.array) { marks = m }) (sym marks_settled);
@@ -172,25 +190,39 @@ module _ (old b c : MirrorView) (x : ClearsIfFull old b) (y : CleansIfActive b c
   settled_count : recorded_count c.array ≡ recorded_count old.array
   settled_count = of_settled recorded_count (recorded_count old.array) (same_count old.array b.array.marks (makes_clean old.array))
 
-  settled_goes : LeadsBy IsStopping old c
-  settled_goes = leads_then IsStopping old b c x.goes y.goes
+  pub settles : Settles old c
+  settles = record {
+    goes = leads_then IsSettling old b c x.goes y.goes;
+    disks = y.disks ∙ x.disks;
+    array = array_settled;
+  }
+
+  abbrev are_cleared : Bool
+  are_cleared = clears_marks old.array
+
+  whole : (d : MirrorView) → GoesOn alone alone (IsStoringIf are_cleared) c d → LeadsBy IsStopping old d
+  whole d g = leads_then IsStopping old c d (leads_as IsSettling IsStopping settling_stops old c (leads_then IsSettling old b c x.goes y.goes))
+      (leads_as (IsStoringIf are_cleared) IsStopping (storing_if_stops are_cleared) c d (goes_leads (IsStoringIf are_cleared) c d g))
 
   module _ (may : MayStop old.array) (d : MirrorView) where
-    pub stops : StoresSettled (clears_marks old.array) c d → Stops old d
+    pub stops : StoresSettled are_cleared c d → Stops old d
     stops s = record {
       may = may;
-      goes = leads_then IsStopping old c d settled_goes (leads_as IsStoring IsStopping storing_stops c d (goes_leads IsStoring c d s.stores.goes));
-      settled = c.array;
+      goes = whole d s.stores.goes;
+      settled = c;
       settles = settles;
-      stored = s.stores.ready;
-      marks = λ clears i m in_sync. subst (λ (z : Bitmap). HasAllMarks z m) (sym s.stores.goes.array.marks) (s.marks clears i m in_sync);
+      stores = s.stores;
+      marks = λ is i m in_sync. subst (λ (z : Bitmap). HasAllMarks z m) (sym s.stores.goes.array.marks) (s.marks is i m in_sync);
       recorded = s.recorded;
     }
 
-    pub stop_fails : (k : ℕ) → LosesStoring k c d → FailsStop k old d
+    pub stop_fails : (k : ℕ) → LosesStoring (IsStoringIf are_cleared) k c d → FailsStop k old d
     stop_fails k l = record {
       may = may;
-      goes = leads_then IsStopping old c d settled_goes (leads_as IsStoring IsStopping storing_stops c d (goes_leads IsStoring c d l.loses.goes));
+      goes = whole d l.loses.goes;
+      settled = c;
+      settles = settles;
+      loses = l;
       faulty = l.faulty;
       lost = let less = l.loses.lost in let count = settled_count in omega arith;
       running = l.loses.halted ∙ settled_halted ∙ may.idle.running;
@@ -198,29 +230,39 @@ module _ (old b c : MirrorView) (x : ClearsIfFull old b) (y : CleansIfActive b c
       resynced = l.loses.goes.array.resynced ∙ settled_resynced;
     }
 
-    pub stop_halts : HaltsAfter alone alone IsStoring c d → HaltsStop old d
-    stop_halts h = record {
-      may = may;
-      mid = h.mid;
-      goes = leads_then IsStopping old c h.mid settled_goes (leads_as IsStoring IsStopping storing_stops c h.mid (goes_leads IsStoring c h.mid h.goes));
-      failing = h.failing;
-      of = storing_stops h.failing h.of;
-      halts = h.halts;
-    }
+    pub stop_halts : HaltsAfter alone alone (IsStoringIf are_cleared) c d → HaltsStop old d
+    stop_halts h = record { may = may; settled = c; settles = settles; halts = h; goes = whole h.mid h.goes }
 
 -- ---- what is stored
 pub marks_if_last : (clears : Bool) (marks : Bitmap) → IsLasting marks (HasAllMarksIf clears marks)
 marks_if_last clears marks = record { lasts = λ a b k n same s has is. (all_marks_last marks).lasts a b k n same s (has is) }
 
-pub settled_stored : (clears : Bool) (a b c d : MirrorView) → StoresAll (HasAllMarksIf clears a.array.marks) a b → StoresAll IsNotDue b c → RecordsAll c d → StoresSettled clears a d
-settled_stored clears a b c d x y others = record {
-  stores = stores_on a c d (stores_on a b c x.stores y.stores) others.stores;
-  marks = λ is i m in_sync.
-      last_on (HasAllMarksIf clears a.array.marks) a b d (marks_if_last clears a.array.marks) x.stores.goes.array.marks x.done (stores_on b c d y.stores others.stores) i m in_sync is;
-  recorded = others.done;
-}
+module _ (clears : Bool) where
+  abbrev Of : Event → Type 0
+  Of = IsStoringIf clears
 
-pub settled_or_stops : (clears : Bool) (a b c d : MirrorView) → StoresAll (HasAllMarksIf clears a.array.marks) a b → StoresAll IsNotDue b c
-    → {T : Type 0} (result : Result T PartFault) → MatchResult result (λ _. RecordsAll c d) (StopsStoring c d) → MatchResult result (λ _. StoresSettled clears a d) (StopsStoring a d)
-settled_or_stops clears a b c d x y (Ok t) others = settled_stored clears a b c d x y others
-settled_or_stops clears a b c d x y (Err fault) s = stops_on a c d fault (stores_on a b c x.stores y.stores) s
+  pub settled_stored : (a b c d : MirrorView) → StoresAll Of (HasAllMarksIf clears a.array.marks) a b → StoresAll Of IsNotDue b c → RecordsAll c d → StoresSettled clears a d
+  settled_stored a b c d x y others =
+      let last = stores_as IsRecording Of (recording_if clears) c d others.stores in
+      record {
+        stores = stores_on Of a c d (stores_on Of a b c x.stores y.stores) last;
+        marks = λ is i m in_sync.
+            last_on Of (HasAllMarksIf clears a.array.marks) a b d (marks_if_last clears a.array.marks) x.stores.goes.array.marks x.done (stores_on Of b c d y.stores last) i m in_sync is;
+        recorded = others.done;
+      }
+
+  pub settled_or_stops : (a b c d : MirrorView) → StoresAll Of (HasAllMarksIf clears a.array.marks) a b → StoresAll IsRecording IsNotDue b c
+      → {T : Type 0} (result : Result T PartFault) → MatchResult result (λ _. RecordsAll c d) (StopsStoring IsRecording c d) → MatchResult result (λ _. StoresSettled clears a d) (StopsStoring Of a d)
+  settled_or_stops a b c d x y (Ok t) others = settled_stored a b c d x (all_as IsRecording Of (recording_if clears) b c IsNotDue y) others
+  settled_or_stops a b c d x y (Err fault) s =
+      stops_on Of a c d fault (stores_on Of a b c x.stores (stores_as IsRecording Of (recording_if clears) b c y.stores)) (stops_as IsRecording Of (recording_if clears) c d fault s)
+
+  -- the superblocks are not all stored
+  pub settled_stops : (a b c : MirrorView) (fault : PartFault) → StoresAll Of (HasAllMarksIf clears a.array.marks) a b → StopsStoring IsRecording b c fault → StopsStoring Of a c fault
+  settled_stops a b c fault x s = stops_on Of a b c fault x.stores (stops_as IsRecording Of (recording_if clears) b c fault s)
+
+  -- marks are stored where they were cleared
+  pub marks_or_stops : (a b : MirrorView) → clears ≡ true → {T : Type 0} (result : Result T PartFault) → MatchResult result (λ _. StoresAll IsMarking (HasAllMarks a.array.marks) a b) (StopsStoring IsMarking a b)
+      → MatchResult result (λ _. StoresAll Of (HasAllMarksIf clears a.array.marks) a b) (StopsStoring Of a b)
+  marks_or_stops a b so (Ok t) g = record { stores = stores_as IsMarking Of (marking_if clears so) a b g.stores; done = λ i m in_sync is. g.done i m in_sync }
+  marks_or_stops a b so (Err fault) s = stops_as IsMarking Of (marking_if clears so) a b fault s

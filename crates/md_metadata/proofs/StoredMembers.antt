@@ -2,6 +2,7 @@
 use Rattle.std.proofs.Common.{◌≡◌, ℕ, ◌+◌, ◌≤◌, length, slice_get, Some, sym, ap, ◌∙◌, subst, arith}
 use Rattle.std.proofs.lemmas.Option.{same_Some, slice_get_within}
 use Rattle.std.specs.Prelude.{option_map}
+use Rattle.md_model.specs.Events.{Event}
 use Rattle.md_model.proofs.Puts.{by_same}
 use Rattle.md_bitmap.specs.Marks.{Bitmap}
 use Rattle.md_state.specs.View.{ArrayView, MemberView, MirrorView}
@@ -18,17 +19,17 @@ pub record IsLasting (marks : Bitmap) (Done : MemberView → Type 0) : Type 0 wh
 pub records_last : (marks : Bitmap) → IsLasting marks IsNotDue
 records_last marks = record { lasts = λ a b k n same s done. s.recorded done }
 
-module _ (Done : MemberView → Type 0) where
+module _ (Of : Event → Type 0) (Done : MemberView → Type 0) where
   -- one that has it already, or is not in sync
-  pub nothing_at : (k : ℕ) (m : MirrorView) → IsConsistent m → ((n : MemberView) → IsInSync m.array k n → Done n) → StoresAt k Done m m
-  nothing_at k m sound done = record { stores = stores_nowhere m sound; done = done }
+  pub nothing_at : (k : ℕ) (m : MirrorView) → IsConsistent m → ((n : MemberView) → IsInSync m.array k n → Done n) → StoresAt Of k Done m m
+  nothing_at k m sound done = record { stores = stores_nowhere Of m sound; done = done }
 
-  pub below_none : (m : MirrorView) → IsConsistent m → StoresBelow 0 Done m m
-  below_none m sound = record { stores = stores_nowhere m sound; done = λ i n low in_sync. absurd (omega arith) }
+  pub below_none : (m : MirrorView) → IsConsistent m → StoresBelow Of 0 Done m m
+  below_none m sound = record { stores = stores_nowhere Of m sound; done = λ i n low in_sync. absurd (omega arith) }
 
-  pub below_more : (k : ℕ) (old mid new : MirrorView) → IsLasting old.array.marks Done → StoresBelow k Done old mid → StoresAt k Done mid new → StoresBelow (k + 1) Done old new
+  pub below_more : (k : ℕ) (old mid new : MirrorView) → IsLasting old.array.marks Done → StoresBelow Of k Done old mid → StoresAt Of k Done mid new → StoresBelow Of (k + 1) Done old new
   below_more k old mid new lasting g h = record {
-    stores = stores_on old mid new g.stores h.stores;
+    stores = stores_on Of old mid new g.stores h.stores;
     done = λ i n low in_sync.
         by_same i k
         (λ same. h.done n (subst (λ (j : ℕ). IsInSync new.array j n) same in_sync))
@@ -37,14 +38,14 @@ module _ (Done : MemberView → Type 0) where
         lasting.lasts mid.array new.array i n g.stores.goes.array.marks s (g.done i s.before (omega arith) (was_in_sync mid.array new.array i n s in_sync)));
   }
 
-  pub below_all : (k : ℕ) (old new : MirrorView) → length new.array.members ≤ k → StoresBelow k Done old new → StoresAll Done old new
+  pub below_all : (k : ℕ) (old new : MirrorView) → length new.array.members ≤ k → StoresBelow Of k Done old new → StoresAll Of Done old new
   below_all k old new last g = record {
     stores = g.stores;
     done = λ i n in_sync. g.done i n (let low = slice_get_within new.array.members i n in_sync.member in omega arith) in_sync;
   }
 
   -- a member in sync has it still
-  pub last_on : (old mid new : MirrorView) → IsLasting old.array.marks Done → mid.array.marks ≡ old.array.marks → ((k : ℕ) (m : MemberView) → IsInSync mid.array k m → Done m) → Stores mid new
+  pub last_on : (old mid new : MirrorView) → IsLasting old.array.marks Done → mid.array.marks ≡ old.array.marks → ((k : ℕ) (m : MemberView) → IsInSync mid.array k m → Done m) → Stores Of mid new
       → (k : ℕ) (m : MemberView) → IsInSync new.array k m → Done m
   last_on old mid new lasting same all h k m in_sync =
       let s : StaysReady mid.array new.array k m = h.ready.each k m in_sync.member in

@@ -13,9 +13,9 @@ use Rattle.md_array.specs.InTurn.{IsRecordDue, IsSectorDue}
 use Rattle.md_array.proofs.General.Indices.{at_set_same}
 use Rattle.md_metadata.specs.declared.fault.PartFault.{PartFault}
 use Rattle.md_metadata.specs.declared.fault.PartFault.TheVariants.{Halted, MemberFailed}
-use Rattle.md_metadata.specs.Going.{IsFaulty, alone}
-use Rattle.md_metadata.specs.Storing.{IsRecorded, IsStoring, RecordsAll, RecordsAt, RecordsBelow, RecordsOn, StaysReady, StoresAt, StoresOn, StopsRecording, StopsStoring}
-use Rattle.md_metadata.proofs.Going.{goes_step, goes_two, halts_on, ready_on, same_state, stores_nowhere, stores_on, was_in_sync}
+use Rattle.md_metadata.specs.Going.{StepsBy, alone}
+use Rattle.md_metadata.specs.Storing.{IsRecorded, IsRecording, IsSector, LosesStoring, RecordsAll, RecordsAt, RecordsBelow, RecordsOn, StaysReady, StoresAt, StoresOn, StopsRecording, StopsStoring}
+use Rattle.md_metadata.proofs.Going.{first_records, goes_step, halts_on, kept_before, ready_on, same_state, step_as, step_loses, stores_nowhere, stores_on, stores_step, stores_two, two_lose, was_in_sync}
 use Rattle.md_metadata.proofs.Steps.{now_at, recorded_in_sync}
 
 -- the first sector comes before a record that is due
@@ -51,28 +51,24 @@ module _ (k : ℕ) (old mid : MirrorView) (s : StoresOn k 0 old mid) where
   }
 
   module _ (new : MirrorView) (first : IsSectorDue old.array k 0) (second : IsRecordDue (Some (Event.StoreMarks k 0)) mid.array k) where
-    recorded_after : RecordsOn k mid new → StoresAt k IsNotDue old new
+    header : StepsBy alone alone IsRecording (Event.StoreMarks k 0) old mid
+    header = step_as (IsSector 0) IsRecording first_records alone alone (Event.StoreMarks k 0) old mid s.step
+
+    recorded_after : RecordsOn k mid new → StoresAt IsRecording k IsNotDue old new
     recorded_after r = record {
-      stores = record {
-        goes = goes_two alone alone alone IsStoring old mid new (Event.StoreMarks k 0) (Event.Record k) s.step (λ previous. first) r.step second;
-        ready = ready_on old.array mid.array new.array s.step.array.marks s.ready r.ready;
-      };
+      stores = stores_two IsRecording old mid new (Event.StoreMarks k 0) (Event.Record k) tt tt header (λ previous. first) r.step second
+          (ready_on old.array mid.array new.array s.step.array.marks s.ready r.ready);
       done = λ m in_sync. r.done m in_sync.member;
     }
 
-    stops_after : (fault : PartFault) → StopsRecording k mid new fault → StopsStoring old new fault
-    stops_after (MemberFailed j) (at, l) = record {
-      loses = record {
-        goes = goes_two alone alone alone IsStoring old mid new (Event.StoreMarks k 0) (Event.RecordFails k) s.step (λ previous. first) l.step second;
-        lost = let x = s.step.array.fewer in let y = l.lost in omega arith;
-        halted = l.halted ∙ s.ready.halted;
-      };
-      faulty = subst (λ (i : ℕ). IsFaulty i new.array) (sym at) l.faulty;
-    }
-    stops_after Halted h = halts_on alone alone alone IsStoring old mid new (goes_step alone alone IsStoring (Event.StoreMarks k 0) old mid s.step (λ previous. first)) h
+    stops_after : (fault : PartFault) → StopsRecording k mid new fault → StopsStoring IsRecording old new fault
+    stops_after (MemberFailed j) (at, l) = subst (λ (i : ℕ). LosesStoring IsRecording i old new) (sym at)
+        (two_lose IsRecording old mid new k (Event.StoreMarks k 0) (Event.RecordFails k) tt refl header (λ previous. first) l.step second
+        (let x = s.step.array.fewer in let y = l.lost in omega arith) (l.halted ∙ s.ready.halted) (kept_before old.array mid.array k s.ready l.was) l.faulty)
+    stops_after Halted h = halts_on alone alone alone IsRecording old mid new (goes_step alone alone IsRecording (Event.StoreMarks k 0) old mid header (λ previous. first)) h
 
     pub recorded_or_stops : {T : Type 0} (result : Result T PartFault) → MatchResult result (λ _. RecordsOn k mid new) (StopsRecording k mid new)
-        → MatchResult result (λ _. StoresAt k IsNotDue old new) (StopsStoring old new)
+        → MatchResult result (λ _. StoresAt IsRecording k IsNotDue old new) (StopsStoring IsRecording old new)
     recorded_or_stops (Ok t) r = recorded_after r
     recorded_or_stops (Err fault) r = stops_after fault r
 
@@ -83,17 +79,15 @@ module _ (k : ℕ) (old new : MirrorView) where
   other_due out due recorded previous = record { due = due; header = λ m in_sync. absurd (out m in_sync); first = λ j m in_sync before. recorded j m in_sync }
 
   module _ (order : (previous : Option Event) → IsRecordDue previous old.array k) where
-    other_stops : (fault : PartFault) → StopsRecording k old new fault → StopsStoring old new fault
-    other_stops (MemberFailed j) (at, l) = record {
-      loses = record { goes = goes_step alone alone IsStoring (Event.RecordFails k) old new l.step order; lost = l.lost; halted = l.halted };
-      faulty = subst (λ (i : ℕ). IsFaulty i new.array) (sym at) l.faulty;
-    }
+    other_stops : (fault : PartFault) → StopsRecording k old new fault → StopsStoring IsRecording old new fault
+    other_stops (MemberFailed j) (at, l) = subst (λ (i : ℕ). LosesStoring IsRecording i old new) (sym at)
+        (step_loses IsRecording k (Event.RecordFails k) old new refl l.step order l.lost l.halted l.was l.faulty)
     other_stops Halted h = h
 
     pub other_or_stops : {T : Type 0} (result : Result T PartFault) → MatchResult result (λ _. RecordsOn k old new) (StopsRecording k old new)
-        → MatchResult result (λ _. RecordsAt k old new) (StopsStoring old new)
+        → MatchResult result (λ _. RecordsAt k old new) (StopsStoring IsRecording old new)
     other_or_stops (Ok t) r = record {
-      stores = record { goes = goes_step alone alone IsStoring (Event.Record k) old new r.step order; ready = r.ready };
+      stores = stores_step IsRecording (Event.Record k) old new tt r.step order r.ready;
       done = λ m at active. r.done m at;
     }
     other_or_stops (Err fault) r = other_stops fault r
@@ -101,17 +95,17 @@ module _ (k : ℕ) (old new : MirrorView) where
 -- ---- the members, one after another
 -- a member that is in sync, that is not kept up to date, or whose record is not due
 pub recorded_nothing : (k : ℕ) (m : MirrorView) → IsConsistent m → ((n : MemberView) → IsMember m.array k n → IsRecorded n) → RecordsAt k m m
-recorded_nothing k m sound done = record { stores = stores_nowhere m sound; done = done }
+recorded_nothing k m sound done = record { stores = stores_nowhere IsRecording m sound; done = done }
 
 pub recorded_none : (m : MirrorView) → IsConsistent m → RecordsBelow 0 m m
-recorded_none m sound = record { stores = stores_nowhere m sound; done = λ i n low at. absurd (omega arith) }
+recorded_none m sound = record { stores = stores_nowhere IsRecording m sound; done = λ i n low at. absurd (omega arith) }
 
 pub recorded_still : (a b : ArrayView) (i : ℕ) (n : MemberView) (s : StaysReady a b i n) → IsRecorded s.before → IsRecorded n
 recorded_still a b i n s is active = s.recorded (is (ap is_recorded (same_state a b i n s) ∙ active))
 
 pub recorded_more : (k : ℕ) (old mid new : MirrorView) → RecordsBelow k old mid → RecordsAt k mid new → RecordsBelow (k + 1) old new
 recorded_more k old mid new g h = record {
-  stores = stores_on old mid new g.stores h.stores;
+  stores = stores_on IsRecording old mid new g.stores h.stores;
   done = λ i n low at.
       by_same i k
       (λ same. h.done n (subst (λ (j : ℕ). IsMember new.array j n) same at))

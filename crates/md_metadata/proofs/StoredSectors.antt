@@ -12,9 +12,9 @@ use Rattle.md_state.specs.Members.{IsInSync, IsMember}
 use Rattle.md_array.specs.Consistency.{IsConsistent}
 use Rattle.md_array.specs.InTurn.{HasSector, IsSectorDue}
 use Rattle.md_metadata.specs.declared.fault.PartFault.{PartFault}
-use Rattle.md_metadata.specs.Going.{alone}
-use Rattle.md_metadata.specs.Storing.{HasAllMarks, IsStoring, StaysReady, Stores, StoresAt, StoresOn, StopsStoring}
-use Rattle.md_metadata.proofs.Going.{goes_step, stores_nowhere, stores_on, was_in_sync}
+use Rattle.md_metadata.specs.Going.{StepsBy, alone}
+use Rattle.md_metadata.specs.Storing.{HasAllMarks, IsMarking, IsSector, StaysReady, Stores, StoresAt, StoresOn, StopsStoring}
+use Rattle.md_metadata.proofs.Going.{sector_marks, step_as, stops_as, stores_nowhere, stores_on, stores_step, was_in_sync}
 use Rattle.md_metadata.proofs.Steps.{now_at}
 use Rattle.md_metadata.proofs.StoredMembers.{IsLasting}
 
@@ -35,11 +35,14 @@ hit true x y e = refl
 hit false x y e = absurd cc
 
 module _ (k block : ℕ) (old new : MirrorView) where
-  sector_in : IsConsistent old → IsSectorDue old.array k block → StoresOn k block old new → StoresAt k (HasSector old.array block) old new
+  abbrev as_marking : StepsBy alone alone (IsSector block) (Event.StoreMarks k block) old new → StepsBy alone alone IsMarking (Event.StoreMarks k block) old new
+  as_marking = step_as (IsSector block) IsMarking (sector_marks block) alone alone (Event.StoreMarks k block) old new
+
+  sector_in : IsConsistent old → IsSectorDue old.array k block → StoresOn k block old new → StoresAt IsMarking k (HasSector old.array block) old new
   sector_in sound due s =
       let r = s.gives in
       record {
-        stores = record { goes = goes_step alone alone IsStoring (Event.StoreMarks k block) old new s.step (λ previous. due); ready = s.ready };
+        stores = stores_step IsMarking (Event.StoreMarks k block) old new tt (as_marking s.step) (λ previous. due) s.ready;
         done = λ m in_sync c here low.
             let it = now_at old.array new.array k r.member (record r.member { stored = r.stored }) r.may.in_sync.member refl r.array m in_sync.member in
             let chunks = sound.chunks.member_count k r.member r.may.in_sync.member in
@@ -49,15 +52,15 @@ module _ (k block : ℕ) (old new : MirrorView) where
             (ap (λ (b : Bool). b && nat_lt c r.member.stored.chunks) (eq-eqb _ _ here) ∙ lt-ltb c r.member.stored.chunks inside);
       }
 
-  pub sector_or_stops : IsConsistent old → IsSectorDue old.array k block → {T : Type 0} (result : Result T PartFault) → MatchResult result (λ _. StoresOn k block old new) (StopsStoring old new)
-      → MatchResult result (λ _. StoresAt k (HasSector old.array block) old new) (StopsStoring old new)
+  pub sector_or_stops : IsConsistent old → IsSectorDue old.array k block → {T : Type 0} (result : Result T PartFault) → MatchResult result (λ _. StoresOn k block old new) (StopsStoring (IsSector block) old new)
+      → MatchResult result (λ _. StoresAt IsMarking k (HasSector old.array block) old new) (StopsStoring IsMarking old new)
   sector_or_stops sound due (Ok t) s = sector_in sound due s
-  sector_or_stops sound due (Err fault) s = s
+  sector_or_stops sound due (Err fault) s = stops_as (IsSector block) IsMarking (sector_marks block) old new fault s
 
 -- ---- the sectors of one member
 -- those before this one are stored
 pub record StoresUpTo (k block : ℕ) (old new : MirrorView) : Type 0 where
-  pub stores : Stores old new
+  pub stores : Stores IsMarking old new
   pub done : (m : MemberView) → IsInSync new.array k m → (c : ℕ) → c < old.array.marks.chunks → block_of c < block → is_set m.stored.bytes c ≡ is_set old.array.marks.bytes c
 
 -- each chunk's bit is in one of them
@@ -66,11 +69,11 @@ block_within c chunks low = omega arith
 
 module _ (k : ℕ) where
   pub up_none : (m : MirrorView) → IsConsistent m → StoresUpTo k 0 m m
-  up_none m sound = record { stores = stores_nowhere m sound; done = λ n in_sync c low before. absurd (omega arith) }
+  up_none m sound = record { stores = stores_nowhere IsMarking m sound; done = λ n in_sync c low before. absurd (omega arith) }
 
-  pub up_more : (block : ℕ) (old mid new : MirrorView) → StoresUpTo k block old mid → StoresAt k (HasSector mid.array block) mid new → StoresUpTo k (block + 1) old new
+  pub up_more : (block : ℕ) (old mid new : MirrorView) → StoresUpTo k block old mid → StoresAt IsMarking k (HasSector mid.array block) mid new → StoresUpTo k (block + 1) old new
   up_more block old mid new g h = record {
-    stores = stores_on old mid new g.stores h.stores;
+    stores = stores_on IsMarking old mid new g.stores h.stores;
     done = λ m in_sync c low before.
         let same : mid.array.marks ≡ old.array.marks = g.stores.goes.array.marks in
         let bit = ap (λ (x : Bitmap). is_set x.bytes c) same in
@@ -82,7 +85,7 @@ module _ (k : ℕ) where
         s.marked c (g.done s.before (was_in_sync mid.array new.array k m s in_sync) c low (omega arith) ∙ sym bit) ∙ bit);
   }
 
-  pub up_all : (block : ℕ) (old new : MirrorView) → bitmap_sectors old.array.marks.chunks ≤ block → StoresUpTo k block old new → StoresAt k (HasAllMarks old.array.marks) old new
+  pub up_all : (block : ℕ) (old new : MirrorView) → bitmap_sectors old.array.marks.chunks ≤ block → StoresUpTo k block old new → StoresAt IsMarking k (HasAllMarks old.array.marks) old new
   up_all block old new past g = record {
     stores = g.stores;
     done = λ m in_sync c low. g.done m in_sync c low (let within = block_within c old.array.marks.chunks low in omega arith);

@@ -7,11 +7,10 @@ use Rattle.md_state.specs.MakingClean.{CannotRise, HasInFlight, IsIdle, made_cle
 use Rattle.md_state.specs.Members.{AllInSync, clean_offset, is_degraded}
 use Rattle.md_state.specs.Rising.{HasSpentEvents}
 use Rattle.md_state.specs.Trying.{Refuses, RefusesHalted}
-use Rattle.md_array.specs.InTurn.{HaltsAt, Requests}
 use Rattle.md_metadata.specs.declared.stop_fault.StopFault.{StopFault}
 use Rattle.md_metadata.specs.declared.stop_fault.StopFault.TheVariants.{Halted, InFlight, EventsFull, MemberFailed}
-use Rattle.md_metadata.specs.Going.{IsFaulty, LeadsBy, recorded_count}
-use Rattle.md_metadata.specs.Storing.{AllRecorded, AllStayReady, HasAllMarks, Stores}
+use Rattle.md_metadata.specs.Going.{HaltsAfter, IsFaulty, LeadsBy, alone, recorded_count}
+use Rattle.md_metadata.specs.Storing.{AllRecorded, HasAllMarks, IsRecording, IsStoring, LosesStoring, Stores}
 
 -- an event of a stop: marks and the clean state in memory, then what is stored
 abbrev pub IsStopping : Event → Type 0
@@ -22,6 +21,17 @@ IsStopping (Event.StoreMarks k b) = Unit {0}
 IsStopping (Event.RecordFails k) = Unit {0}
 IsStopping (Event.StoreMarksFails k b) = Unit {0}
 IsStopping e = ⊥
+
+-- one in memory
+abbrev pub IsSettling : Event → Type 0
+IsSettling (Event.ClearIdle c) = Unit {0}
+IsSettling Event.MakeClean = Unit {0}
+IsSettling e = ⊥
+
+-- what it stores: superblocks, each with the first sector of its bitmap, and marks where they were cleared
+abbrev pub IsStoringIf : Bool → Event → Type 0
+IsStoringIf true e = IsStoring e
+IsStoringIf false e = IsRecording e
 
 -- it clears the marks of an array that is resynced and not degraded
 abbrev pub clears_marks : ArrayView → Bool
@@ -46,22 +56,31 @@ pub record IsSettled (old new : ArrayView) : Type 0 where
   pub marks : IsCleared old new
   pub array : new ≡ record (cond (makes_clean old) (made_clean old) old) { marks = new.marks }
 
+-- by events in memory alone
+pub record Settles (old new : MirrorView) : Type 0 where
+  pub goes : LeadsBy IsSettling old new
+  pub disks : new.disks ≡ old.disks
+  pub array : IsSettled old.array new.array
+
 pub record Stops (old new : MirrorView) : Type 0 where
   pub may : MayStop old.array
   pub goes : LeadsBy IsStopping old new
-  pub settled : ArrayView
-  pub settles : IsSettled old.array settled
+  pub settled : MirrorView
+  pub settles : Settles old settled
   -- from there on nothing failed, and nothing changed but what is stored
-  pub stored : AllStayReady settled new.array
+  pub stores : Stores (IsStoringIf (clears_marks old.array)) settled new
   -- where the marks were cleared, none is stored on a member in sync
   pub marks : clears_marks old.array ≡ true → AllInSync new.array (HasAllMarks new.array.marks)
   -- no superblock is due
   pub recorded : AllRecorded new.array
 
--- Member k failed on the way. The marks are those after a stop, and the superblocks of the others are due.
+-- A write to member k failed, and that was the end. The marks are those after a stop, and the superblocks of the others are due.
 pub record FailsStop (k : ℕ) (old new : MirrorView) : Type 0 where
   pub may : MayStop old.array
   pub goes : LeadsBy IsStopping old new
+  pub settled : MirrorView
+  pub settles : Settles old settled
+  pub loses : LosesStoring (IsStoringIf (clears_marks old.array)) k settled new
   pub faulty : IsFaulty k new.array
   pub lost : recorded_count new.array < recorded_count old.array
   pub running : new.array.halted ≡ false
@@ -71,11 +90,10 @@ pub record FailsStop (k : ℕ) (old new : MirrorView) : Type 0 where
 -- After some of its events a write failed that halted the mirror.
 pub record HaltsStop (old new : MirrorView) : Type 0 where
   pub may : MayStop old.array
-  pub mid : MirrorView
-  pub goes : LeadsBy IsStopping old mid
-  pub failing : Event
-  pub of : IsStopping failing
-  pub halts : (others : Requests) → HaltsAt mid others failing new
+  pub settled : MirrorView
+  pub settles : Settles old settled
+  pub halts : HaltsAfter alone alone (IsStoringIf (clears_marks old.array)) settled new
+  pub goes : LeadsBy IsStopping old halts.mid
 
 abbrev pub RefusesStop : MirrorView → MirrorView → StopFault → Type 0
 RefusesStop old new Halted = RefusesHalted old new ⊎ HaltsStop old new
@@ -85,13 +103,13 @@ RefusesStop old new (MemberFailed k) = FailsStop k old new
 
 -- ---- its parts
 pub record ClearsIfFull (old new : MirrorView) : Type 0 where
-  pub goes : LeadsBy IsStopping old new
+  pub goes : LeadsBy IsSettling old new
   pub disks : new.disks ≡ old.disks
   pub marks : IsCleared old.array new.array
   pub array : new.array ≡ record old.array { marks = new.array.marks }
 
 pub record CleansIfActive (old new : MirrorView) : Type 0 where
-  pub goes : LeadsBy IsStopping old new
+  pub goes : LeadsBy IsSettling old new
   pub disks : new.disks ≡ old.disks
   pub array : new.array ≡ cond (makes_clean old.array) (made_clean old.array) old.array
 
@@ -99,6 +117,6 @@ abbrev pub HasAllMarksIf : Bool → Bitmap → MemberView → Type 0
 HasAllMarksIf clears marks m = clears ≡ true → HasAllMarks marks m
 
 pub record StoresSettled (clears : Bool) (old new : MirrorView) : Type 0 where
-  pub stores : Stores old new
+  pub stores : Stores (IsStoringIf clears) old new
   pub marks : clears ≡ true → AllInSync new.array (HasAllMarks old.array.marks)
   pub recorded : AllRecorded new.array

@@ -1,16 +1,38 @@
 -- Marks and superblocks are stored on the members, whatever requests are in flight.
-use Rattle.std.specs.Prelude.{◌≡◌, ℕ, ◌<◌, true}
+use Rattle.std.specs.Prelude.{◌≡◌, ℕ, ◌<◌, true, List, [], ◌∷◌, ◌++◌}
 use Rattle.md_model.specs.Events.{Event}
 use Rattle.md_bitmap.specs.Marks.{Bitmap, is_set}
 use Rattle.md_state.specs.View.{ArrayView, MemberView, MirrorView}
 use Rattle.md_state.specs.Members.{IsInSync, IsMember, is_recorded}
 use Rattle.md_state.specs.StoringMarks.{StoresMarkSector}
 use Rattle.md_state.specs.WritingMember.{IsNotDue}
+use Rattle.md_array.specs.InTurn.{AllOf}
 use Rattle.md_metadata.specs.declared.fault.PartFault.{PartFault}
 use Rattle.md_metadata.specs.declared.fault.PartFault.TheVariants.{Halted, MemberFailed}
 use Rattle.md_metadata.specs.Going.{GoesOn, HaltsAfter, IsFaulty, LosesMember, StepsBy, alone, recorded_count}
 
--- an event by which marks and records are stored
+-- ---- kinds of events, done or failed
+-- this sector of a bitmap is stored
+abbrev pub IsSector : ℕ → Event → Type 0
+IsSector block (Event.StoreMarks k b) = b ≡ block
+IsSector block (Event.StoreMarksFails k b) = b ≡ block
+IsSector block e = ⊥
+
+-- marks are stored
+abbrev pub IsMarking : Event → Type 0
+IsMarking (Event.StoreMarks k b) = Unit {0}
+IsMarking (Event.StoreMarksFails k b) = Unit {0}
+IsMarking e = ⊥
+
+-- superblocks are stored, and of bitmaps the first sectors
+abbrev pub IsRecording : Event → Type 0
+IsRecording (Event.Record k) = Unit {0}
+IsRecording (Event.StoreMarks k b) = b ≡ 0
+IsRecording (Event.RecordFails k) = Unit {0}
+IsRecording (Event.StoreMarksFails k b) = b ≡ 0
+IsRecording e = ⊥
+
+-- either
 abbrev pub IsStoring : Event → Type 0
 IsStoring (Event.Record k) = Unit {0}
 IsStoring (Event.StoreMarks k b) = Unit {0}
@@ -18,6 +40,27 @@ IsStoring (Event.RecordFails k) = Unit {0}
 IsStoring (Event.StoreMarksFails k b) = Unit {0}
 IsStoring e = ⊥
 
+-- ---- which of them failed
+abbrev pub IsStored : Event → Type 0
+IsStored (Event.Record k) = Unit {0}
+IsStored (Event.StoreMarks k b) = Unit {0}
+IsStored e = ⊥
+
+-- a write to member k failed
+abbrev pub IsFailureOf : ℕ → Event → Type 0
+IsFailureOf k (Event.RecordFails j) = j ≡ k
+IsFailureOf k (Event.StoreMarksFails j b) = j ≡ k
+IsFailureOf k e = ⊥
+
+-- the last of them is such a failure, and nothing failed before it
+pub record FailsAtLast (k : ℕ) (events : List Event) : Type 0 where
+  pub before : List Event
+  pub stored : AllOf IsStored before
+  pub failing : Event
+  pub of : IsFailureOf k failing
+  pub list : events ≡ before ++ failing ∷ []
+
+-- ---- what is stored, and what stays
 -- A member is what it was, but for what is stored. What is stored of its marks as they are in memory stays so, and its superblock is
 -- not due anew.
 pub record StaysReady (old new : ArrayView) (k : ℕ) (n : MemberView) : Type 0 where
@@ -33,34 +76,43 @@ pub record AllStayReady (old new : ArrayView) : Type 0 where
   pub others : new ≡ record old { members = new.members }
   pub halted : new.halted ≡ old.halted
 
--- marks and superblocks were stored, and nothing failed
-pub record Stores (old new : MirrorView) : Type 0 where
-  pub goes : GoesOn alone alone IsStoring old new
+-- member k is kept up to date
+pub record IsUpToDate (a : ArrayView) (k : ℕ) : Type 0 where
+  pub member : MemberView
+  pub at : IsMember a k member
+  pub recorded : is_recorded member.state ≡ true
+
+-- by events of a kind something was stored, and nothing failed
+pub record Stores (Of : Event → Type 0) (old new : MirrorView) : Type 0 where
+  pub goes : GoesOn alone alone Of old new
+  pub stored : AllOf IsStored goes.events
   pub ready : AllStayReady old.array new.array
 
--- member k failed on the way
-pub record LosesStoring (k : ℕ) (old new : MirrorView) : Type 0 where
-  pub loses : LosesMember alone alone IsStoring old new
+-- member k was kept up to date and failed, and that was the end
+pub record LosesStoring (Of : Event → Type 0) (k : ℕ) (old new : MirrorView) : Type 0 where
+  pub loses : LosesMember alone alone Of old new
+  pub was : IsUpToDate old.array k
+  pub last : FailsAtLast k loses.goes.events
   pub faulty : IsFaulty k new.array
 
 -- why they do not come to their end
-abbrev pub StopsStoring : MirrorView → MirrorView → PartFault → Type 0
-StopsStoring old new Halted = HaltsAfter alone alone IsStoring old new
-StopsStoring old new (MemberFailed k) = LosesStoring k old new
+abbrev pub StopsStoring : (Event → Type 0) → MirrorView → MirrorView → PartFault → Type 0
+StopsStoring Of old new Halted = HaltsAfter alone alone Of old new
+StopsStoring Of old new (MemberFailed k) = LosesStoring Of k old new
 
 -- they came to their end: of member k it holds, if it is in sync
-pub record StoresAt (k : ℕ) (Done : MemberView → Type 0) (old new : MirrorView) : Type 0 where
-  pub stores : Stores old new
+pub record StoresAt (Of : Event → Type 0) (k : ℕ) (Done : MemberView → Type 0) (old new : MirrorView) : Type 0 where
+  pub stores : Stores Of old new
   pub done : (m : MemberView) → IsInSync new.array k m → Done m
 
 -- of those before this one
-pub record StoresBelow (k : ℕ) (Done : MemberView → Type 0) (old new : MirrorView) : Type 0 where
-  pub stores : Stores old new
+pub record StoresBelow (Of : Event → Type 0) (k : ℕ) (Done : MemberView → Type 0) (old new : MirrorView) : Type 0 where
+  pub stores : Stores Of old new
   pub done : (i : ℕ) (m : MemberView) → i < k → IsInSync new.array i m → Done m
 
 -- of all of them
-pub record StoresAll (Done : MemberView → Type 0) (old new : MirrorView) : Type 0 where
-  pub stores : Stores old new
+pub record StoresAll (Of : Event → Type 0) (Done : MemberView → Type 0) (old new : MirrorView) : Type 0 where
+  pub stores : Stores Of old new
   pub done : (i : ℕ) (m : MemberView) → IsInSync new.array i m → Done m
 
 -- its superblock is not due, if it is one that is kept up to date
@@ -69,41 +121,42 @@ IsRecorded m = is_recorded m.state ≡ true → IsNotDue m
 
 -- of member k it holds, in sync or not
 pub record RecordsAt (k : ℕ) (old new : MirrorView) : Type 0 where
-  pub stores : Stores old new
+  pub stores : Stores IsRecording old new
   pub done : (m : MemberView) → IsMember new.array k m → IsRecorded m
 
 pub record RecordsBelow (k : ℕ) (old new : MirrorView) : Type 0 where
-  pub stores : Stores old new
+  pub stores : Stores IsRecording old new
   pub done : (i : ℕ) (m : MemberView) → i < k → IsMember new.array i m → IsRecorded m
 
 abbrev pub AllRecorded : ArrayView → Type 0
 AllRecorded a = (i : ℕ) (m : MemberView) → IsMember a i m → IsRecorded m
 
 pub record RecordsAll (old new : MirrorView) : Type 0 where
-  pub stores : Stores old new
+  pub stores : Stores IsRecording old new
   pub done : AllRecorded new.array
 
 -- a sector of the bitmap is stored on member k
 pub record StoresOn (k block : ℕ) (old new : MirrorView) : Type 0 where
-  pub step : StepsBy alone alone IsStoring (Event.StoreMarks k block) old new
+  pub step : StepsBy alone alone (IsSector block) (Event.StoreMarks k block) old new
   pub ready : AllStayReady old.array new.array
   pub gives : StoresMarkSector k block old new
 
 -- member k's superblock is stored
 pub record RecordsOn (k : ℕ) (old new : MirrorView) : Type 0 where
-  pub step : StepsBy alone alone IsStoring (Event.Record k) old new
+  pub step : StepsBy alone alone IsRecording (Event.Record k) old new
   pub ready : AllStayReady old.array new.array
   pub done : (m : MemberView) → IsMember new.array k m → IsNotDue m
 
 -- or the write of it failed
 pub record LosesRecording (k : ℕ) (old new : MirrorView) : Type 0 where
-  pub step : StepsBy alone alone IsStoring (Event.RecordFails k) old new
+  pub step : StepsBy alone alone IsRecording (Event.RecordFails k) old new
   pub lost : recorded_count new.array < recorded_count old.array
   pub halted : new.array.halted ≡ old.array.halted
+  pub was : IsUpToDate old.array k
   pub faulty : IsFaulty k new.array
 
 abbrev pub StopsRecording : ℕ → MirrorView → MirrorView → PartFault → Type 0
-StopsRecording k old new Halted = HaltsAfter alone alone IsStoring old new
+StopsRecording k old new Halted = HaltsAfter alone alone IsRecording old new
 StopsRecording k old new (MemberFailed j) = (j ≡ k) × LosesRecording k old new
 
 -- the member has all marks stored as these are

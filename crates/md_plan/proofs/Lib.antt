@@ -1,7 +1,6 @@
 pub mod CellLoads
 pub mod CellMoves
 pub mod Certified
-pub mod Chains
 pub mod PathPulls
 pub mod ReachSteps
 pub mod RowCounts

@@ -1,8 +1,8 @@
 -- Rows by class.
-use Rattle.std.proofs.Common.{◌≡◌, ◌∙◌, ℕ, ◌+◌, ◌<◌, ◌≤◌, Bool, true, false, not, ◌&&◌, eqb, List, [], ◌∷◌, ◌++◌, length, get_or, take, refl, sym, ap, subst, arith, inl, inr, length-append}
+use Rattle.std.proofs.Common.{◌≡◌, ◌∙◌, ℕ, ◌+◌, ◌<◌, ◌≤◌, Bool, true, false, not, ◌&&◌, eqb, List, [], ◌∷◌, ◌++◌, length, get_or, take, refl, sym, ap, subst, arith, length-append}
 use Rattle.std.specs.List.{HoldsAt}
-use Rattle.std.proofs.lemmas.Bool.{cases_eq, ne_eqb, eq-eqb}
-use Rattle.std.proofs.lemmas.List.{get_or_default, get_or_append_left, length-take-le}
+use Rattle.std.proofs.lemmas.Bool.{ne_eqb, eq-eqb}
+use Rattle.std.proofs.lemmas.List.{length-take-le}
 use Rattle.std.proofs.lemmas.List.Elements.{All-push}
 use Rattle.std.proofs.lemmas.List.Sums.{sum_by_more, sum_by_push, get_or-le-sum_by, count_by-le-length}
 use Rattle.std.proofs.Math.Seq.{get_or-append_seam}
@@ -64,13 +64,6 @@ grouped_orphan rows i d cells class_of new last within none e before =
       allowed = before.allowed;
       long = omega arith;
       few = omega arith;
-      classes = λ k f less some. elim (cases_eq k i) [
-        | inl same ↦ absurd (some (ap (λ n. (get_or rows n f).mask) same ∙ ap (λ (r : Row). r.mask) (get_or_default rows i f d within) ∙ none))
-        | inr other ↦
-            let read : get_or new k 0 ≡ get_or class_of k 0 = ap (λ xs. get_or xs k 0) e ∙ get_or_append_left class_of (last ∷ []) 0 k (omega arith) in
-            let lt = before.classes k f (omega arith) some in
-            omega (arith, read, lt)
-      ];
     }
 
 -- a row of a class
@@ -98,15 +91,6 @@ grouped_more rows i d cells with_class new_cells class_of new last within some e
       allowed = one.allowed (class.allowed before.allowed);
       long = omega arith;
       few = omega arith;
-      classes = λ k f less some_k. elim (cases_eq k i) [
-        | inl same ↦
-            let read : get_or new k 0 ≡ last = ap (λ n. get_or new n 0) (same ∙ sym old) ∙ ap (λ xs. get_or xs (length class_of) 0) e ∙ get_or-append_seam class_of last [] 0 in
-            omega arith
-        | inr other ↦
-            let read : get_or new k 0 ≡ get_or class_of k 0 = ap (λ xs. get_or xs k 0) e ∙ get_or_append_left class_of (last ∷ []) 0 k (omega arith) in
-            let lt = before.classes k f (omega arith) some_k in
-            omega (arith, read, lt)
-      ];
     }
 
 -- a class has no more chunks than there are rows
@@ -118,3 +102,14 @@ class_small rows i cells with_class class_of mask last le before class d =
     let n = count_by-le-length (λ (r : Row). passes (λ m. true) r) (take i rows) in
     let t = length-take-le i rows le in
     omega (arith, at, s, b, n, t)
+
+-- before the first row there is no class
+pub grouped_none : (rows : List Row) (cells : List Cell) (class_of : List ℕ) → cells ≡ [] → class_of ≡ [] → IsGroupedBelow rows 0 [] cells class_of
+grouped_none rows cells class_of no_cells no_classes =
+    let none : IsGroupedBelow rows 0 [] [] [] = record {
+      counts = λ q. refl;
+      allowed = λ k d less. absurd (omega arith);
+      long = refl;
+      few = omega arith;
+    } in
+    subst (λ xs. IsGroupedBelow rows 0 [] xs class_of) (sym no_cells) (subst (λ ys. IsGroupedBelow rows 0 [] [] ys) (sym no_classes) none)

@@ -1,5 +1,5 @@
 -- Classes of chunks with equal masks.
-use Rattle.std.specs.Prelude.{◌≡◌, ◌≢◌, ℕ, ◌+◌, ◌<◌, ◌≤◌, ◌==◌, ◌&&◌, not, Bool, List, length, count_by, slice_index, slice_index_or, if◌then◌else◌}
+use Rattle.std.specs.Prelude.{◌≡◌, ℕ, ◌+◌, ◌<◌, ◌≤◌, ◌==◌, ◌&&◌, not, Bool, List, length, count_by, slice_index_or, if◌then◌else◌}
 use Rattle.std.specs.List.{HoldsAt}
 use Rattle.md_cert.specs.declared.table.Row.{Row}
 use Rattle.md_plan.specs.declared.cell.Cell.{Cell}
@@ -30,7 +30,6 @@ pub record IsGroupedBelow (rows : List Row) (i : ℕ) (part : List Row) (cells :
   pub allowed : AreAllowed cells
   pub long : length class_of ≡ i
   pub few : length cells ≤ i
-  pub classes : (k : ℕ) (d : Row) → k < i → (slice_index_or rows k d).mask ≢ 0 → slice_index class_of k < length cells
 
 -- the rows by class
 abbrev pub IsGrouped : List Row → List Cell → List ℕ → Type 0

@@ -21,6 +21,13 @@ pub record SomeChunk (cells : List Cell) (mask : ℕ) : Type 0 where
   pub within : at < length cells
   pub has_chunks : HoldsAt (HasChunks mask) cells at
 
+-- the same cells in another order
+pub record IsReordered (old new : List Cell) : Type 0 where
+  pub long : length new ≡ length old
+  pub counts : (q : ℕ → Bool) → count_with q new ≡ count_with q old
+  pub loads : (s : ℕ) → load_of s new ≡ load_of s old
+  pub allowed : AreAllowed old → AreAllowed new
+
 -- one chunk of a cell is given out
 pub record TakesOne (old new : List Cell) (mask source : ℕ) : Type 0 where
   pub long : length new ≡ length old

@@ -1,12 +1,12 @@
 // Chunks and rounds given out by the counts.
-ghost use Rattle.std.specs.Prelude.{◌≡◌, ◌≢◌, ℕ, ◌<◌, ◌≤◌, ◌^◌, true, Bool, All, length, slice_index, slice_index_or, IfOk, MatchOption};
+ghost use Rattle.std.specs.Prelude.{◌≡◌, ℕ, ◌<◌, ◌≤◌, ◌^◌, true, Bool, length, IfOk, MatchOption};
 ghost use Rattle.std.specs.List.{AllWithin, HoldsAt};
 ghost use Rattle.md_cert.specs.Sources.{has};
 ghost use Rattle.md_cert.specs.Tables.{IsTable};
 ghost use Rattle.md_cert.specs.declared.table.Row.{Row};
 ghost use Rattle.md_plan.specs.Cells.{AreAllowed, count_with};
 ghost use Rattle.md_plan.specs.Classes.{count_rows};
-ghost use Rattle.md_plan.specs.Slots.{HasChunks, IsGiven, SomeChunk, TakesOne};
+ghost use Rattle.md_plan.specs.Slots.{HasChunks, IsGiven, IsReordered, SomeChunk, TakesOne};
 
 use crate::cell::Cell;
 use md_cert::{NoMemory, Row, Slot};
@@ -52,6 +52,22 @@ fn next_cell(cells: &[Cell], hint: usize, classes: usize, mask: u32) -> usize
     unreachable!()
 }
 
+// A cell with chunks of this mask. Another than that of the class changes places with it, so that it is
+// looked at first from now on.
+fn bring_cell(cells: &mut Vec<Cell>, class: usize, classes: usize, mask: u32) -> usize
+    requires { SomeChunk cells.old.items mask }
+    ensures same { IsReordered cells.old.items cells.new.items }
+    ensures within { result < length cells.new.items }
+    ensures chunks { HoldsAt (HasChunks mask) cells.new.items result }
+{
+    let at = next_cell(cells, class, classes, mask);
+    if at != class && class < cells.len() {
+        cells.swap(class, at);
+        return class;
+    }
+    at
+}
+
 // Takes a chunk out of a cell.
 fn take_one(cells: &mut Vec<Cell>, at: usize, mask: u32) -> u32
     requires within { at < length cells.old.items }
@@ -65,7 +81,8 @@ fn take_one(cells: &mut Vec<Cell>, at: usize, mask: u32) -> u32
     cell.source
 }
 
-// Gives each chunk a source and a round. For each class, `next` has the cell in which its chunks are looked for first.
+// Gives each chunk a source and a round. Where the first cell of a class is empty, another with
+// chunks of its mask takes its place.
 pub(crate) fn give_out(
     alloc: Global,
     rows: &[Row],
@@ -78,14 +95,8 @@ pub(crate) fn give_out(
     requires allowed { AreAllowed cells.old.items }
     requires counts { (q : ℕ → Bool) → count_with q cells.old.items ≡ count_rows q rows.now }
     requires classes { length class_of.now ≡ length rows.now }
-    requires class { (k : ℕ) (d : Row) → k < length rows.now → (slice_index_or rows.now k d).mask ≢ 0
-        → slice_index class_of.now k < classes }
     ensures { IfOk result (λ g. IsGiven rows.now cells.old.items g.slots.items g.orphans.items) }
 {
-    let mut next: Vec<usize> = Vec::with_capacity(alloc, classes)?;
-    for class in 0..classes {
-        next.push(class)?;
-    }
     let mut slots: Vec<Slot> = Vec::with_capacity(alloc, rows.len())?;
     let mut orphans: Vec<u32> = Vec::new(alloc);
     let mut used = [0u32; 32];
@@ -94,8 +105,7 @@ pub(crate) fn give_out(
             orphans.push(row.chunk)?;
         } else {
             let class = class_of[i] as usize;
-            let at = next_cell(cells, next[class], classes, row.mask);
-            next[class] = at;
+            let at = bring_cell(cells, class, classes, row.mask);
             let source = take_one(cells, at, row.mask);
             let round = used[source as usize];
             used[source as usize] = round + 1;

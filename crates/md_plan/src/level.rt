@@ -1,11 +1,11 @@
 // Loads levelled before `balance`: each source's cells stand on a shelf of its own, so that chunks move on
 // along many alternating paths without a pass over all cells for each.
-ghost use Rattle.std.specs.Prelude.{◌≡◌, ◌≢◌, ◌^◌, ◌≤◌, true, length, OnOk};
-ghost use Rattle.md_plan.specs.Cells.{AreAllowed, count_with};
+ghost use Rattle.std.specs.Prelude.{◌≡◌, ◌≢◌, length, OnOk};
+ghost use Rattle.md_plan.specs.Cells.{AreAllowed};
 ghost use Rattle.md_plan.specs.Classes.{IsLevelled};
 
 use crate::cell::Cell;
-use crate::place::add_loads;
+use crate::direct::{light, move_directly};
 use crate::route::{Route, find_route, step_back};
 use crate::search::heavy;
 use crate::shelf::{Shelf, fill_shelves, hand_on};
@@ -17,17 +17,18 @@ const PATHS: u32 = 1 << 16;
 
 // Levels the loads, as far as the paths suffice. Like the first choice of sources, this decides only how
 // much is left for `balance`. No clause says that the bound here is the least: `balance` finds it anew.
-pub(crate) fn level(alloc: Global, cells: &mut Vec<Cell>) -> Result<(), NoMemory>
-    requires allowed { AreAllowed cells.old.items }
-    requires small { count_with (λ m. true) cells.old.items ≤ 2 ^ 20 }
+pub(crate) fn level(
+    alloc: Global,
+    cells: &mut Vec<Cell>,
+    loads: [u32; 32],
+    sources: u32,
+) -> Result<(), NoMemory>
+    requires { AreAllowed cells.old.items }
     ensures { OnOk result (IsLevelled cells.old.items cells.new.items) }
 {
-    let mut loads = add_loads(cells);
-    let mut sources = 0;
-    for cell in cells.iter() {
-        sources |= cell.mask;
-    }
+    let mut loads = loads;
     let mut bound = mean_load(&loads, sources);
+    move_directly(cells, &mut loads, bound)?;
     if heavy(&loads, bound) == 0 {
         return Ok(());
     }
@@ -48,7 +49,7 @@ pub(crate) fn level(alloc: Global, cells: &mut Vec<Cell>) -> Result<(), NoMemory
 }
 
 // What each of some sources holds on average, rounded up.
-pub(crate) fn mean_load(loads: &[u32], sources: u32) -> u32
+fn mean_load(loads: &[u32], sources: u32) -> u32
     requires { length loads.now ≡ 32 }
 {
     let mut sum = 0u64;
@@ -59,19 +60,6 @@ pub(crate) fn mean_load(loads: &[u32], sources: u32) -> u32
     }
     let number = u64::from(sources.count_ones()).max(1);
     u32::try_from(sum.div_ceil(number)).unwrap_or(u32::MAX)
-}
-
-// The sources below a bound.
-fn light(loads: &[u32], bound: u32) -> u32
-    requires { length loads.now ≡ 32 }
-{
-    let mut sources = 0;
-    for source in 0..32u32 {
-        if loads[source as usize] < bound {
-            sources |= 1u32 << source;
-        }
-    }
-    sources
 }
 
 // What the source at which a route begins holds above the bound.

@@ -18,7 +18,7 @@ use Rattle.md_laws.proofs.Runs.Rests.{rests_same}
 use Rattle.md_metadata.specs.Storing.{HasAllMarks}
 use Rattle.md_resync.specs.declared.fault.ResyncFault.{ResyncFault}
 use Rattle.md_resync.specs.declared.fault.ResyncFault.TheVariants.{Halted, InFlight, MemberFailed, NoMemory, ReadFault}
-use Rattle.md_resync.specs.Resyncing.{Advances, FailsToAgree, FailsToWrite, GivesUp, GoesOn, HaltsResync, IsOfResync, LosesMember, RefusesResync, Stops, StopsIdle, StopsReading, Unresyncs}
+use Rattle.md_resync.specs.Resyncing.{Advances, FailsToAgree, FailsToWrite, GivesUp, GoesOn, GoesUnresynced, HaltsResync, IsOfResync, LosesMember, RefusesResync, Stops, StopsIdle, StopsReading, Unresyncs}
 use Rattle.md_resync.proofs.CopiedRuns.{same_then}
 
 -- ---- nothing is in flight, before or after
@@ -61,19 +61,29 @@ advances_on old mid new idle g h = record {
 }
 
 -- ---- it is kept that the array is not resynced
-module _ (old new : MirrorView) (u : Unresyncs old new) where
-  pub goes_unresynced : GoesOn old new
-  goes_unresynced = record {
-    events = Event.Unresynced ∷ [];
-    steps = (tt, tt);
-    leads = λ previous requests in_flight. unread (Event.Unresynced ∷ []) previous old requests (λ m r. (m ≡ new) × (r ≡ requests))
-        (new, requests, tt, (refl, u.marks), (λ honest whole. u.happens honest requests in_flight), (refl, refl));
-  }
+goes_unresynced : (old mid new : MirrorView) → IsIdle old.array → GoesOn old mid → Unresyncs mid new → GoesUnresynced old new
+goes_unresynced old mid new idle g u = record {
+  events = g.events;
+  steps = g.steps;
+  leads = λ previous requests in_flight.
+      let there = none_flies old.array mid.array idle requests in_flight in
+      read_on g.events (Event.Unresynced ∷ []) previous old requests (λ m s. (m ≡ new) × (s ≡ requests))
+      (read_then g.events previous old requests
+      (λ m s. (m ≡ mid) × (s ≡ requests))
+      (λ m s. (last : Option Event) → ReadInTurn last m s (Event.Unresynced ∷ []) (λ m s. (m ≡ new) × (s ≡ requests)))
+      (λ m s at last.
+      subst (λ (x : MirrorView). ReadInTurn last x s (Event.Unresynced ∷ []) (λ m s. (m ≡ new) × (s ≡ requests))) (sym at.0)
+      (subst (λ (x : Requests). ReadInTurn last mid x (Event.Unresynced ∷ []) (λ m s. (m ≡ new) × (s ≡ requests))) (sym at.1)
+      (unread (Event.Unresynced ∷ []) last mid requests (λ m s. (m ≡ new) × (s ≡ requests))
+      (new, requests, tt, (refl, u.marks), (λ honest whole. u.happens honest requests there), (refl, refl)))))
+      (g.leads previous requests in_flight));
+}
 
 module _ (old mid new : MirrorView) (idle : IsIdle old.array) (advances : Advances old mid) (u : Unresyncs mid new) where
   pub stops : Stops old new
   stops = record {
-    goes = goes_on old mid new idle advances.goes (goes_unresynced mid new u);
+    idle = idle;
+    goes = goes_unresynced old mid new idle advances.goes u;
     unresynced = ap (λ (a : ArrayView). a.resynced) u.marks.array;
     running = ap (λ (a : ArrayView). a.halted) u.marks.array ∙ advances.idle.running;
   }
@@ -99,6 +109,7 @@ module _ (old mid new : MirrorView) (idle : IsIdle old.array) (advances : Advanc
   pub loses_member : (k : ℕ) → FailsToWrite k old mid → LosesMember k old new
   loses_member k f = record {
     stops = stops;
+    was = f.was;
     faulty = record { member = f.faulty.member; at = ap (λ (xs : List MemberView). slice_get xs k) members_stay ∙ f.faulty.at; faulty = f.faulty.faulty };
   }
 
@@ -107,7 +118,7 @@ refuses old mid new Halted idle sound h g = inr (subst (HaltsResync old) (sym (g
 refuses old mid new (InFlight n) idle sound h g = absurd h
 refuses old mid new NoMemory idle sound h g =
     let u = subst (λ (m : MirrorView). Unresyncs m new) h (g.running (ap (λ (m : MirrorView). m.array.halted) h ∙ idle.running)) in
-    record { goes = goes_unresynced old new u; marks = u.marks }
+    record { goes = goes_unresynced old old new idle (goes_none old) u; marks = u.marks }
 refuses old mid new (ReadFault k chunk) idle sound h g = stops_reading old mid new idle h.advances (g.running h.advances.idle.running) k chunk h
 refuses old mid new (MemberFailed k) idle sound h g = loses_member old mid new idle h.advances (g.running h.advances.idle.running) k h
 

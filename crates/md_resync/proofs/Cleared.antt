@@ -15,10 +15,8 @@ use Rattle.md_array.proofs.Steps.Turns.{all_such}
 use Rattle.md_laws.proofs.Runs.ReadTurns.{unread}
 use Rattle.md_metadata.specs.Clearing.{ClearsAll, IsClearing, Remarks}
 use Rattle.md_metadata.specs.Storing.{HasAllMarks}
-use Rattle.md_resync.specs.declared.fault.ResyncFault.{ResyncFault}
-use Rattle.md_resync.specs.declared.fault.ResyncFault.TheVariants.{Halted, InFlight, MemberFailed, NoMemory, ReadFault}
-use Rattle.md_resync.specs.Resyncing.{Advances, ClearsStored, HasSameMembers, IsOfResync, KeepsContent, StopsIdle, StopsMarks, StoresMarks}
-use Rattle.md_resync.proofs.Advancing.{advances_on, goes_none, goes_on, none_flies}
+use Rattle.md_resync.specs.Resyncing.{Advances, ClearsStored, HasSameMembers, IsOfResync, KeepsContent, StoresMarks}
+use Rattle.md_resync.proofs.Advancing.{advances_on, goes_none, none_flies}
 use Rattle.md_resync.proofs.Agreeing.{IsCalm, calm_content, clearing_is_calm}
 use Rattle.md_array.proofs.General.Honesty.{same_honest}
 
@@ -103,21 +101,3 @@ cleared_nothing v idle sound degraded stored = record {
   agree = λ s low agree. agree;
   content = λ honest requests in_flight a holds. holds;
 }
-
--- ---- where it stops
-pub marks_stop : (old mid new : MirrorView) (fault : ResyncFault) → IsIdle old.array → Advances old mid → StopsMarks mid new fault → StopsMarks old new fault
-marks_stop old mid new Halted idle g h = record {
-  halts = record { mid = h.halts.mid; goes = goes_on old mid h.halts.mid idle g.goes h.halts.goes; failing = h.halts.failing; of = h.halts.of; halts = h.halts.halts };
-  halted = h.halted;
-}
-marks_stop old mid new (InFlight n) idle g h = h
-marks_stop old mid new NoMemory idle g h = h
-marks_stop old mid new (ReadFault k chunk) idle g h = h
-marks_stop old mid new (MemberFailed k) idle g h = record { advances = advances_on old mid new idle g h.advances; faulty = h.faulty }
-
-pub marks_stop_idle : (old new : MirrorView) (fault : ResyncFault) → StopsMarks old new fault → StopsIdle old new fault
-marks_stop_idle old new Halted h = h
-marks_stop_idle old new (InFlight n) h = h
-marks_stop_idle old new NoMemory h = absurd h
-marks_stop_idle old new (ReadFault k chunk) h = absurd h
-marks_stop_idle old new (MemberFailed k) h = h

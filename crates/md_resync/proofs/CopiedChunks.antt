@@ -14,6 +14,7 @@ use Rattle.md_array.specs.Consistency.{IsConsistent}
 use Rattle.md_array.specs.MarkingResynced.{AllAgreeAt}
 use Rattle.md_array.proofs.General.Indices.{got_within}
 use Rattle.md_array.proofs.Worlds.SectorCopied.{has_role, in_sync_as}
+use Rattle.md_metadata.specs.Storing.{IsUpToDate}
 use Rattle.md_resync.specs.declared.fault.ResyncFault.{ResyncFault}
 use Rattle.md_resync.specs.declared.fault.ResyncFault.TheVariants.{Halted, InFlight, MemberFailed, NoMemory, ReadFault}
 use Rattle.md_resync.specs.Copying.{AgreesTo, Copies, CopiesChunk, CopiesIfMarked, CopiesMarked, CopiesRun, FailsReading, GivesAll, GivesBelow, GivesTo, IsPart, IsRun, MayCopyMarked, StopsCopying}
@@ -39,7 +40,7 @@ stops_then old mid new (ReadFault k chunk) g h = record {
       let after = h.failed x.0 e x.1 is (stays.honest ∙ honest) in
       omega arith;
 }
-stops_then old mid new (MemberFailed k) g h = record { goes = goes_then old mid new g h.goes; idle = h.idle; faulty = h.faulty }
+stops_then old mid new (MemberFailed k) g h = record { goes = goes_then old mid new g h.goes; was = subst (λ (a : ArrayView). IsUpToDate a k) g.array h.was; idle = h.idle; faulty = h.faulty }
 
 -- ---- each member in its turn
 pub run_later : (from sector : ℕ) (bytes : List ℕ) (old mid : MirrorView) → IsRun from sector bytes old → mid.array ≡ old.array → HoldsData mid from sector bytes → IsRun from sector bytes mid

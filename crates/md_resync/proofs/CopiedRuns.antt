@@ -32,6 +32,7 @@ use Rattle.md_laws.specs.ReadInTurn.{ReadInTurn}
 use Rattle.md_laws.proofs.Runs.ReadTurns.{read_on, read_then, unread}
 use Rattle.md_laws.proofs.Runs.Rests.{rests_same}
 use Rattle.md_metadata.specs.Going.{IsFaulty}
+use Rattle.md_metadata.specs.Storing.{IsUpToDate}
 use Rattle.md_metadata.proofs.Steps.{faulty_after, recorded_in_sync}
 use Rattle.md_resync.specs.Copying.{Copies, CopyingGoesOn, GivesTo, HaltsCopying, IsBeside, IsCopying, IsRun, LosesCopying}
 
@@ -249,6 +250,7 @@ module _ (k chunk : ℕ) (old new : MirrorView) where
           same = tried_same k (run_write f.copy.may.target f.sector f.bytes) old.disks new.disks f.fails.disks.tried;
           sound = sound;
         };
+        was = subst (λ (i : ℕ). IsUpToDate old.array i) (sym r.0) (record { member = f.fails.array.member; at = f.fails.array.at; recorded = in_use });
         idle = subst IsIdle (sym f.fails.array.array) (record { running = idle.running; none = idle.none });
         faulty = subst (λ (i : ℕ). IsFaulty i new.array) (sym r.0) (faulty_after old.array new.array k f.fails.array in_use);
       }

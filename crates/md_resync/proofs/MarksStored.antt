@@ -23,10 +23,10 @@ use Rattle.md_array.specs.Worlds.{from_super, none_in_flight}
 use Rattle.md_array.proofs.Steps.Turns.{all_such}
 use Rattle.md_laws.proofs.Runs.ReadTurns.{unread}
 use Rattle.md_metadata.specs.Going as metadata
-use Rattle.md_metadata.specs.Going.{IsFaulty, alone}
+use Rattle.md_metadata.specs.Going.{alone}
 use Rattle.md_inflight.specs.Inflight.{InflightList}
 use Rattle.md_state.specs.declared.extent.Extent.{Extent}
-use Rattle.md_metadata.specs.Storing.{AllStayReady, HasAllMarks}
+use Rattle.md_metadata.specs.Storing.{HasAllMarks, IsMarking, IsStored, LosesStoring, StoresAll}
 use Rattle.md_state.specs.MakingClean.{IsIdle, first_number}
 use Rattle.md_state.specs.Requests.{AreInFlight}
 use Rattle.md_array.proofs.General.Indices.{at_set_same, got_other, got_same, got_within}
@@ -132,7 +132,7 @@ module _ (k block : ℕ) (old new : MirrorView) (c : IsConsistent old) (low : bl
   }
 
 -- ---- sector by sector, where nothing fails
-abbrev pub IsMarkStored : Event → Type 0
+abbrev IsMarkStored : Event → Type 0
 IsMarkStored (Event.StoreMarks k b) = Unit {0}
 IsMarkStored e = ⊥
 
@@ -146,7 +146,7 @@ due_within a k block m is due = elim (cases_lt block (bitmap_sectors a.marks.chu
   ]
 ]
 
-pub record LeavesData (old new : MirrorView) : Type 0 where
+record LeavesData (old new : MirrorView) : Type 0 where
   pub same : AreSame old.disks new.disks
   pub members : HasSameMembers old.array new.array
   pub size : new.array.chunks.size ≡ old.array.chunks.size
@@ -162,7 +162,7 @@ leaves_step k block old mid new c low r rest =
       agree = λ s below agree. rest.agree s (subst (λ (x : ℕ). s < x) (sym size) below) (mark_agrees k block old mid c low r s below agree);
     }
 
-pub leaves_along : (es : List Event) (previous : Option Event) (old : MirrorView) (before : Requests) (new : MirrorView) (after : Requests) → AllOf IsMarkStored es → IsConsistent old
+leaves_along : (es : List Event) (previous : Option Event) (old : MirrorView) (before : Requests) (new : MirrorView) (after : Requests) → AllOf IsMarkStored es → IsConsistent old
     → Leads previous old before es new after → LeavesData old new
 leaves_along [] previous old before new after all sound t = subst (LeavesData old) t.0 (record { same = same_disks old.disks old.disks refl; members = same_members old.array; size = refl; agree = λ s below agree. agree })
 leaves_along (Event.StoreMarks k b ∷ es) previous old before new after all sound t =
@@ -207,33 +207,39 @@ mark_is_calm (Event.Remove k) is = absurd is
 mark_is_calm (Event.Add d left) is = absurd is
 mark_is_calm (Event.ReAdd own device left) is = absurd is
 
--- all of it, where only marks are stored on the way
-pub stores_marks : (old new : MirrorView) → IsIdle old.array → IsConsistent old → metadata.GoesOn alone alone IsMarkStored old new → AllStayReady old.array new.array
-    → ((k : ℕ) (m : MemberView) → IsInSync new.array k m → HasAllMarks old.array.marks m) → StoresMarks old new
-stores_marks old new idle sound g ready done =
-    let leaves = leaves_along g.events None old none_in_flight new none_in_flight g.steps sound (g.leads None none_in_flight (λ number p e. absurd (none-some p e))) in
+mark_is_stored : (e : Event) → IsMarking e → IsStored e → IsMarkStored e
+mark_is_stored (Event.StoreMarks k b) is stored = tt
+mark_is_stored (Event.StoreMarksFails k b) is stored = absurd stored
+mark_is_stored e is stored = absurd is
+
+all_stored : (es : List Event) → AllOf IsMarking es → AllOf IsStored es → AllOf IsMarkStored es
+all_stored [] marking stored = tt
+all_stored (e ∷ es) marking stored = (mark_is_stored e marking.0 stored.0, all_stored es marking.1 stored.1)
+
+-- all of it
+pub stores_marks : (old new : MirrorView) → IsIdle old.array → IsConsistent old → StoresAll IsMarking (HasAllMarks old.array.marks) old new → StoresMarks old new
+stores_marks old new idle sound s =
+    let g = s.stores.goes in
+    let steps = all_stored g.events g.steps s.stores.stored in
+    let ready = s.stores.ready in
+    let leaves = leaves_along g.events None old none_in_flight new none_in_flight steps sound (g.leads None none_in_flight (λ number p e. absurd (none-some p e))) in
     let leads = λ (previous : Option Event) (requests : Requests) (in_flight : AreInFlight old.array requests).
     unread g.events previous old requests (λ v x. (v ≡ new) × (x ≡ requests)) (g.leads previous requests in_flight) in
     record {
       advances = record {
-        goes = record { events = g.events; steps = all_such IsMarkStored IsOfResync (λ e is. (mark_is_calm e is).of) g.events g.steps; leads = leads };
+        goes = record { events = g.events; steps = all_such IsMarkStored IsOfResync (λ e is. (mark_is_calm e is).of) g.events steps; leads = leads };
         same = leaves.same;
         idle = subst IsIdle (sym ready.others) (record { running = idle.running; none = idle.none });
         sound = g.sound;
       };
       members = leaves.members;
       array = ready.others;
-      stored = λ k m is. subst (λ (x : Bitmap). HasAllMarks x m) (sym (ap (λ (a : ArrayView). a.marks) ready.others)) (done k m is);
+      stored = λ k m is. subst (λ (x : Bitmap). HasAllMarks x m) (sym (ap (λ (a : ArrayView). a.marks) ready.others)) (s.done k m is);
       agree = leaves.agree;
-      content = calm_content g.events old new (all_such IsMarkStored IsCalm mark_is_calm g.events g.steps) leads;
+      content = calm_content g.events old new (all_such IsMarkStored IsCalm mark_is_calm g.events steps) leads;
     }
 
 -- ---- where a write fails
-abbrev pub IsMarking : Event → Type 0
-IsMarking (Event.StoreMarks k b) = Unit {0}
-IsMarking (Event.StoreMarksFails k b) = Unit {0}
-IsMarking e = ⊥
-
 marking_of : (e : Event) → IsMarking e → IsOfResync e
 marking_of (Event.StoreMarks k b) is = tt
 marking_of (Event.StoreMarksFails k b) is = tt
@@ -284,16 +290,19 @@ marking_goes old new g = record {
   leads = λ previous requests in_flight. unread g.events previous old requests (λ v x. (v ≡ new) × (x ≡ requests)) (g.leads previous requests in_flight);
 }
 
-pub loses_marks : (k : ℕ) (old new : MirrorView) → IsIdle old.array → metadata.LosesMember alone alone IsMarking old new → IsFaulty k new.array → FailsToWrite k old new
-loses_marks k old new idle l faulty = record {
-  advances = record {
-    goes = marking_goes old new l.goes;
-    same = same_along l.goes.events None old none_in_flight new none_in_flight l.goes.steps (l.goes.leads None none_in_flight (λ number p e. absurd (none-some p e)));
-    idle = record { running = l.halted ∙ idle.running; none = subst (λ (x : InflightList Extent). first_number (record old.array { requests = x }) ≡ None) (sym l.goes.array.requests) idle.none };
-    sound = l.goes.sound;
-  };
-  faulty = faulty;
-}
+pub loses_marks : (k : ℕ) (old new : MirrorView) → IsIdle old.array → LosesStoring IsMarking k old new → FailsToWrite k old new
+loses_marks k old new idle s =
+    let l = s.loses in
+    record {
+      advances = record {
+        goes = marking_goes old new l.goes;
+        same = same_along l.goes.events None old none_in_flight new none_in_flight l.goes.steps (l.goes.leads None none_in_flight (λ number p e. absurd (none-some p e)));
+        idle = record { running = l.halted ∙ idle.running; none = subst (λ (x : InflightList Extent). first_number (record old.array { requests = x }) ≡ None) (sym l.goes.array.requests) idle.none };
+        sound = l.goes.sound;
+      };
+      was = s.was;
+      faulty = s.faulty;
+    }
 
 halted_at : (e : Event) (old new : MirrorView) → IsMarking e → HaltsAt old none_in_flight e new → new.array.halted ≡ true
 halted_at (Event.StoreMarks k b) old new is h = absurd h
@@ -315,8 +324,8 @@ halted_at (Event.Remove k) old new is h = absurd is
 halted_at (Event.Add d left) old new is h = absurd is
 halted_at (Event.ReAdd own device left) old new is h = absurd is
 
-pub halts_marks : (old new : MirrorView) → metadata.HaltsAfter alone alone IsMarking old new → HaltsIdle old new
-halts_marks old new h = record {
-  halts = record { mid = h.mid; goes = marking_goes old h.mid h.goes; failing = h.failing; of = marking_of h.failing h.of; halts = h.halts };
+pub halts_marks : (old new : MirrorView) → IsIdle old.array → metadata.HaltsAfter alone alone IsMarking old new → HaltsIdle old new
+halts_marks old new idle h = record {
+  halts = record { idle = idle; mid = h.mid; goes = marking_goes old h.mid h.goes; failing = h.failing; of = marking_of h.failing h.of; halts = h.halts };
   halted = halted_at h.failing h.mid new h.of (h.halts none_in_flight);
 }

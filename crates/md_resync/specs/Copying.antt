@@ -15,7 +15,7 @@ use Rattle.md_array.specs.InTurn.{AllOf, HaltsAt, Requests}
 use Rattle.md_array.specs.MarkingResynced.{AllAgreeAt, AllAgreeWhereMarked}
 use Rattle.md_laws.specs.ReadInTurn.{LeadsReading}
 use Rattle.md_metadata.specs.Going.{IsFaulty}
-use Rattle.md_metadata.specs.Storing.{HasAllMarks}
+use Rattle.md_metadata.specs.Storing.{HasAllMarks, IsUpToDate}
 use Rattle.md_resync.specs.declared.fault.ResyncFault.{ResyncFault}
 use Rattle.md_resync.specs.declared.fault.ResyncFault.TheVariants.{Halted, InFlight, MemberFailed, NoMemory, ReadFault}
 
@@ -122,9 +122,10 @@ pub record FailsReading (k chunk : ℕ) (old new : MirrorView) : Type 0 where
   pub in_sync : IsInSync old.array k member
   pub failed : AtDevice k old.disks new.disks (λ d e. d.honest ≡ true → d.failures < e.failures)
 
--- member k could not be written
+-- member k, which was in sync, could not be written
 pub record LosesCopying (k : ℕ) (old new : MirrorView) : Type 0 where
   pub goes : CopyingGoesOn old new
+  pub was : IsUpToDate old.array k
   pub idle : IsIdle new.array
   pub faulty : IsFaulty k new.array
 

@@ -1,5 +1,5 @@
 -- A whole resync.
-use Rattle.std.specs.Prelude.{◌≡◌, ◌⊎◌, ℕ, ◌<◌, ◌≤◌, ◌/◌, true, false, List, length, Option}
+use Rattle.std.specs.Prelude.{◌≡◌, ◌⊎◌, ℕ, ◌<◌, ◌≤◌, ◌/◌, true, false, List, [], ◌∷◌, ◌++◌, length, Option}
 use Rattle.md_bitmap.specs.Marks.{is_set}
 use Rattle.md_model.specs.Content.{Content, HoldsBetween}
 use Rattle.md_model.specs.Events.{Event}
@@ -17,18 +17,17 @@ use Rattle.md_array.specs.MarkingResynced.{AllAgreeAt, AllAgreeWhereMarked, Mark
 use Rattle.md_array.specs.Worlds.{AreHonest, geometry_of, world_of}
 use Rattle.md_laws.specs.ReadInTurn.{LeadsReading}
 use Rattle.md_metadata.specs.Going.{IsFaulty}
-use Rattle.md_metadata.specs.Storing.{HasAllMarks}
+use Rattle.md_metadata.specs.Storing.{HasAllMarks, IsUpToDate}
 use Rattle.md_resync.specs.declared.fault.ResyncFault.{ResyncFault}
 use Rattle.md_resync.specs.declared.fault.ResyncFault.TheVariants.{Halted, InFlight, MemberFailed, NoMemory, ReadFault}
 
--- an event of a resync
+-- an event of a resync, until it is kept how it ended
 abbrev pub IsOfResync : Event → Type 0
 IsOfResync (Event.StoreMarks k b) = Unit {0}
 IsOfResync (Event.StoreMarksFails k b) = Unit {0}
 IsOfResync (Event.Copy from k s) = Unit {0}
 IsOfResync (Event.CopyFails k c) = Unit {0}
 IsOfResync Event.Resynced = Unit {0}
-IsOfResync Event.Unresynced = Unit {0}
 IsOfResync (Event.ClearIdle c) = Unit {0}
 IsOfResync e = ⊥
 
@@ -37,6 +36,12 @@ pub record GoesOn (old new : MirrorView) : Type 0 where
   pub events : List Event
   pub steps : AllOf IsOfResync events
   pub leads : (previous : Option Event) (requests : Requests) → AreInFlight old.array requests → LeadsReading previous old requests events new requests
+
+-- So they were, and at the end it was kept that the array is not resynced.
+pub record GoesUnresynced (old new : MirrorView) : Type 0 where
+  pub events : List Event
+  pub steps : AllOf IsOfResync events
+  pub leads : (previous : Option Event) (requests : Requests) → AreInFlight old.array requests → LeadsReading previous old requests (events ++ Event.Unresynced ∷ []) new requests
 
 -- member by member nothing but the stored marks changed
 pub record HasSameMembers (old new : ArrayView) : Type 0 where
@@ -61,6 +66,7 @@ SettlesContent old new =
     × (old.array.resynced ≡ true → (s : ℕ) → s < old.array.chunks.size → b s ≡ a s)
 
 pub record Resyncs (old new : MirrorView) : Type 0 where
+  pub idle : IsIdle old.array
   pub goes : GoesOn old new
   pub array : IsResynced old.array new.array
   pub agree : (s : ℕ) → s < old.array.chunks.size → is_set old.array.marks.bytes (s / old.array.chunks.sectors) ≡ true → AllAgreeAt new s
@@ -68,7 +74,8 @@ pub record Resyncs (old new : MirrorView) : Type 0 where
 
 -- it did not come to its end, and that is kept
 pub record Stops (old new : MirrorView) : Type 0 where
-  pub goes : GoesOn old new
+  pub idle : IsIdle old.array
+  pub goes : GoesUnresynced old new
   pub unresynced : new.array.resynced ≡ false
   pub running : new.array.halted ≡ false
 
@@ -83,13 +90,15 @@ pub record StopsReading (k chunk : ℕ) (old new : MirrorView) : Type 0 where
   pub in_sync : IsInSync old.array k member
   pub failed : AtDevice k old.disks new.disks (λ d e. d.honest ≡ true → d.failures < e.failures)
 
--- a write to member k failed
+-- a write to member k failed, which was kept up to date before
 pub record LosesMember (k : ℕ) (old new : MirrorView) : Type 0 where
   pub stops : Stops old new
+  pub was : IsUpToDate old.array k
   pub faulty : IsFaulty k new.array
 
 -- After some events a write failed on a member that can't be made faulty, and the mirror is halted.
 pub record HaltsResync (old new : MirrorView) : Type 0 where
+  pub idle : IsIdle old.array
   pub mid : MirrorView
   pub goes : GoesOn old mid
   pub failing : Event
@@ -98,7 +107,7 @@ pub record HaltsResync (old new : MirrorView) : Type 0 where
 
 -- no device was used
 pub record FindsNoMemory (old new : MirrorView) : Type 0 where
-  pub goes : GoesOn old new
+  pub goes : GoesUnresynced old new
   pub marks : MarksResynced false old new
 
 abbrev pub RefusesResync : MirrorView → MirrorView → ResyncFault → Type 0
@@ -128,6 +137,7 @@ pub record FailsToAgree (k chunk : ℕ) (old new : MirrorView) : Type 0 where
 
 pub record FailsToWrite (k : ℕ) (old new : MirrorView) : Type 0 where
   pub advances : Advances old new
+  pub was : IsUpToDate old.array k
   pub faulty : IsFaulty k new.array
 
 pub record HaltsIdle (old new : MirrorView) : Type 0 where

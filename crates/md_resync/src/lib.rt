@@ -1,12 +1,19 @@
-//! The copying of a resync: members in sync are made to agree in the chunks that are marked, by the steps alone. The call that
-//! stores the marks before it and clears them after it is not there yet.
+//! A resync: the members in sync are made to agree in the chunks that are marked, and the marks are cleared, by the
+//! steps alone.
+//!
+//! `resync` is the whole call. `make_agree` is its copying, for a caller that stores the marks itself.
 #![tactic(auto)]
 
+mod buffer;
 mod chunks;
 mod fault;
+mod giving_up;
+mod marks;
 mod members;
 mod resyncing;
 mod source;
+mod whole;
 
 pub use fault::ResyncFault;
 pub use resyncing::make_agree;
+pub use whole::resync;

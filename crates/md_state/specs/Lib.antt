@@ -36,6 +36,12 @@ pub mod WritingMember
 pub mod Checking
 -- What a call answers where a write to a member failed.
 pub mod Failing
+-- A member is failed by a call.
+pub mod FailingMembers
+-- What a member lacks of the array.
+pub mod Missing
+-- A member that is not in use leaves.
+pub mod Removing
 -- A request that each member in sync has is no longer in flight.
 pub mod Finishing
 -- A mark goes from memory.

@@ -73,8 +73,8 @@ impl Array {
         self.shared.events != u64::MAX && has_other_in_sync(&self.members, k)
     }
 
-    // The count rises, and member k is faulty.
-    fn fail(&mut self, k: usize)
+    /// The count rises, and member k is faulty.
+    pub(crate) fn fail(&mut self, k: usize)
         requires within { k < length self.old.members }
         requires unspent { HasSpentEvents self.old → ⊥ }
         ensures { (m : MemberView) → IsMember self.old k m → self.new ≡ failed self.old k m }
@@ -108,8 +108,8 @@ impl Array {
     }
 }
 
-// Whether a member other than k is in sync.
-fn has_other_in_sync(members: &[Member], k: usize) -> bool
+/// Whether a member other than k is in sync.
+pub(crate) fn has_other_in_sync(members: &[Member], k: usize) -> bool
     ensures { MatchBool result (HasOtherInSync members.now k) (IsLastInSync members.now k) }
 {
     for (j, member) in members.iter().enumerate() {

@@ -9,6 +9,7 @@ mod copy_fault;
 mod copying;
 mod extent;
 mod failing;
+mod failing_members;
 mod finishing;
 mod header;
 mod in_sync;
@@ -16,12 +17,14 @@ mod making_clean;
 mod marking;
 mod marking_resynced;
 mod member;
+mod missing;
 mod observing;
 mod own_fields;
 mod pending;
 mod permitting;
 mod recording;
 mod remembering;
+mod removing;
 mod rising;
 mod step_fault;
 mod storing_marks;
@@ -34,6 +37,7 @@ pub use marking::needs_marks;
 pub use member::Member;
 pub use pending::Pending;
 pub use step_fault::{
-    BeginFault, CleanFault, ClearFault, FinishFault, StoreFault, WriteMemberFault,
+    BeginFault, CleanFault, ClearFault, FailFault, FinishFault, RemoveFault, StoreFault,
+    WriteMemberFault,
 };
 pub use storing_marks::{CHUNKS_OF_HEADER, CHUNKS_OF_SECTOR};

@@ -118,3 +118,34 @@ pub enum CleanFault {
     #[error("EventsFull")]
     EventsFull,
 }
+
+/// Why a member is not failed by a call.
+#[derive(Clone, Copy, Debug, PartialEq, Eq, Error)]
+pub enum FailFault {
+    /// The mirror is halted.
+    #[error("Halted")]
+    Halted,
+    /// The member is neither in sync nor recovering.
+    #[error("NotActive")]
+    NotActive,
+    /// No other member is in sync.
+    #[error("LastMember")]
+    LastMember,
+    /// The event count has to rise and can't.
+    #[error("EventsFull")]
+    EventsFull,
+}
+
+/// Why a member is not removed.
+#[derive(Clone, Copy, Debug, PartialEq, Eq, Error)]
+pub enum RemoveFault {
+    /// The mirror is halted.
+    #[error("Halted")]
+    Halted,
+    /// The member is in sync or recovering.
+    #[error("StillActive")]
+    StillActive,
+    /// The member is a spare, so that the event count has to rise, and it can't.
+    #[error("EventsFull")]
+    EventsFull,
+}

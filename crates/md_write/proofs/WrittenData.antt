@@ -19,8 +19,8 @@ use Rattle.md_array.specs.InTurn.{IsPut, IsUnder, Requests}
 use Rattle.md_metadata.specs.declared.fault.PartFault.{PartFault}
 use Rattle.md_metadata.specs.declared.fault.PartFault.TheVariants as part
 use Rattle.md_metadata.specs.Going.{GoesOn, HaltsAfter, IsSameArray, LosesMember}
-use Rattle.md_metadata.specs.Storing.{AllRecorded, RecordsAll, Stores, StoresAll, StopsStoring}
-use Rattle.md_metadata.proofs.Going.{goes_nowhere, goes_on, goes_step, halts_on, loses_on, same_refl, stores_on}
+use Rattle.md_metadata.specs.Storing.{AllRecorded, IsMarking, IsRecording, IsStoring, RecordsAll, Stores, StoresAll, StopsStoring}
+use Rattle.md_metadata.proofs.Going.{goes_nowhere, goes_on, goes_step, halts_on, loses_on, marking_stores, recording_stores, same_refl, stops_as, stops_on, stores_as, stores_on}
 use Rattle.md_metadata.proofs.StoredMembers.{last_on, records_last}
 use Rattle.md_metadata.proofs.Steps.{failure_loses, failure_step, in_use_there, never_halted, recorded_in_sync}
 use Rattle.md_write.specs.Progress.{AreChunksOf, HaltsOn, IsLater, IsOfRequest, IsReadyToFinish, LosesOn, StopsWriting, WritesAt, WritesBelow, WritesOn, WritesToAll}
@@ -222,13 +222,33 @@ written_all k p q old new last g = record {
 
 -- ---- all parts
 -- marks and records that stop
-pub storing_stops : (p : PendingView) (old new : MirrorView) → IsPending old.array p → (fault : PartFault) → StopsStoring old new fault → StopsWriting p p old new fault
+storing_stops : (p : PendingView) (old new : MirrorView) → IsPending old.array p → (fault : PartFault) → StopsStoring IsStoring old new fault → StopsWriting p p old new fault
 storing_stops p old new is (part.MemberFailed k) h = record {
   loses = record { goes = goes_beside p old new is h.loses.goes; lost = h.loses.lost; halted = h.loses.halted };
   later = later_refl p;
   still = h.loses.goes.pending p is;
 }
 storing_stops p old new is part.Halted h = record { halts = halts_beside p old new is h; later = later_refl p }
+
+abbrev marks_stored : (a b : MirrorView) → Stores IsMarking a b → Stores IsStoring a b
+marks_stored = stores_as IsMarking IsStoring marking_stores
+
+abbrev records_stored : (a b : MirrorView) → Stores IsRecording a b → Stores IsStoring a b
+records_stored = stores_as IsRecording IsStoring recording_stores
+
+module _ (p : PendingView) (a b : MirrorView) (is : IsPending a.array p) where
+  pub marks_stop : (fault : PartFault) → StopsStoring IsMarking a b fault → StopsWriting p p a b fault
+  marks_stop fault s = storing_stops p a b is fault (stops_as IsMarking IsStoring marking_stores a b fault s)
+
+  module _ (c : MirrorView) (x : Stores IsMarking a b) where
+    pub records_stop : (fault : PartFault) → StopsStoring IsRecording b c fault → StopsWriting p p a c fault
+    records_stop fault s =
+        storing_stops p a c is fault (stops_on IsStoring a b c fault (marks_stored a b x) (stops_as IsRecording IsStoring recording_stores b c fault s))
+
+    pub others_stop : (d : MirrorView) → Stores IsRecording b c → (fault : PartFault) → StopsStoring IsRecording c d fault → StopsWriting p p a d fault
+    others_stop d y fault s =
+        storing_stops p a d is fault
+        (stops_on IsStoring a c d fault (stores_on IsStoring a b c (marks_stored a b x) (records_stored b c y)) (stops_as IsRecording IsStoring recording_stores c d fault s))
 
 -- the chunks of the request, later on
 pub chunks_later : (a b : ArrayView) (p q : PendingView) (first end : ℕ) → IsSameArray a b → IsLater p q → AreChunksOf a p first end → AreChunksOf b q first end
@@ -241,21 +261,21 @@ chunks_later a b p q first end same later c =
     })
 
 module _ (p q : PendingView) (first end : ℕ) (a b c d e : MirrorView) (is : IsPending a.array p) (chunks : AreChunksOf a.array p first end)
-    (x : StoresAll (HasMarksFrom first end) a b) (y : StoresAll IsNotDue b c) (others : RecordsAll c d) where
-  abbrev z : Stores c d
-  z = others.stores
+    (x : StoresAll IsMarking (HasMarksFrom first end) a b) (y : StoresAll IsRecording IsNotDue b c) (others : RecordsAll c d) where
+  abbrev rest : Stores IsStoring b d
+  rest = stores_on IsStoring b c d (records_stored b c y.stores) (records_stored c d others.stores)
 
-  abbrev all : Stores a d
-  all = stores_on a c d (stores_on a b c x.stores y.stores) z
+  abbrev all : Stores IsStoring a d
+  all = stores_on IsStoring a b d (marks_stored a b x.stores) rest
 
   pub marked_then : AllInSync d.array (HasMarksOf d.array p)
   marked_then i m in_sync s low high =
       let later = chunks_later a.array d.array p p first end all.goes.array (later_refl p) chunks in
-      let kept = last_on (HasMarksFrom first end) a b d (marks_last a.array first end chunks.are) x.stores.goes.array.marks x.done (stores_on b c d y.stores z) i m in_sync in
+      let kept = last_on IsStoring (HasMarksFrom first end) a b d (marks_last a.array first end chunks.are) x.stores.goes.array.marks x.done rest i m in_sync in
       kept (s / d.array.chunks.sectors) (later.from s low high) (later.below s low high)
 
   pub recorded_then : AllInSync d.array IsNotDue
-  recorded_then = last_on IsNotDue b c d (records_last b.array.marks) y.stores.goes.array.marks y.done z
+  recorded_then = last_on IsRecording IsNotDue b c d (records_last b.array.marks) y.stores.goes.array.marks y.done others.stores
 
   pub writes_or_stops : a.array.halted ≡ false → {T : Type 0} (result : Result T PartFault) → MatchResult result (λ _. WritesToAll p q d e) (StopsWriting p q d e)
       → MatchResult result (λ _. IsReadyToFinish p q a e) (StopsWriting p q a e)

@@ -1,8 +1,8 @@
 // Images in files.
 ghost use Rattle.std.specs.Prelude.{false, None};
 
-use md_cli::Images;
 use md_device::{Access, FileDevice, ImageFault};
+use md_images::Images;
 
 /// Images under their paths. A device that is put back is closed.
 #[derive(Drop)]

@@ -5,6 +5,7 @@ mod files;
 
 use crate::files::FileImages;
 use md_cli::{Messages, run};
+use md_commands::Input;
 use md_examine::{Buffered, Output};
 use std::alloc::{AllocError, Global};
 use std::fs::File;
@@ -30,6 +31,7 @@ fn main(rt: HostRuntime) -> ExitCode {
         let _ = eprintln!(rt; "mdcli: NoMemory");
         return ExitCode::from(WORDS_NOT_TAKEN);
     };
+    let mut input = Input::new(rt.stdin());
     let mut out = Buffered::new(rt.alloc(), Output::new(io::writer(&rt)));
     let mut err = rt.stderr();
     let messages = if err.is_terminal() {
@@ -41,6 +43,7 @@ fn main(rt: HostRuntime) -> ExitCode {
         rt.alloc(),
         words.as_slice(),
         &mut FileImages::new(&rt),
+        &mut input,
         &mut out,
         &mut err,
         messages,

@@ -2,6 +2,7 @@
 ghost use Rattle.std.specs.Prelude.{◌≡◌, ◌%◌, length};
 
 use crate::expected_steps::Expected;
+use crate::members_in_step::add;
 use crate::run::Run;
 use crate::steps::Step;
 use example_members::{bitmap, put, sealed, vault, zeros};
@@ -80,13 +81,21 @@ fn copied(alloc: Global, device: &MemDevice) -> Result<MemDevice, Fail> {
     Ok(MemDevice::from_bytes(bytes))
 }
 
+fn add_copy(
+    alloc: Global,
+    devices: &mut Vec<FaultDevice<MemDevice>>,
+    image: &MemDevice,
+    writes: u64,
+) -> Result<(), Fail> {
+    let copy = copied(alloc, image)?;
+    add(alloc, devices, copy, (writes.saturating_add(1), NEVER))
+}
+
 // A mirror on copies of these images, whose devices take so many writes.
 fn open_copies<'a>(alloc: Global, images: &[MemDevice], writes: [u64; 2]) -> Result<Run<'a>, Fail> {
     let mut devices = Vec::new(alloc);
     for (image, writes) in images.iter().zip(writes) {
-        let first = writes.saturating_add(1);
-        let device = FaultDevice::new(copied(alloc, image)?, Vec::new(alloc), first, NEVER, false);
-        devices.push(device)?;
+        add_copy(alloc, &mut devices, image, writes)?;
     }
     Run::open(alloc, devices)
 }
@@ -147,9 +156,8 @@ fn follow<'a>(
     for step in steps {
         let answer = run.make(*step, bytes);
         let wanted = expected.answer(*step);
-        assert_eq!(rt; answer, wanted, "at {step:?} of {steps:?}");
-        let shown = is_as_expected(run.mirror(), expected);
-        assert!(rt; shown, "after {step:?} of {steps:?}");
+        let is_right = answer == wanted && is_as_expected(run.mirror(), expected);
+        assert!(rt; is_right, "{answer:?} at {step:?} of {steps:?}");
     }
 }
 
@@ -165,40 +173,98 @@ fn play(
     let mut expected = Expected::opened(images.len(), 10, writes);
     follow(rt, &mut run, &mut expected, start, &SECTOR);
     follow(rt, &mut run, &mut expected, steps, &SECTOR);
-    for (device, member) in run.into_devices().into_iter().zip(expected.members) {
+    have_data(rt, run.into_devices(), &expected, steps);
+    Ok(())
+}
+
+fn have_data(
+    rt: &impl Abort,
+    devices: Vec<FaultDevice<MemDevice>>,
+    expected: &Expected,
+    steps: &[Step],
+) {
+    for (device, member) in devices.into_iter().zip(expected.members) {
         let written = has_data(&device.into_inner(), member.has);
         assert!(rt; written, "after {steps:?}");
     }
-    Ok(())
 }
 
 fn small_members(alloc: Global, numbers: &[u32]) -> Result<Vec<MemDevice>, Fail> {
     let mut images = Vec::new(alloc);
     for number in numbers {
-        images.push(small_member(alloc, *number)?)?;
+        add_small(alloc, &mut images, *number)?;
     }
     Ok(images)
 }
 
-#[test]
-fn every_order(rt: HostRuntime) -> Result<(), Fail> {
-    let alloc = rt.alloc();
-    let images = small_members(alloc, &[0, 1])?;
+fn add_small(alloc: Global, images: &mut Vec<MemDevice>, number: u32) -> Result<(), Fail> {
+    images.push(small_member(alloc, number)?)?;
+    Ok(())
+}
+
+// Plays the steps from each of these points.
+fn play_from(
+    rt: &impl Abort,
+    alloc: Global,
+    images: &[MemDevice],
+    writes: [u64; 2],
+    points: &[&[Step]],
+    steps: &[Step],
+) -> Result<(), Fail> {
+    for start in points {
+        play(rt, alloc, images, writes, start, steps)?;
+    }
+    Ok(())
+}
+
+fn play_all(
+    rt: &impl Abort,
+    alloc: Global,
+    images: &[MemDevice],
+    points: &[&[Step]],
+) -> Result<(), Fail> {
     for n in 0..10_000 {
-        for start in [OPENED.as_slice(), READY.as_slice(), WRITTEN.as_slice()] {
-            play(&rt, alloc, &images, [NEVER; 2], start, &steps_of(n))?;
-        }
+        play_from(rt, alloc, images, [NEVER; 2], points, &steps_of(n))?;
     }
     Ok(())
 }
 
 #[test]
+fn every_order(rt: HostRuntime) -> Result<(), Fail> {
+    let images = small_members(rt.alloc(), &[0, 1])?;
+    let points = [OPENED.as_slice(), READY.as_slice(), WRITTEN.as_slice()];
+    let played = play_all(&rt, rt.alloc(), &images, &points);
+    drop(images);
+    played
+}
+
+#[test]
 fn every_order_of_one_member(rt: HostRuntime) -> Result<(), Fail> {
-    let alloc = rt.alloc();
-    let images = small_members(alloc, &[1])?;
-    for n in 0..10_000 {
-        for start in [OPENED.as_slice(), READY.as_slice()] {
-            play(&rt, alloc, &images, [NEVER; 2], start, &steps_of(n))?;
+    let images = small_members(rt.alloc(), &[1])?;
+    let points = [OPENED.as_slice(), READY.as_slice()];
+    let played = play_all(&rt, rt.alloc(), &images, &points);
+    drop(images);
+    played
+}
+
+fn play_failing(
+    rt: &impl Abort,
+    alloc: Global,
+    images: &[MemDevice],
+    writes: [u64; 2],
+) -> Result<(), Fail> {
+    let points = [OPENED.as_slice(), READY.as_slice(), WRITTEN.as_slice()];
+    for n in 0..1_000 {
+        let [a, b, c, _] = steps_of(n);
+        play_from(rt, alloc, images, writes, &points, &[a, b, c])?;
+    }
+    Ok(())
+}
+
+fn play_with_limits(rt: &impl Abort, alloc: Global, images: &[MemDevice]) -> Result<(), Fail> {
+    for first in LIMITS {
+        for second in LIMITS {
+            play_failing(rt, alloc, images, [first, second])?;
         }
     }
     Ok(())
@@ -206,17 +272,8 @@ fn every_order_of_one_member(rt: HostRuntime) -> Result<(), Fail> {
 
 #[test]
 fn every_order_with_failing_writes(rt: HostRuntime) -> Result<(), Fail> {
-    let alloc = rt.alloc();
-    let images = small_members(alloc, &[0, 1])?;
-    for n in 0..1_000 {
-        let [a, b, c, _] = steps_of(n);
-        for first in LIMITS {
-            for second in LIMITS {
-                for start in [OPENED.as_slice(), READY.as_slice(), WRITTEN.as_slice()] {
-                    play(&rt, alloc, &images, [first, second], start, &[a, b, c])?;
-                }
-            }
-        }
-    }
-    Ok(())
+    let images = small_members(rt.alloc(), &[0, 1])?;
+    let played = play_with_limits(&rt, rt.alloc(), &images);
+    drop(images);
+    played
 }

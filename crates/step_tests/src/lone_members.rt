@@ -1,12 +1,12 @@
 // A mirror of one member of two: what the other missed stays known, and a failure halts it.
-use crate::members_in_step::{ACTIVE, CLEAN, member};
+use crate::checks::{holds, same};
+use crate::members_in_step::{ACTIVE, CLEAN, NO_WRITE, add, member};
 use crate::run::Run;
 use crate::steps::{Answer, Step};
-use crate::worked::{SECTOR, Shown, answers, what_shows};
-use example_members::open;
-use md_array::{BeginFault, ClearFault, FinishFault, Mirror, StoreFault, WriteMemberFault};
+use crate::worked::{Shown, plays, states_of_two};
+use md_array::{BeginFault, ClearFault, FinishFault, StoreFault, WriteMemberFault};
 use md_assembly::MemberState;
-use md_device::{Device, FaultDevice, MemDevice};
+use md_device::{FaultDevice, MemDevice};
 use std::alloc::Global;
 use std::process::Abort;
 use std::test::Fail;
@@ -14,10 +14,10 @@ use std::test::Fail;
 // On a device: sector 8 of the array.
 const WRITTEN: usize = 2056;
 
-// One member as a mirror, whose write of this number fails.
-fn alone<'a>(alloc: Global, device: MemDevice, write: u64) -> Result<Run<'a>, Fail> {
+// One member as a mirror, of whose writes these fail.
+fn alone<'a>(alloc: Global, device: MemDevice, failing: (u64, u64)) -> Result<Run<'a>, Fail> {
     let mut devices = Vec::new(alloc);
-    devices.push(FaultDevice::new(device, Vec::new(alloc), write, write, false))?;
+    add(alloc, &mut devices, device, failing)?;
     Run::open(alloc, devices)
 }
 
@@ -41,78 +41,122 @@ fn is_written_alone(before: &[u8], after: &[u8]) -> bool {
     true
 }
 
+const FAILS: [(Step, Answer); 10] = [
+    (Step::Begin(8), Answer::Begun(0)),
+    (Step::StoreMarks(0), Answer::Done),
+    (Step::Record(0), Answer::Done),
+    (
+        Step::WriteMember(0),
+        Answer::NotWritten(WriteMemberFault::Halted),
+    ),
+    (
+        Step::WriteMember(0),
+        Answer::NotWritten(WriteMemberFault::Halted),
+    ),
+    (Step::Finish, Answer::NotFinished(FinishFault::Halted)),
+    (Step::Begin(64), Answer::NotBegun(BeginFault::Halted)),
+    (Step::StoreMarks(0), Answer::NotStored(StoreFault::Halted)),
+    (Step::Record(0), Answer::NotStored(StoreFault::Halted)),
+    (Step::ClearIdle, Answer::NotCleared(ClearFault::Halted)),
+];
+
+const HALTED: Shown = Shown {
+    events: 11,
+    marked: 1,
+    in_flight: Some(0),
+    degraded: true,
+    halted: true,
+};
+
 #[test]
 fn last_member_fails(rt: HostRuntime) -> Result<(), Fail> {
     let alloc = rt.alloc();
-    let mut run = alone(alloc, member(alloc, 0, 10, CLEAN)?, 3)?;
-    let worked = [
-        (Step::Begin(8), Answer::Begun(0)),
-        (Step::StoreMarks(0), Answer::Done),
-        (Step::Record(0), Answer::Done),
-        (
-            Step::WriteMember(0),
-            Answer::NotWritten(WriteMemberFault::Halted),
-        ),
-        (
-            Step::WriteMember(0),
-            Answer::NotWritten(WriteMemberFault::Halted),
-        ),
-        (Step::Finish, Answer::NotFinished(FinishFault::Halted)),
-        (Step::Begin(64), Answer::NotBegun(BeginFault::Halted)),
-        (Step::StoreMarks(0), Answer::NotStored(StoreFault::Halted)),
-        (Step::Record(0), Answer::NotStored(StoreFault::Halted)),
-        (Step::ClearIdle, Answer::NotCleared(ClearFault::Halted)),
-    ];
-    answers(&rt, &mut run, &worked, &SECTOR);
-    let halted = Shown {
-        events: 11,
-        marked: 1,
-        in_flight: Some(0),
-        degraded: true,
-        halted: true,
-    };
-    assert_eq!(rt; what_shows(run.mirror()), halted);
-    assert_eq!(rt; run.into_devices().len(), 1);
+    let device = member(alloc, 0, 10, CLEAN)?;
+    let mut run = alone(alloc, device, (3, 3))?;
+    plays(&rt, &mut run, &FAILS, HALTED);
+    let devices = run.into_devices();
+    same(&rt, "the devices", devices.len(), 1);
+    drop(devices);
+    Ok(())
+}
+
+const WRITES: [(Step, Answer); 5] = [
+    (Step::Begin(8), Answer::Begun(0)),
+    (Step::StoreMarks(0), Answer::Done),
+    (Step::Record(0), Answer::Done),
+    (Step::WriteMember(0), Answer::Done),
+    (Step::Finish, Answer::Done),
+];
+
+const WRITTEN_ALONE: Shown = Shown {
+    events: 11,
+    marked: 1,
+    in_flight: None,
+    degraded: true,
+    halted: false,
+};
+
+// Member 1, opened without the other, after a whole write of `SECTOR` to sector 8 of the array.
+fn written_alone(rt: &impl Abort, alloc: Global, offset: u64) -> Result<MemDevice, Fail> {
+    let device = member(alloc, 1, 10, offset)?;
+    let mut run = alone(alloc, device, NO_WRITE)?;
+    plays(rt, &mut run, &WRITES, WRITTEN_ALONE);
+    let mut devices = run.into_devices();
+    let last = devices.pop();
+    drop(devices);
+    let device = last.ok_or("the device is lost")?;
+    Ok(device.into_inner())
+}
+
+fn is_changed_alone(
+    rt: &impl Abort,
+    alloc: Global,
+    offset: u64,
+    written: &MemDevice,
+) -> Result<(), Fail> {
+    let before = member(alloc, 1, 10, offset)?;
+    let changed_alone = is_written_alone(before.bytes(), written.bytes());
+    drop(before);
+    holds(rt, "the sector is changed alone", changed_alone);
+    Ok(())
+}
+
+fn add_first(
+    alloc: Global,
+    devices: &mut Vec<FaultDevice<MemDevice>>,
+    offset: u64,
+) -> Result<(), Fail> {
+    let device = member(alloc, 0, 10, offset)?;
+    add(alloc, devices, device, NO_WRITE)
+}
+
+// The other member beside the one that was written.
+fn both<'a>(alloc: Global, offset: u64, written: MemDevice) -> Result<Run<'a>, Fail> {
+    let mut devices = Vec::new(alloc);
+    add_first(alloc, &mut devices, offset)?;
+    add(alloc, &mut devices, written, NO_WRITE)?;
+    Run::open(alloc, devices)
+}
+
+fn is_left_out(rt: &impl Abort, alloc: Global, offset: u64) -> Result<(), Fail> {
+    let written = written_alone(rt, alloc, offset)?;
+    is_changed_alone(rt, alloc, offset, &written)?;
+    let run = both(alloc, offset, written)?;
+    let wanted = [MemberState::Faulty, MemberState::InSync(1)];
+    same(rt, "the states", states_of_two(run.mirror()), Some(wanted));
+    same(rt, "the events", run.mirror().events(), 11);
+    same(
+        rt,
+        "the array's offset",
+        run.mirror().shared().resync_offset,
+        0,
+    );
+    run.end();
     Ok(())
 }
 
 #[test]
 fn absent_member_is_left_out(rt: HostRuntime) -> Result<(), Fail> {
-    let alloc = rt.alloc();
-    for offset in [CLEAN, ACTIVE] {
-        let written = written_alone(&rt, alloc, offset)?;
-        let before = member(alloc, 1, 10, offset)?;
-        assert!(rt; is_written_alone(before.bytes(), written.bytes()));
-        let mut devices = Vec::new(alloc);
-        devices.push(member(alloc, 0, 10, offset)?)?;
-        devices.push(written)?;
-        is_first_left_out(&rt, &open(alloc, devices)?);
-    }
-    Ok(())
-}
-
-fn is_first_left_out<D: Device + Drop>(rt: &impl Abort, mirror: &Mirror<D>) {
-    assert_eq!(rt; mirror.members(), 2);
-    if mirror.members() == 2 {
-        assert_eq!(rt; mirror.state(0), MemberState::Faulty);
-        assert_eq!(rt; mirror.state(1), MemberState::InSync(1));
-    }
-    assert_eq!(rt; mirror.events(), 11);
-    assert_eq!(rt; mirror.shared().resync_offset, 0);
-}
-
-// Member 1, opened without the other, after a whole write of `SECTOR` to sector 8 of the array.
-fn written_alone(rt: &impl Abort, alloc: Global, offset: u64) -> Result<MemDevice, Fail> {
-    let mut run = alone(alloc, member(alloc, 1, 10, offset)?, u64::MAX)?;
-    let worked = [
-        (Step::Begin(8), Answer::Begun(0)),
-        (Step::StoreMarks(0), Answer::Done),
-        (Step::Record(0), Answer::Done),
-        (Step::WriteMember(0), Answer::Done),
-        (Step::Finish, Answer::Done),
-    ];
-    answers(rt, &mut run, &worked, &SECTOR);
-    assert_eq!(rt; run.mirror().events(), 11);
-    let device = run.into_devices().pop().ok_or("the device is lost")?;
-    Ok(device.into_inner())
+    is_left_out(&rt, rt.alloc(), CLEAN)?;
+    is_left_out(&rt, rt.alloc(), ACTIVE)
 }

@@ -48,6 +48,11 @@ impl<'a> Run<'a> {
         &self.mirror
     }
 
+    // Drops the mirror: done here, that is proved once, and not at each exit of a test.
+    pub(crate) fn end(self) {
+        drop(self);
+    }
+
     pub(crate) fn into_devices(self) -> Vec<FaultDevice<MemDevice>> {
         let Run { mirror, .. } = self;
         mirror.into_devices()

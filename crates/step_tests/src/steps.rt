@@ -1,7 +1,7 @@
 // The steps of a write as values, and what they answer.
 use md_array::{BeginFault, ClearFault, FinishFault, StoreFault, WriteMemberFault};
 
-#[derive(Clone, Copy, Debug, PartialEq, Eq)]
+#[derive(Clone, Copy, Debug)]
 pub(crate) enum Step {
     // A request from this sector on.
     Begin(u64),

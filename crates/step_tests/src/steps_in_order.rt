@@ -1,16 +1,33 @@
 // The steps of a write, in their turn and out of it.
-use crate::members_in_step::{ACTIVE, CLEAN, member};
+use crate::checks::same;
+use crate::members_in_step::{ACTIVE, CLEAN, NO_WRITE, add, member};
 use crate::run::Run;
 use crate::steps::{Answer, Step};
-use crate::worked::{SECTOR, Shown, answers, what_shows};
-use example_members::open;
-use md_array::{BeginFault, ClearFault, FinishFault, Mirror, StoreFault, WriteMemberFault};
+use crate::worked::{SECTOR, Shown, answers, plays, states_of_two};
+use md_array::{BeginFault, ClearFault, FinishFault, StoreFault, WriteMemberFault};
 use md_assembly::MemberState;
 use md_device::{Device, FaultDevice, MemDevice};
-use md_members::{MemberInfo, read_member};
+use md_members::read_member;
 use std::alloc::Global;
 use std::process::Abort;
 use std::test::Fail;
+
+type Worked = (Step, Answer);
+
+const NEVER: u64 = u64::MAX;
+
+fn add_both(
+    alloc: Global,
+    devices: &mut Vec<FaultDevice<MemDevice>>,
+    write: u64,
+    events: u64,
+    resync_offset: u64,
+) -> Result<(), Fail> {
+    let first = member(alloc, 0, events, resync_offset)?;
+    add(alloc, devices, first, NO_WRITE)?;
+    let second = member(alloc, 1, events, resync_offset)?;
+    add(alloc, devices, second, (write, write))
+}
 
 // Both members, the second of which fails at its write of this number.
 fn run_failing<'a>(
@@ -20,216 +37,265 @@ fn run_failing<'a>(
     resync_offset: u64,
 ) -> Result<Run<'a>, Fail> {
     let mut devices = Vec::new(alloc);
-    for (number, first, last) in [(0, 1, 0), (1, write, write)] {
-        let device = member(alloc, number, events, resync_offset)?;
-        devices.push(FaultDevice::new(device, Vec::new(alloc), first, last, false))?;
-    }
+    add_both(alloc, &mut devices, write, events, resync_offset)?;
     Run::open(alloc, devices)
 }
 
-const NEVER: u64 = u64::MAX;
-
 // A member gets the bytes once all marks and then all records are stored, and once only.
+const IN_ORDER: [Worked; 11] = [
+    (Step::Begin(8), Answer::Begun(0)),
+    (
+        Step::WriteMember(0),
+        Answer::NotWritten(WriteMemberFault::NotMarked(0)),
+    ),
+    (Step::StoreMarks(0), Answer::Done),
+    (Step::StoreMarks(1), Answer::Done),
+    (
+        Step::WriteMember(0),
+        Answer::NotWritten(WriteMemberFault::NotRecorded(0)),
+    ),
+    (Step::Record(0), Answer::Done),
+    (Step::Record(1), Answer::Done),
+    (Step::WriteMember(0), Answer::Done),
+    (
+        Step::WriteMember(0),
+        Answer::NotWritten(WriteMemberFault::AlreadyWritten),
+    ),
+    (Step::Begin(8), Answer::NotBegun(BeginFault::Overlaps(0))),
+    (Step::Finish, Answer::NotFinished(FinishFault::Unwritten(1))),
+];
+
+// The array is opened again, and chunk 1 is marked.
+const NOT_RESYNCED: [Worked; 2] = [
+    (Step::Begin(8), Answer::NotBegun(BeginFault::NotResynced)),
+    (Step::ClearIdle, Answer::NotCleared(ClearFault::NotResynced)),
+];
+
+fn is_chunk_1_marked(rt: &impl Abort, run: &Run<'_>) {
+    same(
+        rt,
+        "the marked chunk",
+        run.mirror().marks().next_marked(0),
+        Some(1),
+    );
+}
+
+fn shows_in_flight(in_flight: Option<u64>) -> Shown {
+    Shown {
+        events: 11,
+        marked: 1,
+        in_flight,
+        degraded: false,
+        halted: false,
+    }
+}
+
 #[test]
 fn step_order(rt: HostRuntime) -> Result<(), Fail> {
     let alloc = rt.alloc();
     let mut run = run_failing(alloc, NEVER, 10, CLEAN)?;
-    let worked = [
-        (Step::Begin(8), Answer::Begun(0)),
-        (
-            Step::WriteMember(0),
-            Answer::NotWritten(WriteMemberFault::NotMarked(0)),
-        ),
-        (Step::StoreMarks(0), Answer::Done),
-        (Step::StoreMarks(1), Answer::Done),
-        (
-            Step::WriteMember(0),
-            Answer::NotWritten(WriteMemberFault::NotRecorded(0)),
-        ),
-        (Step::Record(0), Answer::Done),
-        (Step::Record(1), Answer::Done),
-        (Step::WriteMember(0), Answer::Done),
-        (
-            Step::WriteMember(0),
-            Answer::NotWritten(WriteMemberFault::AlreadyWritten),
-        ),
-        (Step::Begin(8), Answer::NotBegun(BeginFault::Overlaps(0))),
-        (Step::Finish, Answer::NotFinished(FinishFault::Unwritten(1))),
-    ];
-    answers(&rt, &mut run, &worked, &SECTOR);
-    assert_eq!(rt; run.mirror().events(), 11);
-    is_chunk_1_marked(&rt, run.mirror());
-
-    let mut run = Run::open(alloc, run.into_devices())?;
-    is_chunk_1_marked(&rt, run.mirror());
-    assert_eq!(rt; run.mirror().in_flight(), None);
-    let worked = [
-        (Step::Begin(8), Answer::NotBegun(BeginFault::NotResynced)),
-        (Step::ClearIdle, Answer::NotCleared(ClearFault::NotResynced)),
-    ];
-    answers(&rt, &mut run, &worked, &SECTOR);
-    Ok(())
+    plays(&rt, &mut run, &IN_ORDER, shows_in_flight(Some(0)));
+    is_chunk_1_marked(&rt, &run);
+    is_not_resynced(&rt, alloc, run.into_devices())
 }
 
-fn is_chunk_1_marked<D: Device + Drop>(rt: &impl Abort, mirror: &Mirror<D>) {
-    assert_eq!(rt; mirror.marks().count(), 1);
-    assert_eq!(rt; mirror.marks().next_marked(0), Some(1));
+fn is_not_resynced(
+    rt: &impl Abort,
+    alloc: Global,
+    devices: Vec<FaultDevice<MemDevice>>,
+) -> Result<(), Fail> {
+    let mut run = Run::open(alloc, devices)?;
+    is_chunk_1_marked(rt, &run);
+    plays(rt, &mut run, &NOT_RESYNCED, shows_in_flight(None));
+    run.end();
+    Ok(())
 }
 
 // Request 1 keeps its chunk's mark until it is finished.
+const BOTH_BEGUN: [Worked; 8] = [
+    (Step::Begin(8), Answer::Begun(0)),
+    (Step::Begin(9), Answer::Begun(1)),
+    (Step::StoreMarks(0), Answer::Done),
+    (Step::StoreMarks(1), Answer::Done),
+    (Step::Record(0), Answer::Done),
+    (Step::Record(1), Answer::Done),
+    (Step::WriteMember(0), Answer::Done),
+    (Step::WriteMember(1), Answer::Done),
+];
+
+const FIRST_FINISHED: [Worked; 5] = [
+    (Step::WriteMember(0), Answer::Done),
+    (Step::WriteMember(1), Answer::Done),
+    (Step::Finish, Answer::Done),
+    (Step::ClearIdle, Answer::NotCleared(ClearFault::Busy(1))),
+    (Step::Begin(64), Answer::NotBegun(BeginFault::OutOfRange)),
+];
+
+const NO_BYTES: [Worked; 1] = [(Step::Begin(8), Answer::NotBegun(BeginFault::OutOfRange))];
+
+const SECOND_FINISHED: [Worked; 3] = [
+    (Step::Finish, Answer::Done),
+    (Step::ClearIdle, Answer::Done),
+    (Step::ClearIdle, Answer::NotCleared(ClearFault::NotMarked)),
+];
+
+const ALL_FINISHED: Shown = Shown {
+    events: 11,
+    marked: 0,
+    in_flight: None,
+    degraded: false,
+    halted: false,
+};
+
+fn overlap(rt: &impl Abort, run: &mut Run<'_>) {
+    answers(rt, run, &BOTH_BEGUN, &SECTOR);
+    run.turn();
+    same(rt, "the first in flight", run.mirror().in_flight(), Some(0));
+    answers(rt, run, &FIRST_FINISHED, &SECTOR);
+    answers(rt, run, &NO_BYTES, &[]);
+    run.turn();
+    plays(rt, run, &SECOND_FINISHED, ALL_FINISHED);
+}
+
 #[test]
 fn overlapping_requests(rt: HostRuntime) -> Result<(), Fail> {
-    let alloc = rt.alloc();
-    let mut run = run_failing(alloc, NEVER, 10, CLEAN)?;
-    let worked = [
-        (Step::Begin(8), Answer::Begun(0)),
-        (Step::Begin(9), Answer::Begun(1)),
-        (Step::StoreMarks(0), Answer::Done),
-        (Step::StoreMarks(1), Answer::Done),
-        (Step::Record(0), Answer::Done),
-        (Step::Record(1), Answer::Done),
-        (Step::WriteMember(0), Answer::Done),
-        (Step::WriteMember(1), Answer::Done),
-    ];
-    answers(&rt, &mut run, &worked, &SECTOR);
-    run.turn();
-    assert_eq!(rt; run.mirror().in_flight(), Some(0));
-    let worked = [
-        (Step::WriteMember(0), Answer::Done),
-        (Step::WriteMember(1), Answer::Done),
-        (Step::Finish, Answer::Done),
-        (Step::ClearIdle, Answer::NotCleared(ClearFault::Busy(1))),
-        (Step::Begin(64), Answer::NotBegun(BeginFault::OutOfRange)),
-    ];
-    answers(&rt, &mut run, &worked, &SECTOR);
-    let empty = [(Step::Begin(8), Answer::NotBegun(BeginFault::OutOfRange))];
-    answers(&rt, &mut run, &empty, &[]);
-    run.turn();
-    let worked = [
-        (Step::Finish, Answer::Done),
-        (Step::ClearIdle, Answer::Done),
-        (Step::ClearIdle, Answer::NotCleared(ClearFault::NotMarked)),
-    ];
-    answers(&rt, &mut run, &worked, &SECTOR);
-    assert_eq!(rt; run.mirror().in_flight(), None);
-    assert_eq!(rt; run.mirror().marks().count(), 0);
+    let mut run = run_failing(rt.alloc(), NEVER, 10, CLEAN)?;
+    overlap(&rt, &mut run);
+    run.end();
     Ok(())
+}
+
+const SECOND_FAILS: [Worked; 7] = [
+    (Step::Begin(8), Answer::Begun(0)),
+    (Step::StoreMarks(0), Answer::Done),
+    (Step::StoreMarks(1), Answer::Done),
+    (Step::Record(0), Answer::Done),
+    (Step::Record(1), Answer::Done),
+    (Step::WriteMember(0), Answer::Done),
+    (
+        Step::WriteMember(1),
+        Answer::NotWritten(WriteMemberFault::MemberFailed(1)),
+    ),
+];
+
+const WITHOUT_SECOND: [Worked; 8] = [
+    (
+        Step::WriteMember(1),
+        Answer::NotWritten(WriteMemberFault::NotActive),
+    ),
+    (
+        Step::StoreMarks(1),
+        Answer::NotStored(StoreFault::NotActive),
+    ),
+    (Step::Record(1), Answer::NotStored(StoreFault::NotActive)),
+    (
+        Step::Finish,
+        Answer::NotFinished(FinishFault::MustRecord(0)),
+    ),
+    (Step::StoreMarks(0), Answer::Done),
+    (Step::Record(0), Answer::Done),
+    (Step::Finish, Answer::Done),
+    (Step::ClearIdle, Answer::NotCleared(ClearFault::Degraded)),
+];
+
+fn shows_degraded(in_flight: Option<u64>) -> Shown {
+    Shown {
+        events: 12,
+        marked: 1,
+        in_flight,
+        degraded: true,
+        halted: false,
+    }
 }
 
 #[test]
 fn write_fails_on_one(rt: HostRuntime) -> Result<(), Fail> {
     let alloc = rt.alloc();
     let mut run = run_failing(alloc, 3, 10, CLEAN)?;
-    let worked = [
-        (Step::Begin(8), Answer::Begun(0)),
-        (Step::StoreMarks(0), Answer::Done),
-        (Step::StoreMarks(1), Answer::Done),
-        (Step::Record(0), Answer::Done),
-        (Step::Record(1), Answer::Done),
-        (Step::WriteMember(0), Answer::Done),
-        (
-            Step::WriteMember(1),
-            Answer::NotWritten(WriteMemberFault::MemberFailed(1)),
-        ),
-    ];
-    answers(&rt, &mut run, &worked, &SECTOR);
-    let without_second = Shown {
-        events: 12,
-        marked: 1,
-        in_flight: Some(0),
-        degraded: true,
-        halted: false,
-    };
-    assert_eq!(rt; what_shows(run.mirror()), without_second);
-    ends_without_second(&rt, &mut run);
-    let mirror = open(alloc, run.into_devices())?;
-    assert_eq!(rt; mirror.members(), 2);
-    assert_eq!(rt; mirror.state(0), MemberState::InSync(0));
-    assert_eq!(rt; mirror.state(1), MemberState::Faulty);
-    are_counts_stored(&rt, alloc, mirror.into_devices())
+    plays(&rt, &mut run, &SECOND_FAILS, shows_degraded(Some(0)));
+    plays(&rt, &mut run, &WITHOUT_SECOND, shows_degraded(None));
+    is_second_left_out(&rt, alloc, run.into_devices())
 }
 
-fn ends_without_second(rt: &impl Abort, run: &mut Run<'_>) {
-    let worked = [
-        (
-            Step::WriteMember(1),
-            Answer::NotWritten(WriteMemberFault::NotActive),
-        ),
-        (
-            Step::StoreMarks(1),
-            Answer::NotStored(StoreFault::NotActive),
-        ),
-        (Step::Record(1), Answer::NotStored(StoreFault::NotActive)),
-        (
-            Step::Finish,
-            Answer::NotFinished(FinishFault::MustRecord(0)),
-        ),
-        (Step::StoreMarks(0), Answer::Done),
-        (Step::Record(0), Answer::Done),
-        (Step::Finish, Answer::Done),
-        (Step::ClearIdle, Answer::NotCleared(ClearFault::Degraded)),
-    ];
-    answers(rt, run, &worked, &SECTOR);
-    assert_eq!(rt; run.mirror().events(), 12);
+fn is_second_left_out(
+    rt: &impl Abort,
+    alloc: Global,
+    devices: Vec<FaultDevice<MemDevice>>,
+) -> Result<(), Fail> {
+    let run = Run::open(alloc, devices)?;
+    let wanted = [MemberState::InSync(0), MemberState::Faulty];
+    same(rt, "the states", states_of_two(run.mirror()), Some(wanted));
+    let mut devices = run.into_devices();
+    let stored = are_counts_stored(rt, alloc, &mut devices);
+    drop(devices);
+    stored
 }
 
 // The failure is counted on the first member alone. Marks were last cleared at 11 on both.
-fn are_counts_stored<D: Device + Drop>(
+fn are_counts_stored<D: Device>(
     rt: &impl Abort,
     alloc: Global,
-    devices: Vec<D>,
+    devices: &mut [D],
 ) -> Result<(), Fail> {
-    assert_eq!(rt; devices.len(), 2);
-    for (device, events) in devices.into_iter().zip([12u64, 11]) {
-        let mut device = device;
-        is_count_stored(rt, &read_member(alloc, &mut device)?, events);
+    same(rt, "the members", devices.len(), 2);
+    for (device, events) in devices.iter_mut().zip([12u64, 11]) {
+        let stored = stored_counts(alloc, device)?;
+        same(rt, "the counts", stored, (events, Some((events, 11))));
     }
     Ok(())
 }
 
-fn is_count_stored(rt: &impl Abort, info: &MemberInfo, events: u64) {
-    assert_eq!(rt; info.superblock.events, events);
+// Of the superblock, and of the bitmap the count and the one at which marks were last cleared.
+fn stored_counts<D: Device>(
+    alloc: Global,
+    device: &mut D,
+) -> Result<(u64, Option<(u64, u64)>), Fail> {
+    let info = read_member(alloc, device)?;
     let header = info
         .header
         .map(|header| (header.events, header.events_cleared));
-    assert_eq!(rt; header, Some((events, 11)));
+    let counts = (info.superblock.events, header);
+    drop(info);
+    Ok(counts)
 }
+
+const FULL: [Worked; 1] = [(Step::Begin(8), Answer::NotBegun(BeginFault::EventsFull))];
+
+const UNCHANGED: Shown = Shown {
+    events: u64::MAX,
+    marked: 0,
+    in_flight: None,
+    degraded: false,
+    halted: false,
+};
 
 #[test]
 fn event_count_limit(rt: HostRuntime) -> Result<(), Fail> {
-    let alloc = rt.alloc();
-    let mut run = run_failing(alloc, NEVER, u64::MAX, CLEAN)?;
-    let full = [(Step::Begin(8), Answer::NotBegun(BeginFault::EventsFull))];
-    answers(&rt, &mut run, &full, &SECTOR);
-    let unchanged = Shown {
-        events: u64::MAX,
-        marked: 0,
-        in_flight: None,
-        degraded: false,
-        halted: false,
-    };
-    assert_eq!(rt; what_shows(run.mirror()), unchanged);
+    let mut run = run_failing(rt.alloc(), NEVER, u64::MAX, CLEAN)?;
+    plays(&rt, &mut run, &FULL, UNCHANGED);
+    run.end();
     Ok(())
 }
 
 // An active array begins without a rise of the count. A failure needs one.
+const FAILS_AT_THE_LIMIT: [Worked; 3] = [
+    (Step::Begin(8), Answer::Begun(0)),
+    (Step::StoreMarks(0), Answer::Done),
+    (Step::StoreMarks(1), Answer::NotStored(StoreFault::Halted)),
+];
+
+const HALTED: Shown = Shown {
+    events: u64::MAX,
+    marked: 1,
+    in_flight: Some(0),
+    degraded: false,
+    halted: true,
+};
+
 #[test]
 fn failure_at_the_event_count_limit(rt: HostRuntime) -> Result<(), Fail> {
-    let alloc = rt.alloc();
-    let mut run = run_failing(alloc, 1, u64::MAX, ACTIVE)?;
-    let worked = [
-        (Step::Begin(8), Answer::Begun(0)),
-        (Step::StoreMarks(0), Answer::Done),
-        (Step::StoreMarks(1), Answer::NotStored(StoreFault::Halted)),
-    ];
-    answers(&rt, &mut run, &worked, &SECTOR);
-    let halted = Shown {
-        events: u64::MAX,
-        marked: 1,
-        in_flight: Some(0),
-        degraded: false,
-        halted: true,
-    };
-    assert_eq!(rt; what_shows(run.mirror()), halted);
+    let mut run = run_failing(rt.alloc(), 1, u64::MAX, ACTIVE)?;
+    plays(&rt, &mut run, &FAILS_AT_THE_LIMIT, HALTED);
+    run.end();
     Ok(())
 }

@@ -1,9 +1,11 @@
 // Worked lists of steps, each with what it has to answer, and what a mirror shows.
 ghost use Rattle.std.specs.Prelude.{◌≡◌, ◌%◌, length};
 
+use crate::checks::same;
 use crate::run::Run;
 use crate::steps::{Answer, Step};
 use md_array::Mirror;
+use md_assembly::MemberState;
 use md_device::Device;
 use std::process::Abort;
 
@@ -18,10 +20,16 @@ pub(crate) fn answers<'a>(
 )
     requires { length bytes.now % 512 ≡ 0 }
 {
-    for (step, wanted) in worked {
+    for (k, (step, wanted)) in worked.iter().enumerate() {
         let answer = run.make(*step, bytes);
-        assert_eq!(rt; answer, *wanted, "at {step:?} of {worked:?}");
+        assert_eq!(rt; answer, *wanted, "at {k}: {step:?}");
     }
+}
+
+// The same with `SECTOR`, and what the mirror has to show then.
+pub(crate) fn plays(rt: &impl Abort, run: &mut Run<'_>, worked: &[(Step, Answer)], shown: Shown) {
+    answers(rt, run, worked, &SECTOR);
+    same(rt, "what the mirror shows", what_shows(run.mirror()), shown);
 }
 
 #[derive(Clone, Copy, Debug, PartialEq, Eq)]
@@ -33,12 +41,21 @@ pub(crate) struct Shown {
     pub(crate) halted: bool,
 }
 
-pub(crate) fn what_shows<D: Device + Drop>(mirror: &Mirror<D>) -> Shown {
+fn what_shows<D: Device + Drop>(mirror: &Mirror<D>) -> Shown {
     Shown {
         events: mirror.events(),
         marked: mirror.marks().count(),
         in_flight: mirror.in_flight(),
         degraded: mirror.degraded(),
         halted: mirror.halted(),
+    }
+}
+
+// The states of two members, if there are as many.
+pub(crate) fn states_of_two<D: Device + Drop>(mirror: &Mirror<D>) -> Option<[MemberState; 2]> {
+    if mirror.members() == 2 {
+        Some([mirror.state(0), mirror.state(1)])
+    } else {
+        None
     }
 }

@@ -99,7 +99,7 @@ module _ (a : ArrayView) (k : ℕ) (m : MemberView) (at : IsMember a k m) where
       let p = is_another (λ (y : MemberView). is_in_sync y.state) refl j x is in_sync in
       have j d x (sym (tried.others j p.0) ∙ there) p.1 in_sync honest
 
-  without_is_consistent : (w : Write) (before after : List Disk) (o : ℕ) (n : MemberView) → o ≢ k → IsInSync a o n → IsTried k w before after
+  pub without_is_consistent : (w : Write) (before after : List Disk) (o : ℕ) (n : MemberView) → o ≢ k → IsInSync a o n → IsTried k w before after
       → IsConsistent (record { disks = before; array = a }) → IsConsistent (record { disks = after; array = b })
   without_is_consistent w before after o n apart in_sync tried c = record {
     fits = fits_without after (fits_tried a k w before after tried c.fits);

@@ -5,6 +5,7 @@ use Rattle.md_model.specs.Devices.{Super}
 use Rattle.md_model.specs.Content.{Content, BecomesAtOpening, Holds}
 use Rattle.md_model.specs.Events.{Event}
 use Rattle.md_model.specs.Lives.{Reopens}
+use Rattle.md_model.specs.Openings.{IsWithinLimits}
 use Rattle.md_model.specs.Runs as runs
 use Rattle.md_model.specs.Worlds.{World}
 use Rattle.md_model.proofs.ContentLives.{IsHeld}
@@ -111,3 +112,36 @@ content_along before m a start holds = life_along m a (begins_first before m sta
 
 pub content_kept : KeepsContent
 content_kept before m a start holds = life_held m a (begins_first before m start) holds
+
+-- ---- at each moment of a life
+-- the content is held, the mirror is sound, and the array has the chunks of the first opening
+pub record IsHeldAt (g : Geometry) (opened : Super) (t : Moment) (a : Content) : Type 0 where
+  pub held : IsHeld g opened (history_of t) a
+  pub sound : IsSoundAt t
+  pub geometry : geometry_of t.mirror.array ≡ g
+
+held_at : (m : MirrorView) (a : Content) → Begins m → Holds (geometry_of m.array) a (world_of m none_in_flight)
+    → (es : List Event) (rest : List (List Event)) (final : MirrorView) (last : Moment) (b : Content) → MirrorLifeWith m a es rest final last b
+    → IsHeldAt (geometry_of m.array) (super_of final.array.shared) last b
+held_at m a begins holds es [] final last b life =
+    let r = run.without_content es (opened_as m) a last b life.1 in
+    record {
+      held = subst (λ (x : MirrorView). IsHeld (geometry_of m.array) (super_of x.array.shared) (history_of last) b) (sym life.0) (run.content_held m begins.start es a last b holds life.1);
+      sound = run_keeps es (opened_as m) last r begins.at_m;
+      geometry = geometry_kept es (opened_as m) last r;
+    }
+held_at m a begins holds es (more ∷ rest) final last b life =
+    let t = life.0 in
+    let next = life.1 in
+    let r = run.without_content es (opened_as m) a t life.2 life.4 in
+    let held = run.content_held m begins.start es a t life.2 holds life.4 in
+    subst (λ x. IsHeldAt x (super_of final.array.shared) last b) (same m begins es t r next life.5 life.2 held)
+    (held_at next life.3 (begins_again m begins es t r next life.5 life.2 held) life.6.holds more rest final last b life.7)
+
+pub life_held_at : (before : List Disk) (m : MirrorView) (a : Content) → IsStart before m → Holds (geometry_of m.array) a (world_of m none_in_flight)
+    → (es : List Event) (rest : List (List Event)) (final : MirrorView) (last : Moment) (b : Content) → MirrorLifeWith m a es rest final last b
+    → IsHeldAt (geometry_of m.array) (super_of final.array.shared) last b
+life_held_at before m a start holds = held_at m a (begins_first before m start) holds
+
+pub starts_small : (before : List Disk) (m : MirrorView) → IsStart before m → IsWithinLimits (geometry_of m.array)
+starts_small before m start = (begins_first before m start).start.small

@@ -1,13 +1,14 @@
 use Rattle.std.proofs.Common.{◌≡◌, ◌∙◌, true, List, Err, map, ap, subst, inr, refl, rules}
 use Rattle.md_device.specs.declared.access.Access.TheVariants.{Change}
-use Rattle.md_cli.specs.Images.{allows}
-use Rattle.md_cli.specs.Taking.{RefusesImages, Word, image_list, word_of}
+use Rattle.md_cli.specs.Arrays.{of_images}
+use Rattle.md_images.specs.Images.{allows}
+use Rattle.md_images.specs.Taking.{RefusesImages, Word, image_list, word_of}
 use Rattle.md_cli.proofs.creating.create_images.Goals as goal
 
 pub returns-in_err-devices-clause-gives : goal.returns-in_err-devices-clause-gives
 returns-in_err-devices-clause-gives g c =
     let fault = c.in_err-devices.field-0.0 in
-    let is : c.from_residual.result ≡ Err fault = search rules in
+    let is : c.from_residual.result ≡ Err (of_images fault) = search rules in
     let words_are : map word_of c.as_slice-words.result.now ≡ image_list true (map (λ s. s.now) c.args.names.now) = ap (map word_of) c.as_slice-words.ensures.value ∙ c.in-Ok.ensures in
     let at = g.I.Images.device_at in
     inr (record {

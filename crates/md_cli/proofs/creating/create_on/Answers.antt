@@ -2,13 +2,12 @@ use Rattle.std.proofs.Common.{◌≡◌, ◌∙◌, ◌<◌, List, [], length, m
 use Rattle.std.specs.Prelude.{slice_get, slice_index_or}
 use Rattle.std.proofs.lemmas.List.{length-map}
 use Rattle.md_state.specs.View.{disk_of}
-use Rattle.md_cli.specs.declared.array_report.ArrayReport.TheVariants.{Summary}
 use Rattle.md_cli.specs.declared.fault.CommandFault.TheVariants.{MetadataFault}
-use Rattle.md_cli.specs.Arrays.{OpensDevices}
+use Rattle.md_cli.specs.Arrays.{ShowsDevices}
 use Rattle.md_cli.specs.Creating.{AreLaidOut, FailsToLayOut, sizes_of}
-use Rattle.md_cli.specs.Taking.{Word, word_of}
+use Rattle.md_images.specs.Taking.{Word, word_of}
 use Rattle.md_cli.proofs.Created.{at_of, laid_out_of, made, room, written_back}
-use Rattle.md_cli.proofs.Taken.{index_of_word}
+use Rattle.md_images.proofs.Taken.{index_of_word}
 use Rattle.md_cli.proofs.creating.create_on.Goals as goal
 
 pub lay_out_each-place-requires-clause-as_many : goal.lay_out_each-place-requires-clause-as_many
@@ -79,5 +78,5 @@ returns-clause-gives g c =
       made = new;
       middle = middle;
       laid_out = subst (λ n. AreLaidOut before middle c.in-Ok-create.members.items n) all (laid_out_of _ before _ middle _ c.in-Ok-create.members.items c.lay_out_each-place.result lent refl c.as_slice-3.ensures.value laid.laid_out);
-      opened = subst (λ ds. OpensDevices g.S.Sink.contents g.S.Sink.failed Summary ds (map disk c.show_devices.result.0.items) c.args.out.now c.show_devices.new.out c.show_devices.result.1) back c.show_devices.ensures.gives;
+      opened = subst (λ ds. ShowsDevices g.S.Sink ds (map disk c.show_devices.result.0.items) c.args.out.now c.show_devices.new.out c.show_devices.result.1) back c.show_devices.ensures.gives;
     }))

@@ -1,6 +1,6 @@
 use Rattle.std.proofs.Common.{◌<◌, refl}
 use Rattle.md_examine.specs.BadblocksReport.{badblocks_report}
-use Rattle.md_cli.specs.declared.report.Report.TheVariants.{BadBlocks}
+use Rattle.md_words.specs.declared.report.Report.TheVariants.{BadBlocks}
 use Rattle.md_cli.proofs.Flushed.{examined}
 use Rattle.md_cli.proofs.examining.show_badblocks.Goals as goal
 

@@ -1,6 +1,6 @@
 use Rattle.std.proofs.Common.{◌<◌, refl, inl}
 use Rattle.md_examine.specs.BitmapReport.{bitmap_report}
-use Rattle.md_cli.specs.declared.report.Report.TheVariants.{Bitmap}
+use Rattle.md_words.specs.declared.report.Report.TheVariants.{Bitmap}
 use Rattle.md_cli.proofs.Flushed.{examined}
 use Rattle.md_cli.proofs.examining.show_bitmap.Goals as goal
 

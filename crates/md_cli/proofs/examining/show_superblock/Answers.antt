@@ -1,6 +1,6 @@
 use Rattle.std.proofs.Common.{◌<◌, refl}
 use Rattle.md_examine.specs.SuperblockReport.{examine_text}
-use Rattle.md_cli.specs.declared.report.Report.TheVariants.{Superblock}
+use Rattle.md_words.specs.declared.report.Report.TheVariants.{Superblock}
 use Rattle.md_cli.proofs.Flushed.{examined}
 use Rattle.md_cli.proofs.examining.show_superblock.Goals as goal
 

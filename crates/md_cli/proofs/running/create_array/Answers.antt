@@ -1,6 +1,6 @@
 use Rattle.std.proofs.Common.{◌∙◌, ap, inl, inr, refl}
 use Rattle.std.proofs.lemmas.List.{length-map}
-use Rattle.md_cli.specs.Asked.{options_of}
+use Rattle.md_words.specs.Asked.{options_of}
 use Rattle.md_cli.specs.Planning.{option_fault}
 use Rattle.md_cli.proofs.running.create_array.Goals as goal
 

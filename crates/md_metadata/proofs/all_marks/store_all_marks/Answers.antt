@@ -1,28 +1,28 @@
 use Rattle.std.proofs.Common.{arith, subst}
 use Rattle.md_bitmap.specs.Marks.{Bitmap}
-use Rattle.md_metadata.specs.Storing.{HasAllMarks, StoresAt}
+use Rattle.md_metadata.specs.Storing.{HasAllMarks, IsMarking, StoresAt}
 use Rattle.md_metadata.proofs.Going.{stops_on}
 use Rattle.md_metadata.proofs.StoredMembers.{below_all, below_more, below_none}
 use Rattle.md_metadata.proofs.StoredSectors.{all_marks_last}
 use Rattle.md_metadata.proofs.all_marks.store_all_marks.Goals as goal
 
 pub loop-k-init : goal.loop-k-init
-loop-k-init g c = below_none (HasAllMarks c.args.mirror.now.array.marks) c.args.mirror.now c.requires.sound
+loop-k-init g c = below_none IsMarking (HasAllMarks c.args.mirror.now.array.marks) c.args.mirror.now c.requires.sound
 
 pub returns-in-Err : goal.returns-in-Err
-returns-in-Err g c = stops_on c.args.mirror.now c.loop-k.mirror c.store_member_marks.new.mirror c.in-Err.fault c.loop-k.invariant.stores c.in-Err.ensures
+returns-in-Err g c = stops_on IsMarking c.args.mirror.now c.loop-k.mirror c.store_member_marks.new.mirror c.in-Err.fault c.loop-k.invariant.stores c.in-Err.ensures
 
 pub loop-k-preserved : goal.loop-k-preserved
 loop-k-preserved g c =
     let old = c.args.mirror.now in
     let mid = c.loop-k.mirror in
     let new = c.store_member_marks.new.mirror in
-    below_more (HasAllMarks old.array.marks) c.loop-k.k old mid new (all_marks_last old.array.marks) c.loop-k.invariant
-    (subst (λ (marks : Bitmap). StoresAt c.loop-k.k (HasAllMarks marks) mid new) c.loop-k.invariant.stores.goes.array.marks c.in_default.ensures)
+    below_more IsMarking (HasAllMarks old.array.marks) c.loop-k.k old mid new (all_marks_last old.array.marks) c.loop-k.invariant
+    (subst (λ (marks : Bitmap). StoresAt IsMarking c.loop-k.k (HasAllMarks marks) mid new) c.loop-k.invariant.stores.goes.array.marks c.in_default.ensures)
 
 pub returns : goal.returns
 returns g c =
     let past = c.loop-k-test.false in
     let count = c.members-k-end.ensures in
     let many = c.loop-k.invariant.stores.goes.array.as_many in
-    below_all (HasAllMarks c.args.mirror.now.array.marks) c.loop-k.k c.args.mirror.now c.loop-k.mirror (omega arith) c.loop-k.invariant
+    below_all IsMarking (HasAllMarks c.args.mirror.now.array.marks) c.loop-k.k c.args.mirror.now c.loop-k.mirror (omega arith) c.loop-k.invariant

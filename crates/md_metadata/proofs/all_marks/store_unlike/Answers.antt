@@ -1,4 +1,5 @@
 use Rattle.md_array.specs.InTurn.{HasSector}
+use Rattle.md_metadata.specs.Storing.{IsMarking}
 use Rattle.md_metadata.proofs.StoredMembers.{nothing_at, told}
 use Rattle.md_metadata.proofs.StoredSectors.{sector_or_stops, unlike_due}
 use Rattle.md_metadata.proofs.all_marks.store_unlike.Goals as goal
@@ -7,7 +8,7 @@ use Rattle.md_metadata.proofs.all_marks.store_unlike.Goals.{then-not-is_in_sync-
 pub returns-then-not-is_in_sync : goal.returns-then-not-is_in_sync
 returns-then-not-is_in_sync g c =
     let a = c.args.mirror.now.array in
-    nothing_at (HasSector a c.args.block) c.args.k c.args.mirror.now c.requires.sound
+    nothing_at IsMarking (HasSector a c.args.block) c.args.k c.args.mirror.now c.requires.sound
     (λ n in_sync.
     let state = told (λ m. m.state) a c.args.k n c.state.result c.state.ensures in_sync.member in
     let yes = in_sync.in_sync in

@@ -2,6 +2,8 @@ use Rattle.std.proofs.Common.{◌≡◌, true}
 use Rattle.md_state.specs.View.{MemberView}
 use Rattle.md_state.specs.Members.{IsMember}
 use Rattle.md_state.specs.WritingMember.{IsNotDue}
+use Rattle.md_metadata.specs.Storing.{IsRecording, IsSector}
+use Rattle.md_metadata.proofs.Going.{first_records, stops_as}
 use Rattle.md_metadata.proofs.StoredMembers.{nothing_at, told}
 use Rattle.md_metadata.proofs.StoredRecords.{header_due, in_sync_due, recorded_or_stops, still_recorded}
 use Rattle.md_metadata.proofs.records.store_due_record.Goals as goal
@@ -9,7 +11,7 @@ use Rattle.md_metadata.proofs.records.store_due_record.Goals.{then-not-is_in_syn
 
 pub returns-then-not-is_in_sync : goal.returns-then-not-is_in_sync
 returns-then-not-is_in_sync g c =
-    nothing_at IsNotDue c.args.k c.args.mirror.now c.requires.sound
+    nothing_at IsRecording IsNotDue c.args.k c.args.mirror.now c.requires.sound
     (λ n in_sync.
     let state = told (λ m. m.state) c.args.mirror.now.array c.args.k n c.state.result c.state.ensures in_sync.member in
     let yes = in_sync.in_sync in
@@ -33,6 +35,9 @@ pub store_sector-requires-clause-due : goal.store_sector-requires-clause-due
 store_sector-requires-clause-due g c =
     header_due c.args.mirror.now.array c.args.k
     (λ m at. let due = told (λ x. x.due) c.args.mirror.now.array c.args.k m c.due.result c.due.ensures at in let yes = c.if-not-due.false in cc)
+
+pub returns-in-Err : goal.returns-in-Err
+returns-in-Err g c = stops_as (IsSector 0) IsRecording first_records c.args.mirror.now c.store_sector.new.mirror c.in-Err.fault c.in-Err.ensures
 
 pub store_record-requires-clause-active : goal.store_record-requires-clause-active
 store_record-requires-clause-active g c = still_recorded c.args.k c.args.mirror.now c.store_sector.new.mirror c.in_default.ensures

@@ -1,5 +1,6 @@
 use Rattle.std.proofs.Common.{◌∙◌, arith, refl}
 use Rattle.md_state.specs.WritingMember.{IsNotDue}
+use Rattle.md_metadata.specs.Storing.{IsRecording}
 use Rattle.md_metadata.proofs.Going.{stops_on}
 use Rattle.md_metadata.proofs.StoredMembers.{last_on, records_last}
 use Rattle.md_metadata.proofs.StoredRecords.{recorded_all, recorded_more, recorded_none}
@@ -22,10 +23,10 @@ store_other_record-requires-clause-running g c = c.loop-k.invariant.stores.ready
 
 pub store_other_record-requires-clause-recorded : goal.store_other_record-requires-clause-recorded
 store_other_record-requires-clause-recorded g c =
-    last_on IsNotDue c.args.mirror.now c.args.mirror.now c.loop-k.mirror (records_last c.args.mirror.now.array.marks) refl c.requires.recorded c.loop-k.invariant.stores
+    last_on IsRecording IsNotDue c.args.mirror.now c.args.mirror.now c.loop-k.mirror (records_last c.args.mirror.now.array.marks) refl c.requires.recorded c.loop-k.invariant.stores
 
 pub returns-in-Err : goal.returns-in-Err
-returns-in-Err g c = stops_on c.args.mirror.now c.loop-k.mirror c.store_other_record.new.mirror c.in-Err.fault c.loop-k.invariant.stores c.in-Err.ensures
+returns-in-Err g c = stops_on IsRecording c.args.mirror.now c.loop-k.mirror c.store_other_record.new.mirror c.in-Err.fault c.loop-k.invariant.stores c.in-Err.ensures
 
 pub loop-k-preserved : goal.loop-k-preserved
 loop-k-preserved g c = recorded_more c.loop-k.k c.args.mirror.now c.loop-k.mirror c.store_other_record.new.mirror c.loop-k.invariant c.in_default.ensures

@@ -1,11 +1,12 @@
 use Rattle.std.proofs.Common.{◌∙◌, arith}
 use Rattle.md_state.specs.WritingMember.{IsNotDue}
+use Rattle.md_metadata.specs.Storing.{IsRecording}
 use Rattle.md_metadata.proofs.Going.{stops_on}
 use Rattle.md_metadata.proofs.StoredMembers.{below_all, below_more, below_none, records_last}
 use Rattle.md_metadata.proofs.records.store_records.Goals as goal
 
 pub loop-k-init : goal.loop-k-init
-loop-k-init g c = below_none IsNotDue c.args.mirror.now c.requires.sound
+loop-k-init g c = below_none IsRecording IsNotDue c.args.mirror.now c.requires.sound
 
 pub store_due_record-requires-clause-within : goal.store_due_record-requires-clause-within
 store_due_record-requires-clause-within g c =
@@ -23,15 +24,15 @@ pub store_due_record-requires-clause-earlier : goal.store_due_record-requires-cl
 store_due_record-requires-clause-earlier g c = c.loop-k.invariant.done
 
 pub returns-in-Err : goal.returns-in-Err
-returns-in-Err g c = stops_on c.args.mirror.now c.loop-k.mirror c.store_due_record.new.mirror c.in-Err.fault c.loop-k.invariant.stores c.in-Err.ensures
+returns-in-Err g c = stops_on IsRecording c.args.mirror.now c.loop-k.mirror c.store_due_record.new.mirror c.in-Err.fault c.loop-k.invariant.stores c.in-Err.ensures
 
 pub loop-k-preserved : goal.loop-k-preserved
 loop-k-preserved g c =
-    below_more IsNotDue c.loop-k.k c.args.mirror.now c.loop-k.mirror c.store_due_record.new.mirror (records_last c.args.mirror.now.array.marks) c.loop-k.invariant c.in_default.ensures
+    below_more IsRecording IsNotDue c.loop-k.k c.args.mirror.now c.loop-k.mirror c.store_due_record.new.mirror (records_last c.args.mirror.now.array.marks) c.loop-k.invariant c.in_default.ensures
 
 pub returns : goal.returns
 returns g c =
     let past = c.loop-k-test.false in
     let count = c.members-k-end.ensures in
     let many = c.loop-k.invariant.stores.goes.array.as_many in
-    below_all IsNotDue c.loop-k.k c.args.mirror.now c.loop-k.mirror (omega arith) c.loop-k.invariant
+    below_all IsRecording IsNotDue c.loop-k.k c.args.mirror.now c.loop-k.mirror (omega arith) c.loop-k.invariant

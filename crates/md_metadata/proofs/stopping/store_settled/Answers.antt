@@ -1,10 +1,9 @@
-use Rattle.md_metadata.proofs.Going.{stops_on}
-use Rattle.md_metadata.proofs.Stopped.{settled_or_stops}
+use Rattle.md_metadata.proofs.Stopped.{settled_or_stops, settled_stops}
 use Rattle.md_metadata.proofs.stopping.store_settled.Goals as goal
 
 pub returns-in-Err-store_records : goal.returns-in-Err-store_records
 returns-in-Err-store_records g c =
-    stops_on c.args.mirror.now c.store_marks_if.new.mirror c.store_records.new.mirror c.in-Err-store_records.fault c.in_default.ensures.stores c.in-Err-store_records.ensures
+    settled_stops c.args.clears c.args.mirror.now c.store_marks_if.new.mirror c.store_records.new.mirror c.in-Err-store_records.fault c.in_default.ensures c.in-Err-store_records.ensures
 
 pub returns : goal.returns
 returns g c =

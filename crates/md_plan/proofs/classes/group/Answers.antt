@@ -1,11 +1,19 @@
-use Rattle.std.proofs.Common.{◌∙◌, ◌+◌, ◌^◌, ◌<◌, ◌≤◌, List, [], ◌∷◌, ◌++◌, Vec, Global, length, take, sym, ap, subst, arith}
+use Rattle.std.proofs.Common.{◌≡◌, ◌∙◌, ◌+◌, ◌^◌, List, [], ◌∷◌, ◌++◌, Vec, Global, length, take, sym, ap, subst, arith}
+use Rattle.std.proofs.lemmas.List.{take_all}
 use Rattle.md_cert.specs.declared.table.Row.{Row}
 use Rattle.md_plan.specs.declared.cell.Cell.{Cell}
 use Rattle.md_plan.specs.declared.classes.Entry.{Entry}
 use Rattle.md_plan.specs.Classes.{IsGroupedBelow}
-use Rattle.md_plan.proofs.RowCounts.{grouped_more, grouped_orphan, class_small}
+use Rattle.md_plan.proofs.RowCounts.{grouped_none, grouped_more, grouped_orphan, class_small}
 use Rattle.md_plan.proofs.classes.group.Goals as goal
-use Rattle.md_plan.proofs.classes.group.Goals.{then-row-ne0+in_ok-last, else-row-ne0, then-done-eq0+in_ok-guesses, else-done-eq0}
+use Rattle.md_plan.proofs.classes.group.Goals.{then-row-ne0+in_ok-last, else-row-ne0}
+
+pub loop-row-init : goal.loop-row-init
+loop-row-init c = record {
+  grouped = grouped_none c.args.rows.now c.new-cells.result.items c.in_ok-class_of.class_of.items c.new-cells.ensures.items c.in_ok-class_of.ensures.items;
+  small = omega arith;
+  index = let e = c.in_ok-index.ensures.len in omega (arith, e);
+}
 
 pub add_one-requires-clause-small : goal.add_one-requires-clause-small
 add_one-requires-clause-small c = λ d.
@@ -31,16 +39,6 @@ loop-row-preserved c =
     let rows : List Row = c.args.rows.now in
     let i = c.loop-row.row-index in
     let d : Row = record { chunk = 0; mask = 0 } in
-    let ready : (0 < length c.if-done-eq0.index.items) × (length c.if-done-eq0.index.items ≤ 2 ^ 21) = elim c.if-done-eq0.branch [
-      | then-done-eq0+in_ok-guesses v ↦ (
-        subst (λ (x : Vec Entry Global). 0 < length x.items) (sym v.index-is) v.look_ahead.ensures.some,
-        subst (λ (x : Vec Entry Global). length x.items ≤ 2 ^ 21) (sym v.index-is) v.look_ahead.ensures.few,
-      )
-      | else-done-eq0 v ↦ (
-        subst (λ (x : Vec Entry Global). 0 < length x.items) (sym v.index-is) c.loop-row.invariant.some,
-        subst (λ (x : Vec Entry Global). length x.items ≤ 2 ^ 21) (sym v.index-is) c.loop-row.invariant.index,
-      )
-    ] in
     elim c.if-row-ne0.branch [
       | then-row-ne0+in_ok-last w ↦
           let class = w.in_ok-last.ensures.class in
@@ -50,14 +48,21 @@ loop-row-preserved c =
                 (grouped_more rows i d c.loop-row.cells.items w.class_for.new.cells.items _ c.loop-row.class_of.items c.push.new.self.items w.in_ok-last.last (omega arith) w.if-row-ne0.true
                 (c.in_ok-push.ensures.items ∙ ap (λ n. c.loop-row.class_of.items ++ n ∷ []) w.last-is) class w.add_one.ensures c.loop-row.invariant.grouped);
             small = let lt = class.within in let f = class.few in let e = w.last-is in omega (arith, lt, f, e, few);
-            some = subst (λ (v : Vec Entry Global). 0 < length v.items) (sym w.index-is) w.in_ok-last.ensures.some;
-            index = subst (λ (v : Vec Entry Global). length v.items ≤ 2 ^ 21) (sym w.index-is) w.in_ok-last.ensures.few;
+            index = subst (λ (v : Vec Entry Global). length v.items ≡ 2 ^ 14) (sym w.index-is) w.in_ok-last.ensures.index;
           }
       | else-row-ne0 w ↦ record {
         grouped = subst (λ (v : Vec Cell Global). IsGroupedBelow rows (i + 1) (take (i + 1) rows) v.items c.push.new.self.items) (sym w.cells-is)
             (grouped_orphan rows i d c.loop-row.cells.items c.loop-row.class_of.items c.push.new.self.items c.if-row-ne0.last (omega arith) w.if-row-ne0.false c.in_ok-push.ensures.items c.loop-row.invariant.grouped);
         small = let e = w.last-is in let s = c.loop-row.invariant.small in omega (arith, e, s);
-        some = subst (λ (v : Vec Entry Global). 0 < length v.items) (sym w.index-is) ready.0;
-        index = subst (λ (v : Vec Entry Global). length v.items ≤ 2 ^ 21) (sym w.index-is) ready.1;
+        index = subst (λ (v : Vec Entry Global). length v.items ≡ 2 ^ 14) (sym w.index-is) c.loop-row.invariant.index;
       }
     ]
+
+pub returns : goal.returns
+returns c =
+    let rows : List Row = c.args.rows.now in
+    let i = c.loop-row.row-index in
+    let done : i ≡ length rows = omega arith in
+    let all = take_all i rows (omega arith) in
+    subst (λ n. IsGroupedBelow rows n rows c.loop-row.cells.items c.loop-row.class_of.items) done
+    (subst (λ part. IsGroupedBelow rows i part c.loop-row.cells.items c.loop-row.class_of.items) all c.loop-row.invariant.grouped)

@@ -1,4 +1,4 @@
-use Rattle.std.proofs.Common.{◌≡◌, length, take}
+use Rattle.std.proofs.Common.{◌≡◌, take}
 use Rattle.md_cert.specs.Tables.{orphans_of}
 use Rattle.md_plan.specs.Slots.{IsLeft, IsSlotting}
 use Rattle.md_plan.proofs.give_out.give_out.Given as goal
@@ -8,8 +8,4 @@ invariant-loop-i l = record {
   left : IsLeft l.rows l.i l.fn.cells.items l.cells.items l.used;
   slotting : IsSlotting l.rows l.i l.slots.items l.used;
   orphans_are : l.orphans.items ≡ orphans_of (take l.i l.rows);
-  words : length l.next.items ≡ l.classes;
 }
-
-abbrev pub invariant-loop-class : goal.invariant-loop-class
-invariant-loop-class l = length l.next.items ≡ l.class

@@ -6,5 +6,4 @@ abbrev pub invariant-paths : goal.invariant-paths
 invariant-paths l = record {
   levelled : IsLevelled l.fn.cells.items l.cells.items;
   shelves : length l.shelves.items ≡ 32;
-  loads : length l.loads ≡ 32;
 }

@@ -1,13 +1,12 @@
 use Rattle.std.proofs.Common.{◌∙◌}
-use Rattle.md_metadata.proofs.Going.{stops_on, stores_on}
-use Rattle.md_write.proofs.WrittenData.{marked_then, recorded_then, storing_stops, writes_or_stops}
+use Rattle.md_write.proofs.WrittenData.{marked_then, marks_stop, others_stop, recorded_then, records_stop, writes_or_stops}
 use Rattle.md_write.proofs.writing.write_once.Goals as goal
 
 pub store_marks-requires-clause-marked : goal.store_marks-requires-clause-marked
 store_marks-requires-clause-marked g c = c.requires.chunks.are
 
 pub returns-in-Err : goal.returns-in-Err
-returns-in-Err g c = storing_stops c.args.pending.now c.args.mirror.now c.store_marks.new.mirror c.requires.pending c.in-Err.fault c.in-Err.ensures
+returns-in-Err g c = marks_stop c.args.pending.now c.args.mirror.now c.store_marks.new.mirror c.requires.pending c.in-Err.fault c.in-Err.ensures
 
 pub store_records-requires-clause-sound : goal.store_records-requires-clause-sound
 store_records-requires-clause-sound g c = c.in_default.ensures.stores.goes.sound
@@ -17,10 +16,8 @@ store_records-requires-clause-running g c = c.in_default.ensures.stores.ready.ha
 
 pub returns-in-Err-store_records : goal.returns-in-Err-store_records
 returns-in-Err-store_records g c =
-    let a = c.args.mirror.now in
-    let s = c.in-Err-store_records.fault in
-    storing_stops c.args.pending.now a c.store_records.new.mirror c.requires.pending s
-    (stops_on a c.store_marks.new.mirror c.store_records.new.mirror s c.in_default.ensures.stores c.in-Err-store_records.ensures)
+    records_stop c.args.pending.now c.args.mirror.now c.store_marks.new.mirror c.requires.pending c.store_records.new.mirror c.in_default.ensures.stores
+    c.in-Err-store_records.fault c.in-Err-store_records.ensures
 
 pub store_other_records-requires-clause-sound : goal.store_other_records-requires-clause-sound
 store_other_records-requires-clause-sound g c = c.in_default-store_records.ensures.stores.goes.sound
@@ -33,11 +30,8 @@ store_other_records-requires-clause-recorded g c = c.in_default-store_records.en
 
 pub returns-in-Err-store_other_records : goal.returns-in-Err-store_other_records
 returns-in-Err-store_other_records g c =
-    let a = c.args.mirror.now in
-    let s = c.in-Err-store_other_records.fault in
-    storing_stops c.args.pending.now a c.store_other_records.new.mirror c.requires.pending s
-    (stops_on a c.store_records.new.mirror c.store_other_records.new.mirror s
-    (stores_on a c.store_marks.new.mirror c.store_records.new.mirror c.in_default.ensures.stores c.in_default-store_records.ensures.stores) c.in-Err-store_other_records.ensures)
+    others_stop c.args.pending.now c.args.mirror.now c.store_marks.new.mirror c.requires.pending c.store_records.new.mirror c.in_default.ensures.stores
+    c.store_other_records.new.mirror c.in_default-store_records.ensures.stores c.in-Err-store_other_records.fault c.in-Err-store_other_records.ensures
 
 pub write_to_members-requires-clause-sound : goal.write_to_members-requires-clause-sound
 write_to_members-requires-clause-sound g c = c.in_default-store_other_records.ensures.stores.goes.sound

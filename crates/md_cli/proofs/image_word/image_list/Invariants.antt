@@ -1,7 +1,0 @@
-use Rattle.std.proofs.Common.{◌≡◌, map}
-use Rattle.md_cli.specs.Taking.{word_of}
-use Rattle.md_cli.proofs.Listed.{listed}
-use Rattle.md_cli.proofs.image_word.image_list.Given as goal
-
-abbrev pub invariant-loop-index : goal.invariant-loop-index
-invariant-loop-index l = map word_of l.list.items ≡ listed l.may_miss (map (λ s. s.now) l.words) l.index

@@ -1,0 +1,244 @@
+-- No call wins or loses a device.
+use Rattle.std.proofs.Common.{◌≡◌, ◌∙◌, ◌⊎◌, ⊎_elim, ℕ, Bool, true, false, List, [], ◌∷◌, ◌++◌, length, Option, Some, None, refl, sym, ap}
+use Rattle.std.proofs.lemmas.Option.{none-some}
+use Rattle.md_model.specs.Events.{Event}
+use Rattle.md_model.specs.Worlds.{Request}
+use Rattle.md_state.specs.declared.step_fault.BeginFault.{BeginFault}
+use Rattle.md_state.specs.declared.step_fault.BeginFault.TheVariants as begin
+use Rattle.md_state.specs.Requests.{AreInFlight, among, request_of}
+use Rattle.md_state.specs.Trying.{Refuses}
+use Rattle.md_state.specs.View.{ArrayView, MirrorView}
+use Rattle.md_array.specs.InTurn.{Did, HaltsAt, Leads, Requests}
+use Rattle.md_laws.specs.ReadInTurn.{LeadsReading}
+use Rattle.md_metadata.specs.declared.stop_fault.StopFault.{StopFault}
+use Rattle.md_metadata.specs.declared.stop_fault.StopFault.TheVariants as stop
+use Rattle.md_metadata.specs.Going.{LeadsBy}
+use Rattle.md_metadata.specs.Stopping.{RefusesStop, Stops}
+use Rattle.md_read.specs.declared.fault.UnreadFault.{UnreadFault}
+use Rattle.md_read.specs.declared.fault.UnreadFault.TheVariants as unread
+use Rattle.md_read.specs.Reading.{RefusesRead}
+use Rattle.md_resync.specs.declared.fault.ResyncFault.{ResyncFault}
+use Rattle.md_resync.specs.declared.fault.ResyncFault.TheVariants as resync
+use Rattle.md_resync.specs.Resyncing.{GoesOn, GoesUnresynced, RefusesResync, Resyncs}
+use Rattle.md_write.specs.Writing.{RefusesWrite, Writes, events_of}
+use Rattle.md_examine.specs.declared.sink.Sink.{Ghosts as SinkGhosts}
+use Rattle.md_commands.specs.declared.fault.DataFault.{DataFault}
+use Rattle.md_commands.specs.declared.fault.DataFault.TheVariants.{BadLength, InputFault, NoMemory, OutOfRange, OutputFault, Read, Resync, Stop, Write}
+use Rattle.md_commands.specs.declared.source.Source.{Ghosts as SourceGhosts}
+use Rattle.md_commands.specs.Reading.{ReadsReadied, RefusesSectorsOf, RefusesToRead}
+use Rattle.md_commands.specs.Resyncing.{RefusesNeededResync, RefusesToResync, ResyncsIfNeeded, needs_resync}
+use Rattle.md_commands.specs.Stopping.{FailsToStop, RefusesToStop, StopsAfter}
+use Rattle.md_commands.specs.Writing.{RefusesToWrite, WritesReadied}
+
+-- as many devices after as before
+abbrev pub AsMany : MirrorView → MirrorView → Type 0
+AsMany old new = length new.disks ≡ length old.disks
+
+same : (old new : MirrorView) → new ≡ old → AsMany old new
+same old new e = ap (λ (v : MirrorView). length v.disks) e
+
+refused : (old new : MirrorView) (Reason : Type 0) → Refuses old new Reason → AsMany old new
+refused old new Reason r = same old new r.unchanged
+
+-- ---- events
+did : (e : Event) (old new : MirrorView) (before after : Requests) → Did old before e new after → AsMany old new
+did (Event.Begin n p) old new before after h = ap length h.5.disks
+did (Event.Record k) old new before after h = h.1.disks.tried.as_many
+did (Event.StoreMarks k b) old new before after h = h.1.disks.tried.as_many
+did (Event.WriteMember n k) old new before after h = h.5.disks.tried.as_many
+did (Event.Finish n) old new before after h = ap length h.3.disks
+did (Event.ClearIdle c) old new before after h = ap length h.1.disks
+did (Event.Fail k) old new before after h = absurd h
+did (Event.RecordFails k) old new before after h = h.1.fails.disks.tried.as_many
+did (Event.StoreMarksFails k b) old new before after h = h.1.fails.disks.tried.as_many
+did (Event.WriteMemberFails n k) old new before after h = h.5.fails.disks.tried.as_many
+did (Event.CopyFails k c) old new before after h = h.1.fails.disks.tried.as_many
+did (Event.Copy from k s) old new before after h = h.1.disks.tried.as_many
+did Event.Resynced old new before after h = ap length h.1.marks.disks
+did Event.Unresynced old new before after h = ap length h.1.disks
+did Event.MakeClean old new before after h = ap length h.1.disks
+did (Event.Remove k) old new before after h = absurd h
+did (Event.Add d left) old new before after h = absurd h
+did (Event.ReAdd own device left) old new before after h = absurd h
+
+halts : (e : Event) (old new : MirrorView) (before : Requests) → HaltsAt old before e new → AsMany old new
+halts (Event.Begin n p) old new before h = absurd h
+halts (Event.Record k) old new before h = absurd h
+halts (Event.StoreMarks k b) old new before h = absurd h
+halts (Event.WriteMember n k) old new before h = absurd h
+halts (Event.Finish n) old new before h = absurd h
+halts (Event.ClearIdle c) old new before h = absurd h
+halts (Event.Fail k) old new before h = absurd h
+halts (Event.RecordFails k) old new before h = h.halts.disks.tried.as_many
+halts (Event.StoreMarksFails k b) old new before h = h.halts.disks.tried.as_many
+halts (Event.WriteMemberFails n k) old new before h = h.3.halts.disks.tried.as_many
+halts (Event.CopyFails k c) old new before h = h.halts.disks.tried.as_many
+halts (Event.Copy from k s) old new before h = absurd h
+halts Event.Resynced old new before h = absurd h
+halts Event.Unresynced old new before h = absurd h
+halts Event.MakeClean old new before h = absurd h
+halts (Event.Remove k) old new before h = absurd h
+halts (Event.Add d left) old new before h = absurd h
+halts (Event.ReAdd own device left) old new before h = absurd h
+
+-- ---- lists of events
+led : (es : List Event) (previous : Option Event) (old new : MirrorView) (before after : Requests) → Leads previous old before es new after → AsMany old new
+led [] previous old new before after t = same old new (sym t.0)
+led (e ∷ es) previous old new before after t = led es (Some e) t.0 new t.1 after t.5 ∙ did e old t.0 before t.1 t.3
+
+led_reading : (es : List Event) (previous : Option Event) (old new : MirrorView) (before after : Requests) → LeadsReading previous old before es new after → AsMany old new
+led_reading [] previous old new before after t = same t.0 new (sym t.2.0) ∙ t.1.disks.same.as_many
+led_reading (e ∷ es) previous old new before after t =
+    led_reading es (Some e) t.1 new t.2 after t.7 ∙ (did e t.0 t.1 before t.2 t.5 ∙ t.3.disks.same.as_many)
+
+-- no request of the model
+nothing : Requests
+nothing n = None
+
+none_in_flight : (a : ArrayView) → AreInFlight a nothing
+unfolding nothing
+none_in_flight a n p is = absurd (none-some p is)
+
+led_by : (IsOf : Event → Type 0) (old new : MirrorView) → LeadsBy IsOf old new → AsMany old new
+led_by IsOf old new by = led by.events None old new nothing nothing (by.leads None nothing (none_in_flight old.array))
+
+gone_on : (old new : MirrorView) → GoesOn old new → AsMany old new
+gone_on old new goes = led_reading goes.events None old new nothing nothing (goes.leads None nothing (none_in_flight old.array))
+
+gone_unresynced : (old new : MirrorView) → GoesUnresynced old new → AsMany old new
+gone_unresynced old new goes = led_reading (goes.events ++ Event.Unresynced ∷ []) None old new nothing nothing (goes.leads None nothing (none_in_flight old.array))
+
+-- ---- the calls
+stopped : (old new : MirrorView) → Stops old new → AsMany old new
+stopped old new s = led_by _ old new s.goes
+
+not_stopped : (fault : StopFault) (old new : MirrorView) → RefusesStop old new fault → AsMany old new
+not_stopped stop.Halted old new h =
+    ⊎_elim (λ r. refused old new _ r)
+    (λ r. halts r.halts.failing r.halts.mid new nothing (r.halts.halts nothing) ∙ led_by _ old r.halts.mid r.goes)
+    h
+not_stopped (stop.InFlight n) old new h = refused old new _ h
+not_stopped stop.EventsFull old new h = refused old new _ h
+not_stopped (stop.MemberFailed k) old new h = led_by _ old new h.goes
+
+resynced : (old new : MirrorView) → Resyncs old new → AsMany old new
+resynced old new r = gone_on old new r.goes
+
+not_resynced : (fault : ResyncFault) (old new : MirrorView) → RefusesResync old new fault → AsMany old new
+not_resynced resync.Halted old new h =
+    ⊎_elim (λ r. refused old new _ r) (λ r. halts r.failing r.mid new nothing (r.halts nothing) ∙ gone_on old r.mid r.goes) h
+not_resynced (resync.InFlight n) old new h = refused old new _ h
+not_resynced resync.NoMemory old new h = gone_unresynced old new h.goes
+not_resynced (resync.ReadFault k c) old new h = gone_unresynced old new h.stops.goes
+not_resynced (resync.MemberFailed k) old new h = gone_unresynced old new h.stops.goes
+
+wrote : (sector : ℕ) (bytes : List ℕ) (old new : MirrorView) → Writes sector bytes old new → AsMany old new
+wrote sector bytes old new w = led (events_of w.request w.events) None old new nothing nothing (w.happens None nothing (none_in_flight old.array)).done
+
+not_written : (fault : BeginFault) (sector : ℕ) (bytes : List ℕ) (old new : MirrorView) → RefusesWrite sector bytes old new fault → AsMany old new
+not_written begin.Halted sector bytes old new h =
+    ⊎_elim (λ r. refused old new _ r)
+    (λ r.
+    halts r.failing r.mid new (among r.last nothing) (r.halts nothing)
+    ∙ led (Event.Begin r.request.ticket.number (request_of r.request) ∷ r.events) None old r.mid nothing (among r.last nothing) (r.happens None nothing (none_in_flight old.array)))
+    h
+not_written begin.OutOfRange sector bytes old new h = refused old new _ h
+not_written (begin.Overlaps n) sector bytes old new h = refused old new _ h
+not_written begin.NotResynced sector bytes old new h = refused old new _ h
+not_written begin.EventsFull sector bytes old new h = refused old new _ h
+not_written begin.NumbersSpent sector bytes old new h = refused old new _ h
+not_written begin.NoMemory sector bytes old new h = refused old new _ h
+
+not_read : (fault : UnreadFault) (sector : ℕ) (bytes : List ℕ) (old new : MirrorView) → RefusesRead sector bytes old new fault → AsMany old new
+not_read unread.Halted sector bytes old new h = refused old new _ h
+not_read unread.OutOfRange sector bytes old new h = refused old new _ h
+not_read unread.NotResynced sector bytes old new h = refused old new _ h
+not_read (unread.Unreadable s) sector bytes old new h = h.1.rests.disks.same.as_many
+
+-- ---- the commands
+readied : (old new : MirrorView) → ResyncsIfNeeded old new → AsMany old new
+readied old new r = by (needs_resync old.array) refl
+  where
+    by : (needs : Bool) → needs_resync old.array ≡ needs → AsMany old new
+    by true is = resynced old new (r.resynced is)
+    by false is = same old new (r.untouched is)
+
+not_readied : (fault : ResyncFault) (old new : MirrorView) → RefusesNeededResync old new fault → AsMany old new
+not_readied fault old new r = not_resynced fault old new r.refused
+
+pub stopped_after : (Through : MirrorView → Type 0) (old new : MirrorView) → ((mid : MirrorView) → Through mid → AsMany old mid) → StopsAfter Through new → AsMany old new
+stopped_after Through old new through s = stopped s.mid new s.stops ∙ through s.mid s.through
+
+fails_after : (Through : MirrorView → Type 0) (old new : MirrorView) (fault : StopFault) → ((mid : MirrorView) → Through mid → AsMany old mid) → FailsToStop Through new fault → AsMany old new
+fails_after Through old new fault through s = not_stopped fault s.mid new s.refused ∙ through s.mid s.through
+
+read_readied : (sector count : ℕ) (bytes : List ℕ) (old new : MirrorView) → ReadsReadied sector count bytes old new → AsMany old new
+read_readied sector count bytes old new r = r.reads.reads.rests.disks.same.as_many ∙ readied old r.ready r.readied
+
+not_read_of : (fault : UnreadFault) (sector count : ℕ) (old new : MirrorView) → RefusesSectorsOf sector count old new fault → AsMany old new
+not_read_of unread.Halted sector count old new h = refused old new _ h
+not_read_of unread.OutOfRange sector count old new h = refused old new _ h
+not_read_of unread.NotResynced sector count old new h = not_read unread.NotResynced sector h.fails.bytes h.ready new h.fails.refused ∙ readied old h.ready h.readied
+not_read_of (unread.Unreadable s) sector count old new h = not_read (unread.Unreadable s) sector h.fails.bytes h.ready new h.fails.refused ∙ readied old h.ready h.readied
+
+wrote_readied : (sector : ℕ) (bytes : List ℕ) (old new : MirrorView) → WritesReadied sector bytes old new → AsMany old new
+wrote_readied sector bytes old new w = wrote sector bytes w.ready new w.writes ∙ readied old w.ready w.readied
+
+module _ {S : Type 0} (s : SinkGhosts S) (old new : MirrorView) (before after : S) where
+  pub stops_as_many : (fault : DataFault) → RefusesToStop s old new before after fault → AsMany old new
+  stops_as_many (Stop fault) h = not_stopped fault old new h.0
+  stops_as_many OutputFault h = stopped old new h.0
+  stops_as_many BadLength h = absurd h
+  stops_as_many InputFault h = absurd h
+  stops_as_many NoMemory h = absurd h
+  stops_as_many OutOfRange h = absurd h
+  stops_as_many (Read fault) h = absurd h
+  stops_as_many (Resync fault) h = absurd h
+  stops_as_many (Write fault) h = absurd h
+
+  pub resyncs_as_many : (fault : DataFault) → RefusesToResync s old new before after fault → AsMany old new
+  resyncs_as_many (Resync fault) h = not_resynced fault old new h.0
+  resyncs_as_many (Stop fault) h = fails_after (Resyncs old) old new fault (resynced old) h.0
+  resyncs_as_many OutputFault h = stopped_after (Resyncs old) old new (resynced old) h.0
+  resyncs_as_many BadLength h = absurd h
+  resyncs_as_many InputFault h = absurd h
+  resyncs_as_many NoMemory h = absurd h
+  resyncs_as_many OutOfRange h = absurd h
+  resyncs_as_many (Read fault) h = absurd h
+  resyncs_as_many (Write fault) h = absurd h
+
+  pub reads_as_many : (sector count : ℕ) (fault : DataFault) → RefusesToRead s sector count old new before after fault → AsMany old new
+  reads_as_many sector count (Read fault) h = not_read_of fault sector count old new h.0
+  reads_as_many sector count (Resync fault) h = not_readied fault old new h.1
+  reads_as_many sector count NoMemory h = readied old new h.1
+  reads_as_many sector count OutputFault h = read_readied sector count h.bytes old new h.reads
+  reads_as_many sector count BadLength h = absurd h
+  reads_as_many sector count InputFault h = absurd h
+  reads_as_many sector count OutOfRange h = absurd h
+  reads_as_many sector count (Stop fault) h = absurd h
+  reads_as_many sector count (Write fault) h = absurd h
+
+  module _ {I : Type 0} (i : SourceGhosts I) (sector : ℕ) (input rest : I) where
+    pub writes_as_many : (fault : DataFault) → RefusesToWrite i s sector old new input rest before after fault → AsMany old new
+    writes_as_many InputFault h = same old new h.unchanged
+    writes_as_many NoMemory h = same old new h.unchanged
+    writes_as_many OutOfRange h = same old new h.unchanged
+    writes_as_many BadLength h = same old new h.unchanged
+    writes_as_many (Resync fault) h = not_readied fault old new h.refused
+    writes_as_many (Write fault) h = not_written fault sector h.bytes h.refused.ready new h.refused.refused ∙ readied old h.refused.ready h.refused.readied
+    writes_as_many (Stop fault) h = fails_after (WritesReadied sector h.bytes old) old new fault (wrote_readied sector h.bytes old) h.refused
+    writes_as_many (Read fault) h = absurd h
+    writes_as_many OutputFault h = stopped_after (WritesReadied sector h.bytes old) old new (wrote_readied sector h.bytes old) h.done
+
+-- where the command is done
+pub done_stop : (old new : MirrorView) → Stops old new → AsMany old new
+done_stop = stopped
+
+pub done_resync : (old new : MirrorView) → StopsAfter (Resyncs old) new → AsMany old new
+done_resync old new = stopped_after (Resyncs old) old new (resynced old)
+
+pub done_read : (sector count : ℕ) (bytes : List ℕ) (old new : MirrorView) → ReadsReadied sector count bytes old new → AsMany old new
+done_read = read_readied
+
+pub done_write : (sector : ℕ) (bytes : List ℕ) (old new : MirrorView) → StopsAfter (WritesReadied sector bytes old) new → AsMany old new
+done_write sector bytes old new = stopped_after (WritesReadied sector bytes old) old new (wrote_readied sector bytes old)

@@ -1,0 +1,4 @@
+pub mod DeviceCounts
+pub mod ReadReadied
+pub mod Resynced
+pub mod Written

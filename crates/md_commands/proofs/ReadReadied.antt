@@ -1,0 +1,57 @@
+-- Sectors are read after a resync, where one was needed.
+use Rattle.std.proofs.Common.{◌≡◌, ◌/◌, ℕ, Bool, true, false, List, length, refl, sym, ap, subst, arith}
+use Rattle.std.specs.Prelude.{MatchResult, Result, Ok, Err}
+use Rattle.md_examine.specs.declared.sink.Sink.{Ghosts}
+use Rattle.md_read.specs.declared.fault.UnreadFault.{UnreadFault}
+use Rattle.md_read.specs.declared.fault.UnreadFault.TheVariants.{Halted, NotResynced, OutOfRange, Unreadable}
+use Rattle.md_state.specs.View.{ArrayView, MirrorView}
+use Rattle.md_commands.specs.declared.fault.DataFault.{DataFault}
+use Rattle.md_commands.specs.declared.fault.DataFault.TheVariants.{BadLength, InputFault, NoMemory, OutputFault, Read, Resync, Stop, Write, OutOfRange as InputOutOfRange}
+use Rattle.md_commands.specs.Output.{FailsOutput, PutsOut}
+use Rattle.md_commands.specs.Reading.{FailsSectors, MayReadArray, ReadsArray, ReadsReadied, RefusesSectors, RefusesSectorsOf, RefusesToRead}
+use Rattle.md_commands.specs.Resyncing.{ResyncsIfNeeded, needs_resync}
+
+module _ (old ready : MirrorView) (readied : ResyncsIfNeeded old ready) where
+  halted_at : (needs : Bool) → needs_resync old.array ≡ needs → ready.array.halted ≡ old.array.halted
+  halted_at true is = ap (λ (a : ArrayView). a.halted) (readied.resynced is).array.array
+  halted_at false is = ap (λ (v : MirrorView). v.array.halted) (readied.untouched is)
+
+  size_at : (needs : Bool) → needs_resync old.array ≡ needs → ready.array.chunks.size ≡ old.array.chunks.size
+  size_at true is = ap (λ (a : ArrayView). a.chunks.size) (readied.resynced is).array.array
+  size_at false is = ap (λ (v : MirrorView). v.array.chunks.size) (readied.untouched is)
+
+  module _ (sector count : ℕ) (may : MayReadArray old.array sector count) (new : MirrorView) where
+    fails_readied : (fault : UnreadFault) → FailsSectors sector count ready new fault → RefusesSectorsOf sector count old new fault
+    fails_readied Halted fails =
+        let same = halted_at (needs_resync old.array) refl in
+        let halted = fails.refused.reason in
+        let running = may.running in
+        absurd cc
+    fails_readied OutOfRange fails =
+        let size = size_at (needs_resync old.array) refl in
+        let range = may.range in
+        let inside = range.inside in
+        let many : length fails.bytes / 512 ≡ count = rw fails.many (omega arith) in
+        absurd (fails.refused.reason.out (record { some = rw many range.some; inside = rw (many, size) inside }))
+    fails_readied NotResynced fails = record { may = may; ready = ready; readied = readied; fails = fails }
+    fails_readied (Unreadable s) fails = record { may = may; ready = ready; readied = readied; fails = fails }
+
+    module _ {S : Type 0} (s : Ghosts S) (before : S) where
+      pub refuses_readied : (fault : DataFault) → RefusesSectors sector count ready new fault → RefusesToRead s sector count old new before before fault
+      refuses_readied NoMemory is = (may, subst (λ (v : MirrorView). ResyncsIfNeeded old v) (sym is) readied, refl)
+      refuses_readied (Read fault) fails = (fails_readied fault fails, refl)
+      refuses_readied InputFault h = absurd h
+      refuses_readied InputOutOfRange h = absurd h
+      refuses_readied BadLength h = absurd h
+      refuses_readied (Resync fault) h = absurd h
+      refuses_readied (Write fault) h = absurd h
+      refuses_readied (Stop fault) h = absurd h
+      refuses_readied OutputFault h = absurd h
+
+-- the end of the command
+pub shown_or_not : {S : Type 0} (s : Ghosts S) (sector count : ℕ) (bytes : List ℕ) (old new : MirrorView) (before after : S) → ReadsReadied sector count bytes old new
+    → (result : Result (Unit {0}) DataFault) → MatchResult result (λ _. PutsOut s before after bytes) (FailsOutput s after)
+    → MatchResult result (λ _. ReadsArray s sector count old new before after) (RefusesToRead s sector count old new before after)
+shown_or_not s sector count bytes old new before after reads (Ok x) shown = record { bytes = bytes; reads = reads; shown = shown }
+shown_or_not s sector count bytes old new before after reads (Err fault) fails =
+    subst (λ (f : DataFault). RefusesToRead s sector count old new before after f) (sym fails.is) (record { bytes = bytes; reads = reads; failed = fails.failed })

@@ -1,0 +1,9 @@
+-- What callers see of a reader as a source.
+use Rattle.std.specs.Prelude.{Bool}
+use Rattle.md_commands.specs.declared.source.Input.{Input}
+
+abbrev pub reader_of : {R : Type 0} → Input R → R
+reader_of i = i.reader
+
+abbrev pub has_failed : {R : Type 0} → Input R → Bool
+has_failed i = i.failed

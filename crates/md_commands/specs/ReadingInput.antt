@@ -1,0 +1,64 @@
+-- The input of a write is read.
+use Rattle.std.specs.Prelude.{◌≡◌, ◌≢◌, ℕ, ◌+◌, ◌*◌, ◌%◌, ◌<◌, ◌≤◌, true, List, ◌++◌, length}
+use Rattle.std.specs.Io.KnownBytes.{IsAtEnd}
+use Rattle.md_commands.specs.declared.source.Source.{Ghosts}
+use Rattle.md_commands.specs.declared.fault.DataFault.{DataFault}
+use Rattle.md_commands.specs.declared.fault.DataFault.TheVariants.{BadLength, InputFault, NoMemory, OutOfRange}
+use Rattle.md_commands.specs.Source.{Gives}
+
+-- so many bytes are whole sectors, and no more than an array of so many sectors has
+pub record HasGoodLength (size len : ℕ) : Type 0 where
+  pub few : len ≤ 512 * size
+  pub whole : len % 512 ≡ 0
+
+abbrev pub RefusesLength : ℕ → ℕ → DataFault → Type 0
+RefusesLength size len OutOfRange = 512 * size < len
+RefusesLength size len BadLength = (len ≤ 512 * size) × (len % 512 ≢ 0)
+RefusesLength size len fault = ⊥
+
+module _ {I : Type 0} (i : Ghosts I) where
+  -- these bytes came, so many at most: fewer only where no more are there
+  pub record ReadsUpTo (most : ℕ) (old new : I) (bytes : List ℕ) : Type 0 where
+    pub gives : Gives i.remaining i.failed old new bytes
+    pub few : length bytes ≤ most
+    pub all : length bytes < most → IsAtEnd (i.remaining new)
+
+  -- these bytes are all of the input, and have a good length for an array of so many sectors
+  pub record IsInput (size : ℕ) (old new : I) (bytes : List ℕ) : Type 0 where
+    pub gives : Gives i.remaining i.failed old new bytes
+    pub all : IsAtEnd (i.remaining new)
+    pub good : HasGoodLength size (length bytes)
+
+  -- the input has one byte more than the array, at least
+  pub record IsTooLong (size : ℕ) (old new : I) : Type 0 where
+    pub bytes : List ℕ
+    pub gives : Gives i.remaining i.failed old new bytes
+    pub more : length bytes ≡ 512 * size + 1
+
+  -- the input ends within a sector
+  pub record IsUneven (size : ℕ) (old new : I) : Type 0 where
+    pub bytes : List ℕ
+    pub gives : Gives i.remaining i.failed old new bytes
+    pub all : IsAtEnd (i.remaining new)
+    pub few : length bytes ≤ 512 * size
+    pub uneven : length bytes % 512 ≢ 0
+
+  -- It failed, or there was no memory. That memory was short is not said.
+  abbrev pub StopsReading : I → DataFault → Type 0
+  StopsReading new InputFault = i.failed new ≡ true
+  StopsReading new NoMemory = Unit {0}
+  StopsReading new fault = ⊥
+
+  abbrev pub RefusesInput : ℕ → I → I → DataFault → Type 0
+  RefusesInput size old new OutOfRange = IsTooLong size old new
+  RefusesInput size old new BadLength = IsUneven size old new
+  RefusesInput size old new fault = StopsReading new fault
+
+  -- a piece of so many bytes was taken, and appended to those before it
+  pub record AppendsPiece (room : ℕ) (old new : I) (was bytes : List ℕ) (n : ℕ) : Type 0 where
+    pub piece : List ℕ
+    pub gives : Gives i.remaining i.failed old new piece
+    pub appended : bytes ≡ was ++ piece
+    pub long : length piece ≡ n
+    pub few : n ≤ room
+    pub end : n ≡ 0 → 0 < room → IsAtEnd (i.remaining new)

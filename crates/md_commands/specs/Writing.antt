@@ -1,0 +1,71 @@
+-- The command that writes to an array.
+use Rattle.std.specs.Prelude.{◌≡◌, ℕ, true, List}
+use Rattle.md_examine.specs.declared.sink.Sink.{Ghosts as SinkGhosts}
+use Rattle.md_state.specs.declared.step_fault.BeginFault.{BeginFault}
+use Rattle.md_state.specs.View.{MirrorView}
+use Rattle.md_write.specs.Writing.{RefusesWrite, Writes}
+use Rattle.md_report.specs.SummaryReport.{summary_text}
+use Rattle.md_commands.specs.declared.fault.DataFault.{DataFault}
+use Rattle.md_commands.specs.declared.fault.DataFault.TheVariants.{BadLength, InputFault, NoMemory, OutOfRange, OutputFault, Read, Resync, Stop, Write}
+use Rattle.md_commands.specs.declared.source.Source.{Ghosts as SourceGhosts}
+use Rattle.md_commands.specs.Output.{PutsOut}
+use Rattle.md_commands.specs.ReadingInput.{IsInput, RefusesInput}
+use Rattle.md_commands.specs.Resyncing.{RefusesNeededResync, ResyncsIfNeeded}
+use Rattle.md_commands.specs.Stopping.{FailsToStop, StopsAfter}
+
+-- the array is resynced where it has to be, and then the bytes are written
+pub record WritesReadied (sector : ℕ) (bytes : List ℕ) (old new : MirrorView) : Type 0 where
+  pub ready : MirrorView
+  pub readied : ResyncsIfNeeded old ready
+  pub writes : Writes sector bytes ready new
+
+-- they are not written
+pub record FailsReadied (sector : ℕ) (bytes : List ℕ) (old new : MirrorView) (fault : BeginFault) : Type 0 where
+  pub ready : MirrorView
+  pub readied : ResyncsIfNeeded old ready
+  pub refused : RefusesWrite sector bytes ready new fault
+
+abbrev pub RefusesBytes : ℕ → List ℕ → MirrorView → MirrorView → DataFault → Type 0
+RefusesBytes sector bytes old new (Resync fault) = RefusesNeededResync old new fault
+RefusesBytes sector bytes old new (Write fault) = FailsReadied sector bytes old new fault
+RefusesBytes sector bytes old new (Stop fault) = FailsToStop (WritesReadied sector bytes old) new fault
+RefusesBytes sector bytes old new fault = ⊥
+
+module _ {I S : Type 0} (i : SourceGhosts I) (s : SinkGhosts S) (sector : ℕ) (old new : MirrorView) (input rest : I) (before after : S) where
+  -- all of the input is written, the array is stopped, and then shown
+  pub record WritesArray : Type 0 where
+    pub bytes : List ℕ
+    pub is : IsInput i old.array.chunks.size input rest bytes
+    pub done : StopsAfter (WritesReadied sector bytes old) new
+    pub shown : PutsOut s before after (summary_text new.array)
+
+  -- the input is refused, and nothing else is done
+  pub record RefusesAnyInput (fault : DataFault) : Type 0 where
+    pub refused : RefusesInput i old.array.chunks.size input rest fault
+    pub unchanged : new ≡ old
+    pub unwritten : after ≡ before
+
+  -- its bytes are not written, or the array is not stopped
+  pub record RefusesItsBytes (fault : DataFault) : Type 0 where
+    pub bytes : List ℕ
+    pub is : IsInput i old.array.chunks.size input rest bytes
+    pub refused : RefusesBytes sector bytes old new fault
+    pub unwritten : after ≡ before
+
+  -- all is done, and the output failed
+  pub record WritesInVain : Type 0 where
+    pub bytes : List ℕ
+    pub is : IsInput i old.array.chunks.size input rest bytes
+    pub done : StopsAfter (WritesReadied sector bytes old) new
+    pub failed : s.failed after ≡ true
+
+  abbrev pub RefusesToWrite : DataFault → Type 0
+  RefusesToWrite InputFault = RefusesAnyInput InputFault
+  RefusesToWrite NoMemory = RefusesAnyInput NoMemory
+  RefusesToWrite OutOfRange = RefusesAnyInput OutOfRange
+  RefusesToWrite BadLength = RefusesAnyInput BadLength
+  RefusesToWrite (Resync fault) = RefusesItsBytes (Resync fault)
+  RefusesToWrite (Write fault) = RefusesItsBytes (Write fault)
+  RefusesToWrite (Stop fault) = RefusesItsBytes (Stop fault)
+  RefusesToWrite (Read fault) = ⊥
+  RefusesToWrite OutputFault = WritesInVain

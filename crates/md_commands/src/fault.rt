@@ -1,0 +1,119 @@
+// Why a command on an array's data is refused.
+use crate::source::SourceFault;
+use md_array::BeginFault;
+use md_examine::SinkFault;
+use md_metadata::StopFault;
+use md_read::UnreadFault;
+use md_resync::ResyncFault;
+use std::alloc::AllocError;
+use thiserror::Error;
+
+/// Why a command on an array's data is refused. The calls that it makes have faults of their own, which are
+/// shown as they are. A message is the fault's name and its values, one space between them.
+#[derive(Clone, Copy, Debug, PartialEq, Eq, Error)]
+pub enum DataFault {
+    /// A read of the input failed.
+    #[error("InputFault")]
+    InputFault,
+    /// There was no memory for the input, or for the sectors that are read.
+    #[error("NoMemory")]
+    NoMemory,
+    /// The input is longer than the array.
+    #[error("OutOfRange")]
+    OutOfRange,
+    /// The input ends within a sector.
+    #[error("BadLength")]
+    BadLength,
+    /// The array is not resynchronised.
+    #[error("{0}")]
+    Resync(ResyncFault),
+    /// Its sectors are not read.
+    #[error("{0}")]
+    Read(UnreadFault),
+    /// The bytes are not written.
+    #[error("{0}")]
+    Write(BeginFault),
+    /// The array is not stopped.
+    #[error("{0}")]
+    Stop(StopFault),
+    /// The output failed. All else is done.
+    #[error("OutputFault")]
+    OutputFault,
+}
+
+impl From<SourceFault> for DataFault {
+    ghost use Rattle.std.specs.Prelude.{◌≡◌};
+    ghost use Rattle.md_commands.specs.declared.fault.DataFault.TheVariants.{InputFault};
+
+    ghost from_gives = { λ _ e. e ≡ InputFault };
+
+    fn from(_: SourceFault) -> DataFault {
+        DataFault::InputFault
+    }
+}
+
+impl From<AllocError> for DataFault {
+    ghost use Rattle.std.specs.Prelude.{◌≡◌};
+    ghost use Rattle.md_commands.specs.declared.fault.DataFault.TheVariants.{NoMemory};
+
+    ghost from_gives = { λ _ e. e ≡ NoMemory };
+
+    fn from(_: AllocError) -> DataFault {
+        DataFault::NoMemory
+    }
+}
+
+impl From<SinkFault> for DataFault {
+    ghost use Rattle.std.specs.Prelude.{◌≡◌};
+    ghost use Rattle.md_commands.specs.declared.fault.DataFault.TheVariants.{OutputFault};
+
+    ghost from_gives = { λ _ e. e ≡ OutputFault };
+
+    fn from(_: SinkFault) -> DataFault {
+        DataFault::OutputFault
+    }
+}
+
+impl From<ResyncFault> for DataFault {
+    ghost use Rattle.std.specs.Prelude.{◌≡◌};
+    ghost use Rattle.md_commands.specs.declared.fault.DataFault.TheVariants.{Resync};
+
+    ghost from_gives = { λ fault e. e ≡ Resync fault };
+
+    fn from(fault: ResyncFault) -> DataFault {
+        DataFault::Resync(fault)
+    }
+}
+
+impl From<UnreadFault> for DataFault {
+    ghost use Rattle.std.specs.Prelude.{◌≡◌};
+    ghost use Rattle.md_commands.specs.declared.fault.DataFault.TheVariants.{Read};
+
+    ghost from_gives = { λ fault e. e ≡ Read fault };
+
+    fn from(fault: UnreadFault) -> DataFault {
+        DataFault::Read(fault)
+    }
+}
+
+impl From<BeginFault> for DataFault {
+    ghost use Rattle.std.specs.Prelude.{◌≡◌};
+    ghost use Rattle.md_commands.specs.declared.fault.DataFault.TheVariants.{Write};
+
+    ghost from_gives = { λ fault e. e ≡ Write fault };
+
+    fn from(fault: BeginFault) -> DataFault {
+        DataFault::Write(fault)
+    }
+}
+
+impl From<StopFault> for DataFault {
+    ghost use Rattle.std.specs.Prelude.{◌≡◌};
+    ghost use Rattle.md_commands.specs.declared.fault.DataFault.TheVariants.{Stop};
+
+    ghost from_gives = { λ fault e. e ≡ Stop fault };
+
+    fn from(fault: StopFault) -> DataFault {
+        DataFault::Stop(fault)
+    }
+}

@@ -1,0 +1,78 @@
+// The command that reads an array.
+ghost use Rattle.std.specs.Prelude.{MatchResult};
+ghost use Rattle.md_state.specs.Requests.{IsPending};
+ghost use Rattle.md_state.specs.View.{PendingView};
+ghost use Rattle.md_array.specs.Consistency.{IsConsistent};
+ghost use Rattle.md_commands.specs.Reading.{MayReadArray, ReadsArray, ReadsSectors, RefusesRange, RefusesSectors, RefusesToRead};
+
+use crate::buffer::buffer;
+use crate::fault::DataFault;
+use crate::output::put_out;
+use crate::resyncing::resync_if_needed;
+use md_array::Mirror;
+use md_device::Device;
+use md_examine::Sink;
+use md_read::{UnreadFault, read};
+use std::alloc::Global;
+
+/// Puts out `count` sectors of an array, from this one on. A degraded array that is not resynced is resynced
+/// first. All of the bytes are held in memory before any is put out: where the array is not read to the end,
+/// the output has none.
+///
+/// That the mirror is halted, or the range empty or past the end, is looked for before anything else: that is
+/// `Read` with `Halted` or `OutOfRange`.
+///
+///     let mut out = Output::new(rt.stdout());
+///     read_array(rt.alloc(), &mut mirror, 8, 2, &mut out)?; // puts out the 1024 bytes of sectors 8 and 9
+pub fn read_array<D: Device + Drop, S: Sink>(
+    alloc: Global,
+    mirror: &mut Mirror<D>,
+    sector: u64,
+    count: u64,
+    out: &mut S,
+) -> Result<(), DataFault>
+    requires sound { IsConsistent mirror.old }
+    ensures gives { MatchResult result (λ _. ReadsArray S.Sink sector count mirror.old mirror.new out.old out.new) (RefusesToRead S.Sink sector count mirror.old mirror.new out.old out.new) }
+    ensures sound { IsConsistent mirror.new }
+    ensures pending { (p : PendingView) → IsPending mirror.old.array p → IsPending mirror.new.array p }
+{
+    check_range(mirror, sector, count)?;
+    resync_if_needed(alloc, mirror)?;
+    let bytes = read_sectors(alloc, mirror, sector, count)?;
+    put_out(out, &bytes)
+}
+
+// Whether the mirror runs, and the array has these sectors.
+fn check_range<D: Device + Drop>(
+    mirror: &Mirror<D>,
+    sector: u64,
+    count: u64,
+) -> Result<(), UnreadFault>
+    ensures { MatchResult result (λ _. MayReadArray mirror.now.array sector count) (RefusesRange sector count mirror.now mirror.now) }
+{
+    if mirror.halted() {
+        return Err(UnreadFault::Halted);
+    }
+    let size = mirror.chunks().size;
+    if count == 0 || count > size || sector > size - count {
+        return Err(UnreadFault::OutOfRange);
+    }
+    Ok(())
+}
+
+// Reads sectors of the array into memory.
+fn read_sectors<D: Device + Drop>(
+    alloc: Global,
+    mirror: &mut Mirror<D>,
+    sector: u64,
+    count: u64,
+) -> Result<Vec<u8>, DataFault>
+    requires sound { IsConsistent mirror.old }
+    ensures gives { MatchResult result (λ bytes. ReadsSectors sector count bytes.items mirror.old mirror.new) (RefusesSectors sector count mirror.old mirror.new) }
+    ensures sound { IsConsistent mirror.new }
+    ensures pending { (p : PendingView) → IsPending mirror.old.array p → IsPending mirror.new.array p }
+{
+    let mut bytes = buffer(alloc, count)?;
+    read(mirror, sector, &mut bytes)?;
+    Ok(bytes)
+}

@@ -1,0 +1,79 @@
+// Where the bytes to be written come from.
+ghost use Rattle.std.specs.Prelude.{Bool, List, Option, ℕ};
+ghost use Rattle.md_commands.specs.Source.{GivesOrFails};
+
+use std::io::{Error as IoError, ErrorKind, Read};
+use thiserror::Error;
+
+/// The input can't be read: a source's only fault.
+#[derive(Clone, Copy, Debug, PartialEq, Eq, Error)]
+#[error("the input can't be read")]
+pub struct SourceFault;
+
+/// A source of bytes that says whether it has failed. A reader of std says nothing of its errors, so a body
+/// that gives up for no reason would meet any contract over one.
+pub trait Source {
+    /// The bytes still to come, where they are known.
+    ghost remaining: { Self → Option (List ℕ) };
+
+    /// Whether a call has failed.
+    ghost failed: { Self → Bool };
+
+    /// Fills the front of `buf` with the next bytes, and answers how many they are, or fails. No byte comes
+    /// only at the end of the source, or where `buf` is empty.
+    fn take(&mut self, buf: &mut [u8]) -> Result<usize, SourceFault>
+        ensures { GivesOrFails remaining failed self.old self.new buf.new result };
+}
+
+/// A reader of std as a source. It has failed where the reader answered an error once, but for one that says
+/// that the read was interrupted: that one is tried again.
+#[derive(Drop)]
+pub struct Input<R> {
+    reader: R,
+    failed: bool,
+}
+
+impl<R> Input<R> {
+    ghost use Rattle.std.specs.Prelude.{◌≡◌, false};
+    ghost use Rattle.md_commands.specs.Input.{has_failed, reader_of};
+
+    /// A source that has not failed. It takes no memory.
+    pub fn new(reader: R) -> Input<R>
+        ensures reader { reader_of result ≡ reader }
+        ensures well { has_failed result ≡ false }
+    {
+        Input {
+            reader,
+            failed: false,
+        }
+    }
+
+    /// The reader with what it has left.
+    pub fn into_inner(self) -> R
+        ensures { result ≡ reader_of self }
+    {
+        self.reader
+    }
+}
+
+impl<R: Read> Source for Input<R> {
+    ghost remaining = { λ i. R.remaining i.reader };
+
+    ghost failed = { λ i. i.failed };
+
+    fn take(&mut self, buf: &mut [u8]) -> Result<usize, SourceFault> {
+        for _ in 0..u64::MAX {
+            match self.reader.read(buf) {
+                Ok(taken) => return Ok(taken),
+                Err(error) if is_interrupted(&error) => {}
+                Err(_) => break,
+            }
+        }
+        self.failed = true;
+        Err(SourceFault)
+    }
+}
+
+fn is_interrupted(error: &IoError) -> bool {
+    error.kind() == ErrorKind::Interrupted
+}

@@ -1,0 +1,27 @@
+// The command that stops an array.
+ghost use Rattle.std.specs.Prelude.{MatchResult};
+ghost use Rattle.md_state.specs.Requests.{IsPending};
+ghost use Rattle.md_state.specs.View.{PendingView};
+ghost use Rattle.md_array.specs.Consistency.{IsConsistent};
+ghost use Rattle.md_commands.specs.Stopping.{RefusesToStop, StopsArray};
+
+use crate::fault::DataFault;
+use crate::output::put_summary;
+use md_array::Mirror;
+use md_device::Device;
+use md_examine::Sink;
+use md_metadata::stop;
+
+/// Stops an array, and puts out what it is then in one line. It takes no memory.
+pub fn stop_array<D: Device + Drop, S: Sink>(
+    mirror: &mut Mirror<D>,
+    out: &mut S,
+) -> Result<(), DataFault>
+    requires sound { IsConsistent mirror.old }
+    ensures gives { MatchResult result (λ _. StopsArray S.Sink mirror.old mirror.new out.old out.new) (RefusesToStop S.Sink mirror.old mirror.new out.old out.new) }
+    ensures sound { IsConsistent mirror.new }
+    ensures pending { (p : PendingView) → IsPending mirror.old.array p → IsPending mirror.new.array p }
+{
+    stop(mirror)?;
+    put_summary(mirror, out)
+}

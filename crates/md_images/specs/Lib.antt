@@ -1,0 +1,5 @@
+pub mod Images
+pub mod MemImages
+pub mod MemPlaces
+pub mod Overlays
+pub mod Taking

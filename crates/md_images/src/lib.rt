@@ -1,0 +1,19 @@
+//! Images by name: devices that are taken out under names and put back, images in memory, and
+//! overlays laid over devices that are only looked at.
+#![tactic(auto)]
+
+mod fault;
+mod image_refusal;
+mod image_word;
+mod images;
+mod memory_images;
+mod overlays;
+mod taking;
+
+pub use fault::ImagesFault;
+pub use image_refusal::ImageRefusal;
+pub use image_word::{ImageWord, image_list, is_missing};
+pub use images::Images;
+pub use memory_images::MemImages;
+pub use overlays::{lay_over, take_back};
+pub use taking::{put_back, take_images};

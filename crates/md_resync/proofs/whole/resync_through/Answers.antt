@@ -1,0 +1,12 @@
+use Rattle.md_resync.proofs.Resynced.{copying_stops, resyncs_or_stops}
+use Rattle.md_resync.proofs.whole.resync_through.Goals as goal
+
+pub returns-in-Err-make_agree-clause-gives : goal.returns-in-Err-make_agree-clause-gives
+returns-in-Err-make_agree-clause-gives g c =
+    copying_stops c.args.mirror.now c.store_marks.new.mirror c.make_agree.new.mirror c.requires.idle c.in_default.ensures.gives c.in-Err-make_agree.fault c.in-Err-make_agree.ensures
+
+pub returns-clause-gives : goal.returns-clause-gives
+returns-clause-gives g c =
+    let r = c.mark_resynced.ensures in
+    resyncs_or_stops c.args.mirror.now c.store_marks.new.mirror c.make_agree.new.mirror c.mark_resynced.new.self c.clear_stored.new.mirror c.requires.idle
+    c.in_default.ensures.gives c.in_default-make_agree.ensures r.gives r.event r.sound c.clear_stored.result c.clear_stored.ensures.gives

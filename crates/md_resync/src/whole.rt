@@ -1,0 +1,77 @@
+// A whole resync.
+ghost use Rattle.std.specs.Prelude.{◌≤◌, MatchResult, length};
+ghost use Rattle.md_state.specs.MakingClean.{IsIdle};
+ghost use Rattle.md_state.specs.Requests.{IsPending};
+ghost use Rattle.md_state.specs.View.{PendingView};
+ghost use Rattle.md_array.specs.Consistency.{IsConsistent};
+ghost use Rattle.md_resync.specs.Resyncing.{RefusesResync, Resyncs, StopsIdle};
+
+use crate::buffer::buffer_for;
+use crate::fault::ResyncFault;
+use crate::giving_up::give_up;
+use crate::marks::{clear_stored, store_marks};
+use crate::resyncing::make_agree;
+use md_array::Mirror;
+use md_device::Device;
+use std::alloc::Global;
+
+/// Makes the members in sync agree, so that the array can be read and written. The marks of memory are stored on
+/// each of them first, also where the array is degraded; then each marked chunk is copied, through a buffer of at
+/// most 1 MiB; and where the array is not degraded, the marks are cleared and that is stored.
+///
+/// `Halted`, `InFlight` and `NoMemory` are looked for in this order, before a device is used. Then the first failure
+/// ends the call, and the next one begins anew. Where no member fails, no superblock becomes due.
+pub fn resync<D: Device + Drop>(alloc: Global, mirror: &mut Mirror<D>) -> Result<(), ResyncFault>
+    requires sound { IsConsistent mirror.old }
+    ensures gives { MatchResult result (λ _. Resyncs mirror.old mirror.new) (RefusesResync mirror.old mirror.new) }
+    ensures sound { IsConsistent mirror.new }
+    ensures pending { (p : PendingView) → IsPending mirror.old.array p → IsPending mirror.new.array p }
+{
+    if mirror.halted() {
+        return Err(ResyncFault::Halted);
+    }
+    if let Some(number) = mirror.in_flight() {
+        return Err(ResyncFault::InFlight(number));
+    }
+    match resync_idle(alloc, mirror) {
+        Ok(()) => Ok(()),
+        Err(fault) => {
+            give_up(mirror);
+            Err(fault)
+        }
+    }
+}
+
+// Does all of it while nothing is in flight, but for what is kept where it does not come to its end.
+fn resync_idle<D: Device + Drop>(alloc: Global, mirror: &mut Mirror<D>) -> Result<(), ResyncFault>
+    requires sound { IsConsistent mirror.old }
+    requires idle { IsIdle mirror.old.array }
+    ensures gives { MatchResult result (λ _. Resyncs mirror.old mirror.new) (StopsIdle mirror.old mirror.new) }
+    ensures sound { IsConsistent mirror.new }
+{
+    let Ok(mut buffer) = buffer_for(alloc, mirror.chunks().sectors) else {
+        return Err(ResyncFault::NoMemory);
+    };
+    resync_through(mirror, &mut buffer)
+}
+
+// So through a buffer.
+fn resync_through<D: Device + Drop>(
+    mirror: &mut Mirror<D>,
+    buffer: &mut [u8],
+) -> Result<(), ResyncFault>
+    requires room { 512 ≤ length buffer.old }
+    requires sound { IsConsistent mirror.old }
+    requires idle { IsIdle mirror.old.array }
+    ensures gives { MatchResult result (λ _. Resyncs mirror.old mirror.new) (StopsIdle mirror.old mirror.new) }
+    ensures sound { IsConsistent mirror.new }
+{
+    if let Err(fault) = store_marks(mirror) {
+        return Err(fault);
+    }
+    if let Err(fault) = make_agree(mirror, buffer) {
+        return Err(fault);
+    }
+    mirror.mark_resynced();
+    clear_stored(mirror)
+}

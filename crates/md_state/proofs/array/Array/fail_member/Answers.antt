@@ -1,0 +1,26 @@
+use Rattle.std.proofs.Common.{[], refl}
+use Rattle.md_state.specs.FailingMembers.{MayBeFailed}
+use Rattle.md_state.proofs.array.Array.fail_member.Goals as goal
+
+pub fail-requires-clause-unspent : goal.fail-requires-clause-unspent
+fail-requires-clause-unspent c = (c.in_default.ensures []).may.unspent
+
+pub returns : goal.returns
+returns c disks =
+    let may : MayBeFailed c.args.k c.args.self.now = c.in_default.ensures disks in
+    let runs = may.runs in
+    let other = may.may.other in
+    record {
+      runs = runs;
+      disks = refl;
+      array = record {
+        member = runs.member;
+        at = runs.at;
+        other = other.other;
+        other_member = other.member;
+        other_in_sync = record { member = other.listed; in_sync = other.in_sync };
+        apart = other.apart;
+        unspent = may.may.unspent;
+        array = c.fail.ensures runs.member runs.at;
+      };
+    }

@@ -1,0 +1,39 @@
+use Rattle.std.proofs.Common.{◌≡◌, ◌∙◌, ℕ, Bool, true, false, cond, List, [], length, refl, ap, arith}
+use Rattle.std.specs.List.{remove}
+use Rattle.std.proofs.lemmas.List.{length-map}
+use Rattle.md_state.specs.Removing.{before_leaving, is_spare, taken_out, without_spare}
+use Rattle.md_state.specs.Rising.{made_due}
+use Rattle.md_state.specs.View.{ArrayView, MemberView}
+use Rattle.md_state.proofs.Members.Indices.{listed_at}
+use Rattle.md_state.proofs.array.Array.remove_member.Goals as goal
+
+as_many : (a : ArrayView) (m : MemberView) → length (before_leaving a m).members ≡ length a.members
+as_many a m = by (is_spare m.state)
+  where
+    by : (b : Bool) → length (cond b (without_spare a m) a).members ≡ length a.members
+    by true = length-map a.members made_due
+    by false = refl
+
+took : (a b : ArrayView) (k : ℕ) (members : List MemberView) → b ≡ a → members ≡ remove b.members k → record b { members = members } ≡ taken_out a k
+took a b k members is left = ap (λ (xs : List MemberView). record b { members = xs }) left ∙ ap (λ (y : ArrayView). taken_out y k) is
+
+pub note_leaving-requires-clause-unspent : goal.note_leaving-requires-clause-unspent
+note_leaving-requires-clause-unspent c m at = (c.in_default.ensures [] m at).unspent
+
+pub remove-requires : goal.remove-requires
+remove-requires c =
+    let a = c.args.self.now in
+    let m = listed_at a.members c.args.k c.requires in
+    let within = c.requires in
+    let count = ap (λ (y : ArrayView). length y.members) (c.self.view_is ∙ c.note_leaving.ensures m.0 m.1) ∙ as_many a m.0 in
+    omega arith
+
+pub returns : goal.returns
+returns c disks =
+    let a = c.args.self.now in
+    let m = listed_at a.members c.args.k c.requires in
+    record {
+      member = m.0;
+      may = c.in_default.ensures disks m.0 m.1;
+      array = took (before_leaving a m.0) _ c.args.k _ (c.self.view_is ∙ c.note_leaving.ensures m.0 m.1) c.remove.ensures.items;
+    }

@@ -1,0 +1,61 @@
+-- A member is failed by a call (set_disk_faulty and md_error in the kernel's md driver; which members may be failed, and that the
+-- count rises at once, are this project's own).
+use Rattle.std.specs.Prelude.{◌≡◌, ℕ, Bool, true, false}
+use Rattle.md_assembly.specs.declared.state.MemberState.{MemberState}
+use Rattle.md_assembly.specs.declared.state.MemberState.TheVariants.{InSync, Recovering, Stale, Spare, Faulty}
+use Rattle.md_state.specs.declared.step_fault.FailFault.{FailFault}
+use Rattle.md_state.specs.declared.step_fault.FailFault.TheVariants.{Halted, NotActive, LastMember, EventsFull}
+use Rattle.md_state.specs.Failing.{HasOtherInSync, IsLastInSync, MayFail}
+use Rattle.md_state.specs.Members.{IsMember}
+use Rattle.md_state.specs.Rising.{Fails, HasSpentEvents}
+use Rattle.md_state.specs.Trying.{Refuses, RefusesHalted}
+use Rattle.md_state.specs.View.{ArrayView, MemberView, MirrorView}
+
+-- it is in sync or recovering, so that its role is not free
+abbrev pub is_active : MemberState → Bool
+is_active (InSync role) = true
+is_active (Recovering role) = true
+is_active (Stale role) = false
+is_active Spare = false
+is_active Faulty = false
+
+-- the mirror runs, and member k is active
+pub record IsRunningWith (k : ℕ) (a : ArrayView) : Type 0 where
+  pub running : a.halted ≡ false
+  pub member : MemberView
+  pub at : IsMember a k member
+  pub active : is_active member.state ≡ true
+
+pub record MayBeFailed (k : ℕ) (a : ArrayView) : Type 0 where
+  pub runs : IsRunningWith k a
+  pub may : MayFail a k
+
+-- Member k is faulty, and the count has risen. No device is used.
+pub record FailsMember (k : ℕ) (old new : MirrorView) : Type 0 where
+  pub runs : IsRunningWith k old.array
+  pub disks : new.disks ≡ old.disks
+  pub array : Fails k old.array new.array
+
+-- one that is neither in sync nor recovering
+pub record IsNotActive (k : ℕ) (a : ArrayView) : Type 0 where
+  pub running : a.halted ≡ false
+  pub member : MemberView
+  pub at : IsMember a k member
+  pub out : is_active member.state ≡ false
+
+-- No other member is in sync. As some member is so while the mirror runs, it is this one.
+pub record IsLastMember (k : ℕ) (a : ArrayView) : Type 0 where
+  pub runs : IsRunningWith k a
+  pub last : IsLastInSync a.members k
+
+-- the count has to rise, and can't
+pub record CannotBeCounted (k : ℕ) (a : ArrayView) : Type 0 where
+  pub runs : IsRunningWith k a
+  pub other : HasOtherInSync a.members k
+  pub spent : HasSpentEvents a
+
+abbrev pub RefusesFail : ℕ → MirrorView → MirrorView → FailFault → Type 0
+RefusesFail k old new Halted = RefusesHalted old new
+RefusesFail k old new NotActive = Refuses old new (IsNotActive k old.array)
+RefusesFail k old new LastMember = Refuses old new (IsLastMember k old.array)
+RefusesFail k old new EventsFull = Refuses old new (CannotBeCounted k old.array)

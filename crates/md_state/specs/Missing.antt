@@ -1,0 +1,14 @@
+-- What a member lacks of the array (this project's own).
+use Rattle.std.specs.Prelude.{◌≡◌, ℕ, ◌<◌, Bool, not, cond}
+use Rattle.md_assembly.specs.States.{is_in_sync}
+use Rattle.md_bitmap.specs.Marks.{Bitmap, is_set}
+use Rattle.md_state.specs.View.{ArrayView, MemberView}
+
+-- One that this mirror re-added lacks the marked chunks. Of the others, one in sync lacks none, and any other lacks each chunk.
+abbrev pub is_missing : ArrayView → MemberView → ℕ → Bool
+is_missing a m chunk = cond m.re_added (is_set a.marks.bytes chunk) (not (is_in_sync m.state))
+
+-- these are the chunks that it lacks
+pub record AreMissing (a : ArrayView) (m : MemberView) (missing : Bitmap) : Type 0 where
+  pub chunks : missing.chunks ≡ a.marks.chunks
+  pub bits : (c : ℕ) → c < missing.chunks → is_set missing.bytes c ≡ is_missing a m c

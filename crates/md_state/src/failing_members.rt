@@ -1,0 +1,52 @@
+// Failing a member by a call.
+ghost use Rattle.std.specs.Prelude.{◌≡◌, ◌<◌, List, MatchResult, length};
+ghost use Rattle.md_state.specs.FailingMembers.{FailsMember, MayBeFailed, RefusesFail, is_active};
+ghost use Rattle.md_state.specs.View.{Disk};
+
+use crate::array::Array;
+use crate::failing::has_other_in_sync;
+use crate::step_fault::FailFault;
+use md_assembly::MemberState;
+
+impl Array {
+    /// What `Mirror::fail` does, whatever its devices are: it uses none.
+    pub fn fail_member(&mut self, k: usize) -> Result<(), FailFault>
+        requires { k < length self.old.members }
+        ensures { (disks : List Disk) → MatchResult result (λ _. FailsMember k (record { disks = disks; array = self.old }) (record { disks = disks; array = self.new }))
+            (RefusesFail k (record { disks = disks; array = self.old }) (record { disks = disks; array = self.new })) }
+    {
+        if let Err(fault) = self.check_fail(k) {
+            return Err(fault);
+        }
+        self.fail(k);
+        Ok(())
+    }
+
+    // Whether member k may be failed.
+    fn check_fail(&self, k: usize) -> Result<(), FailFault>
+        requires { k < length self.now.members }
+        ensures { (disks : List Disk) → MatchResult result (λ _. MayBeFailed k self.now)
+            (RefusesFail k (record { disks = disks; array = self.now }) (record { disks = disks; array = self.now })) }
+    {
+        if self.halted {
+            return Err(FailFault::Halted);
+        }
+        if !is_active(self.members[k].state) {
+            return Err(FailFault::NotActive);
+        }
+        if !has_other_in_sync(&self.members, k) {
+            return Err(FailFault::LastMember);
+        }
+        if self.shared.events == u64::MAX {
+            return Err(FailFault::EventsFull);
+        }
+        Ok(())
+    }
+}
+
+/// Whether a member in this state is in sync or recovering.
+pub(crate) fn is_active(state: MemberState) -> bool
+    ensures { result ≡ is_active state }
+{
+    matches!(state, MemberState::InSync(_) | MemberState::Recovering(_))
+}

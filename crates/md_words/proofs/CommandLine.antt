@@ -1,0 +1,80 @@
+-- The command line as a value, and its image words.
+use Rattle.std.proofs.Common.{◌≡◌, ◌||◌, Bool, true, false, ap₂, List, [], Option, Some, None, codes, refl, sym, ap, ◌∙◌, option_map, unwrap_or, IsSomeAnd}
+use Rattle.std.specs.Box.{box_value}
+use Rattle.clap.proofs.OnLiterals.{clap_on_literals}
+use Rattle.clap.proofs.WalkLemmas.{raw_values-rows}
+use Rattle.clap.specs.declared.parser.matches.Found.{Found}
+use Rattle.clap.specs.declared.parser.matches.ArgMatches.{ArgMatches}
+use Rattle.clap.specs.declared.parser.matches.ArgMatches.TheViews.{out-ArgMatches, out-SubCommand}
+use Rattle.clap.specs.Words.{Row, Text, matched_of, raw_values, rule_of, rows_of, found_of, is_simple, is_simple_and_free, subcommand_name_of, subcommand_rows_of}
+use Rattle.clap.specs.declared.builder.arg.Arg.{Arg}
+use Rattle.clap.specs.declared.builder.range.ValueRange.{ValueRange}
+use Rattle.std.specs.Borrow.{Bor}
+use Rattle.clap.specs.declared.builder.texts.Texts.TheVariants.{One}
+use Rattle.md_words.specs.Words.{mdcli}
+use Rattle.md_words.specs.Asked.{asks_in, asks_of, images_in}
+
+pub some_is : {X : Type 0} (o : Option X) (x : X) → IsSomeAnd o (λ r. r ≡ x) → o ≡ Some x
+some_is None x h = absurd h
+some_is (Some y) x h = ap (λ z. Some z) h
+
+pub with_range : (a : Arg) (range : Option ValueRange) → rule_of (record a { num_vals = range }) ≡ record (rule_of a) { range = range }
+with_range a range = refl
+
+pub with_value_name : (a named : Arg) (name : Bor Text) → named ≡ record a { val_names = One name } → rule_of named ≡ record (rule_of a) { value_names = 1 }
+with_value_name a named name e = ap rule_of e
+
+-- the name that a subcommand goes by
+abbrev pub name_in : Option (Text × List Row) → Option Text
+name_in = option_map (λ p. p.0)
+
+abbrev pub rows_in : Option (Text × List Row) → Option (List Row)
+rows_in = option_map (λ p. p.1)
+
+-- a pair by its parts
+pub pair_is : {A B : Type 0} (o : Option (A × B)) (a : A) (b : B) → option_map (λ p. p.0) o ≡ Some a → option_map (λ p. p.1) o ≡ Some b → o ≡ Some (a, b)
+pair_is None a b first second = absurd cc
+pair_is (Some p) a b first second =
+    let left : p.0 ≡ a = cc in
+    let right : p.1 ≡ b = cc in
+    ap (λ x. Some (x, p.1)) left ∙ ap (λ y. Some (a, y)) right
+
+no_pair : {A B : Type 0} (o : Option (A × B)) → option_map (λ p. p.0) o ≡ None → o ≡ None
+no_pair None e = refl
+no_pair (Some p) e = absurd cc
+
+names_of : {X : Type 0} (f : X → Text) (g : X → List Row) (o : Option X) → option_map f o ≡ name_in (option_map (λ x. (f x, g x)) o)
+names_of f g None = refl
+names_of f g (Some x) = refl
+
+pub name_is : (m : ArgMatches) → subcommand_name_of m ≡ name_in (subcommand_rows_of m)
+name_is m = names_of (λ b. (out-SubCommand (box_value b)).name.now) (λ b. rows_of (found_of (out-SubCommand (box_value b)).matches)) (out-ArgMatches m).subcommand
+
+pub is_simple_command : is_simple mdcli ≡ true
+unfolding mdcli clap_on_literals
+is_simple_command = refl
+
+pub is_free_command : is_simple_and_free mdcli ≡ true
+unfolding mdcli clap_on_literals
+is_free_command = refl
+
+-- the subcommand of the matches, by what `subcommand` gives
+pub subcommand_is : (m : ArgMatches) (name : Text) (rows : List Row) → subcommand_name_of m ≡ Some name → rows_in (subcommand_rows_of m) ≡ Some rows → subcommand_rows_of m ≡ Some (name, rows)
+subcommand_is m name rows named read = pair_is (subcommand_rows_of m) name rows (sym (name_is m) ∙ named) read
+
+-- there is none
+pub no_subcommand : (m : ArgMatches) → subcommand_name_of m ≡ None → subcommand_rows_of m ≡ None
+no_subcommand m none = no_pair (subcommand_rows_of m) (sym (name_is m) ∙ none)
+
+-- the images of a subcommand's matches
+pub images_read : (m : ArgMatches) (name : Text) (f : Found) → subcommand_rows_of m ≡ Some (name, rows_of f) → unwrap_or (option_map raw_values (matched_of f (codes "image"))) [] ≡ images_in (subcommand_rows_of m)
+images_read m name f is =
+    ap (λ (o : Option (List Text)). unwrap_or o []) (raw_values-rows f (codes "image")) ∙ sym (ap images_in is)
+
+-- what a subcommand's name and matches ask for
+pub asks_read : (m : ArgMatches) (name : Text) (f : Found) → subcommand_rows_of m ≡ Some (name, rows_of f) → asks_of name (rows_of f) ≡ asks_in (subcommand_rows_of m)
+asks_read m name f is = sym (ap asks_in is)
+
+-- a command gets no global argument with one that is local
+pub no_globals : (old arg new : Bool) → new ≡ (old || arg) → old ≡ false → arg ≡ false → new ≡ false
+no_globals old arg new e first second = e ∙ ap₂ (λ a b. a || b) first second

@@ -1,0 +1,16 @@
+use Rattle.std.proofs.Common.{◌≡◌, ◌∙◌, sym, Some}
+use Rattle.clap.specs.Words.{found_of, rows_of, subcommand_rows_of}
+use Rattle.md_words.proofs.CommandLine.{asks_read, images_read, subcommand_is}
+use Rattle.md_words.proofs.parsing.requested.Goals as goal
+
+pub returns-clause-asks : goal.returns-clause-asks
+returns-clause-asks c =
+    let found = found_of c.in-Some.found.now in
+    let is : subcommand_rows_of c.args.matches.now ≡ Some (c.in-Some.name.now, rows_of found) = subcommand_is c.args.matches.now c.in-Some.name.now (rows_of found) (sym c.in-Some.ensures.name) (sym c.in-Some.ensures.rows) in
+    c.action_of.ensures ∙ asks_read c.args.matches.now c.in-Some.name.now found is
+
+pub returns-clause-images : goal.returns-clause-images
+returns-clause-images c =
+    let found = found_of c.in-Some.found.now in
+    let is : subcommand_rows_of c.args.matches.now ≡ Some (c.in-Some.name.now, rows_of found) = subcommand_is c.args.matches.now c.in-Some.name.now (rows_of found) (sym c.in-Some.ensures.name) (sym c.in-Some.ensures.rows) in
+    c.in_ok-images.ensures ∙ images_read c.args.matches.now c.in-Some.name.now found is

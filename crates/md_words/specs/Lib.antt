@@ -1,0 +1,3 @@
+pub mod Asked
+pub mod Words
+pub use Rattle.clap.specs.Words as ClapWords

@@ -1,0 +1,106 @@
+-- The command line.
+use Rattle.std.specs.Prelude.{true, ◌∷◌, [], Some, codes, pos}
+use Rattle.clap.specs.Lexer.{usize_max}
+use Rattle.clap.specs.Words.{App, Rule, Text, new_app, new_rule, with_rule, with_subcommand}
+use Rattle.clap.specs.declared.builder.action.ArgAction.TheVariants.{SetTrue}
+use Rattle.clap.specs.declared.builder.value_parser.ValueParser.TheVariants.{Signed, Unsigned}
+
+-- any number of images, listed last
+abbrev pub image_rule : Rule
+image_rule = record (new_rule (codes "image")) { range = Some (record { start_inclusive = 1; end_inclusive = usize_max }); value_names = 1 }
+
+-- an option with a value, and with a number of 32 or 64 bits
+abbrev pub value_rule : Text → Rule
+value_rule name = record (new_rule name) { long = Some name; value_names = 1 }
+
+abbrev pub u32_rule : Text → Rule
+u32_rule name = record (value_rule name) { parser = Some (Signed (pos 0) (pos 4294967295)) }
+
+abbrev pub u64_rule : Text → Rule
+u64_rule name = record (value_rule name) { parser = Some (Unsigned 0 18446744073709551615) }
+
+-- an option without a value
+abbrev pub flag_rule : Text → Rule
+flag_rule name = record (new_rule name) { long = Some name; action = Some SetTrue }
+
+abbrev pub required : Rule → Rule
+required r = record r { required = true }
+
+abbrev pub by_default : Text → Rule → Rule
+by_default value r = record r { defaults = value ∷ [] }
+
+-- a command with images alone: one that shows an image, and some that change an array
+abbrev pub bare_app : Text → App
+bare_app name = with_rule (new_app name) image_rule
+
+-- one that shows an array, the plan of a rebuild, or sectors, and that may be asked to change no image
+abbrev pub with_images : App → App
+with_images a = with_rule (with_rule a (flag_rule (codes "readonly"))) image_rule
+
+abbrev pub array_app : Text → App
+array_app name = with_images (new_app name)
+
+abbrev pub plan_app : App
+plan_app = with_images (with_rule (new_app (codes "plan")) (required (u32_rule (codes "member"))))
+
+-- an option that is a sector of the array
+abbrev pub with_sector : App → App
+with_sector a = with_rule a (required (u64_rule (codes "sector")))
+
+abbrev pub read_app : App
+read_app = with_images (with_rule (with_sector (new_app (codes "read"))) (required (u64_rule (codes "count"))))
+
+abbrev pub write_app : App
+write_app = with_rule (with_sector (new_app (codes "write"))) image_rule
+
+-- `create`: what it must be given, and what it may
+abbrev pub with_required : App → App
+with_required a =
+    with_rule (with_rule (with_rule a (required (value_rule (codes "level")))) (required (u32_rule (codes "raid-devices")))) (required (value_rule (codes "uuid")))
+
+abbrev pub with_optional : App → App
+with_optional a =
+    with_rule
+    (with_rule
+    (with_rule
+    (with_rule
+    (with_rule a (by_default (codes "md") (value_rule (codes "name"))))
+    (by_default (codes "65536") (u32_rule (codes "bitmap-chunk"))))
+    (u64_rule (codes "size")))
+    (by_default (codes "0") (u64_rule (codes "time"))))
+    (flag_rule (codes "assume-clean"))
+
+abbrev pub create_app : App
+create_app = with_rule (with_optional (with_required (new_app (codes "create")))) image_rule
+
+-- the program itself has a version, and asks for a command
+abbrev pub with_version : App → App
+with_version a = record a { top = record a.top { has_version = true } }
+
+abbrev pub required_command : App → App
+required_command a = record a { top = record a.top { subcommand_required = true } }
+
+-- the commands on one image, those that make an array or show it, and those on its data
+abbrev pub with_examine_commands : App → App
+with_examine_commands a =
+    with_subcommand
+    (with_subcommand (with_subcommand a (bare_app (codes "examine")).top) (bare_app (codes "examine-bitmap")).top)
+    (bare_app (codes "examine-badblocks")).top
+
+abbrev pub with_array_commands : App → App
+with_array_commands a =
+    with_subcommand
+    (with_subcommand
+    (with_subcommand (with_subcommand a create_app.top) (array_app (codes "assemble")).top)
+    (array_app (codes "detail")).top)
+    plan_app.top
+
+abbrev pub with_data_commands : App → App
+with_data_commands a =
+    with_subcommand
+    (with_subcommand (with_subcommand (with_subcommand a read_app.top) write_app.top) (bare_app (codes "resync")).top)
+    (bare_app (codes "stop")).top
+
+-- the whole command line
+unfoldable pub mdcli : App
+mdcli = with_data_commands (with_array_commands (with_examine_commands (required_command (with_version (new_app (codes "mdcli"))))))

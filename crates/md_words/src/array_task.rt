@@ -1,0 +1,20 @@
+// What is done with a whole array.
+
+/// What a command does with the array that the images make.
+#[derive(Clone, Copy, Debug)]
+pub enum ArrayTask {
+    /// Shows it in one line.
+    Summary,
+    /// Shows it with each member's state.
+    Detail,
+    /// Shows the plan of a rebuild of the member with this index.
+    Plan(u32),
+    /// Puts out so many sectors, from this one on.
+    Read { sector: u64, count: u64 },
+    /// Writes the input, from this sector on.
+    Write { sector: u64 },
+    /// Makes the members in sync agree, and stops it.
+    Resync,
+    /// Stops it: what is to be stored at the end is stored.
+    Stop,
+}

@@ -1,0 +1,33 @@
+// The texts at the end of each command's help.
+
+/// Of a command that shows one image.
+pub(crate) const EXAMINE: &str =
+    "The image is only read.\n\nThe status is 0 where the report is written, 1 where it is refused (standard error names the fault), and 2 where the words are not accepted.\n\nExample:\n  mdcli examine /dev/sda1";
+
+/// Of a command that shows an array.
+pub(crate) const ARRAY: &str =
+    "Name all images of the array, in any order. Where the bitmap of a member in sync does not fit the array, all chunks are marked in it: the image is changed. Nothing else is written. --readonly prevents that: the images are only read, and the report is the same.\n\nThe status is 0 where the report is written, 1 where it is refused (standard error names the fault), and 2 where the words are not accepted.\n\nExample:\n  mdcli detail --readonly a.img b.img";
+
+/// Of `plan`.
+pub(crate) const PLAN: &str =
+    "Shows which chunk the member would get from which other member in which round, in as few rounds as there can be; then a certificate: chunks that have too few sources for one round fewer; and the orphans, the chunks that no member can give. The member is a spare or recovering. Nothing is copied.\n\nName all images of the array, in any order. Where the bitmap of a member in sync does not fit the array, all chunks are marked in it: the image is changed. Nothing else is written. --readonly prevents that: the images are only read, and the report is the same.\n\nThe status is 0 where the report is written, 1 where it is refused (standard error names the fault), and 2 where the words are not accepted.\n\nExample:\n  mdcli plan --readonly --member 2 a.img b.img c.img";
+
+/// Of `create`.
+pub(crate) const CREATE: &str =
+    "WHAT THE IMAGES HELD IS LOST. All of them are opened before the first write: where one can't be written, or is in use, the command is refused and nothing is changed.\n\nThe word `missing` in place of an image stands for a member that is not there. The array is degraded then.\n\nThe status is 0 where the array is made, 1 where it is refused (standard error names the fault), and 2 where the words are not accepted.\n\nExample:\n  mdcli create --level raid1 --raid-devices 2 --uuid 00112233-4455-6677-8899-aabbccddeeff a.img b.img";
+
+/// Of `read`.
+pub(crate) const READ: &str =
+    "Each sector comes from the member in sync of the lowest role that does not list it as bad, and from the next one where that can't be read. All of it is held in memory before the first byte is written.\n\nName all images of the array, in any order. Where the members in sync may differ, `resync` has to be run first; only where the array is degraded as well does `read` make them agree itself. Then, and where the bitmap of a member in sync does not fit the array, marks are stored: the image is changed. --readonly prevents that: the images are only read, and the sectors are the same.\n\nThe status is 0 where all sectors are written, 1 where it is refused (standard error names the fault), and 2 where the words are not accepted.\n\nExample:\n  mdcli read --readonly --sector 0 --count 8 a.img b.img > first.img";
+
+/// Of `write`.
+pub(crate) const WRITE: &str =
+    "THE IMAGES ARE CHANGED. Standard input is read to its end before anything is written: it has to be whole sectors of 512 bytes, and to end within the array. The bytes go to each member in sync, after the marks of their chunks are stored on each. A member to which a write fails is faulty from then on, and the others are told so. Then the array is stopped, and shown in a line.\n\nName all images of the array, in any order. Where the members in sync may differ, `resync` has to be run first; only where the array is degraded as well does `write` make them agree itself.\n\nThe status is 0 where all is written, 1 where it is refused (standard error names the fault), and 2 where the words are not accepted.\n\nExample:\n  mdcli write --sector 0 a.img b.img < filesystem.img";
+
+/// Of `resync`.
+pub(crate) const RESYNC: &str =
+    "THE IMAGES ARE CHANGED. In each marked chunk each member in sync gets the sectors of the one of the lowest role that does not list them as bad. Then the array is stopped, and shown in a line; unless it is degraded, no chunk is marked.\n\nName all images of the array, in any order.\n\nThe status is 0 where it is done, 1 where it is refused (standard error names the fault), and 2 where the words are not accepted.\n\nExample:\n  mdcli resync a.img b.img";
+
+/// Of `stop`.
+pub(crate) const STOP: &str =
+    "THE IMAGES ARE CHANGED: their superblocks and bitmaps, and none of the data. Where the members in sync agree, the array is clean after it; where it is not degraded either, no chunk is marked. It is shown in a line.\n\nName all images of the array, in any order.\n\nThe status is 0 where it is done, 1 where it is refused (standard error names the fault), and 2 where the words are not accepted.\n\nExample:\n  mdcli stop a.img b.img";

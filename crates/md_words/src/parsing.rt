@@ -1,0 +1,171 @@
+// Reading the words.
+ghost use Rattle.std.specs.Prelude.{◌≡◌, IfOk, [], codes, map, option_map, unwrap_or};
+ghost use Rattle.clap.specs.Words.{FailsBy, fault_of, first_of, found_of, matched_of, raw_values, rows_of, subcommand_of, subcommand_rows_of};
+ghost use Rattle.md_words.specs.Words.{mdcli};
+ghost use Rattle.md_words.specs.Asked.{ask_of, asked, asks_in, asks_of, change_of, image_words, images_in, is_readonly, number_in, number_of, options_in, options_of, task_of, text_in};
+
+use crate::array_task::ArrayTask;
+use crate::command_line::command_line;
+use crate::options::CreateOptions;
+use crate::report::{Report, report_named};
+use crate::request::{Action, Request};
+use clap::{ArgMatches, Error};
+use std::alloc::{AllocError, Global};
+
+fn matches<'a>(alloc: Global, words: &'a [&'a str]) -> Result<ArgMatches<'a>, Error>
+    ensures ok { IfOk result (λ m. subcommand_rows_of m ≡ subcommand_of mdcli (map (λ s. s.now) words.entry.now)) }
+    ensures fails { FailsBy (fault_of mdcli (map (λ s. s.now) words.entry.now)) result }
+{
+    command_line(alloc)?.try_get_matches_from(words)
+}
+
+// The number that a text says, 0 where it says none.
+fn u32_of(text: &str) -> u32
+    ensures { result ≡ number_of 32 text.now }
+{
+    text.parse::<u32>().unwrap_or(0)
+}
+
+fn u64_of(text: &str) -> u64
+    ensures { result ≡ number_of 64 text.now }
+{
+    text.parse::<u64>().unwrap_or(0)
+}
+
+// The value of an option, empty where it has none.
+fn text_of<'a>(found: &ArgMatches<'a>, name: &str) -> &'a str
+    ensures { result.now ≡ text_in name.now (rows_of (found_of found.now)) }
+{
+    match found.get_str(name) {
+        Some(text) => text,
+        None => "",
+    }
+}
+
+fn size_of(found: &ArgMatches<'_>) -> Option<u64>
+    ensures { result ≡ option_map (number_of 64) (first_of (codes "size") (rows_of (found_of found.now))) }
+{
+    let text = found.get_str("size")?;
+    Some(u64_of(text))
+}
+
+fn create_options<'a>(found: &ArgMatches<'a>) -> CreateOptions<'a>
+    ensures { options_of result ≡ options_in (rows_of (found_of found.now)) }
+{
+    CreateOptions {
+        level: text_of(found, "level"),
+        raid_devices: u32_of(text_of(found, "raid-devices")),
+        uuid: text_of(found, "uuid"),
+        name: text_of(found, "name"),
+        bitmap_chunk: u32_of(text_of(found, "bitmap-chunk")),
+        size: size_of(found),
+        time: u64_of(text_of(found, "time")),
+        assume_clean: text_of(found, "assume-clean") == "true",
+    }
+}
+
+fn is_readonly(found: &ArgMatches<'_>) -> bool
+    ensures { result ≡ is_readonly (rows_of (found_of found.now)) }
+{
+    text_of(found, "readonly") == "true"
+}
+
+// The number that an option has, 0 where it has none.
+fn number_of<'a>(found: &ArgMatches<'a>, name: &str) -> u64
+    ensures { result ≡ number_in 64 name.now (rows_of (found_of found.now)) }
+{
+    u64_of(text_of(found, name))
+}
+
+// What the command of a name does with an array, where it may be asked to change no image.
+fn task_of(name: &str, found: &ArgMatches<'_>) -> Option<ArrayTask>
+    ensures { result ≡ task_of name.now (rows_of (found_of found.now)) }
+{
+    if name == "assemble" {
+        return Some(ArrayTask::Summary);
+    }
+    if name == "detail" {
+        return Some(ArrayTask::Detail);
+    }
+    if name == "plan" {
+        let member = u32_of(text_of(found, "member"));
+        return Some(ArrayTask::Plan(member));
+    }
+    if name == "read" {
+        let sector = number_of(found, "sector");
+        let count = number_of(found, "count");
+        return Some(ArrayTask::Read { sector, count });
+    }
+    None
+}
+
+// What the command of a name does with an array, where it may not be asked so.
+fn change_of(name: &str, found: &ArgMatches<'_>) -> Option<ArrayTask>
+    ensures { result ≡ change_of name.now (rows_of (found_of found.now)) }
+{
+    if name == "write" {
+        let sector = number_of(found, "sector");
+        return Some(ArrayTask::Write { sector });
+    }
+    if name == "resync" {
+        return Some(ArrayTask::Resync);
+    }
+    if name == "stop" {
+        return Some(ArrayTask::Stop);
+    }
+    None
+}
+
+// What the command of a name asks for.
+fn action_of<'a>(name: &str, found: &ArgMatches<'a>) -> Action<'a>
+    ensures { ask_of result ≡ asks_of name.now (rows_of (found_of found.now)) }
+{
+    if name == "create" {
+        return Action::Create(create_options(found));
+    }
+    if let Some(task) = task_of(name, found) {
+        return Action::Perform(task, is_readonly(found));
+    }
+    if let Some(task) = change_of(name, found) {
+        return Action::Perform(task, false);
+    }
+    Action::Examine(report_named(name))
+}
+
+fn requested<'a>(alloc: Global, matches: &ArgMatches<'a>) -> Result<Request<'a>, AllocError>
+    ensures asks { IfOk result (λ r. ask_of r.action ≡ asks_in (subcommand_rows_of matches.now)) }
+    ensures images { IfOk result (λ r. map (λ s. s.now) r.images.items ≡ images_in (subcommand_rows_of matches.now)) }
+{
+    let Some((name, found)) = matches.subcommand() else {
+        return Ok(Request {
+            action: Action::Examine(Report::Superblock),
+            images: Vec::new(alloc),
+        });
+    };
+    let images = image_list(alloc, found)?;
+    Ok(Request {
+        action: action_of(name, found),
+        images,
+    })
+}
+
+// The images that a command's matches name.
+fn image_list<'a>(alloc: Global, found: &ArgMatches<'a>) -> Result<Vec<&'a str>, AllocError>
+    ensures { IfOk result (λ images. map (λ s. s.now) images.items ≡ unwrap_or (option_map raw_values (matched_of (found_of found.now) (codes "image"))) []) }
+{
+    let Some(images) = found.get_strs("image") else {
+        return Ok(Vec::new(alloc));
+    };
+    Vec::from_slice(alloc, images)
+}
+
+/// What the words ask for, or why the words are not taken.
+#[tactic(auto, unfolding(crate::specs::Asked::image_words, crate::specs::Asked::asked))]
+pub fn parse<'a>(alloc: Global, words: &'a [&'a str]) -> Result<Request<'a>, Error>
+    ensures asks { IfOk result (λ r. ask_of r.action ≡ asked (map (λ s. s.now) words.entry.now)) }
+    ensures images { IfOk result (λ r. map (λ s. s.now) r.images.items ≡ image_words (map (λ s. s.now) words.entry.now)) }
+    ensures fails { FailsBy (fault_of mdcli (map (λ s. s.now) words.entry.now)) result }
+{
+    let matches = matches(alloc, words)?;
+    Ok(requested(alloc, &matches)?)
+}

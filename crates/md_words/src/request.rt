@@ -1,0 +1,20 @@
+// What the words ask for.
+use crate::array_task::ArrayTask;
+use crate::options::CreateOptions;
+use crate::report::Report;
+
+/// What is to be done with the images.
+#[derive(Clone, Copy, Debug)]
+pub enum Action<'a> {
+    Examine(Report),
+    Create(CreateOptions<'a>),
+    /// What is done with the array that the images make, and whether no image may be changed.
+    Perform(ArrayTask, bool),
+}
+
+/// An action, and the image words.
+#[derive(Drop)]
+pub struct Request<'a> {
+    pub action: Action<'a>,
+    pub images: Vec<&'a str>,
+}
