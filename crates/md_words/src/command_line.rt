@@ -142,7 +142,7 @@ fn read_command<'a>(alloc: Global) -> Result<Command<'a>, AllocError>
 {
     let count = u64_arg(alloc, "count", "N", "The number of sectors").required(true);
     let command = Command::new(alloc, "read")
-        .about("Writes sectors of the array to standard output; may store marks")
+        .about("Writes sectors of the array to standard output; may change images")
         .after_help(help::READ);
     let command = with_sector(alloc, command)?.arg(count)?;
     array_images(alloc, command)
