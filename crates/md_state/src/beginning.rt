@@ -7,13 +7,12 @@ ghost use Rattle.md_state.specs.Rising.{HasSpentEvents};
 ghost use Rattle.md_state.specs.View.{Disk};
 
 use crate::array::Array;
-use crate::extent::Extent;
-use crate::marking::chunks_of;
-use crate::pending::Pending;
 use crate::rising::CLEAN_OFFSET;
 use crate::step_fault::BeginFault;
 use arrayvec::ArrayVec;
 use md_inflight::{PushFault, Ticket};
+use md_kept_members::chunks_of;
+use md_requests::{Extent, Pending};
 
 impl Array {
     /// What `Mirror::begin` does, whatever its devices are: it uses none.

@@ -5,8 +5,8 @@ ghost use Rattle.md_state.specs.Finishing.{Finishes, MayFinish, RefusesFinish};
 ghost use Rattle.md_state.specs.View.{Disk};
 
 use crate::array::Array;
-use crate::pending::Pending;
 use crate::step_fault::FinishFault;
+use md_requests::Pending;
 
 impl Array {
     /// What `Mirror::finish` does, whatever its devices are: it uses none.

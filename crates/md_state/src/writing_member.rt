@@ -1,16 +1,17 @@
 // Whether a request's bytes may be written to a member.
 ghost use Rattle.std.specs.Prelude.{◌≡◌, ◌<◌, List, [], ◌∷◌, ◌++◌, Some, MatchResult, length};
+ghost use Rattle.md_requests.specs.Pending.{request_sectors};
+ghost use Rattle.md_kept_members.specs.View.{MemberView};
 ghost use Rattle.md_state.specs.Beginning.{IsInRange};
 ghost use Rattle.md_state.specs.InMemory.{HasChunks};
 ghost use Rattle.md_state.specs.Members.{IsMember};
-ghost use Rattle.md_state.specs.Requests.{request_sectors};
-ghost use Rattle.md_state.specs.View.{Disk, MemberView};
+ghost use Rattle.md_state.specs.View.{Disk};
 ghost use Rattle.md_state.specs.WritingMember.{MayWrite, RefusesWriteMember};
 
 use crate::array::Array;
-use crate::marking::{chunks_of, is_in_sync};
-use crate::pending::Pending;
 use crate::step_fault::WriteMemberFault;
+use md_kept_members::{chunks_of, is_in_sync};
+use md_requests::Pending;
 
 impl Array {
     /// Whether member k may get the bytes: data come after marks and records.

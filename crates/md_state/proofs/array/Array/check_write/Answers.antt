@@ -1,10 +1,11 @@
 use Rattle.std.proofs.Common.{◌≡◌, ◌∙◌, ◌<◌, ◌+◌, ◌-◌, ◌/◌, ℕ, true, sym, ap, refl, rules}
 use Rattle.md_assembly.specs.States.{is_in_sync}
-use Rattle.md_state.specs.View.{ArrayView, MemberView, PendingView}
+use Rattle.md_requests.specs.Pending.{PendingView, has_written, request_sectors}
+use Rattle.md_kept_members.specs.View.{MemberView}
+use Rattle.md_kept_members.proofs.Members.Indices.{same_listed}
+use Rattle.md_state.specs.View.{ArrayView}
 use Rattle.md_state.specs.Members.{IsInSync, IsMember}
-use Rattle.md_state.specs.Requests.{has_written, request_sectors}
 use Rattle.md_state.proofs.Members.FirstLacking.{all_recorded, first_to_record}
-use Rattle.md_state.proofs.Members.Indices.{same_listed}
 use Rattle.md_state.proofs.Members.At.{member_read}
 use Rattle.md_state.proofs.Changes.RequestChunks.{AreChunksOf, all_marked, first_unmarked}
 use Rattle.md_state.proofs.array.Array.check_write.Goals as goal

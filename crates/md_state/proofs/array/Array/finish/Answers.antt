@@ -1,7 +1,8 @@
 use Rattle.std.proofs.Common.{◌≡◌, refl}
 use Rattle.md_inflight.specs.Inflight.{InflightList, without}
-use Rattle.md_state.specs.declared.extent.Extent.{Extent}
-use Rattle.md_state.specs.View.{ArrayView, PendingView}
+use Rattle.md_requests.specs.Pending.{PendingView}
+use Rattle.md_requests.specs.declared.extent.Extent.{Extent}
+use Rattle.md_state.specs.View.{ArrayView}
 use Rattle.md_state.specs.Finishing.{Finishes, MayFinish}
 use Rattle.md_state.proofs.array.Array.finish.Goals as goal
 
