@@ -5,4 +5,4 @@ mod extent;
 mod pending;
 
 pub use extent::{Extent, no_requests};
-pub use pending::Pending;
+pub use pending::{Pending, note_written, pending_of, ticket_of};

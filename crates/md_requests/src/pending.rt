@@ -1,5 +1,5 @@
 // A request in flight, as its caller has it.
-ghost use Rattle.std.specs.Prelude.{◌≡◌};
+ghost use Rattle.std.specs.Prelude.{◌≡◌, ◌<◌, [], ◌∷◌, ◌++◌, length};
 ghost use Rattle.md_requests.specs.Pending.{has_written, request_sectors};
 
 use arrayvec::ArrayVec;
@@ -12,16 +12,15 @@ use std::marker::Model;
 ///
 /// One that is dropped stays in flight: its chunks stay marked, and its sectors taken. So does one of a
 /// mirror that is halted, whose `finish` only hands it back.
+///
+/// What makes or changes one are functions of this crate, which the mirror's crate does not pass on: a caller can't note a
+/// member as written that is not.
 #[derive(Drop)]
 pub struct Pending<'a> {
-    /// Its place in the list of those in flight.
-    pub ticket: Ticket,
-    /// The first of its sectors, of the array.
-    pub sector: u64,
-    /// What is written to them.
-    pub bytes: &'a [u8],
-    /// The numbers of the members that have them.
-    pub written: ArrayVec<u32, 64>,
+    ticket: Ticket,
+    sector: u64,
+    bytes: &'a [u8],
+    written: ArrayVec<u32, 64>,
 }
 
 ghost use Rattle.md_requests.specs.Pending.{PendingView};
@@ -67,4 +66,31 @@ impl<'a> Pending<'a> {
     {
         self.written.contains(&dev_number)
     }
+}
+
+/// The request that was entered under this ticket, whose bytes no member has.
+pub fn pending_of<'a>(ticket: Ticket, sector: u64, bytes: &'a [u8]) -> Pending<'a>
+    ensures { result ≡ record { ticket = ticket; sector = sector; bytes = bytes.now; written = [] } }
+{
+    Pending {
+        ticket,
+        sector,
+        bytes,
+        written: ArrayVec::new(),
+    }
+}
+
+/// Its ticket, by which it is taken out of the list.
+pub fn ticket_of(pending: Pending<'_>) -> Ticket
+    ensures { result ≡ pending.entry.ticket }
+{
+    pending.ticket
+}
+
+/// The member of this number has its bytes.
+pub fn note_written(pending: &mut Pending<'_>, dev_number: u32)
+    requires { length pending.old.written < 64 }
+    ensures { pending.new ≡ record pending.old { written = pending.old.written ++ dev_number ∷ [] } }
+{
+    pending.written.push(dev_number);
 }

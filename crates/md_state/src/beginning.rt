@@ -9,10 +9,9 @@ ghost use Rattle.md_state.specs.View.{Disk};
 use crate::array::Array;
 use crate::rising::CLEAN_OFFSET;
 use crate::step_fault::BeginFault;
-use arrayvec::ArrayVec;
 use md_inflight::{PushFault, Ticket};
 use md_kept_members::chunks_of;
-use md_requests::{Extent, Pending};
+use md_requests::{Extent, Pending, pending_of};
 
 impl Array {
     /// What `Mirror::begin` does, whatever its devices are: it uses none.
@@ -32,12 +31,7 @@ impl Array {
         self.count_request();
         self.become_active();
         self.mark_sectors(sector, sectors);
-        Ok(Pending {
-            ticket,
-            sector,
-            bytes,
-            written: ArrayVec::new(),
-        })
+        Ok(pending_of(ticket, sector, bytes))
     }
 
     // Whether a request of these sectors may begin, but for its number and its memory.

@@ -13,4 +13,4 @@ finished a p left disks may name entries next = record { may = may; disks = refl
 pub returns : goal.returns
 returns c disks =
     let may = c.in_default.ensures disks in
-    rw (← c.self.view_is) (finished _ c.args.pending c.remove.new.self disks (rw c.self.view_is may) c.remove.ensures.name (rw (← c.pending.view_is) c.remove.ensures.entries) c.remove.ensures.next)
+    rw (← c.self.view_is) (finished _ c.args.pending c.remove.new.self disks (rw c.self.view_is may) c.remove.ensures.name (rw c.ticket_of.ensures at c.remove.ensures.entries) c.remove.ensures.next)
