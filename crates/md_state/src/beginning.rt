@@ -7,11 +7,11 @@ ghost use Rattle.md_state.specs.Rising.{HasSpentEvents};
 ghost use Rattle.md_state.specs.View.{Disk};
 
 use crate::array::Array;
-use crate::rising::CLEAN_OFFSET;
 use crate::step_fault::BeginFault;
 use md_inflight::{PushFault, Ticket};
 use md_kept_members::chunks_of;
 use md_requests::{Extent, Pending, pending_of};
+use md_super::CLEAN_OFFSET;
 
 impl Array {
     /// What `Mirror::begin` does, whatever its devices are: it uses none.

@@ -1,5 +1,5 @@
 // Failing a member by a call.
-ghost use Rattle.std.specs.Prelude.{◌≡◌, ◌<◌, List, MatchResult, length};
+ghost use Rattle.std.specs.Prelude.{◌<◌, List, MatchResult, length};
 ghost use Rattle.md_state.specs.FailingMembers.{FailsMember, MayBeFailed, RefusesFail};
 ghost use Rattle.md_state.specs.View.{Disk};
 

@@ -6,7 +6,6 @@ mod beginning;
 mod checking;
 mod clearing_marks;
 mod copy_fault;
-mod copying;
 mod failing;
 mod failing_members;
 mod finishing;

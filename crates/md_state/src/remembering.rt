@@ -6,7 +6,6 @@ ghost use Rattle.md_kept_members.specs.Remembering.{AreWhole};
 ghost use Rattle.md_state.specs.Remembered.{IsRemembered};
 
 use crate::array::Array;
-use crate::copying::copy_superblock;
 use md_assembly::Assembly;
 use md_kept_members::{chunking_of, is_resynced, last_cleared, members_of, united_marks};
 use md_members::MemberInfo;
@@ -26,7 +25,7 @@ impl Array {
         ensures { IfOk result (λ a. IsRemembered infos.items assembly a) }
     {
         let freshest = &infos[assembly.freshest];
-        let shared = copy_superblock(alloc, &freshest.superblock)?;
+        let shared = freshest.superblock.try_clone(alloc)?;
         let chunks = chunking_of(freshest);
         let members = members_of(alloc, infos, &assembly.states, shared.events)?;
         let marks = united_marks(alloc, &members, chunks.count())?;

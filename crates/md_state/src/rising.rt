@@ -7,10 +7,7 @@ ghost use Rattle.md_state.specs.Rising.{HasSpentEvents, has_number, is_absent, r
 
 use crate::array::Array;
 use md_kept_members::make_due;
-use md_super::FAULTY;
-
-/// The `resync_offset` of a clean array (`MaxSector` of the kernel's md driver).
-pub(crate) const CLEAN_OFFSET: u64 = u64::MAX;
+use md_super::{CLEAN_OFFSET, FAULTY};
 
 impl Array {
     /// The count rises, and the array is as full after it as before.
