@@ -4,7 +4,8 @@ use Rattle.std.specs.Int.{w32, cast_signed}
 use Rattle.md_format.specs.Fields.{number_at}
 use Rattle.md_model.specs.Devices.{Super}
 use Rattle.md_assembly.specs.States.{is_in_sync, has_recovery_offset}
-use Rattle.md_state.specs.View.{Disk, MemberView, MirrorView}
+use Rattle.md_kept_members.specs.View.{MemberView}
+use Rattle.md_state.specs.View.{Disk, MirrorView}
 use Rattle.md_state.specs.Members.{IsMember}
 use Rattle.md_state.specs.Requests.{AreInside}
 use Rattle.md_array.specs.Fits.{Fits}

@@ -3,7 +3,8 @@ use Rattle.std.specs.Prelude.{◌≡◌, ℕ, ◌≤◌, true, List, length, sli
 use Rattle.md_bitmap.specs.Sound.{IsSound}
 use Rattle.md_members.specs.Areas.{IsPlaced, bitmap_sectors, has_bitmap}
 use Rattle.md_members.specs.Members.{sectors_of}
-use Rattle.md_state.specs.View.{Disk, MemberView, ArrayView}
+use Rattle.md_kept_members.specs.View.{MemberView}
+use Rattle.md_state.specs.View.{Disk, ArrayView}
 use Rattle.md_state.specs.Members.{IsMember}
 
 -- a member's parts lie on its device, and its chunks fit the size of the array

@@ -2,10 +2,11 @@
 use Rattle.std.specs.Prelude.{◌≡◌, ℕ, ◌+◌, ◌/◌, ◌<◌, Bool, true, List, slice_get, Some}
 use Rattle.md_bitmap.specs.Marks.{is_set}
 use Rattle.md_device.specs.Device.{held}
+use Rattle.md_kept_members.specs.View.{MemberView}
 use Rattle.md_state.specs.CopyingData.{Lists}
 use Rattle.md_state.specs.MakingClean.{IsIdle}
 use Rattle.md_state.specs.Members.{IsInSync}
-use Rattle.md_state.specs.View.{Disk, MemberView, MirrorView}
+use Rattle.md_state.specs.View.{Disk, MirrorView}
 
 -- a sector of a member's data
 abbrev pub sector_of : MemberView → Disk → ℕ → List ℕ

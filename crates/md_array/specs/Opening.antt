@@ -5,7 +5,7 @@ use Rattle.md_assembly.specs.declared.assembling.Assembly.{Assembly}
 use Rattle.md_assembly.specs.Assembled.{IsAssembled}
 use Rattle.md_assembly.specs.Faults.{NoFault}
 use Rattle.md_state.specs.View.{Disk, ArrayView, MirrorView}
-use Rattle.md_state.specs.Kept.{IsRemembered}
+use Rattle.md_state.specs.Remembered.{IsRemembered}
 use Rattle.md_array.specs.Reading.{AreRead}
 use Rattle.md_array.specs.Storing.{AreMarked}
 

@@ -4,8 +4,10 @@ use Rattle.md_format.specs.Fields.{number_at}
 use Rattle.md_super.specs.declared.superblock.Superblock.{Superblock}
 use Rattle.md_super.specs.Faults.{NoFault}
 use Rattle.md_super.specs.Format.{IsSuper}
-use Rattle.md_state.specs.View.{Disk, MemberView, ArrayView, MirrorView}
-use Rattle.md_state.specs.Members.{IsMember, is_recorded}
+use Rattle.md_kept_members.specs.View.{MemberView}
+use Rattle.md_kept_members.specs.States.{is_recorded}
+use Rattle.md_state.specs.Members.{IsMember}
+use Rattle.md_state.specs.View.{Disk, ArrayView, MirrorView}
 use Rattle.md_array.specs.Worlds.{block_on, from_super, header_on, is_listed}
 
 -- this superblock is read on a device

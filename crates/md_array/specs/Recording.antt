@@ -6,10 +6,12 @@ use Rattle.md_super.specs.Faults.{NoFault}
 use Rattle.md_super.specs.Format.{IsSuper}
 use Rattle.md_super.specs.Merge.{merged}
 use Rattle.md_writes.specs.Writes.{Write}
+use Rattle.md_kept_members.specs.View.{MemberView}
+use Rattle.md_kept_members.specs.States.{is_recorded}
 use Rattle.md_state.specs.declared.step_fault.StoreFault.{StoreFault}
 use Rattle.md_state.specs.declared.step_fault.StoreFault.TheVariants.{Halted, NotActive, MemberFailed}
-use Rattle.md_state.specs.View.{MemberView, ArrayView, MirrorView}
-use Rattle.md_state.specs.Members.{IsMember, is_recorded}
+use Rattle.md_state.specs.Members.{IsMember}
+use Rattle.md_state.specs.View.{ArrayView, MirrorView}
 use Rattle.md_state.specs.OutOfSync.{IsInactive}
 use Rattle.md_state.specs.DiskWrites.{IsWritten}
 use Rattle.md_state.specs.Trying.{Refuses, RefusesHalted, FailsWriting, HaltsWriting}

@@ -8,8 +8,10 @@ use Rattle.md_array.specs.declared.fault.OpenFault.{OpenFault}
 use Rattle.md_array.specs.declared.fault.OpenFault.TheVariants.{MetadataFault}
 use Rattle.md_writes.specs.Bitmaps.{bitmap_writes}
 use Rattle.md_writes.specs.Writes.{Write, IsAnyIn, IsCutShort, after}
-use Rattle.md_state.specs.View.{Disk, MemberView, ArrayView}
-use Rattle.md_state.specs.Members.{IsMember, NeedsMarks}
+use Rattle.md_kept_members.specs.View.{MemberView}
+use Rattle.md_kept_members.specs.Members.{NeedsMarks}
+use Rattle.md_state.specs.Members.{IsMember}
+use Rattle.md_state.specs.View.{Disk, ArrayView}
 use Rattle.md_state.specs.DeviceChanges.{AreSame, EachPair, IsLeftAlone, LeavesOn}
 use Rattle.md_state.specs.Headers.{IsHeaderFor}
 

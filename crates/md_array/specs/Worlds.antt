@@ -21,7 +21,8 @@ use Rattle.md_members.specs.Members.{reads_log}
 use Rattle.md_assembly.specs.declared.state.MemberState.{MemberState}
 use Rattle.md_assembly.specs.declared.state.MemberState.TheVariants.{InSync, Recovering, Stale, Spare, Faulty}
 use Rattle.md_assembly.specs.States.{role_in, has_recovery_offset}
-use Rattle.md_state.specs.View.{Disk, MemberView, ArrayView, MirrorView}
+use Rattle.md_kept_members.specs.View.{MemberView}
+use Rattle.md_state.specs.View.{Disk, ArrayView, MirrorView}
 use Rattle.md_state.specs.Members.{clean_offset}
 
 abbrev pub kind_of : MemberState → model.State

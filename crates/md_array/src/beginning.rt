@@ -1,14 +1,15 @@
 // Beginning a request.
 ghost use Rattle.std.specs.Prelude.{◌≡◌, ◌+◌, ◌/◌, ◌%◌, IfOk, MatchResult, length};
+ghost use Rattle.md_requests.specs.Pending.{PendingView};
 ghost use Rattle.md_state.specs.Beginning.{Begins, RefusesBegin};
 ghost use Rattle.md_state.specs.Requests.{IsPending};
-ghost use Rattle.md_state.specs.View.{PendingView};
 ghost use Rattle.md_array.specs.Consistency.{IsConsistent};
 ghost use Rattle.md_array.specs.Events.{BeginHappens};
 
 use crate::mirror::Mirror;
 use md_device::Device;
-use md_state::{BeginFault, Pending};
+use md_requests::Pending;
+use md_state::BeginFault;
 
 impl<D: Device + Drop> Mirror<D> {
     /// Begins a request to write `bytes` from this sector of the array on: enters it in the list of

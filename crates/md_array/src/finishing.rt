@@ -1,14 +1,15 @@
 // Finishing a request.
 ghost use Rattle.std.specs.Prelude.{◌≡◌, ◌≢◌, IfErr, MatchResult, OnOk};
+ghost use Rattle.md_requests.specs.Pending.{PendingView};
 ghost use Rattle.md_state.specs.Finishing.{Finishes, RefusesFinish};
 ghost use Rattle.md_state.specs.Requests.{IsPending};
-ghost use Rattle.md_state.specs.View.{PendingView};
 ghost use Rattle.md_array.specs.Consistency.{IsConsistent};
 ghost use Rattle.md_array.specs.Events.{FinishHappens};
 
 use crate::mirror::Mirror;
 use md_device::Device;
-use md_state::{FinishFault, Pending};
+use md_requests::Pending;
+use md_state::FinishFault;
 
 impl<D: Device + Drop> Mirror<D> {
     /// Takes a request that every member in sync has out of those in flight, or gives it back with the

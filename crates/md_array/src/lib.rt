@@ -23,8 +23,9 @@ mod storing_marks;
 mod writing_member;
 
 pub use fault::OpenFault;
+pub use md_requests::Pending;
 pub use md_state::{
-    BeginFault, CleanFault, ClearFault, CopyFault, FailFault, FinishFault, Pending, RemoveFault,
-    StoreFault, WriteMemberFault,
+    BeginFault, CleanFault, ClearFault, CopyFault, FailFault, FinishFault, RemoveFault, StoreFault,
+    WriteMemberFault,
 };
 pub use mirror::Mirror;

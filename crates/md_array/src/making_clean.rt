@@ -1,8 +1,8 @@
 // Making an active array clean.
 ghost use Rattle.std.specs.Prelude.{MatchResult};
+ghost use Rattle.md_requests.specs.Pending.{PendingView};
 ghost use Rattle.md_state.specs.MakingClean.{MakesClean, RefusesClean};
 ghost use Rattle.md_state.specs.Requests.{IsPending};
-ghost use Rattle.md_state.specs.View.{PendingView};
 ghost use Rattle.md_array.specs.Consistency.{IsConsistent};
 ghost use Rattle.md_array.specs.Events.{CleanHappens};
 

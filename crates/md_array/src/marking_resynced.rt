@@ -1,9 +1,9 @@
 // Keeping whether the array is resynced.
 ghost use Rattle.std.specs.Prelude.{true, false};
 ghost use Rattle.md_model.specs.Events.{Event};
+ghost use Rattle.md_requests.specs.Pending.{PendingView};
 ghost use Rattle.md_state.specs.MakingClean.{IsIdle};
 ghost use Rattle.md_state.specs.Requests.{IsPending};
-ghost use Rattle.md_state.specs.View.{PendingView};
 ghost use Rattle.md_array.specs.Consistency.{IsConsistent};
 ghost use Rattle.md_array.specs.Events.{Happens};
 ghost use Rattle.md_array.specs.MarkingResynced.{AllAgreeWhereMarked, BecomesResynced, MarksResynced};

@@ -1,14 +1,17 @@
 // The mirror, and what can be seen of it.
 ghost use Rattle.std.specs.Prelude.{◌≡◌, ◌↔◌, ◌<◌, ℕ, IsTrue, Some, length, map, option_map, slice_get};
 ghost use Rattle.std.specs.Int.{bit_at, div_ceil};
-ghost use Rattle.md_state.specs.Members.{IsMember, IsPermitted, NeedsMarks, is_degraded};
-ghost use Rattle.md_state.specs.View.{MemberView, disk_of};
+ghost use Rattle.md_kept_members.specs.View.{MemberView};
+ghost use Rattle.md_kept_members.specs.Members.{NeedsMarks};
+ghost use Rattle.md_state.specs.View.{disk_of};
+ghost use Rattle.md_state.specs.Members.{IsMember, IsPermitted, is_degraded};
 
 use md_assembly::MemberState;
 use md_badblocks::BadSet;
 use md_bitmap::{Chunks, Marks};
 use md_device::Device;
-use md_state::{Array, needs_marks};
+use md_kept_members::needs_marks;
+use md_state::Array;
 use md_super::Superblock;
 use std::marker::Model;
 

@@ -1,8 +1,8 @@
 // What a member lacks.
 ghost use Rattle.std.specs.Prelude.{◌<◌, IfOk, length};
+ghost use Rattle.md_kept_members.specs.View.{MemberView};
 ghost use Rattle.md_state.specs.Members.{IsMember};
 ghost use Rattle.md_state.specs.Missing.{AreMissing};
-ghost use Rattle.md_state.specs.View.{MemberView};
 
 use crate::mirror::Mirror;
 use md_bitmap::Marks;

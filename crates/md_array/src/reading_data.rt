@@ -1,11 +1,12 @@
 // Reading sectors of the array from a member.
 ghost use Rattle.std.specs.Prelude.{◌≡◌, ◌+◌, ◌*◌, ◌/◌, ◌%◌, ◌<◌, ◌≤◌, MatchResult, Some, length, map, slice_get, true};
 ghost use Rattle.md_device.specs.Device.{held};
+ghost use Rattle.md_requests.specs.Pending.{PendingView};
 ghost use Rattle.md_state.specs.DeviceChanges.{IsUntouched};
 ghost use Rattle.md_state.specs.DiskWrites.{AtDevice};
 ghost use Rattle.md_state.specs.ReadingData.{FailsToRead, ReadsData};
 ghost use Rattle.md_state.specs.Requests.{IsPending};
-ghost use Rattle.md_state.specs.View.{Disk, PendingView, disk_of};
+ghost use Rattle.md_state.specs.View.{Disk, disk_of};
 ghost use Rattle.md_array.specs.Consistency.{IsConsistent};
 
 use crate::mirror::Mirror;

@@ -4,15 +4,16 @@ ghost use Rattle.md_device.specs.Splice.{SameOutside};
 ghost use Rattle.md_members.specs.Members.{sectors_of};
 ghost use Rattle.md_super.specs.Merge.{merged};
 ghost use Rattle.md_writes.specs.Writes.{MakesWrites};
+ghost use Rattle.md_requests.specs.Pending.{PendingView};
 ghost use Rattle.md_state.specs.Requests.{IsPending};
-ghost use Rattle.md_state.specs.View.{PendingView};
 ghost use Rattle.md_array.specs.Consistency.{IsConsistent};
 ghost use Rattle.md_array.specs.Events.{RecordHappens};
 ghost use Rattle.md_array.specs.Recording.{IsReadable, Records, RefusesRecord, super_write};
 
 use crate::mirror::Mirror;
 use md_device::{Device, WriteFault};
-use md_state::{Array, Member, StoreFault};
+use md_kept_members::Member;
+use md_state::{Array, StoreFault};
 use md_super::{SUPER_SECTOR, encode_member};
 use md_writes::put;
 

@@ -1,8 +1,9 @@
 // Removing a member.
 ghost use Rattle.std.specs.Prelude.{◌<◌, MatchResult, length};
+ghost use Rattle.md_requests.specs.Pending.{PendingView};
 ghost use Rattle.md_state.specs.Removing.{RefusesRemove, Removes};
 ghost use Rattle.md_state.specs.Requests.{IsPending};
-ghost use Rattle.md_state.specs.View.{PendingView, disk_of};
+ghost use Rattle.md_state.specs.View.{disk_of};
 ghost use Rattle.md_array.specs.Consistency.{IsConsistent};
 ghost use Rattle.md_array.specs.MemberEvents.{RemoveHappens};
 

@@ -3,15 +3,15 @@ ghost use Rattle.std.specs.Prelude.{◌≡◌, ◌↔◌, ◌<◌, ◌≤◌, �
 ghost use Rattle.md_bitmap.specs.Marks.{is_set};
 ghost use Rattle.md_members.specs.Areas.{bitmap_sectors};
 ghost use Rattle.md_model.specs.Sectors.{block_of};
+ghost use Rattle.md_kept_members.specs.View.{MemberView};
 ghost use Rattle.md_state.specs.Members.{IsMember};
-ghost use Rattle.md_state.specs.View.{MemberView};
 ghost use Rattle.md_array.specs.Consistency.{IsConsistent};
 ghost use Rattle.md_array.specs.InTurn.{HasSector};
 
 use crate::mirror::Mirror;
 use md_bitmap::Marks;
 use md_device::Device;
-use md_state::{CHUNKS_OF_HEADER, CHUNKS_OF_SECTOR};
+use md_kept_members::{CHUNKS_OF_HEADER, CHUNKS_OF_SECTOR};
 
 impl<D: Device + Drop> Mirror<D> {
     /// Whether the bits of this sector of the bitmap are stored on member k as the marks in memory are, as

@@ -1,7 +1,7 @@
 // Storing marks on the members.
 ghost use Rattle.std.specs.Prelude.{◌≤◌, ◌≤ℤ◌, ◌+ℤ◌, pos, OnOk, OnErr, MatchResult, map};
 ghost use Rattle.md_members.specs.Reading.{BitmapStartsAt};
-ghost use Rattle.md_state.specs.Members.{NeedsMarks};
+ghost use Rattle.md_kept_members.specs.Members.{NeedsMarks};
 ghost use Rattle.md_state.specs.DeviceChanges.{StaysHonest};
 ghost use Rattle.md_state.specs.View.{disk_of};
 ghost use Rattle.md_array.specs.Fits.{Fits, FitsMember};
@@ -9,7 +9,8 @@ ghost use Rattle.md_array.specs.Storing.{AreMarked, FailsToStore, IsMarkedBy, Re
 
 use crate::fault::OpenFault;
 use md_device::{Device, WriteFault};
-use md_state::{Array, Member, needs_marks};
+use md_kept_members::{Member, needs_marks};
+use md_state::Array;
 use md_super::{SUPER_SECTOR, Superblock};
 use md_writes::store_bitmap;
 

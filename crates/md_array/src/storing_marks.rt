@@ -3,9 +3,10 @@ ghost use Rattle.std.specs.Prelude.{◌<◌, ◌*◌, [], ◌∷◌, MatchResult
 ghost use Rattle.md_device.specs.Splice.{SameOutside};
 ghost use Rattle.md_members.specs.Areas.{bitmap_sectors};
 ghost use Rattle.md_writes.specs.Writes.{MakesWrites, Write};
+ghost use Rattle.md_requests.specs.Pending.{PendingView};
 ghost use Rattle.md_state.specs.Requests.{IsPending};
 ghost use Rattle.md_state.specs.StoringMarks.{IsMarkWrite, RefusesMarkSector, StoresMarkSector};
-ghost use Rattle.md_state.specs.View.{PendingView, disk_of};
+ghost use Rattle.md_state.specs.View.{disk_of};
 ghost use Rattle.md_array.specs.Consistency.{IsConsistent};
 ghost use Rattle.md_array.specs.Fits.{FitsMember};
 ghost use Rattle.md_array.specs.Events.{StoreMarksHappens};
@@ -13,7 +14,8 @@ ghost use Rattle.md_array.specs.Events.{StoreMarksHappens};
 use crate::mirror::Mirror;
 use crate::storing::bitmap_start;
 use md_device::{Device, WriteFault};
-use md_state::{Array, Member, StoreFault};
+use md_kept_members::Member;
+use md_state::{Array, StoreFault};
 use md_writes::store_bitmap_sector;
 
 impl<D: Device + Drop> Mirror<D> {

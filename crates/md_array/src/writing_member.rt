@@ -1,15 +1,17 @@
 // Writing a request's bytes to a member.
 ghost use Rattle.std.specs.Prelude.{◌≡◌, ◌+◌, ◌*◌, ◌%◌, ◌<◌, ◌≤◌, Some, MatchResult, length, map, slice_get};
+ghost use Rattle.md_requests.specs.Pending.{PendingView};
 ghost use Rattle.md_state.specs.DiskWrites.{IsFailed, IsWritten};
 ghost use Rattle.md_state.specs.Requests.{IsPending};
-ghost use Rattle.md_state.specs.View.{Disk, PendingView, disk_of};
+ghost use Rattle.md_state.specs.View.{Disk, disk_of};
 ghost use Rattle.md_state.specs.WritingMember.{RefusesWriteMember, WritesTo};
 ghost use Rattle.md_array.specs.Consistency.{IsConsistent};
 ghost use Rattle.md_array.specs.Events.{WriteMemberHappens};
 
 use crate::mirror::Mirror;
 use md_device::{Device, WriteFault};
-use md_state::{Pending, WriteMemberFault};
+use md_requests::Pending;
+use md_state::WriteMemberFault;
 use md_writes::put;
 
 impl<D: Device + Drop> Mirror<D> {

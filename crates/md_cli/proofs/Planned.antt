@@ -1,6 +1,7 @@
 -- Why a rebuild is not planned.
 use Rattle.std.proofs.Common.{◌≡◌, ℕ, List, Result, Err}
-use Rattle.md_state.specs.View.{ArrayView, MemberView}
+use Rattle.md_kept_members.specs.View.{MemberView}
+use Rattle.md_state.specs.View.{ArrayView}
 use Rattle.md_state.specs.Members.{IsMember}
 use Rattle.md_cert.specs.declared.table.Row.{Row}
 use Rattle.md_copy.specs.declared.fault.RebuildFault.{RebuildFault}

@@ -8,7 +8,8 @@ use Rattle.md_cert.specs.Plans.{IsCertified}
 use Rattle.md_cert.specs.Tables.{orphans_of}
 use Rattle.md_cert.specs.Verdicts.{IsVerdict}
 use Rattle.md_plan.specs.declared.planner.Planned.{Planned}
-use Rattle.md_state.specs.View.{ArrayView, MemberView}
+use Rattle.md_kept_members.specs.View.{MemberView}
+use Rattle.md_state.specs.View.{ArrayView}
 use Rattle.md_state.specs.Members.{IsMember}
 use Rattle.md_copy.specs.Sources.{IsTableOf}
 use Rattle.md_copy.specs.Targets.{IsTarget}

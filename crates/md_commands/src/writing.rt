@@ -1,7 +1,7 @@
 // The command that writes to an array.
 ghost use Rattle.std.specs.Prelude.{◌≡◌, ◌%◌, MatchResult, length};
+ghost use Rattle.md_requests.specs.Pending.{PendingView};
 ghost use Rattle.md_state.specs.Requests.{IsPending};
-ghost use Rattle.md_state.specs.View.{PendingView};
 ghost use Rattle.md_array.specs.Consistency.{IsConsistent};
 ghost use Rattle.md_commands.specs.Stopping.{StopsAfter};
 ghost use Rattle.md_commands.specs.Writing.{RefusesBytes, RefusesToWrite, WritesArray, WritesReadied};

@@ -8,9 +8,10 @@ use Rattle.md_badblocks.specs.declared.run.Run.{Run}
 use Rattle.md_badblocks.specs.Runs.{IsBad, LiesIn, RisesFrom}
 use Rattle.md_bitmap.specs.Chunks.{InChunk}
 use Rattle.md_bitmap.specs.Marks.{Bitmap, is_set}
-use Rattle.md_state.specs.View.{ArrayView, MemberView}
+use Rattle.md_kept_members.specs.View.{MemberView}
+use Rattle.md_kept_members.specs.Permitting.{ListsAny}
+use Rattle.md_state.specs.View.{ArrayView}
 use Rattle.md_state.specs.Members.{IsInSync}
-use Rattle.md_state.specs.Permitting.{ListsAny}
 use Rattle.md_copy.specs.Sources.{KeepsMarks}
 
 -- the run that has a bad sector

@@ -5,7 +5,8 @@ use Rattle.std.proofs.lemmas.List.{map-append}
 use Rattle.std.proofs.lemmas.List.Elements.{filter-append}
 use Rattle.md_cert.specs.declared.table.Row.{Row}
 use Rattle.md_cert.specs.Tables.{chunks_of}
-use Rattle.md_state.specs.View.{ArrayView, MemberView}
+use Rattle.md_kept_members.specs.View.{MemberView}
+use Rattle.md_state.specs.View.{ArrayView}
 use Rattle.md_copy.specs.Sources.{is_missing}
 
 range_more : (a n : ℕ) → range_with_len a (suc n) ≡ range_with_len a n ++ (a + n) ∷ []

@@ -8,10 +8,11 @@ use Rattle.std.proofs.lemmas.Option.{slice_get_within}
 use Rattle.md_assembly.specs.declared.state.MemberState.{MemberState}
 use Rattle.md_assembly.specs.declared.state.MemberState.TheVariants.{InSync, Recovering, Stale, Spare, Faulty}
 use Rattle.md_assembly.specs.States.{is_in_sync}
-use Rattle.md_state.specs.View.{ArrayView, MemberView}
-use Rattle.md_state.specs.Members.{is_in_sync_as}
-use Rattle.md_state.proofs.Members.Indices.{cases_more}
-use Rattle.md_state.proofs.Members.Roles.{zero_bits}
+use Rattle.md_kept_members.specs.View.{MemberView}
+use Rattle.md_kept_members.specs.States.{is_in_sync_as}
+use Rattle.md_kept_members.proofs.Members.Roles.{zero_bits}
+use Rattle.md_kept_members.proofs.Members.Indices.{cases_more}
+use Rattle.md_state.specs.View.{ArrayView}
 use Rattle.md_copy.specs.Sources.{IsInSyncAs}
 
 -- one of the first n members is in sync in the role

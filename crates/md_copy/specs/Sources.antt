@@ -5,8 +5,10 @@ use Rattle.std.specs.List.{range_with_len}
 use Rattle.md_bitmap.specs.Marks.{Bitmap, is_set}
 use Rattle.md_cert.specs.declared.table.Row.{Row}
 use Rattle.md_cert.specs.Tables.{chunks_of}
-use Rattle.md_state.specs.View.{ArrayView, MemberView}
-use Rattle.md_state.specs.Members.{IsMember, IsPermitted, is_in_sync_as}
+use Rattle.md_kept_members.specs.View.{MemberView}
+use Rattle.md_kept_members.specs.States.{is_in_sync_as}
+use Rattle.md_state.specs.Members.{IsMember, IsPermitted}
+use Rattle.md_state.specs.View.{ArrayView}
 
 -- a member that is not in sync lacks each chunk; one that this mirror re-added lacks the marked ones
 abbrev pub is_missing : ArrayView → MemberView → ℕ → Bool

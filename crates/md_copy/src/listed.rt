@@ -1,9 +1,9 @@
 // The chunks in which some member in sync lists a sector as bad.
 ghost use Rattle.std.specs.Prelude.{◌≡◌, ◌+◌, ◌/◌, ◌^◌, ◌<◌, ◌≤◌, ℕ, true, IfOk};
 ghost use Rattle.std.specs.Int.{div_ceil};
+ghost use Rattle.md_kept_members.specs.View.{MemberView};
+ghost use Rattle.md_kept_members.specs.Permitting.{ListsAny};
 ghost use Rattle.md_state.specs.Members.{IsInSync};
-ghost use Rattle.md_state.specs.Permitting.{ListsAny};
-ghost use Rattle.md_state.specs.View.{MemberView};
 ghost use Rattle.md_badblocks.specs.Runs.{IsBad, IsCanonical, LiesIn};
 ghost use Rattle.md_bitmap.specs.Chunks.{InChunk};
 ghost use Rattle.md_bitmap.specs.Marks.{is_set};

@@ -1,10 +1,10 @@
 // The table of a rebuild.
 ghost use Rattle.std.specs.Prelude.{◌≡◌, ◌↔◌, ◌^◌, ◌<◌, ◌≤◌, ℕ, length, true, IfOk, IsErrOf};
 ghost use Rattle.std.specs.Int.{bit_at, div_ceil};
+ghost use Rattle.md_kept_members.specs.View.{MemberView};
+ghost use Rattle.md_kept_members.specs.Permitting.{ListsAny};
 ghost use Rattle.md_state.specs.InMemory.{HasChunks};
 ghost use Rattle.md_state.specs.Members.{IsInSync, IsMember, IsPermitted};
-ghost use Rattle.md_state.specs.Permitting.{ListsAny};
-ghost use Rattle.md_state.specs.View.{MemberView};
 ghost use Rattle.md_array.specs.Consistency.{IsConsistent};
 ghost use Rattle.md_bitmap.specs.Marks.{is_set};
 ghost use Rattle.md_copy.specs.Sources.{HasSources, IsInSyncAs, IsTableOf, is_missing};

@@ -1,8 +1,8 @@
 // Which members may be rebuilt.
 ghost use Rattle.std.specs.Prelude.{◌≡◌, ◌<◌, MatchBool, length};
 ghost use Rattle.md_assembly.specs.States.{takes_role};
+ghost use Rattle.md_kept_members.specs.View.{MemberView};
 ghost use Rattle.md_state.specs.Members.{IsMember};
-ghost use Rattle.md_state.specs.View.{MemberView};
 ghost use Rattle.md_copy.specs.Targets.{HasFreeRole, IsFree, IsTarget};
 
 use md_array::Mirror;

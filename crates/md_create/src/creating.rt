@@ -10,7 +10,9 @@ use crate::naming::device_uuid;
 use crate::params::{CreateParams, NewMember};
 use crate::places::{BITMAP_OFFSET, BITMAP_RESERVED, DATA_SECTOR, LOG_OFFSET, LOG_SECTORS};
 use md_bitmap::{BitmapHeader, Chunks, Marks};
-use md_super::{FAULTY, FEATURE_BITMAP_OFFSET, LEVEL, Roles, SUPER_SECTOR, Superblock};
+use md_super::{
+    CLEAN_OFFSET, FAULTY, FEATURE_BITMAP_OFFSET, LEVEL, Roles, SUPER_SECTOR, Superblock,
+};
 use std::alloc::{AllocError, Global};
 
 // The event count of a new array.
@@ -178,7 +180,7 @@ fn superblock(
         bblog_offset: LOG_OFFSET,
         utime: params.ctime,
         events: FIRST_EVENTS,
-        resync_offset: if params.assume_clean { u64::MAX } else { 0 },
+        resync_offset: if params.assume_clean { CLEAN_OFFSET } else { 0 },
         sb_csum: 0,
         roles,
     }

@@ -10,7 +10,9 @@ use crate::lines::{
 };
 use crate::sink::{Sink, SinkFault};
 use itoa::Buffer;
-use md_super::{FAULTY, FEATURE_BITMAP_OFFSET, FEATURE_RECOVERY_OFFSET, Roles, Superblock};
+use md_super::{
+    CLEAN_OFFSET, FAULTY, FEATURE_BITMAP_OFFSET, FEATURE_RECOVERY_OFFSET, Roles, Superblock,
+};
 
 // The low 40 bits of a time.
 const SECONDS: u64 = 1 << 40;
@@ -131,7 +133,7 @@ fn cleanness_line<S: Sink>(out: &mut S, v: &Superblock) -> Result<(), SinkFault>
 pub fn cleanness(v: &Superblock) -> &'static str
     ensures { result.now ≡ state_text v.now }
 {
-    if v.resync_offset == u64::MAX {
+    if v.resync_offset == CLEAN_OFFSET {
         "clean"
     } else {
         "active"

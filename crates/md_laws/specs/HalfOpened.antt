@@ -1,6 +1,7 @@
 -- What an interrupted open leaves: it was stopped, or one of its writes failed. Its own contract says what that may be.
 use Rattle.std.specs.Prelude.{◌≡◌, ◌⊎◌, ℕ, List, map, slice_get, Some}
-use Rattle.md_state.specs.View.{Disk, MemberView, ArrayView}
+use Rattle.md_kept_members.specs.View.{MemberView}
+use Rattle.md_state.specs.View.{Disk, ArrayView}
 use Rattle.md_array.specs.Storing.{AreMarked, StopsAtMember}
 use Rattle.md_array.specs.Worlds.{from_super, header_on}
 use Rattle.md_laws.specs.StopsWithin.{MayAllBeLeft}

@@ -4,7 +4,9 @@ use Rattle.std.specs.Prelude.{◌≡◌, ◌⊎◌, ℕ, ◌+◌, ◌*◌, ◌<�
 use Rattle.md_format.specs.Fields.{number_at}
 use Rattle.md_members.specs.Areas.{bitmap_sectors}
 use Rattle.md_model.specs.Worlds.{Request}
-use Rattle.md_state.specs.View.{Disk, MemberView, MirrorView, PendingView}
+use Rattle.md_requests.specs.Pending.{PendingView}
+use Rattle.md_kept_members.specs.View.{MemberView}
+use Rattle.md_state.specs.View.{Disk, MirrorView}
 use Rattle.md_state.specs.DiskWrites.{AtDevice}
 use Rattle.md_state.specs.Members.{IsMember}
 use Rattle.md_state.specs.Requests.{IsPending, among}

@@ -5,8 +5,9 @@ use Rattle.md_model.specs.Behind.{IsBehind, Leaves}
 use Rattle.md_model.specs.Content.{Content, Becomes, Holds}
 use Rattle.md_model.specs.Events.{Event}
 use Rattle.md_model.specs.Worlds.{Request}
+use Rattle.md_kept_members.specs.View.{MemberView}
 use Rattle.md_state.specs.Members.{IsInSync, is_degraded}
-use Rattle.md_state.specs.View.{Disk, MemberView, MirrorView}
+use Rattle.md_state.specs.View.{Disk, MirrorView}
 use Rattle.md_array.specs.Worlds.{geometry_of, none_in_flight, world_of}
 use Rattle.md_laws.specs.Lives.{MirrorLifeWith}
 use Rattle.md_laws.specs.Runs.{HasRested, IsStart, Moment, RestsThenDoes, then_as}

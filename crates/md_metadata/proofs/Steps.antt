@@ -9,11 +9,15 @@ use Rattle.md_bitmap.specs.Marks.{is_set}
 use Rattle.md_assembly.specs.declared.state.MemberState.{MemberState}
 use Rattle.md_assembly.specs.declared.state.MemberState.TheVariants.{InSync, Recovering, Stale, Spare, Faulty}
 use Rattle.md_assembly.specs.States.{is_in_sync}
+use Rattle.md_requests.specs.Pending.{PendingView}
+use Rattle.md_kept_members.specs.View.{MemberView}
+use Rattle.md_kept_members.specs.States.{is_recorded}
+use Rattle.md_kept_members.specs.Members.{made_due}
 use Rattle.md_state.specs.declared.step_fault.StoreFault.TheVariants.{Halted, NotActive, MemberFailed}
-use Rattle.md_state.specs.View.{ArrayView, MemberView, MirrorView, PendingView}
-use Rattle.md_state.specs.Members.{IsMember, is_recorded}
+use Rattle.md_state.specs.Members.{IsMember}
+use Rattle.md_state.specs.Rising.{Fails, made_faulty}
+use Rattle.md_state.specs.View.{ArrayView, MirrorView}
 use Rattle.md_state.specs.Requests.{AreInFlight, IsPending}
-use Rattle.md_state.specs.Rising.{Fails, made_due, made_faulty}
 use Rattle.md_state.specs.StoringMarks.{FailsToStoreMarks, RefusesMarkSector, StoresMarkSector}
 use Rattle.md_state.specs.Trying.{RefusesHalted}
 use Rattle.md_state.specs.WritingMember.{IsNotDue}

@@ -7,7 +7,8 @@ use Rattle.md_model.specs.Sectors.{block_of}
 use Rattle.md_model.proofs.Puts.{by_same}
 use Rattle.md_bitmap.specs.Marks.{Bitmap, is_set}
 use Rattle.md_bitmap.specs.Sectors.{bitmap_sectors}
-use Rattle.md_state.specs.View.{ArrayView, MemberView, MirrorView}
+use Rattle.md_kept_members.specs.View.{MemberView}
+use Rattle.md_state.specs.View.{ArrayView, MirrorView}
 use Rattle.md_state.specs.Members.{IsInSync, IsMember}
 use Rattle.md_array.specs.Consistency.{IsConsistent}
 use Rattle.md_array.specs.InTurn.{HasSector, IsSectorDue}

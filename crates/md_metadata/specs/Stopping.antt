@@ -2,7 +2,8 @@
 use Rattle.std.specs.Prelude.{◌≡◌, ◌⊎◌, ℕ, ◌<◌, Bool, true, false, cond, not, ◌&&◌, ◌==◌}
 use Rattle.md_model.specs.Events.{Event}
 use Rattle.md_bitmap.specs.Marks.{Bitmap, is_set}
-use Rattle.md_state.specs.View.{ArrayView, MemberView, MirrorView}
+use Rattle.md_kept_members.specs.View.{MemberView}
+use Rattle.md_state.specs.View.{ArrayView, MirrorView}
 use Rattle.md_state.specs.MakingClean.{CannotRise, HasInFlight, IsIdle, made_clean}
 use Rattle.md_state.specs.Members.{AllInSync, clean_offset, is_degraded}
 use Rattle.md_state.specs.Rising.{HasSpentEvents}

@@ -1,8 +1,9 @@
 // Storing the superblocks that are due.
 ghost use Rattle.std.specs.Prelude.{◌≡◌, ◌<◌, ℕ, MatchResult, Some, length, true, false};
 ghost use Rattle.md_model.specs.Events.{Event};
-ghost use Rattle.md_state.specs.Members.{AllInSync, IsInSync, IsMember, is_recorded};
-ghost use Rattle.md_state.specs.View.{MemberView};
+ghost use Rattle.md_kept_members.specs.View.{MemberView};
+ghost use Rattle.md_kept_members.specs.States.{is_recorded};
+ghost use Rattle.md_state.specs.Members.{AllInSync, IsInSync, IsMember};
 ghost use Rattle.md_state.specs.WritingMember.{IsNotDue};
 ghost use Rattle.md_array.specs.Consistency.{IsConsistent};
 ghost use Rattle.md_metadata.specs.Storing.{IsRecording, RecordsAll, RecordsAt, RecordsOn, StoresAll, StoresAt, StopsRecording, StopsStoring};

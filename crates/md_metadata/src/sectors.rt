@@ -2,8 +2,8 @@
 ghost use Rattle.std.specs.Prelude.{◌≡◌, ◌<◌, MatchResult, length, true, false};
 ghost use Rattle.md_members.specs.Areas.{bitmap_sectors};
 ghost use Rattle.md_assembly.specs.States.{is_in_sync};
+ghost use Rattle.md_kept_members.specs.View.{MemberView};
 ghost use Rattle.md_state.specs.Members.{IsMember};
-ghost use Rattle.md_state.specs.View.{MemberView};
 ghost use Rattle.md_array.specs.Consistency.{IsConsistent};
 ghost use Rattle.md_array.specs.InTurn.{IsSectorDue};
 ghost use Rattle.md_metadata.specs.Storing.{IsSector, StoresOn, StopsStoring};

@@ -1,9 +1,9 @@
 // Stopping an array.
 ghost use Rattle.std.specs.Prelude.{◌≡◌, MatchResult, true, false};
+ghost use Rattle.md_requests.specs.Pending.{PendingView};
 ghost use Rattle.md_state.specs.MakingClean.{IsIdle};
 ghost use Rattle.md_state.specs.Requests.{IsPending};
 ghost use Rattle.md_state.specs.Rising.{HasSpentEvents};
-ghost use Rattle.md_state.specs.View.{PendingView};
 ghost use Rattle.md_array.specs.Consistency.{IsConsistent};
 ghost use Rattle.md_metadata.specs.Stopping.{CleansIfActive, ClearsIfFull, HasAllMarksIf, IsStoringIf, MayStop, RefusesStop, Stops, StoresSettled, clears_marks, makes_clean};
 ghost use Rattle.md_metadata.specs.Storing.{StopsStoring, StoresAll};
@@ -15,9 +15,7 @@ use crate::records::{store_other_records, store_records};
 use crate::stop_fault::StopFault;
 use md_array::Mirror;
 use md_device::Device;
-
-// The `resync_offset` of a clean array.
-const CLEAN_OFFSET: u64 = u64::MAX;
+use md_super::CLEAN_OFFSET;
 
 /// Leaves the array as an assembly expects to find it. Where it is resynced and not degraded, no chunk is marked
 /// any more; where it is resynced, it is clean; and every superblock that is due is stored. Of a bitmap the

@@ -8,14 +8,16 @@ use Rattle.md_model.proofs.Puts.{by_same}
 use Rattle.md_assembly.specs.declared.state.MemberState.{MemberState}
 use Rattle.md_array.proofs.General.Indices.{got_within}
 use Rattle.md_array.proofs.Worlds.SectorCopied.{in_sync_as}
+use Rattle.md_kept_members.specs.View.{MemberView}
+use Rattle.md_kept_members.specs.States.{is_in_sync_as}
 use Rattle.md_state.specs.CopyingData.{Lists}
 use Rattle.md_state.specs.DiskWrites.{AtDevice}
 use Rattle.md_array.specs.Consistency.{IsConsistent}
 use Rattle.md_device.specs.Device.{held}
-use Rattle.md_state.specs.Members.{IsMember, is_in_sync_as}
+use Rattle.md_state.specs.Members.{IsMember}
 use Rattle.md_state.specs.ReadingData.{FailsToRead, ReadsData}
+use Rattle.md_state.specs.View.{ArrayView, MirrorView}
 use Rattle.md_state.specs.Rests.{Rests}
-use Rattle.md_state.specs.View.{ArrayView, MemberView, MirrorView}
 use Rattle.md_read.specs.declared.roles.Answer.{Answer}
 use Rattle.md_read.specs.declared.roles.Answer.TheVariants as answer
 use Rattle.md_read.specs.Reading.{GivesIn, HasRole, IsInRole, NotGivenIn, TriesRole}

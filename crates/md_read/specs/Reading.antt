@@ -5,15 +5,17 @@ use Rattle.md_badblocks.specs.declared.run.Run.{Run}
 use Rattle.md_device.specs.Device.{held}
 use Rattle.md_model.specs.Content.{Content, HoldsAtRest}
 use Rattle.md_model.specs.Worlds.{IsQuiet, Request}
+use Rattle.md_kept_members.specs.View.{MemberView}
+use Rattle.md_kept_members.specs.States.{is_in_sync_as}
 use Rattle.md_state.specs.Beginning.{IsInRange, IsOutOfRange}
 use Rattle.md_state.specs.CopyingData.{Lists}
 use Rattle.md_state.specs.DiskWrites.{AtDevice}
-use Rattle.md_state.specs.Members.{IsMember, is_in_sync_as}
+use Rattle.md_state.specs.Members.{IsMember}
 use Rattle.md_state.specs.ReadingData.{HoldsData}
 use Rattle.md_state.specs.Requests.{AreInFlight}
 use Rattle.md_state.specs.Rests.{Rests}
+use Rattle.md_state.specs.View.{ArrayView, MirrorView}
 use Rattle.md_state.specs.Trying.{Refuses, RefusesHalted}
-use Rattle.md_state.specs.View.{ArrayView, MemberView, MirrorView}
 use Rattle.md_array.specs.Worlds.{AreHonest, geometry_of, world_of}
 use Rattle.md_read.specs.declared.fault.UnreadFault.{UnreadFault}
 use Rattle.md_read.specs.declared.fault.UnreadFault.TheVariants.{Halted, NotResynced, OutOfRange, Unreadable}

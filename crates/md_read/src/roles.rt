@@ -1,9 +1,10 @@
 // Reading sectors of the array in one role.
 ghost use Rattle.std.specs.Prelude.{◌≡◌, ◌+◌, ◌*◌, ◌/◌, ◌%◌, ◌<◌, ◌≤◌, ◌↔◌, ℕ, MatchOption, length, true};
 ghost use Rattle.std.specs.List.{list_any};
-ghost use Rattle.md_state.specs.Members.{IsMember, is_in_sync_as};
+ghost use Rattle.md_kept_members.specs.View.{MemberView};
+ghost use Rattle.md_kept_members.specs.States.{is_in_sync_as};
+ghost use Rattle.md_state.specs.Members.{IsMember};
 ghost use Rattle.md_state.specs.CopyingData.{Lists};
-ghost use Rattle.md_state.specs.View.{MemberView};
 ghost use Rattle.md_array.specs.Consistency.{IsConsistent};
 ghost use Rattle.md_read.specs.Reading.{HasRole, IsInRole, TriesRole, has_all};
 

@@ -7,7 +7,7 @@ use Rattle.std.proofs.lemmas.Option.{get_or_from_slice_get, same_Some}
 use Rattle.md_super.specs.declared.superblock.Superblock.{Superblock}
 use Rattle.md_assembly.specs.declared.state.MemberState.{MemberState}
 use Rattle.md_assembly.specs.States.{is_in_sync}
-use Rattle.md_state.specs.View.{MemberView}
+use Rattle.md_kept_members.specs.View.{MemberView}
 use Rattle.md_report.specs.DetailReport.{member_lines, member_text}
 
 -- how many of the first k members are in sync

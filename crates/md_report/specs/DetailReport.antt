@@ -7,8 +7,9 @@ use Rattle.md_assembly.specs.declared.state.MemberState.{MemberState}
 use Rattle.md_assembly.specs.declared.state.MemberState.TheVariants.{InSync, Recovering, Stale, Spare, Faulty}
 use Rattle.md_assembly.specs.States.{role_of}
 use Rattle.md_bitmap.specs.Marks.{Bitmap}
+use Rattle.md_kept_members.specs.View.{MemberView}
 use Rattle.md_state.specs.Members.{is_degraded}
-use Rattle.md_state.specs.View.{ArrayView, MemberView}
+use Rattle.md_state.specs.View.{ArrayView}
 use Rattle.md_examine.specs.Lines.{column, line_text, name_text, right_aligned, sectors_text}
 use Rattle.md_report.specs.SummaryReport.{in_sync_members, marked_chunks}
 use Rattle.md_examine.specs.SuperblockReport.{state_text}

@@ -2,11 +2,13 @@
 use Rattle.std.proofs.Common.{◌≡◌, ℕ, ◌<◌, Bool, true, false, List, [], ◌∷◌, ◌++◌, length, slice_get, Option, None, refl, sym, ap, ◌∙◌, subst, inr}
 use Rattle.std.proofs.lemmas.Option.{none-some}
 use Rattle.md_model.specs.Events.{Event}
+use Rattle.md_requests.specs.Pending.{PendingView, extent_of}
+use Rattle.md_kept_members.specs.View.{MemberView}
 use Rattle.md_state.specs.DiskWrites.{AtDevice}
-use Rattle.md_state.specs.View.{ArrayView, Disk, MemberView, MirrorView, PendingView}
+use Rattle.md_state.specs.View.{ArrayView, Disk, MirrorView}
 use Rattle.md_state.specs.MakingClean.{IsIdle, first_number}
+use Rattle.md_state.specs.Requests.{AreInFlight, IsPending}
 use Rattle.md_state.specs.Members.{AllInSync}
-use Rattle.md_state.specs.Requests.{AreInFlight, IsPending, extent_of}
 use Rattle.md_array.specs.Consistency.{IsConsistent}
 use Rattle.md_array.specs.InTurn.{Requests}
 use Rattle.md_array.proofs.Steps.MadeClean.{none_listed}

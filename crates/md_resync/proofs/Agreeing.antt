@@ -6,7 +6,8 @@ use Rattle.md_model.specs.Content.{Becomes, Content, HoldsBetween}
 use Rattle.md_model.specs.Sectors.{Geometry}
 use Rattle.md_model.specs.Events.{Event}
 use Rattle.md_model.specs.Worlds.{World}
-use Rattle.md_state.specs.View.{ArrayView, Disk, MemberView, MirrorView}
+use Rattle.md_kept_members.specs.View.{MemberView}
+use Rattle.md_state.specs.View.{ArrayView, Disk, MirrorView}
 use Rattle.md_state.specs.MakingClean.{IsIdle}
 use Rattle.md_state.specs.Members.{IsAlone, IsInSync}
 use Rattle.md_state.specs.Requests.{AreInFlight}

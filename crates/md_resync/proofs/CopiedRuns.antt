@@ -9,7 +9,8 @@ use Rattle.md_device.proofs.Splices.{part_after, part_before, part-spliced}
 use Rattle.md_model.specs.Events.{Event}
 use Rattle.md_model.proofs.Puts.{by_same}
 use Rattle.md_writes.specs.Writes.{Write}
-use Rattle.md_state.specs.View.{ArrayView, Disk, MemberView, MirrorView}
+use Rattle.md_kept_members.specs.View.{MemberView}
+use Rattle.md_state.specs.View.{ArrayView, Disk, MirrorView}
 use Rattle.md_state.specs.CopyingData.{CopiesTo, IsCopy, RefusesCopy, copies_of, run_write}
 use Rattle.md_state.specs.declared.copy_fault.CopyFault.TheVariants as copy_fault
 use Rattle.md_state.specs.MakingClean.{IsIdle}

@@ -11,11 +11,13 @@ use Rattle.md_bitmap.specs.Marks.{Bitmap}
 use Rattle.md_model.specs.Devices.{Stored}
 use Rattle.md_model.specs.Events.{Event}
 use Rattle.md_writes.specs.Writes.{Write}
+use Rattle.md_requests.specs.declared.extent.Extent.{Extent}
+use Rattle.md_kept_members.specs.View.{MemberView}
 use Rattle.md_state.specs.CopyingData.{Lists}
 use Rattle.md_state.specs.DeviceChanges.{AreSame}
 use Rattle.md_state.specs.Members.{IsInSync}
 use Rattle.md_state.specs.StoringMarks.{StoresMarkSector}
-use Rattle.md_state.specs.View.{ArrayView, Disk, MemberView, MirrorView}
+use Rattle.md_state.specs.View.{ArrayView, Disk, MirrorView}
 use Rattle.md_array.specs.Consistency.{IsConsistent}
 use Rattle.md_array.specs.InTurn.{AllOf, HaltsAt, IsSectorDue, Leads, Requests}
 use Rattle.md_array.specs.MarkingResynced.{AllAgreeAt, IsServed, sector_of}
@@ -25,7 +27,6 @@ use Rattle.md_laws.proofs.Runs.ReadTurns.{unread}
 use Rattle.md_metadata.specs.Going as metadata
 use Rattle.md_metadata.specs.Going.{alone}
 use Rattle.md_inflight.specs.Inflight.{InflightList}
-use Rattle.md_state.specs.declared.extent.Extent.{Extent}
 use Rattle.md_metadata.specs.Storing.{HasAllMarks, IsMarking, IsStored, LosesStoring, StoresAll}
 use Rattle.md_state.specs.MakingClean.{IsIdle, first_number}
 use Rattle.md_state.specs.Requests.{AreInFlight}

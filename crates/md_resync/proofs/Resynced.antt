@@ -8,9 +8,11 @@ use Rattle.md_assembly.specs.States.{is_in_sync}
 use Rattle.md_model.specs.Content.{HoldsBetween}
 use Rattle.md_model.specs.Events.{Event}
 use Rattle.md_model.specs.Sectors.{Geometry}
-use Rattle.md_state.specs.View.{ArrayView, MemberView, MirrorView}
+use Rattle.md_kept_members.specs.View.{MemberView}
+use Rattle.md_kept_members.specs.States.{is_in_sync_as, is_recorded}
+use Rattle.md_state.specs.View.{ArrayView, MirrorView}
+use Rattle.md_state.specs.Members.{AllInSync, is_degraded, is_filled}
 use Rattle.md_state.specs.MakingClean.{IsIdle}
-use Rattle.md_state.specs.Members.{AllInSync, is_degraded, is_filled, is_in_sync_as, is_recorded}
 use Rattle.md_array.specs.Consistency.{IsConsistent}
 use Rattle.md_array.specs.Events.{Happens}
 use Rattle.md_array.specs.MarkingResynced.{AllAgreeAt, BecomesResynced}

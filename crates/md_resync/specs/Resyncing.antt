@@ -3,13 +3,14 @@ use Rattle.std.specs.Prelude.{◌≡◌, ◌⊎◌, ℕ, ◌<◌, ◌≤◌, ◌
 use Rattle.md_bitmap.specs.Marks.{is_set}
 use Rattle.md_model.specs.Content.{Content, HoldsBetween}
 use Rattle.md_model.specs.Events.{Event}
+use Rattle.md_kept_members.specs.View.{MemberView}
 use Rattle.md_state.specs.DeviceChanges.{AreSame}
 use Rattle.md_state.specs.DiskWrites.{AtDevice}
 use Rattle.md_state.specs.MakingClean.{HasInFlight, IsIdle}
 use Rattle.md_state.specs.Members.{AllInSync, IsInSync, IsMember, is_degraded}
 use Rattle.md_state.specs.Requests.{AreInFlight}
 use Rattle.md_state.specs.Trying.{Refuses, RefusesHalted}
-use Rattle.md_state.specs.View.{ArrayView, MemberView, MirrorView}
+use Rattle.md_state.specs.View.{ArrayView, MirrorView}
 use Rattle.md_array.specs.Consistency.{IsConsistent}
 use Rattle.md_array.specs.Events.{Happens}
 use Rattle.md_array.specs.InTurn.{AllOf, HaltsAt, Requests}

@@ -1,8 +1,10 @@
 -- Which member may give a sector.
 use Rattle.std.specs.Prelude.{◌≡◌, ℕ, ◌<◌, ◌≤◌, true, cond, nat_le, Option, Some, None}
+use Rattle.md_kept_members.specs.View.{MemberView}
+use Rattle.md_kept_members.specs.States.{is_in_sync_as}
 use Rattle.md_state.specs.CopyingData.{Lists}
-use Rattle.md_state.specs.Members.{IsMember, is_in_sync_as}
-use Rattle.md_state.specs.View.{ArrayView, MemberView}
+use Rattle.md_state.specs.View.{ArrayView}
+use Rattle.md_state.specs.Members.{IsMember}
 
 -- the member is in sync in this role, and does not list the sector
 pub record IsFree (role sector : ℕ) (m : MemberView) : Type 0 where

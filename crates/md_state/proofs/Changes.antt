@@ -2,8 +2,6 @@
 
 -- The roles of absent devices are gone through in their order.
 pub mod AbsentRoles
--- The marks of a bitmap's sector are copied one by one.
-pub mod BlockCopied
 -- An array that is made clean, in memory.
 pub mod Cleaned
 -- A superblock's profile is a fact, so that any two proofs of it are one.

@@ -1,14 +1,8 @@
--- Members by their indices, and what is found by going through them.
+-- Members of an array by their indices, and what is found by going through them.
 
 -- Members of an array that are read by their indices.
 pub mod At
--- At most one element of a list passes a test where it counts at most one.
-pub mod Counting
 -- The first member in sync that lacks something, found by a test of each.
 pub mod FirstLacking
--- Elements of lists by their indices.
-pub mod Indices
--- A function is applied to the elements of a list in turn.
-pub mod Mapping
--- Which roles are found as bits of a word, member by member.
-pub mod Roles
+-- The roles in which a chunk of the array may be read, by what is found in the list of its members.
+pub mod Permitted

@@ -1,10 +1,12 @@
 -- What is looked at before something is stored on a member.
 use Rattle.std.specs.Prelude.{◌≡◌, ℕ, true, false}
 use Rattle.md_assembly.specs.States.{is_in_sync}
+use Rattle.md_kept_members.specs.View.{MemberView}
+use Rattle.md_kept_members.specs.States.{is_recorded}
 use Rattle.md_state.specs.declared.step_fault.StoreFault.{StoreFault}
 use Rattle.md_state.specs.declared.step_fault.StoreFault.TheVariants.{Halted, NotActive, MemberFailed}
-use Rattle.md_state.specs.View.{MemberView, ArrayView}
-use Rattle.md_state.specs.Members.{IsMember, is_recorded}
+use Rattle.md_state.specs.Members.{IsMember}
+use Rattle.md_state.specs.View.{ArrayView}
 use Rattle.md_state.specs.OutOfSync.{IsInactive, IsNotInSync}
 
 -- the mirror runs, and member k is kept up to date

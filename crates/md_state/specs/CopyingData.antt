@@ -6,15 +6,17 @@ use Rattle.md_bitmap.specs.Marks.{is_set}
 use Rattle.md_device.specs.Device.{written}
 use Rattle.md_model.specs.Events.{Event}
 use Rattle.md_writes.specs.Writes.{Write}
+use Rattle.md_kept_members.specs.View.{MemberView}
+use Rattle.md_kept_members.specs.States.{is_in_sync_as}
 use Rattle.md_state.specs.declared.copy_fault.CopyFault.{CopyFault}
 use Rattle.md_state.specs.declared.copy_fault.CopyFault.TheVariants.{Halted, MemberFailed}
 use Rattle.md_state.specs.DiskWrites.{AtDevice, IsTried, IsWritten}
 use Rattle.md_state.specs.MakingClean.{IsIdle}
-use Rattle.md_state.specs.Members.{AllInSync, IsInSync, IsMember, is_in_sync_as}
+use Rattle.md_state.specs.Members.{AllInSync, IsInSync, IsMember}
 use Rattle.md_state.specs.ReadingData.{HoldsData}
 use Rattle.md_state.specs.Rising.{Fails, Halts}
+use Rattle.md_state.specs.View.{ArrayView, Disk, MirrorView}
 use Rattle.md_state.specs.Trying.{FailsWriting, HaltsWriting}
-use Rattle.md_state.specs.View.{ArrayView, Disk, MemberView, MirrorView}
 
 -- these bytes, from this sector of the member's data area on
 abbrev pub run_write : MemberView → ℕ → List ℕ → Write

@@ -1,23 +1,16 @@
 -- A member is failed by a call (set_disk_faulty and md_error in the kernel's md driver; which members may be failed, and that the
 -- count rises at once, are this project's own).
-use Rattle.std.specs.Prelude.{◌≡◌, ℕ, Bool, true, false}
-use Rattle.md_assembly.specs.declared.state.MemberState.{MemberState}
-use Rattle.md_assembly.specs.declared.state.MemberState.TheVariants.{InSync, Recovering, Stale, Spare, Faulty}
+use Rattle.std.specs.Prelude.{◌≡◌, ℕ, true, false}
+use Rattle.md_kept_members.specs.View.{MemberView}
+use Rattle.md_kept_members.specs.States.{is_active}
+use Rattle.md_kept_members.specs.Members.{HasOtherInSync, IsLastInSync}
 use Rattle.md_state.specs.declared.step_fault.FailFault.{FailFault}
 use Rattle.md_state.specs.declared.step_fault.FailFault.TheVariants.{Halted, NotActive, LastMember, EventsFull}
-use Rattle.md_state.specs.Failing.{HasOtherInSync, IsLastInSync, MayFail}
+use Rattle.md_state.specs.Failing.{MayFail}
 use Rattle.md_state.specs.Members.{IsMember}
 use Rattle.md_state.specs.Rising.{Fails, HasSpentEvents}
+use Rattle.md_state.specs.View.{ArrayView, MirrorView}
 use Rattle.md_state.specs.Trying.{Refuses, RefusesHalted}
-use Rattle.md_state.specs.View.{ArrayView, MemberView, MirrorView}
-
--- it is in sync or recovering, so that its role is not free
-abbrev pub is_active : MemberState → Bool
-is_active (InSync role) = true
-is_active (Recovering role) = true
-is_active (Stale role) = false
-is_active Spare = false
-is_active Faulty = false
 
 -- the mirror runs, and member k is active
 pub record IsRunningWith (k : ℕ) (a : ArrayView) : Type 0 where

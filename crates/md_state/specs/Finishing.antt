@@ -1,10 +1,11 @@
 -- A request that each member in sync has is no longer in flight.
 use Rattle.std.specs.Prelude.{◌≡◌, ℕ, true, false}
 use Rattle.md_inflight.specs.Inflight as inflight
+use Rattle.md_requests.specs.Pending.{PendingView, has_written}
+use Rattle.md_kept_members.specs.View.{MemberView}
 use Rattle.md_state.specs.declared.step_fault.FinishFault.{FinishFault}
 use Rattle.md_state.specs.declared.step_fault.FinishFault.TheVariants.{Halted, Unwritten, MustRecord}
-use Rattle.md_state.specs.View.{MemberView, ArrayView, MirrorView, PendingView}
-use Rattle.md_state.specs.Requests.{has_written}
+use Rattle.md_state.specs.View.{ArrayView, MirrorView}
 use Rattle.md_state.specs.Trying.{Refuses, RefusesHalted}
 use Rattle.md_state.specs.Members.{AllInSync, IsFirstInSyncWithout}
 use Rattle.md_state.specs.WritingMember.{IsNotDue}

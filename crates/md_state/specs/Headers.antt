@@ -2,7 +2,8 @@
 use Rattle.std.specs.Prelude.{◌≡◌, length}
 use Rattle.md_bitmap.specs.declared.header.BitmapHeader.{BitmapHeader}
 use Rattle.md_bitmap.specs.Header.{CountsFit, SettingsFit}
-use Rattle.md_state.specs.View.{MemberView, ArrayView}
+use Rattle.md_kept_members.specs.View.{MemberView}
+use Rattle.md_state.specs.View.{ArrayView}
 
 -- the header that is stored with a member's marks: the array's uuid, size, events and events_cleared, state 0, the rest its
 -- own; its numbers fit their fields

@@ -3,7 +3,8 @@ use Rattle.std.specs.Prelude.{◌≡◌, ℕ, ◌<◌, ◌≤◌, ◌/◌, true,
 use Rattle.std.specs.Int.{div_ceil}
 use Rattle.md_bitmap.specs.Marks.{is_set}
 use Rattle.md_assembly.specs.States.{takes_role, role_in}
-use Rattle.md_state.specs.View.{MemberView, ArrayView}
+use Rattle.md_kept_members.specs.View.{MemberView}
+use Rattle.md_state.specs.View.{ArrayView}
 use Rattle.md_state.specs.Members.{IsMember, IsInSync}
 
 -- Members have numbers of their own. One that is in sync or recovering has the role that the array's superblock gives its

@@ -1,23 +1,15 @@
--- A mirror as contracts see it: its devices, and what it keeps in memory of the array and of each member.
+-- A mirror as contracts see it: its devices, and what it keeps in memory of the array.
 pub mod View
 -- Facts of the members of an array, by their indices.
 pub mod Members
--- Where a chunk may be read, found by going through a list of members.
-pub mod Permitting
--- A member's own fields of its superblock, as they are stored next: those that were read, but for what they say of the bad
--- block log. That is this project's own.
-pub mod OwnFields
 -- Devices before and after a call.
 pub mod DeviceChanges
--- What is kept in memory of the members that were read, and of the array that they make.
-pub mod Kept
+-- What is kept in memory of the array that the members make.
+pub mod Remembered
 -- The header that is stored with marks.
 pub mod Headers
 -- What holds of an array in memory between calls: its members' roles, and its chunks.
 pub mod InMemory
--- How an array is remembered: what the members that were read have to be, and what is found by going through those that are
--- kept, in a list.
-pub mod Remembering
 -- Requests in flight: the mirror's list of them, what their callers have, and what the model says of both.
 pub mod Requests
 -- One write to one of a mirror's devices.

@@ -1,13 +1,12 @@
 -- Facts of the members of an array, by their indices.
-use Rattle.std.specs.Prelude.{◌≡◌, ℕ, ◌+◌, ◌-◌, ◌^◌, ◌<◌, ◌==◌, Bool, true, false, not, slice_get, Some}
+use Rattle.std.specs.Prelude.{◌≡◌, ℕ, ◌+◌, ◌-◌, ◌^◌, ◌<◌, Bool, true, not, slice_get, Some}
 use Rattle.std.specs.List.{list_any, range_with_len}
 use Rattle.md_bitmap.specs.Chunks.{InChunk}
 use Rattle.md_badblocks.specs.Runs.{IsBad}
-use Rattle.md_members.specs.Members.{IsAccepted}
-use Rattle.md_assembly.specs.declared.state.MemberState.{MemberState}
-use Rattle.md_assembly.specs.declared.state.MemberState.TheVariants.{InSync, Recovering, Stale, Spare, Faulty}
 use Rattle.md_assembly.specs.States.{is_in_sync}
-use Rattle.md_state.specs.View.{MemberView, ArrayView}
+use Rattle.md_kept_members.specs.View.{MemberView}
+use Rattle.md_kept_members.specs.States.{is_in_sync_as}
+use Rattle.md_state.specs.View.{ArrayView}
 
 -- this is member k
 abbrev pub IsMember : ArrayView → ℕ → MemberView → Type 0
@@ -29,19 +28,6 @@ pub record IsFirstInSyncWithout (a : ArrayView) (Holds : MemberView → Type 0) 
   pub lacks : Holds member → ⊥
   pub earlier : (i : ℕ) (m : MemberView) → i < j → IsInSync a i m → Holds m
 
--- its superblock is kept up to date
-abbrev pub is_recorded : MemberState → Bool
-is_recorded (InSync role) = true
-is_recorded (Recovering role) = true
-is_recorded (Stale role) = false
-is_recorded Spare = true
-is_recorded Faulty = false
-
--- it is in sync in this role
-abbrev pub is_in_sync_as : ℕ → MemberState → Bool
-is_in_sync_as wanted (InSync role) = role == wanted
-is_in_sync_as wanted _ = false
-
 -- some member is in sync in the role
 abbrev pub is_filled : ArrayView → ℕ → Bool
 is_filled a role = list_any (λ m. is_in_sync_as role m.state) a.members
@@ -50,11 +36,6 @@ is_filled a role = list_any (λ m. is_in_sync_as role m.state) a.members
 -- say that there are fewer members in sync than raid disks.
 abbrev pub is_degraded : ArrayView → Bool
 is_degraded a = list_any (λ role. not (is_filled a role)) (range_with_len 0 a.shared.raid_disks)
-
--- the member is in sync, and the bitmap that was read on it is not accepted: every chunk counts as marked
-pub record NeedsMarks (m : MemberView) : Type 0 where
-  pub in_sync : is_in_sync m.state ≡ true
-  pub refused : IsAccepted m.superblock m.header → ⊥
 
 -- all members in sync are one
 abbrev pub IsAlone : ArrayView → Type 0

@@ -2,7 +2,8 @@
 use Rattle.std.specs.Prelude.{◌≡◌, ℕ, ◌<◌, Bool, not, cond}
 use Rattle.md_assembly.specs.States.{is_in_sync}
 use Rattle.md_bitmap.specs.Marks.{Bitmap, is_set}
-use Rattle.md_state.specs.View.{ArrayView, MemberView}
+use Rattle.md_kept_members.specs.View.{MemberView}
+use Rattle.md_state.specs.View.{ArrayView}
 
 -- One that this mirror re-added lacks the marked chunks. Of the others, one in sync lacks none, and any other lacks each chunk.
 abbrev pub is_missing : ArrayView → MemberView → ℕ → Bool

@@ -1,8 +1,10 @@
 -- Members that a step of a running mirror refuses.
 use Rattle.std.specs.Prelude.{◌≡◌, ℕ, false}
 use Rattle.md_assembly.specs.States.{is_in_sync}
-use Rattle.md_state.specs.View.{MemberView, ArrayView}
-use Rattle.md_state.specs.Members.{IsMember, is_recorded}
+use Rattle.md_kept_members.specs.View.{MemberView}
+use Rattle.md_kept_members.specs.States.{is_recorded}
+use Rattle.md_state.specs.Members.{IsMember}
+use Rattle.md_state.specs.View.{ArrayView}
 
 -- one that is not in sync
 pub record IsNotInSync (k : ℕ) (a : ArrayView) : Type 0 where

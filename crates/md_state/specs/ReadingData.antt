@@ -1,10 +1,11 @@
 -- Sectors of the array are read from a member.
 use Rattle.std.specs.Prelude.{◌≡◌, ℕ, ◌+◌, ◌<◌, true, List, length, slice_get, Some}
 use Rattle.md_device.specs.Device.{held}
+use Rattle.md_kept_members.specs.View.{MemberView}
 use Rattle.md_state.specs.DiskWrites.{AtDevice}
 use Rattle.md_state.specs.Members.{IsMember}
 use Rattle.md_state.specs.Rests.{Rests}
-use Rattle.md_state.specs.View.{Disk, MemberView, MirrorView}
+use Rattle.md_state.specs.View.{Disk, MirrorView}
 
 -- member k holds these bytes from this sector of the array on, if its device does what it answers
 abbrev pub HoldsData : MirrorView → ℕ → ℕ → List ℕ → Type 0

@@ -1,23 +1,16 @@
 -- A member that is not in use leaves (md_kick_rdev_from_array in the kernel's md driver; that the count rises where a spare leaves is
 -- this project's own).
-use Rattle.std.specs.Prelude.{◌≡◌, ℕ, Bool, true, false, cond, not, slice_get, Some}
+use Rattle.std.specs.Prelude.{◌≡◌, ℕ, true, false, cond, not, slice_get, Some}
 use Rattle.std.specs.List.{remove}
-use Rattle.md_assembly.specs.declared.state.MemberState.{MemberState}
-use Rattle.md_assembly.specs.declared.state.MemberState.TheVariants.{InSync, Recovering, Stale, Spare, Faulty}
+use Rattle.md_kept_members.specs.View.{MemberView}
+use Rattle.md_kept_members.specs.States.{is_active, is_spare}
 use Rattle.md_state.specs.declared.step_fault.RemoveFault.{RemoveFault}
 use Rattle.md_state.specs.declared.step_fault.RemoveFault.TheVariants.{Halted, StillActive, EventsFull}
-use Rattle.md_state.specs.FailingMembers.{IsRunningWith, is_active}
+use Rattle.md_state.specs.FailingMembers.{IsRunningWith}
 use Rattle.md_state.specs.Members.{IsMember, is_degraded}
 use Rattle.md_state.specs.Rising.{HasSpentEvents, risen, roles_without}
 use Rattle.md_state.specs.Trying.{Refuses, RefusesHalted}
-use Rattle.md_state.specs.View.{ArrayView, Disk, MemberView, MirrorView}
-
-abbrev pub is_spare : MemberState → Bool
-is_spare (InSync role) = false
-is_spare (Recovering role) = false
-is_spare (Stale role) = false
-is_spare Spare = true
-is_spare Faulty = false
+use Rattle.md_state.specs.View.{ArrayView, Disk, MirrorView}
 
 -- the members but for member k: later ones move down by one
 abbrev pub taken_out : ArrayView → ℕ → ArrayView

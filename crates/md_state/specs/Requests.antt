@@ -1,23 +1,14 @@
 -- Requests in flight: the mirror's list of them, what their callers have, and what the model says of both.
-use Rattle.std.specs.Prelude.{◌≡◌, ℕ, ◌+◌, ◌-◌, ◌*◌, ◌/◌, ◌%◌, ◌<◌, ◌≤◌, Bool, not, ◌&&◌, eqb, length, count_by, Option, Some}
-use Rattle.std.specs.List.{list_any}
+use Rattle.std.specs.Prelude.{◌≡◌, ℕ, ◌+◌, ◌-◌, ◌*◌, ◌%◌, ◌<◌, ◌≤◌, Bool, not, ◌&&◌, length, count_by, Option, Some}
 use Rattle.md_model.specs.Sectors.{put}
 use Rattle.md_model.specs.Worlds.{Request}
 use Rattle.md_device.specs.Splice.{part}
 use Rattle.md_inflight.specs.Inflight.{BelongsTo, lookup}
 use Rattle.md_assembly.specs.States.{is_in_sync}
-use Rattle.md_state.specs.declared.extent.Extent.{Extent}
-use Rattle.md_state.specs.View.{MemberView, ArrayView, PendingView}
-
--- a device has the request's bytes
-abbrev pub has_written : PendingView → ℕ → Bool
-has_written p dev_number = list_any (eqb dev_number) p.written
-
-abbrev pub request_sectors : PendingView → ℕ
-request_sectors p = length p.bytes / 512
-
-abbrev pub extent_of : PendingView → Extent
-extent_of p = record { start = p.sector; sectors = request_sectors p }
+use Rattle.md_requests.specs.Pending.{PendingView, extent_of, has_written, request_sectors}
+use Rattle.md_requests.specs.declared.extent.Extent.{Extent}
+use Rattle.md_kept_members.specs.View.{MemberView}
+use Rattle.md_state.specs.View.{ArrayView}
 
 -- the member is in sync, and lacks the request's bytes
 abbrev pub lacks : PendingView → MemberView → Bool

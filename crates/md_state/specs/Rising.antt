@@ -1,10 +1,12 @@
 -- The event count of the array rises, and a member fails (this project's own rules, after md_update_sb and md_error).
-use Rattle.std.specs.Prelude.{◌≡◌, ◌≢◌, ℕ, ◌+◌, ◌-◌, ◌^◌, ◌⊎◌, Bool, true, false, not, ◌&&◌, ◌||◌, cond, eqb, nat_lt, List, length, map, set}
+use Rattle.std.specs.Prelude.{◌≡◌, ◌≢◌, ℕ, ◌+◌, ◌-◌, ◌^◌, ◌⊎◌, Bool, true, false, not, ◌&&◌, cond, eqb, nat_lt, List, length, map, set}
 use Rattle.std.specs.List.{list_any, range_with_len}
 use Rattle.md_assembly.specs.declared.state.MemberState.TheVariants.{Faulty}
 use Rattle.md_assembly.specs.States.{role_in}
-use Rattle.md_state.specs.View.{MemberView, ArrayView}
-use Rattle.md_state.specs.Members.{IsMember, IsInSync, is_degraded, is_recorded, faulty_role}
+use Rattle.md_kept_members.specs.View.{MemberView}
+use Rattle.md_kept_members.specs.Members.{made_due}
+use Rattle.md_state.specs.View.{ArrayView}
+use Rattle.md_state.specs.Members.{IsMember, IsInSync, is_degraded, faulty_role}
 
 -- a member has the number
 abbrev pub has_number : ArrayView → ℕ → Bool
@@ -17,10 +19,6 @@ is_absent a dev_number = nat_lt (role_in a.shared dev_number) a.shared.raid_disk
 -- such entries become those of failed devices
 abbrev pub roles_at_rise : ArrayView → List ℕ
 roles_at_rise a = map (λ d. cond (is_absent a d) faulty_role (role_in a.shared d)) (range_with_len 0 (length a.shared.roles))
-
--- a member's superblock has to be stored, if it is kept up to date
-abbrev pub made_due : MemberView → MemberView
-made_due m = record m { due = is_recorded m.state || m.due }
 
 -- The count rises. Where the array is full after the change, events_cleared is the new count.
 abbrev pub risen : ArrayView → Bool → ArrayView

@@ -1,14 +1,15 @@
 -- A sector of a member's bitmap is stored, as the marks in memory are.
-use Rattle.std.specs.Prelude.{◌≡◌, ℕ, false, cond, ◌&&◌, ◌⊎◌, eqb, nat_lt, set}
-use Rattle.md_model.specs.Sectors.{block_of}
+use Rattle.std.specs.Prelude.{◌≡◌, ℕ, false, ◌⊎◌, set}
 use Rattle.md_bitmap.specs.declared.header.BitmapHeader.{BitmapHeader}
-use Rattle.md_bitmap.specs.Marks.{Bitmap, is_set}
+use Rattle.md_bitmap.specs.Marks.{Bitmap}
 use Rattle.md_members.specs.Reading.{BitmapStartsAt}
 use Rattle.md_writes.specs.Bitmaps.{bitmap_write}
 use Rattle.md_writes.specs.Writes.{Write}
+use Rattle.md_kept_members.specs.View.{MemberView}
+use Rattle.md_kept_members.specs.StoredMarks.{HasStored}
 use Rattle.md_state.specs.declared.step_fault.StoreFault.{StoreFault}
 use Rattle.md_state.specs.declared.step_fault.StoreFault.TheVariants.{Halted, NotActive, MemberFailed}
-use Rattle.md_state.specs.View.{MemberView, ArrayView, MirrorView}
+use Rattle.md_state.specs.View.{ArrayView, MirrorView}
 use Rattle.md_state.specs.Members.{IsInSync}
 use Rattle.md_state.specs.Headers.{IsHeaderFor}
 use Rattle.md_state.specs.DiskWrites.{IsWritten}
@@ -22,11 +23,6 @@ pub record IsMarkWrite (a : ArrayView) (m : MemberView) (block : ℕ) (w : Write
   pub header : BitmapHeader
   pub header_is : IsHeaderFor a m header
   pub is : w ≡ bitmap_write start header a.marks block
-
--- the marks that are stored on a member then: those of the sector's chunks as in memory, the others as before
-pub record HasStored (marks old : Bitmap) (block : ℕ) (new : Bitmap) : Type 0 where
-  pub chunks : new.chunks ≡ old.chunks
-  pub bits : (c : ℕ) → is_set new.bytes c ≡ cond (eqb (block_of c) block && nat_lt c old.chunks) (is_set marks.bytes c) (is_set old.bytes c)
 
 -- so it is kept of member k
 pub record HasStoredOf (k block : ℕ) (m : MemberView) (old new : ArrayView) : Type 0 where

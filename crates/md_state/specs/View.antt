@@ -1,14 +1,12 @@
--- A mirror as contracts see it: its devices, and what it keeps in memory of the array and of each member.
+-- A mirror as contracts see it: its devices, and what it keeps in memory of the array.
 use Rattle.std.specs.Prelude.{ℕ, Bool, List}
 use Rattle.md_device.specs.declared.device.Device.{Ghosts}
 use Rattle.md_super.specs.declared.superblock.Superblock.{Superblock}
-use Rattle.md_bitmap.specs.declared.header.BitmapHeader.{BitmapHeader}
 use Rattle.md_bitmap.specs.declared.chunks.Chunks.{Chunks}
 use Rattle.md_bitmap.specs.Marks.{Bitmap}
-use Rattle.md_badblocks.specs.declared.run.Run.{Run}
-use Rattle.md_inflight.specs.Inflight.{InflightList, TicketView}
-use Rattle.md_assembly.specs.declared.state.MemberState.{MemberState}
-use Rattle.md_state.specs.declared.extent.Extent.{Extent}
+use Rattle.md_inflight.specs.Inflight.{InflightList}
+use Rattle.md_requests.specs.declared.extent.Extent.{Extent}
+use Rattle.md_kept_members.specs.View.{MemberView}
 
 -- a device: what stands on it, whether it does what it answers, how many of its calls have failed, and what stops within its
 -- calls might have left
@@ -25,16 +23,6 @@ disk_of g d = record { content = g.content d; honest = g.honest d; failures = g.
 abbrev pub of_disks : Ghosts Disk
 of_disks = record { content = λ d. d.content; honest = λ d. d.honest; failures = λ d. d.failures; stops = λ d. d.stops }
 
--- a member, but for its device
-pub record MemberView : Type 0 where
-  pub superblock : Superblock  -- its own fields, as they are stored next; those of the array are shared
-  pub header : BitmapHeader  -- of its bitmap, as it was read
-  pub stored : Bitmap  -- the marks on its device, as far as the mirror knows
-  pub bad : List Run
-  pub state : MemberState
-  pub due : Bool  -- its superblock has to be stored
-  pub re_added : Bool  -- this mirror re-added it, and it is recovering
-
 -- all that is kept in memory
 pub record ArrayView : Type 0 where
   pub members : List MemberView
@@ -45,13 +33,6 @@ pub record ArrayView : Type 0 where
   pub resynced : Bool  -- members in sync agree, but where requests are in flight
   pub halted : Bool  -- a failure can't be recorded: no call does anything any more
   pub requests : InflightList Extent  -- those in flight
-
--- a request in flight, as its caller has it
-pub record PendingView : Type 0 where
-  pub ticket : TicketView
-  pub sector : ℕ  -- the first, of the array
-  pub bytes : List ℕ
-  pub written : List ℕ  -- the dev_numbers of the members that have them
 
 -- the devices stand in the order of the members
 pub record MirrorView : Type 0 where

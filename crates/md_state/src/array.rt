@@ -1,8 +1,8 @@
 // What is kept in memory of an array.
-use crate::extent::Extent;
-use crate::member::Member;
 use md_bitmap::{Chunks, Marks};
 use md_inflight::Inflight;
+use md_kept_members::Member;
+use md_requests::Extent;
 use md_super::Superblock;
 use std::marker::Model;
 

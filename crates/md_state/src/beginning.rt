@@ -7,13 +7,11 @@ ghost use Rattle.md_state.specs.Rising.{HasSpentEvents};
 ghost use Rattle.md_state.specs.View.{Disk};
 
 use crate::array::Array;
-use crate::extent::Extent;
-use crate::marking::chunks_of;
-use crate::pending::Pending;
-use crate::rising::CLEAN_OFFSET;
 use crate::step_fault::BeginFault;
-use arrayvec::ArrayVec;
 use md_inflight::{PushFault, Ticket};
+use md_kept_members::chunks_of;
+use md_requests::{Extent, Pending, pending_of};
+use md_super::CLEAN_OFFSET;
 
 impl Array {
     /// What `Mirror::begin` does, whatever its devices are: it uses none.
@@ -33,12 +31,7 @@ impl Array {
         self.count_request();
         self.become_active();
         self.mark_sectors(sector, sectors);
-        Ok(Pending {
-            ticket,
-            sector,
-            bytes,
-            written: ArrayVec::new(),
-        })
+        Ok(pending_of(ticket, sector, bytes))
     }
 
     // Whether a request of these sectors may begin, but for its number and its memory.

@@ -3,9 +3,8 @@ ghost use Rattle.std.specs.Prelude.{◌<◌, MatchResult, length};
 ghost use Rattle.md_state.specs.Checking.{IsActive, IsServing, RefusesInactive, RefusesOutOfSync};
 
 use crate::array::Array;
-use crate::marking::is_in_sync;
-use crate::rising::is_recorded;
 use crate::step_fault::StoreFault;
+use md_kept_members::{is_in_sync, is_recorded};
 
 impl Array {
     /// Whether the mirror runs and the superblock of member k is kept up to date.

@@ -1,17 +1,16 @@
 // A write to a member fails.
 ghost use Rattle.std.specs.Prelude.{◌≡◌, ◌<◌, MatchBool, cond, length};
+ghost use Rattle.md_kept_members.specs.View.{MemberView};
 ghost use Rattle.md_state.specs.CopyingData.{AnswersCopy};
-ghost use Rattle.md_state.specs.Failing.{AnswersStore, AnswersWrite, HasOtherInSync, IsLastInSync, MayFail};
+ghost use Rattle.md_state.specs.Failing.{AnswersStore, AnswersWrite, MayFail};
 ghost use Rattle.md_state.specs.Members.{IsMember, is_degraded};
 ghost use Rattle.md_state.specs.Rising.{CannotFail, Fails, Halts, HasSpentEvents, failed, without};
-ghost use Rattle.md_state.specs.View.{MemberView};
 
 use crate::array::Array;
 use crate::copy_fault::CopyFault;
-use crate::marking::is_in_sync;
-use crate::member::Member;
 use crate::step_fault::{StoreFault, WriteMemberFault};
 use md_assembly::MemberState;
+use md_kept_members::has_other_in_sync;
 use md_super::FAULTY;
 
 impl Array {
@@ -106,16 +105,4 @@ impl Array {
             self.events_cleared = self.shared.events;
         }
     }
-}
-
-/// Whether a member other than k is in sync.
-pub(crate) fn has_other_in_sync(members: &[Member], k: usize) -> bool
-    ensures { MatchBool result (HasOtherInSync members.now k) (IsLastInSync members.now k) }
-{
-    for (j, member) in members.iter().enumerate() {
-        if j != k && is_in_sync(member.state) {
-            return true;
-        }
-    }
-    false
 }

@@ -1,12 +1,11 @@
 // Failing a member by a call.
-ghost use Rattle.std.specs.Prelude.{◌≡◌, ◌<◌, List, MatchResult, length};
-ghost use Rattle.md_state.specs.FailingMembers.{FailsMember, MayBeFailed, RefusesFail, is_active};
+ghost use Rattle.std.specs.Prelude.{◌<◌, List, MatchResult, length};
+ghost use Rattle.md_state.specs.FailingMembers.{FailsMember, MayBeFailed, RefusesFail};
 ghost use Rattle.md_state.specs.View.{Disk};
 
 use crate::array::Array;
-use crate::failing::has_other_in_sync;
 use crate::step_fault::FailFault;
-use md_assembly::MemberState;
+use md_kept_members::{has_other_in_sync, is_active};
 
 impl Array {
     /// What `Mirror::fail` does, whatever its devices are: it uses none.
@@ -42,11 +41,4 @@ impl Array {
         }
         Ok(())
     }
-}
-
-/// Whether a member in this state is in sync or recovering.
-pub(crate) fn is_active(state: MemberState) -> bool
-    ensures { result ≡ is_active state }
-{
-    matches!(state, MemberState::InSync(_) | MemberState::Recovering(_))
 }

@@ -5,8 +5,8 @@ ghost use Rattle.md_state.specs.Finishing.{Finishes, MayFinish, RefusesFinish};
 ghost use Rattle.md_state.specs.View.{Disk};
 
 use crate::array::Array;
-use crate::pending::Pending;
 use crate::step_fault::FinishFault;
+use md_requests::{Pending, ticket_of};
 
 impl Array {
     /// What `Mirror::finish` does, whatever its devices are: it uses none.
@@ -18,7 +18,7 @@ impl Array {
         if let Err(fault) = self.check_finish(&pending) {
             return Err((pending, fault));
         }
-        self.requests.remove(pending.ticket);
+        self.requests.remove(ticket_of(pending));
         Ok(())
     }
 

@@ -5,8 +5,8 @@ ghost use Rattle.md_bitmap.specs.Sound.{IsSound};
 ghost use Rattle.md_state.specs.Headers.{IsHeaderFor};
 
 use crate::array::Array;
-use crate::member::Member;
 use md_bitmap::BitmapHeader;
+use md_kept_members::Member;
 
 impl Array {
     /// The header that is stored with a member's marks.

@@ -7,8 +7,8 @@ ghost use Rattle.md_state.specs.Requests.{lacks};
 ghost use Rattle.md_state.specs.WritingMember.{HasMarksFrom};
 
 use crate::array::Array;
-use crate::marking::is_in_sync;
-use crate::pending::Pending;
+use md_kept_members::is_in_sync;
+use md_requests::Pending;
 
 impl Array {
     /// The first member in sync whose superblock has to be stored.

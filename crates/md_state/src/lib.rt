@@ -1,4 +1,4 @@
-//! What a mirror keeps in memory, without its devices: the array, its members, requests in flight, counts and marks.
+//! What a mirror keeps in memory of the array, without its devices, and what each step asks of it and changes in it.
 #![tactic(auto)]
 
 mod array;
@@ -6,22 +6,15 @@ mod beginning;
 mod checking;
 mod clearing_marks;
 mod copy_fault;
-mod copying;
-mod extent;
 mod failing;
 mod failing_members;
 mod finishing;
 mod header;
 mod in_sync;
 mod making_clean;
-mod marking;
 mod marking_resynced;
-mod member;
 mod missing;
 mod observing;
-mod own_fields;
-mod pending;
-mod permitting;
 mod recording;
 mod remembering;
 mod removing;
@@ -32,12 +25,7 @@ mod writing_member;
 
 pub use array::Array;
 pub use copy_fault::CopyFault;
-pub use extent::Extent;
-pub use marking::needs_marks;
-pub use member::Member;
-pub use pending::Pending;
 pub use step_fault::{
     BeginFault, CleanFault, ClearFault, FailFault, FinishFault, RemoveFault, StoreFault,
     WriteMemberFault,
 };
-pub use storing_marks::{CHUNKS_OF_HEADER, CHUNKS_OF_SECTOR};

@@ -4,8 +4,8 @@ ghost use Rattle.md_state.specs.MakingClean.{MakesClean, MayMakeClean, RefusesCl
 ghost use Rattle.md_state.specs.View.{Disk};
 
 use crate::array::Array;
-use crate::rising::CLEAN_OFFSET;
 use crate::step_fault::CleanFault;
+use md_super::CLEAN_OFFSET;
 
 impl Array {
     /// What `Mirror::make_clean` does, whatever its devices are: it uses none.

@@ -1,13 +1,13 @@
 // What a member lacks.
 ghost use Rattle.std.specs.Prelude.{◌≡◌, ◌<◌, ℕ, IfOk, length};
 ghost use Rattle.md_bitmap.specs.Marks.{is_set};
+ghost use Rattle.md_kept_members.specs.View.{MemberView};
 ghost use Rattle.md_state.specs.Members.{IsMember};
 ghost use Rattle.md_state.specs.Missing.{AreMissing};
-ghost use Rattle.md_state.specs.View.{MemberView};
 
 use crate::array::Array;
-use crate::marking::is_in_sync;
 use md_bitmap::Marks;
+use md_kept_members::is_in_sync;
 use std::alloc::{AllocError, Global};
 
 impl Array {

@@ -1,11 +1,10 @@
 // What is found by going through the members.
 ghost use Rattle.std.specs.Prelude.{◌≡◌, ◌↔◌, ◌<◌, ℕ};
 ghost use Rattle.std.specs.Int.{bit_at, div_ceil};
-ghost use Rattle.md_state.specs.Members.{IsPermitted, is_degraded, is_filled, is_in_sync_as};
+ghost use Rattle.md_state.specs.Members.{IsPermitted, is_degraded, is_filled};
 
 use crate::array::Array;
-use crate::permitting::permitted_roles;
-use md_assembly::MemberState;
+use md_kept_members::{is_in_sync_as, permitted_roles};
 
 impl Array {
     /// Whether some role has no member in sync.
@@ -31,14 +30,5 @@ impl Array {
         self.members
             .iter()
             .any(|member| is_in_sync_as(member.state, role))
-    }
-}
-
-fn is_in_sync_as(state: MemberState, wanted: u32) -> bool
-    ensures { result ≡ is_in_sync_as wanted state }
-{
-    match state {
-        MemberState::InSync(role) => u32::from(role) == wanted,
-        _ => false,
     }
 }

@@ -1,7 +1,7 @@
 // What is kept of a superblock that was stored.
 ghost use Rattle.std.specs.Prelude.{◌≡◌, ◌<◌, false, length, set};
+ghost use Rattle.md_kept_members.specs.View.{MemberView};
 ghost use Rattle.md_state.specs.Members.{IsMember};
-ghost use Rattle.md_state.specs.View.{MemberView};
 
 use crate::array::Array;
 

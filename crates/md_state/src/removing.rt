@@ -1,14 +1,15 @@
 // Removing a member.
 ghost use Rattle.std.specs.Prelude.{◌≡◌, ◌<◌, List, MatchResult, cond, length, nat_lt, set, true};
+ghost use Rattle.md_kept_members.specs.View.{MemberView};
+ghost use Rattle.md_kept_members.specs.States.{is_spare};
 ghost use Rattle.md_state.specs.Members.{IsMember, faulty_role};
-ghost use Rattle.md_state.specs.Removing.{Leaves, MayLeave, RefusesRemove, before_leaving, is_spare, without_spare};
+ghost use Rattle.md_state.specs.Removing.{Leaves, MayLeave, RefusesRemove, before_leaving, without_spare};
+ghost use Rattle.md_state.specs.View.{Disk};
 ghost use Rattle.md_state.specs.Rising.{HasSpentEvents};
-ghost use Rattle.md_state.specs.View.{Disk, MemberView};
 
 use crate::array::Array;
-use crate::failing_members::is_active;
 use crate::step_fault::RemoveFault;
-use md_assembly::MemberState;
+use md_kept_members::{is_active, is_spare};
 use md_super::FAULTY;
 
 impl Array {
@@ -79,10 +80,4 @@ impl Array {
             self.shared.roles.set(number, FAULTY);
         }
     }
-}
-
-fn is_spare(state: MemberState) -> bool
-    ensures { result ≡ is_spare state }
-{
-    matches!(state, MemberState::Spare)
 }

@@ -1,17 +1,13 @@
 // The event count of the array rises.
-ghost use Rattle.std.specs.Prelude.{◌≡◌, ◌<◌, length, map, not};
+ghost use Rattle.std.specs.Prelude.{◌≡◌, length, not};
 ghost use Rattle.std.specs.List.{list_any, range_with_len};
 ghost use Rattle.md_state.specs.Beginning.{has_to_rise};
-ghost use Rattle.md_state.specs.Members.{is_degraded, is_recorded};
-ghost use Rattle.md_state.specs.Rising.{HasSpentEvents, has_number, is_absent, made_due, risen, roles_at_rise};
+ghost use Rattle.md_state.specs.Members.{is_degraded};
+ghost use Rattle.md_state.specs.Rising.{HasSpentEvents, has_number, is_absent, risen, roles_at_rise};
 
 use crate::array::Array;
-use crate::member::Member;
-use md_assembly::MemberState;
-use md_super::FAULTY;
-
-/// The `resync_offset` of a clean array (`MaxSector` of the kernel's md driver).
-pub(crate) const CLEAN_OFFSET: u64 = u64::MAX;
+use md_kept_members::make_due;
+use md_super::{CLEAN_OFFSET, FAULTY};
 
 impl Array {
     /// The count rises, and the array is as full after it as before.
@@ -74,32 +70,5 @@ impl Array {
                 self.shared.roles.set(number, FAULTY);
             }
         }
-    }
-}
-
-// The superblock of each member that is kept up to date has to be stored.
-fn make_due(members: &mut [Member])
-    ensures { members.new ≡ map made_due members.old }
-{
-    for member in members.iter_mut() {
-        note_due(member);
-    }
-}
-
-fn note_due(member: &mut Member)
-    ensures { member.new ≡ made_due member.old }
-{
-    if is_recorded(member.state) {
-        member.due = true;
-    }
-}
-
-/// Whether the superblock of a member in this state is kept up to date.
-pub(crate) fn is_recorded(state: MemberState) -> bool
-    ensures { result ≡ is_recorded state }
-{
-    match state {
-        MemberState::InSync(_) | MemberState::Recovering(_) | MemberState::Spare => true,
-        MemberState::Stale(_) | MemberState::Faulty => false,
     }
 }

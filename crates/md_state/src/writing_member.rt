@@ -1,16 +1,17 @@
 // Whether a request's bytes may be written to a member.
 ghost use Rattle.std.specs.Prelude.{◌≡◌, ◌<◌, List, [], ◌∷◌, ◌++◌, Some, MatchResult, length};
+ghost use Rattle.md_requests.specs.Pending.{request_sectors};
+ghost use Rattle.md_kept_members.specs.View.{MemberView};
 ghost use Rattle.md_state.specs.Beginning.{IsInRange};
 ghost use Rattle.md_state.specs.InMemory.{HasChunks};
 ghost use Rattle.md_state.specs.Members.{IsMember};
-ghost use Rattle.md_state.specs.Requests.{request_sectors};
-ghost use Rattle.md_state.specs.View.{Disk, MemberView};
+ghost use Rattle.md_state.specs.View.{Disk};
 ghost use Rattle.md_state.specs.WritingMember.{MayWrite, RefusesWriteMember};
 
 use crate::array::Array;
-use crate::marking::{chunks_of, is_in_sync};
-use crate::pending::Pending;
 use crate::step_fault::WriteMemberFault;
+use md_kept_members::{chunks_of, is_in_sync};
+use md_requests::{Pending, note_written};
 
 impl Array {
     /// Whether member k may get the bytes: data come after marks and records.
@@ -28,7 +29,7 @@ impl Array {
         if !is_in_sync(member.state) {
             return Err(WriteMemberFault::NotActive);
         }
-        let (first, end) = chunks_of(self.chunks, pending.sector, pending.sectors());
+        let (first, end) = chunks_of(self.chunks, pending.sector(), pending.sectors());
         if let Some(j) = self.first_unmarked(first, end) {
             return Err(WriteMemberFault::NotMarked(j));
         }
@@ -46,6 +47,6 @@ impl Array {
         requires room { length pending.old.written < 64 }
         ensures { pending.new ≡ record pending.old { written = pending.old.written ++ dev_number ∷ [] } }
     {
-        pending.written.push(dev_number);
+        note_written(pending, dev_number);
     }
 }

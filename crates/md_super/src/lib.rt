@@ -1,6 +1,7 @@
 //! The version 1.2 superblock of an md RAID-1 array.
 #![tactic(auto)]
 
+mod copying;
 mod decoding;
 mod encoding;
 mod fault;
@@ -15,6 +16,6 @@ pub use fault::SuperFault;
 pub use roles::{FAULTY, MAX_ROLES, Roles, SPARE};
 pub use summing::checksum;
 pub use superblock::{
-    FEATURE_BAD_BLOCKS, FEATURE_BITMAP_OFFSET, FEATURE_RECOVERY_OFFSET, LEVEL, MAGIC,
+    CLEAN_OFFSET, FEATURE_BAD_BLOCKS, FEATURE_BITMAP_OFFSET, FEATURE_RECOVERY_OFFSET, LEVEL, MAGIC,
     MAJOR_VERSION, MAX_RAID_DISKS, SUPER_SECTOR, Superblock,
 };

@@ -20,6 +20,9 @@ pub const LEVEL: u32 = 1;
 /// The most raid disks of an array here.
 pub const MAX_RAID_DISKS: u32 = 32;
 
+/// The `resync_offset` of a clean array (`MaxSector` of the kernel's md driver).
+pub const CLEAN_OFFSET: u64 = u64::MAX;
+
 /// `MD_FEATURE_BITMAP_OFFSET` of `md_p.h`: `bitmap_offset` is valid.
 pub const FEATURE_BITMAP_OFFSET: u32 = 1;
 

@@ -1,7 +1,8 @@
 -- Marks and records are stored beside a request in flight.
 use Rattle.std.proofs.Common.{ℕ, refl, ap, ◌∙◌}
 use Rattle.md_model.specs.Events.{Event}
-use Rattle.md_state.specs.View.{MirrorView, PendingView}
+use Rattle.md_requests.specs.Pending.{PendingView}
+use Rattle.md_state.specs.View.{MirrorView}
 use Rattle.md_state.specs.Requests.{IsPending, among}
 use Rattle.md_array.proofs.Steps.InFlight.{among_in_flight}
 use Rattle.md_array.proofs.Steps.Turns.{all_such}

@@ -3,9 +3,11 @@ use Rattle.std.specs.Prelude.{◌≡◌, ℕ, ◌+◌, ◌/◌, ◌<◌, ◌≤�
 use Rattle.md_model.specs.Sectors.{block_of}
 use Rattle.md_model.specs.Events.{Event}
 use Rattle.md_bitmap.specs.Marks.{is_set}
-use Rattle.md_state.specs.View.{ArrayView, MemberView, MirrorView, PendingView}
+use Rattle.md_requests.specs.Pending.{PendingView, has_written, request_sectors}
+use Rattle.md_kept_members.specs.View.{MemberView}
+use Rattle.md_state.specs.View.{ArrayView, MirrorView}
+use Rattle.md_state.specs.Requests.{IsPending, among}
 use Rattle.md_state.specs.Members.{IsInSync}
-use Rattle.md_state.specs.Requests.{IsPending, among, has_written, request_sectors}
 use Rattle.md_state.specs.Finishing.{HasBytesOf, MayFinish}
 use Rattle.md_metadata.specs.declared.fault.PartFault.{PartFault}
 use Rattle.md_metadata.specs.declared.fault.PartFault.TheVariants.{Halted, MemberFailed}

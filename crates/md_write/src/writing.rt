@@ -1,16 +1,16 @@
 // Writing to the array.
 ghost use Rattle.std.specs.Prelude.{◌≡◌, ◌%◌, MatchResult, length, false};
+ghost use Rattle.md_requests.specs.Pending.{PendingView};
 ghost use Rattle.md_state.specs.Requests.{IsPending};
-ghost use Rattle.md_state.specs.View.{PendingView};
 ghost use Rattle.md_array.specs.Consistency.{IsConsistent};
 ghost use Rattle.md_write.specs.Progress.{AreChunksOf, HaltsOn, IsReadyToFinish, StopsWriting};
 ghost use Rattle.md_write.specs.Writing.{RefusesWrite, Writes};
 
-use crate::chunks::chunks_of;
 use crate::data::write_to_members;
 use crate::marks::store_marks;
 use md_array::{BeginFault, Mirror, Pending};
 use md_device::Device;
+use md_kept_members::chunks_of;
 use md_metadata::{PartFault, store_other_records, store_records};
 
 // Stores the marks of a request's chunks and what is due, and writes its bytes, until a member fails.

@@ -4,7 +4,8 @@ use Rattle.std.specs.Prelude.{MatchResult, option_map, slice_get}
 use Rattle.std.proofs.lemmas.Option.{slice_get_within}
 use Rattle.md_device.specs.Device.{held}
 use Rattle.md_super.specs.declared.superblock.Superblock.{Superblock}
-use Rattle.md_state.specs.View.{Disk, MemberView, MirrorView}
+use Rattle.md_kept_members.specs.View.{MemberView}
+use Rattle.md_state.specs.View.{Disk, MirrorView}
 use Rattle.md_state.specs.DeviceChanges.{IsUntouched}
 use Rattle.md_state.specs.DiskWrites.{AtDevice}
 use Rattle.md_state.specs.ReadingData.{FailsToRead, ReadsData}

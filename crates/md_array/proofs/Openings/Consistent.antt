@@ -13,11 +13,12 @@ use Rattle.md_assembly.specs.declared.fault.AssembleFault.TheVariants.{TooMany}
 use Rattle.md_assembly.specs.States.{is_in_sync, role_in, state_of, takes_role}
 use Rattle.md_inflight.specs.Inflight.{InflightList, lookup}
 use Rattle.md_model.proofs.Cases.{by_test, none_some}
-use Rattle.md_state.specs.declared.extent.Extent.{Extent}
-use Rattle.md_state.specs.View.{ArrayView, Disk, MemberView, MirrorView}
+use Rattle.md_requests.specs.declared.extent.Extent.{Extent}
+use Rattle.md_kept_members.specs.View.{MemberView}
+use Rattle.md_kept_members.specs.Kept.{IsKept}
+use Rattle.md_state.specs.View.{ArrayView, Disk, MirrorView}
 use Rattle.md_state.specs.Members.{IsInSync, IsMember}
 use Rattle.md_state.specs.InMemory.{HasChunks, HasRoles}
-use Rattle.md_state.specs.Kept.{IsKept}
 use Rattle.md_array.specs.Fits.{Fits}
 use Rattle.md_array.specs.Consistency.{HasPlaces, HasSuper, IsConsistent}
 use Rattle.md_array.specs.Opening.{IsOpenedFrom}

@@ -11,12 +11,13 @@ use Rattle.md_members.specs.declared.info.MemberInfo.{MemberInfo}
 use Rattle.md_members.specs.Areas.{has_bitmap}
 use Rattle.md_members.specs.Members.{HasBitmap, sectors_of}
 use Rattle.md_members.specs.Reading.{ReadsBitmap, ReadsHeader, front_of}
-use Rattle.md_state.specs.View.{Disk, ArrayView, MemberView}
-use Rattle.md_state.specs.OwnFields.{kept_superblock}
+use Rattle.md_kept_members.specs.View.{MemberView}
+use Rattle.md_kept_members.specs.OwnFields.{kept_superblock}
+use Rattle.md_kept_members.proofs.Members.Indices.{listed_at}
+use Rattle.md_state.specs.View.{Disk, ArrayView}
 use Rattle.md_array.specs.Opening.{IsArrayOf}
 use Rattle.md_array.specs.Fits.{Fits, FitsMember}
 use Rattle.md_state.proofs.Kept.Geometry.{alike, states_as_many}
-use Rattle.md_state.proofs.Members.Indices.{listed_at}
 use Rattle.md_array.proofs.Openings.OwnFields.{bitmap_same, placed_next}
 use Rattle.md_array.proofs.Openings.Whole.{are_whole}
 

@@ -2,12 +2,14 @@
 use Rattle.std.proofs.Common.{◌≡◌, ℕ, ◌≤◌, ◌<◌, ◌+◌, List, length, refl, sym, ◌∙◌, subst, arith, set}
 use Rattle.std.specs.Prelude.{slice_get, Some}
 use Rattle.std.proofs.lemmas.Option.{slice_get_within}
-use Rattle.md_state.specs.View.{Disk, ArrayView, MemberView}
-use Rattle.md_state.specs.Members.{IsMember, NeedsMarks}
+use Rattle.md_kept_members.specs.View.{MemberView}
+use Rattle.md_kept_members.specs.Members.{NeedsMarks}
+use Rattle.md_kept_members.proofs.Members.Indices.{same_listed}
+use Rattle.md_state.specs.Members.{IsMember}
+use Rattle.md_state.specs.View.{Disk, ArrayView}
 use Rattle.md_device.proofs.Leaving.{leaves_none}
 use Rattle.md_state.specs.DeviceChanges.{AreSame, EachPair, IsLeftAlone, StaysHonest}
 use Rattle.md_array.specs.Storing.{AreMarked, FailsToStore, IsMarked, IsMarkedBy, StopsAtMember}
-use Rattle.md_state.proofs.Members.Indices.{same_listed}
 use Rattle.md_array.proofs.Openings.DevicesInTurn.{each_after, none_touched, still_same}
 use Rattle.md_array.proofs.General.Indices.{at_set_same, got_other}
 

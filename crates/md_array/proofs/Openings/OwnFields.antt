@@ -9,7 +9,7 @@ use Rattle.md_badblocks.specs.declared.run.Run.{Run}
 use Rattle.md_members.specs.Areas.{BitmapIsPlaced, IsPlaced, LogIsPlaced, has_bad_blocks, has_bitmap}
 use Rattle.md_members.specs.Reading.{ReadsBitmap}
 use Rattle.md_assembly.specs.States.{has_recovery_offset, role_in, state_of}
-use Rattle.md_state.specs.OwnFields.{stored_next}
+use Rattle.md_kept_members.specs.OwnFields.{stored_next}
 use Rattle.md_array.specs.Worlds.{super_of}
 
 pub bitmap_same : (bad : List Run) (v : Superblock) → has_bitmap (stored_next bad v) ≡ has_bitmap v

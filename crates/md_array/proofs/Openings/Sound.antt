@@ -16,9 +16,11 @@ use Rattle.md_assembly.specs.Assembled.{ByFreshest, IsAssembled, IsFreshest, sup
 use Rattle.md_assembly.specs.Faults.{NoFault, IsStranger, HasOtherGeometry, HasSameNumber, RepeatsNumber, IsDoubleRole}
 use Rattle.md_assembly.specs.Listed.{PairAt}
 use Rattle.md_assembly.specs.States.{state_of, states_by, is_in_sync, takes_role}
-use Rattle.md_state.specs.View.{ArrayView, MemberView}
+use Rattle.md_kept_members.specs.View.{MemberView}
+use Rattle.md_kept_members.specs.Kept.{IsKept}
+use Rattle.md_state.specs.View.{ArrayView}
+use Rattle.md_state.specs.Remembered.{IsRemembered}
 use Rattle.md_state.specs.Members.{IsMember}
-use Rattle.md_state.specs.Kept.{IsKept, IsRemembered}
 use Rattle.md_array.proofs.General.Indices.{none_without_least, got_in_map, got_within, got_same, at_any, two_counted}
 use Rattle.md_model.proofs.Cases.{by_test}
 

@@ -6,11 +6,11 @@ use Rattle.md_bitmap.specs.Marks.{Bitmap}
 use Rattle.md_members.specs.declared.info.MemberInfo.{MemberInfo}
 use Rattle.md_members.specs.Members.{HasBitmap}
 use Rattle.md_assembly.specs.Faults.{NoFault}
+use Rattle.md_kept_members.specs.Remembering.{AreWhole, IsWhole}
+use Rattle.md_kept_members.proofs.Members.Indices.{listed_at}
 use Rattle.md_state.specs.View.{Disk}
-use Rattle.md_state.specs.Remembering.{AreWhole, IsWhole}
 use Rattle.md_array.specs.Reading.{AreRead}
 use Rattle.md_state.proofs.Kept.Geometry.{has_bitmap}
-use Rattle.md_state.proofs.Members.Indices.{listed_at}
 
 whole_by : (content : List ℕ) (honest : Bool) (info : MemberInfo) (h : Option BitmapHeader) (m : Option Bitmap) → info.header ≡ h → info.marks ≡ m → HasBitmap content honest info.superblock h m → (h ≡ None → ⊥) → IsWhole info
 whole_by content honest info (Some h) (Some m) has_h has_m read some = record {

@@ -4,12 +4,15 @@ use Rattle.std.proofs.lemmas.Option.{slice_get_within}
 use Rattle.md_model.proofs.Puts.{by_same}
 use Rattle.md_assembly.specs.States.{is_in_sync, takes_role}
 use Rattle.md_writes.specs.Writes.{Write}
-use Rattle.md_state.specs.View.{ArrayView, Disk, MemberView, MirrorView, PendingView}
+use Rattle.md_requests.specs.Pending.{PendingView}
+use Rattle.md_kept_members.specs.View.{MemberView}
+use Rattle.md_kept_members.specs.Members.{made_due}
+use Rattle.md_state.specs.View.{ArrayView, Disk, MirrorView}
 use Rattle.md_state.specs.Members.{IsInSync, IsMember, is_degraded}
 use Rattle.md_state.specs.InMemory.{HasChunks, HasRoles}
 use Rattle.md_state.specs.DiskWrites.{IsTried}
+use Rattle.md_state.specs.Rising.{Fails, Halts, made_faulty, risen, without}
 use Rattle.md_state.specs.Requests.{IsPending, lacks}
-use Rattle.md_state.specs.Rising.{Fails, Halts, made_due, made_faulty, risen, without}
 use Rattle.md_state.specs.Trying.{FailsWriting, HaltsWriting}
 use Rattle.md_array.specs.Fits.{Fits, FitsMember}
 use Rattle.md_array.specs.Consistency.{HaveSupers, IsConsistent}

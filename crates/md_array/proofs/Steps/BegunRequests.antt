@@ -13,11 +13,12 @@ use Rattle.md_model.proofs.Cases.{both, by_option, by_test, is_at_most}
 use Rattle.md_inflight.specs.Inflight.{InflightList, lookup}
 use Rattle.md_bitmap.specs.Marks.{Bitmap, is_set}
 use Rattle.md_bitmap.proofs.Limits.{div-lt-div_ceil}
-use Rattle.md_state.specs.declared.extent.Extent.{Extent}
-use Rattle.md_state.specs.View.{Disk, ArrayView, MirrorView, PendingView}
+use Rattle.md_requests.specs.Pending.{PendingView, extent_of}
+use Rattle.md_requests.specs.declared.extent.Extent.{Extent}
+use Rattle.md_state.specs.View.{Disk, ArrayView, MirrorView}
 use Rattle.md_state.specs.Members.{clean_offset, is_degraded}
+use Rattle.md_state.specs.Requests.{AreInFlight, AreInside, IsPending, among, lacks, request_of}
 use Rattle.md_state.specs.Beginning.{Begins, HasMarked, IsInRange, active_offset, counted, has_sector_of, has_to_rise, with_request}
-use Rattle.md_state.specs.Requests.{AreInFlight, AreInside, IsPending, among, extent_of, lacks, request_of}
 use Rattle.md_array.specs.Consistency.{IsConsistent}
 use Rattle.md_array.specs.Events.{BeginHappens}
 use Rattle.md_array.specs.Worlds.{AreHonest, geometry_of, world_of, world_on}

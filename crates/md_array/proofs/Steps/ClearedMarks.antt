@@ -7,7 +7,8 @@ use Rattle.md_model.specs.Events.{Event, Step}
 use Rattle.md_model.specs.Steps as steps
 use Rattle.md_model.proofs.Between.{between_step, in_flight_step}
 use Rattle.md_bitmap.specs.Marks.{is_set}
-use Rattle.md_state.specs.View.{ArrayView, MirrorView, PendingView}
+use Rattle.md_requests.specs.Pending.{PendingView}
+use Rattle.md_state.specs.View.{ArrayView, MirrorView}
 use Rattle.md_state.specs.ClearingMarks.{Clears}
 use Rattle.md_state.specs.Requests.{AreInFlight, IsPending}
 use Rattle.md_array.specs.Consistency.{IsConsistent}

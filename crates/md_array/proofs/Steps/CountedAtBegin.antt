@@ -7,9 +7,11 @@ use Rattle.md_model.specs.Counts as counts
 use Rattle.md_model.proofs.Cases.{below-nat_lt, both, is_below, never}
 use Rattle.md_bitmap.specs.Marks.{Bitmap}
 use Rattle.md_assembly.specs.States.{role_in}
-use Rattle.md_state.specs.View.{Disk, ArrayView, PendingView}
+use Rattle.md_requests.specs.Pending.{PendingView}
+use Rattle.md_kept_members.specs.Members.{made_due}
+use Rattle.md_state.specs.View.{Disk, ArrayView}
+use Rattle.md_state.specs.Rising.{has_number, is_absent, risen}
 use Rattle.md_state.specs.Members.{clean_offset}
-use Rattle.md_state.specs.Rising.{has_number, is_absent, made_due, risen}
 use Rattle.md_state.specs.Beginning.{HasMarked, IsInRange, has_to_rise}
 use Rattle.md_state.specs.Requests.{IsPending, lacks}
 use Rattle.md_array.specs.Consistency.{IsConsistent}

@@ -6,9 +6,11 @@ use Rattle.md_model.specs.Worlds.{Request}
 use Rattle.md_model.specs.Failures.{LeftByData}
 use Rattle.md_model.specs.Events.{Event}
 use Rattle.md_writes.specs.Writes.{Write}
-use Rattle.md_state.specs.View.{ArrayView, MemberView, MirrorView, PendingView}
+use Rattle.md_requests.specs.Pending.{PendingView, request_sectors}
+use Rattle.md_kept_members.specs.View.{MemberView}
+use Rattle.md_state.specs.View.{ArrayView, MirrorView}
+use Rattle.md_state.specs.Requests.{IsPending, among, request_of}
 use Rattle.md_state.specs.Members.{IsMember}
-use Rattle.md_state.specs.Requests.{IsPending, among, request_of, request_sectors}
 use Rattle.md_state.specs.WritingMember.{FailsToWrite, data_write}
 use Rattle.md_array.specs.Consistency.{IsConsistent}
 use Rattle.md_array.specs.Events.{Does, HappensAmong}

@@ -16,8 +16,10 @@ use Rattle.md_model.specs.Worlds.{Request, World, touches}
 use Rattle.md_model.proofs.Between.{between_step, in_flight_step}
 use Rattle.md_model.proofs.Cases.{below-nat_lt, by_test}
 use Rattle.md_model.proofs.Puts.{put-hit, put-self, put-twice}
-use Rattle.md_state.specs.View.{ArrayView, Disk, MemberView, MirrorView, PendingView}
-use Rattle.md_state.specs.Requests.{AreInFlight, IsPending, among, has_written, lacks, request_of, request_sectors}
+use Rattle.md_requests.specs.Pending.{PendingView, has_written, request_sectors}
+use Rattle.md_kept_members.specs.View.{MemberView}
+use Rattle.md_state.specs.Requests.{AreInFlight, IsPending, among, lacks, request_of}
+use Rattle.md_state.specs.View.{ArrayView, Disk, MirrorView}
 use Rattle.md_state.specs.WritingMember.{MayWrite, WritesTo, data_write}
 use Rattle.md_array.specs.Consistency.{HasPlaces, HasSuper, IsConsistent}
 use Rattle.md_array.specs.Events.{HappensAmong}

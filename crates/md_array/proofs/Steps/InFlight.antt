@@ -8,9 +8,10 @@ use Rattle.md_model.proofs.Cases.{both, by_test, is_above, is_at_most, is_below,
 use Rattle.md_model.proofs.Puts.{by_same, put-hit, put-miss}
 use Rattle.md_inflight.specs.Inflight.{lookup}
 use Rattle.md_inflight.specs.Spans.{meets}
-use Rattle.md_state.specs.View.{ArrayView, MirrorView, PendingView}
+use Rattle.md_requests.specs.Pending.{PendingView, extent_of, request_sectors}
+use Rattle.md_state.specs.View.{ArrayView, MirrorView}
+use Rattle.md_state.specs.Requests.{AreInFlight, IsPending, among, request_of}
 use Rattle.md_state.specs.ClearingMarks.{first_in_flight}
-use Rattle.md_state.specs.Requests.{AreInFlight, IsPending, among, extent_of, request_of, request_sectors}
 use Rattle.md_array.specs.Consistency.{IsConsistent}
 
 module _ {T : Type 0} where

@@ -8,7 +8,8 @@ use Rattle.md_model.specs.Worlds.{Request}
 use Rattle.md_model.specs.Failures.{LeftByMarks}
 use Rattle.md_model.specs.Events.{Event}
 use Rattle.md_writes.specs.Writes.{Write}
-use Rattle.md_state.specs.View.{ArrayView, Disk, MemberView, MirrorView}
+use Rattle.md_kept_members.specs.View.{MemberView}
+use Rattle.md_state.specs.View.{ArrayView, Disk, MirrorView}
 use Rattle.md_state.specs.Members.{IsMember}
 use Rattle.md_state.specs.StoringMarks.{FailsToStoreMarks}
 use Rattle.md_array.specs.Consistency.{IsConsistent}

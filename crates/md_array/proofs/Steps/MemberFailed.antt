@@ -17,15 +17,19 @@ use Rattle.md_model.proofs.Puts.{put-self}
 use Rattle.md_assembly.specs.declared.state.MemberState.{MemberState}
 use Rattle.md_assembly.specs.declared.state.MemberState.TheVariants.{InSync, Recovering, Stale, Spare, Faulty}
 use Rattle.md_writes.specs.Writes.{Write}
+use Rattle.md_requests.specs.Pending.{PendingView}
+use Rattle.md_kept_members.specs.View.{MemberView}
+use Rattle.md_kept_members.specs.States.{is_active, is_in_sync_as, is_recorded}
+use Rattle.md_kept_members.specs.Members.{made_due}
 use Rattle.md_state.specs.declared.step_fault.FailFault.{FailFault}
 use Rattle.md_state.specs.declared.step_fault.FailFault.TheVariants as fail
 use Rattle.md_state.specs.DeviceChanges.{StaysHonest}
 use Rattle.md_state.specs.DiskWrites.{AtDevice, IsTried}
-use Rattle.md_state.specs.FailingMembers.{FailsMember, RefusesFail, is_active}
-use Rattle.md_state.specs.Members.{IsMember, is_degraded, is_in_sync_as, is_recorded}
+use Rattle.md_state.specs.Members.{IsMember, is_degraded}
+use Rattle.md_state.specs.View.{ArrayView, Disk, MirrorView}
+use Rattle.md_state.specs.Rising.{failed, made_faulty, risen, without}
+use Rattle.md_state.specs.FailingMembers.{FailsMember, RefusesFail}
 use Rattle.md_state.specs.Requests.{AreInFlight, IsPending}
-use Rattle.md_state.specs.Rising.{failed, made_due, made_faulty, risen, without}
-use Rattle.md_state.specs.View.{ArrayView, Disk, MemberView, MirrorView, PendingView}
 use Rattle.md_array.specs.Consistency.{IsConsistent}
 use Rattle.md_array.specs.Events.{Happens}
 use Rattle.md_array.specs.MemberEvents.{FailHappens}

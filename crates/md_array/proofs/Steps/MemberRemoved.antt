@@ -12,14 +12,17 @@ use Rattle.md_model.proofs.Between.{between_step, in_flight_step}
 use Rattle.md_assembly.specs.declared.state.MemberState.{MemberState}
 use Rattle.md_assembly.specs.declared.state.MemberState.TheVariants.{InSync, Recovering, Stale, Spare, Faulty}
 use Rattle.md_assembly.specs.States.{is_in_sync, takes_role}
+use Rattle.md_requests.specs.Pending.{PendingView}
+use Rattle.md_kept_members.specs.View.{MemberView}
+use Rattle.md_kept_members.specs.States.{is_active, is_spare}
+use Rattle.md_kept_members.specs.Members.{made_due}
 use Rattle.md_state.specs.declared.step_fault.RemoveFault.{RemoveFault}
 use Rattle.md_state.specs.declared.step_fault.RemoveFault.TheVariants as fault
-use Rattle.md_state.specs.FailingMembers.{is_active}
 use Rattle.md_state.specs.Members.{IsMember, is_degraded}
-use Rattle.md_state.specs.Removing.{RefusesRemove, Removes, before_leaving, is_spare, taken_out, without_spare}
+use Rattle.md_state.specs.Removing.{RefusesRemove, Removes, before_leaving, taken_out, without_spare}
+use Rattle.md_state.specs.View.{ArrayView, Disk, MirrorView}
+use Rattle.md_state.specs.Rising.{risen}
 use Rattle.md_state.specs.Requests.{AreInFlight, IsPending, lacks}
-use Rattle.md_state.specs.Rising.{made_due, risen}
-use Rattle.md_state.specs.View.{ArrayView, Disk, MemberView, MirrorView, PendingView}
 use Rattle.md_array.specs.Consistency.{IsConsistent}
 use Rattle.md_array.specs.Events.{Happens}
 use Rattle.md_array.specs.ReadAsKept.{AreReadAsKept}

@@ -8,13 +8,14 @@ use Rattle.md_device.specs.Splice.{SameOutside}
 use Rattle.md_device.specs.declared.device.Device.{Ghosts}
 use Rattle.md_writes.specs.Writes.{DoesWrites, IsAnyIn, IsCutShort, StopsInWrites, Write}
 use Rattle.md_writes.proofs.Runs.{stops_in_one}
-use Rattle.md_state.specs.View.{ArrayView, Disk, MemberView, MirrorView, disk_of}
+use Rattle.md_kept_members.specs.View.{MemberView}
+use Rattle.md_kept_members.proofs.Members.Indices.{same_listed}
+use Rattle.md_state.specs.View.{ArrayView, Disk, MirrorView, disk_of}
 use Rattle.md_state.specs.Members.{IsMember}
 use Rattle.md_state.specs.DeviceChanges.{LeavesOn, StaysHonest}
 use Rattle.md_state.specs.DiskWrites.{AtDevice, IsFailed, IsTried, IsWritten}
 use Rattle.md_array.specs.Consistency.{IsConsistent}
 use Rattle.md_array.specs.Fits.{Fits, FitsMember}
-use Rattle.md_state.proofs.Members.Indices.{same_listed}
 use Rattle.md_array.proofs.Openings.DevicesInTurn.{disk_at}
 use Rattle.md_array.proofs.General.Indices.{at_set_same}
 

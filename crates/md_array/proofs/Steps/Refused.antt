@@ -1,9 +1,10 @@
 -- Storing something on a member is refused, or its write fails.
 use Rattle.std.proofs.Common.{ℕ, refl, inl, inr}
 use Rattle.md_writes.specs.Writes.{Write}
+use Rattle.md_kept_members.specs.View.{MemberView}
 use Rattle.md_state.specs.declared.step_fault.StoreFault.{StoreFault}
 use Rattle.md_state.specs.declared.step_fault.StoreFault.TheVariants.{Halted, NotActive, MemberFailed}
-use Rattle.md_state.specs.View.{MemberView, MirrorView}
+use Rattle.md_state.specs.View.{MirrorView}
 use Rattle.md_state.specs.Checking.{RefusesInactive, RefusesOutOfSync}
 use Rattle.md_state.specs.DiskWrites.{IsFailed}
 use Rattle.md_state.specs.Failing.{AnswersStore}

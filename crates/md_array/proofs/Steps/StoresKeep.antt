@@ -3,9 +3,10 @@
 use Rattle.std.proofs.Common.{◌<◌, ℕ, inl, inr, sym, subst}
 use Rattle.md_members.specs.Areas.{bitmap_sectors}
 use Rattle.md_model.specs.Events.{Event}
+use Rattle.md_requests.specs.Pending.{PendingView}
 use Rattle.md_state.specs.declared.step_fault.StoreFault.{StoreFault}
 use Rattle.md_state.specs.declared.step_fault.StoreFault.TheVariants.{Halted, NotActive, MemberFailed}
-use Rattle.md_state.specs.View.{MirrorView, PendingView}
+use Rattle.md_state.specs.View.{MirrorView}
 use Rattle.md_state.specs.Requests.{IsPending}
 use Rattle.md_state.specs.StoringMarks.{RefusesMarkSector}
 use Rattle.md_state.specs.Trying.{Refuses}

@@ -9,7 +9,8 @@ use Rattle.md_model.specs.Failures.{LeftBySuper}
 use Rattle.md_model.specs.Events.{Event}
 use Rattle.md_model.proofs.Cases.{none_some}
 use Rattle.md_writes.specs.Writes.{Write}
-use Rattle.md_state.specs.View.{ArrayView, Disk, MemberView, MirrorView}
+use Rattle.md_kept_members.specs.View.{MemberView}
+use Rattle.md_state.specs.View.{ArrayView, Disk, MirrorView}
 use Rattle.md_array.specs.Consistency.{IsConsistent}
 use Rattle.md_array.specs.Events.{HappensIfOldNewOrNone, IsOldNewOrNone}
 use Rattle.md_array.specs.ReadAsKept.{HasOwnSuper}

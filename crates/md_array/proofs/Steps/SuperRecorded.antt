@@ -18,7 +18,9 @@ use Rattle.md_model.specs.Steps.{KeepsList, recorded, recorded_device, super_for
 use Rattle.md_model.specs.Events.{Event, Step}
 use Rattle.md_model.proofs.Between.{between_step, in_flight_step}
 use Rattle.md_model.proofs.Puts.{put-self}
-use Rattle.md_state.specs.View.{ArrayView, Disk, MemberView, MirrorView, PendingView}
+use Rattle.md_requests.specs.Pending.{PendingView}
+use Rattle.md_kept_members.specs.View.{MemberView}
+use Rattle.md_state.specs.View.{ArrayView, Disk, MirrorView}
 use Rattle.md_state.specs.Requests.{IsPending}
 use Rattle.md_array.specs.Consistency.{HasPlaces, HasSuper, IsConsistent}
 use Rattle.md_array.specs.ReadAsKept.{IsReadAsKept}

@@ -4,16 +4,18 @@ use Rattle.std.specs.Prelude.{option_map, slice_get}
 use Rattle.std.proofs.lemmas.Bool.{and_from}
 use Rattle.std.proofs.lemmas.Option.{same_Some}
 use Rattle.md_super.specs.declared.superblock.Superblock.{Superblock}
+use Rattle.md_requests.specs.Pending.{PendingView}
+use Rattle.md_kept_members.specs.View.{MemberView}
+use Rattle.md_kept_members.proofs.Members.Counting.{some_counted}
 use Rattle.md_state.specs.declared.step_fault.WriteMemberFault.{WriteMemberFault}
 use Rattle.md_state.specs.declared.step_fault.WriteMemberFault.TheVariants.{AlreadyWritten, Halted, MemberFailed, NotActive, NotMarked, NotRecorded}
-use Rattle.md_state.specs.View.{ArrayView, Disk, MemberView, MirrorView, PendingView}
+use Rattle.md_state.specs.View.{ArrayView, Disk, MirrorView}
 use Rattle.md_state.specs.Members.{IsMember}
 use Rattle.md_state.specs.DiskWrites.{IsFailed, IsWritten}
 use Rattle.md_state.specs.Failing.{AnswersWrite}
 use Rattle.md_state.specs.Requests.{IsPending, lacks}
 use Rattle.md_state.specs.WritingMember.{MayWrite, RefusesWriteMember, WritesTo}
 use Rattle.md_array.specs.Consistency.{IsConsistent}
-use Rattle.md_state.proofs.Members.Counting.{some_counted}
 
 -- the superblock is that of member k
 abbrev pub IsOwn : ArrayView → ℕ → Superblock → Type 0

@@ -9,7 +9,7 @@ use Rattle.md_badblocks.specs.Runs.{IsBad, LiesIn}
 use Rattle.md_members.specs.Areas.{has_bad_blocks}
 use Rattle.md_members.specs.Members.{HasBadSet, reads_log}
 use Rattle.md_members.specs.Reading.{ReadsLog}
-use Rattle.md_state.specs.OwnFields.{kept_shift, stored_next}
+use Rattle.md_kept_members.specs.OwnFields.{kept_shift, stored_next}
 use Rattle.md_array.specs.Worlds.{from_super, is_listed_next, is_logged, lies_in, sector_at}
 use Rattle.md_model.proofs.Cases.{both, by_test, never}
 use Rattle.md_array.proofs.Openings.OwnFields.{none_listed, some_listed}

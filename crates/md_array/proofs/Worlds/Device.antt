@@ -15,8 +15,9 @@ use Rattle.md_members.specs.Members.{sectors_of}
 use Rattle.md_assembly.specs.States.{is_in_sync}
 use Rattle.md_badblocks.specs.Runs.{IsBad}
 use Rattle.md_model.specs.Devices.{is_accepted}
-use Rattle.md_state.specs.View.{Disk, ArrayView, MemberView}
-use Rattle.md_state.specs.Members.{NeedsMarks}
+use Rattle.md_kept_members.specs.View.{MemberView}
+use Rattle.md_kept_members.specs.Members.{NeedsMarks}
+use Rattle.md_state.specs.View.{Disk, ArrayView}
 use Rattle.md_state.specs.DeviceChanges.{IsUnchanged}
 use Rattle.md_array.specs.Consistency.{HasPlaces}
 use Rattle.md_array.specs.ReadAsKept.{HasWidth, IsReadAsKept, chunk_size_on}

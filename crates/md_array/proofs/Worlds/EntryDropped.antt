@@ -4,10 +4,11 @@ use Rattle.std.proofs.lemmas.Option.{same_Some}
 use Rattle.md_model.specs.Worlds as worlds
 use Rattle.md_model.specs.Membership as membership
 use Rattle.md_assembly.specs.States.{role_in, takes_role}
+use Rattle.md_kept_members.specs.View.{MemberView}
 use Rattle.md_state.specs.InMemory.{HasChunks, HasRoles}
 use Rattle.md_state.specs.Members.{IsMember}
 use Rattle.md_state.specs.Removing.{without_entry}
-use Rattle.md_state.specs.View.{ArrayView, Disk, MemberView}
+use Rattle.md_state.specs.View.{ArrayView, Disk}
 use Rattle.md_array.specs.Consistency.{IsConsistent}
 use Rattle.md_array.specs.Fits.{Fits}
 use Rattle.md_array.specs.Worlds.{stored_on, world_on}

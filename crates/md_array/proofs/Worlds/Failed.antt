@@ -15,11 +15,14 @@ use Rattle.md_model.specs.Events.{Event, Step}
 use Rattle.md_model.specs.Runs.{failed_after}
 use Rattle.md_model.proofs.Between.{between_step, in_flight_step}
 use Rattle.md_writes.specs.Writes.{Write}
-use Rattle.md_state.specs.View.{ArrayView, Disk, MemberView, MirrorView}
-use Rattle.md_state.specs.Members.{IsMember, is_degraded, is_in_sync_as, is_recorded}
+use Rattle.md_kept_members.specs.View.{MemberView}
+use Rattle.md_kept_members.specs.States.{is_in_sync_as, is_recorded}
+use Rattle.md_kept_members.specs.Members.{made_due}
+use Rattle.md_state.specs.Members.{IsMember, is_degraded}
+use Rattle.md_state.specs.View.{ArrayView, Disk, MirrorView}
+use Rattle.md_state.specs.Rising.{failed, made_faulty, risen, without}
 use Rattle.md_state.specs.DiskWrites.{AtDevice, IsTried}
 use Rattle.md_state.specs.Requests.{AreInFlight}
-use Rattle.md_state.specs.Rising.{failed, made_due, made_faulty, risen, without}
 use Rattle.md_state.specs.Trying.{FailsWriting}
 use Rattle.md_array.specs.Consistency.{IsConsistent}
 use Rattle.md_array.specs.Events.{Does, WritesOnce}

@@ -3,7 +3,8 @@ use Rattle.std.proofs.Common.{◌≡◌, ℕ, true, true≢false, sym, ap, ◌�
 use Rattle.md_assembly.specs.States.{is_in_sync}
 use Rattle.md_model.specs.States as model
 use Rattle.md_model.specs.Worlds as worlds
-use Rattle.md_state.specs.View.{Disk, ArrayView, MemberView}
+use Rattle.md_kept_members.specs.View.{MemberView}
+use Rattle.md_state.specs.View.{Disk, ArrayView}
 use Rattle.md_state.specs.Members.{IsInSync, IsMember}
 use Rattle.md_array.specs.Worlds.{kind_of, world_on}
 use Rattle.md_array.proofs.Worlds.Shown.{at_is, at_past, by_member}

@@ -8,8 +8,9 @@ use Rattle.md_bitmap.specs.Header.{IsHeader}
 use Rattle.md_members.specs.Members.{IsAccepted}
 use Rattle.md_assembly.specs.States.{is_in_sync}
 use Rattle.md_model.specs.Devices.{Super, accepts, is_accepted}
-use Rattle.md_state.specs.View.{ArrayView, MemberView}
-use Rattle.md_state.specs.Members.{NeedsMarks}
+use Rattle.md_kept_members.specs.View.{MemberView}
+use Rattle.md_kept_members.specs.Members.{NeedsMarks}
+use Rattle.md_state.specs.View.{ArrayView}
 use Rattle.md_array.specs.Worlds.{block_on, from_super, header_fits, header_on, stored_of, super_in, super_of}
 use Rattle.md_model.proofs.Cases.{both, by_test}
 

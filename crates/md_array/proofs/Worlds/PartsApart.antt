@@ -14,7 +14,8 @@ use Rattle.md_members.specs.Members.{sectors_of}
 use Rattle.md_model.specs.Sectors.{block_of}
 use Rattle.md_model.specs.Devices.{Stored}
 use Rattle.md_model.proofs.Cases.{is_below}
-use Rattle.md_state.specs.View.{ArrayView, Disk, MemberView, MirrorView}
+use Rattle.md_kept_members.specs.View.{MemberView}
+use Rattle.md_state.specs.View.{ArrayView, Disk, MirrorView}
 use Rattle.md_state.specs.Members.{IsMember}
 use Rattle.md_array.specs.Consistency.{IsConsistent}
 use Rattle.md_array.specs.Worlds.{block_on, from_super, header_fits, header_on, stored_of, super_in}

@@ -12,7 +12,7 @@ use Rattle.md_members.specs.declared.info.MemberInfo.{MemberInfo}
 use Rattle.md_members.specs.Areas.{has_bitmap, bitmap_sectors}
 use Rattle.md_members.specs.Reading.{ReadsSuper, ReadsBitmap, ReadsHeader, BitmapStartsAt, chunks_of, front_of}
 use Rattle.md_members.specs.Members.{HasBitmap, IsMember, sectors_of}
-use Rattle.md_state.specs.OwnFields.{kept_superblock}
+use Rattle.md_kept_members.specs.OwnFields.{kept_superblock}
 use Rattle.md_array.specs.Worlds.{header_on}
 use Rattle.md_array.proofs.Openings.OwnFields.{bitmap_same, reads_next}
 use Rattle.md_array.proofs.Worlds.Outside.{starts_at}

@@ -11,10 +11,13 @@ use Rattle.md_super.specs.Log.{has_bad_block_log}
 use Rattle.md_super.specs.Merge.{merged}
 use Rattle.md_bitmap.specs.declared.chunks.Chunks.{Chunks}
 use Rattle.md_writes.specs.Writes.{Write}
-use Rattle.md_state.specs.View.{ArrayView, Disk, MemberView, MirrorView}
-use Rattle.md_state.specs.Members.{IsMember, is_recorded}
+use Rattle.md_kept_members.specs.View.{MemberView}
+use Rattle.md_kept_members.specs.States.{is_recorded}
+use Rattle.md_kept_members.specs.Members.{made_due}
+use Rattle.md_state.specs.Members.{IsMember}
+use Rattle.md_state.specs.Rising.{failed, made_faulty, risen}
+use Rattle.md_state.specs.View.{ArrayView, Disk, MirrorView}
 use Rattle.md_state.specs.DiskWrites.{AtDevice, IsTried}
-use Rattle.md_state.specs.Rising.{failed, made_due, made_faulty, risen}
 use Rattle.md_array.specs.ReadAsKept.{AreReadAsKept, HasOwnSuper, HasWidth, IsFromBefore, IsReadAsKept, IsSuperOn}
 use Rattle.md_array.specs.Recording.{IsReadable, super_write}
 use Rattle.md_array.specs.Worlds.{block_on, from_super}

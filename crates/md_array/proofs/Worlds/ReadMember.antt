@@ -13,9 +13,10 @@ use Rattle.md_members.specs.Members as members
 use Rattle.md_members.specs.Members.{IsAccepted, sectors_of}
 use Rattle.md_assembly.specs.States.{state_of}
 use Rattle.md_model.specs.Devices.{is_accepted}
-use Rattle.md_state.specs.View.{ArrayView, MemberView}
-use Rattle.md_state.specs.Members.{is_recorded}
-use Rattle.md_state.specs.Kept.{IsKept}
+use Rattle.md_kept_members.specs.View.{MemberView}
+use Rattle.md_kept_members.specs.States.{is_recorded}
+use Rattle.md_kept_members.specs.Kept.{IsKept}
+use Rattle.md_state.specs.View.{ArrayView}
 use Rattle.md_array.specs.ReadAsKept.{HasOwnSuper, HasWidth, chunk_size_on}
 use Rattle.md_array.specs.Worlds.{block_on, from_super, is_listed, stored_of, super_in, super_of}
 use Rattle.md_array.proofs.Openings.OwnFields.{state_same, super_same}

@@ -13,10 +13,13 @@ use Rattle.md_bitmap.specs.Marks.{is_set}
 use Rattle.md_assembly.specs.declared.state.MemberState.{MemberState}
 use Rattle.md_assembly.specs.declared.state.MemberState.TheVariants.{InSync, Recovering, Stale, Spare, Faulty}
 use Rattle.md_assembly.specs.States.{has_recovery_offset, is_in_sync, role_in, takes_role}
-use Rattle.md_state.specs.View.{Disk, ArrayView, MemberView, MirrorView}
-use Rattle.md_state.specs.Members.{IsMember, is_degraded, is_filled, is_in_sync_as, faulty_role}
+use Rattle.md_kept_members.specs.View.{MemberView}
+use Rattle.md_kept_members.specs.States.{is_in_sync_as}
+use Rattle.md_kept_members.specs.Members.{made_due}
+use Rattle.md_state.specs.Members.{IsMember, is_degraded, is_filled, faulty_role}
+use Rattle.md_state.specs.Rising.{has_number, is_absent, roles_at_rise, risen}
+use Rattle.md_state.specs.View.{Disk, ArrayView, MirrorView}
 use Rattle.md_state.specs.InMemory.{HasChunks, HasRoles}
-use Rattle.md_state.specs.Rising.{has_number, is_absent, roles_at_rise, made_due, risen}
 use Rattle.md_array.specs.Consistency.{HasSuper, IsConsistent}
 use Rattle.md_array.specs.Fits.{Fits, FitsMember}
 use Rattle.md_array.specs.Worlds.{geometry_of, kind_of, stored_on, world_on}

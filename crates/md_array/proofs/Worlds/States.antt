@@ -7,8 +7,8 @@ use Rattle.md_assembly.specs.declared.state.MemberState.TheVariants.{InSync, Rec
 use Rattle.md_assembly.specs.States.{state_of, role_in, is_in_sync, takes_role, is_up_to_date, has_recovery_offset}
 use Rattle.md_model.specs.States as model
 use Rattle.md_model.specs.Assembly as model_assembly
+use Rattle.md_kept_members.specs.States.{is_recorded}
 use Rattle.md_state.specs.View.{ArrayView}
-use Rattle.md_state.specs.Members.{is_recorded}
 use Rattle.md_array.specs.Worlds.{kind_of, geometry_of, super_of}
 
 pub same_in_sync : (s : MemberState) → model.is_in_sync (kind_of s) ≡ is_in_sync s

@@ -9,7 +9,8 @@ use Rattle.md_model.specs.Failures as failures
 use Rattle.md_model.proofs.Cases.{by_test, below-nat_lt, is_below}
 use Rattle.md_model.proofs.Puts.{by_same, put-hit, put-miss}
 use Rattle.md_assembly.specs.States.{has_recovery_offset, role_in}
-use Rattle.md_state.specs.View.{Disk, ArrayView, MemberView}
+use Rattle.md_kept_members.specs.View.{MemberView}
+use Rattle.md_state.specs.View.{Disk, ArrayView}
 use Rattle.md_bitmap.specs.Marks.{is_set}
 use Rattle.md_state.specs.Members.{IsMember, faulty_role, clean_offset}
 use Rattle.md_state.specs.Rising.{made_faulty, roles_without, without}

@@ -8,7 +8,8 @@ use Rattle.md_model.specs.Assembly.{IsFreshest}
 use Rattle.md_model.specs.Devices.{Super}
 use Rattle.md_model.specs.Openings.{HasStates}
 use Rattle.md_model.specs.Worlds as worlds
-use Rattle.md_state.specs.View.{Disk, ArrayView, MemberView, MirrorView}
+use Rattle.md_kept_members.specs.View.{MemberView}
+use Rattle.md_state.specs.View.{Disk, ArrayView, MirrorView}
 use Rattle.md_state.specs.Members.{IsMember}
 use Rattle.md_array.specs.Opening.{IsOpenedFrom}
 use Rattle.md_array.specs.Worlds.{AreHonest, geometry_of, super_of, kind_of, world_of, none_in_flight}

@@ -19,8 +19,10 @@ use Rattle.md_model.specs.Sectors.{chunk_of}
 use Rattle.md_model.specs.Devices.{accepts, is_accepted, is_marked}
 use Rattle.md_model.proofs.Cases.{by_test}
 use Rattle.md_model.proofs.Puts.{by_same}
-use Rattle.md_state.specs.View.{ArrayView, Disk, MemberView}
-use Rattle.md_state.specs.Members.{IsMember, NeedsMarks}
+use Rattle.md_kept_members.specs.View.{MemberView}
+use Rattle.md_kept_members.specs.Members.{NeedsMarks}
+use Rattle.md_state.specs.Members.{IsMember}
+use Rattle.md_state.specs.View.{ArrayView, Disk}
 use Rattle.md_state.specs.DeviceChanges.{IsLeftAlone}
 use Rattle.md_array.specs.Opening.{IsArrayOf}
 use Rattle.md_array.specs.ReadAsKept.{chunk_size_on}

@@ -5,7 +5,8 @@ use Rattle.md_assembly.specs.States.{is_in_sync}
 use Rattle.md_model.specs.Devices.{Stored, Super, is_accepted}
 use Rattle.md_model.specs.Openings.{HasMarks}
 use Rattle.md_model.specs.Worlds as worlds
-use Rattle.md_state.specs.View.{Disk, ArrayView, MemberView, MirrorView}
+use Rattle.md_kept_members.specs.View.{MemberView}
+use Rattle.md_state.specs.View.{Disk, ArrayView, MirrorView}
 use Rattle.md_state.specs.Members.{IsMember, IsAlone}
 use Rattle.md_array.specs.Opening.{IsOpenedFrom}
 use Rattle.md_array.specs.Worlds.{AreHonest, super_of, world_of, none_in_flight}

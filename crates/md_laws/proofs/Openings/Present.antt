@@ -7,9 +7,10 @@ use Rattle.md_model.specs.Assembly.{IsFreshest}
 use Rattle.md_model.specs.Devices.{Stored, Super}
 use Rattle.md_model.specs.Openings.{HasMembers}
 use Rattle.md_model.specs.Worlds as worlds
-use Rattle.md_state.specs.View.{Disk, ArrayView, MemberView, MirrorView}
+use Rattle.md_kept_members.specs.View.{MemberView}
+use Rattle.md_kept_members.specs.OwnFields.{kept_superblock}
+use Rattle.md_state.specs.View.{Disk, ArrayView, MirrorView}
 use Rattle.md_state.specs.Members.{IsMember}
-use Rattle.md_state.specs.OwnFields.{kept_superblock}
 use Rattle.md_array.specs.Opening.{IsOpenedFrom}
 use Rattle.md_array.specs.Worlds.{AreHonest, super_of, world_of, none_in_flight}
 use Rattle.md_array.proofs.Openings.OwnFields.{super_same}

@@ -13,7 +13,8 @@ use Rattle.md_members.specs.Reading.{ReadsSuper}
 use Rattle.md_model.specs.Sectors.{chunk_of}
 use Rattle.md_model.specs.Devices.{Stored, is_marked}
 use Rattle.md_model.specs.Stops as stops
-use Rattle.md_state.specs.View.{ArrayView, Disk, MemberView}
+use Rattle.md_kept_members.specs.View.{MemberView}
+use Rattle.md_state.specs.View.{ArrayView, Disk}
 use Rattle.md_state.specs.Members.{IsMember}
 use Rattle.md_array.specs.ReadAsKept.{IsOwnSuper, IsReadAsKept, IsSuperOn}
 use Rattle.md_array.specs.Opening.{IsArrayOf}

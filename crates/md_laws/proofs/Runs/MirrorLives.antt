@@ -19,7 +19,8 @@ use Rattle.md_model.specs.Worlds as worlds
 use Rattle.md_model.proofs.OpeningCovers.{own_of}
 use Rattle.md_model.proofs.Fits as fits
 use Rattle.md_model.proofs.Lives.{always_covered, always_out, always_safe, always_stays_out}
-use Rattle.md_state.specs.View.{Disk, MemberView, MirrorView}
+use Rattle.md_kept_members.specs.View.{MemberView}
+use Rattle.md_state.specs.View.{Disk, MirrorView}
 use Rattle.md_state.specs.Members.{IsInSync, IsMember}
 use Rattle.md_array.specs.Opening.{IsOpenedFrom}
 use Rattle.md_array.specs.Worlds.{geometry_of, none_in_flight, nothing_stored, stored_on, super_of, world_of}

@@ -6,7 +6,8 @@ use Rattle.md_members.specs.Areas.{bitmap_sectors}
 use Rattle.md_model.specs.Devices.{AgreeAt, Stored}
 use Rattle.md_model.specs.Events.{Event}
 use Rattle.md_model.proofs.Cases.{by_test, is_below}
-use Rattle.md_state.specs.View.{Disk, MirrorView, PendingView}
+use Rattle.md_requests.specs.Pending.{PendingView}
+use Rattle.md_state.specs.View.{Disk, MirrorView}
 use Rattle.md_state.specs.Requests.{among, request_of}
 use Rattle.md_array.specs.Consistency.{IsConsistent}
 use Rattle.md_array.specs.Events.{BeginHappens, Happens}

@@ -19,11 +19,13 @@ use Rattle.md_model.specs.Worlds as worlds
 use Rattle.md_model.specs.Worlds.{World}
 use Rattle.md_model.proofs.Cases.{none_some}
 use Rattle.md_model.proofs.Puts.{by_same}
-use Rattle.md_state.specs.View.{ArrayView, Disk, MemberView, MirrorView}
+use Rattle.md_requests.specs.Pending.{request_sectors}
+use Rattle.md_kept_members.specs.View.{MemberView}
+use Rattle.md_state.specs.View.{ArrayView, Disk, MirrorView}
 use Rattle.md_state.specs.Members.{IsMember}
 use Rattle.md_state.specs.DeviceChanges.{LeavesOn, StaysHonest}
+use Rattle.md_state.specs.Requests.{among, request_of}
 use Rattle.md_state.specs.DiskWrites.{IsFailed, IsTried, IsWritten}
-use Rattle.md_state.specs.Requests.{among, request_of, request_sectors}
 use Rattle.md_state.specs.StoringMarks.{StoresMarkSector}
 use Rattle.md_state.specs.WritingMember.{MayWrite, data_write}
 use Rattle.md_array.specs.ReadAsKept.{HasOwnSuper, IsReadAsKept}

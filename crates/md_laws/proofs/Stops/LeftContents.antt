@@ -4,7 +4,8 @@ use Rattle.std.specs.Prelude.{option_map}
 use Rattle.std.proofs.lemmas.List.{length-map}
 use Rattle.std.proofs.lemmas.Option.{none-some, same_Some, slice_get-map, slice_get_within}
 use Rattle.md_model.specs.Devices.{Stored}
-use Rattle.md_state.specs.View.{ArrayView, Disk, MemberView}
+use Rattle.md_kept_members.specs.View.{MemberView}
+use Rattle.md_state.specs.View.{ArrayView, Disk}
 use Rattle.md_state.specs.Members.{IsMember}
 use Rattle.md_array.specs.Worlds.{stored_of, stored_on}
 use Rattle.md_laws.specs.Left.{contents_of}

@@ -10,7 +10,8 @@ use Rattle.md_model.specs.Events.{Event}
 use Rattle.md_model.proofs.Puts.{by_same}
 use Rattle.md_writes.specs.Writes.{IsCutShort}
 use Rattle.md_writes.proofs.Runs.{cut_one}
-use Rattle.md_state.specs.View.{Disk, MemberView, MirrorView}
+use Rattle.md_kept_members.specs.View.{MemberView}
+use Rattle.md_state.specs.View.{Disk, MirrorView}
 use Rattle.md_state.specs.CopyingData.{CopiesSector, CopiesTo, MayCopy, run_write}
 use Rattle.md_state.specs.DeviceChanges.{StaysHonest}
 use Rattle.md_state.specs.ReadingData.{HoldsData}

@@ -4,9 +4,9 @@ use Rattle.std.proofs.lemmas.List.FromFn.{fill_by_all}
 use Rattle.md_assembly.specs.States.{role_in}
 use Rattle.md_super.specs.Profile.{IsProfile}
 use Rattle.md_super.specs.declared.superblock.Superblock.{Superblock}
+use Rattle.md_kept_members.proofs.Members.Indices.{cases_more}
 use Rattle.md_state.specs.View.{ArrayView}
 use Rattle.md_state.specs.Rising.{has_number, is_absent, roles_at_rise}
-use Rattle.md_state.proofs.Members.Indices.{cases_more}
 use Rattle.md_state.proofs.Changes.Profiles.{same_profile}
 
 abbrev pub with_roles : ArrayView → List ℕ → ArrayView

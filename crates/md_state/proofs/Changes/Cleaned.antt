@@ -5,7 +5,6 @@ use Rattle.md_super.specs.declared.superblock.Superblock.{Superblock}
 use Rattle.md_state.specs.declared.step_fault.CleanFault.TheVariants as clean
 use Rattle.md_state.specs.View.{ArrayView}
 use Rattle.md_state.specs.Members.{clean_offset}
-use Rattle.md_state.specs.Rising.{risen}
 use Rattle.md_state.specs.MakingClean.{with_clean}
 use Rattle.md_state.proofs.Changes.Profiles.{same_profile}
 

@@ -6,7 +6,7 @@ use Rattle.md_bitmap.specs.Marks.{Bitmap}
 use Rattle.md_inflight.specs.Inflight.{InflightList}
 use Rattle.md_super.specs.Profile.{IsProfile}
 use Rattle.md_super.specs.declared.superblock.Superblock.{Superblock}
-use Rattle.md_state.specs.declared.extent.Extent.{Extent}
+use Rattle.md_requests.specs.declared.extent.Extent.{Extent}
 use Rattle.md_state.specs.declared.step_fault.BeginFault.{BeginFault}
 use Rattle.md_state.specs.declared.step_fault.BeginFault.TheVariants.{NoMemory, NumbersSpent}
 use Rattle.md_state.specs.View.{ArrayView, Disk}

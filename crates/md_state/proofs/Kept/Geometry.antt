@@ -15,9 +15,9 @@ use Rattle.md_assembly.specs.declared.fault.AssembleFault.TheVariants.{Geometry,
 use Rattle.md_assembly.specs.Assembled.{IsAssembled, superblocks}
 use Rattle.md_assembly.specs.Faults.{HasOtherGeometry, LacksBitmap, NoFault}
 use Rattle.md_assembly.specs.Listed.{IsLeast, MemberAt, PairAt}
-use Rattle.md_state.specs.View.{MemberView}
-use Rattle.md_state.specs.Remembering.{AreKept, AreWhole, HaveChunks, IsChunkingOf}
-use Rattle.md_state.proofs.Members.Indices.{listed_at}
+use Rattle.md_kept_members.specs.View.{MemberView}
+use Rattle.md_kept_members.specs.Remembering.{AreKept, AreWhole, HaveChunks, IsChunkingOf}
+use Rattle.md_kept_members.proofs.Members.Indices.{listed_at}
 
 -- what holds of no least number holds of none
 none_below : (Fact : ℕ → Type 0) → ((n : ℕ) → IsLeast Fact n → ⊥) → (m n : ℕ) → n < m → Fact n → ⊥

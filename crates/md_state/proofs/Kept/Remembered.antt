@@ -10,10 +10,11 @@ use Rattle.md_members.specs.declared.info.MemberInfo.{MemberInfo}
 use Rattle.md_assembly.specs.declared.assembling.Assembly.{Assembly}
 use Rattle.md_assembly.specs.Assembled.{IsAssembled}
 use Rattle.md_assembly.specs.Faults.{NoFault}
-use Rattle.md_state.specs.View.{ArrayView, MemberView}
+use Rattle.md_kept_members.specs.View.{MemberView}
+use Rattle.md_kept_members.specs.Remembering.{AreKept, AreWhole, ClearedIn, HaveChunks, IsAloneIn, IsChunkingOf, IsLastClearedOr, IsMarkedIn}
+use Rattle.md_state.specs.View.{ArrayView}
+use Rattle.md_state.specs.Remembered.{ClearedAt, IsLastCleared, IsRemembered}
 use Rattle.md_state.specs.Members.{IsAlone, IsInSync}
-use Rattle.md_state.specs.Kept.{ClearedAt, IsLastCleared, IsRemembered}
-use Rattle.md_state.specs.Remembering.{AreKept, AreWhole, ClearedIn, HaveChunks, IsAloneIn, IsChunkingOf, IsLastClearedOr, IsMarkedIn}
 use Rattle.md_state.proofs.Kept.Geometry.{count_of, width_of}
 
 at_from_in : (a : ArrayView) (n e : ℕ) → ClearedIn a.members n e → ClearedAt a e

@@ -1,9 +1,10 @@
 -- Members of an array that are read by their indices.
 use Rattle.std.proofs.Common.{◌≡◌, ◌∙◌, ℕ, ◌<◌, length, get_or, refl, ap}
 use Rattle.std.proofs.lemmas.Option.{slice_get_read}
-use Rattle.md_state.specs.View.{ArrayView, MemberView}
+use Rattle.md_kept_members.specs.View.{MemberView}
+use Rattle.md_kept_members.proofs.Members.Indices.{same_listed}
+use Rattle.md_state.specs.View.{ArrayView}
 use Rattle.md_state.specs.Members.{IsMember}
-use Rattle.md_state.proofs.Members.Indices.{same_listed}
 
 -- what was read of b is that member of the array
 pub member_read : (a b : ArrayView) (k : ℕ) (x : MemberView) → b ≡ a → k < length a.members → x ≡ get_or b.members k x → IsMember a k x

@@ -5,10 +5,12 @@ use Rattle.std.proofs.lemmas.Bool.{and_parts, and_from, cond-true, cond-false, l
 use Rattle.std.proofs.lemmas.Option.{slice_get_within, get_or_from_slice_get, same_Some, slice_get_cases}
 use Rattle.std.proofs.lemmas.List.Quantifiers.{position-Some}
 use Rattle.md_assembly.specs.States.{is_in_sync}
-use Rattle.md_state.specs.View.{ArrayView, MemberView, PendingView}
+use Rattle.md_requests.specs.Pending.{PendingView, has_written}
+use Rattle.md_kept_members.specs.View.{MemberView}
+use Rattle.md_state.specs.View.{ArrayView}
 use Rattle.md_state.specs.Members.{AllInSync, IsFirstInSyncWithout}
+use Rattle.md_state.specs.Requests.{lacks}
 use Rattle.md_state.specs.Finishing.{HasBytesOf}
-use Rattle.md_state.specs.Requests.{has_written, lacks}
 use Rattle.md_state.specs.WritingMember.{IsNotDue}
 
 not_false : (b : Bool) → not b ≡ false → b ≡ true

@@ -1,5 +1,6 @@
 use Rattle.std.proofs.Common.{OnOk, OnErr, subst, sym}
-use Rattle.md_state.specs.View.{MemberView, disk_of}
+use Rattle.md_kept_members.specs.View.{MemberView}
+use Rattle.md_state.specs.View.{disk_of}
 use Rattle.md_state.specs.Headers.{IsHeaderFor}
 use Rattle.md_array.specs.Storing.{FailsToStore, StoresMarks}
 use Rattle.md_array.proofs.Openings.StoredOn.{fails_to_store, stores}

@@ -1,8 +1,10 @@
 use Rattle.std.proofs.Common.{arith, ◌≡◌, ◌∙◌, ◌+◌, ◌<◌, ap, sym, map, length, List, ℕ, refl, subst, get_or, length-set}
 use Rattle.std.proofs.lemmas.List.{length-map, map-set}
 use Rattle.std.proofs.lemmas.Option.{slice_get_read}
-use Rattle.md_state.specs.View.{ArrayView, Disk, MemberView, disk_of}
-use Rattle.md_state.specs.Members.{IsMember, NeedsMarks}
+use Rattle.md_kept_members.specs.View.{MemberView}
+use Rattle.md_kept_members.specs.Members.{NeedsMarks}
+use Rattle.md_state.specs.Members.{IsMember}
+use Rattle.md_state.specs.View.{ArrayView, Disk, disk_of}
 use Rattle.md_array.specs.Storing.{FailsToStore, IsMarkedBy, StopsAtMember}
 use Rattle.md_array.proofs.General.Answered.{err_gives, ok_gives}
 use Rattle.md_array.proofs.Openings.DevicesInTurn.{disk_at}

@@ -1,5 +1,5 @@
 use Rattle.std.proofs.Common.{rules, ◌≡◌, Err, refl}
-use Rattle.md_state.proofs.Members.Indices.{listed_at}
+use Rattle.md_kept_members.proofs.Members.Indices.{listed_at}
 use Rattle.md_copy.specs.declared.fault.RebuildFault.TheVariants.{NoMemory}
 use Rattle.md_cli.proofs.Planned.{refuses_target}
 use Rattle.md_cli.proofs.rebuild_plan.plan_target.Goals as goal

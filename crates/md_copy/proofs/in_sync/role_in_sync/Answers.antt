@@ -1,4 +1,4 @@
-use Rattle.md_state.proofs.Members.Roles.{one_bit}
+use Rattle.md_kept_members.proofs.Members.Roles.{one_bit}
 use Rattle.md_copy.proofs.in_sync.role_in_sync.Goals as goal
 
 pub returns : goal.returns

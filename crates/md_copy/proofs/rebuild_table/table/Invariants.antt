@@ -2,8 +2,8 @@ use Rattle.std.proofs.Common.{◌≡◌, ◌<◌, ◌≤◌, length}
 use Rattle.std.specs.List.{All}
 use Rattle.md_cert.specs.declared.table.Row.{Row}
 use Rattle.md_cert.specs.Tables.{chunks_of}
+use Rattle.md_kept_members.specs.View.{MemberView}
 use Rattle.md_state.specs.Members.{IsMember}
-use Rattle.md_state.specs.View.{MemberView}
 use Rattle.md_copy.specs.Sources.{HasSources}
 use Rattle.md_copy.proofs.Rows.{missing_below}
 use Rattle.md_copy.proofs.rebuild_table.table.Given as goal

@@ -1,5 +1,5 @@
 use Rattle.std.proofs.Common.{inl, inr, subst}
-use Rattle.md_state.proofs.Members.Indices.{cases_more}
+use Rattle.md_kept_members.proofs.Members.Indices.{cases_more}
 use Rattle.md_copy.specs.Targets.{IsFree}
 use Rattle.md_copy.proofs.target.has_free_role.Goals as goal
 

@@ -1,5 +1,5 @@
 use Rattle.std.proofs.Common.{◌≡◌, true}
-use Rattle.md_state.specs.View.{MemberView}
+use Rattle.md_kept_members.specs.View.{MemberView}
 use Rattle.md_state.specs.Members.{IsMember}
 use Rattle.md_state.specs.WritingMember.{IsNotDue}
 use Rattle.md_metadata.specs.Storing.{IsRecording, IsSector}

@@ -4,7 +4,7 @@ use Rattle.std.proofs.lemmas.Option.{same_Some}
 use Rattle.md_badblocks.specs.declared.run.Run.{Run}
 use Rattle.md_badblocks.specs.Runs.{IsBad}
 use Rattle.md_badblocks.proofs.Rising.{bad_below}
-use Rattle.md_state.specs.View.{MemberView}
+use Rattle.md_kept_members.specs.View.{MemberView}
 use Rattle.md_resync.proofs.source.lists.Goals as goal
 
 pub returns-in_default : goal.returns-in_default

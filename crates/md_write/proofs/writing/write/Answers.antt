@@ -1,5 +1,5 @@
 use Rattle.std.proofs.Common.{◌≡◌, ◌∙◌, ◌/◌, ◌+◌, ◌-◌, sym, ap, subst, inr, length}
-use Rattle.md_state.specs.View.{PendingView}
+use Rattle.md_requests.specs.Pending.{PendingView}
 use Rattle.md_bitmap.specs.declared.chunks.Chunks.{Chunks}
 use Rattle.md_write.specs.Writing.{RefusesWrite}
 use Rattle.md_write.proofs.Whole.{chunks_begun, finish_given, halts_write, other_number, writes}

@@ -2,7 +2,8 @@ use Rattle.std.proofs.Common.{◌≡◌, ◌<◌, ◌≤◌, ℕ, arith, length,
 use Rattle.std.proofs.lemmas.Result.{err_from_is_err_and}
 use Rattle.md_members.specs.Areas.{bitmap_sectors}
 use Rattle.md_writes.specs.Writes.{Write}
-use Rattle.md_state.specs.View.{MemberView, MirrorView, disk_of}
+use Rattle.md_kept_members.specs.View.{MemberView}
+use Rattle.md_state.specs.View.{MirrorView, disk_of}
 use Rattle.md_state.specs.Checking.{IsServing}
 use Rattle.md_state.specs.Members.{IsMember}
 use Rattle.md_state.specs.StoringMarks.{IsMarkWrite, MayStoreMarks, RefusesMarkSector, StoresMarkSector}

@@ -1,7 +1,9 @@
 use Rattle.std.proofs.Common.{◌≡◌, ◌<◌, ◌↔◌, IsTrue, length, subst, sym}
-use Rattle.md_state.specs.View.{MemberView, MirrorView}
-use Rattle.md_state.specs.Members.{IsMember, NeedsMarks}
-use Rattle.md_state.proofs.Members.Indices.{same_listed}
+use Rattle.md_kept_members.specs.View.{MemberView}
+use Rattle.md_kept_members.specs.Members.{NeedsMarks}
+use Rattle.md_kept_members.proofs.Members.Indices.{same_listed}
+use Rattle.md_state.specs.Members.{IsMember}
+use Rattle.md_state.specs.View.{MirrorView}
 use Rattle.md_state.proofs.Members.At.{member_read}
 use Rattle.md_array.proofs.mirror.Mirror.stored_marks_at_opening.Goals as goal
 

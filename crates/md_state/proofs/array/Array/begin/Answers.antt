@@ -31,5 +31,5 @@ returns c disks =
       disks = refl;
       marked = still_marked a e c.args.sector n c.in-Ok.ensures.entered c.count_request.new.self c.become_active.new.self c.count_request.ensures c.become_active.ensures marks c.mark_sectors.ensures.marked;
       array = with_request_is a e c.args.sector n c.in-Ok.ensures.entered c.count_request.new.self c.become_active.new.self c.count_request.ensures c.become_active.ensures c.mark_sectors.new.self marks c.mark_sectors.ensures.others;
-      pending = rw (c.in-Ok.ensures.ticket, c.new.ensures) refl;
+      pending = rw (c.pending_of.ensures, c.in-Ok.ensures.ticket) refl;
     }

@@ -1,7 +1,7 @@
 use Rattle.std.proofs.Common.{◌≡◌, ◌∙◌, true≢false, refl, sym, ap}
-use Rattle.md_state.specs.FailingMembers.{is_active}
-use Rattle.md_state.specs.Removing.{is_spare}
-use Rattle.md_state.specs.View.{ArrayView, MemberView}
+use Rattle.md_kept_members.specs.View.{MemberView}
+use Rattle.md_kept_members.specs.States.{is_active, is_spare}
+use Rattle.md_state.specs.View.{ArrayView}
 use Rattle.md_state.proofs.Members.At.{member_read, read_member}
 use Rattle.md_state.proofs.array.Array.check_remove.Goals as goal
 use Rattle.md_state.proofs.array.Array.check_remove.Goals.{else-is_spare-via-then-is_spare+else-self-2, else-is_spare-via-else-is_spare}

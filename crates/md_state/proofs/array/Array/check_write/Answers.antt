@@ -1,10 +1,11 @@
 use Rattle.std.proofs.Common.{◌≡◌, ◌∙◌, ◌<◌, ◌+◌, ◌-◌, ◌/◌, ℕ, true, sym, ap, refl, rules}
 use Rattle.md_assembly.specs.States.{is_in_sync}
-use Rattle.md_state.specs.View.{ArrayView, MemberView, PendingView}
+use Rattle.md_requests.specs.Pending.{PendingView, has_written, request_sectors}
+use Rattle.md_kept_members.specs.View.{MemberView}
+use Rattle.md_kept_members.proofs.Members.Indices.{same_listed}
+use Rattle.md_state.specs.View.{ArrayView}
 use Rattle.md_state.specs.Members.{IsInSync, IsMember}
-use Rattle.md_state.specs.Requests.{has_written, request_sectors}
 use Rattle.md_state.proofs.Members.FirstLacking.{all_recorded, first_to_record}
-use Rattle.md_state.proofs.Members.Indices.{same_listed}
 use Rattle.md_state.proofs.Members.At.{member_read}
 use Rattle.md_state.proofs.Changes.RequestChunks.{AreChunksOf, all_marked, first_unmarked}
 use Rattle.md_state.proofs.array.Array.check_write.Goals as goal
@@ -13,13 +14,13 @@ use Rattle.md_state.proofs.array.Array.check_write.Goals as goal
 in_sync_at : (a : ArrayView) (k : ℕ) (m inside : MemberView) (answer : _) → IsMember a k m → inside ≡ m → answer ≡ is_in_sync inside.state → answer ≡ true → IsInSync a k m
 in_sync_at a k m inside answer at same told is = record { member = at; in_sync = ap (λ (x : MemberView). is_in_sync x.state) (sym same) ∙ sym told ∙ is }
 
-chunks_are : (a b : ArrayView) (p q : PendingView) (n first end : ℕ) → a ≡ b → p ≡ q → 0 < b.chunks.sectors → 0 < request_sectors q → n ≡ request_sectors q → first ≡ p.sector / a.chunks.sectors
-    → end ≡ ((p.sector + n) - 1) / a.chunks.sectors + 1 → AreChunksOf b.chunks.sectors q.sector (request_sectors q) first end
-chunks_are a b p q n first end same_array same_request wide some count first_is end_is = record {
+chunks_are : (a b : ArrayView) (p : PendingView) (sector n first end : ℕ) → a ≡ b → 0 < b.chunks.sectors → 0 < request_sectors p → sector ≡ p.sector → n ≡ request_sectors p → first ≡ sector / a.chunks.sectors
+    → end ≡ ((sector + n) - 1) / a.chunks.sectors + 1 → AreChunksOf b.chunks.sectors p.sector (request_sectors p) first end
+chunks_are a b p sector n first end same_array wide some start count first_is end_is = record {
   wide = wide;
   some = some;
-  first_is = first_is ∙ rw (same_array, same_request) refl;
-  end_is = end_is ∙ rw (same_array, same_request, count) refl;
+  first_is = first_is ∙ rw (same_array, start) refl;
+  end_is = end_is ∙ rw (same_array, start, count) refl;
 }
 
 pub returns-then-not-is_in_sync : goal.returns-then-not-is_in_sync
@@ -36,7 +37,7 @@ returns-in-Some c disks =
     let m = c.index-member.result.now in
     let at = member_read c.args.self.now _ c.args.k m c.self.view_is c.requires.within c.index-member.ensures in
     let in_sync = in_sync_at c.args.self.now c.args.k m _ _ at c.member.view_is c.is_in_sync.ensures c.if-not-is_in_sync.false in
-    let are = chunks_are _ c.args.self.now _ c.args.pending.now _ _ _ c.self.view_is c.pending.view_is c.requires.chunks.wide c.requires.range.some c.sectors.ensures c.chunks_of-first.ensures.first c.chunks_of-first.ensures.end in (
+    let are = chunks_are _ c.args.self.now c.args.pending.now _ _ _ _ c.self.view_is c.requires.chunks.wide c.requires.range.some c.sector.ensures c.sectors.ensures c.chunks_of-first.ensures.first c.chunks_of-first.ensures.end in (
       record {
         unchanged = refl;
         reason = record { running = search rules; member = m; in_sync = in_sync; first = first_unmarked c.args.self.now c.args.pending.now _ _ are c.in-Some.j c.in-Some.ensures };
@@ -49,7 +50,7 @@ returns-in-Some-first_due c disks =
     let m = c.index-member.result.now in
     let at = member_read c.args.self.now _ c.args.k m c.self.view_is c.requires.within c.index-member.ensures in
     let in_sync = in_sync_at c.args.self.now c.args.k m _ _ at c.member.view_is c.is_in_sync.ensures c.if-not-is_in_sync.false in
-    let are = chunks_are _ c.args.self.now _ c.args.pending.now _ _ _ c.self.view_is c.pending.view_is c.requires.chunks.wide c.requires.range.some c.sectors.ensures c.chunks_of-first.ensures.first c.chunks_of-first.ensures.end in (
+    let are = chunks_are _ c.args.self.now c.args.pending.now _ _ _ _ c.self.view_is c.requires.chunks.wide c.requires.range.some c.sector.ensures c.sectors.ensures c.chunks_of-first.ensures.first c.chunks_of-first.ensures.end in (
       record {
         unchanged = refl;
         reason = record {
@@ -68,7 +69,7 @@ returns-then-has_written c disks =
     let m = c.index-member.result.now in
     let at = member_read c.args.self.now _ c.args.k m c.self.view_is c.requires.within c.index-member.ensures in
     let in_sync = in_sync_at c.args.self.now c.args.k m _ _ at c.member.view_is c.is_in_sync.ensures c.if-not-is_in_sync.false in
-    let are = chunks_are _ c.args.self.now _ c.args.pending.now _ _ _ c.self.view_is c.pending.view_is c.requires.chunks.wide c.requires.range.some c.sectors.ensures c.chunks_of-first.ensures.first c.chunks_of-first.ensures.end in (
+    let are = chunks_are _ c.args.self.now c.args.pending.now _ _ _ _ c.self.view_is c.requires.chunks.wide c.requires.range.some c.sector.ensures c.sectors.ensures c.chunks_of-first.ensures.first c.chunks_of-first.ensures.end in (
       record {
         unchanged = refl;
         reason = record {
@@ -90,7 +91,7 @@ returns c disks n there =
     let m = c.index-member.result.now in
     let at = member_read c.args.self.now _ c.args.k m c.self.view_is c.requires.within c.index-member.ensures in
     let in_sync = in_sync_at c.args.self.now c.args.k m _ _ at c.member.view_is c.is_in_sync.ensures c.if-not-is_in_sync.false in
-    let are = chunks_are _ c.args.self.now _ c.args.pending.now _ _ _ c.self.view_is c.pending.view_is c.requires.chunks.wide c.requires.range.some c.sectors.ensures c.chunks_of-first.ensures.first c.chunks_of-first.ensures.end in
+    let are = chunks_are _ c.args.self.now c.args.pending.now _ _ _ _ c.self.view_is c.requires.chunks.wide c.requires.range.some c.sector.ensures c.sectors.ensures c.chunks_of-first.ensures.first c.chunks_of-first.ensures.end in
     let same : n ≡ m = same_listed c.args.self.now.members c.args.k n m there at in
     rw same (record {
       intent = record {

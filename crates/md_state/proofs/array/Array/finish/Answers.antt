@@ -1,7 +1,8 @@
 use Rattle.std.proofs.Common.{◌≡◌, refl}
 use Rattle.md_inflight.specs.Inflight.{InflightList, without}
-use Rattle.md_state.specs.declared.extent.Extent.{Extent}
-use Rattle.md_state.specs.View.{ArrayView, PendingView}
+use Rattle.md_requests.specs.Pending.{PendingView}
+use Rattle.md_requests.specs.declared.extent.Extent.{Extent}
+use Rattle.md_state.specs.View.{ArrayView}
 use Rattle.md_state.specs.Finishing.{Finishes, MayFinish}
 use Rattle.md_state.proofs.array.Array.finish.Goals as goal
 
@@ -12,4 +13,4 @@ finished a p left disks may name entries next = record { may = may; disks = refl
 pub returns : goal.returns
 returns c disks =
     let may = c.in_default.ensures disks in
-    rw (← c.self.view_is) (finished _ c.args.pending c.remove.new.self disks (rw c.self.view_is may) c.remove.ensures.name (rw (← c.pending.view_is) c.remove.ensures.entries) c.remove.ensures.next)
+    rw (← c.self.view_is) (finished _ c.args.pending c.remove.new.self disks (rw c.self.view_is may) c.remove.ensures.name (rw c.ticket_of.ensures at c.remove.ensures.entries) c.remove.ensures.next)

@@ -1,10 +1,11 @@
 use Rattle.std.proofs.Common.{◌≡◌, ◌∙◌, ◌<◌, ◌+◌, ℕ, length, true, arith, sym, ap, subst, refl, inl, inr}
 use Rattle.std.proofs.lemmas.Option.{slice_get_read, slice_get_within}
 use Rattle.md_assembly.specs.States.{is_in_sync}
-use Rattle.md_state.specs.View.{ArrayView, MemberView}
+use Rattle.md_kept_members.specs.View.{MemberView}
+use Rattle.md_kept_members.proofs.Members.Indices.{cases_more, same_listed}
+use Rattle.md_state.specs.View.{ArrayView}
 use Rattle.md_state.specs.Members.{IsFirstInSyncWithout, IsInSync, IsMember}
 use Rattle.md_state.specs.WritingMember.{HasMarksFrom}
-use Rattle.md_state.proofs.Members.Indices.{cases_more, same_listed}
 use Rattle.md_state.proofs.array.Array.first_unmarked.Goals as goal
 use Rattle.md_state.proofs.array.Array.first_unmarked.Goals.{else-is_in_sync-via-then-is_in_sync+else-not-is_range_marked, else-is_in_sync-via-else-is_in_sync}
 

@@ -1,5 +1,5 @@
 use Rattle.std.proofs.Common.{◌<◌, ℕ}
-use Rattle.md_state.specs.View.{MemberView}
+use Rattle.md_kept_members.specs.View.{MemberView}
 use Rattle.md_state.specs.Members.{IsInSync}
 use Rattle.md_state.specs.WritingMember.{HasMarksFrom}
 use Rattle.md_state.proofs.array.Array.first_unmarked.Given as goal

@@ -1,5 +1,5 @@
+use Rattle.md_kept_members.proofs.Members.Indices.{listed_at}
 use Rattle.md_state.specs.Failing.{MayFail}
-use Rattle.md_state.proofs.Members.Indices.{listed_at}
 use Rattle.md_state.proofs.array.Array.member_failed.Goals as goal
 
 pub returns-then-can_fail : goal.returns-then-can_fail

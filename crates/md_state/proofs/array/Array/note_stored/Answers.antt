@@ -1,7 +1,8 @@
 use Rattle.std.proofs.Common.{◌≡◌, ◌∙◌, ℕ, sym, ap, set, subst}
 use Rattle.md_bitmap.specs.Marks.{Bitmap}
-use Rattle.md_state.specs.View.{ArrayView, MemberView}
-use Rattle.md_state.specs.StoringMarks.{HasStored}
+use Rattle.md_kept_members.specs.View.{MemberView}
+use Rattle.md_kept_members.specs.StoredMarks.{HasStored}
+use Rattle.md_state.specs.View.{ArrayView}
 use Rattle.md_state.proofs.Members.At.{member_read, read_member}
 use Rattle.md_state.proofs.array.Array.note_stored.Goals as goal
 

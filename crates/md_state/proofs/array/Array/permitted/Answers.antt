@@ -1,6 +1,6 @@
 use Rattle.std.proofs.Common.{◌∙◌, ap}
 use Rattle.md_state.specs.View.{ArrayView}
-use Rattle.md_state.proofs.Members.Roles.{permitted}
+use Rattle.md_state.proofs.Members.Permitted.{permitted}
 use Rattle.md_state.proofs.array.Array.permitted.Goals as goal
 
 pub returns : goal.returns

@@ -1,10 +1,12 @@
 use Rattle.std.proofs.Common.{◌≡◌, ◌∙◌, ℕ, Bool, true, false, cond, List, [], length, refl, ap, arith}
 use Rattle.std.specs.List.{remove}
 use Rattle.std.proofs.lemmas.List.{length-map}
-use Rattle.md_state.specs.Removing.{before_leaving, is_spare, taken_out, without_spare}
-use Rattle.md_state.specs.Rising.{made_due}
-use Rattle.md_state.specs.View.{ArrayView, MemberView}
-use Rattle.md_state.proofs.Members.Indices.{listed_at}
+use Rattle.md_kept_members.specs.View.{MemberView}
+use Rattle.md_kept_members.specs.States.{is_spare}
+use Rattle.md_kept_members.specs.Members.{made_due}
+use Rattle.md_kept_members.proofs.Members.Indices.{listed_at}
+use Rattle.md_state.specs.View.{ArrayView}
+use Rattle.md_state.specs.Removing.{before_leaving, taken_out, without_spare}
 use Rattle.md_state.proofs.array.Array.remove_member.Goals as goal
 
 as_many : (a : ArrayView) (m : MemberView) → length (before_leaving a m).members ≡ length a.members

@@ -1,0 +1,6 @@
+-- The marks of a bitmap's sector are copied one by one.
+pub mod BlockCopied
+-- What is kept of the members that were read.
+pub mod Kept
+-- Members by their indices, and what is found by going through them.
+pub mod Members

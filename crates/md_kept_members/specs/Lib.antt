@@ -1,0 +1,18 @@
+-- A member as contracts see it, but for its device.
+pub mod View
+-- What a member's state says of it.
+pub mod States
+-- Facts of the members that are kept, of one or of a list.
+pub mod Members
+-- Where a chunk may be read, found by going through a list of members.
+pub mod Permitting
+-- A member's own fields of its superblock, as they are stored next: those that were read, but for what they say of the bad
+-- block log. That is this project's own.
+pub mod OwnFields
+-- What is kept in memory of a member that was read.
+pub mod Kept
+-- How members are remembered: what those that were read have to be, and what is found by going through those that are
+-- kept, in a list.
+pub mod Remembering
+-- The marks that are kept of a member once a sector of its bitmap is stored.
+pub mod StoredMarks

@@ -1,0 +1,16 @@
+-- A member as contracts see it, but for its device.
+use Rattle.std.specs.Prelude.{Bool, List}
+use Rattle.md_super.specs.declared.superblock.Superblock.{Superblock}
+use Rattle.md_bitmap.specs.declared.header.BitmapHeader.{BitmapHeader}
+use Rattle.md_bitmap.specs.Marks.{Bitmap}
+use Rattle.md_badblocks.specs.declared.run.Run.{Run}
+use Rattle.md_assembly.specs.declared.state.MemberState.{MemberState}
+
+pub record MemberView : Type 0 where
+  pub superblock : Superblock  -- its own fields, as they are stored next; those of the array are shared
+  pub header : BitmapHeader  -- of its bitmap, as it was read
+  pub stored : Bitmap  -- the marks on its device, as far as the mirror knows
+  pub bad : List Run
+  pub state : MemberState
+  pub due : Bool  -- its superblock has to be stored
+  pub re_added : Bool  -- this mirror re-added it, and it is recovering

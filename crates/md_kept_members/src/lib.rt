@@ -1,0 +1,27 @@
+//! What a mirror keeps in memory of each member, without its device, and what is found by going through a list of members.
+#![tactic(auto)]
+
+mod chunks;
+mod clearing;
+mod due;
+mod marking;
+mod member;
+mod other_in_sync;
+mod own_fields;
+mod permitting;
+mod remembering;
+mod resyncing;
+mod states;
+mod stored_marks;
+
+pub use chunks::{CHUNKS_OF_HEADER, CHUNKS_OF_SECTOR, chunks_of};
+pub use clearing::last_cleared;
+pub use due::make_due;
+pub use marking::{needs_marks, united_marks};
+pub use member::Member;
+pub use other_in_sync::has_other_in_sync;
+pub use permitting::permitted_roles;
+pub use remembering::{chunking_of, members_of};
+pub use resyncing::is_resynced;
+pub use states::{is_active, is_in_sync, is_in_sync_as, is_recorded, is_spare};
+pub use stored_marks::copy_block;

@@ -1,0 +1,2 @@
+-- A request in flight, as its caller has it.
+pub mod Pending

@@ -1,5 +1,0 @@
-use Rattle.md_state.specs.Remembering.{AreKept}
-use Rattle.md_state.proofs.remembering.members_of.Given as goal
-
-abbrev pub invariant-loop-info : goal.invariant-loop-info
-invariant-loop-info l = AreKept l.events l.yielded l.states l.members.items
