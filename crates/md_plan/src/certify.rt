@@ -6,11 +6,12 @@ use crate::bound::{Bound, has_only};
 use md_cert::{Certificate, ChunkList, NoMemory, Row};
 use std::alloc::Global;
 
-// The chunks that only these sources may give.
-fn collect_within(alloc: Global, rows: &[Row], sources: u32) -> Result<Vec<u32>, NoMemory>
+// The chunks that only these sources may give, in the memory of a list that is done with.
+fn collect_within(list: Vec<u32>, rows: &[Row], sources: u32) -> Result<Vec<u32>, NoMemory>
     ensures { IfOk result (λ v. v.items ≡ chunks_within sources rows.now) }
 {
-    let mut chunks = Vec::new(alloc);
+    let mut chunks = list;
+    chunks.clear();
     for row in rows {
         if row.mask != 0 && has_only(row.mask, sources) {
             chunks.push(row.chunk)?;
@@ -19,9 +20,10 @@ fn collect_within(alloc: Global, rows: &[Row], sources: u32) -> Result<Vec<u32>,
     Ok(chunks)
 }
 
-// The certificate of a bound.
+// The certificate of a bound. A list that is done with gives its memory.
 pub(crate) fn certificate_of(
     alloc: Global,
+    list: Vec<u32>,
     rows: &[Row],
     bound: Bound,
 ) -> Result<Certificate, NoMemory>
@@ -36,7 +38,7 @@ pub(crate) fn certificate_of(
             chunks: ChunkList::from_vec(Vec::new(alloc)),
         });
     }
-    let chunks = collect_within(alloc, rows, bound.sources)?;
+    let chunks = collect_within(list, rows, bound.sources)?;
     Ok(Certificate {
         rounds: bound.rounds - 1,
         chunks: ChunkList::from_vec(chunks),

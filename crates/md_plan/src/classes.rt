@@ -4,15 +4,17 @@ ghost use Rattle.std.specs.List.{HoldsAt};
 ghost use Rattle.md_plan.specs.Classes.{AddsOne, HasClass, IsGrouped};
 
 use crate::cell::Cell;
+use crate::totals::Totals;
 use md_cert::{NoMemory, Row};
 use std::alloc::Global;
 
-// The classes of a table, each as a cell, and the class of each row; a row with no source has any class.
+// The classes of a table, each as a cell, the class of each row, and the totals; a row with no source has any class.
 // Several classes may have the same mask.
 #[derive(Drop)]
 pub(crate) struct Classes {
     pub cells: Vec<Cell>,
     pub class_of: Vec<u32>,
+    pub totals: Totals,
 }
 
 // The places of the index. It is small, so that it stays in the processor's cache. In return it forgets:
@@ -78,16 +80,25 @@ pub(crate) fn group(alloc: Global, rows: &[Row]) -> Result<Classes, NoMemory>
     requires { length rows.now ≤ 2 ^ 20 }
     ensures { IfOk result (λ c. IsGrouped rows.now c.cells.items c.class_of.items) }
 {
-    let mut cells: Vec<Cell> = Vec::new(alloc);
+    let mut cells: Vec<Cell> = Vec::with_capacity(alloc, rows.len() + rows.len() / 2)?;
     let mut class_of: Vec<u32> = Vec::with_capacity(alloc, rows.len())?;
     let mut index = vec![in alloc; EMPTY; PLACES]?;
     let mut last = 0usize;
+    let mut totals = Totals {
+        chunks: 0,
+        sources: 0,
+    };
     for row in rows {
         if row.mask != 0 {
             last = class_for(&mut cells, &mut index, row.mask)?;
             add_one(&mut cells, last);
+            totals.add(row.mask);
         }
         class_of.push(last as u32)?;
     }
-    Ok(Classes { cells, class_of })
+    Ok(Classes {
+        cells,
+        class_of,
+        totals,
+    })
 }

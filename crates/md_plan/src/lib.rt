@@ -24,5 +24,6 @@ mod route;
 mod search;
 mod shelf;
 mod shift;
+mod totals;
 
 pub use planner::{Planned, plan};

@@ -11,7 +11,7 @@ use crate::certify::certificate_of;
 use crate::classes::{Classes, group};
 use crate::give_out::{Given, give_out};
 use crate::level::level;
-use crate::place::{add_loads, add_up, choose_sources};
+use crate::place::{add_loads, choose_sources};
 use md_cert::{Certificate, ChunkList, NoMemory, Plan, Row, Slots, Table};
 use std::alloc::Global;
 
@@ -50,15 +50,15 @@ fn plan_rows(alloc: Global, rows: &[Row]) -> Result<Planned, NoMemory>
     let Classes {
         mut cells,
         class_of,
+        totals,
     } = group(alloc, rows)?;
     let classes = cells.len();
-    let totals = add_up(&cells);
     let chosen = choose_sources(rows, &mut cells, &totals);
     level(alloc, &mut cells, chosen, totals.sources)?;
     let mut loads = add_loads(&cells);
     let bound = balance(&mut cells, &mut loads)?;
     let Given { slots, orphans } = give_out(alloc, rows, &class_of, &mut cells, classes)?;
-    let certificate = certificate_of(alloc, rows, bound)?;
+    let certificate = certificate_of(alloc, class_of, rows, bound)?;
     Ok(Planned {
         plan: Plan {
             slots: Slots::from_vec(slots),

@@ -10,7 +10,7 @@ use Rattle.md_plan.proofs.classes.group.Goals.{then-row-ne0+in_ok-last, else-row
 
 pub loop-row-init : goal.loop-row-init
 loop-row-init c = record {
-  grouped = grouped_none c.args.rows.now c.new-cells.result.items c.in_ok-class_of.class_of.items c.new-cells.ensures.items c.in_ok-class_of.ensures.items;
+  grouped = grouped_none c.args.rows.now c.in_ok-cells.cells.items c.in_ok-class_of.class_of.items c.in_ok-cells.ensures.items c.in_ok-class_of.ensures.items;
   small = omega arith;
   index = let e = c.in_ok-index.ensures.len in omega (arith, e);
 }
