@@ -1,10 +1,11 @@
 -- What is read at the places of a header's bytes.
-use Rattle.std.proofs.Common.{◌≡◌, ℕ, ◌+◌, ◌≤◌, ◌^◌, ◌<◌, List, [], ◌++◌, length, replicate, take, refl, sym, ◌∙◌, append_assoc, arith}
+use Rattle.std.proofs.Common.{◌≡◌, ℕ, ◌+◌, ◌<◌, List, [], ◌∷◌, ◌++◌, length, map, sum, take, get_or, replicate, refl, sym, ◌∙◌, append_assoc, arith}
 use Rattle.std.proofs.Math.Seq.{take-length}
-use Rattle.std.proofs.lemmas.List.{length-append}
+use Rattle.std.specs.List.{concat}
+use Rattle.std.proofs.lemmas.List.{append-nil, length-append}
 use Rattle.byteorder.specs.Numbers.{little_number-reads_back}
 use Rattle.md_format.specs.Fields.{number_at, bytes_at}
-use Rattle.md_format.proofs.Written.{number_at-behind, number_at-within, bytes_at-behind, bytes_at-within}
+use Rattle.md_format.proofs.Parts.{field, part_at}
 use Rattle.md_bitmap.specs.Header.{IsHeader, CountsFit, SettingsFit, format_bytes, count_bytes, setting_bytes, header_bytes}
 use Rattle.md_bitmap.specs.declared.header.BitmapHeader.{BitmapHeader}
 
@@ -19,145 +20,86 @@ pub length-format_bytes : length format_bytes ≡ 8
 unfolding format_bytes
 length-format_bytes = refl
 
-length-count_bytes : (v : BitmapHeader) → length (count_bytes v) ≡ 24
-unfolding count_bytes
-length-count_bytes v = refl
-
-length-setting_bytes : (v : BitmapHeader) → length (setting_bytes v) ≡ 24
-unfolding setting_bytes
-length-setting_bytes v = refl
-
--- each number reads back from its place in its group
-magic_reads_back : number_at 4 0 format_bytes ≡ 0x6d746962
-unfolding number_at format_bytes
-magic_reads_back = refl
-
-version_reads_back : number_at 4 4 format_bytes ≡ 4
-unfolding number_at format_bytes
-version_reads_back = refl
-
-events_reads_back : (v : BitmapHeader) → v.events < 2 ^ 64 → number_at 8 0 (count_bytes v) ≡ v.events
-unfolding number_at count_bytes
-events_reads_back v h = little_number-reads_back 8 v.events [] h
-
-events_cleared_reads_back : (v : BitmapHeader) → v.events_cleared < 2 ^ 64 → number_at 8 8 (count_bytes v) ≡ v.events_cleared
-unfolding number_at count_bytes
-events_cleared_reads_back v h = little_number-reads_back 8 v.events_cleared [] h
-
-sync_size_reads_back : (v : BitmapHeader) → v.sync_size < 2 ^ 64 → number_at 8 16 (count_bytes v) ≡ v.sync_size
-unfolding number_at count_bytes
-sync_size_reads_back v h = little_number-reads_back 8 v.sync_size [] h
-
-state_reads_back : (v : BitmapHeader) → v.state < 2 ^ 32 → number_at 4 0 (setting_bytes v) ≡ v.state
-unfolding number_at setting_bytes
-state_reads_back v h = little_number-reads_back 4 v.state [] h
-
-chunksize_reads_back : (v : BitmapHeader) → v.chunksize < 2 ^ 32 → number_at 4 4 (setting_bytes v) ≡ v.chunksize
-unfolding number_at setting_bytes
-chunksize_reads_back v h = little_number-reads_back 4 v.chunksize [] h
-
-daemon_sleep_reads_back : (v : BitmapHeader) → v.daemon_sleep < 2 ^ 32 → number_at 4 8 (setting_bytes v) ≡ v.daemon_sleep
-unfolding number_at setting_bytes
-daemon_sleep_reads_back v h = little_number-reads_back 4 v.daemon_sleep [] h
-
-write_behind_reads_back : (v : BitmapHeader) → v.write_behind < 2 ^ 32 → number_at 4 12 (setting_bytes v) ≡ v.write_behind
-unfolding number_at setting_bytes
-write_behind_reads_back v h = little_number-reads_back 4 v.write_behind [] h
-
-sectors_reserved_reads_back : (v : BitmapHeader) → v.sectors_reserved < 2 ^ 32 → number_at 4 16 (setting_bytes v) ≡ v.sectors_reserved
-unfolding number_at setting_bytes
-sectors_reserved_reads_back v h = little_number-reads_back 4 v.sectors_reserved [] h
-
-nodes_reads_back : (v : BitmapHeader) → v.nodes < 2 ^ 32 → number_at 4 20 (setting_bytes v) ≡ v.nodes
-unfolding number_at setting_bytes
-nodes_reads_back v h = little_number-reads_back 4 v.nodes [] h
-
 pub take_whole : (n : ℕ) (xs : List ℕ) → length xs ≡ n → take n xs ≡ xs
 take_whole n xs e = rw (← e) (take-length xs)
 
-whole_field : (n : ℕ) (field : List ℕ) → length field ≡ n → bytes_at n 0 field ≡ field
-unfolding bytes_at
-whole_field n field e = take_whole n field e
+-- the parts of the bytes, and their lengths
+abbrev parts : BitmapHeader → List (List ℕ)
+parts v = format_bytes ∷ v.uuid ∷ count_bytes v ∷ setting_bytes v ∷ v.cluster_name ∷ replicate 120 0 ∷ []
+
+abbrev lengths : List ℕ
+lengths = 8 ∷ 16 ∷ 24 ∷ 24 ∷ 64 ∷ 120 ∷ []
+
+regroup : (a b c d e z : List ℕ) → a ++ b ++ c ++ d ++ e ++ z ≡ concat (a ∷ b ∷ c ∷ d ∷ e ∷ z ∷ [])
+regroup a b c d e z = simp (append_assoc, append-nil)
+
+length-six : (a b c d e z : List ℕ) → length (a ++ b ++ c ++ d ++ e ++ z) ≡ length a + length b + length c + length d + length e + length z
+length-six a b c d e z = simp length-append
+
+in_parts : (v : BitmapHeader) → header_bytes v ≡ concat (parts v)
+unfolding header_bytes
+in_parts v = regroup format_bytes v.uuid (count_bytes v) (setting_bytes v) v.cluster_name (replicate 120 0)
+
+-- the fields of each group
+counts_read : (v : BitmapHeader) (bytes : List ℕ) → CountsFit v → bytes_at 24 24 bytes ≡ count_bytes v →
+    (v.events ≡ number_at 8 24 bytes) × (v.events_cleared ≡ number_at 8 32 bytes) × (v.sync_size ≡ number_at 8 40 bytes)
+unfolding number_at count_bytes
+counts_read v bytes fit e = (
+  field 8 24 24 0 v.events bytes (count_bytes v) e (omega arith) (little_number-reads_back 8 v.events [] fit.events),
+  field 8 24 24 8 v.events_cleared bytes (count_bytes v) e (omega arith) (little_number-reads_back 8 v.events_cleared [] fit.events_cleared),
+  field 8 24 24 16 v.sync_size bytes (count_bytes v) e (omega arith) (little_number-reads_back 8 v.sync_size [] fit.sync_size),
+)
+
+settings_read : (v : BitmapHeader) (bytes : List ℕ) → SettingsFit v → bytes_at 24 48 bytes ≡ setting_bytes v →
+    (v.state ≡ number_at 4 48 bytes) × (v.chunksize ≡ number_at 4 52 bytes) × (v.daemon_sleep ≡ number_at 4 56 bytes) × (v.write_behind ≡ number_at 4 60 bytes) × (v.sectors_reserved ≡ number_at 4 64 bytes) × (v.nodes ≡ number_at 4 68 bytes)
+unfolding number_at setting_bytes
+settings_read v bytes fit e = (
+  field 4 48 24 0 v.state bytes (setting_bytes v) e (omega arith) (little_number-reads_back 4 v.state [] fit.state),
+  field 4 48 24 4 v.chunksize bytes (setting_bytes v) e (omega arith) (little_number-reads_back 4 v.chunksize [] fit.chunksize),
+  field 4 48 24 8 v.daemon_sleep bytes (setting_bytes v) e (omega arith) (little_number-reads_back 4 v.daemon_sleep [] fit.daemon_sleep),
+  field 4 48 24 12 v.write_behind bytes (setting_bytes v) e (omega arith) (little_number-reads_back 4 v.write_behind [] fit.write_behind),
+  field 4 48 24 16 v.sectors_reserved bytes (setting_bytes v) e (omega arith) (little_number-reads_back 4 v.sectors_reserved [] fit.sectors_reserved),
+  field 4 48 24 20 v.nodes bytes (setting_bytes v) e (omega arith) (little_number-reads_back 4 v.nodes [] fit.nodes),
+)
+
+format_read : (bytes : List ℕ) → bytes_at 8 0 bytes ≡ format_bytes → (0x6d746962 ≡ number_at 4 0 bytes) × (4 ≡ number_at 4 4 bytes)
+unfolding number_at format_bytes
+format_read bytes e = (
+  field 4 0 8 0 0x6d746962 bytes format_bytes e (omega arith) refl,
+  field 4 0 8 4 4 bytes format_bytes e (omega arith) refl,
+)
 
 module _ (v : BitmapHeader) (uuid_long : length v.uuid ≡ 16) (name_long : length v.cluster_name ≡ 64) where
-  length_to_uuid : length (format_bytes ++ v.uuid) ≡ 24
-  length_to_uuid = omega (arith, length-append format_bytes v.uuid, length-format_bytes, uuid_long)
-
-  length_to_counts : length (format_bytes ++ v.uuid ++ count_bytes v) ≡ 48
-  length_to_counts = omega (arith, length-append (format_bytes ++ v.uuid) (count_bytes v), length_to_uuid, length-count_bytes v)
-
-  length_to_settings : length (format_bytes ++ v.uuid ++ count_bytes v ++ setting_bytes v) ≡ 72
-  length_to_settings = omega (arith, length-append (format_bytes ++ v.uuid ++ count_bytes v) (setting_bytes v), length_to_counts, length-setting_bytes v)
-
-  length_to_name : length (format_bytes ++ v.uuid ++ count_bytes v ++ setting_bytes v ++ v.cluster_name) ≡ 136
-  length_to_name = omega (arith, length-append (format_bytes ++ v.uuid ++ count_bytes v ++ setting_bytes v) v.cluster_name, length_to_settings, name_long)
+  lengths_of : map length (parts v) ≡ lengths
+  unfolding format_bytes count_bytes setting_bytes
+  lengths_of = rw (uuid_long, name_long) refl
 
   pub length-header_bytes : length (header_bytes v) ≡ 256
-  unfolding header_bytes
-  length-header_bytes = omega (arith, length-append (format_bytes ++ v.uuid ++ count_bytes v ++ setting_bytes v ++ v.cluster_name) (replicate 120 0), length_to_name)
+  unfolding header_bytes format_bytes count_bytes setting_bytes
+  length-header_bytes = length-six format_bytes v.uuid (count_bytes v) (setting_bytes v) v.cluster_name (replicate 120 0) ∙ rw (uuid_long, name_long) refl
 
-  number_to_settings : (n i : ℕ) → i + n ≤ 72 → number_at n i (header_bytes v) ≡ number_at n i (format_bytes ++ v.uuid ++ count_bytes v ++ setting_bytes v)
-  unfolding header_bytes
-  number_to_settings n i h =
-      number_at-within n i (format_bytes ++ v.uuid ++ count_bytes v ++ setting_bytes v ++ v.cluster_name) (replicate 120 0) (omega (arith, length_to_name))
-      ∙ number_at-within n i (format_bytes ++ v.uuid ++ count_bytes v ++ setting_bytes v) v.cluster_name (omega (arith, length_to_settings))
-
-  number_to_counts : (n i : ℕ) → i + n ≤ 48 → number_at n i (header_bytes v) ≡ number_at n i (format_bytes ++ v.uuid ++ count_bytes v)
-  number_to_counts n i h =
-      number_to_settings n i (omega arith)
-      ∙ number_at-within n i (format_bytes ++ v.uuid ++ count_bytes v) (setting_bytes v) (omega (arith, length_to_counts))
-
-  in_format : (n i : ℕ) → i + n ≤ 8 → number_at n i (header_bytes v) ≡ number_at n i format_bytes
-  in_format n i h =
-      number_to_counts n i (omega arith)
-      ∙ number_at-within n i (format_bytes ++ v.uuid) (count_bytes v) (omega (arith, length_to_uuid))
-      ∙ number_at-within n i format_bytes v.uuid (omega (arith, length-format_bytes))
-
-  in_counts : (n i j : ℕ) → i ≡ 24 + j → j + n ≤ 24 → number_at n i (header_bytes v) ≡ number_at n j (count_bytes v)
-  in_counts n i j e h =
-      number_to_counts n i (omega arith)
-      ∙ number_at-behind n i j (format_bytes ++ v.uuid) (count_bytes v) (omega (arith, length_to_uuid))
-
-  in_settings : (n i j : ℕ) → i ≡ 48 + j → j + n ≤ 24 → number_at n i (header_bytes v) ≡ number_at n j (setting_bytes v)
-  in_settings n i j e h =
-      number_to_settings n i (omega arith)
-      ∙ number_at-behind n i j (format_bytes ++ v.uuid ++ count_bytes v) (setting_bytes v) (omega (arith, length_to_counts))
-
-  bytes_to_settings : (n i : ℕ) → i + n ≤ 72 → bytes_at n i (header_bytes v) ≡ bytes_at n i (format_bytes ++ v.uuid ++ count_bytes v ++ setting_bytes v)
-  unfolding header_bytes
-  bytes_to_settings n i h =
-      bytes_at-within n i (format_bytes ++ v.uuid ++ count_bytes v ++ setting_bytes v ++ v.cluster_name) (replicate 120 0) (omega (arith, length_to_name))
-      ∙ bytes_at-within n i (format_bytes ++ v.uuid ++ count_bytes v ++ setting_bytes v) v.cluster_name (omega (arith, length_to_settings))
-
-  uuid_reads_back : bytes_at 16 8 (header_bytes v) ≡ v.uuid
-  uuid_reads_back =
-      bytes_to_settings 16 8 (omega arith)
-      ∙ bytes_at-within 16 8 (format_bytes ++ v.uuid ++ count_bytes v) (setting_bytes v) (omega (arith, length_to_counts))
-      ∙ bytes_at-within 16 8 (format_bytes ++ v.uuid) (count_bytes v) (omega (arith, length_to_uuid))
-      ∙ bytes_at-behind 16 8 0 format_bytes v.uuid (omega (arith, length-format_bytes))
-      ∙ whole_field 16 v.uuid uuid_long
-
-  name_reads_back : bytes_at 64 72 (header_bytes v) ≡ v.cluster_name
-  unfolding header_bytes
-  name_reads_back =
-      bytes_at-within 64 72 (format_bytes ++ v.uuid ++ count_bytes v ++ setting_bytes v ++ v.cluster_name) (replicate 120 0) (omega (arith, length_to_name))
-      ∙ bytes_at-behind 64 72 0 (format_bytes ++ v.uuid ++ count_bytes v ++ setting_bytes v) v.cluster_name (omega (arith, length_to_settings))
-      ∙ whole_field 64 v.cluster_name name_long
+  part : (k : ℕ) → k < 6 → bytes_at (get_or lengths k 0) (sum (take k lengths)) (header_bytes v) ≡ get_or (parts v) k []
+  part k h = rw (in_parts v) (part_at (parts v) lengths k lengths_of h)
 
   -- the header reads back
   pub reads_back : CountsFit v → SettingsFit v → IsHeader (header_bytes v) v
-  reads_back counts settings = record {
-    magic = in_format 4 0 (omega arith) ∙ magic_reads_back;
-    version = in_format 4 4 (omega arith) ∙ version_reads_back;
-    uuid = sym uuid_reads_back;
-    events = sym (in_counts 8 24 0 refl (omega arith) ∙ events_reads_back v counts.events);
-    events_cleared = sym (in_counts 8 32 8 refl (omega arith) ∙ events_cleared_reads_back v counts.events_cleared);
-    sync_size = sym (in_counts 8 40 16 refl (omega arith) ∙ sync_size_reads_back v counts.sync_size);
-    state = sym (in_settings 4 48 0 refl (omega arith) ∙ state_reads_back v settings.state);
-    chunksize = sym (in_settings 4 52 4 refl (omega arith) ∙ chunksize_reads_back v settings.chunksize);
-    daemon_sleep = sym (in_settings 4 56 8 refl (omega arith) ∙ daemon_sleep_reads_back v settings.daemon_sleep);
-    write_behind = sym (in_settings 4 60 12 refl (omega arith) ∙ write_behind_reads_back v settings.write_behind);
-    sectors_reserved = sym (in_settings 4 64 16 refl (omega arith) ∙ sectors_reserved_reads_back v settings.sectors_reserved);
-    nodes = sym (in_settings 4 68 20 refl (omega arith) ∙ nodes_reads_back v settings.nodes);
-    cluster_name = sym name_reads_back;
-  }
+  reads_back counts_fit settings_fit =
+      let bytes = header_bytes v in
+      let format = format_read bytes (part 0 (omega arith)) in
+      let counts = counts_read v bytes counts_fit (part 2 (omega arith)) in
+      let settings = settings_read v bytes settings_fit (part 3 (omega arith)) in
+      record {
+        magic = sym format.0;
+        version = sym format.1;
+        uuid = sym (part 1 (omega arith));
+        events = counts.0;
+        events_cleared = counts.1;
+        sync_size = counts.2;
+        state = settings.0;
+        chunksize = settings.1;
+        daemon_sleep = settings.2;
+        write_behind = settings.3;
+        sectors_reserved = settings.4;
+        nodes = settings.5;
+        cluster_name = sym (part 4 (omega arith));
+      }

@@ -1,5 +1,5 @@
 -- The order in which faults are looked for.
-use Rattle.std.proofs.Common.{◌≡◌, ◌≢◌, ℕ, ◌<◌, true, List, length, get_or, refl, subst, arith}
+use Rattle.std.proofs.Common.{◌≡◌, ◌≢◌, ℕ, ◌<◌, ◌≤◌, true, List, length, get_or, refl, subst, arith}
 use Rattle.std.specs.List.{All}
 use Rattle.std.proofs.lemmas.Bool.{both_ways}
 use Rattle.md_cert.specs.declared.table.Row.{Row}
@@ -27,9 +27,6 @@ AllCovered table slots = All (λ r. r.mask ≢ 0 → IsPlanned slots r.chunk) ta
 abbrev pub AllInTime : ℕ → List Slot → Type 0
 AllInTime rounds slots = All (λ s. s.round < rounds) slots
 
-pub along : {A B : Type 0} (P : A → B → Type 0) (a a' : A) (b b' : B) → a ≡ a' → b ≡ b' → P a b → P a' b'
-along P a a' b b' e f h = subst (λ x. P x b') e (subst (λ y. P a y) f h)
-
 pub sources_within : (table : List Row) (slots : List Slot) → AllAllowed table slots → All (λ s. s.source < 32) slots
 sources_within table slots allowed k d within = has_below (mask_of table (get_or slots k d).chunk) (get_or slots k d).source (allowed k d within)
 
@@ -39,71 +36,71 @@ some_row = record { chunk = 0; mask = 0 }
 some_slot : Slot
 some_slot = record { chunk = 0; source = 0; round = 0 }
 
-pub none_2 : (table : List Row) (plan : Plan) (certificate : Certificate) → AreRising plan certificate → Before table plan certificate 2
-none_2 table plan certificate rising NotRising less stands = stands rising
-none_2 table plan certificate rising (Forbidden chunk) less stands = omega arith
-none_2 table plan certificate rising (Uncovered chunk) less stands = omega arith
-none_2 table plan certificate rising (DoubleSlot source round) less stands = omega arith
-none_2 table plan certificate rising (RoundTooLate chunk) less stands = omega arith
-none_2 table plan certificate rising NotShort less stands = omega arith
-none_2 table plan certificate rising Yes less stands = omega arith
+-- no fault stands that is looked for before the n-th, where each test before the n-th passed
+none_before : (table : List Row) (plan : Plan) (certificate : Certificate) (n : ℕ) → n ≤ 7
+    → (1 < n → AreRising plan certificate)
+    → (2 < n → AllAllowed table plan.slots)
+    → (3 < n → AllCovered table plan.slots)
+    → (4 < n → NoRepeatBelow plan.slots plan.rounds (length plan.slots))
+    → (5 < n → AllInTime plan.rounds plan.slots)
+    → (6 < n → Certifies table plan certificate)
+    → Before table plan certificate n
+none_before table plan certificate n most rising allowed covered single in_time certified NotRising less stands = stands (rising less)
+none_before table plan certificate n most rising allowed covered single in_time certified (Forbidden chunk) less stands =
+    both_ways _ (stands.1.holds some_slot) (allowed less stands.0 some_slot stands.1.within)
+none_before table plan certificate n most rising allowed covered single in_time certified (Uncovered chunk) less stands =
+    let it = stands.1.holds some_row in it.1 (covered less stands.0 some_row stands.1.within it.0)
+none_before table plan certificate n most rising allowed covered single in_time certified (DoubleSlot source round) less stands =
+    single less source round stands.0 stands.1.within stands.1
+none_before table plan certificate n most rising allowed covered single in_time certified (RoundTooLate chunk) less stands =
+    let late = stands.1.holds some_slot in let early = in_time less stands.0 some_slot stands.1.within in omega (arith, late, early)
+none_before table plan certificate n most rising allowed covered single in_time certified NotShort less stands = stands (certified less)
+none_before table plan certificate n most rising allowed covered single in_time certified Yes less stands = omega arith
 
-pub none_3 : (table : List Row) (plan : Plan) (certificate : Certificate) → Before table plan certificate 2 → AllAllowed table plan.slots → Before table plan certificate 3
-none_3 table plan certificate before allowed NotRising less stands = before NotRising (omega arith) stands
-none_3 table plan certificate before allowed (Forbidden chunk) less stands =
-    both_ways _ (stands.1.holds some_slot) (allowed stands.0 some_slot stands.1.within)
-none_3 table plan certificate before allowed (Uncovered chunk) less stands = omega arith
-none_3 table plan certificate before allowed (DoubleSlot source round) less stands = omega arith
-none_3 table plan certificate before allowed (RoundTooLate chunk) less stands = omega arith
-none_3 table plan certificate before allowed NotShort less stands = omega arith
-none_3 table plan certificate before allowed Yes less stands = omega arith
+not_yet : {P : Type 0} (n : ℕ) {k : ℕ} → n ≤ k → k < n → P
+not_yet n most less = absurd (omega arith)
 
-pub none_4 : (table : List Row) (plan : Plan) (certificate : Certificate) → Before table plan certificate 3 → AllCovered table plan.slots → Before table plan certificate 4
-none_4 table plan certificate before covered NotRising less stands = before NotRising (omega arith) stands
-none_4 table plan certificate before covered (Forbidden chunk) less stands = before (Forbidden chunk) (omega arith) stands
-none_4 table plan certificate before covered (Uncovered chunk) less stands =
-    let it = stands.1.holds some_row in it.1 (covered stands.0 some_row stands.1.within it.0)
-none_4 table plan certificate before covered (DoubleSlot source round) less stands = omega arith
-none_4 table plan certificate before covered (RoundTooLate chunk) less stands = omega arith
-none_4 table plan certificate before covered NotShort less stands = omega arith
-none_4 table plan certificate before covered Yes less stands = omega arith
+module _ (table : List Row) (plan : Plan) (certificate : Certificate) where
+  pub passed_3 : AreRising plan certificate → AllAllowed table plan.slots → Before table plan certificate 3
+  passed_3 rising allowed =
+      none_before table plan certificate 3 (omega arith) (λ less. rising) (λ less. allowed)
+      (not_yet 3 (omega arith)) (not_yet 3 (omega arith)) (not_yet 3 (omega arith)) (not_yet 3 (omega arith))
 
-pub none_5 : (table : List Row) (plan : Plan) (certificate : Certificate) → Before table plan certificate 4 → NoRepeatBelow plan.slots plan.rounds (length plan.slots) → Before table plan certificate 5
-none_5 table plan certificate before single NotRising less stands = before NotRising (omega arith) stands
-none_5 table plan certificate before single (Forbidden chunk) less stands = before (Forbidden chunk) (omega arith) stands
-none_5 table plan certificate before single (Uncovered chunk) less stands = before (Uncovered chunk) (omega arith) stands
-none_5 table plan certificate before single (DoubleSlot source round) less stands = single source round stands.0 stands.1.within stands.1
-none_5 table plan certificate before single (RoundTooLate chunk) less stands = omega arith
-none_5 table plan certificate before single NotShort less stands = omega arith
-none_5 table plan certificate before single Yes less stands = omega arith
+  pub passed_4 : AreRising plan certificate → AllAllowed table plan.slots → AllCovered table plan.slots → Before table plan certificate 4
+  passed_4 rising allowed covered =
+      none_before table plan certificate 4 (omega arith) (λ less. rising) (λ less. allowed) (λ less. covered)
+      (not_yet 4 (omega arith)) (not_yet 4 (omega arith)) (not_yet 4 (omega arith))
 
-pub none_6 : (table : List Row) (plan : Plan) (certificate : Certificate) → Before table plan certificate 5 → AllInTime plan.rounds plan.slots → Before table plan certificate 6
-none_6 table plan certificate before in_time NotRising less stands = before NotRising (omega arith) stands
-none_6 table plan certificate before in_time (Forbidden chunk) less stands = before (Forbidden chunk) (omega arith) stands
-none_6 table plan certificate before in_time (Uncovered chunk) less stands = before (Uncovered chunk) (omega arith) stands
-none_6 table plan certificate before in_time (DoubleSlot source round) less stands = before (DoubleSlot source round) (omega arith) stands
-none_6 table plan certificate before in_time (RoundTooLate chunk) less stands =
-    let late = stands.1.holds some_slot in let early = in_time stands.0 some_slot stands.1.within in omega (arith, late, early)
-none_6 table plan certificate before in_time NotShort less stands = omega arith
-none_6 table plan certificate before in_time Yes less stands = omega arith
+  pub passed_5 : AreRising plan certificate → AllAllowed table plan.slots → AllCovered table plan.slots → NoRepeatBelow plan.slots plan.rounds (length plan.slots) → Before table plan certificate 5
+  passed_5 rising allowed covered single =
+      none_before table plan certificate 5 (omega arith) (λ less. rising) (λ less. allowed) (λ less. covered) (λ less. single)
+      (not_yet 5 (omega arith)) (not_yet 5 (omega arith))
 
-pub none_7 : (table : List Row) (plan : Plan) (certificate : Certificate) → Before table plan certificate 6 → Certifies table plan certificate → Before table plan certificate 7
-none_7 table plan certificate before certified NotRising less stands = before NotRising (omega arith) stands
-none_7 table plan certificate before certified (Forbidden chunk) less stands = before (Forbidden chunk) (omega arith) stands
-none_7 table plan certificate before certified (Uncovered chunk) less stands = before (Uncovered chunk) (omega arith) stands
-none_7 table plan certificate before certified (DoubleSlot source round) less stands = before (DoubleSlot source round) (omega arith) stands
-none_7 table plan certificate before certified (RoundTooLate chunk) less stands = before (RoundTooLate chunk) (omega arith) stands
-none_7 table plan certificate before certified NotShort less stands = stands certified
-none_7 table plan certificate before certified Yes less stands = omega arith
+  pub passed_6 : AreRising plan certificate → AllAllowed table plan.slots → AllCovered table plan.slots → NoRepeatBelow plan.slots plan.rounds (length plan.slots) → AllInTime plan.rounds plan.slots → Before table plan certificate 6
+  passed_6 rising allowed covered single in_time =
+      none_before table plan certificate 6 (omega arith) (λ less. rising) (λ less. allowed) (λ less. covered) (λ less. single)
+      (λ less. in_time) (not_yet 6 (omega arith))
 
 -- no fault of a certified plan stands
 pub none_of : (table : List Row) (plan : Plan) (certificate : Certificate) → IsCertified table plan certificate → Before table plan certificate 7
 none_of table plan certificate h =
-    none_7 table plan certificate
-    (none_6 table plan certificate
-    (none_5 table plan certificate
-    (none_4 table plan certificate
-    (none_3 table plan certificate (none_2 table plan certificate (h.rising, h.certificate_rising)) h.allowed) h.covered) h.single) h.in_time) h.certified
+    none_before table plan certificate 7 (omega arith) (λ less. (h.rising, h.certificate_rising)) (λ less. h.allowed) (λ less. h.covered)
+    (λ less. h.single) (λ less. h.in_time) (λ less. h.certified)
+
+-- what was found of rows, slots and a number of rounds that were handed out is so of the table and the plan
+module _ (table : List Row) (plan : Plan) (certificate : Certificate) (rows : List Row) (slots : List Slot) (rounds : ℕ) (same_rows : rows ≡ table) (same_slots : slots ≡ plan.slots) (same_rounds : rounds ≡ plan.rounds) where
+  at_plan : (P : List Row → List Slot → ℕ → Type 0) → P rows slots rounds → P table plan.slots plan.rounds
+  at_plan P h = subst (λ x. P x plan.slots plan.rounds) same_rows (subst (λ x. P rows x plan.rounds) same_slots (subst (P rows slots) same_rounds h))
+
+  pub verdict_of : (v : Verdict) → IsVerdict rows (record { slots = slots; rounds = rounds }) certificate v → IsVerdict table plan certificate v
+  verdict_of v = at_plan (λ x y n. IsVerdict x (record { slots = y; rounds = n }) certificate v)
+
+  pub certified_of : IsCertified rows (record { slots = slots; rounds = rounds }) certificate → IsCertified table plan certificate
+  certified_of = at_plan (λ x y n. IsCertified x (record { slots = y; rounds = n }) certificate)
+
+-- the same of the number of rounds alone
+pub single_in : (slots : List Slot) (n rounds : ℕ) → n ≡ rounds → NoRepeatBelow slots n (length slots) → NoRepeatBelow slots rounds (length slots)
+single_in slots n rounds same = subst (λ x. NoRepeatBelow slots x (length slots)) same
 
 -- whatever verdict a certified plan has is yes
 pub certified_yes : (table : List Row) (plan : Plan) (certificate : Certificate) → IsCertified table plan certificate → (v : Verdict) → IsVerdict table plan certificate v → v ≡ Yes

@@ -28,38 +28,6 @@ keeps_both (Event.Remove k) es k' = absurd k'
 keeps_both (Event.Add d left) es k' = absurd k'
 keeps_both (Event.ReAdd own device left) es k' = absurd k'
 
-module _ (g : Geometry) where
-  begun_present : (w : World) (n : ℕ) (p : Request) (rises full : Bool) → (begun g w n p rises full).present ≡ w.present
-  begun_present w n p true full = refl
-  begun_present w n p false full = refl
-
-  same_by : (w w' v : World) → v.present ≡ w.present → w' ≡ v → w'.present ≡ w.present
-  same_by w w' v same e = ap (λ (x : World). x.present) e ∙ same
-
-  same_step : (w : World) (e : Event) (w' : World) → KeepsMembers (e ∷ []) → Happens g w e w' → w'.present ≡ w.present
-  same_step w (Event.Begin n p) w' keeps s = same_by w w' _ (begun_present w n p s.0 s.1) s.5
-  same_step w (Event.Record k) w' keeps s = same_by w w' _ refl s.3
-  same_step w (Event.StoreMarks k b) w' keeps s = same_by w w' _ refl s.1
-  same_step w (Event.WriteMember n k) w' keeps s = same_by w w' _ refl s.2
-  same_step w (Event.Finish n) w' keeps s = same_by w w' _ refl s.2
-  same_step w (Event.ClearIdle c) w' keeps s = same_by w w' _ refl s.1
-  same_step w (Event.Fail k) w' keeps s = same_by w w' _ refl s.1.3
-  same_step w (Event.RecordFails k) w' keeps s = same_by w w' _ refl s.2.3
-  same_step w (Event.StoreMarksFails k b) w' keeps s = same_by w w' _ refl s.3.3
-  same_step w (Event.WriteMemberFails n k) w' keeps s = same_by w w' _ refl s.4.3
-  same_step w (Event.CopyFails k c) w' keeps s = same_by w w' _ refl s.4.3
-  same_step w (Event.Copy from k x) w' keeps s = same_by w w' _ refl s.1
-  same_step w Event.Resynced w' keeps s = same_by w w' _ refl s.1
-  same_step w Event.Unresynced w' keeps s = same_by w w' _ refl s.1
-  same_step w Event.MakeClean w' keeps s = same_by w w' _ refl s.3
-  same_step w (Event.Remove k) w' keeps s = absurd keeps
-  same_step w (Event.Add d left) w' keeps s = absurd keeps
-  same_step w (Event.ReAdd own device left) w' keeps s = absurd keeps
-
-  pub same_run : (es : List Event) (h last : History) → KeepsMembers es → Run g h es last → last.now.present ≡ h.now.present
-  same_run [] h last keeps r = ap (λ (x : History). x.now.present) r
-  same_run (e ∷ es) h last keeps r = let k = keeps_both e es keeps in same_run es (then_in h e r.0) last k.1 r.2 ∙ same_step h.now e r.0 k.0 r.1.1
-
 -- what stays away is as it was
 away_step : (e : Event) (before : ℕ → Bool) → KeepsMembers (e ∷ []) → away_after e before ≡ before
 away_step (Event.Begin n p) before k' = refl

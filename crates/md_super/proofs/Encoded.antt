@@ -8,12 +8,12 @@ use Rattle.std.proofs.lemmas.List.{append-nil, length-replicate}
 use Rattle.byteorder.specs.Endian.{little_bytes}
 use Rattle.byteorder.specs.Numbers.{little_number-reads_back}
 use Rattle.md_format.specs.Fields.{number_at, bytes_at}
+use Rattle.md_format.proofs.Parts.{field, part_at}
 use Rattle.md_super.specs.Encoding.{head_bytes, shape_bytes, bitmap_bytes, reshape_bytes, place_bytes, log_bytes, count_bytes, front_bytes, back_bytes, bytes_with}
 use Rattle.md_super.specs.Fits.{ShapeFits, ReshapeFits, PlaceFits, LogFits, CountFits, TextsFit, FrontFits, RolesFit}
 use Rattle.md_super.specs.Format.{IsSuper}
 use Rattle.md_super.specs.declared.superblock.Superblock.{Superblock}
-use Rattle.md_super.proofs.Parts.{part_at, field, length-flat_map_two}
-use Rattle.md_super.proofs.RoleLists.{roles_read_back}
+use Rattle.md_super.proofs.RoleLists.{length-flat_map_two, roles_read_back}
 
 -- the parts of the bytes, and their lengths
 abbrev parts : ℕ → Superblock → List (List ℕ)

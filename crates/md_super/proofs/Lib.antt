@@ -1,4 +1,3 @@
-pub mod Parts
 pub mod RoleLists
 pub mod Sums
 pub mod Order

@@ -14,8 +14,7 @@ use Rattle.md_super.specs.declared.fault.SuperFault.{SuperFault}
 use Rattle.md_super.specs.declared.fault.SuperFault.TheVariants.{Magic, Major, MaxDev, Checksum, SuperOffset, Feature, Level, RaidDisks, NoMemory}
 use Rattle.md_super.specs.declared.superblock.Superblock.{Superblock}
 use Rattle.md_super.proofs.Encoded.{reads_back}
-use Rattle.md_super.proofs.Parts.{length-flat_map_two}
-use Rattle.md_super.proofs.RoleLists.{length-roles_in}
+use Rattle.md_super.proofs.RoleLists.{length-flat_map_two, length-roles_in}
 use Rattle.md_super.proofs.SameSum.{same_checksum}
 
 length-ten : (a b c d e f g h i j : List ℕ) →

@@ -1,13 +1,12 @@
 -- What is read at the places of parts that stand one after the other.
-use Rattle.std.proofs.Common.{◌≡◌, ℕ, zero, suc, ◌+◌, ◌*◌, ◌^◌, ◌<◌, ◌≤◌, List, [], ◌∷◌, length, take, get_or, map, sum, sum_by, All, refl, sym, ap, ◌∙◌, arith}
-use Rattle.std.specs.List.{concat, flat_map}
+use Rattle.std.proofs.Common.{◌≡◌, ℕ, zero, suc, ◌+◌, ◌<◌, ◌≤◌, List, [], ◌∷◌, length, take, get_or, map, sum, sum_by, refl, sym, ap, ◌∙◌, arith}
+use Rattle.std.specs.List.{concat}
 use Rattle.std.proofs.lemmas.List.{get_or-map, take-map}
 use Rattle.std.proofs.lemmas.List.Sums.{sum-map, sum_by-cons}
-use Rattle.std.proofs.lemmas.List.Elements.{All-head, All-tail}
-use Rattle.byteorder.specs.Endian.{little_bytes, little_from}
+use Rattle.byteorder.specs.Endian.{little_from}
 use Rattle.md_format.specs.Fields.{number_at, bytes_at}
 use Rattle.md_format.proofs.Places.{little_from-part}
-use Rattle.md_format.proofs.Written.{number_at-behind, number_at-little_bytes, bytes_at-behind, bytes_at-field}
+use Rattle.md_format.proofs.Written.{bytes_at-behind, bytes_at-field}
 
 -- the k-th part stands after those before it
 part_there : (parts : List (List ℕ)) (k : ℕ) → k < length parts → bytes_at (length (get_or parts k [])) (sum_by length (take k parts)) (concat parts) ≡ get_or parts k []
@@ -33,15 +32,3 @@ number_in n i m j bytes part e within = sym (little_from-part n i j m bytes with
 -- a field of a part
 pub field : (n i m j x : ℕ) (bytes part : List ℕ) → bytes_at m i bytes ≡ part → j + n ≤ m → number_at n j part ≡ x → x ≡ number_at n (i + j) bytes
 field n i m j x bytes part e within reads = sym (number_in n i m j bytes part e within ∙ reads)
-
--- a number of a list of numbers of two bytes
-pub number_of_two : (xs : List ℕ) (k d : ℕ) → All (λ x. x < 2 ^ 16) xs → k < length xs → number_at 2 (2 * k) (flat_map (little_bytes 2) xs) ≡ get_or xs k d
-number_of_two [] k d fit h = absurd (omega (arith, h))
-number_of_two (x ∷ xs) zero d fit h = number_at-little_bytes 2 x (flat_map (little_bytes 2) xs) (All-head (λ y. y < 2 ^ 16) x xs fit)
-number_of_two (x ∷ xs) (suc k) d fit h =
-    number_at-behind 2 (2 * suc k) (2 * k) (little_bytes 2 x) (flat_map (little_bytes 2) xs) (omega arith)
-    ∙ number_of_two xs k d (All-tail (λ y. y < 2 ^ 16) x xs fit) (omega (arith, h))
-
-pub length-flat_map_two : (xs : List ℕ) → length (flat_map (little_bytes 2) xs) ≡ 2 * length xs
-length-flat_map_two [] = refl
-length-flat_map_two (x ∷ xs) = let rest = length-flat_map_two xs in omega arith
