@@ -219,6 +219,14 @@ def with_superblock(content, roles=None, **fields):
     return bytes(image)
 
 
+def with_header(content, **fields):
+    """The image with other fields of its bitmap's header."""
+    image = bytearray(content)
+    at = SECTOR * Member(content).bitmap_sector
+    HEADER_FORM.pack_into(image, at, *Header(*HEADER_FORM.unpack_from(image, at))._replace(**fields))
+    return bytes(image)
+
+
 def with_bad_blocks(content, runs):
     """The image with a log of these runs of sectors of the device, each a first sector and a length."""
     member = Member(content)

@@ -6,10 +6,11 @@ A case is a name, its images by their names, and its steps in turn. A step's wor
 import struct
 from pathlib import Path
 
+import members
+
 TOP = Path(__file__).resolve().parent.parent.parent
 SECTOR = 512
 SUPER = 8 * SECTOR
-BITMAP = 16 * SECTOR
 LOG = 2032 * SECTOR
 SET = "00112233-4455-6677-8899-aabbccddeeff"
 # The example member, and what `examine` has to say of it.
@@ -19,11 +20,12 @@ ZEROS = bytes(2112 * SECTOR)
 
 
 class Step:
-    """A run of the program: its words, its output (or the head and the tail of it), its fault, or what it tells on standard
-    error, and the images that it changes."""
+    """A run of the program: its words, its input, its output (or the head and the tail of it), its fault, or what it tells on
+    standard error, and the images that it changes."""
 
-    def __init__(self, words, output="", fault=None, told="", changes=""):
+    def __init__(self, words, output="", fault=None, told="", changes="", given=b""):
         self.words = words.split()
+        self.given = given
         self.output = output
         self.status = 1 if fault else 0
         self.errors = "mdcli: %s\n" % fault if fault else told
@@ -32,7 +34,7 @@ class Step:
     def play(self, folder, run):
         """The reasons against what a run gives and leaves."""
         before = read_images(folder)
-        status, output, errors = run(self.words)
+        status, output, errors = run(self.words, self.given)
         reasons = []
         if status != self.status:
             reasons.append("the status is %r, and %d was wanted" % (status, self.status))
@@ -74,16 +76,6 @@ def changed(image, *fields):
     return bytes(image)
 
 
-def sealed(image):
-    """The image with the checksum that its superblock has to have."""
-    roles = struct.unpack_from("<I", image, SUPER + 220)[0]
-    image = changed(image, (SUPER + 216, "I", 0))
-    total = sum(struct.unpack_from("<%dI" % ((256 + 2 * roles) // 4), image, SUPER))
-    if roles % 2:
-        total += struct.unpack_from("<H", image, SUPER + 256 + 2 * (roles - 1))[0]
-    return changed(image, (SUPER + 216, "I", ((total & 0xFFFFFFFF) + (total >> 32)) & 0xFFFFFFFF))
-
-
 def with_log(image):
     """The image with a log in units of two sectors: sectors 2000 to 2009, in entries that overlap."""
     rest = b"\xff" * (4096 - 24)
@@ -91,13 +83,13 @@ def with_log(image):
 
 
 LOGGED = with_log(VAULT)
-LISTED = sealed(changed(LOGGED, (SUPER + 8, "I", 9), (SUPER + 185, "B", 1)))
-WITHOUT_BITMAP = sealed(changed(LOGGED, (SUPER + 8, "I", 0)))
+LISTED = members.with_superblock(LOGGED, feature_map=members.BITMAP_BIT | members.BAD_BLOCKS_BIT, bblog_shift=1)
+WITHOUT_BITMAP = members.with_superblock(LOGGED, feature_map=0)
 # The checksum leaves out what stands after the roles.
 PADDED = changed(VAULT, (SUPER + 4095, "B", 1))
 UNSUMMED = changed(VAULT, (SUPER + 216, "I", 0))
 # The bitmap is two events behind the superblock.
-OUT_OF_DATE = changed(VAULT, (BITMAP + 24, "Q", 8))
+OUT_OF_DATE = members.with_header(VAULT, events=8)
 
 BITMAP_REPORT = """\
 Magic           : 6d746962
@@ -125,7 +117,12 @@ Marked Chunks   : 0 of 8
      1      1      1 in sync
 """
 
+# Two sectors of data, and what two sectors of a new array hold.
+DATA = b"first sector".ljust(SECTOR, b".") + b"second sector".ljust(SECTOR, b".")
+BLANK = "\0" * (2 * SECTOR)
+
 CLEAN = "in sync 2 of 2, events 1, marked 0\n"
+WRITTEN = "in sync 2 of 2, events 3, marked 0\n"
 MARKED = "in sync 1 of 2, events 10, marked 8\n"
 STORED = "mdcli: a: its bitmap did not tell of the array, so all chunks are marked in it now\n"
 
@@ -144,7 +141,7 @@ def create(level, devices, chunk, images, **answer):
 
 def spare_beside(first):
     """The image of a member of the array of `first` whose number, 3, no role is for."""
-    return sealed(changed(first, (SUPER + 160, "I", 3)))
+    return members.with_superblock(first, dev_number=3)
 
 
 # Two members of three that agree, and a spare.
@@ -203,6 +200,39 @@ CASES = [
             Step("assemble --readonly a", MARKED),
             Step("assemble a", MARKED, told=STORED, changes="a"),
             Step("assemble a", MARKED),
+        ],
+    ),
+    (
+        "data is written, read and resynced, and the array is stopped",
+        TWO,
+        [
+            create("raid1", 2, 4, "--assume-clean a b", output=CLEAN, changes="a b"),
+            Step("read --sector 8 --count 2 a b", BLANK),
+            Step("write --sector 8 a b", WRITTEN, changes="a b", given=DATA),
+            Step("read --sector 8 --count 2 b a", DATA.decode()),
+            Step("resync a b", WRITTEN),
+            Step("stop a b", WRITTEN),
+        ],
+    ),
+    (
+        "members that may differ",
+        TWO,
+        [
+            create("raid1", 2, 4, "a b", output="in sync 2 of 2, events 1, marked 8\n", changes="a b"),
+            Step("read --sector 0 --count 1 a b", fault="NotResynced"),
+            Step("write --sector 0 a b", fault="NotResynced", given=DATA),
+            Step("resync a b", "in sync 2 of 2, events 2, marked 0\n", changes="a b"),
+        ],
+    ),
+    (
+        "no data",
+        TWO,
+        [
+            create("raid1", 2, 4, "--assume-clean a b", output=CLEAN, changes="a b"),
+            Step("read --sector 63 --count 2 a b", fault="OutOfRange"),
+            Step("write --sector 0 a b", fault="BadLength", given=bytes(100)),
+            Step("write --sector 63 a b", fault="OutOfRange", given=DATA),
+            Step("write --sector 0 a b", fault="OutOfRange"),
         ],
     ),
     ("the plan of a third member", TWO, WITH_A_SPARE + [Step("plan --member 2 a b c", PLAN)]),
