@@ -12,12 +12,12 @@ use Rattle.md_state.specs.Members.{IsInSync}
 use Rattle.md_state.specs.View.{ArrayView, MirrorView}
 use Rattle.md_state.specs.Requests.{AreInFlight}
 use Rattle.md_array.specs.Consistency.{IsConsistent}
-use Rattle.md_array.specs.InTurn.{InTurn, IsInOrder, Requests}
+use Rattle.md_array.specs.InTurn.{AllOf, InTurn, IsInOrder, Requests}
 use Rattle.md_array.proofs.Steps.Turns.{all_on, all_such, turn_on, turn_then}
 use Rattle.md_metadata.specs.declared.fault.PartFault.{PartFault}
 use Rattle.md_metadata.specs.declared.fault.PartFault.TheVariants.{Halted, MemberFailed}
 use Rattle.md_metadata.specs.Going.{GoesOn, HaltsAfter, IsFaulty, IsSameArray, LosesMember, StepsBy, alone, recorded_count}
-use Rattle.md_metadata.specs.Storing.{AllStayReady, IsFailureOf, IsUpToDate, IsMarking, IsRecording, IsSector, IsStored, IsStoring, LosesStoring, StaysReady, Stores, StoresAll, StopsStoring}
+use Rattle.md_metadata.specs.Storing.{AllStayReady, FailsAtLast, IsFailureOf, IsMarking, IsNoFailure, IsRecording, IsSector, IsStoring, IsUpToDate, LosesStoring, SectorFails, StaysReady, Stores, StoresAll, StopsStoring}
 
 pub same_refl : (a : ArrayView) → IsSameArray a a
 same_refl a = record { chunks = refl; marks = refl; as_many = refl; requests = refl; resynced = refl; fewer = omega arith }
@@ -174,7 +174,7 @@ module _ (Of Such : Event → Type 0) (widen : (e : Event) → Of e → Such e) 
   module _ (old new : MirrorView) where
     pub stores_as : Stores Of old new → Stores Such old new
     unfolding goes_as
-    stores_as g = record { goes = goes_as alone alone old new g.goes; stored = g.stored; ready = g.ready }
+    stores_as g = record { goes = goes_as alone alone old new g.goes; unfailing = g.unfailing; ready = g.ready }
 
     pub all_as : (Done : MemberView → Type 0) → StoresAll Of Done old new → StoresAll Such Done old new
     all_as Done g = record { stores = stores_as g.stores; done = g.done }
@@ -197,15 +197,20 @@ module _ (Of Such : Event → Type 0) (widen : (e : Event) → Of e → Such e) 
       faulty = h.faulty;
     }
 
-pub sector_marks : (block : ℕ) (e : Event) → IsSector block e → IsMarking e
-sector_marks block (Event.StoreMarks k b) is = tt
-sector_marks block (Event.StoreMarksFails k b) is = tt
-sector_marks block e is = absurd is
+pub sector_marks : (k block : ℕ) (e : Event) → IsSector k block e → IsMarking e
+sector_marks k block (Event.StoreMarks j b) is = tt
+sector_marks k block (Event.StoreMarksFails j b) is = tt
+sector_marks k block e is = absurd is
 
-pub first_records : (e : Event) → IsSector 0 e → IsRecording e
-first_records (Event.StoreMarks k b) is = is
-first_records (Event.StoreMarksFails k b) is = is
-first_records e is = absurd is
+pub first_records : (k : ℕ) (e : Event) → IsSector k 0 e → IsRecording e
+first_records k (Event.StoreMarks j b) is = is.1
+first_records k (Event.StoreMarksFails j b) is = is.1
+first_records k e is = absurd is
+
+-- a sector is something that is stored
+pub sector_stops : (k block : ℕ) (old new : MirrorView) (fault : PartFault) → SectorFails k block old new fault → StopsStoring (IsSector k block) old new fault
+sector_stops k block old new Halted h = h
+sector_stops k block old new (MemberFailed j) h = subst (λ (i : ℕ). LosesStoring (IsSector k block) i old new) (sym h.0) h.1
 
 pub marking_stores : (e : Event) → IsMarking e → IsStoring e
 marking_stores (Event.StoreMarks k b) is = tt
@@ -220,15 +225,25 @@ recording_stores (Event.StoreMarksFails k b) is = tt
 recording_stores e is = absurd is
 
 -- ---- something is stored
+-- the last of more events fails
+pub fails_after : (k : ℕ) (es fs : List Event) → AllOf IsNoFailure es → FailsAtLast k fs → FailsAtLast k (es ++ fs)
+fails_after k es fs unfailing last = record {
+  before = es ++ last.before;
+  unfailing = all_on IsNoFailure es last.before unfailing last.unfailing;
+  failing = last.failing;
+  of = last.of;
+  list = ap (λ (xs : List Event). es ++ xs) last.list ∙ sym (append_assoc es last.before (last.failing ∷ []));
+}
+
 module _ (Of : Event → Type 0) where
   pub stores_nowhere : (m : MirrorView) → IsConsistent m → Stores Of m m
   unfolding goes_nowhere
-  stores_nowhere m sound = record { goes = goes_nowhere alone Of m sound; stored = tt; ready = ready_refl m.array }
+  stores_nowhere m sound = record { goes = goes_nowhere alone Of m sound; unfailing = tt; ready = ready_refl m.array }
 
-  pub stores_step : (e : Event) (old new : MirrorView) → IsStored e → StepsBy alone alone Of e old new → ((previous : Option Event) → IsInOrder previous old.array e)
+  pub stores_step : (e : Event) (old new : MirrorView) → IsNoFailure e → StepsBy alone alone Of e old new → ((previous : Option Event) → IsInOrder previous old.array e)
       → AllStayReady old.array new.array → Stores Of old new
   unfolding goes_step
-  stores_step e old new is s order ready = record { goes = goes_step alone alone Of e old new s order; stored = (is, tt); ready = ready }
+  stores_step e old new is s order ready = record { goes = goes_step alone alone Of e old new s order; unfailing = (is, tt); ready = ready }
 
   -- the write of it failed
   pub step_loses : (k : ℕ) (e : Event) (old new : MirrorView) → IsFailureOf k e → StepsBy alone alone Of e old new → ((previous : Option Event) → IsInOrder previous old.array e)
@@ -237,28 +252,28 @@ module _ (Of : Event → Type 0) where
   step_loses k e old new is s order lost halted was faulty = record {
     loses = record { goes = goes_step alone alone Of e old new s order; lost = lost; halted = halted };
     was = was;
-    last = record { before = []; stored = tt; failing = e; of = is; list = refl };
+    last = record { before = []; unfailing = tt; failing = e; of = is; list = refl };
     faulty = faulty;
   }
 
   module _ (old mid new : MirrorView) where
-    pub stores_two : (e f : Event) → IsStored e → IsStored f → StepsBy alone alone Of e old mid → ((previous : Option Event) → IsInOrder previous old.array e)
+    pub stores_two : (e f : Event) → IsNoFailure e → IsNoFailure f → StepsBy alone alone Of e old mid → ((previous : Option Event) → IsInOrder previous old.array e)
         → StepsBy alone alone Of f mid new → IsInOrder (Some e) mid.array f → AllStayReady old.array new.array → Stores Of old new
     unfolding goes_two
     stores_two e f first_is second_is s first t second ready = record {
       goes = goes_two alone alone alone Of old mid new e f s first t second;
-      stored = (first_is, (second_is, tt));
+      unfailing = (first_is, (second_is, tt));
       ready = ready;
     }
 
-    pub two_lose : (k : ℕ) (e f : Event) → IsStored e → IsFailureOf k f → StepsBy alone alone Of e old mid → ((previous : Option Event) → IsInOrder previous old.array e)
+    pub two_lose : (k : ℕ) (e f : Event) → IsNoFailure e → IsFailureOf k f → StepsBy alone alone Of e old mid → ((previous : Option Event) → IsInOrder previous old.array e)
         → StepsBy alone alone Of f mid new → IsInOrder (Some e) mid.array f → recorded_count new.array < recorded_count old.array → new.array.halted ≡ old.array.halted
         → IsUpToDate old.array k → IsFaulty k new.array → LosesStoring Of k old new
     unfolding goes_two
     two_lose k e f first_is second_is s first t second lost halted was faulty = record {
       loses = record { goes = goes_two alone alone alone Of old mid new e f s first t second; lost = lost; halted = halted };
       was = was;
-      last = record { before = e ∷ []; stored = (first_is, tt); failing = f; of = second_is; list = refl };
+      last = record { before = e ∷ []; unfailing = (first_is, tt); failing = f; of = second_is; list = refl };
       faulty = faulty;
     }
 
@@ -266,7 +281,7 @@ module _ (Of : Event → Type 0) where
     unfolding goes_on
     stores_on g h = record {
       goes = goes_on alone alone alone Of old mid new g.goes h.goes;
-      stored = all_on IsStored g.goes.events h.goes.events g.stored h.stored;
+      unfailing = all_on IsNoFailure g.goes.events h.goes.events g.unfailing h.unfailing;
       ready = ready_on old.array mid.array new.array g.goes.array.marks g.ready h.ready;
     }
 
@@ -275,13 +290,7 @@ module _ (Of : Event → Type 0) where
     loses_then k g h = record {
       loses = loses_on alone alone alone Of old mid new g.goes g.ready.halted h.loses;
       was = kept_before old.array mid.array k g.ready h.was;
-      last = record {
-        before = g.goes.events ++ h.last.before;
-        stored = all_on IsStored g.goes.events h.last.before g.stored h.last.stored;
-        failing = h.last.failing;
-        of = h.last.of;
-        list = ap (λ (es : List Event). g.goes.events ++ es) h.last.list ∙ sym (append_assoc g.goes.events h.last.before (h.last.failing ∷ []));
-      };
+      last = fails_after k g.goes.events h.loses.goes.events g.unfailing h.last;
       faulty = h.faulty;
     }
 

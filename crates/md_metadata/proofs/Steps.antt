@@ -30,7 +30,7 @@ use Rattle.md_array.proofs.General.Replaced.{of_set}
 use Rattle.md_array.proofs.General.Indices.{at_set_same}
 use Rattle.md_metadata.specs.declared.fault.PartFault.TheVariants as part
 use Rattle.md_metadata.specs.Going.{HaltsAfter, IsFaulty, IsSameArray, LosesMember, StepsBy, alone, recorded_count}
-use Rattle.md_metadata.specs.Storing.{AllStayReady, IsRecording, IsSector, LosesStoring, RecordsOn, StopsRecording, StoresOn}
+use Rattle.md_metadata.specs.Storing.{AllStayReady, IsRecording, IsSector, RecordsOn, SectorFails, StopsRecording, StoresOn}
 use Rattle.md_metadata.proofs.Counts.{count_map, set_alike, set_fewer}
 use Rattle.md_metadata.proofs.Going.{goes_nowhere, goes_step, step_loses}
 
@@ -151,7 +151,7 @@ module _ (old new : MirrorView) (k block : ℕ) (sound : IsConsistent new) (pend
       let n = record r.member { stored = r.stored } in
       record {
         step = record {
-          of = refl;
+          of = (refl, refl);
           did = λ others. (refl, r);
           happens = λ honest whole others in_flight. happens honest others in_flight;
           array = same_array old.array new.array k r.member n r.may.in_sync.member refl r.array;
@@ -167,24 +167,25 @@ module _ (old new : MirrorView) (k block : ℕ) (sound : IsConsistent new) (pend
   sector_in_use f = in_use_there old.array k f.member f.fails.array.member f.fails.array.at f.may.in_sync.member (recorded_in_sync f.member.state f.may.in_sync.in_sync)
 
   pub sector_fails : IsSectorDue old.array k block → (j : ℕ) → RefusesMarkSector k block old new (MemberFailed j) → Happens old (Event.StoreMarksFails k block) new
-      → LosesStoring (IsSector block) j old new
+      → SectorFails k block old new (part.MemberFailed j)
   sector_fails due j r happens =
       let f = r.1 in
       let used = sector_in_use f in
-      let step = failure_step alone alone (IsSector block) (Event.StoreMarksFails k block) old new k f.fails.array used refl (λ others. (refl, f))
-      (λ honest whole others in_flight. happens honest others in_flight) sound pending in
-      subst (λ (i : ℕ). LosesStoring (IsSector block) i old new) (sym r.0)
-      (step_loses (IsSector block) k (Event.StoreMarksFails k block) old new refl step (λ previous. due)
-      (fewer_after old.array new.array k f.fails.array used) (halted_after old.array new.array k f.fails.array used)
-      (record { member = f.fails.array.member; at = f.fails.array.at; recorded = used }) (faulty_after old.array new.array k f.fails.array used))
+      let step = failure_step alone alone (IsSector k block) (Event.StoreMarksFails k block) old new k f.fails.array used (refl, refl) (λ others. (refl, f))
+      (λ honest whole others in_flight. happens honest others in_flight) sound pending in (
+        r.0,
+        step_loses (IsSector k block) k (Event.StoreMarksFails k block) old new refl step (λ previous. due) (fewer_after old.array new.array k f.fails.array used)
+            (halted_after old.array new.array k f.fails.array used) (record { member = f.fails.array.member; at = f.fails.array.at; recorded = used })
+            (faulty_after old.array new.array k f.fails.array used),
+      )
 
-  pub sector_halts : old.array.halted ≡ false → IsConsistent old → RefusesMarkSector k block old new Halted → HaltsAfter alone alone (IsSector block) old new
+  pub sector_halts : old.array.halted ≡ false → IsConsistent old → RefusesMarkSector k block old new Halted → HaltsAfter alone alone (IsSector k block) old new
   sector_halts run before (inl r) = never_halted old new run r
   sector_halts run before (inr h) = record {
     mid = old;
-    goes = goes_nowhere alone (IsSector block) old before;
+    goes = goes_nowhere alone (IsSector k block) old before;
     failing = Event.StoreMarksFails k block;
-    of = refl;
+    of = (refl, refl);
     halts = λ others. h;
     sound = sound;
     pending = pending;

@@ -54,7 +54,7 @@ module _ (k : ℕ) (old mid : MirrorView) (s : StoresOn k 0 old mid) where
 
   module _ (new : MirrorView) (first : IsSectorDue old.array k 0) (second : IsRecordDue (Some (Event.StoreMarks k 0)) mid.array k) where
     header : StepsBy alone alone IsRecording (Event.StoreMarks k 0) old mid
-    header = step_as (IsSector 0) IsRecording first_records alone alone (Event.StoreMarks k 0) old mid s.step
+    header = step_as (IsSector k 0) IsRecording (first_records k) alone alone (Event.StoreMarks k 0) old mid s.step
 
     recorded_after : RecordsOn k mid new → StoresAt IsRecording k IsNotDue old new
     recorded_after r = record {

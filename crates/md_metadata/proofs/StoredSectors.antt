@@ -14,8 +14,8 @@ use Rattle.md_array.specs.Consistency.{IsConsistent}
 use Rattle.md_array.specs.InTurn.{HasSector, IsSectorDue}
 use Rattle.md_metadata.specs.declared.fault.PartFault.{PartFault}
 use Rattle.md_metadata.specs.Going.{StepsBy, alone}
-use Rattle.md_metadata.specs.Storing.{HasAllMarks, IsMarking, IsSector, StaysReady, Stores, StoresAt, StoresOn, StopsStoring}
-use Rattle.md_metadata.proofs.Going.{sector_marks, step_as, stops_as, stores_nowhere, stores_on, stores_step, was_in_sync}
+use Rattle.md_metadata.specs.Storing.{HasAllMarks, IsMarking, IsSector, SectorFails, StaysReady, Stores, StoresAt, StoresOn, StopsStoring}
+use Rattle.md_metadata.proofs.Going.{sector_marks, sector_stops, step_as, stops_as, stores_nowhere, stores_on, stores_step, was_in_sync}
 use Rattle.md_metadata.proofs.Steps.{now_at}
 use Rattle.md_metadata.proofs.StoredMembers.{IsLasting}
 
@@ -36,8 +36,8 @@ hit true x y e = refl
 hit false x y e = absurd cc
 
 module _ (k block : ℕ) (old new : MirrorView) where
-  abbrev as_marking : StepsBy alone alone (IsSector block) (Event.StoreMarks k block) old new → StepsBy alone alone IsMarking (Event.StoreMarks k block) old new
-  as_marking = step_as (IsSector block) IsMarking (sector_marks block) alone alone (Event.StoreMarks k block) old new
+  abbrev as_marking : StepsBy alone alone (IsSector k block) (Event.StoreMarks k block) old new → StepsBy alone alone IsMarking (Event.StoreMarks k block) old new
+  as_marking = step_as (IsSector k block) IsMarking (sector_marks k block) alone alone (Event.StoreMarks k block) old new
 
   sector_in : IsConsistent old → IsSectorDue old.array k block → StoresOn k block old new → StoresAt IsMarking k (HasSector old.array block) old new
   sector_in sound due s =
@@ -53,10 +53,10 @@ module _ (k block : ℕ) (old new : MirrorView) where
             (ap (λ (b : Bool). b && nat_lt c r.member.stored.chunks) (eq-eqb _ _ here) ∙ lt-ltb c r.member.stored.chunks inside);
       }
 
-  pub sector_or_stops : IsConsistent old → IsSectorDue old.array k block → {T : Type 0} (result : Result T PartFault) → MatchResult result (λ _. StoresOn k block old new) (StopsStoring (IsSector block) old new)
+  pub sector_or_stops : IsConsistent old → IsSectorDue old.array k block → {T : Type 0} (result : Result T PartFault) → MatchResult result (λ _. StoresOn k block old new) (SectorFails k block old new)
       → MatchResult result (λ _. StoresAt IsMarking k (HasSector old.array block) old new) (StopsStoring IsMarking old new)
   sector_or_stops sound due (Ok t) s = sector_in sound due s
-  sector_or_stops sound due (Err fault) s = stops_as (IsSector block) IsMarking (sector_marks block) old new fault s
+  sector_or_stops sound due (Err fault) s = stops_as (IsSector k block) IsMarking (sector_marks k block) old new fault (sector_stops k block old new fault s)
 
 -- ---- the sectors of one member
 -- those before this one are stored

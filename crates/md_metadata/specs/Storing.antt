@@ -14,11 +14,11 @@ use Rattle.md_metadata.specs.declared.fault.PartFault.TheVariants.{Halted, Membe
 use Rattle.md_metadata.specs.Going.{GoesOn, HaltsAfter, IsFaulty, LosesMember, StepsBy, alone, recorded_count}
 
 -- ---- kinds of events, done or failed
--- this sector of a bitmap is stored
-abbrev pub IsSector : ℕ → Event → Type 0
-IsSector block (Event.StoreMarks k b) = b ≡ block
-IsSector block (Event.StoreMarksFails k b) = b ≡ block
-IsSector block e = ⊥
+-- this sector of member k's bitmap is stored
+abbrev pub IsSector : ℕ → ℕ → Event → Type 0
+IsSector k block (Event.StoreMarks j b) = (j ≡ k) × (b ≡ block)
+IsSector k block (Event.StoreMarksFails j b) = (j ≡ k) × (b ≡ block)
+IsSector k block e = ⊥
 
 -- marks are stored
 abbrev pub IsMarking : Event → Type 0
@@ -43,21 +43,26 @@ IsStoring (Event.StoreMarksFails k b) = Unit {0}
 IsStoring e = ⊥
 
 -- ---- which of them failed
-abbrev pub IsStored : Event → Type 0
-IsStored (Event.Record k) = Unit {0}
-IsStored (Event.StoreMarks k b) = Unit {0}
-IsStored e = ⊥
-
 -- a write to member k failed
 abbrev pub IsFailureOf : ℕ → Event → Type 0
 IsFailureOf k (Event.RecordFails j) = j ≡ k
 IsFailureOf k (Event.StoreMarksFails j b) = j ≡ k
+IsFailureOf k (Event.WriteMemberFails n j) = j ≡ k
+IsFailureOf k (Event.CopyFails j c) = j ≡ k
 IsFailureOf k e = ⊥
 
--- the last of them is such a failure, and nothing failed before it
+-- no write failed
+abbrev pub IsNoFailure : Event → Type 0
+IsNoFailure (Event.RecordFails k) = ⊥
+IsNoFailure (Event.StoreMarksFails k b) = ⊥
+IsNoFailure (Event.WriteMemberFails n k) = ⊥
+IsNoFailure (Event.CopyFails k c) = ⊥
+IsNoFailure e = Unit {0}
+
+-- the last of them is a failure of member k, and nothing failed before it
 pub record FailsAtLast (k : ℕ) (events : List Event) : Type 0 where
   pub before : List Event
-  pub stored : AllOf IsStored before
+  pub unfailing : AllOf IsNoFailure before
   pub failing : Event
   pub of : IsFailureOf k failing
   pub list : events ≡ before ++ failing ∷ []
@@ -87,7 +92,7 @@ pub record IsUpToDate (a : ArrayView) (k : ℕ) : Type 0 where
 -- by events of a kind something was stored, and nothing failed
 pub record Stores (Of : Event → Type 0) (old new : MirrorView) : Type 0 where
   pub goes : GoesOn alone alone Of old new
-  pub stored : AllOf IsStored goes.events
+  pub unfailing : AllOf IsNoFailure goes.events
   pub ready : AllStayReady old.array new.array
 
 -- member k was kept up to date and failed, and that was the end
@@ -139,9 +144,14 @@ pub record RecordsAll (old new : MirrorView) : Type 0 where
 
 -- a sector of the bitmap is stored on member k
 pub record StoresOn (k block : ℕ) (old new : MirrorView) : Type 0 where
-  pub step : StepsBy alone alone (IsSector block) (Event.StoreMarks k block) old new
+  pub step : StepsBy alone alone (IsSector k block) (Event.StoreMarks k block) old new
   pub ready : AllStayReady old.array new.array
   pub gives : StoresMarkSector k block old new
+
+-- or the write of it failed: that member is faulty, or the mirror is halted
+abbrev pub SectorFails : ℕ → ℕ → MirrorView → MirrorView → PartFault → Type 0
+SectorFails k block old new Halted = HaltsAfter alone alone (IsSector k block) old new
+SectorFails k block old new (MemberFailed j) = (j ≡ k) × LosesStoring (IsSector k block) k old new
 
 -- member k's superblock is stored
 pub record RecordsOn (k : ℕ) (old new : MirrorView) : Type 0 where

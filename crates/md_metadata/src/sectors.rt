@@ -6,7 +6,7 @@ ghost use Rattle.md_kept_members.specs.View.{MemberView};
 ghost use Rattle.md_state.specs.Members.{IsMember};
 ghost use Rattle.md_array.specs.Consistency.{IsConsistent};
 ghost use Rattle.md_array.specs.InTurn.{IsSectorDue};
-ghost use Rattle.md_metadata.specs.Storing.{IsSector, StoresOn, StopsStoring};
+ghost use Rattle.md_metadata.specs.Storing.{SectorFails, StoresOn};
 
 use crate::fault::PartFault;
 use md_array::{Mirror, StoreFault};
@@ -25,7 +25,7 @@ pub fn store_sector<D: Device + Drop>(
     requires running { mirror.old.array.halted ≡ false }
     requires in_sync { (m : MemberView) → IsMember mirror.old.array k m → is_in_sync m.state ≡ true }
     requires due { IsSectorDue mirror.old.array k block }
-    ensures { MatchResult result (λ _. StoresOn k block mirror.old mirror.new) (StopsStoring (IsSector block) mirror.old mirror.new) }
+    ensures { MatchResult result (λ _. StoresOn k block mirror.old mirror.new) (SectorFails k block mirror.old mirror.new) }
 {
     match mirror.store_marks(k, block) {
         Ok(()) => Ok(()),

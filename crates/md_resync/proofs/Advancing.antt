@@ -1,26 +1,32 @@
 -- A resync goes on by its events while nothing is in flight, and how it ends.
-use Rattle.std.proofs.Common.{◌≡◌, ℕ, ◌<◌, Bool, true, false, List, [], ◌∷◌, ◌++◌, length, slice_get, Option, None, refl, sym, ap, ◌∙◌, subst, inr}
-use Rattle.std.proofs.lemmas.Option.{none-some}
+use Rattle.std.proofs.Common.{◌≡◌, ℕ, ◌<◌, Bool, true, false, List, [], ◌∷◌, ◌++◌, length, slice_get, Option, None, refl, sym, ap, ◌∙◌, subst, arith, inr}
+use Rattle.std.proofs.lemmas.Option.{none-some, slice_get_within}
+use Rattle.md_assembly.specs.States.{is_in_sync}
 use Rattle.md_model.specs.Events.{Event}
 use Rattle.md_requests.specs.Pending.{PendingView, extent_of}
 use Rattle.md_kept_members.specs.View.{MemberView}
+use Rattle.md_kept_members.specs.States.{is_recorded}
 use Rattle.md_state.specs.DiskWrites.{AtDevice}
 use Rattle.md_state.specs.View.{ArrayView, Disk, MirrorView}
 use Rattle.md_state.specs.MakingClean.{IsIdle, first_number}
 use Rattle.md_state.specs.Requests.{AreInFlight, IsPending}
-use Rattle.md_state.specs.Members.{AllInSync}
+use Rattle.md_state.specs.Members.{AllInSync, IsAlone, IsInSync}
+use Rattle.md_state.specs.CopyingData.{IsSource}
 use Rattle.md_array.specs.Consistency.{IsConsistent}
-use Rattle.md_array.specs.InTurn.{Requests}
+use Rattle.md_array.specs.InTurn.{InTurn, Leads, Requests}
+use Rattle.md_array.specs.MarkingResynced.{AllAgreeAt, IsServed}
 use Rattle.md_array.proofs.Steps.MadeClean.{none_listed}
-use Rattle.md_array.proofs.Steps.Turns.{all_on}
+use Rattle.md_array.proofs.General.Indices.{got_within}
+use Rattle.md_array.proofs.Steps.Turns.{all_on, turn_on, turn_then}
 use Rattle.md_array.proofs.Worlds.SectorCopied.{none_there}
 use Rattle.md_laws.specs.ReadInTurn.{ReadInTurn}
 use Rattle.md_laws.proofs.Runs.ReadTurns.{read_on, read_then, unread}
 use Rattle.md_laws.proofs.Runs.Rests.{rests_same}
-use Rattle.md_metadata.specs.Storing.{HasAllMarks}
+use Rattle.md_metadata.specs.Storing.{HasAllMarks, IsNoFailure, IsUpToDate}
+use Rattle.md_metadata.proofs.Going.{fails_after}
 use Rattle.md_resync.specs.declared.fault.ResyncFault.{ResyncFault}
 use Rattle.md_resync.specs.declared.fault.ResyncFault.TheVariants.{Halted, InFlight, MemberFailed, NoMemory, ReadFault}
-use Rattle.md_resync.specs.Resyncing.{Advances, FailsToAgree, FailsToWrite, GivesUp, GoesOn, GoesUnresynced, HaltsResync, IsOfResync, LosesMember, RefusesResync, Stops, StopsIdle, StopsReading, Unresyncs}
+use Rattle.md_resync.specs.Resyncing.{Advances, ComesTo, FailsToAgree, FailsToWrite, GivesUp, GoesOn, GoesUnresynced, HaltsResync, HasSameMembers, IsOfResync, LosesMember, RefusesResync, Stops, StopsIdle, StopsReading, Unresyncs}
 use Rattle.md_resync.proofs.CopiedRuns.{same_then}
 
 -- ---- nothing is in flight, before or after
@@ -33,12 +39,61 @@ none_pending a b idle p is = absurd (none_listed a.requests.entries p.ticket.num
 pub is_idle : (a : ArrayView) (halted : Bool) (first : Option ℕ) → halted ≡ a.halted → halted ≡ false → first ≡ first_number a → first ≡ None → IsIdle a
 is_idle a halted first is running of none = record { running = sym is ∙ running; none = sym of ∙ none }
 
--- ---- events, one after another
-pub goes_none : (m : MirrorView) → GoesOn m m
-goes_none m = record { events = []; steps = tt; leads = λ previous requests in_flight. (m, rests_same m, (refl, refl)) }
+-- ---- the same members
+-- who is kept up to date was so
+pub up_to_date_before : (a b : ArrayView) (k : ℕ) → HasSameMembers a b → IsUpToDate b k → IsUpToDate a k
+up_to_date_before a b k same is =
+    let low = slice_get_within b.members k is.member is.at in
+    let many = same.as_many in
+    let m = got_within a.members k (omega arith) in
+    record { member = m.0; at = m.1; recorded = ap (λ (x : MemberView). is_recorded x.state) (sym (same.each k m.0 is.member m.1 is.at)) ∙ is.recorded }
 
-pub goes_on : (old mid new : MirrorView) → IsIdle old.array → GoesOn old mid → GoesOn mid new → GoesOn old new
-goes_on old mid new idle g h = record {
+-- the same members on the same devices agree as before
+pub agree_same : (old new : MirrorView) → new.disks ≡ old.disks → new.array.members ≡ old.array.members → (s : ℕ) → AllAgreeAt old s → AllAgreeAt new s
+agree_same old new disks members s agree j k m n d e one other = agree j k m n d e (was j m d one) (was k n e other)
+  where
+    was : (i : ℕ) (x : MemberView) (y : Disk) → IsServed new i x y → IsServed old i x y
+    was i x y is = record {
+      in_sync = record { member = sym (ap (λ (xs : List MemberView). slice_get xs i) members) ∙ is.in_sync.member; in_sync = is.in_sync.in_sync };
+      disk = sym (ap (λ (xs : List Disk). slice_get xs i) disks) ∙ is.disk;
+      honest = is.honest;
+    }
+
+-- whoever is alone in sync is so still
+pub alone_still : (a b : ArrayView) → HasSameMembers a b → IsAlone a → IsAlone b
+alone_still a b same alone j k m n one other = alone j k (was j m one).0 (was k n other).0 (was j m one).1 (was k n other).1
+  where
+    was : (i : ℕ) (x : MemberView) → IsInSync b i x → (y : MemberView) × IsInSync a i y
+    was i x is =
+        let low = slice_get_within b.members i x is.member in
+        let many = same.as_many in
+        let y = got_within a.members i (omega arith) in
+        (y.0, record { member = y.1; in_sync = ap (λ (z : MemberView). is_in_sync z.state) (sym (same.each i y.0 x y.1 is.member)) ∙ is.in_sync })
+
+-- ---- events, one after another
+unfoldable pub goes_none : (m : MirrorView) → GoesOn m m
+goes_none m = record {
+  events = [];
+  steps = tt;
+  leads = λ previous requests in_flight. (m, rests_same m, (refl, refl));
+  unread = λ alone previous requests in_flight. (refl, refl);
+}
+
+-- lists with no read, one after the other
+pub unread_on : (es fs : List Event) (old mid new : MirrorView) (requests : Requests) (previous : Option Event) → Leads previous old requests es mid requests
+    → ((last : Option Event) → Leads last mid requests fs new requests) → Leads previous old requests (es ++ fs) new requests
+unread_on es fs old mid new requests previous first rest =
+    turn_on es fs previous old requests (λ m s. (m ≡ new) × (s ≡ requests))
+    (turn_then es previous old requests
+    (λ m s. (m ≡ mid) × (s ≡ requests))
+    (λ m s. (last : Option Event) → InTurn last m s fs (λ m s. (m ≡ new) × (s ≡ requests)))
+    (λ m s at last.
+    subst (λ (x : MirrorView). InTurn last x s fs (λ m s. (m ≡ new) × (s ≡ requests))) (sym at.0)
+    (subst (λ (x : Requests). InTurn last mid x fs (λ m s. (m ≡ new) × (s ≡ requests))) (sym at.1) (rest last)))
+    first)
+
+unfoldable pub goes_on : (old mid new : MirrorView) → IsIdle old.array → HasSameMembers old.array mid.array → GoesOn old mid → GoesOn mid new → GoesOn old new
+goes_on old mid new idle same g h = record {
   events = g.events ++ h.events;
   steps = all_on IsOfResync g.events h.events g.steps h.steps;
   leads = λ previous requests in_flight.
@@ -52,14 +107,31 @@ goes_on old mid new idle g h = record {
       (subst (λ (x : Requests). ReadInTurn last mid x h.events (λ m s. (m ≡ new) × (s ≡ requests))) (sym at.1)
       (h.leads last requests there)))
       (g.leads previous requests in_flight));
+  unread = λ alone previous requests in_flight.
+      let there = none_flies old.array mid.array idle requests in_flight in
+      unread_on g.events h.events old mid new requests previous (g.unread alone previous requests in_flight)
+      (λ last. h.unread (alone_still old.array mid.array same alone) last requests there);
 }
 
-pub advances_on : (old mid new : MirrorView) → IsIdle old.array → Advances old mid → Advances mid new → Advances old new
-advances_on old mid new idle g h = record {
-  goes = goes_on old mid new idle g.goes h.goes;
+unfoldable pub advances_on : (old mid new : MirrorView) → IsIdle old.array → HasSameMembers old.array mid.array → Advances old mid → Advances mid new → Advances old new
+unfolding goes_on
+advances_on old mid new idle same g h = record {
+  goes = goes_on old mid new idle same g.goes h.goes;
+  unfailing = all_on IsNoFailure g.goes.events h.goes.events g.unfailing h.unfailing;
   same = same_then old.disks mid.disks new.disks g.same h.same;
   idle = h.idle;
   sound = h.sound;
+}
+
+-- a member fails after them
+pub fails_on : (k : ℕ) (old mid new : MirrorView) → IsIdle old.array → HasSameMembers old.array mid.array → Advances old mid → FailsToWrite k mid new → FailsToWrite k old new
+unfolding goes_on
+fails_on k old mid new idle same g h = record {
+  goes = goes_on old mid new idle same g.goes h.goes;
+  last = fails_after k g.goes.events h.goes.events g.unfailing h.last;
+  idle = h.idle;
+  was = up_to_date_before old.array mid.array k same h.was;
+  faulty = h.faulty;
 }
 
 -- ---- it is kept that the array is not resynced
@@ -79,40 +151,62 @@ goes_unresynced old mid new idle g u = record {
       (unread (Event.Unresynced ∷ []) last mid requests (λ m s. (m ≡ new) × (s ≡ requests))
       (new, requests, tt, (refl, u.marks), (λ honest whole. u.happens honest requests there), (refl, refl)))))
       (g.leads previous requests in_flight));
+  unread = λ alone previous requests in_flight.
+      let there = none_flies old.array mid.array idle requests in_flight in
+      unread_on g.events (Event.Unresynced ∷ []) old mid new requests previous (g.unread alone previous requests in_flight)
+      (λ last. (new, requests, tt, (refl, u.marks), (λ honest whole. u.happens honest requests there), (refl, refl)));
 }
 
-module _ (old mid new : MirrorView) (idle : IsIdle old.array) (advances : Advances old mid) (u : Unresyncs mid new) where
+module _ (old mid new : MirrorView) (idle : IsIdle old.array) (goes : GoesOn old mid) (now_idle : IsIdle mid.array) (u : Unresyncs mid new) where
   pub stops : Stops old new
   stops = record {
     idle = idle;
-    goes = goes_unresynced old mid new idle advances.goes u;
+    goes = goes_unresynced old mid new idle goes u;
     unresynced = ap (λ (a : ArrayView). a.resynced) u.marks.array;
-    running = ap (λ (a : ArrayView). a.halted) u.marks.array ∙ advances.idle.running;
+    running = ap (λ (a : ArrayView). a.halted) u.marks.array ∙ now_idle.running;
   }
 
-  members_stay : new.array.members ≡ mid.array.members
-  members_stay = ap (λ (a : ArrayView). a.members) u.marks.array
+members_stay : (mid new : MirrorView) → Unresyncs mid new → new.array.members ≡ mid.array.members
+members_stay mid new u = ap (λ (a : ArrayView). a.members) u.marks.array
+
+module _ (old mid new : MirrorView) (idle : IsIdle old.array) (u : Unresyncs mid new) where
+  comes_still : (sector k chunk : ℕ) (events : List Event) → ComesTo sector k chunk events old mid → ComesTo sector k chunk events old new
+  comes_still sector k chunk events is = record {
+    inside = is.inside;
+    in_chunk = is.in_chunk;
+    marked = is.marked;
+    source = subst (IsSource k sector) (sym u.marks.array)
+        (record { member = is.source.member; at = is.source.at; role = is.source.role; in_sync = is.source.in_sync; unlisted = is.source.unlisted; lowest = is.source.lowest });
+    before = λ s low marked. agree_same mid new u.marks.disks (members_stay mid new u) s (is.before s low marked);
+    none = is.none;
+  }
 
   pub stops_reading : (k chunk : ℕ) → FailsToAgree k chunk old mid → StopsReading k chunk old new
+  unfolding goes_unresynced stops
   stops_reading k chunk f = record {
-    stops = stops;
+    stops = stops old mid new idle f.advances.goes f.advances.idle u;
+    unfailing = f.advances.unfailing;
     members = record {
-      as_many = ap length members_stay ∙ f.members.as_many;
-      each = λ i m n was is. f.members.each i m n was (sym (ap (λ (xs : List MemberView). slice_get xs i) members_stay) ∙ is);
+      as_many = ap length (members_stay mid new u) ∙ f.members.as_many;
+      each = λ i m n was is. f.members.each i m n was (sym (ap (λ (xs : List MemberView). slice_get xs i) (members_stay mid new u)) ∙ is);
     };
     marks = ap (λ (a : ArrayView). a.marks) u.marks.array ∙ f.marks;
     stored = subst (λ (a : ArrayView). AllInSync a (HasAllMarks a.marks)) (sym u.marks.array) (λ i m is. f.stored i m (record { member = is.member; in_sync = is.in_sync }));
-    marked = f.marked;
+    sector = f.sector;
+    comes = comes_still f.sector k chunk f.advances.goes.events f.comes;
+    two = f.two;
     member = f.member;
     in_sync = f.in_sync;
     failed = subst (λ (disks : List Disk). AtDevice k old.disks disks (λ d e. d.honest ≡ true → d.failures < e.failures)) (sym u.marks.disks) f.failed;
   }
 
   pub loses_member : (k : ℕ) → FailsToWrite k old mid → LosesMember k old new
+  unfolding goes_unresynced stops
   loses_member k f = record {
-    stops = stops;
+    stops = stops old mid new idle f.goes f.idle u;
+    last = f.last;
     was = f.was;
-    faulty = record { member = f.faulty.member; at = ap (λ (xs : List MemberView). slice_get xs k) members_stay ∙ f.faulty.at; faulty = f.faulty.faulty };
+    faulty = record { member = f.faulty.member; at = ap (λ (xs : List MemberView). slice_get xs k) (members_stay mid new u) ∙ f.faulty.at; faulty = f.faulty.faulty };
   }
 
 pub refuses : (old mid new : MirrorView) (fault : ResyncFault) → IsIdle old.array → IsConsistent old → StopsIdle old mid fault → GivesUp mid new → RefusesResync old new fault
@@ -121,8 +215,8 @@ refuses old mid new (InFlight n) idle sound h g = absurd h
 refuses old mid new NoMemory idle sound h g =
     let u = subst (λ (m : MirrorView). Unresyncs m new) h (g.running (ap (λ (m : MirrorView). m.array.halted) h ∙ idle.running)) in
     record { goes = goes_unresynced old old new idle (goes_none old) u; marks = u.marks }
-refuses old mid new (ReadFault k chunk) idle sound h g = stops_reading old mid new idle h.advances (g.running h.advances.idle.running) k chunk h
-refuses old mid new (MemberFailed k) idle sound h g = loses_member old mid new idle h.advances (g.running h.advances.idle.running) k h
+refuses old mid new (ReadFault k chunk) idle sound h g = stops_reading old mid new idle (g.running h.advances.idle.running) k chunk h
+refuses old mid new (MemberFailed k) idle sound h g = loses_member old mid new idle (g.running h.idle.running) k h
 
 -- where it runs still, nothing is in flight
 pub idle_still : (old mid : MirrorView) (fault : ResyncFault) → IsIdle old.array → StopsIdle old mid fault → mid.array.halted ≡ false → IsIdle mid.array
@@ -130,4 +224,4 @@ idle_still old mid Halted idle h running = let halted = h.halted in absurd cc
 idle_still old mid (InFlight n) idle h running = absurd h
 idle_still old mid NoMemory idle h running = subst (λ (m : MirrorView). IsIdle m.array) (sym h) idle
 idle_still old mid (ReadFault k chunk) idle h running = h.advances.idle
-idle_still old mid (MemberFailed k) idle h running = h.advances.idle
+idle_still old mid (MemberFailed k) idle h running = h.idle

@@ -1,5 +1,5 @@
 -- Members in sync are made to agree in marked chunks, and a content is kept meanwhile.
-use Rattle.std.proofs.Common.{◌≡◌, ℕ, ◌+◌, List, [], ◌∷◌, length, slice_get, Option, Some, None, refl, sym, ap, ◌∙◌, subst, arith, inl, inr}
+use Rattle.std.proofs.Common.{◌≡◌, ℕ, ◌+◌, ◌<◌, List, [], ◌∷◌, length, slice_get, Option, Some, None, refl, sym, ap, ◌∙◌, subst, arith, inl, inr}
 use Rattle.std.proofs.lemmas.Bool.{cases_lt}
 use Rattle.std.proofs.lemmas.Option.{slice_get_within}
 use Rattle.md_model.specs.Content.{Becomes, Content, HoldsBetween}
@@ -23,8 +23,9 @@ use Rattle.md_laws.specs.ReadInTurn.{LeadsReading}
 use Rattle.md_array.proofs.Steps.Turns.{all_such}
 use Rattle.md_metadata.specs.Clearing.{IsClearing}
 use Rattle.md_resync.specs.Copying.{Copies, CopiesMarked, CopyingGoesOn, IsCopying}
-use Rattle.md_resync.specs.Resyncing.{Advances, Agrees, IsOfResync, KeepsContent, NoneInSync}
-use Rattle.md_resync.proofs.CopiedRuns.{copies_none}
+use Rattle.md_resync.specs.Resyncing.{Advances, Agrees, GoesOn, IsFirstInSync, IsOfResync, KeepsContent, NoneInSync}
+use Rattle.md_resync.proofs.Advancing.{goes_none}
+use Rattle.md_resync.proofs.CopiedRuns.{copies_none, copies_unfailing}
 
 -- ---- who is in sync
 pub alone_if_none : (a : ArrayView) → NoneInSync 0 (length a.members) a → IsAlone a
@@ -42,6 +43,12 @@ only a first before after j m is = elim (cases_lt j first) [
 
 pub alone_if_one : (a : ArrayView) (first : ℕ) → NoneInSync 0 first a → NoneInSync (first + 1) (length a.members) a → IsAlone a
 alone_if_one a first before after j k m n one other = only a first before after j m one ∙ sym (only a first before after k n other)
+
+pub two_apart : (a : ArrayView) (first second : ℕ) → IsFirstInSync 0 first a → IsFirstInSync (first + 1) second a → IsAlone a → ⊥
+two_apart a first second one other alone =
+    let same = alone first second one.member other.member one.in_sync other.in_sync in
+    let above = other.from in
+    omega arith
 
 -- one alone agrees with itself
 pub alone_agrees : (v : MirrorView) → IsAlone v.array → AllAgreeWhereMarked v
@@ -126,24 +133,41 @@ calm_content es old new all leads honest requests in_flight a holds =
     subst (λ (g : Geometry). HoldsBetween g a (world_of new requests)) along.1 along.0
 
 -- ---- members in sync agree
-pub copies_advance : (old new : MirrorView) → CopyingGoesOn old new → IsIdle new.array → Advances old new
-copies_advance old new g idle = record {
-  goes = record { events = g.events; steps = all_such IsCopying IsOfResync (λ e is. (copying_is_calm e is).of) g.events g.steps; leads = g.leads };
-  same = g.same;
-  idle = idle;
-  sound = g.sound;
+-- where there are two
+unfoldable pub copying_goes : (old new : MirrorView) → (IsAlone old.array → ⊥) → CopyingGoesOn old new → GoesOn old new
+copying_goes old new two g = record {
+  events = g.events;
+  steps = all_such IsCopying IsOfResync (λ e is. (copying_is_calm e is).of) g.events g.steps;
+  leads = g.leads;
+  unread = λ alone. absurd (two alone);
 }
 
-agrees_by : (old new : MirrorView) → IsIdle old.array → Copies old new → AllAgreeWhereMarked new → Agrees old new
-agrees_by old new idle g agree = record {
-  advances = copies_advance old new g.goes (subst IsIdle (sym g.array) idle);
-  array = g.array;
-  agree = agree;
-  content = calm_content g.goes.events old new (all_such IsCopying IsCalm copying_is_calm g.goes.events g.goes.steps) g.goes.leads;
+unfoldable pub copies_advance : (Of : ℕ → Type 0) (old new : MirrorView) → (IsAlone old.array → ⊥) → Copies Of old new → IsIdle old.array → Advances old new
+unfolding copying_goes
+copies_advance Of old new two g idle = record {
+  goes = copying_goes old new two g.goes;
+  unfailing = copies_unfailing Of old new g;
+  same = g.goes.same;
+  idle = subst IsIdle (sym g.array) idle;
+  sound = g.goes.sound;
 }
 
-pub agrees_copied : (old new : MirrorView) → IsIdle old.array → CopiesMarked old new → Agrees old new
-agrees_copied old new idle g = agrees_by old new idle g.copies g.agree
+pub agrees_copied : (old new : MirrorView) → IsIdle old.array → (IsAlone old.array → ⊥) → CopiesMarked old new → Agrees old new
+agrees_copied old new idle two g = record {
+  advances = copies_advance (λ s. s < old.array.chunks.size) old new two g.copies idle;
+  alone = λ alone. absurd (two alone);
+  array = g.copies.array;
+  agree = g.agree;
+  content = calm_content g.copies.goes.events old new (all_such IsCopying IsCalm copying_is_calm g.copies.goes.events g.copies.goes.steps) g.copies.goes.leads;
+}
 
+-- where there is one
 pub agrees_alone : (v : MirrorView) → IsIdle v.array → IsConsistent v → IsAlone v.array → Agrees v v
-agrees_alone v idle sound alone = agrees_by v v idle (copies_none v sound) (alone_agrees v alone)
+unfolding goes_none
+agrees_alone v idle sound alone = record {
+  advances = record { goes = goes_none v; unfailing = tt; same = (copies_none (λ s. ⊥) v sound).goes.same; idle = idle; sound = sound };
+  alone = λ _. refl;
+  array = refl;
+  agree = alone_agrees v alone;
+  content = λ honest requests in_flight a holds. holds;
+}

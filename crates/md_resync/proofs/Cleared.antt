@@ -1,6 +1,7 @@
 -- All marks are cleared, and that is stored.
 use Rattle.std.proofs.Common.{◌≡◌, ℕ, ◌<◌, true, false, List, slice_get, length, refl, sym, ap, ◌∙◌, subst, arith}
 use Rattle.md_model.specs.Content.{HoldsBetween}
+use Rattle.md_model.specs.Events.{Event}
 use Rattle.md_model.specs.Sectors.{Geometry}
 use Rattle.md_array.specs.Worlds.{geometry_of, world_of}
 use Rattle.md_bitmap.specs.Marks.{Bitmap, is_set}
@@ -10,14 +11,13 @@ use Rattle.md_state.specs.View.{ArrayView, Disk, MirrorView}
 use Rattle.md_state.specs.MakingClean.{IsIdle}
 use Rattle.md_state.specs.Members.{AllInSync, is_degraded}
 use Rattle.md_array.specs.Consistency.{IsConsistent}
-use Rattle.md_array.specs.MarkingResynced.{AllAgreeAt, IsServed}
 use Rattle.md_array.proofs.General.Indices.{got_same}
 use Rattle.md_array.proofs.Steps.Turns.{all_such}
 use Rattle.md_laws.proofs.Runs.ReadTurns.{unread}
 use Rattle.md_metadata.specs.Clearing.{ClearsAll, IsClearing, Remarks}
-use Rattle.md_metadata.specs.Storing.{HasAllMarks}
+use Rattle.md_metadata.specs.Storing.{HasAllMarks, IsNoFailure}
 use Rattle.md_resync.specs.Resyncing.{Advances, ClearsStored, HasSameMembers, IsOfResync, KeepsContent, StoresMarks}
-use Rattle.md_resync.proofs.Advancing.{advances_on, goes_none, none_flies}
+use Rattle.md_resync.proofs.Advancing.{advances_on, agree_same, goes_none, none_flies}
 use Rattle.md_resync.proofs.Agreeing.{IsCalm, calm_content, clearing_is_calm}
 use Rattle.md_array.proofs.General.Honesty.{same_honest}
 
@@ -25,7 +25,8 @@ pub same_disks : (before after : List Disk) → after ≡ before → AreSame bef
 same_disks before after same = subst (AreSame before) (sym same) (record { as_many = refl; honest = λ k d e was is. let it = got_same before k e d is was in subst (λ (x : Disk). StaysHonest d x) (sym it) (record { honest = refl; counted = omega arith }) })
 
 pub advances_none : (v : MirrorView) → IsIdle v.array → IsConsistent v → Advances v v
-advances_none v idle sound = record { goes = goes_none v; same = same_disks v.disks v.disks refl; idle = idle; sound = sound }
+unfolding goes_none
+advances_none v idle sound = record { goes = goes_none v; unfailing = tt; same = same_disks v.disks v.disks refl; idle = idle; sound = sound }
 
 pub same_members : (a : ArrayView) → HasSameMembers a a
 same_members a = record { as_many = refl; each = λ k m n was is. let it = got_same a.members k n m is was in it ∙ ap (λ (x : MemberView). record m { stored = x.stored }) (sym it) }
@@ -38,18 +39,14 @@ content_on old mid new idle same geometry first second honest requests in_flight
     (second (same_honest old.disks mid.disks same honest) requests (none_flies old.array mid.array idle requests in_flight) a
     (subst (λ (g : Geometry). HoldsBetween g a (world_of mid requests)) (sym geometry) there))
 
--- the same members on the same devices agree as before
-pub agree_same : (old new : MirrorView) → new.disks ≡ old.disks → new.array.members ≡ old.array.members → (s : ℕ) → AllAgreeAt old s → AllAgreeAt new s
-agree_same old new disks members s agree j k m n d e one other = agree j k m n d e (was j m d one) (was k n e other)
-  where
-    was : (i : ℕ) (x : MemberView) (y : Disk) → IsServed new i x y → IsServed old i x y
-    was i x y is = record {
-      in_sync = record { member = sym (ap (λ (xs : List MemberView). slice_get xs i) members) ∙ is.in_sync.member; in_sync = is.in_sync.in_sync };
-      disk = sym (ap (λ (xs : List Disk). slice_get xs i) disks) ∙ is.disk;
-      honest = is.honest;
-    }
-
 -- ---- in memory
+clearing_unfailing : (e : Event) → IsClearing e → IsNoFailure e
+clearing_unfailing (Event.ClearIdle c) is = tt
+clearing_unfailing e is = absurd is
+
+pub same_but_marks : (a b : ArrayView) → b ≡ record a { marks = b.marks } → HasSameMembers a b
+same_but_marks a b is = subst (HasSameMembers a) (sym is) (record { as_many = refl; each = (same_members a).each })
+
 module _ (old mid : MirrorView) (idle : IsIdle old.array) (r : Remarks old mid) where
   pub clearing_idle : IsIdle mid.array
   clearing_idle = subst IsIdle (sym r.array) (record { running = idle.running; none = idle.none })
@@ -60,7 +57,9 @@ module _ (old mid : MirrorView) (idle : IsIdle old.array) (r : Remarks old mid) 
       events = r.goes.events;
       steps = all_such IsClearing IsOfResync (λ e is. (clearing_is_calm e is).of) r.goes.events r.goes.steps;
       leads = λ previous requests in_flight. unread r.goes.events previous old requests (λ m x. (m ≡ mid) × (x ≡ requests)) (r.goes.leads previous requests in_flight);
+      unread = λ alone. r.goes.leads;
     };
+    unfailing = all_such IsClearing IsNoFailure clearing_unfailing r.goes.events r.goes.steps;
     same = same_disks old.disks mid.disks r.disks;
     idle = clearing_idle;
     sound = r.goes.sound;
@@ -77,7 +76,7 @@ cleared_stored old mid new idle full c s =
     let members = ap (λ (x : ArrayView). x.members) array in
     let marks = ap (λ (x : ArrayView). x.marks) s.array in
     record {
-      advances = advances_on old mid new idle (clearing_advances old mid idle c.remarks) s.advances;
+      advances = advances_on old mid new idle (same_but_marks old.array mid.array array) (clearing_advances old mid idle c.remarks) s.advances;
       members = record {
         as_many = s.members.as_many ∙ ap length members;
         each = λ k m n was is. s.members.each k m n (ap (λ (xs : List MemberView). slice_get xs k) members ∙ was) is;

@@ -1,5 +1,5 @@
 -- A run of sectors goes to the members in sync: what each holds after that, and where members agree.
-use Rattle.std.proofs.Common.{◌≡◌, ◌≢◌, ℕ, zero, suc, ◌+◌, ◌-◌, ◌*◌, ◌≤◌, inl, inr, true, List, [], ◌∷◌, ◌++◌, length, take, drop, slice_get, Option, Some, refl, sym, ap, ◌∙◌, subst, arith, drop-drop}
+use Rattle.std.proofs.Common.{◌≡◌, ◌≢◌, ℕ, zero, suc, ◌+◌, ◌-◌, ◌*◌, ◌/◌, ◌≤◌, inl, inr, true, List, [], ◌∷◌, ◌++◌, length, take, drop, slice_get, Option, Some, refl, sym, ap, ◌∙◌, subst, arith, drop-drop}
 use Rattle.std.proofs.lemmas.List.{drop-take, take-take}
 use Rattle.std.proofs.lemmas.Option.{slice_get_within}
 use Rattle.md_assembly.specs.States.{is_in_sync}
@@ -28,14 +28,15 @@ use Rattle.md_array.specs.MarkingResynced.{AllAgreeAt, IsServed, sector_of}
 use Rattle.md_array.proofs.General.Indices.{got_same, got_within}
 use Rattle.md_array.proofs.General.Resting.{rests_sound}
 use Rattle.md_array.proofs.Steps.CopyWrites.{copied_run_is_consistent, run_fits}
-use Rattle.md_array.proofs.Steps.Turns.{all_on}
+use Rattle.md_array.proofs.Steps.Turns.{all_on, all_such}
 use Rattle.md_laws.specs.ReadInTurn.{ReadInTurn}
 use Rattle.md_laws.proofs.Runs.ReadTurns.{read_on, read_then, unread}
 use Rattle.md_laws.proofs.Runs.Rests.{rests_same}
 use Rattle.md_metadata.specs.Going.{IsFaulty}
-use Rattle.md_metadata.specs.Storing.{IsUpToDate}
+use Rattle.md_metadata.specs.Storing.{IsNoFailure, IsUpToDate}
+use Rattle.md_metadata.proofs.Going.{fails_after}
 use Rattle.md_metadata.proofs.Steps.{faulty_after, recorded_in_sync}
-use Rattle.md_resync.specs.Copying.{Copies, CopyingGoesOn, GivesTo, HaltsCopying, IsBeside, IsCopying, IsRun, LosesCopying}
+use Rattle.md_resync.specs.Copying.{Copies, CopyingGoesOn, GivesTo, HaltsCopying, IsAmong, IsBeside, IsBetween, IsCopyIn, IsCopying, IsRun, LosesCopying}
 
 -- ---- devices, each as honest as it was
 pub same_then : (before mid after : List Disk) → AreSame before mid → AreSame mid after → AreSame before after
@@ -77,8 +78,8 @@ goes_read old new rests sound = record {
   sound = rests_sound old new rests sound;
 }
 
-pub goes_then : (old mid new : MirrorView) → Copies old mid → CopyingGoesOn mid new → CopyingGoesOn old new
-goes_then old mid new g h = record {
+pub goes_then : (Of : ℕ → Type 0) (old mid new : MirrorView) → Copies Of old mid → CopyingGoesOn mid new → CopyingGoesOn old new
+goes_then Of old mid new g h = record {
   events = g.goes.events ++ h.events;
   steps = all_on IsCopying g.goes.events h.events g.goes.steps h.steps;
   leads = λ previous requests in_flight.
@@ -96,18 +97,59 @@ goes_then old mid new g h = record {
   sound = h.sound;
 }
 
-pub copies_none : (m : MirrorView) → IsConsistent m → Copies m m
-copies_none m sound = record { goes = goes_nowhere m sound; array = refl }
+pub copy_unfailing : (Of : ℕ → Type 0) (e : Event) → IsCopyIn Of e → IsNoFailure e
+copy_unfailing Of (Event.Copy from k s) is = tt
+copy_unfailing Of e is = absurd is
 
-pub copies_read : (old new : MirrorView) → Rests old new → IsConsistent old → Copies old new
-copies_read old new rests sound = record { goes = goes_read old new rests sound; array = rests.array }
+copy_as : (Of Such : ℕ → Type 0) → ((s : ℕ) → Of s → Such s) → (e : Event) → IsCopyIn Of e → IsCopyIn Such e
+copy_as Of Such widen (Event.Copy from k s) is = widen s is
+copy_as Of Such widen e is = absurd is
 
-pub copies_then : (old mid new : MirrorView) → Copies old mid → Copies mid new → Copies old new
-copies_then old mid new g h = record { goes = goes_then old mid new g h.goes; array = h.array ∙ g.array }
+module _ (Of : ℕ → Type 0) where
+  pub copies_none : (m : MirrorView) → IsConsistent m → Copies Of m m
+  unfolding goes_nowhere
+  copies_none m sound = record { goes = goes_nowhere m sound; only = tt; array = refl }
+
+  pub copies_read : (old new : MirrorView) → Rests old new → IsConsistent old → Copies Of old new
+  unfolding goes_read
+  copies_read old new rests sound = record { goes = goes_read old new rests sound; only = tt; array = rests.array }
+
+  pub copies_then : (old mid new : MirrorView) → Copies Of old mid → Copies Of mid new → Copies Of old new
+  unfolding goes_then
+  copies_then old mid new g h = record {
+    goes = goes_then Of old mid new g h.goes;
+    only = all_on (IsCopyIn Of) g.goes.events h.goes.events g.only h.only;
+    array = h.array ∙ g.array;
+  }
+
+  -- they are of other sectors too
+  pub copies_as : (Such : ℕ → Type 0) → ((s : ℕ) → Of s → Such s) → (old new : MirrorView) → Copies Of old new → Copies Such old new
+  copies_as Such widen old new g = record { goes = g.goes; only = all_such (IsCopyIn Of) (IsCopyIn Such) (copy_as Of Such widen) g.goes.events g.only; array = g.array }
+
+  pub copies_unfailing : (old new : MirrorView) (g : Copies Of old new) → AllOf IsNoFailure g.goes.events
+  copies_unfailing old new g = all_such (IsCopyIn Of) IsNoFailure (copy_unfailing Of) g.goes.events g.only
+
+  -- a member fails after them
+  pub loses_then : (k : ℕ) (old mid new : MirrorView) → Copies Of old mid → LosesCopying k mid new → LosesCopying k old new
+  unfolding goes_then
+  loses_then k old mid new g h = record {
+    goes = goes_then Of old mid new g h.goes;
+    last = fails_after k g.goes.events h.goes.events (copies_unfailing old mid g) h.last;
+    was = subst (λ (a : ArrayView). IsUpToDate a k) g.array h.was;
+    idle = h.idle;
+    faulty = h.faulty;
+  }
+
+  pub halts_then : (old mid new : MirrorView) → Copies Of old mid → HaltsCopying mid new → HaltsCopying old new
+  halts_then old mid new g h = record { mid = h.mid; goes = goes_then Of old mid h.mid g h.goes; failing = h.failing; of = h.of; halts = h.halts; sound = h.sound; halted = h.halted }
 
 all_copying : (from k s n : ℕ) → AllOf IsCopying (copies_of from k s n)
 all_copying from k s zero = tt
 all_copying from k s (suc n) = (tt, all_copying from k (s + 1) n)
+
+all_between : (from k s n start end : ℕ) → start ≤ s → s + n ≤ end → AllOf (IsCopyIn (IsBetween start end)) (copies_of from k s n)
+all_between from k s zero start end low high = tt
+all_between from k s (suc n) start end low high = ((low, omega arith), all_between from k (s + 1) n start end (omega arith) (omega arith))
 
 -- ---- parts of parts
 part_part : (xs : List ℕ) (at long inner n : ℕ) → inner + n ≤ long → part (part xs at long) inner n ≡ part xs (at + inner) n
@@ -223,6 +265,7 @@ module _ (k sector : ℕ) (bytes : List ℕ) (old new : MirrorView) (c : IsConsi
         same = tried_same k (run_write target sector bytes) old.disks new.disks t.disks.tried;
         sound = copied_run_is_consistent k sector bytes old c t.copy new t;
       };
+      only = let long = turn.long in all_between turn.from k sector turn.sectors sector (sector + length bytes / 512) (omega arith) (omega arith);
       array = t.array;
     };
     given = λ m is. target_holds;
@@ -231,7 +274,7 @@ module _ (k sector : ℕ) (bytes : List ℕ) (old new : MirrorView) (c : IsConsi
   }
 
 pub gives_nothing : (k sector : ℕ) (bytes : List ℕ) (v : MirrorView) → IsConsistent v → ((m : MemberView) → IsInSync v.array k m → HoldsData v k sector bytes) → GivesTo k sector bytes v v
-gives_nothing k sector bytes v sound has = record { copies = copies_none v sound; given = has; kept = λ j holds. holds; agree = λ s beside agree. agree }
+gives_nothing k sector bytes v sound has = record { copies = copies_none (IsAmong sector bytes) v sound; given = has; kept = λ j holds. holds; agree = λ s beside agree. agree }
 
 -- ---- a write that failed
 module _ (k chunk : ℕ) (old new : MirrorView) where
@@ -251,6 +294,7 @@ module _ (k chunk : ℕ) (old new : MirrorView) where
           same = tried_same k (run_write f.copy.may.target f.sector f.bytes) old.disks new.disks f.fails.disks.tried;
           sound = sound;
         };
+        last = record { before = []; unfailing = tt; failing = Event.CopyFails k chunk; of = sym r.0; list = refl };
         was = subst (λ (i : ℕ). IsUpToDate old.array i) (sym r.0) (record { member = f.fails.array.member; at = f.fails.array.at; recorded = in_use });
         idle = subst IsIdle (sym f.fails.array.array) (record { running = idle.running; none = idle.none });
         faulty = subst (λ (i : ℕ). IsFaulty i new.array) (sym r.0) (faulty_after old.array new.array k f.fails.array in_use);

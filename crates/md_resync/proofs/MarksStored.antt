@@ -27,7 +27,7 @@ use Rattle.md_laws.proofs.Runs.ReadTurns.{unread}
 use Rattle.md_metadata.specs.Going as metadata
 use Rattle.md_metadata.specs.Going.{alone}
 use Rattle.md_inflight.specs.Inflight.{InflightList}
-use Rattle.md_metadata.specs.Storing.{HasAllMarks, IsMarking, IsStored, LosesStoring, StoresAll}
+use Rattle.md_metadata.specs.Storing.{HasAllMarks, IsMarking, IsNoFailure, LosesStoring, StoresAll}
 use Rattle.md_state.specs.MakingClean.{IsIdle, first_number}
 use Rattle.md_state.specs.Requests.{AreInFlight}
 use Rattle.md_array.proofs.General.Indices.{at_set_same, got_other, got_same, got_within}
@@ -208,31 +208,33 @@ mark_is_calm (Event.Remove k) is = absurd is
 mark_is_calm (Event.Add d left) is = absurd is
 mark_is_calm (Event.ReAdd own device left) is = absurd is
 
-mark_is_stored : (e : Event) → IsMarking e → IsStored e → IsMarkStored e
-mark_is_stored (Event.StoreMarks k b) is stored = tt
-mark_is_stored (Event.StoreMarksFails k b) is stored = absurd stored
-mark_is_stored e is stored = absurd is
+mark_is_stored : (e : Event) → IsMarking e → IsNoFailure e → IsMarkStored e
+mark_is_stored (Event.StoreMarks k b) is done = tt
+mark_is_stored (Event.StoreMarksFails k b) is done = absurd done
+mark_is_stored e is done = absurd is
 
-all_stored : (es : List Event) → AllOf IsMarking es → AllOf IsStored es → AllOf IsMarkStored es
-all_stored [] marking stored = tt
-all_stored (e ∷ es) marking stored = (mark_is_stored e marking.0 stored.0, all_stored es marking.1 stored.1)
+all_stored : (es : List Event) → AllOf IsMarking es → AllOf IsNoFailure es → AllOf IsMarkStored es
+all_stored [] marking unfailing = tt
+all_stored (e ∷ es) marking unfailing = (mark_is_stored e marking.0 unfailing.0, all_stored es marking.1 unfailing.1)
 
 -- all of it
 pub stores_marks : (old new : MirrorView) → IsIdle old.array → IsConsistent old → StoresAll IsMarking (HasAllMarks old.array.marks) old new → StoresMarks old new
 stores_marks old new idle sound s =
     let g = s.stores.goes in
-    let steps = all_stored g.events g.steps s.stores.stored in
+    let steps = all_stored g.events g.steps s.stores.unfailing in
     let ready = s.stores.ready in
     let leaves = leaves_along g.events None old none_in_flight new none_in_flight steps sound (g.leads None none_in_flight (λ number p e. absurd (none-some p e))) in
     let leads = λ (previous : Option Event) (requests : Requests) (in_flight : AreInFlight old.array requests).
     unread g.events previous old requests (λ v x. (v ≡ new) × (x ≡ requests)) (g.leads previous requests in_flight) in
     record {
       advances = record {
-        goes = record { events = g.events; steps = all_such IsMarkStored IsOfResync (λ e is. (mark_is_calm e is).of) g.events steps; leads = leads };
+        goes = record { events = g.events; steps = all_such IsMarkStored IsOfResync (λ e is. (mark_is_calm e is).of) g.events steps; leads = leads; unread = λ alone. g.leads };
+        unfailing = s.stores.unfailing;
         same = leaves.same;
         idle = subst IsIdle (sym ready.others) (record { running = idle.running; none = idle.none });
         sound = g.sound;
       };
+      only = g.steps;
       members = leaves.members;
       array = ready.others;
       stored = λ k m is. subst (λ (x : Bitmap). HasAllMarks x m) (sym (ap (λ (a : ArrayView). a.marks) ready.others)) (s.done k m is);
@@ -261,46 +263,22 @@ marking_of (Event.Remove k) is = absurd is
 marking_of (Event.Add d left) is = absurd is
 marking_of (Event.ReAdd own device left) is = absurd is
 
-same_along : (es : List Event) (previous : Option Event) (old : MirrorView) (before : Requests) (new : MirrorView) (after : Requests) → AllOf IsMarking es → Leads previous old before es new after → AreSame old.disks new.disks
-same_along [] previous old before new after all t = same_disks old.disks new.disks (ap (λ (v : MirrorView). v.disks) (sym t.0))
-same_along (Event.StoreMarks k b ∷ es) previous old before new after all t =
-    same_then old.disks t.0.disks new.disks (tried_same k t.3.1.write old.disks t.0.disks t.3.1.disks.tried) (same_along es (Some (Event.StoreMarks k b)) t.0 t.1 new after all.1 t.5)
-same_along (Event.StoreMarksFails k b ∷ es) previous old before new after all t =
-    same_then old.disks t.0.disks new.disks (tried_same k t.3.1.write old.disks t.0.disks t.3.1.fails.disks.tried) (same_along es (Some (Event.StoreMarksFails k b)) t.0 t.1 new after all.1 t.5)
-same_along (Event.Begin number p ∷ es) previous old before new after all t = absurd all.0
-same_along (Event.Record k ∷ es) previous old before new after all t = absurd all.0
-same_along (Event.WriteMember number k ∷ es) previous old before new after all t = absurd all.0
-same_along (Event.Finish number ∷ es) previous old before new after all t = absurd all.0
-same_along (Event.ClearIdle chunk ∷ es) previous old before new after all t = absurd all.0
-same_along (Event.Fail k ∷ es) previous old before new after all t = absurd all.0
-same_along (Event.RecordFails k ∷ es) previous old before new after all t = absurd all.0
-same_along (Event.WriteMemberFails number k ∷ es) previous old before new after all t = absurd all.0
-same_along (Event.CopyFails k chunk ∷ es) previous old before new after all t = absurd all.0
-same_along (Event.Copy from k s ∷ es) previous old before new after all t = absurd all.0
-same_along (Event.Resynced ∷ es) previous old before new after all t = absurd all.0
-same_along (Event.Unresynced ∷ es) previous old before new after all t = absurd all.0
-same_along (Event.MakeClean ∷ es) previous old before new after all t = absurd all.0
-same_along (Event.Remove k ∷ es) previous old before new after all t = absurd all.0
-same_along (Event.Add d left ∷ es) previous old before new after all t = absurd all.0
-same_along (Event.ReAdd own device left ∷ es) previous old before new after all t = absurd all.0
-
 marking_goes : (old new : MirrorView) → metadata.GoesOn alone alone IsMarking old new → GoesOn old new
 marking_goes old new g = record {
   events = g.events;
   steps = all_such IsMarking IsOfResync marking_of g.events g.steps;
   leads = λ previous requests in_flight. unread g.events previous old requests (λ v x. (v ≡ new) × (x ≡ requests)) (g.leads previous requests in_flight);
+  unread = λ alone. g.leads;
 }
 
 pub loses_marks : (k : ℕ) (old new : MirrorView) → IsIdle old.array → LosesStoring IsMarking k old new → FailsToWrite k old new
+unfolding marking_goes
 loses_marks k old new idle s =
     let l = s.loses in
     record {
-      advances = record {
-        goes = marking_goes old new l.goes;
-        same = same_along l.goes.events None old none_in_flight new none_in_flight l.goes.steps (l.goes.leads None none_in_flight (λ number p e. absurd (none-some p e)));
-        idle = record { running = l.halted ∙ idle.running; none = subst (λ (x : InflightList Extent). first_number (record old.array { requests = x }) ≡ None) (sym l.goes.array.requests) idle.none };
-        sound = l.goes.sound;
-      };
+      goes = marking_goes old new l.goes;
+      last = s.last;
+      idle = record { running = l.halted ∙ idle.running; none = subst (λ (x : InflightList Extent). first_number (record old.array { requests = x }) ≡ None) (sym l.goes.array.requests) idle.none };
       was = s.was;
       faulty = s.faulty;
     }

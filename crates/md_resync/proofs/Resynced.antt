@@ -3,34 +3,39 @@ use Rattle.std.proofs.Common.{◌≡◌, ℕ, suc, ◌/◌, ◌<◌, Bool, true,
 use Rattle.std.specs.Prelude.{Result, Ok, Err, MatchResult}
 use Rattle.std.specs.List.{list_any, range_with_len}
 use Rattle.std.proofs.lemmas.Option.{slice_get_within}
+use Rattle.md_bitmap.specs.declared.chunks.Chunks.{Chunks}
 use Rattle.md_bitmap.specs.Marks.{Bitmap, is_set}
 use Rattle.md_assembly.specs.States.{is_in_sync}
 use Rattle.md_model.specs.Content.{HoldsBetween}
 use Rattle.md_model.specs.Events.{Event}
 use Rattle.md_model.specs.Sectors.{Geometry}
 use Rattle.md_kept_members.specs.View.{MemberView}
-use Rattle.md_kept_members.specs.States.{is_in_sync_as, is_recorded}
+use Rattle.md_kept_members.specs.States.{is_in_sync_as}
 use Rattle.md_state.specs.View.{ArrayView, MirrorView}
-use Rattle.md_state.specs.Members.{AllInSync, is_degraded, is_filled}
 use Rattle.md_state.specs.MakingClean.{IsIdle}
+use Rattle.md_state.specs.Members.{AllInSync, IsAlone, is_degraded, is_filled}
+use Rattle.md_state.specs.CopyingData.{IsSource}
 use Rattle.md_array.specs.Consistency.{IsConsistent}
 use Rattle.md_array.specs.Events.{Happens}
+use Rattle.md_array.specs.InTurn.{AllOf}
 use Rattle.md_array.specs.MarkingResynced.{AllAgreeAt, BecomesResynced}
 use Rattle.md_array.specs.Worlds.{geometry_of, world_of}
 use Rattle.md_array.proofs.General.Honesty.{same_honest}
 use Rattle.md_array.proofs.General.Indices.{got_within}
-use Rattle.md_array.proofs.Steps.Turns.{all_such}
+use Rattle.md_array.proofs.General.Resting.{rests_sound}
+use Rattle.md_array.proofs.Steps.Turns.{all_on, all_such}
+use Rattle.md_array.proofs.Worlds.SectorCopied.{in_sync_as}
 use Rattle.md_laws.proofs.Runs.ReadTurns.{unread}
 use Rattle.md_metadata.specs.Clearing.{ClearsAll}
-use Rattle.md_metadata.specs.Storing.{HasAllMarks, IsUpToDate}
+use Rattle.md_metadata.specs.Storing.{HasAllMarks, IsMarking}
 use Rattle.md_resync.specs.declared.fault.ResyncFault.{ResyncFault}
 use Rattle.md_resync.specs.declared.fault.ResyncFault.TheVariants.{Halted, InFlight, MemberFailed, NoMemory, ReadFault}
-use Rattle.md_resync.specs.Copying.{CopyingGoesOn, IsCopying, StopsCopying}
-use Rattle.md_resync.specs.Resyncing.{Advances, Agrees, ClearsStored, GoesOn, HasSameMembers, IsOfResync, IsResynced, Resyncs, SettlesContent, StopsIdle, StopsMarks, StoresMarks}
-use Rattle.md_resync.proofs.Advancing.{advances_on, goes_on, none_flies}
-use Rattle.md_resync.proofs.Agreeing.{copies_advance, copying_is_calm}
-use Rattle.md_resync.proofs.Cleared.{agree_same, cleared_stored, clearing_advances, content_on, same_disks, same_members}
-use Rattle.md_resync.proofs.CopiedRuns.{same_then}
+use Rattle.md_resync.specs.Copying.{Copies, CopyingFails, FailsReading, IsCopyIn, IsMarkedAt, LosesCopying}
+use Rattle.md_resync.specs.Resyncing.{Advances, Agrees, ClearsStored, ComesTo, FailsToAgree, FailsToWrite, HasSameMembers, IsCopyBelow, IsResynced, Resyncs, SettlesContent, StopsIdle, StopsMarks, StoresMarks}
+use Rattle.md_resync.proofs.Advancing.{advances_on, agree_same, alone_still, fails_on, goes_on, none_flies}
+use Rattle.md_resync.proofs.Agreeing.{copies_advance, copying_goes, copying_is_calm}
+use Rattle.md_resync.proofs.Cleared.{cleared_stored, clearing_advances, content_on, same_but_marks, same_disks}
+use Rattle.md_resync.proofs.CopiedRuns.{copies_read, copies_then, same_then}
 use Rattle.md_resync.proofs.Settled.{settles}
 
 -- ---- members that are the same but for what is stored
@@ -58,14 +63,6 @@ degraded_alike a b disks same =
     ap (λ (n : ℕ). list_any (λ role. not (is_filled b role)) (range_with_len 0 n)) disks
     ∙ (λ i. list_any (λ role. not (filled role i)) (range_with_len 0 a.shared.raid_disks))
 
--- who is kept up to date was so
-pub up_to_date_before : (a b : ArrayView) (k : ℕ) → HasSameMembers a b → IsUpToDate b k → IsUpToDate a k
-up_to_date_before a b k same is =
-    let low = slice_get_within b.members k is.member is.at in
-    let many = same.as_many in
-    let m = got_within a.members k (omega arith) in
-    record { member = m.0; at = m.1; recorded = ap (λ (x : MemberView). is_recorded x.state) (sym (same.each k m.0 is.member m.1 is.at)) ∙ is.recorded }
-
 -- ---- its end in memory
 pub resynced_advances : (b c : MirrorView) → BecomesResynced b c → Happens b Event.Resynced c → IsConsistent c → Advances b c
 resynced_advances b c r happens sound = record {
@@ -74,7 +71,9 @@ resynced_advances b c r happens sound = record {
     steps = (tt, tt);
     leads = λ previous requests in_flight. unread (Event.Resynced ∷ []) previous b requests (λ m x. (m ≡ c) × (x ≡ requests))
         (c, requests, tt, (refl, r), (λ honest whole. happens honest requests in_flight), (refl, refl));
+    unread = λ alone previous requests in_flight. (c, requests, tt, (refl, r), (λ honest whole. happens honest requests in_flight), (refl, refl));
   };
+  unfailing = (tt, tt);
   same = same_disks b.disks c.disks r.marks.disks;
   idle = subst IsIdle (sym r.marks.array) (record { running = r.marks.idle.running; none = r.marks.idle.none });
   sound = sound;
@@ -82,7 +81,8 @@ resynced_advances b c r happens sound = record {
 
 -- ---- up to there
 pub before : (old a b c : MirrorView) → IsIdle old.array → StoresMarks old a → Agrees a b → BecomesResynced b c → Happens b Event.Resynced c → IsConsistent c → Advances old c
-before old a b c idle s g r happens sound = advances_on old b c idle (advances_on old a b idle s.advances g.advances) (resynced_advances b c r happens sound)
+before old a b c idle s g r happens sound =
+    advances_on old b c idle (subst (HasSameMembers old.array) (sym g.array) s.members) (advances_on old a b idle s.members s.advances g.advances) (resynced_advances b c r happens sound)
 
 -- ---- all of it
 module _ (old a b c : MirrorView) (idle : IsIdle old.array) (s : StoresMarks old a) (g : Agrees a b) (r : BecomesResynced b c) (happens : Happens b Event.Resynced c) (sound : IsConsistent c) where
@@ -138,10 +138,14 @@ module _ (old a b c : MirrorView) (idle : IsIdle old.array) (s : StoresMarks old
           subst (λ (v : ArrayView). v.resynced ≡ true → (t : ℕ) → t < v.chunks.size → settled.0 t ≡ held t) array_b settled.3,
         )
 
+    whole : Advances old d
+    whole = advances_on old c d idle members_c (before old a b c idle s g r happens sound) x.advances
+
     pub resyncs : Resyncs old d
     resyncs = record {
       idle = idle;
-      goes = goes_on old c d idle (before old a b c idle s g r happens sound).goes x.advances.goes;
+      goes = whole.goes;
+      unfailing = whole.unfailing;
       array = is_resynced;
       agree = λ t low marked.
           let on_b = subst (λ (v : ArrayView). (t : ℕ) → t < v.chunks.size → is_set v.marks.bytes (t / v.chunks.sectors) ≡ true → AllAgreeAt b t) array_b g.agree in
@@ -149,63 +153,123 @@ module _ (old a b c : MirrorView) (idle : IsIdle old.array) (s : StoresMarks old
       content = content;
     }
 
--- ---- copying does not come to its end
-module _ (old a b : MirrorView) (idle : IsIdle old.array) (s : StoresMarks old a) where
-  as_resync : (m : MirrorView) → CopyingGoesOn a m → GoesOn a m
-  as_resync m g = record { events = g.events; steps = all_such IsCopying IsOfResync (λ e is. (copying_is_calm e is).of) g.events g.steps; leads = g.leads }
+-- ---- members are not made to agree
+marking_below : (sector : ℕ) (e : Event) → IsMarking e → IsCopyBelow sector e
+marking_below sector (Event.StoreMarks k b) is = tt
+marking_below sector (Event.StoreMarksFails k b) is = tt
+marking_below sector e is = absurd is
 
+copied_below : (sector : ℕ) (e : Event) → IsCopyIn (λ s. s < sector) e → IsCopyBelow sector e
+copied_below sector (Event.Copy from k s) is = is
+copied_below sector e is = absurd is
+
+module _ (old a b : MirrorView) (idle : IsIdle old.array) (s : StoresMarks old a) (two_there : IsAlone a.array → ⊥) where
   marks_a : a.array.marks ≡ old.array.marks
   marks_a = ap (λ (v : ArrayView). v.marks) s.array
 
-  pub copying_stops : (fault : ResyncFault) → StopsCopying a b fault → StopsIdle old b fault
-  copying_stops Halted h = record {
-    halts = record { idle = idle; mid = h.mid; goes = goes_on old a h.mid idle s.advances.goes (as_resync h.mid h.goes); failing = h.failing; of = (copying_is_calm h.failing h.of).of; halts = h.halts };
+  chunks_a : a.array.chunks ≡ old.array.chunks
+  chunks_a = ap (λ (v : ArrayView). v.chunks) s.array
+
+  two : IsAlone old.array → ⊥
+  two alone = two_there (alone_still old.array a.array s.members alone)
+
+  -- member k could not be read
+  module _ (k chunk : ℕ) (h : FailsReading (IsMarkedAt a.array) k chunk a b) where
+    abbrev Of : ℕ → Type 0
+    Of t = t < h.sector
+
+    all_copies : Copies Of a b
+    all_copies = copies_then Of a h.mid b h.copies (copies_read Of h.mid b h.fails.rests h.copies.goes.sound)
+
+    came : Advances a b
+    came = copies_advance Of a b two_there all_copies s.advances.idle
+
+    whole_way : Advances old b
+    whole_way = advances_on old a b idle s.members s.advances came
+
+    same : b.array ≡ a.array
+    same = all_copies.array
+
+    none_from : AllOf (IsCopyBelow h.sector) whole_way.goes.events
+    unfolding whole_way came advances_on goes_on copies_advance copying_goes
+    none_from = all_on (IsCopyBelow h.sector) s.advances.goes.events all_copies.goes.events
+        (all_such IsMarking (IsCopyBelow h.sector) (marking_below h.sector) s.advances.goes.events s.only)
+        (all_such (IsCopyIn Of) (IsCopyBelow h.sector) (copied_below h.sector) all_copies.goes.events all_copies.only)
+
+    comes : ComesTo h.sector k chunk whole_way.goes.events old b
+    comes = record {
+      inside = subst (λ (x : Chunks). h.sector < x.size) chunks_a h.inside;
+      in_chunk = subst (λ (x : Chunks). h.sector / x.sectors ≡ chunk) chunks_a h.in_chunk;
+      marked = subst (λ (x : Bitmap). is_set x.bytes chunk ≡ true) marks_a h.marked;
+      source = subst (IsSource k h.sector) (sym same) h.source;
+      before = λ t low marked. h.before t
+          (subst (λ (v : ArrayView). IsMarkedAt v t) (sym s.array)
+          ((let inside = subst (λ (x : Chunks). h.sector < x.size) chunks_a h.inside in omega arith), marked)) low;
+      none = none_from;
+    }
+
+    pub reading_fails : FailsToAgree k chunk old b
+    reading_fails =
+        let there = slice_get_within a.array.members k h.source.member h.source.at in
+        let many = s.members.as_many in
+        let m = got_within old.array.members k (omega arith) in
+        let on = (in_sync_as h.source.role h.source.member.state h.source.in_sync).0 in
+        record {
+          advances = whole_way;
+          members = subst (HasSameMembers old.array) (sym same) s.members;
+          marks = ap (λ (v : ArrayView). v.marks) same ∙ marks_a;
+          stored = subst (λ (v : ArrayView). AllInSync v (HasAllMarks v.marks)) (sym same) s.stored;
+          sector = h.sector;
+          comes = comes;
+          two = two;
+          member = m.0;
+          in_sync = record { member = m.1; in_sync = subst (λ (x : MemberView). is_in_sync x.state ≡ true) (s.members.each k m.0 h.source.member m.1 h.source.at) on };
+          failed = λ d e was is honest.
+              let low = slice_get_within old.disks k d was in
+              let many = s.advances.same.as_many in
+              let x = got_within a.disks k (omega arith) in
+              let so_far = h.copies.goes.same.as_many in
+              let there = slice_get_within a.disks k x.0 x.1 in
+              let y = got_within h.mid.disks k (omega arith) in
+              let first = s.advances.same.honest k d x.0 was x.1 in
+              let second = h.copies.goes.same.honest k x.0 y.0 x.1 y.1 in
+              let once = first.counted in
+              let twice = second.counted in
+              let after = h.fails.failed y.0 e y.1 is (second.honest ∙ first.honest ∙ honest) in
+              omega arith;
+        }
+
+  copying_loses : (k : ℕ) → LosesCopying k a b → FailsToWrite k a b
+  unfolding copying_goes
+  copying_loses k h = record { goes = copying_goes a b two_there h.goes; last = h.last; idle = h.idle; was = h.was; faulty = h.faulty }
+
+  pub agreeing_fails : (fault : ResyncFault) → CopyingFails (IsMarkedAt a.array) a b fault → StopsIdle old b fault
+  agreeing_fails Halted h = record {
+    halts = record {
+      idle = idle;
+      mid = h.mid;
+      goes = goes_on old a h.mid idle s.members s.advances.goes (copying_goes a h.mid two_there h.goes);
+      failing = h.failing;
+      of = (copying_is_calm h.failing h.of).of;
+      halts = h.halts;
+    };
     halted = h.halted;
   }
-  copying_stops (InFlight n) h = h
-  copying_stops NoMemory h = absurd h
-  copying_stops (ReadFault k chunk) h =
-      let same = h.copies.array in
-      let low = slice_get_within a.array.members k h.member h.in_sync.member in
-      let many = s.members.as_many in
-      let m = got_within old.array.members k (omega arith) in
-      record {
-        advances = advances_on old a b idle s.advances (copies_advance a b h.copies.goes (subst IsIdle (sym same) s.advances.idle));
-        members = subst (HasSameMembers old.array) (sym same) s.members;
-        marks = ap (λ (v : ArrayView). v.marks) same ∙ marks_a;
-        stored = subst (λ (v : ArrayView). AllInSync v (HasAllMarks v.marks)) (sym same) s.stored;
-        marked = subst (λ (x : Bitmap). is_set x.bytes chunk ≡ true) marks_a h.marked;
-        member = m.0;
-        in_sync = record { member = m.1; in_sync = subst (λ (x : MemberView). is_in_sync x.state ≡ true) (s.members.each k m.0 h.member m.1 h.in_sync.member) h.in_sync.in_sync };
-        failed = λ d e was is honest.
-            let low = slice_get_within old.disks k d was in
-            let many = s.advances.same.as_many in
-            let x = got_within a.disks k (omega arith) in
-            let stays = s.advances.same.honest k d x.0 was x.1 in
-            let before = stays.counted in
-            let after = h.failed x.0 e x.1 is (stays.honest ∙ honest) in
-            omega arith;
-      }
-  copying_stops (MemberFailed k) h = record {
-    advances = advances_on old a b idle s.advances (copies_advance a b h.goes h.idle);
-    was = up_to_date_before old.array a.array k s.members h.was;
-    faulty = h.faulty;
-  }
+  agreeing_fails (InFlight n) h = h
+  agreeing_fails NoMemory h = absurd h
+  agreeing_fails (ReadFault k chunk) h = reading_fails k chunk h
+  agreeing_fails (MemberFailed k) h = fails_on k old a b idle s.members s.advances (copying_loses k h)
 
 -- ---- storing marks does not come to its end
 pub marks_stop : (old mid new : MirrorView) (fault : ResyncFault) → IsIdle old.array → Advances old mid → HasSameMembers old.array mid.array → StopsMarks mid new fault → StopsMarks old new fault
-marks_stop old mid new Halted idle g same h = record {
-  halts = record { idle = idle; mid = h.halts.mid; goes = goes_on old mid h.halts.mid idle g.goes h.halts.goes; failing = h.halts.failing; of = h.halts.of; halts = h.halts.halts };
+marks_stop old mid new Halted idle g s h = record {
+  halts = record { idle = idle; mid = h.halts.mid; goes = goes_on old mid h.halts.mid idle s g.goes h.halts.goes; failing = h.halts.failing; of = h.halts.of; halts = h.halts.halts };
   halted = h.halted;
 }
-marks_stop old mid new (InFlight n) idle g same h = h
-marks_stop old mid new NoMemory idle g same h = h
-marks_stop old mid new (ReadFault k chunk) idle g same h = h
-marks_stop old mid new (MemberFailed k) idle g same h = record {
-  advances = advances_on old mid new idle g h.advances;
-  was = up_to_date_before old.array mid.array k same h.was;
-  faulty = h.faulty;
-}
+marks_stop old mid new (InFlight n) idle g s h = h
+marks_stop old mid new NoMemory idle g s h = h
+marks_stop old mid new (ReadFault k chunk) idle g s h = h
+marks_stop old mid new (MemberFailed k) idle g s h = fails_on k old mid new idle s g h
 
 pub marks_stop_idle : (old new : MirrorView) (fault : ResyncFault) → StopsMarks old new fault → StopsIdle old new fault
 marks_stop_idle old new Halted h = h
@@ -213,9 +277,6 @@ marks_stop_idle old new (InFlight n) h = h
 marks_stop_idle old new NoMemory h = absurd h
 marks_stop_idle old new (ReadFault k chunk) h = absurd h
 marks_stop_idle old new (MemberFailed k) h = h
-
-same_but_marks : (a b : ArrayView) → b ≡ record a { marks = b.marks } → HasSameMembers a b
-same_but_marks a b is = subst (HasSameMembers a) (sym is) (record { as_many = refl; each = (same_members a).each })
 
 -- ---- what clearing answers
 pub cleared_or_stops : (old mid new : MirrorView) → IsIdle old.array → is_degraded old.array ≡ false → ClearsAll old mid
@@ -231,9 +292,9 @@ resyncs_or_stops old a b c d idle s g r happens sound (Ok t) x = resyncs old a b
 resyncs_or_stops old a b c d idle s g r happens sound (Err fault) h =
     marks_stop_idle old d fault (marks_stop old c d fault idle (before old a b c idle s g r happens sound) (members_c old a b c idle s g r happens sound) h)
 
-pub copying_sound : (old new : MirrorView) (fault : ResyncFault) → StopsCopying old new fault → IsConsistent new
-copying_sound old new Halted h = h.sound
-copying_sound old new (InFlight n) h = absurd h
-copying_sound old new NoMemory h = absurd h
-copying_sound old new (ReadFault k chunk) h = h.copies.goes.sound
-copying_sound old new (MemberFailed k) h = h.goes.sound
+pub copying_sound : (Of : ℕ → Type 0) (old new : MirrorView) (fault : ResyncFault) → CopyingFails Of old new fault → IsConsistent new
+copying_sound Of old new Halted h = h.sound
+copying_sound Of old new (InFlight n) h = absurd h
+copying_sound Of old new NoMemory h = absurd h
+copying_sound Of old new (ReadFault k chunk) h = rests_sound h.mid new h.fails.rests h.copies.goes.sound
+copying_sound Of old new (MemberFailed k) h = h.goes.sound

@@ -5,10 +5,9 @@ use Rattle.md_model.specs.Events.{Event}
 use Rattle.md_kept_members.specs.View.{MemberView}
 use Rattle.md_state.specs.CopyingData.{IsSource, MayCopyChunk}
 use Rattle.md_state.specs.DeviceChanges.{AreSame}
-use Rattle.md_state.specs.DiskWrites.{AtDevice}
 use Rattle.md_state.specs.MakingClean.{IsIdle}
 use Rattle.md_state.specs.Members.{AllInSync, IsInSync}
-use Rattle.md_state.specs.ReadingData.{HoldsData}
+use Rattle.md_state.specs.ReadingData.{FailsToRead, HoldsData}
 use Rattle.md_state.specs.Requests.{AreInFlight}
 use Rattle.md_state.specs.View.{ArrayView, MirrorView}
 use Rattle.md_array.specs.Consistency.{IsConsistent}
@@ -16,7 +15,7 @@ use Rattle.md_array.specs.InTurn.{AllOf, HaltsAt, Requests}
 use Rattle.md_array.specs.MarkingResynced.{AllAgreeAt, AllAgreeWhereMarked}
 use Rattle.md_laws.specs.ReadInTurn.{LeadsReading}
 use Rattle.md_metadata.specs.Going.{IsFaulty}
-use Rattle.md_metadata.specs.Storing.{HasAllMarks, IsUpToDate}
+use Rattle.md_metadata.specs.Storing.{FailsAtLast, HasAllMarks, IsUpToDate}
 use Rattle.md_resync.specs.declared.fault.ResyncFault.{ResyncFault}
 use Rattle.md_resync.specs.declared.fault.ResyncFault.TheVariants.{Halted, InFlight, MemberFailed, NoMemory, ReadFault}
 
@@ -33,10 +32,33 @@ pub record CopyingGoesOn (old new : MirrorView) : Type 0 where
   pub same : AreSame old.disks new.disks
   pub sound : IsConsistent new
 
--- and nothing changed that is kept in memory
-pub record Copies (old new : MirrorView) : Type 0 where
+-- a sector is copied, and it is one of these
+abbrev pub IsCopyIn : (ℕ → Type 0) → Event → Type 0
+IsCopyIn Of (Event.Copy from k s) = Of s
+IsCopyIn Of e = ⊥
+
+-- None but these sectors were copied, nothing failed, and nothing changed that is kept in memory.
+pub record Copies (Of : ℕ → Type 0) (old new : MirrorView) : Type 0 where
   pub goes : CopyingGoesOn old new
+  pub only : AllOf (IsCopyIn Of) goes.events
   pub array : new.array ≡ old.array
+
+-- ---- of which sectors that is said
+-- those from this one on, and before that one
+abbrev pub IsBetween : ℕ → ℕ → ℕ → Type 0
+IsBetween start end s = (start ≤ s) × (s < end)
+
+-- those of these bytes
+abbrev pub IsAmong : ℕ → List ℕ → ℕ → Type 0
+IsAmong sector bytes = IsBetween sector (sector + length bytes / 512)
+
+-- those of a chunk
+abbrev pub IsOfChunk : ArrayView → ℕ → ℕ → Type 0
+IsOfChunk a chunk s = (s < a.chunks.size) × (s / a.chunks.sectors ≡ chunk)
+
+-- those of marked chunks
+abbrev pub IsMarkedAt : ArrayView → ℕ → Type 0
+IsMarkedAt a s = (s < a.chunks.size) × (is_set a.marks.bytes (s / a.chunks.sectors) ≡ true)
 
 -- ---- one run of sectors
 -- The sectors are of one chunk and have this source, which holds these bytes there.
@@ -57,21 +79,21 @@ IsBeside sector bytes s = (s < sector) ⊎ (512 * sector + length bytes ≤ 512 
 
 -- Member k has the bytes, if it is in sync; who had them has them, and members that agreed in another sector agree there.
 pub record GivesTo (k sector : ℕ) (bytes : List ℕ) (old new : MirrorView) : Type 0 where
-  pub copies : Copies old new
+  pub copies : Copies (IsAmong sector bytes) old new
   pub given : (m : MemberView) → IsInSync new.array k m → HoldsData new k sector bytes
   pub kept : (j : ℕ) → HoldsData old j sector bytes → HoldsData new j sector bytes
   pub agree : (s : ℕ) → IsBeside sector bytes s → AllAgreeAt old s → AllAgreeAt new s
 
 -- so has each member in sync before this one
 pub record GivesBelow (k sector : ℕ) (bytes : List ℕ) (old new : MirrorView) : Type 0 where
-  pub copies : Copies old new
+  pub copies : Copies (IsAmong sector bytes) old new
   pub given : (j : ℕ) (m : MemberView) → j < k → IsInSync new.array j m → HoldsData new j sector bytes
   pub kept : (j : ℕ) → HoldsData old j sector bytes → HoldsData new j sector bytes
   pub agree : (s : ℕ) → IsBeside sector bytes s → AllAgreeAt old s → AllAgreeAt new s
 
 -- so has each
 pub record GivesAll (sector : ℕ) (bytes : List ℕ) (old new : MirrorView) : Type 0 where
-  pub copies : Copies old new
+  pub copies : Copies (IsAmong sector bytes) old new
   pub given : (j : ℕ) (m : MemberView) → IsInSync new.array j m → HoldsData new j sector bytes
   pub agree : (s : ℕ) → IsBeside sector bytes s → AllAgreeAt old s → AllAgreeAt new s
 
@@ -84,7 +106,7 @@ pub record IsPart (chunk sector end : ℕ) (a : ArrayView) : Type 0 where
 
 -- Members in sync agree in these sectors, and wherever they agreed.
 pub record AgreesTo (sector next : ℕ) (old new : MirrorView) : Type 0 where
-  pub copies : Copies old new
+  pub copies : Copies (IsBetween sector next) old new
   pub agree : (s : ℕ) → sector ≤ s → s < next → AllAgreeAt new s
   pub still : (s : ℕ) → AllAgreeAt old s → AllAgreeAt new s
 
@@ -95,13 +117,13 @@ pub record CopiesRun (sector end next : ℕ) (old new : MirrorView) : Type 0 whe
 
 -- in each sector of a chunk
 pub record CopiesChunk (chunk : ℕ) (old new : MirrorView) : Type 0 where
-  pub copies : Copies old new
+  pub copies : Copies (IsOfChunk old.array chunk) old new
   pub agree : (s : ℕ) → s < old.array.chunks.size → s / old.array.chunks.sectors ≡ chunk → AllAgreeAt new s
   pub still : (s : ℕ) → AllAgreeAt old s → AllAgreeAt new s
 
 -- so it is, if the chunk is marked
 pub record CopiesIfMarked (chunk : ℕ) (old new : MirrorView) : Type 0 where
-  pub copies : Copies old new
+  pub copies : Copies (IsOfChunk old.array chunk) old new
   pub agree : is_set old.array.marks.bytes chunk ≡ true → (s : ℕ) → s < old.array.chunks.size → s / old.array.chunks.sectors ≡ chunk → AllAgreeAt new s
   pub still : (s : ℕ) → AllAgreeAt old s → AllAgreeAt new s
 
@@ -111,21 +133,29 @@ pub record MayCopyMarked (a : ArrayView) : Type 0 where
   pub stored : AllInSync a (HasAllMarks a.marks)
 
 pub record CopiesMarked (old new : MirrorView) : Type 0 where
-  pub copies : Copies old new
+  pub copies : Copies (λ s. s < old.array.chunks.size) old new
   pub agree : AllAgreeWhereMarked new
 
 -- ---- why it does not come to its end
--- member k, which is in sync, could not be read in a marked chunk
-pub record FailsReading (k chunk : ℕ) (old new : MirrorView) : Type 0 where
-  pub copies : Copies old new
+-- Of such sectors, in a marked chunk, this is the first that was not copied. Those before it agree. Member k is the one to give it, and
+-- could not be read.
+pub record FailsReading (Of : ℕ → Type 0) (k chunk : ℕ) (old new : MirrorView) : Type 0 where
+  pub sector : ℕ
+  pub of : Of sector
+  pub inside : sector < old.array.chunks.size
+  pub in_chunk : sector / old.array.chunks.sectors ≡ chunk
   pub marked : is_set old.array.marks.bytes chunk ≡ true
-  pub member : MemberView
-  pub in_sync : IsInSync old.array k member
-  pub failed : AtDevice k old.disks new.disks (λ d e. d.honest ≡ true → d.failures < e.failures)
+  pub source : IsSource k sector old.array
+  pub mid : MirrorView
+  pub copies : Copies (λ s. s < sector) old mid
+  pub fails : FailsToRead k mid new
+  pub before : (s : ℕ) → Of s → s < sector → AllAgreeAt new s
+  pub still : (s : ℕ) → AllAgreeAt old s → AllAgreeAt new s
 
--- member k, which was in sync, could not be written
+-- Member k, which was in sync, could not be written. That was the last event.
 pub record LosesCopying (k : ℕ) (old new : MirrorView) : Type 0 where
   pub goes : CopyingGoesOn old new
+  pub last : FailsAtLast k goes.events
   pub was : IsUpToDate old.array k
   pub idle : IsIdle new.array
   pub faulty : IsFaulty k new.array
@@ -140,9 +170,18 @@ pub record HaltsCopying (old new : MirrorView) : Type 0 where
   pub sound : IsConsistent new
   pub halted : new.array.halted ≡ true
 
-abbrev pub StopsCopying : MirrorView → MirrorView → ResyncFault → Type 0
-StopsCopying old new Halted = HaltsCopying old new
-StopsCopying old new (InFlight n) = ⊥
-StopsCopying old new NoMemory = ⊥
-StopsCopying old new (ReadFault k chunk) = FailsReading k chunk old new
-StopsCopying old new (MemberFailed k) = LosesCopying k old new
+-- what was read is not given to all
+abbrev pub GivingFails : MirrorView → MirrorView → ResyncFault → Type 0
+GivingFails old new Halted = HaltsCopying old new
+GivingFails old new (InFlight n) = ⊥
+GivingFails old new NoMemory = ⊥
+GivingFails old new (ReadFault k chunk) = ⊥
+GivingFails old new (MemberFailed k) = LosesCopying k old new
+
+-- such sectors are not all copied
+abbrev pub CopyingFails : (ℕ → Type 0) → MirrorView → MirrorView → ResyncFault → Type 0
+CopyingFails Of old new Halted = HaltsCopying old new
+CopyingFails Of old new (InFlight n) = ⊥
+CopyingFails Of old new NoMemory = ⊥
+CopyingFails Of old new (ReadFault k chunk) = FailsReading Of k chunk old new
+CopyingFails Of old new (MemberFailed k) = LosesCopying k old new

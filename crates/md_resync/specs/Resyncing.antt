@@ -4,21 +4,23 @@ use Rattle.md_bitmap.specs.Marks.{is_set}
 use Rattle.md_model.specs.Content.{Content, HoldsBetween}
 use Rattle.md_model.specs.Events.{Event}
 use Rattle.md_kept_members.specs.View.{MemberView}
+use Rattle.md_state.specs.CopyingData.{IsSource}
 use Rattle.md_state.specs.DeviceChanges.{AreSame}
 use Rattle.md_state.specs.DiskWrites.{AtDevice}
 use Rattle.md_state.specs.MakingClean.{HasInFlight, IsIdle}
-use Rattle.md_state.specs.Members.{AllInSync, IsInSync, IsMember, is_degraded}
+use Rattle.md_state.specs.Members.{AllInSync, IsAlone, IsInSync, IsMember, is_degraded}
 use Rattle.md_state.specs.Requests.{AreInFlight}
 use Rattle.md_state.specs.Trying.{Refuses, RefusesHalted}
 use Rattle.md_state.specs.View.{ArrayView, MirrorView}
 use Rattle.md_array.specs.Consistency.{IsConsistent}
 use Rattle.md_array.specs.Events.{Happens}
-use Rattle.md_array.specs.InTurn.{AllOf, HaltsAt, Requests}
+use Rattle.md_array.specs.InTurn.{AllOf, HaltsAt, Leads, Requests}
 use Rattle.md_array.specs.MarkingResynced.{AllAgreeAt, AllAgreeWhereMarked, MarksResynced}
 use Rattle.md_array.specs.Worlds.{AreHonest, geometry_of, world_of}
 use Rattle.md_laws.specs.ReadInTurn.{LeadsReading}
 use Rattle.md_metadata.specs.Going.{IsFaulty}
-use Rattle.md_metadata.specs.Storing.{HasAllMarks, IsUpToDate}
+use Rattle.md_metadata.specs.Storing.{FailsAtLast, HasAllMarks, IsMarking, IsNoFailure, IsUpToDate}
+use Rattle.md_resync.specs.Copying.{CopyingFails, IsMarkedAt}
 use Rattle.md_resync.specs.declared.fault.ResyncFault.{ResyncFault}
 use Rattle.md_resync.specs.declared.fault.ResyncFault.TheVariants.{Halted, InFlight, MemberFailed, NoMemory, ReadFault}
 
@@ -32,17 +34,19 @@ IsOfResync Event.Resynced = Unit {0}
 IsOfResync (Event.ClearIdle c) = Unit {0}
 IsOfResync e = ⊥
 
--- Such events were done, one after another; devices were read between them.
+-- Such events were done, one after another; devices were read between them, but none where only one member is in sync.
 pub record GoesOn (old new : MirrorView) : Type 0 where
   pub events : List Event
   pub steps : AllOf IsOfResync events
   pub leads : (previous : Option Event) (requests : Requests) → AreInFlight old.array requests → LeadsReading previous old requests events new requests
+  pub unread : IsAlone old.array → (previous : Option Event) (requests : Requests) → AreInFlight old.array requests → Leads previous old requests events new requests
 
 -- So they were, and at the end it was kept that the array is not resynced.
 pub record GoesUnresynced (old new : MirrorView) : Type 0 where
   pub events : List Event
   pub steps : AllOf IsOfResync events
   pub leads : (previous : Option Event) (requests : Requests) → AreInFlight old.array requests → LeadsReading previous old requests (events ++ Event.Unresynced ∷ []) new requests
+  pub unread : IsAlone old.array → (previous : Option Event) (requests : Requests) → AreInFlight old.array requests → Leads previous old requests (events ++ Event.Unresynced ∷ []) new requests
 
 -- member by member nothing but the stored marks changed
 pub record HasSameMembers (old new : ArrayView) : Type 0 where
@@ -69,9 +73,25 @@ SettlesContent old new =
 pub record Resyncs (old new : MirrorView) : Type 0 where
   pub idle : IsIdle old.array
   pub goes : GoesOn old new
+  pub unfailing : AllOf IsNoFailure goes.events
   pub array : IsResynced old.array new.array
   pub agree : (s : ℕ) → s < old.array.chunks.size → is_set old.array.marks.bytes (s / old.array.chunks.sectors) ≡ true → AllAgreeAt new s
   pub content : SettlesContent old new
+
+-- where a sector is copied, it is one before this
+abbrev pub IsCopyBelow : ℕ → Event → Type 0
+IsCopyBelow sector (Event.Copy from k s) = s < sector
+IsCopyBelow sector e = Unit {0}
+
+-- The copying, by these events, came to this sector of a marked chunk, which is member k's to give: sectors of marked chunks agree
+-- before it, and none was copied from it on.
+pub record ComesTo (sector k chunk : ℕ) (events : List Event) (old new : MirrorView) : Type 0 where
+  pub inside : sector < old.array.chunks.size
+  pub in_chunk : sector / old.array.chunks.sectors ≡ chunk
+  pub marked : is_set old.array.marks.bytes chunk ≡ true
+  pub source : IsSource k sector new.array
+  pub before : (s : ℕ) → s < sector → is_set old.array.marks.bytes (s / old.array.chunks.sectors) ≡ true → AllAgreeAt new s
+  pub none : AllOf (IsCopyBelow sector) events
 
 -- it did not come to its end, and that is kept
 pub record Stops (old new : MirrorView) : Type 0 where
@@ -80,20 +100,25 @@ pub record Stops (old new : MirrorView) : Type 0 where
   pub unresynced : new.array.resynced ≡ false
   pub running : new.array.halted ≡ false
 
--- member k, which is in sync, could not be read in a marked chunk; marks are stored, and none is cleared
+-- Member k, which is in sync and not alone, could not be read at a sector of this chunk, to which the copying had come. Marks are
+-- stored, and none is cleared.
 pub record StopsReading (k chunk : ℕ) (old new : MirrorView) : Type 0 where
   pub stops : Stops old new
+  pub unfailing : AllOf IsNoFailure stops.goes.events
   pub members : HasSameMembers old.array new.array
   pub marks : new.array.marks ≡ old.array.marks
   pub stored : AllInSync new.array (HasAllMarks new.array.marks)
-  pub marked : is_set old.array.marks.bytes chunk ≡ true
+  pub sector : ℕ
+  pub comes : ComesTo sector k chunk stops.goes.events old new
+  pub two : IsAlone old.array → ⊥
   pub member : MemberView
   pub in_sync : IsInSync old.array k member
   pub failed : AtDevice k old.disks new.disks (λ d e. d.honest ≡ true → d.failures < e.failures)
 
--- a write to member k failed, which was kept up to date before
+-- a write to member k failed, which was kept up to date before, and that was the last that was done
 pub record LosesMember (k : ℕ) (old new : MirrorView) : Type 0 where
   pub stops : Stops old new
+  pub last : FailsAtLast k stops.goes.events
   pub was : IsUpToDate old.array k
   pub faulty : IsFaulty k new.array
 
@@ -119,9 +144,10 @@ RefusesResync old new (ReadFault k chunk) = StopsReading k chunk old new
 RefusesResync old new (MemberFailed k) = LosesMember k old new
 
 -- ---- before it is kept that the array is not resynced
--- its events were done, and nothing is in flight
+-- its events were done, none of them failed, and nothing is in flight
 pub record Advances (old new : MirrorView) : Type 0 where
   pub goes : GoesOn old new
+  pub unfailing : AllOf IsNoFailure goes.events
   pub same : AreSame old.disks new.disks
   pub idle : IsIdle new.array
   pub sound : IsConsistent new
@@ -131,13 +157,17 @@ pub record FailsToAgree (k chunk : ℕ) (old new : MirrorView) : Type 0 where
   pub members : HasSameMembers old.array new.array
   pub marks : new.array.marks ≡ old.array.marks
   pub stored : AllInSync new.array (HasAllMarks new.array.marks)
-  pub marked : is_set old.array.marks.bytes chunk ≡ true
+  pub sector : ℕ
+  pub comes : ComesTo sector k chunk advances.goes.events old new
+  pub two : IsAlone old.array → ⊥
   pub member : MemberView
   pub in_sync : IsInSync old.array k member
   pub failed : AtDevice k old.disks new.disks (λ d e. d.honest ≡ true → d.failures < e.failures)
 
 pub record FailsToWrite (k : ℕ) (old new : MirrorView) : Type 0 where
-  pub advances : Advances old new
+  pub goes : GoesOn old new
+  pub last : FailsAtLast k goes.events
+  pub idle : IsIdle new.array
   pub was : IsUpToDate old.array k
   pub faulty : IsFaulty k new.array
 
@@ -166,6 +196,7 @@ KeepsContent old new =
 -- The marks of memory are stored on each member in sync, and nothing else changed.
 pub record StoresMarks (old new : MirrorView) : Type 0 where
   pub advances : Advances old new
+  pub only : AllOf IsMarking advances.goes.events
   pub members : HasSameMembers old.array new.array
   pub array : new.array ≡ record old.array { members = new.array.members }
   pub stored : AllInSync new.array (HasAllMarks new.array.marks)
@@ -183,12 +214,25 @@ StopsMarks old new (MemberFailed k) = FailsToWrite k old new
 abbrev pub NoneInSync : ℕ → ℕ → ArrayView → Type 0
 NoneInSync start end a = (j : ℕ) (m : MemberView) → start ≤ j → j < end → IsInSync a j m → ⊥
 
--- members in sync agree in marked chunks
+-- from the start on it is the first that is
+pub record IsFirstInSync (start first : ℕ) (a : ArrayView) : Type 0 where
+  pub from : start ≤ first
+  pub member : MemberView
+  pub in_sync : IsInSync a first member
+  pub before : NoneInSync start first a
+
+-- Members in sync agree in marked chunks. Where there is one, nothing is done.
 pub record Agrees (old new : MirrorView) : Type 0 where
   pub advances : Advances old new
+  pub alone : IsAlone old.array → new ≡ old
   pub array : new.array ≡ old.array
   pub agree : AllAgreeWhereMarked new
   pub content : KeepsContent old new
+
+-- They are not made to agree: there are two, and not all sectors of marked chunks are copied.
+pub record AgreeingFails (old new : MirrorView) (fault : ResyncFault) : Type 0 where
+  pub two : IsAlone old.array → ⊥
+  pub copying : CopyingFails (IsMarkedAt old.array) old new fault
 
 -- unless the array is degraded no chunk has a mark any more, stored or in memory
 pub record ClearsStored (old new : MirrorView) : Type 0 where

@@ -3,7 +3,7 @@ ghost use Rattle.std.specs.Prelude.{◌≡◌, ◌<◌, ◌≤◌, ◌%◌, Matc
 ghost use Rattle.std.specs.Int.{div_ceil};
 ghost use Rattle.md_state.specs.CopyingData.{MayCopyChunk};
 ghost use Rattle.md_array.specs.Consistency.{IsConsistent};
-ghost use Rattle.md_resync.specs.Copying.{CopiesChunk, CopiesIfMarked, CopiesMarked, CopiesRun, IsPart, MayCopyMarked, StopsCopying};
+ghost use Rattle.md_resync.specs.Copying.{CopiesChunk, CopiesIfMarked, CopiesMarked, CopiesRun, CopyingFails, IsBetween, IsMarkedAt, IsOfChunk, IsPart, MayCopyMarked};
 
 use crate::fault::ResyncFault;
 use crate::members::copy_to_members;
@@ -24,7 +24,7 @@ fn copy_run<D: Device + Drop>(
     requires room { 512 ≤ length buffer.old }
     requires sound { IsConsistent mirror.old }
     requires part { IsPart chunk sector end mirror.old.array }
-    ensures { MatchResult result (λ next. CopiesRun sector end next mirror.old mirror.new) (StopsCopying mirror.old mirror.new) }
+    ensures { MatchResult result (λ next. CopiesRun sector end next mirror.old mirror.new) (CopyingFails (IsBetween sector end) mirror.old mirror.new) }
 {
     let Some(from) = source_of(mirror, sector) else {
         return Ok(sector + 1);
@@ -51,7 +51,7 @@ fn copy_chunk<D: Device + Drop>(
     requires room { 512 ≤ length buffer.old }
     requires sound { IsConsistent mirror.old }
     requires may { MayCopyChunk chunk mirror.old.array }
-    ensures { MatchResult result (λ _. CopiesChunk chunk mirror.old mirror.new) (StopsCopying mirror.old mirror.new) }
+    ensures { MatchResult result (λ _. CopiesChunk chunk mirror.old mirror.new) (CopyingFails (IsOfChunk mirror.old.array chunk) mirror.old mirror.new) }
 {
     let (start, sectors) = mirror.chunks().range(chunk);
     let end = start + sectors;
@@ -75,7 +75,7 @@ fn copy_if_marked<D: Device + Drop>(
     requires room { 512 ≤ length buffer.old }
     requires sound { IsConsistent mirror.old }
     requires may { MayCopyMarked mirror.old.array }
-    ensures { MatchResult result (λ _. CopiesIfMarked chunk mirror.old mirror.new) (StopsCopying mirror.old mirror.new) }
+    ensures { MatchResult result (λ _. CopiesIfMarked chunk mirror.old mirror.new) (CopyingFails (IsOfChunk mirror.old.array chunk) mirror.old mirror.new) }
 {
     if !mirror.marks().is_marked(chunk) {
         return Ok(());
@@ -94,7 +94,7 @@ pub(crate) fn copy_marked<D: Device + Drop>(
     requires room { 512 ≤ length buffer.old }
     requires sound { IsConsistent mirror.old }
     requires may { MayCopyMarked mirror.old.array }
-    ensures { MatchResult result (λ _. CopiesMarked mirror.old mirror.new) (StopsCopying mirror.old mirror.new) }
+    ensures { MatchResult result (λ _. CopiesMarked mirror.old mirror.new) (CopyingFails (IsMarkedAt mirror.old.array) mirror.old mirror.new) }
 {
     for chunk in 0..mirror.chunks().count() {
         if let Err(fault) = copy_if_marked(mirror, chunk, buffer) {

@@ -1,7 +1,7 @@
 // Sectors go to each member in sync but the one that gave them.
 ghost use Rattle.std.specs.Prelude.{◌<◌, MatchResult, length};
 ghost use Rattle.md_array.specs.Consistency.{IsConsistent};
-ghost use Rattle.md_resync.specs.Copying.{GivesAll, GivesTo, IsRun, StopsCopying};
+ghost use Rattle.md_resync.specs.Copying.{GivesAll, GivesTo, GivingFails, IsRun};
 
 use crate::fault::ResyncFault;
 use md_array::{CopyFault, Mirror};
@@ -16,7 +16,7 @@ pub(crate) fn copy_to_members<D: Device + Drop>(
 ) -> Result<(), ResyncFault>
     requires sound { IsConsistent mirror.old }
     requires run { IsRun from sector bytes.now mirror.old }
-    ensures { MatchResult result (λ _. GivesAll sector bytes.now mirror.old mirror.new) (StopsCopying mirror.old mirror.new) }
+    ensures { MatchResult result (λ _. GivesAll sector bytes.now mirror.old mirror.new) (GivingFails mirror.old mirror.new) }
 {
     for k in 0..mirror.members() {
         if let Err(fault) = copy_to(mirror, from, k, sector, bytes) {
@@ -37,7 +37,7 @@ fn copy_to<D: Device + Drop>(
     requires within { k < length mirror.old.array.members }
     requires sound { IsConsistent mirror.old }
     requires run { IsRun from sector bytes.now mirror.old }
-    ensures { MatchResult result (λ _. GivesTo k sector bytes.now mirror.old mirror.new) (StopsCopying mirror.old mirror.new) }
+    ensures { MatchResult result (λ _. GivesTo k sector bytes.now mirror.old mirror.new) (GivingFails mirror.old mirror.new) }
 {
     if k == from || !mirror.state(k).is_in_sync() {
         return Ok(());

@@ -1,9 +1,9 @@
 // Making members agree where they may differ.
-ghost use Rattle.std.specs.Prelude.{◌≡◌, ◌<◌, ◌≤◌, IfSome, MatchOption, MatchResult, false, length};
+ghost use Rattle.std.specs.Prelude.{◌≡◌, ◌<◌, ◌≤◌, MatchOption, MatchResult, false, length, true};
 ghost use Rattle.md_state.specs.Members.{IsAlone};
 ghost use Rattle.md_array.specs.Consistency.{IsConsistent};
-ghost use Rattle.md_resync.specs.Copying.{MayCopyMarked, StopsCopying};
-ghost use Rattle.md_resync.specs.Resyncing.{Agrees, NoneInSync};
+ghost use Rattle.md_resync.specs.Copying.{MayCopyMarked};
+ghost use Rattle.md_resync.specs.Resyncing.{AgreeingFails, Agrees, IsFirstInSync, NoneInSync};
 
 use crate::chunks::copy_marked;
 use crate::fault::ResyncFault;
@@ -20,7 +20,7 @@ pub fn make_agree<D: Device + Drop>(
     requires room { 512 ≤ length buffer.old }
     requires sound { IsConsistent mirror.old }
     requires may { MayCopyMarked mirror.old.array }
-    ensures { MatchResult result (λ _. Agrees mirror.old mirror.new) (StopsCopying mirror.old mirror.new) }
+    ensures { MatchResult result (λ _. Agrees mirror.old mirror.new) (AgreeingFails mirror.old mirror.new) }
 {
     if !has_two_in_sync(mirror) {
         return Ok(());
@@ -31,10 +31,11 @@ pub fn make_agree<D: Device + Drop>(
     }
 }
 
-// Whether more than one member is in sync: one alone is not read.
+// Whether more than one member is in sync: where one is alone, it is not read.
 fn has_two_in_sync<D: Device + Drop>(mirror: &Mirror<D>) -> bool
     requires sound { IsConsistent mirror.now }
-    ensures { result ≡ false → IsAlone mirror.now.array }
+    ensures one { result ≡ false → IsAlone mirror.now.array }
+    ensures two { result ≡ true → IsAlone mirror.now.array → ⊥ }
 {
     let Some(first) = in_sync_from(mirror, 0) else {
         return false;
@@ -47,8 +48,7 @@ fn has_two_in_sync<D: Device + Drop>(mirror: &Mirror<D>) -> bool
 
 // The first member in sync of those from this index on.
 fn in_sync_from<D: Device + Drop>(mirror: &Mirror<D>, start: usize) -> Option<usize>
-    ensures within { IfSome result (λ first. first < length mirror.now.array.members) }
-    ensures first { MatchOption result (NoneInSync start (length mirror.now.array.members) mirror.now.array) (λ first. NoneInSync start first mirror.now.array) }
+    ensures { MatchOption result (NoneInSync start (length mirror.now.array.members) mirror.now.array) (λ first. IsFirstInSync start first mirror.now.array) }
 {
     for k in start..mirror.members() {
         if mirror.state(k).is_in_sync() {

@@ -14,8 +14,8 @@ use Rattle.md_array.specs.Consistency.{IsConsistent}
 use Rattle.md_array.specs.InTurn.{IsSectorDue}
 use Rattle.md_metadata.specs.declared.fault.PartFault.{PartFault}
 use Rattle.md_metadata.specs.Going.{IsSameArray, StepsBy, alone}
-use Rattle.md_metadata.specs.Storing.{IsMarking, IsSector, StaysReady, Stores, StoresAt, StoresOn, StopsStoring}
-use Rattle.md_metadata.proofs.Going.{sector_marks, step_as, stops_as, stores_nowhere, stores_on, stores_step, was_in_sync}
+use Rattle.md_metadata.specs.Storing.{IsMarking, IsSector, SectorFails, StaysReady, Stores, StoresAt, StoresOn, StopsStoring}
+use Rattle.md_metadata.proofs.Going.{sector_marks, sector_stops, step_as, stops_as, stores_nowhere, stores_on, stores_step, was_in_sync}
 use Rattle.md_metadata.proofs.Steps.{now_at}
 use Rattle.md_metadata.proofs.StoredMembers.{IsLasting}
 use Rattle.md_write.specs.Progress.{AreMarked, HasMarksIn}
@@ -76,7 +76,7 @@ module _ (k block first end : ℕ) (old new : MirrorView) (are : AreMarked old.a
       let r = s.gives in
       record {
         stores = stores_step IsMarking (Event.StoreMarks k block) old new tt
-            (step_as (IsSector block) IsMarking (sector_marks block) alone alone (Event.StoreMarks k block) old new s.step) (λ previous. due) s.ready;
+            (step_as (IsSector k block) IsMarking (sector_marks k block) alone alone (Event.StoreMarks k block) old new s.step) (λ previous. due) s.ready;
         done = λ m in_sync c low high here.
             let it = now_at old.array new.array k r.member (record r.member { stored = r.stored }) r.may.in_sync.member refl r.array m in_sync.member in
             let within = are.within in
@@ -88,10 +88,10 @@ module _ (k block first end : ℕ) (old new : MirrorView) (are : AreMarked old.a
             (are.marked c low high);
       }
 
-  pub stored_or_stops : IsConsistent old → IsSectorDue old.array k block → {T : Type 0} (result : Result T PartFault) → MatchResult result (λ _. StoresOn k block old new) (StopsStoring (IsSector block) old new)
+  pub stored_or_stops : IsConsistent old → IsSectorDue old.array k block → {T : Type 0} (result : Result T PartFault) → MatchResult result (λ _. StoresOn k block old new) (SectorFails k block old new)
       → MatchResult result (λ _. StoresAt IsMarking k (HasMarksIn block first end) old new) (StopsStoring IsMarking old new)
   stored_or_stops sound due (Ok t) s = stored_in sound due s
-  stored_or_stops sound due (Err fault) s = stops_as (IsSector block) IsMarking (sector_marks block) old new fault s
+  stored_or_stops sound due (Err fault) s = stops_as (IsSector k block) IsMarking (sector_marks k block) old new fault (sector_stops k block old new fault s)
 
 -- some of these marks are not stored
 pub sector_lacks : (a : ArrayView) (k block first end from to : ℕ) (answer : Bool) → AreMarked a first end

@@ -3,7 +3,7 @@ use Rattle.md_kept_members.specs.View.{MemberView}
 use Rattle.md_state.specs.Members.{IsMember}
 use Rattle.md_state.specs.WritingMember.{IsNotDue}
 use Rattle.md_metadata.specs.Storing.{IsRecording, IsSector}
-use Rattle.md_metadata.proofs.Going.{first_records, stops_as}
+use Rattle.md_metadata.proofs.Going.{first_records, sector_stops, stops_as}
 use Rattle.md_metadata.proofs.StoredMembers.{nothing_at, told}
 use Rattle.md_metadata.proofs.StoredRecords.{header_due, in_sync_due, recorded_or_stops, still_recorded}
 use Rattle.md_metadata.proofs.records.store_due_record.Goals as goal
@@ -37,7 +37,11 @@ store_sector-requires-clause-due g c =
     (λ m at. let due = told (λ x. x.due) c.args.mirror.now.array c.args.k m c.due.result c.due.ensures at in let yes = c.if-not-due.false in cc)
 
 pub returns-in-Err : goal.returns-in-Err
-returns-in-Err g c = stops_as (IsSector 0) IsRecording first_records c.args.mirror.now c.store_sector.new.mirror c.in-Err.fault c.in-Err.ensures
+returns-in-Err g c =
+    let k = c.args.k in
+    let old = c.args.mirror.now in
+    let new = c.store_sector.new.mirror in
+    stops_as (IsSector k 0) IsRecording (first_records k) old new c.in-Err.fault (sector_stops k 0 old new c.in-Err.fault c.in-Err.ensures)
 
 pub store_record-requires-clause-active : goal.store_record-requires-clause-active
 store_record-requires-clause-active g c = still_recorded c.args.k c.args.mirror.now c.store_sector.new.mirror c.in_default.ensures

@@ -1,10 +1,10 @@
 use Rattle.std.proofs.Common.{◌∙◌, ◌+◌, refl, ap, arith}
 use Rattle.md_bitmap.specs.declared.chunks.Chunks.{Chunks}
-use Rattle.md_resync.proofs.CopiedChunks.{agrees_more, agrees_none, chunk_copied, part_left, range_of, stops_then}
+use Rattle.md_resync.proofs.CopiedChunks.{agrees_more, agrees_none, chunk_copied, chunk_fails, part_left, range_of}
 use Rattle.md_resync.proofs.chunks.copy_chunk.Goals as goal
 
 pub loop-sector-init : goal.loop-sector-init
-loop-sector-init g c = record { agrees = agrees_none c.range-start.result.0 c.args.mirror.now c.requires.sound; from = omega arith; long = refl }
+loop-sector-init g c = record { agrees = agrees_none c.range-start.result.0 c.args.mirror.now c.requires.sound; from = omega arith; to = omega arith; long = refl }
 
 pub copy_run-requires-clause-room : goal.copy_run-requires-clause-room
 copy_run-requires-clause-room g c = let long = c.loop-sector.invariant.long in let room = c.requires.room in omega arith
@@ -20,16 +20,22 @@ copy_run-requires-clause-part g c =
     c.loop-sector.invariant.agrees.copies.array c.requires.may c.loop-sector.invariant.from (omega arith)
 
 pub returns-in-Err : goal.returns-in-Err
-returns-in-Err g c = stops_then c.args.mirror.now c.loop-sector.mirror c.copy_run.new.mirror c.in-Err.fault c.loop-sector.invariant.agrees.copies c.in-Err.ensures
+returns-in-Err g c =
+    let range = range_of c.args.chunk c.range-start.result.0 c.range-start.result.1 c.chunks.result c.args.mirror.now.array.chunks c.chunks.ensures c.range-start.ensures.sectors in
+    chunk_fails c.args.chunk c.range-start.result.0 c.range-start.result.1 c.args.mirror.now c.requires.sound range c.loop-sector.sector c.loop-sector.mirror c.copy_run.new.mirror
+    c.loop-sector.invariant.from c.loop-sector.invariant.agrees c.in-Err.fault c.in-Err.ensures
 
 pub loop-sector-preserved : goal.loop-sector-preserved
 loop-sector-preserved g c = record {
-  agrees = agrees_more c.range-start.result.0 c.loop-sector.sector (c.range-start.result.0 + c.range-start.result.1) c.in-Ok.next c.args.mirror.now c.loop-sector.mirror c.copy_run.new.mirror c.loop-sector.invariant.agrees c.in-Ok.ensures;
+  agrees = agrees_more c.range-start.result.0 c.loop-sector.sector (c.range-start.result.0 + c.range-start.result.1) c.in-Ok.next c.args.mirror.now c.loop-sector.mirror c.copy_run.new.mirror
+      c.loop-sector.invariant.from c.loop-sector.invariant.agrees c.in-Ok.ensures;
   from = let from = c.loop-sector.invariant.from in let above = c.in-Ok.ensures.above in omega arith;
+  to = let within = c.in-Ok.ensures.within in omega arith;
   long = c.copy_run.auto.buffer ∙ c.loop-sector.invariant.long;
 }
 
 pub returns : goal.returns
 returns g c =
     let past = c.loop-sector-test.false in
-    chunk_copied c.args.chunk c.range-start.result.0 c.range-start.result.1 c.args.mirror.now c.requires.sound (range_of c.args.chunk c.range-start.result.0 c.range-start.result.1 c.chunks.result c.args.mirror.now.array.chunks c.chunks.ensures c.range-start.ensures.sectors) c.loop-sector.sector c.loop-sector.mirror (omega arith) c.loop-sector.invariant.agrees
+    chunk_copied c.args.chunk c.range-start.result.0 c.range-start.result.1 c.args.mirror.now c.requires.sound (range_of c.args.chunk c.range-start.result.0 c.range-start.result.1 c.chunks.result c.args.mirror.now.array.chunks c.chunks.ensures c.range-start.ensures.sectors) c.loop-sector.sector c.loop-sector.mirror (omega arith)
+    c.loop-sector.invariant.to c.loop-sector.invariant.agrees

@@ -10,5 +10,6 @@ invariant-loop-sector g l =
     record {
       agrees : AgreesTo l.start l.sector l.fn.mirror l.mirror;
       from : l.start ≤ l.sector;
+      to : l.sector ≤ l.end;
       long : length l.buffer ≡ length l.fn.buffer;
     }

@@ -3,7 +3,7 @@ use Rattle.std.specs.Int.{div_ceil}
 use Rattle.md_bitmap.specs.declared.chunks.Chunks.{Chunks}
 use Rattle.md_state.specs.View.{ArrayView}
 use Rattle.md_resync.specs.Copying.{MayCopyMarked}
-use Rattle.md_resync.proofs.CopiedChunks.{chunks_all, chunks_more, chunks_none, stops_then}
+use Rattle.md_resync.proofs.CopiedChunks.{chunks_all, chunks_fail, chunks_more, chunks_none}
 use Rattle.md_resync.proofs.chunks.copy_marked.Goals as goal
 
 pub loop-chunk-init : goal.loop-chunk-init
@@ -26,7 +26,8 @@ pub copy_if_marked-requires-clause-may : goal.copy_if_marked-requires-clause-may
 copy_if_marked-requires-clause-may g c = subst MayCopyMarked (sym c.loop-chunk.invariant.below.copies.array) c.requires.may
 
 pub returns-in-Err : goal.returns-in-Err
-returns-in-Err g c = stops_then c.args.mirror.now c.loop-chunk.mirror c.copy_if_marked.new.mirror c.in-Err.fault c.loop-chunk.invariant.below.copies c.in-Err.ensures
+returns-in-Err g c =
+    chunks_fail c.loop-chunk.chunk c.args.mirror.now c.loop-chunk.mirror c.copy_if_marked.new.mirror c.requires.sound c.loop-chunk.invariant.below c.in-Err.fault c.in-Err.ensures
 
 pub loop-chunk-preserved : goal.loop-chunk-preserved
 loop-chunk-preserved g c = record {

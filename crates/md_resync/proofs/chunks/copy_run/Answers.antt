@@ -1,9 +1,10 @@
-use Rattle.std.proofs.Common.{◌∙◌, length, ◌-◌, ◌*◌, ◌/◌, ◌≤◌, arith, sym}
+use Rattle.std.proofs.Common.{◌∙◌, ℕ, length, ◌-◌, ◌*◌, ◌/◌, ◌≤◌, arith, sym}
 use Rattle.std.proofs.lemmas.List.{length-take-le}
 use Rattle.md_state.specs.ReadingData.{FailsToRead, ReadsData}
 use Rattle.md_array.proofs.General.Answered.{err_of, ok_of}
-use Rattle.md_resync.proofs.CopiedChunks.{copies_run, copies_unfree, fails_reading, run_read, stops_then}
+use Rattle.md_resync.proofs.CopiedChunks.{copies_run, copies_unfree, fails_reading, given_in_vain, giving_fails, run_read}
 use Rattle.md_resync.proofs.CopiedRuns.{copies_read}
+use Rattle.md_resync.specs.Copying.{IsBetween}
 use Rattle.md_resync.proofs.chunks.copy_run.Goals as goal
 
 pub returns-in_default : goal.returns-in_default
@@ -59,4 +60,7 @@ returns-in-Err g c =
     let new = c.read_data.new.self in
     let from = c.in-Some.from in
     let reads = ok_of c.read_data.result (ReadsData from c.args.sector c.read_data.new.buf old new) (FailsToRead from old new) (sym c.if-is_err.false ∙ c.is_err.ensures.value) c.read_data.ensures.gives in
-    stops_then old new c.copy_to_members.new.mirror c.in-Err.fault (copies_read old new reads.rests c.requires.sound) c.in-Err.ensures
+    let none : ℕ → Type 0 = λ s. ⊥ in
+    let end = c.copy_to_members.new.mirror in
+    given_in_vain (IsBetween c.args.sector c.args.end) old end c.in-Err.fault
+    (giving_fails none old new end c.in-Err.fault (copies_read none old new reads.rests c.requires.sound) c.in-Err.ensures)

@@ -1,6 +1,7 @@
 use Rattle.std.proofs.Common.{arith, length, ap}
 use Rattle.md_state.specs.View.{ArrayView}
-use Rattle.md_resync.proofs.CopiedChunks.{below_all, below_more, below_none, run_later, stops_then}
+use Rattle.md_resync.specs.Copying.{IsAmong}
+use Rattle.md_resync.proofs.CopiedChunks.{below_all, below_more, below_none, giving_fails, run_later}
 use Rattle.md_resync.proofs.members.copy_to_members.Goals as goal
 
 pub loop-k-init : goal.loop-k-init
@@ -21,7 +22,8 @@ copy_to-requires-clause-run g c =
     run_later c.args.from c.args.sector c.args.bytes.now c.args.mirror.now c.loop-k.mirror c.requires.run so_far.copies.array (so_far.kept c.args.from c.requires.run.holds)
 
 pub returns-in-Err : goal.returns-in-Err
-returns-in-Err g c = stops_then c.args.mirror.now c.loop-k.mirror c.copy_to.new.mirror c.in-Err.fault c.loop-k.invariant.copies c.in-Err.ensures
+returns-in-Err g c =
+    giving_fails (IsAmong c.args.sector c.args.bytes.now) c.args.mirror.now c.loop-k.mirror c.copy_to.new.mirror c.in-Err.fault c.loop-k.invariant.copies c.in-Err.ensures
 
 pub loop-k-preserved : goal.loop-k-preserved
 loop-k-preserved g c = below_more c.loop-k.k c.args.sector c.args.bytes.now c.args.mirror.now c.loop-k.mirror c.copy_to.new.mirror c.loop-k.invariant c.in_default.ensures

@@ -1,9 +1,16 @@
-use Rattle.md_resync.proofs.Resynced.{copying_stops, resyncs_or_stops}
+use Rattle.md_resync.specs.Copying.{IsMarkedAt}
+use Rattle.md_resync.proofs.Resynced.{agreeing_fails, copying_sound, resyncs_or_stops}
 use Rattle.md_resync.proofs.whole.resync_through.Goals as goal
 
 pub returns-in-Err-make_agree-clause-gives : goal.returns-in-Err-make_agree-clause-gives
 returns-in-Err-make_agree-clause-gives g c =
-    copying_stops c.args.mirror.now c.store_marks.new.mirror c.make_agree.new.mirror c.requires.idle c.in_default.ensures.gives c.in-Err-make_agree.fault c.in-Err-make_agree.ensures
+    let fails = c.in-Err-make_agree.ensures in
+    agreeing_fails c.args.mirror.now c.store_marks.new.mirror c.make_agree.new.mirror c.requires.idle c.in_default.ensures.gives fails.two c.in-Err-make_agree.fault fails.copying
+
+pub returns-in-Err-make_agree-clause-sound : goal.returns-in-Err-make_agree-clause-sound
+returns-in-Err-make_agree-clause-sound g c =
+    let mid = c.store_marks.new.mirror in
+    copying_sound (IsMarkedAt mid.array) mid c.make_agree.new.mirror c.in-Err-make_agree.fault c.in-Err-make_agree.ensures.copying
 
 pub returns-clause-gives : goal.returns-clause-gives
 returns-clause-gives g c =
