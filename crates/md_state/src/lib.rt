@@ -13,6 +13,7 @@ mod failing_members;
 mod finishing;
 mod header;
 mod in_sync;
+mod joining;
 mod making_clean;
 mod marking;
 mod marking_resynced;
@@ -22,6 +23,8 @@ mod observing;
 mod own_fields;
 mod pending;
 mod permitting;
+mod re_add_fault;
+mod re_adding;
 mod recording;
 mod remembering;
 mod removing;
@@ -36,6 +39,8 @@ pub use extent::Extent;
 pub use marking::needs_marks;
 pub use member::Member;
 pub use pending::Pending;
+pub use re_add_fault::ReAddFault;
+pub use re_adding::taken_back;
 pub use step_fault::{
     BeginFault, CleanFault, ClearFault, FailFault, FinishFault, RemoveFault, StoreFault,
     WriteMemberFault,

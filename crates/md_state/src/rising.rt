@@ -50,14 +50,14 @@ impl Array {
         (0..self.shared.roles.max_dev()).any(|number| self.is_absent(number))
     }
 
-    // Whether the number has a role below raid_disks, and no member has it.
-    fn is_absent(&self, number: u32) -> bool
+    /// Whether the number has a role below raid_disks, and no member has it.
+    pub(crate) fn is_absent(&self, number: u32) -> bool
         ensures { result ≡ is_absent self.now number }
     {
         u32::from(self.shared.role_of(number)) < self.shared.raid_disks && !self.has_number(number)
     }
 
-    fn has_number(&self, number: u32) -> bool
+    pub(crate) fn has_number(&self, number: u32) -> bool
         ensures { result ≡ has_number self.now number }
     {
         self.members
@@ -77,8 +77,8 @@ impl Array {
     }
 }
 
-// The superblock of each member that is kept up to date has to be stored.
-fn make_due(members: &mut [Member])
+/// The superblock of each member that is kept up to date has to be stored.
+pub(crate) fn make_due(members: &mut [Member])
     ensures { members.new ≡ map made_due members.old }
 {
     for member in members.iter_mut() {
