@@ -1,112 +1,163 @@
 // What a collector takes of the reports on a plan that reads two chunks crosswise.
-ghost use Rattle.std.specs.Prelude.{◌≡◌, IfOk, length};
+ghost use Rattle.std.specs.Prelude.{◌≡◌, IfOk};
 
+use crate::checks::{holds, same};
 use md_bitmap::Chunks;
 use md_cert::{Plan, Slot, Slots};
 use md_collect::{Collector, Refusal, Report};
-use md_device::{Device, FaultDevice, MemDevice};
+use md_device::{FaultDevice, MemDevice};
 use std::alloc::{AllocError, Global};
+use std::marker::Model;
+use std::process::Abort;
 use std::test::Fail;
 
 // The bytes of a chunk.
 const CHUNK: usize = 4096;
 
 // Chunk 0 is read from source 1, and chunk 1 from source 0.
-fn crosswise(alloc: Global) -> Result<Collector, AllocError>
-    ensures { IfOk result (λ c. (c.offset ≡ 0) × (c.chunks.size ≡ 16)) }
-{
-    let first = Slot {
+const CROSSWISE: [Slot; 2] = [
+    Slot {
         chunk: 0,
         source: 1,
         round: 0,
-    };
-    let second = Slot {
+    },
+    Slot {
         chunk: 1,
         source: 0,
         round: 0,
-    };
+    },
+];
+
+const CHUNKS: Chunks = Chunks {
+    sectors: 8,
+    size: 16,
+};
+
+// A collector, and the target that it writes to, which has room for the chunks.
+#[derive(Drop)]
+struct Collecting {
+    collector: Collector,
+    target: FaultDevice<MemDevice>,
+}
+
+impl Model for Collecting {
+    ghost use Rattle.std.specs.Prelude.{◌≡◌, length};
+
+    ghost Value = { Unit {0} };
+
+    ghost view = { λ _. tt };
+
+    ghost invariant = { λ c. (c.collector.offset ≡ 0) × (c.collector.chunks.size ≡ 16) × (length c.target.inner ≡ 8192) };
+}
+
+fn collector(alloc: Global) -> Result<Collector, AllocError>
+    ensures { IfOk result (λ c. (c.offset ≡ 0) × (c.chunks.size ≡ 16)) }
+{
+    let slots = Vec::from_slice(alloc, &CROSSWISE)?;
     let plan = Plan {
-        slots: Slots::from_vec(vec![in alloc; first, second]?),
+        slots: Slots::from_vec(slots),
         rounds: 1,
     };
-    let chunks = Chunks {
-        sectors: 8,
-        size: 16,
+    let collector = Collector::new(alloc, &plan, CHUNKS, 0);
+    drop(plan);
+    collector
+}
+
+impl Collecting {
+    // The writes up to this number fail.
+    fn new(alloc: Global, last: u64) -> Result<Collecting, AllocError> {
+        let device = MemDevice::new(alloc, 16)?;
+        let target = FaultDevice::new(device, Vec::new(alloc), 1, last, false);
+        let collector = collector(alloc)?;
+        Ok(Collecting { collector, target })
+    }
+
+    fn take(&mut self, report: Report) -> Result<(), Refusal> {
+        self.collector.take(&mut self.target, report)
+    }
+
+    fn into_target(self) -> MemDevice {
+        let Collecting { target, .. } = self;
+        target.into_inner()
+    }
+}
+
+// A report of a chunk by a source: as many bytes of one value, or none where it could not be read.
+type Sent = (u32, u8, Option<(usize, u8)>);
+
+fn report_of(alloc: Global, sent: Sent) -> Result<Report, AllocError> {
+    let (chunk, source, bytes) = sent;
+    let Some((len, byte)) = bytes else {
+        return Ok(Report::failed(chunk, source));
     };
-    Collector::new(alloc, &plan, chunks, 0)
+    let bytes = vec![in alloc; byte; len]?;
+    Ok(Report::delivered(chunk, source, bytes))
 }
 
-// Reports that a chunk was delivered, for a target of 16 sectors.
-fn deliver<D: Device>(
+fn takes(
+    rt: &impl Abort,
     alloc: Global,
-    collector: &mut Collector,
-    target: &mut D,
-    chunk: u32,
-    source: u8,
-    byte: u8,
-) -> Result<Result<(), Refusal>, AllocError>
-    requires target { length (D.content target.old) ≡ 8192 }
-    requires collector { (collector.old.offset ≡ 0) × (collector.old.chunks.size ≡ 16) }
-    ensures target { length (D.content target.new) ≡ 8192 }
-    ensures collector { (collector.new.offset ≡ 0) × (collector.new.chunks.size ≡ 16) }
-{
-    let bytes = vec![in alloc; byte; CHUNK]?;
-    Ok(send(collector, target, Report::delivered(chunk, source, bytes)))
+    collecting: &mut Collecting,
+    reports: &[(Sent, Result<(), Refusal>)],
+) -> Result<(), Fail> {
+    for (sent, wanted) in reports {
+        let report = report_of(alloc, *sent)?;
+        same(rt, "what is answered", collecting.take(report), *wanted);
+    }
+    Ok(())
 }
 
-// Lets the collector take a report for a target of 16 sectors.
-fn send<D: Device>(collector: &mut Collector, target: &mut D, report: Report) -> Result<(), Refusal>
-    requires target { length (D.content target.old) ≡ 8192 }
-    requires collector { (collector.old.offset ≡ 0) × (collector.old.chunks.size ≡ 16) }
-    ensures target { length (D.content target.new) ≡ 8192 }
-    ensures collector { (collector.new.offset ≡ 0) × (collector.new.chunks.size ≡ 16) }
-{
-    collector.take(target, report)
+const TAKEN_ONCE: [(Sent, Result<(), Refusal>); 7] = [
+    ((0, 1, Some((CHUNK, 7))), Ok(())),
+    ((0, 1, Some((CHUNK, 8))), Err(Refusal::Double)),
+    ((1, 1, Some((CHUNK, 9))), Err(Refusal::Stranger)),
+    ((5, 0, Some((CHUNK, 9))), Err(Refusal::Stranger)),
+    ((1, 0, Some((100, 9))), Err(Refusal::Length)),
+    ((1, 0, None), Ok(())),
+    ((1, 0, Some((CHUNK, 9))), Err(Refusal::Double)),
+];
+
+fn are_taken_once(rt: &impl Abort, alloc: Global, collecting: &mut Collecting) -> Result<(), Fail> {
+    takes(rt, alloc, collecting, &TAKEN_ONCE)?;
+    same(rt, "the reports", collecting.collector.reports(), 2);
+    Ok(())
+}
+
+// Chunk 0 was written, and chunk 1 was not.
+fn is_written(rt: &impl Abort, target: &MemDevice) {
+    holds(rt, "chunk 0", target.bytes().starts_with(&[7; CHUNK]));
+    holds(rt, "chunk 1", target.bytes().ends_with(&[0; CHUNK]));
 }
 
 #[test]
 fn each_planned_chunk_is_taken_once(rt: HostRuntime) -> Result<(), Fail> {
-    let alloc = rt.alloc();
-    let mut target = MemDevice::new(alloc, 16)?;
-    let mut collector = crosswise(alloc)?;
-    let to = &mut collector;
-    let taken = deliver(alloc, to, &mut target, 0, 1, 7)?;
-    assert_eq!(rt; taken, Ok(()));
-    let again = deliver(alloc, to, &mut target, 0, 1, 8)?;
-    assert_eq!(rt; again, Err(Refusal::Double));
-    let stranger = deliver(alloc, to, &mut target, 1, 1, 9)?;
-    assert_eq!(rt; stranger, Err(Refusal::Stranger));
-    let stranger = deliver(alloc, to, &mut target, 5, 0, 9)?;
-    assert_eq!(rt; stranger, Err(Refusal::Stranger));
-    let short = Report::delivered(1, 0, vec![in alloc; 9; 100]?);
-    let cut = send(to, &mut target, short);
-    assert_eq!(rt; cut, Err(Refusal::Length));
-    let unread = send(to, &mut target, Report::failed(1, 0));
-    assert_eq!(rt; unread, Ok(()));
-    let again = deliver(alloc, to, &mut target, 1, 0, 9)?;
-    assert_eq!(rt; again, Err(Refusal::Double));
+    let mut collecting = Collecting::new(rt.alloc(), 0)?;
+    let taken = are_taken_once(&rt, rt.alloc(), &mut collecting);
+    let target = collecting.into_target();
+    if taken.is_ok() {
+        is_written(&rt, &target);
+    }
+    drop(target);
+    taken
+}
 
-    assert_eq!(rt; collector.reports(), 2);
-    assert!(rt; target.bytes().starts_with(&[7; CHUNK]));
-    assert!(rt; target.bytes().ends_with(&[0; CHUNK]));
+const SPOILED: [(Sent, Result<(), Refusal>); 4] = [
+    ((0, 1, Some((CHUNK, 7))), Err(Refusal::TargetFault)),
+    ((0, 1, Some((CHUNK, 7))), Err(Refusal::Spoiled)),
+    ((1, 0, None), Err(Refusal::Spoiled)),
+    ((5, 0, Some((CHUNK, 7))), Err(Refusal::Spoiled)),
+];
+
+fn are_spoiled(rt: &impl Abort, alloc: Global, collecting: &mut Collecting) -> Result<(), Fail> {
+    takes(rt, alloc, collecting, &SPOILED)?;
+    same(rt, "the reports", collecting.collector.reports(), 0);
     Ok(())
 }
 
 #[test]
 fn a_target_fault_ends_the_counting(rt: HostRuntime) -> Result<(), Fail> {
-    let alloc = rt.alloc();
-    let device = MemDevice::new(alloc, 16)?;
-    let mut target = FaultDevice::new(device, Vec::new(alloc), 1, 1, false);
-    let mut collector = crosswise(alloc)?;
-    let to = &mut collector;
-    let failed = deliver(alloc, to, &mut target, 0, 1, 7)?;
-    assert_eq!(rt; failed, Err(Refusal::TargetFault));
-    let spoiled = deliver(alloc, to, &mut target, 0, 1, 7)?;
-    assert_eq!(rt; spoiled, Err(Refusal::Spoiled));
-    let spoiled = send(to, &mut target, Report::failed(1, 0));
-    assert_eq!(rt; spoiled, Err(Refusal::Spoiled));
-    let spoiled = deliver(alloc, to, &mut target, 5, 0, 7)?;
-    assert_eq!(rt; spoiled, Err(Refusal::Spoiled));
-    assert_eq!(rt; collector.reports(), 0);
-    Ok(())
+    let mut collecting = Collecting::new(rt.alloc(), 1)?;
+    let spoiled = are_spoiled(&rt, rt.alloc(), &mut collecting);
+    drop(collecting);
+    spoiled
 }

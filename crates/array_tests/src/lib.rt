@@ -4,6 +4,8 @@
 #[cfg(test)]
 mod assembly;
 #[cfg(test)]
+mod checks;
+#[cfg(test)]
 mod collector_reports;
 #[cfg(test)]
 mod mirrors;

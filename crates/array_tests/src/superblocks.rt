@@ -1,6 +1,9 @@
 // What the kernel's formats say of given bytes, worked out by hand.
+use crate::checks::{holds, same, say};
 use example_members::{put, vault};
-use md_super::{SuperFault, checksum, decode};
+use md_super::{SuperFault, Superblock, checksum, decode};
+use std::alloc::Global;
+use std::process::Abort;
 use std::test::Fail;
 
 #[test]
@@ -8,25 +11,34 @@ fn checksum_values(rt: HostRuntime) {
     let mut b = [0u8; 4096];
     put(&mut b, 0, &0xffff_ffffu32.to_le_bytes());
     put(&mut b, 4, &2u32.to_le_bytes());
-    assert_eq!(rt; checksum(&b, 0), 2);
+    same(&rt, "a sum with a carry", checksum(&b, 0), 2);
     put(&mut b, 0, &0xa92b_4efcu32.to_le_bytes());
     put(&mut b, 4, &1u32.to_le_bytes());
-    assert_eq!(rt; checksum(&b, 0), 0xa92b_4efd);
+    same(&rt, "of no role", checksum(&b, 0), 0xa92b_4efd);
     put(&mut b, 220, &1u32.to_le_bytes());
     put(&mut b, 256, &0xffffu16.to_le_bytes());
-    assert_eq!(rt; checksum(&b, 1), 0xa92c_4efd);
-    assert_eq!(rt; checksum(&vault(), 2), 0x8ab7_c54f);
+    same(&rt, "of one role", checksum(&b, 1), 0xa92c_4efd);
+    same(&rt, "the vault's", checksum(&vault(), 2), 0x8ab7_c54f);
+}
+
+fn is_vault(rt: &impl Abort, v: &Superblock) {
+    same(rt, "the events", v.events, 10);
+    same(rt, "where the log is", v.bblog_offset, 2024);
+    holds(rt, "the roles", v.roles.as_slice() == [0u16, 1].as_slice());
+    same(rt, "the role of a number", v.role_of(1), 1);
+    same(rt, "the role of a number past them", v.role_of(2), 0xffff);
 }
 
 #[test]
 fn reads_a_member(rt: HostRuntime) -> Result<(), Fail> {
     let v = decode(rt.alloc(), &vault())?;
-    assert_eq!(rt; v.events, 10);
-    assert_eq!(rt; v.bblog_offset, 2024);
-    assert_eq!(rt; v.roles.as_slice(), [0u16, 1].as_slice());
-    assert_eq!(rt; v.role_of(1), 1);
-    assert_eq!(rt; v.role_of(2), 0xffff);
+    is_vault(&rt, &v);
+    drop(v);
     Ok(())
+}
+
+fn refuses(rt: &impl Abort, alloc: Global, bytes: &[u8; 4096], wanted: SuperFault) {
+    same(rt, "the fault", decode(alloc, bytes).err(), Some(wanted));
 }
 
 #[test]
@@ -35,27 +47,24 @@ fn decode_order(rt: HostRuntime) {
     put(&mut b, 0, &0xa92b_4efcu32.to_le_bytes());
     put(&mut b, 4, &1u32.to_le_bytes());
     put(&mut b, 220, &1921u32.to_le_bytes());
-    assert!(rt; matches!(decode(rt.alloc(), &b), Err(SuperFault::MaxDev)));
+    refuses(&rt, rt.alloc(), &b, SuperFault::MaxDev);
     put(&mut b, 220, &1920u32.to_le_bytes());
-    assert!(rt; matches!(decode(rt.alloc(), &b), Err(SuperFault::Checksum)));
+    refuses(&rt, rt.alloc(), &b, SuperFault::Checksum);
 }
+
+const FAULTS: [(SuperFault, &str); 9] = [
+    (SuperFault::Magic, "Magic"),
+    (SuperFault::Major, "Major"),
+    (SuperFault::MaxDev, "MaxDev"),
+    (SuperFault::Checksum, "Checksum"),
+    (SuperFault::SuperOffset, "SuperOffset"),
+    (SuperFault::Feature(20), "Feature 20"),
+    (SuperFault::Level, "Level"),
+    (SuperFault::RaidDisks, "RaidDisks"),
+    (SuperFault::NoMemory, "NoMemory"),
+];
 
 #[test]
 fn faults_are_named(rt: HostRuntime) -> Result<(), Fail> {
-    let faults = [
-        (SuperFault::Magic, "Magic"),
-        (SuperFault::Major, "Major"),
-        (SuperFault::MaxDev, "MaxDev"),
-        (SuperFault::Checksum, "Checksum"),
-        (SuperFault::SuperOffset, "SuperOffset"),
-        (SuperFault::Feature(20), "Feature 20"),
-        (SuperFault::Level, "Level"),
-        (SuperFault::RaidDisks, "RaidDisks"),
-        (SuperFault::NoMemory, "NoMemory"),
-    ];
-    for (fault, text) in faults.iter() {
-        let shown = format!(in rt.alloc(); "{fault}")?;
-        assert_eq!(rt; shown.as_str(), *text);
-    }
-    Ok(())
+    say(&rt, rt.alloc(), &FAULTS)
 }
