@@ -20,10 +20,11 @@ ZEROS = bytes(2112 * SECTOR)
 
 class Step:
     """A run of the program: its words, its output (or the head and the tail of it), its fault, or what it tells on standard
-    error, and the images that it changes."""
+    error, the images that it changes, and its input."""
 
-    def __init__(self, words, output="", fault=None, told="", changes=""):
+    def __init__(self, words, output="", fault=None, told="", changes="", given=b""):
         self.words = words.split()
+        self.given = given
         self.output = output
         self.status = 1 if fault else 0
         self.errors = "mdcli: %s\n" % fault if fault else told
@@ -32,7 +33,7 @@ class Step:
     def play(self, folder, run):
         """The reasons against what a run gives and leaves."""
         before = read_images(folder)
-        status, output, errors = run(self.words)
+        status, output, errors = run(self.words, self.given)
         reasons = []
         if status != self.status:
             reasons.append("the status is %r, and %d was wanted" % (status, self.status))
@@ -135,6 +136,8 @@ PLAN = (
 )
 
 TWO = {"a": ZEROS, "b": ZEROS}
+# A sector that is written and read.
+NEW = "mirrored" * 64
 
 
 def create(level, devices, chunk, images, **answer):
@@ -178,6 +181,18 @@ CASES = [
             create("raid1", 2, 4, "--assume-clean a b", output=CLEAN, changes="a b"),
             Step("assemble b a", CLEAN),
             Step("detail a b", DETAIL),
+        ],
+    ),
+    (
+        "the life of a mirror",
+        TWO,
+        [
+            create("raid1", 2, 4, "--assume-clean a b", output=CLEAN, changes="a b"),
+            Step("write --sector 8 a b", "in sync 2 of 2, events 3, marked 0\n", changes="a b", given=NEW.encode()),
+            Step("read --sector 8 --count 1 a b", NEW),
+            Step("write --sector 0 a b", fault="BadLength", given=bytes(100)),
+            Step("resync a b", "in sync 2 of 2, events 3, marked 0\n"),
+            Step("stop a b", "in sync 2 of 2, events 3, marked 0\n"),
         ],
     ),
     ("create, another level", TWO, [create("5", 2, 4, "a b", fault="BadLevel")]),

@@ -29,7 +29,7 @@ class Refusing:
         self.folder, self.library = folder, library
         self.number = 0
 
-    def __call__(self, words):
+    def __call__(self, words, given=b""):
         settings = dict(os.environ)
         if self.number:
             settings.update(REFUSED_CALL=str(self.number), LD_PRELOAD=self.library)
@@ -38,7 +38,7 @@ class Refusing:
                 [str(support.PROGRAM)] + words,
                 cwd=self.folder,
                 env=settings,
-                stdin=subprocess.DEVNULL,
+                input=given,
                 capture_output=True,
                 timeout=SECONDS,
             )
@@ -64,8 +64,8 @@ def sweep(tally, name, step, program):
         program.number += 1
         answers = []
 
-        def run(words):
-            answers.append(program(words))
+        def run(words, given):
+            answers.append(program(words, given))
             return answers[0]
 
         if not step.play(program.folder, run):
