@@ -24,6 +24,7 @@ mod route;
 mod search;
 mod shelf;
 mod shift;
+mod stock;
 mod totals;
 
 pub use planner::{Planned, plan};

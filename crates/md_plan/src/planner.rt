@@ -11,7 +11,8 @@ use crate::certify::certificate_of;
 use crate::classes::{Classes, group};
 use crate::give_out::{Given, give_out};
 use crate::level::level;
-use crate::place::{add_loads, choose_sources};
+use crate::place::choose_sources;
+use crate::stock::{Stock, take_stock};
 use md_cert::{Certificate, ChunkList, NoMemory, Plan, Row, Slots, Table};
 use std::alloc::Global;
 
@@ -55,8 +56,11 @@ fn plan_rows(alloc: Global, rows: &[Row]) -> Result<Planned, NoMemory>
     let classes = cells.len();
     let chosen = choose_sources(rows, &mut cells, &totals);
     level(alloc, &mut cells, chosen, totals.sources)?;
-    let mut loads = add_loads(&cells);
-    let bound = balance(&mut cells, &mut loads)?;
+    let Stock {
+        mut loads,
+        mut reach,
+    } = take_stock(&cells);
+    let bound = balance(&mut cells, &mut loads, &mut reach)?;
     let Given { slots, orphans } = give_out(alloc, rows, &class_of, &mut cells, classes)?;
     let certificate = certificate_of(alloc, class_of, rows, bound)?;
     Ok(Planned {

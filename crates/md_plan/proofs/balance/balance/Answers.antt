@@ -19,8 +19,7 @@ note_reach-requires-clause-sources c = λ k d lt.
 pub least_bound-requires-clause-small : goal.least_bound-requires-clause-small
 least_bound-requires-clause-small c =
     let cells = c.rise.cells.items in
-    let reach : IsReach cells c.note_reach.new.reach = subst (λ (xs : List Cell). IsReach xs c.note_reach.new.reach) c.deref.ensures.value c.note_reach.ensures in
-    let le = dead_end_holds cells c.rise.loads c.note_reach.new.reach c.rise.bound.rounds c.in-Closed.sources c.rise.invariant.allowed c.rise.invariant.are_loads reach c.in-Closed.ensures in
+    let le = dead_end_holds cells c.rise.loads c.rise.reach c.rise.bound.rounds c.in-Closed.sources c.rise.invariant.allowed c.rise.invariant.are_loads c.rise.invariant.reach c.in-Closed.ensures in
     let all = count_with_le (is_within c.in-Closed.sources) cells in
     let same = c.rise.invariant.counts (λ m. true) in
     let small = c.requires.small in
@@ -40,26 +39,27 @@ rise-smaller c =
     let found = c.heavy.ensures.some c.rise-test.true in
     let lt = has_below c.heavy.result found.0 found.1 in
     let above = c.heavy.ensures.above found.0 found.1 in
-    let more = dead_end_more c.rise.loads c.note_reach.new.reach c.rise.bound.rounds c.in-Closed.sources found.0 c.in-Closed.ensures lt above in
+    let more = dead_end_more c.rise.loads c.rise.reach c.rise.bound.rounds c.in-Closed.sources found.0 c.in-Closed.ensures lt above in
     let up = raise_above c.rise.bound.rounds c.least_bound.result (count_sources (has c.in-Closed.sources)) (sum_sources c.in-Closed.sources c.rise.loads) more c.least_bound.ensures.enough in
     excess_less c.rise.bound.rounds c.least_bound.result c.rise.loads found.0 up (let long = c.rise.invariant.are_loads.long in omega (arith, long, lt)) above
 
 pub rise-preserved : goal.rise-preserved
 rise-preserved c =
     let cells = c.rise.cells.items in
-    let reach : IsReach cells c.note_reach.new.reach = subst (λ (xs : List Cell). IsReach xs c.note_reach.new.reach) c.deref.ensures.value c.note_reach.ensures in
-    let le = dead_end_holds cells c.rise.loads c.note_reach.new.reach c.rise.bound.rounds c.in-Closed.sources c.rise.invariant.allowed c.rise.invariant.are_loads reach c.in-Closed.ensures in
+    let le = dead_end_holds cells c.rise.loads c.rise.reach c.rise.bound.rounds c.in-Closed.sources c.rise.invariant.allowed c.rise.invariant.are_loads c.rise.invariant.reach c.in-Closed.ensures in
     let same = c.rise.invariant.counts (is_within c.in-Closed.sources) in
     let found = c.heavy.ensures.some c.rise-test.true in
     let lt = has_below c.heavy.result found.0 found.1 in
     let above = c.heavy.ensures.above found.0 found.1 in
-    let more = dead_end_more c.rise.loads c.note_reach.new.reach c.rise.bound.rounds c.in-Closed.sources found.0 c.in-Closed.ensures lt above in
+    let more = dead_end_more c.rise.loads c.rise.reach c.rise.bound.rounds c.in-Closed.sources found.0 c.in-Closed.ensures lt above in
     let up = raise_above c.rise.bound.rounds c.least_bound.result (count_sources (has c.in-Closed.sources)) (sum_sources c.in-Closed.sources c.rise.loads) more c.least_bound.ensures.enough in
     let needed = raise_shown c.least_bound.result (count_sources (has c.in-Closed.sources)) (sum_sources c.in-Closed.sources c.rise.loads) (omega (arith, up)) c.least_bound.ensures.needed in
     record {
       counts = c.rise.invariant.counts;
       allowed = c.rise.invariant.allowed;
       are_loads = c.rise.invariant.are_loads;
+      reach = c.rise.invariant.reach;
+      long = c.rise.invariant.long;
       shown = inr (omega (arith, needed, le, same));
     }
 
