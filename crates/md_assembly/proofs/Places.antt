@@ -1,5 +1,5 @@
 -- Facts of members by their indices.
-use Rattle.std.proofs.Common.{◌≡◌, ◌∙◌, ℕ, ◌+◌, ◌<◌, ◌≤◌, Bool, true, false, cond, not, nat_lt, eqb, List, [], ◌∷◌, length, take, zero, suc, get_or, Option, Some, None, is_some, subst, ap, sym, refl, arith, inl, inr}
+use Rattle.std.proofs.Common.{◌≡◌, ◌∙◌, ℕ, ◌+◌, ◌<◌, ◌≤◌, Bool, true, false, cond, not, nat_lt, eqb, List, [], ◌∷◌, length, take, zero, suc, get_or, Option, Some, None, is_some, below_more, subst, ap, sym, refl, arith, inl, inr}
 use Rattle.std.specs.List.{position, position_or_len, slice_get}
 use Rattle.std.proofs.lemmas.Bool.{cases_lt, eqb-true, eqb-false, ltb-false}
 use Rattle.std.proofs.lemmas.List.{get_or-take, length-take-le}
@@ -51,6 +51,19 @@ at_within Fact members i p = slice_get_within members i p.member p.listed
 
 pub pair_within : (Related : MemberInfo → MemberInfo → Type 0) (members : List MemberInfo) (i j : ℕ) → PairAt Related members i j → j < length members
 pair_within Related members i j p = at_within (Related p.member) members j p.holds
+
+-- a loop that compares each member with the first finds one in the relation, goes past one that is not, or finds none
+module _ (Related : MemberInfo → MemberInfo → Type 0) (members : List MemberInfo) (i : ℕ) (none : (k : ℕ) → k < i → PairAt Related members 0 k → ⊥) where
+  pub first_related : (first m : MemberInfo) → i < length members → first ≡ get_or members 0 first → m ≡ get_or members i m → Related first m → IsLeast (PairAt Related members 0) i
+  first_related first m within at_0 at_i related =
+      least_by (PairAt Related members 0) i (pair_at Related members 0 i first m (read_at members 0 first (omega arith) at_0) (read_at members i m within at_i) related) none
+
+  pub still_none : (first m : MemberInfo) → i < length members → first ≡ get_or members 0 first → m ≡ get_or members i m → (Related first m → false ≡ true) → (k : ℕ) → k < i + 1 → PairAt Related members 0 k → ⊥
+  still_none first m within at_0 at_i other =
+      below_more _ _ none (not_pair Related members 0 i first m (read_at members 0 first (omega arith) at_0) (read_at members i m within at_i) (λ related. let impossible = other related in absurd cc))
+
+  pub none_related : length members ≤ i → (k : ℕ) → PairAt Related members 0 k → ⊥
+  none_related all k pair = let within : k < length members = pair_within Related members 0 k pair in none k (omega arith) pair
 
 none_found : (a b : ℕ) → cond (nat_lt a b) (Some a) None ≡ None → b ≤ a
 none_found a b e =

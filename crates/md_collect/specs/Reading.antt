@@ -1,9 +1,10 @@
 -- A chunk is read from a source.
-use Rattle.std.specs.Prelude.{◌≡◌, ◌<◌, ℕ, List, true}
+use Rattle.std.specs.Prelude.{◌≡◌, ◌<◌, ◌≤◌, ℕ, List, length, true, None, IfOk, IfSome, IsSome, OnErr, Result}
 use Rattle.md_device.specs.declared.device.Device.{Ghosts}
 use Rattle.md_device.specs.Stops.{LeavesMore}
 use Rattle.md_bitmap.specs.declared.chunks.Chunks.{Chunks}
-use Rattle.md_collect.specs.Places.{chunk_on}
+use Rattle.md_collect.specs.Places.{bytes_of, chunk_on}
+use Rattle.md_collect.specs.Reports.{ReportView}
 
 module _ {D : Type 0} (g : Ghosts D) where
   -- these bytes are the source's own
@@ -17,3 +18,16 @@ module _ {D : Type 0} (g : Ghosts D) where
   -- a stop leaves what the device held before
   abbrev pub LeavesContent : D → D → Type 0
   LeavesContent old new = g.honest old ≡ true → LeavesMore (g.stops old) (g.stops new) (λ left. left ≡ g.content old)
+
+  -- a chunk of a source was read, whose data starts at this sector: what is reported of it, and how the device is afterwards
+  pub record ReadsChunk {E : Type 0} (old new : D) (source offset : ℕ) (chunks : Chunks) (chunk : ℕ) (result : Result ReportView E) : Type 0 where
+    pub named : IfOk result (λ r. (r.chunk ≡ chunk) × (r.source ≡ source))
+    pub whole : IfOk result (λ r. IfSome r.bytes (λ bytes. length bytes ≡ bytes_of chunks chunk))
+    pub delivered : IfOk result (λ r. IfSome r.bytes (IsChunkOf old offset chunks chunk))
+    pub unfailing : IfOk result (λ r. IsSome r.bytes → g.failures new ≡ g.failures old)
+    pub failed : IfOk result (λ r. r.bytes ≡ None → Fails old new)
+    pub err : OnErr result (new ≡ old)
+    pub kept : g.content new ≡ g.content old
+    pub honest : g.honest new ≡ g.honest old
+    pub counted : g.failures old ≤ g.failures new
+    pub within : LeavesContent old new

@@ -1,7 +1,7 @@
 // A chunk is read from a source.
-ghost use Rattle.std.specs.Prelude.{◌≡◌, ◌≤◌, IfOk, IfSome, IsSome, None, OnErr, length, vec_len};
-ghost use Rattle.md_collect.specs.Places.{HasRoom, IsChunk, bytes_of};
-ghost use Rattle.md_collect.specs.Reading.{Fails, IsChunkOf, LeavesContent};
+ghost use Rattle.std.specs.Prelude.{◌≡◌, IfOk, vec_len};
+ghost use Rattle.md_collect.specs.Places.{HasRoom, IsChunk};
+ghost use Rattle.md_collect.specs.Reading.{ReadsChunk};
 
 use crate::report::Report;
 use md_bitmap::Chunks;
@@ -22,18 +22,7 @@ pub fn read_chunk<D: Device>(
 ) -> Result<Report, AllocError>
     requires chunk { IsChunk chunks chunk }
     requires room { HasRoom (D.content device.old) offset chunks }
-
-    ensures named { IfOk result (λ r. (r.chunk ≡ chunk) × (r.source ≡ source)) }
-    ensures length { IfOk result (λ r. IfSome r.bytes (λ bytes. length bytes ≡ bytes_of chunks chunk)) }
-    ensures delivered { IfOk result (λ r. IfSome r.bytes (IsChunkOf D.Device device.old offset chunks chunk)) }
-    ensures unfailing { IfOk result (λ r. IsSome r.bytes → D.failures device.new ≡ D.failures device.old) }
-    ensures failed { IfOk result (λ r. r.bytes ≡ None → Fails D.Device device.old device.new) }
-    ensures err { OnErr result (device.new ≡ device.old) }
-
-    ensures kept { D.content device.new ≡ D.content device.old }
-    ensures honest { D.honest device.new ≡ D.honest device.old }
-    ensures counted { D.failures device.old ≤ D.failures device.new }
-    ensures within { LeavesContent D.Device device.old device.new }
+    ensures gives { ReadsChunk D.Device device.old device.new source offset chunks chunk result }
 {
     read_chunk_into(
         alloc,
@@ -60,18 +49,7 @@ pub fn read_chunk_into<D: Device>(
 ) -> Result<Report, AllocError>
     requires chunk { IsChunk chunks chunk }
     requires room { HasRoom (D.content device.old) offset chunks }
-
-    ensures named { IfOk result (λ r. (r.chunk ≡ chunk) × (r.source ≡ source)) }
-    ensures length { IfOk result (λ r. IfSome r.bytes (λ bytes. length bytes ≡ bytes_of chunks chunk)) }
-    ensures delivered { IfOk result (λ r. IfSome r.bytes (IsChunkOf D.Device device.old offset chunks chunk)) }
-    ensures unfailing { IfOk result (λ r. IsSome r.bytes → D.failures device.new ≡ D.failures device.old) }
-    ensures failed { IfOk result (λ r. r.bytes ≡ None → Fails D.Device device.old device.new) }
-    ensures err { OnErr result (device.new ≡ device.old) }
-
-    ensures kept { D.content device.new ≡ D.content device.old }
-    ensures honest { D.honest device.new ≡ D.honest device.old }
-    ensures counted { D.failures device.old ≤ D.failures device.new }
-    ensures within { LeavesContent D.Device device.old device.new }
+    ensures gives { ReadsChunk D.Device device.old device.new source offset chunks chunk result }
 {
     let _limit = device.sectors();
     let (start, sectors) = chunks.range(chunk);

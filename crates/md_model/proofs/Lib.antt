@@ -1,5 +1,6 @@
 pub mod Cases
 pub mod Puts
+pub mod TwoDevices
 pub mod SmallOpening
 pub mod OpeningCovers
 pub mod Tracked

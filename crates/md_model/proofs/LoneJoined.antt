@@ -10,17 +10,21 @@ use Rattle.md_model.specs.Sectors.{chunk_of}
 use Rattle.md_model.specs.Lives.{IsFurther}
 use Rattle.md_model.specs.Stops.{IsAbsent}
 use Rattle.md_model.specs.Runs.{opening}
-use Rattle.md_model.specs.SmallArray.{small_geometry, small_super}
+use Rattle.md_model.specs.SmallArray.{small_device, small_geometry, small_super}
 use Rattle.md_model.specs.LoneMember.{IsTakenIn, joined_number, joined_stored, later_super, lone_at, lone_joined, lone_stored, lone_state}
-use Rattle.md_model.proofs.Cases.{some-injective, none_some, below-nat_lt, is_below}
+use Rattle.md_model.proofs.Cases.{below-nat_lt, is_below, some-injective}
+use Rattle.md_model.proofs.TwoDevices.{IsEmpty, both_empty, filled, of_two, vacant}
 use Rattle.md_model.proofs.LoneOpening.{later_starts}
 use Rattle.md_model.proofs.SmallRun.{as_it_was}
 
--- a fact of the two devices
-of_two : (P : ℕ → Super → Type 0) → P 0 later_super → P 1 (small_super 0) → (k : ℕ) (own : Super) → (joined_stored k).super ≡ Some own → P k own
-of_two P a b zero own e = subst (P 0) (some-injective later_super own e) a
-of_two P a b (suc zero) own e = subst (P 1) (some-injective (small_super 0) own e) b
-of_two P a b (suc (suc k)) own e = absurd (none_some own e)
+-- a fact of the two superblocks
+of_both : (P : ℕ → Super → Type 0) → P 0 later_super → P 1 (small_super 0) → (k : ℕ) (own : Super) → (joined_stored k).super ≡ Some own → P k own
+of_both = of_two (lone_stored later_super 0) (small_device (Some (small_super 0))) later_super (small_super 0) refl refl
+
+empty : (k : ℕ) → IsEmpty (joined_stored k)
+empty = both_empty (lone_stored later_super 0) (small_device (Some (small_super 0)))
+    (record { content = λ _. refl; listed = λ _. refl; bits = λ _. refl })
+    (record { content = λ _. refl; listed = λ _. refl; bits = λ _. refl })
 
 -- the first alone is in sync
 first_only : (P : ℕ → Type 0) → P 0 → (k : ℕ) → IsInSync lone_joined k → P k
@@ -30,31 +34,6 @@ first_only P a (suc k) on = absurd (true≢false (sym on))
 active_only : (P : ℕ → Type 0) → P 0 → (k : ℕ) → is_active (lone_state k) ≡ true → P k
 active_only P a zero e = a
 active_only P a (suc k) e = absurd (true≢false (sym e))
-
-no_bit : (k c : ℕ) → (joined_stored k).bits c ≡ false
-no_bit zero c = refl
-no_bit (suc zero) c = refl
-no_bit (suc (suc k)) c = refl
-
-no_content : (k s : ℕ) → (joined_stored k).content s ≡ []
-no_content zero s = refl
-no_content (suc zero) s = refl
-no_content (suc (suc k)) s = refl
-
-not_listed : (k s : ℕ) → (joined_stored k).listed s ≡ false
-not_listed zero s = refl
-not_listed (suc zero) s = refl
-not_listed (suc (suc k)) s = refl
-
-filled : (k : ℕ) → k < 2 → (own : Super) × ((joined_stored k).super ≡ Some own)
-filled zero low = (later_super, refl)
-filled (suc zero) low = (small_super 0, refl)
-filled (suc (suc k)) low = absurd (omega arith)
-
-vacant : (k : ℕ) → 2 ≤ k → (joined_stored k).super ≡ None
-vacant zero past = absurd (omega arith)
-vacant (suc zero) past = absurd (omega arith)
-vacant (suc (suc k)) past = refl
 
 nobody : (k : ℕ) → 2 ≤ k → lone_state k ≡ State.Faulty
 nobody zero past = absurd (omega arith)
@@ -77,42 +56,42 @@ is_number (suc k) = omega arith
 
 members : HasMembers lone_joined
 members = record {
-  filled = filled;
-  vacant = vacant;
-  number = of_two (λ k own. own.number ≡ joined_number k) refl refl;
+  filled = filled (lone_stored later_super 0) (small_device (Some (small_super 0))) later_super (small_super 0) refl refl;
+  vacant = vacant (lone_stored later_super 0) (small_device (Some (small_super 0)));
+  number = of_both (λ k own. own.number ≡ joined_number k) refl refl;
   distinct = distinct;
   present = λ d. ((λ e. numbered d (is_below d 2 e)), (λ x. below-nat_lt d 2 (subst (λ n. n < 2) x.2 (is_number x.0))));
 }
 
 states : HasStates small_geometry later_super lone_joined
 states = record {
-  by_table = of_two (λ k own. lone_state k ≡ state_by small_geometry later_super own) refl refl;
+  by_table = of_both (λ k own. lone_state k ≡ state_by small_geometry later_super own) refl refl;
   past = nobody;
   some = (0, refl);
   one_each = λ j k a b _. active_only (λ i. i ≡ k) (active_only (λ i. 0 ≡ i) refl k b) j a;
-  due = of_two (λ k own. false ≡ (is_recorded (lone_state k) && nat_lt own.events 11)) refl refl;
+  due = of_both (λ k own. false ≡ (is_recorded (lone_state k) && nat_lt own.events 11)) refl refl;
   re_added = λ _. refl;
-  recovering = of_two (λ _ own. false ≡ own.recovering) refl refl;
+  recovering = of_both (λ _ own. false ≡ own.recovering) refl refl;
 }
 
 marks : HasMarks lone_joined
 marks = record {
   accepted = first_only (λ i. is_accepted (joined_stored i) ≡ true) refl;
-  known = λ k c _. sym (no_bit k c);
-  union = λ c. ((λ e. absurd (true≢false (sym e))), (λ x. absurd (true≢false (sym x.2 ∙ no_bit x.0 c))));
+  known = λ k c _. sym ((empty k).bits c);
+  union = λ c. ((λ e. absurd (true≢false (sym e))), (λ x. absurd (true≢false (sym x.2 ∙ (empty x.0).bits c))));
   resynced = ((λ _. inl (λ _. refl)), (λ _. refl));
 }
 
 joined_opened : IsOpened small_geometry later_super lone_joined
 joined_opened = record {
-  freshest = record { at = 0; is = refl; greatest = of_two (λ _ own. own.events ≤ 11) (omega arith) (omega arith) };
+  freshest = record { at = 0; is = refl; greatest = of_both (λ _ own. own.events ≤ 11) (omega arith) (omega arith) };
   events = refl;
   role = refl;
   entries = later_starts.opening.entries;
   members = members;
   states = states;
   marks = marks;
-  ends = λ k. record { content = λ s _. no_content k s; listed = λ s _. not_listed k s; bits = λ c _. no_bit k c };
+  ends = λ k. record { content = λ s _. (empty k).content s; listed = λ s _. (empty k).listed s; bits = λ c _. (empty k).bits c };
   none_in_flight = λ _. refl;
   running = refl;
 }

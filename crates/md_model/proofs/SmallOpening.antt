@@ -6,45 +6,24 @@ use Rattle.md_model.specs.Devices.{Super, is_accepted}
 use Rattle.md_model.specs.Worlds.{IsInSync}
 use Rattle.md_model.specs.Assembly.{state_by}
 use Rattle.md_model.specs.Openings.{HasMembers, HasStates, HasMarks, IsOpened}
-use Rattle.md_model.specs.SmallArray.{small_geometry, small_role, small_super, small_stored, small_state, small_world}
-use Rattle.md_model.proofs.Cases.{some-injective, none_some, is_below, below-nat_lt, not_below-nat_lt}
+use Rattle.md_model.specs.SmallArray.{small_device, small_geometry, small_role, small_super, small_stored, small_state, small_world}
+use Rattle.md_model.proofs.Cases.{is_below, below-nat_lt, not_below-nat_lt}
+use Rattle.md_model.proofs.TwoDevices.{IsEmpty, both_empty, filled, of_two, vacant}
 
 -- a fact of both superblocks
-by_member : (P : ℕ → Super → Type 0) → P 0 (small_super 0) → P 1 (small_super 1) → (k : ℕ) (own : Super) → (small_stored k).super ≡ Some own → P k own
-by_member P p0 p1 zero own e = subst (P 0) (some-injective (small_super 0) own e) p0
-by_member P p0 p1 (suc zero) own e = subst (P 1) (some-injective (small_super 1) own e) p1
-by_member P p0 p1 (suc (suc k)) own e = absurd (none_some own e)
+of_both : (P : ℕ → Super → Type 0) → P 0 (small_super 0) → P 1 (small_super 1) → (k : ℕ) (own : Super) → (small_stored k).super ≡ Some own → P k own
+of_both = of_two (small_device (Some (small_super 0))) (small_device (Some (small_super 1))) (small_super 0) (small_super 1) refl refl
+
+empty : (k : ℕ) → IsEmpty (small_stored k)
+empty = both_empty (small_device (Some (small_super 0))) (small_device (Some (small_super 1)))
+    (record { content = λ _. refl; listed = λ _. refl; bits = λ _. refl })
+    (record { content = λ _. refl; listed = λ _. refl; bits = λ _. refl })
 
 -- a fact of both members
 pub in_both : (P : ℕ → Type 0) → P 0 → P 1 → (k : ℕ) → is_active (small_state k) ≡ true → P k
 in_both P a b zero e = a
 in_both P a b (suc zero) e = b
 in_both P a b (suc (suc k)) e = absurd (true≢false (sym e))
-
-no_bit : (k c : ℕ) → (small_stored k).bits c ≡ false
-no_bit zero c = refl
-no_bit (suc zero) c = refl
-no_bit (suc (suc k)) c = refl
-
-no_content : (k s : ℕ) → (small_stored k).content s ≡ []
-no_content zero s = refl
-no_content (suc zero) s = refl
-no_content (suc (suc k)) s = refl
-
-not_listed : (k s : ℕ) → (small_stored k).listed s ≡ false
-not_listed zero s = refl
-not_listed (suc zero) s = refl
-not_listed (suc (suc k)) s = refl
-
-filled : (k : ℕ) → k < 2 → (own : Super) × ((small_stored k).super ≡ Some own)
-filled zero h = (small_super 0, refl)
-filled (suc zero) h = (small_super 1, refl)
-filled (suc (suc k)) h = absurd (omega arith)
-
-vacant : (k : ℕ) → 2 ≤ k → (small_stored k).super ≡ None
-vacant zero h = absurd (omega arith)
-vacant (suc zero) h = absurd (omega arith)
-vacant (suc (suc k)) h = refl
 
 nobody : (k : ℕ) → 2 ≤ k → small_state k ≡ State.Faulty
 nobody zero h = absurd (omega arith)
@@ -64,42 +43,42 @@ apart j k a b = in_both (λ x. small_role x ≡ small_role k → x ≡ k)
 
 members : HasMembers small_world
 members = record {
-  filled = filled;
-  vacant = vacant;
-  number = by_member (λ k own. own.number ≡ k) refl refl;
+  filled = filled (small_device (Some (small_super 0))) (small_device (Some (small_super 1))) (small_super 0) (small_super 1) refl refl;
+  vacant = vacant (small_device (Some (small_super 0))) (small_device (Some (small_super 1)));
+  number = of_both (λ k own. own.number ≡ k) refl refl;
   distinct = λ j k _ _ e. e;
   present = λ d. ((λ e. (d, is_below d 2 e, refl)), (λ x. let low = x.1 in let e = x.2 in below-nat_lt d 2 (omega arith)));
 }
 
 states : HasStates small_geometry (small_super 0) small_world
 states = record {
-  by_table = by_member (λ k own. small_state k ≡ state_by small_geometry (small_super 0) own) refl refl;
+  by_table = of_both (λ k own. small_state k ≡ state_by small_geometry (small_super 0) own) refl refl;
   past = nobody;
   some = (0, refl);
   one_each = apart;
-  due = by_member (λ k own. false ≡ (is_recorded (small_state k) && nat_lt own.events 10)) refl refl;
+  due = of_both (λ k own. false ≡ (is_recorded (small_state k) && nat_lt own.events 10)) refl refl;
   re_added = λ _. refl;
-  recovering = by_member (λ _ own. false ≡ own.recovering) refl refl;
+  recovering = of_both (λ _ own. false ≡ own.recovering) refl refl;
 }
 
 marks : HasMarks small_world
 marks = record {
   accepted = λ k a. in_both (λ i. is_accepted (small_stored i) ≡ true) refl refl k (in_sync_active k a);
-  known = λ k c _. sym (no_bit k c);
-  union = λ c. ((λ e. absurd (true≢false (sym e))), (λ x. absurd (true≢false (sym x.2 ∙ no_bit x.0 c))));
+  known = λ k c _. sym ((empty k).bits c);
+  union = λ c. ((λ e. absurd (true≢false (sym e))), (λ x. absurd (true≢false (sym x.2 ∙ (empty x.0).bits c))));
   resynced = ((λ _. inl (λ _. refl)), (λ _. refl));
 }
 
 pub small_opened : IsOpened small_geometry (small_super 0) small_world
 small_opened = record {
-  freshest = record { at = 0; is = refl; greatest = by_member (λ _ own. own.events ≤ 10) (omega arith) (omega arith) };
+  freshest = record { at = 0; is = refl; greatest = of_both (λ _ own. own.events ≤ 10) (omega arith) (omega arith) };
   events = refl;
   role = refl;
   entries = λ d h. ap (λ b. cond b d 65535) (not_below-nat_lt d 2 h);
   members = members;
   states = states;
   marks = marks;
-  ends = λ k. record { content = λ s _. no_content k s; listed = λ s _. not_listed k s; bits = λ c _. no_bit k c };
+  ends = λ k. record { content = λ s _. (empty k).content s; listed = λ s _. (empty k).listed s; bits = λ c _. (empty k).bits c };
   none_in_flight = λ _. refl;
   running = refl;
 }

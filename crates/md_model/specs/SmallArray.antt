@@ -18,10 +18,14 @@ small_super n = record { number = n; events = 10; role = small_role; recovering 
 abbrev pub small_device : Option Super → Stored
 small_device own = record { super = own; content = λ _. []; listed = λ _. false; bits = λ _. false; bitmap_events = 10; bitmap_fits = true }
 
+-- these two devices, and no others
+abbrev pub two : Stored → Stored → ℕ → Stored
+two a b zero = a
+two a b (suc zero) = b
+two a b (suc (suc k)) = small_device None
+
 abbrev pub small_stored : ℕ → Stored
-small_stored zero = small_device (Some (small_super 0))
-small_stored (suc zero) = small_device (Some (small_super 1))
-small_stored (suc (suc k)) = small_device None
+small_stored = two (small_device (Some (small_super 0))) (small_device (Some (small_super 1)))
 
 abbrev pub small_state : ℕ → State
 small_state zero = InSync
