@@ -6,13 +6,15 @@ use Rattle.md_model.specs.Events.{Event}
 use Rattle.md_bitmap.specs.Marks.{is_set}
 use Rattle.md_requests.specs.Pending.{PendingView}
 use Rattle.md_kept_members.specs.View.{MemberView}
-use Rattle.md_state.specs.View.{ArrayView, MirrorView}
+use Rattle.md_state.specs.View.{ArrayView, Disk, MirrorView}
 use Rattle.md_state.specs.Members.{IsInSync, IsMember}
 use Rattle.md_state.specs.DiskWrites.{AtDevice}
 use Rattle.md_state.specs.Beginning.{Begins}
 use Rattle.md_state.specs.ClearingMarks.{Clears}
+use Rattle.md_state.specs.FailingMembers.{FailsMember}
 use Rattle.md_state.specs.Finishing.{Finishes}
 use Rattle.md_state.specs.MakingClean.{MakesClean}
+use Rattle.md_state.specs.Removing.{Removes}
 use Rattle.md_state.specs.StoringMarks.{FailsToStoreMarks, HaltsStoringMarks, StoresMarkSector}
 use Rattle.md_state.specs.WritingMember.{FailsToWrite, HaltsWritingTo, IsNotDue, WritesTo}
 use Rattle.md_state.specs.Requests.{request_of}
@@ -73,7 +75,7 @@ pub record IsPut (n : ℕ) (r : Option Request) (before after : Requests) : Type
   pub others : (m : ℕ) → m ≢ n → after m ≡ before m
 
 -- What the step's own contract says of it, whatever its device is, and what requests are in flight after it. No call does the other
--- events yet.
+-- events yet: those of a device that comes in.
 abbrev pub Did : MirrorView → Requests → Event → MirrorView → Requests → Type 0
 Did old before (Event.Begin n r) new after =
     (sector : ℕ) × (bytes : List ℕ) × (p : PendingView) × IsUnder n p after × IsPut n (Some r) before after × Begins sector bytes old new p
@@ -84,6 +86,8 @@ Did old before (Event.WriteMember n k) new after =
 Did old before (Event.Finish n) new after = (p : PendingView) × IsUnder n p before × IsPut n None before after × Finishes old new p
 Did old before (Event.ClearIdle c) new after = (after ≡ before) × Clears c old new
 Did old before Event.MakeClean new after = (after ≡ before) × MakesClean old new
+Did old before (Event.Fail k) new after = (after ≡ before) × FailsMember k old new
+Did old before (Event.Remove k) new after = (after ≡ before) × ((disk : Disk) × Removes k disk old new)
 Did old before (Event.RecordFails k) new after = (after ≡ before) × FailsToRecord k old new
 Did old before (Event.StoreMarksFails k b) new after = (after ≡ before) × FailsToStoreMarks k b old new
 Did old before (Event.WriteMemberFails n k) new after =

@@ -1,5 +1,5 @@
--- No call wins or loses a device.
-use Rattle.std.proofs.Common.{◌≡◌, ◌∙◌, ◌⊎◌, ⊎_elim, ℕ, Bool, true, false, List, [], ◌∷◌, ◌++◌, length, Option, Some, None, refl, sym, ap}
+-- No command that stands yet wins or loses a device.
+use Rattle.std.proofs.Common.{◌≡◌, ◌∙◌, ◌⊎◌, inl, inr, ⊎_elim, ℕ, Bool, true, false, List, [], ◌∷◌, ◌++◌, length, Option, Some, None, refl, sym, ap}
 use Rattle.std.proofs.lemmas.Option.{none-some}
 use Rattle.md_model.specs.Events.{Event}
 use Rattle.md_model.specs.Worlds.{Request}
@@ -8,18 +8,20 @@ use Rattle.md_state.specs.declared.step_fault.BeginFault.TheVariants as begin
 use Rattle.md_state.specs.Requests.{AreInFlight, among, request_of}
 use Rattle.md_state.specs.Trying.{Refuses}
 use Rattle.md_state.specs.View.{ArrayView, MirrorView}
-use Rattle.md_array.specs.InTurn.{Did, HaltsAt, Leads, Requests}
+use Rattle.md_array.specs.InTurn.{AllOf, Did, HaltsAt, Leads, Requests}
+use Rattle.md_array.proofs.Steps.Turns.{all_on, all_such}
 use Rattle.md_laws.specs.ReadInTurn.{LeadsReading}
 use Rattle.md_metadata.specs.declared.stop_fault.StopFault.{StopFault}
 use Rattle.md_metadata.specs.declared.stop_fault.StopFault.TheVariants as stop
 use Rattle.md_metadata.specs.Going.{LeadsBy}
-use Rattle.md_metadata.specs.Stopping.{RefusesStop, Stops}
+use Rattle.md_metadata.specs.Stopping.{IsStopping, RefusesStop, Stops}
 use Rattle.md_read.specs.declared.fault.UnreadFault.{UnreadFault}
 use Rattle.md_read.specs.declared.fault.UnreadFault.TheVariants as unread
 use Rattle.md_read.specs.Reading.{RefusesRead}
 use Rattle.md_resync.specs.declared.fault.ResyncFault.{ResyncFault}
 use Rattle.md_resync.specs.declared.fault.ResyncFault.TheVariants as resync
-use Rattle.md_resync.specs.Resyncing.{GoesOn, GoesUnresynced, RefusesResync, Resyncs}
+use Rattle.md_resync.specs.Resyncing.{GoesOn, GoesUnresynced, IsOfResync, RefusesResync, Resyncs}
+use Rattle.md_write.specs.Progress.{IsOfRequest}
 use Rattle.md_write.specs.Writing.{RefusesWrite, Writes, events_of}
 use Rattle.md_examine.specs.declared.sink.Sink.{Ghosts as SinkGhosts}
 use Rattle.md_commands.specs.declared.fault.DataFault.{DataFault}
@@ -41,25 +43,29 @@ refused : (old new : MirrorView) (Reason : Type 0) → Refuses old new Reason �
 refused old new Reason r = same old new r.unchanged
 
 -- ---- events
-did : (e : Event) (old new : MirrorView) (before after : Requests) → Did old before e new after → AsMany old new
-did (Event.Begin n p) old new before after h = ap length h.5.disks
-did (Event.Record k) old new before after h = h.1.disks.tried.as_many
-did (Event.StoreMarks k b) old new before after h = h.1.disks.tried.as_many
-did (Event.WriteMember n k) old new before after h = h.5.disks.tried.as_many
-did (Event.Finish n) old new before after h = ap length h.3.disks
-did (Event.ClearIdle c) old new before after h = ap length h.1.disks
-did (Event.Fail k) old new before after h = absurd h
-did (Event.RecordFails k) old new before after h = h.1.fails.disks.tried.as_many
-did (Event.StoreMarksFails k b) old new before after h = h.1.fails.disks.tried.as_many
-did (Event.WriteMemberFails n k) old new before after h = h.5.fails.disks.tried.as_many
-did (Event.CopyFails k c) old new before after h = h.1.fails.disks.tried.as_many
-did (Event.Copy from k s) old new before after h = h.1.disks.tried.as_many
-did Event.Resynced old new before after h = ap length h.1.marks.disks
-did Event.Unresynced old new before after h = ap length h.1.disks
-did Event.MakeClean old new before after h = ap length h.1.disks
-did (Event.Remove k) old new before after h = absurd h
-did (Event.Add d left) old new before after h = absurd h
-did (Event.ReAdd own device left) old new before after h = absurd h
+-- no member leaves by one of this kind
+abbrev KeepsMembers : (Event → Type 0) → Type 0
+KeepsMembers IsOf = (k : ℕ) → IsOf (Event.Remove k) → ⊥
+
+did : (IsOf : Event → Type 0) → KeepsMembers IsOf → (e : Event) (old new : MirrorView) (before after : Requests) → IsOf e → Did old before e new after → AsMany old new
+did IsOf keeps (Event.Begin n p) old new before after of h = ap length h.5.disks
+did IsOf keeps (Event.Record k) old new before after of h = h.1.disks.tried.as_many
+did IsOf keeps (Event.StoreMarks k b) old new before after of h = h.1.disks.tried.as_many
+did IsOf keeps (Event.WriteMember n k) old new before after of h = h.5.disks.tried.as_many
+did IsOf keeps (Event.Finish n) old new before after of h = ap length h.3.disks
+did IsOf keeps (Event.ClearIdle c) old new before after of h = ap length h.1.disks
+did IsOf keeps (Event.Fail k) old new before after of h = ap length h.1.disks
+did IsOf keeps (Event.RecordFails k) old new before after of h = h.1.fails.disks.tried.as_many
+did IsOf keeps (Event.StoreMarksFails k b) old new before after of h = h.1.fails.disks.tried.as_many
+did IsOf keeps (Event.WriteMemberFails n k) old new before after of h = h.5.fails.disks.tried.as_many
+did IsOf keeps (Event.CopyFails k c) old new before after of h = h.1.fails.disks.tried.as_many
+did IsOf keeps (Event.Copy from k s) old new before after of h = h.1.disks.tried.as_many
+did IsOf keeps Event.Resynced old new before after of h = ap length h.1.marks.disks
+did IsOf keeps Event.Unresynced old new before after of h = ap length h.1.disks
+did IsOf keeps Event.MakeClean old new before after of h = ap length h.1.disks
+did IsOf keeps (Event.Remove k) old new before after of h = absurd (keeps k of)
+did IsOf keeps (Event.Add d left) old new before after of h = absurd h
+did IsOf keeps (Event.ReAdd own device left) old new before after of h = absurd h
 
 halts : (e : Event) (old new : MirrorView) (before : Requests) → HaltsAt old before e new → AsMany old new
 halts (Event.Begin n p) old new before h = absurd h
@@ -82,14 +88,34 @@ halts (Event.Add d left) old new before h = absurd h
 halts (Event.ReAdd own device left) old new before h = absurd h
 
 -- ---- lists of events
-led : (es : List Event) (previous : Option Event) (old new : MirrorView) (before after : Requests) → Leads previous old before es new after → AsMany old new
-led [] previous old new before after t = same old new (sym t.0)
-led (e ∷ es) previous old new before after t = led es (Some e) t.0 new t.1 after t.5 ∙ did e old t.0 before t.1 t.3
+module _ (IsOf : Event → Type 0) (keeps : KeepsMembers IsOf) where
+  led : (es : List Event) (previous : Option Event) (old new : MirrorView) (before after : Requests) → AllOf IsOf es → Leads previous old before es new after → AsMany old new
+  led [] previous old new before after all t = same old new (sym t.0)
+  led (e ∷ es) previous old new before after all t = led es (Some e) t.0 new t.1 after all.1 t.5 ∙ did IsOf keeps e old t.0 before t.1 all.0 t.3
 
-led_reading : (es : List Event) (previous : Option Event) (old new : MirrorView) (before after : Requests) → LeadsReading previous old before es new after → AsMany old new
-led_reading [] previous old new before after t = same t.0 new (sym t.2.0) ∙ t.1.disks.same.as_many
-led_reading (e ∷ es) previous old new before after t =
-    led_reading es (Some e) t.1 new t.2 after t.7 ∙ (did e t.0 t.1 before t.2 t.5 ∙ t.3.disks.same.as_many)
+  led_reading : (es : List Event) (previous : Option Event) (old new : MirrorView) (before after : Requests) → AllOf IsOf es → LeadsReading previous old before es new after → AsMany old new
+  led_reading [] previous old new before after all t = same t.0 new (sym t.2.0) ∙ t.1.disks.same.as_many
+  led_reading (e ∷ es) previous old new before after all t =
+      led_reading es (Some e) t.1 new t.2 after all.1 t.7 ∙ (did IsOf keeps e t.0 t.1 before t.2 all.0 t.5 ∙ t.3.disks.same.as_many)
+
+-- one that stands at an end of a list
+abbrev IsAtEnd : Event → Type 0
+IsAtEnd (Event.Begin n p) = Unit {0}
+IsAtEnd (Event.Finish n) = Unit {0}
+IsAtEnd Event.Unresynced = Unit {0}
+IsAtEnd e = ⊥
+
+abbrev IsOrEnds : (Event → Type 0) → Event → Type 0
+IsOrEnds IsOf e = IsOf e ⊎ IsAtEnd e
+
+or_ends : (IsOf : Event → Type 0) (es : List Event) → AllOf IsOf es → AllOf (IsOrEnds IsOf) es
+or_ends IsOf = all_such IsOf (IsOrEnds IsOf) (λ e is. inl is)
+
+with_end : (IsOf : Event → Type 0) (es : List Event) (e : Event) → AllOf IsOf es → IsAtEnd e → AllOf (IsOrEnds IsOf) (es ++ e ∷ [])
+with_end IsOf es e all at = all_on (IsOrEnds IsOf) es (e ∷ []) (or_ends IsOf es all) (inr at, tt)
+
+keeps_or_ends : (IsOf : Event → Type 0) → KeepsMembers IsOf → KeepsMembers (IsOrEnds IsOf)
+keeps_or_ends IsOf keeps k = ⊎_elim (λ (of : IsOf (Event.Remove k)). keeps k of) (λ (no : ⊥). no)
 
 -- no request of the model
 nothing : Requests
@@ -99,27 +125,29 @@ none_in_flight : (a : ArrayView) → AreInFlight a nothing
 unfolding nothing
 none_in_flight a n p is = absurd (none-some p is)
 
-led_by : (IsOf : Event → Type 0) (old new : MirrorView) → LeadsBy IsOf old new → AsMany old new
-led_by IsOf old new by = led by.events None old new nothing nothing (by.leads None nothing (none_in_flight old.array))
+led_by : (IsOf : Event → Type 0) → KeepsMembers IsOf → (old new : MirrorView) → LeadsBy IsOf old new → AsMany old new
+led_by IsOf keeps old new by = led IsOf keeps by.events None old new nothing nothing by.steps (by.leads None nothing (none_in_flight old.array))
 
 gone_on : (old new : MirrorView) → GoesOn old new → AsMany old new
-gone_on old new goes = led_reading goes.events None old new nothing nothing (goes.leads None nothing (none_in_flight old.array))
+gone_on old new goes = led_reading IsOfResync (λ k of. of) goes.events None old new nothing nothing goes.steps (goes.leads None nothing (none_in_flight old.array))
 
 gone_unresynced : (old new : MirrorView) → GoesUnresynced old new → AsMany old new
-gone_unresynced old new goes = led_reading (goes.events ++ Event.Unresynced ∷ []) None old new nothing nothing (goes.leads None nothing (none_in_flight old.array))
+gone_unresynced old new goes =
+    led_reading (IsOrEnds IsOfResync) (keeps_or_ends IsOfResync (λ k of. of)) (goes.events ++ Event.Unresynced ∷ []) None old new nothing nothing
+    (with_end IsOfResync goes.events Event.Unresynced goes.steps tt) (goes.leads None nothing (none_in_flight old.array))
 
 -- ---- the calls
 stopped : (old new : MirrorView) → Stops old new → AsMany old new
-stopped old new s = led_by _ old new s.goes
+stopped old new s = led_by IsStopping (λ k of. of) old new s.goes
 
 not_stopped : (fault : StopFault) (old new : MirrorView) → RefusesStop old new fault → AsMany old new
 not_stopped stop.Halted old new h =
     ⊎_elim (λ r. refused old new _ r)
-    (λ r. halts r.halts.failing r.halts.mid new nothing (r.halts.halts nothing) ∙ led_by _ old r.halts.mid r.goes)
+    (λ r. halts r.halts.failing r.halts.mid new nothing (r.halts.halts nothing) ∙ led_by IsStopping (λ k of. of) old r.halts.mid r.goes)
     h
 not_stopped (stop.InFlight n) old new h = refused old new _ h
 not_stopped stop.EventsFull old new h = refused old new _ h
-not_stopped (stop.MemberFailed k) old new h = led_by _ old new h.goes
+not_stopped (stop.MemberFailed k) old new h = led_by IsStopping (λ k of. of) old new h.goes
 
 resynced : (old new : MirrorView) → Resyncs old new → AsMany old new
 resynced old new r = gone_on old new r.goes
@@ -133,14 +161,19 @@ not_resynced (resync.ReadFault k c) old new h = gone_unresynced old new h.stops.
 not_resynced (resync.MemberFailed k) old new h = gone_unresynced old new h.stops.goes
 
 wrote : (sector : ℕ) (bytes : List ℕ) (old new : MirrorView) → Writes sector bytes old new → AsMany old new
-wrote sector bytes old new w = led (events_of w.request w.events) None old new nothing nothing (w.happens None nothing (none_in_flight old.array)).done
+wrote sector bytes old new w =
+    let n = w.request.ticket.number in
+    led (IsOrEnds (IsOfRequest n)) (keeps_or_ends (IsOfRequest n) (λ k of. of)) (events_of w.request w.events) None old new nothing nothing
+    (inr tt, with_end (IsOfRequest n) w.events (Event.Finish n) w.steps tt) (w.happens None nothing (none_in_flight old.array)).done
 
 not_written : (fault : BeginFault) (sector : ℕ) (bytes : List ℕ) (old new : MirrorView) → RefusesWrite sector bytes old new fault → AsMany old new
 not_written begin.Halted sector bytes old new h =
     ⊎_elim (λ r. refused old new _ r)
     (λ r.
     halts r.failing r.mid new (among r.last nothing) (r.halts nothing)
-    ∙ led (Event.Begin r.request.ticket.number (request_of r.request) ∷ r.events) None old r.mid nothing (among r.last nothing) (r.happens None nothing (none_in_flight old.array)))
+    ∙ led (IsOrEnds (IsOfRequest r.request.ticket.number)) (keeps_or_ends (IsOfRequest r.request.ticket.number) (λ k of. of))
+    (Event.Begin r.request.ticket.number (request_of r.request) ∷ r.events) None old r.mid nothing (among r.last nothing)
+    (inr tt, or_ends (IsOfRequest r.request.ticket.number) r.events r.steps) (r.happens None nothing (none_in_flight old.array)))
     h
 not_written begin.OutOfRange sector bytes old new h = refused old new _ h
 not_written (begin.Overlaps n) sector bytes old new h = refused old new _ h

@@ -1,7 +1,11 @@
 -- What is done by a call that is a list of events.
-use Rattle.std.specs.Prelude.{◌≡◌, List, ◌++◌, Option}
+use Rattle.std.specs.Prelude.{◌≡◌, ℕ, List, [], ◌∷◌, ◌++◌, Option}
 use Rattle.md_model.specs.Events.{Event}
-use Rattle.md_state.specs.View.{MirrorView}
+use Rattle.md_state.specs.FailingMembers.{FailsMember}
+use Rattle.md_state.specs.Removing.{Removes}
+use Rattle.md_state.specs.Requests.{AreInFlight}
+use Rattle.md_state.specs.View.{Disk, MirrorView}
+use Rattle.md_array.specs.Consistency.{IsConsistent}
 use Rattle.md_array.specs.InTurn.{AllLeftWhole, Leads, Requests}
 use Rattle.md_array.specs.Worlds.{AreHonest}
 use Rattle.md_laws.specs.Runs.{MirrorRun, Moment}
@@ -17,3 +21,14 @@ CallsAreRuns =
 -- a run after a run
 abbrev pub RunsGoOn : Type 0
 RunsGoOn = (es fs : List Event) (t mid last : Moment) → MirrorRun t es mid → MirrorRun mid fs last → MirrorRun t (es ++ fs) last
+
+-- `fail` and `remove` are such calls, of one event each, whatever their devices are.
+abbrev pub FailIsACall : Type 0
+FailIsACall =
+    (k : ℕ) (old new : MirrorView) → IsConsistent old → FailsMember k old new
+    → (previous : Option Event) (requests : Requests) → AreInFlight old.array requests → Leads previous old requests (Event.Fail k ∷ []) new requests
+
+abbrev pub RemoveIsACall : Type 0
+RemoveIsACall =
+    (k : ℕ) (disk : Disk) (old new : MirrorView) → IsConsistent old → Removes k disk old new
+    → (previous : Option Event) (requests : Requests) → AreInFlight old.array requests → Leads previous old requests (Event.Remove k ∷ []) new requests

@@ -2,7 +2,7 @@
 
 ghost use Rattle.md_laws.specs.StoppedCopies.{StopsAtCopies};
 ghost use Rattle.md_laws.specs.ReadInTurn.{ReadingCallsAreRuns};
-ghost use Rattle.md_laws.specs.WholeCalls.{CallsAreRuns, RunsGoOn};
+ghost use Rattle.md_laws.specs.WholeCalls.{CallsAreRuns, FailIsACall, RemoveIsACall, RunsGoOn};
 
 /// A call that is a list of events (`Leads`) is a run of the mirror, from any moment of its life on, and
 /// goes on with the run before it. So `every_run` speaks of it. It is asked that devices do what they
@@ -11,6 +11,13 @@ ghost use Rattle.md_laws.specs.WholeCalls.{CallsAreRuns, RunsGoOn};
 pub fn every_call()
     ensures run { CallsAreRuns }
     ensures goes_on { RunsGoOn }
+{}
+
+/// Where members fail and leave by calls, these are in the list too: each `fail` and each `remove` that answers `Ok`
+/// is a list of one event.
+pub fn leaving_calls()
+    ensures fail { FailIsACall }
+    ensures remove { RemoveIsACall }
 {}
 
 /// So is a call that reads devices before its events and after the last (`LeadsReading`), and writes no

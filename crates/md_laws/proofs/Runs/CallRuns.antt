@@ -1,11 +1,13 @@
 -- A call's events are a run of the mirror.
-use Rattle.std.proofs.Common.{◌≡◌, List, [], ◌∷◌, Option, Some}
+use Rattle.std.proofs.Common.{◌≡◌, List, [], ◌∷◌, Option, Some, refl}
 use Rattle.md_model.specs.Events.{Event}
 use Rattle.md_state.specs.View.{MirrorView}
 use Rattle.md_array.specs.InTurn.{AllLeftWhole, InTurn, Requests}
 use Rattle.md_array.specs.Worlds.{AreHonest}
 use Rattle.md_laws.specs.Runs.{MirrorRun, Moment, then_as}
-use Rattle.md_laws.specs.WholeCalls.{CallsAreRuns, RunsGoOn}
+use Rattle.md_laws.specs.WholeCalls.{CallsAreRuns, FailIsACall, RemoveIsACall, RunsGoOn}
+use Rattle.md_array.proofs.Steps.MemberFailed.{fail_happens}
+use Rattle.md_array.proofs.Steps.MemberRemoved.{remove_happens}
 use Rattle.md_laws.proofs.Runs.MirrorRuns.{rests_run}
 use Rattle.md_laws.proofs.Runs.Rests.{at_once, at_rest}
 
@@ -24,3 +26,12 @@ run_on (e ∷ es) fs h mid last r s = (r.0, r.1, r.2, run_on es fs (then_as h e 
 
 pub call_is_run : CallsAreRuns
 call_is_run es previous h new after t honest whole = then_run es previous h (λ m r. (m ≡ new) × (r ≡ after)) t honest whole
+
+-- one event
+pub fail_is_a_call : FailIsACall
+fail_is_a_call k old new sound fails previous requests listed =
+    (new, requests, tt, (refl, fails), λ honest whole. fail_happens k old new sound fails honest requests listed, (refl, refl))
+
+pub remove_is_a_call : RemoveIsACall
+remove_is_a_call k disk old new sound leaves previous requests listed =
+    (new, requests, tt, (refl, (disk, leaves)), λ honest whole. remove_happens k disk old new sound leaves honest requests listed, (refl, refl))
