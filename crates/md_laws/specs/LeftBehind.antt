@@ -2,15 +2,15 @@
 -- back.
 use Rattle.std.specs.Prelude.{◌≡◌, ℕ, true, List, [], ◌∷◌, Option}
 use Rattle.md_model.specs.Behind.{IsBehind, Leaves}
-use Rattle.md_model.specs.Content.{Content, Becomes, Holds}
+use Rattle.md_model.specs.Content.{Content, Becomes, BecomesAtOpening, Holds}
 use Rattle.md_model.specs.Events.{Event}
 use Rattle.md_model.specs.Worlds.{Request}
 use Rattle.md_kept_members.specs.View.{MemberView}
 use Rattle.md_state.specs.Members.{IsInSync, is_degraded}
 use Rattle.md_state.specs.View.{Disk, MirrorView}
 use Rattle.md_array.specs.Worlds.{geometry_of, none_in_flight, world_of}
-use Rattle.md_laws.specs.Lives.{MirrorLifeWith}
-use Rattle.md_laws.specs.Runs.{HasRested, IsStart, Moment, RestsThenDoes, then_as}
+use Rattle.md_laws.specs.Lives.{IsReopened, MirrorLifeWith}
+use Rattle.md_laws.specs.Runs.{HasRested, IsStart, Moment, RestsThenDoes, opened_as, then_as}
 
 -- a run before each event of which some role has no member in sync, with the content before it and after it
 abbrev pub DegradedRunWith : Moment → Content → List Event → Moment → Content → Type 0
@@ -18,6 +18,14 @@ DegradedRunWith t a [] last b = HasRested t last × (b ≡ a)
 DegradedRunWith t a (e ∷ es) last b =
     (m : MirrorView) × (requests : ℕ → Option Request) × (c : Content) × (is_degraded t.mirror.array ≡ true) × RestsThenDoes t.mirror t.requests e m requests
     × Becomes (geometry_of t.mirror.array) e (world_of t.mirror t.requests) a c × DegradedRunWith (then_as t e m requests) c es last b
+
+-- A life from any moment on, likewise: events, a stop when some role is empty too, and an opening, events again, and so on. The
+-- opening before gave the mirror opened, and the last one the mirror final.
+abbrev pub DegradedLifeWith : MirrorView → Moment → Content → List Event → List (List Event) → MirrorView → Moment → Content → Type 0
+DegradedLifeWith opened t a es [] final last b = (final ≡ opened) × DegradedRunWith t a es last b
+DegradedLifeWith opened t a es (more ∷ rest) final last b =
+    (mid : Moment) × (next : MirrorView) × (c d : Content) × DegradedRunWith t a es mid c × (is_degraded mid.mirror.array ≡ true) × IsReopened opened mid next
+    × BecomesAtOpening (geometry_of next.array) (world_of next none_in_flight) c d × DegradedLifeWith next (opened_as next) d more rest final last b
 
 -- member k, which is in sync, fails, by a call or by a write to it
 pub record Fails (t : Moment) (k : ℕ) : Type 0 where
@@ -34,11 +42,13 @@ failed_then t k f = then_as t f.event f.mirror f.requests
 
 -- A member that was in sync fails at any moment of a mirror's life. As long as some role stays empty after that, its device, as
 -- the failure left it, differs from the content only in chunks that are marked, in memory and on each member in sync; in sectors
--- that its log does not list. So it is where other members fail too, leave and come, up to the next stop.
+-- that its log does not list. So it is where other members fail too, leave and come, where it leaves itself, and where the mirror is
+-- stopped and opened again, from some of its devices.
 abbrev pub LiesBehind : Type 0
 LiesBehind =
     (before : List Disk) (m : MirrorView) (a : Content) → IsStart before m → Holds (geometry_of m.array) a (world_of m none_in_flight)
     → (es : List Event) (rest : List (List Event)) (final : MirrorView) (t : Moment) (b : Content) → MirrorLifeWith m a es rest final t b
     → (k : ℕ) (f : Fails t k)
-    → (more : List Event) (last : Moment) (c : Content) → DegradedRunWith (failed_then t k f) b more last c
+    → (more : List Event) (others : List (List Event)) (newest : MirrorView) (last : Moment) (c : Content)
+    → DegradedLifeWith final (failed_then t k f) b more others newest last c
     → IsBehind (geometry_of m.array) c ((world_of f.mirror f.requests).stored k) (world_of last.mirror last.requests)

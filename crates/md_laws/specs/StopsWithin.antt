@@ -1,10 +1,12 @@
 -- What a stop within a call leaves of a mirror's devices.
 use Rattle.std.specs.Prelude.{◌≡◌, ◌≢◌, ◌⊎◌, ℕ, List, [], ◌∷◌, drop, length, map, slice_get, Some}
+use Rattle.std.specs.List.{insert}
 use Rattle.md_device.specs.Device.{held, written}
 use Rattle.md_writes.specs.Writes.{IsAnyIn, IsCutShort, Write}
 use Rattle.md_model.specs.Events.{Event}
 use Rattle.md_state.specs.View.{Disk, MirrorView}
 use Rattle.md_state.specs.DiskWrites.{IsFailed, IsTried, IsWritten}
+use Rattle.md_state.specs.Removing.{Removes}
 use Rattle.md_state.specs.Trying.{FailsWriting}
 use Rattle.md_array.specs.Events.{WritesOnce}
 use Rattle.md_array.specs.Worlds.{AreHonest}
@@ -28,6 +30,12 @@ pub record IsLeftBut (k : ℕ) (P : List ℕ → List ℕ → Type 0) (before : 
 abbrev pub StopsInMemory : Type 0
 StopsInMemory =
     (disks : List Disk) (left : List (List ℕ)) → MayAllBeLeft disks disks left → left ≡ map (λ d. d.content) disks
+
+-- So does one within `remove`, the device that is handed back among them: it stands where it stood before.
+abbrev pub StopsAtRemoval : Type 0
+StopsAtRemoval =
+    (k : ℕ) (disk : Disk) (old new : MirrorView) (left : List (List ℕ)) → Removes k disk old new → MayAllBeLeft old.disks (insert new.disks k disk) left
+    → left ≡ map (λ d. d.content) old.disks
 
 -- A stop at any moment of a step that writes to device k leaves every other as it was, and k with each sector of the write as it
 -- was or as written;
@@ -72,7 +80,8 @@ StopsUndivided =
     → (left ≡ map (λ d. d.content) before) ⊎ (left ≡ map (λ d. d.content) after)
 
 -- What a stop leaves at a moment of the call of an event: what was there before it or what is after it, or its one write cut short.
--- Of a copy nothing is said here, as one write does many (`StoppedCopies`); nor of members that come and go, which no call does yet.
+-- Of a copy nothing is said here, as one write does many (`StoppedCopies`); nor of a member that leaves, whose device is no more
+-- among these (`StopsAtRemoval`), or comes in, which no call does yet.
 abbrev pub IsLeftBy : Event → List Disk → List Disk → List (List ℕ) → Type 0
 IsLeftBy (Event.Record k) before after left = (w : Write) × IsWritten k w before after × IsLeftBut k (λ old c. IsCutShort old (w ∷ []) c) before left
 IsLeftBy (Event.WriteMember n k) before after left = (w : Write) × IsWritten k w before after × IsLeftBut k (λ old c. IsCutShort old (w ∷ []) c) before left

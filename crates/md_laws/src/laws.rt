@@ -17,7 +17,7 @@ ghost use Rattle.md_laws.specs.LeftBehind.{LiesBehind};
 ghost use Rattle.md_laws.specs.Lives.{AtEachMoment, ContentGoesAlong, FindsInSync, FitsWhenThere, IsReadAsKeptInLives, KeepsContent, KeepsGeometry, StaysAsLeft};
 ghost use Rattle.md_laws.specs.Returning.{StartsAgain};
 ghost use Rattle.md_laws.specs.Runs.{HasContent};
-ghost use Rattle.md_laws.specs.StopsWithin.{StopsAsFailed, StopsAsTried, StopsAtEvents, StopsAtFailure, StopsAtSector, StopsAtWrite, StopsInMemory, StopsUndivided};
+ghost use Rattle.md_laws.specs.StopsWithin.{StopsAsFailed, StopsAsTried, StopsAtEvents, StopsAtFailure, StopsAtRemoval, StopsAtSector, StopsAtWrite, StopsInMemory, StopsUndivided};
 
 /// A mirror that was opened from devices that do what they answer is an opened world of the model, by
 /// the array's superblock: the opening stored all marks where the bitmap was not accepted, and nothing
@@ -102,7 +102,8 @@ pub fn returning_devices()
 
 /// What a member that was in sync and failed, by a call or by a write, has of the array's content from then on, as
 /// long as some role is empty: all but the marked chunks. So the chunks that `missing` names of one that is taken back
-/// suffice. It is said up to the next stop.
+/// suffice. It may leave by `remove`, and the mirror may be stopped, at any moment of any of its calls, and opened
+/// again: so it is over each life that goes on from there.
 pub fn leaving_members()
     ensures behind { LiesBehind }
 {}
@@ -120,6 +121,7 @@ pub fn half_opening()
 /// is of such a step (`Does`).
 pub fn stops_at_steps()
     ensures memory { StopsInMemory }
+    ensures removal { StopsAtRemoval }
     ensures written { StopsAtWrite }
     ensures sector { StopsAtSector }
     ensures failed { StopsAtFailure }

@@ -33,7 +33,7 @@ module _ (g : Geometry) (small : IsWithinLimits g) (Still : World → Type 0) wh
       held_run opened es (then_in h e r.0) r.1 last b
       (record { kept = kept_step g small opened h e r.0 t.kept r.3; holds = holds_step g a r.1 h.now e r.0 t.kept.tracked t.holds r.3 r.4 }) r.5
 
-  held_again : (opened : Super) (h : History) (a : Content) (first : Super) (next : World) (b : Content) → IsHeld g opened h a → Reopens g opened h first next → BecomesAtOpening g next a b → IsHeld g first (opening next) b
+  pub held_again : (opened : Super) (h : History) (a : Content) (first : Super) (next : World) (b : Content) → IsHeld g opened h a → Reopens g opened h first next → BecomesAtOpening g next a b → IsHeld g first (opening next) b
   held_again opened h a first next b t r c = record { kept = kept_opened g first next (start_again g opened h first next small t.kept r); holds = c.holds }
 
   pub held_life : (opened : Super) (h : History) (a : Content) (es : List Event) (rest : List (List Event)) (final : Super) (last : History) (b : Content)
@@ -71,7 +71,7 @@ module _ (g : Geometry) (small : IsWithinLimits g) (opened : Super) (h : History
           has (r.opens.at i) s low (safe.among (r.opens.at i) f) off (l.bits (r.opens.at i) s f.own low f.is (sym (bits_own g opened h first next r i s low x) ∙ bit))
           ∙ sym (c.unmarked i s low x bit)
 
-  stays_behind : (d : Stored) → IsBehind g a d h.now → IsBehind g b d next
+  pub stays_behind : (d : Stored) → IsBehind g a d h.now → IsBehind g b d next
   stays_behind d late = behind_again d late.on_members
 
   -- a member that is missing there

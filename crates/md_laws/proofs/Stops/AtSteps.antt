@@ -1,15 +1,16 @@
 -- What a stop within a step leaves.
-use Rattle.std.proofs.Common.{◌≡◌, ◌∙◌, ⊎_elim, inr, ℕ, suc, ◌<◌, List, [], ◌∷◌, drop, length, get_or, Some, sym, ap, refl, subst, arith}
+use Rattle.std.proofs.Common.{◌≡◌, ◌∙◌, ⊎_elim, inr, ℕ, zero, suc, ◌<◌, List, [], ◌∷◌, drop, length, get_or, Some, sym, ap, refl, subst, arith}
 use Rattle.std.specs.Prelude.{map, option_map, slice_get}
+use Rattle.std.specs.List.{insert, remove}
 use Rattle.std.proofs.lemmas.List.{drop_at, length-drop, length-map}
-use Rattle.std.proofs.lemmas.Option.{get_or_from_slice_get, same_Some, slice_get-get_or, slice_get-map, slice_get_within}
+use Rattle.std.proofs.lemmas.Option.{get_or_from_slice_get, none-some, same_Some, slice_get-get_or, slice_get-map, slice_get_past, slice_get_within}
 use Rattle.md_device.specs.Stops.{LeavesMore}
 use Rattle.md_device.proofs.Leaving.{mixed_none, mixed_one}
 use Rattle.md_writes.specs.Writes.{IsAnyIn, IsCutShort, Write}
 use Rattle.md_writes.proofs.Runs.{cut_one}
 use Rattle.md_state.specs.View.{Disk}
 use Rattle.md_state.specs.DiskWrites.{IsTried}
-use Rattle.md_laws.specs.StopsWithin.{IsLeftBut, MayAllBeLeft, MayBeLeft, StopsAtFailure, StopsAtSector, StopsAtWrite, StopsInMemory}
+use Rattle.md_laws.specs.StopsWithin.{IsLeftBut, MayAllBeLeft, MayBeLeft, StopsAtFailure, StopsAtRemoval, StopsAtSector, StopsAtWrite, StopsInMemory}
 use Rattle.md_array.proofs.General.Indices.{got_within}
 
 -- what is listed since, has what is said of all that is new
@@ -76,3 +77,14 @@ stops_in_memory disks left may =
     let there : slice_get (map (λ (e : Disk). e.content) disks) k ≡ Some d.0.content = slice_get-map (λ (e : Disk). e.content) disks k ∙ ap (option_map (λ (e : Disk). e.content)) d.1 in
     let value : x ≡ d.0.content = same_Some x d.0.content (sym at ∙ there) in
     ⊎_elim (λ (same : c ≡ d.0.content). same ∙ sym value) (λ (new : (i : ℕ) × (slice_get (drop (length d.0.stops) d.0.stops) i ≡ Some c)). absurd (none_new d.0.stops new.0 c new.1)) (may.each k d.0 d.0 c d.1 d.1 is))
+
+-- a list's element, taken out and put back
+put_back : {X : Type 0} (xs : List X) (k : ℕ) (x : X) → slice_get xs k ≡ Some x → insert (remove xs k) k x ≡ xs
+put_back [] k x at = absurd (none-some x (sym (slice_get_past [] k (omega arith)) ∙ at))
+put_back (y ∷ xs) zero x at = ap (λ z. z ∷ xs) (sym (same_Some y x at))
+put_back (y ∷ xs) (suc k) x at = ap (λ zs. y ∷ zs) (put_back xs k x at)
+
+pub stops_at_removal : StopsAtRemoval
+stops_at_removal k disk old new left leaves may =
+    let same : insert new.disks k disk ≡ old.disks = ap (λ (x : List Disk). insert x k disk) leaves.disks ∙ put_back old.disks k disk leaves.device in
+    stops_in_memory old.disks left (subst (λ (x : List Disk). MayAllBeLeft old.disks x left) same may)

@@ -68,9 +68,10 @@ pub record IsLeftDevice (a : ArrayView) (m : MemberView) (failed_at : ℕ) (cont
   pub parts : HasParts a m content
   pub read : IsReadAsKept a m failed_at content
 
--- ---- what is left, sorted: after events of these, of which at most one was not there before
+-- ---- what is left, sorted: after no event, or after one within whose call the stop came
 pub record IsSorted (t : Moment) (left : List Disk) : Type 0 where
   pub events : List Event
+  pub few : length events ≤ 1
   pub moment : Moment
   pub run : MirrorRun t events moment
   pub still : (a : Content) → MirrorRunWith t a events moment a
@@ -85,6 +86,7 @@ pub record IsSorted (t : Moment) (left : List Disk) : Type 0 where
 sorted_like : (t : Moment) (found left : List Disk) → contents_of found ≡ contents_of left → IsSorted t found → IsSorted t left
 sorted_like t found left same s = record {
   events = s.events;
+  few = s.few;
   moment = s.moment;
   run = s.run;
   still = s.still;
@@ -122,6 +124,7 @@ module _ (t : Moment) (at : IsSoundAt t) where
   between : IsSorted t v.disks
   between = record {
     events = [];
+    few = omega arith;
     moment = t;
     run = at_rest t;
     still = λ x. (at_rest t, refl);
@@ -206,6 +209,7 @@ module _ (t : Moment) (at : IsSoundAt t) where
     torn_sorted : IsSorted t left
     torn_sorted = sorted_like t torn.found left torn.same (record {
       events = [];
+      few = omega arith;
       moment = t;
       run = at_rest t;
       still = λ x. (at_rest t, refl);
@@ -252,6 +256,7 @@ module _ (t : Moment) (at : IsSoundAt t) where
         let does = store_marks_happens k block v next at.sound inside r at.honest t.requests at.in_flight in
         record {
           events = e_marks ∷ [];
+          few = omega arith;
           moment = then_as t e_marks next t.requests;
           run = (next, t.requests, at_once v next t.requests t.requests e_marks does, at_rest (then_as t e_marks next t.requests));
           still = λ x. (next, t.requests, x, at_once v next t.requests t.requests e_marks does, refl, (at_rest (then_as t e_marks next t.requests), refl));
@@ -318,6 +323,7 @@ module _ (t : Moment) (at : IsSoundAt t) where
       unrecorded : ReadsAs block (block_on d.content) ⊎ (super_in block ≡ None) → IsSorted t disks
       unrecorded reads = record {
         events = [];
+        few = omega arith;
         moment = t;
         run = at_rest t;
         still = λ x. (at_rest t, refl);
@@ -407,6 +413,7 @@ module _ (t : Moment) (at : IsSoundAt t) where
             let does = record_happens k v next at.sound records at.honest t.requests at.in_flight in
             record {
               events = Event.Record k ∷ [];
+              few = omega arith;
               moment = then_as t (Event.Record k) next t.requests;
               run = (next, t.requests, at_once v next t.requests t.requests (Event.Record k) does, at_rest (then_as t (Event.Record k) next t.requests));
               still = λ x. (next, t.requests, x, at_once v next t.requests t.requests (Event.Record k) does, refl, (at_rest (then_as t (Event.Record k) next t.requests), refl));
