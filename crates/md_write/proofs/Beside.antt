@@ -1,39 +1,30 @@
 -- Marks and records are stored beside a request in flight.
-use Rattle.std.proofs.Common.{ℕ, refl, ap, ◌∙◌}
+use Rattle.std.proofs.Common.{refl, ap, ◌∙◌}
 use Rattle.md_model.specs.Events.{Event}
 use Rattle.md_requests.specs.Pending.{PendingView}
 use Rattle.md_state.specs.View.{MirrorView}
 use Rattle.md_state.specs.Requests.{IsPending, among}
 use Rattle.md_array.proofs.Steps.InFlight.{among_in_flight}
-use Rattle.md_array.proofs.Steps.Turns.{all_such}
 use Rattle.md_metadata.specs.Going.{GoesOn, HaltsAfter, alone}
-use Rattle.md_metadata.specs.Storing.{IsStoring}
-use Rattle.md_write.specs.Progress.{IsLater, IsOfRequest}
+use Rattle.md_write.specs.Progress.{IsLater}
 
-storing_of : (n : ℕ) (e : Event) → IsStoring e → IsOfRequest n e
-storing_of n (Event.Record k) s = tt
-storing_of n (Event.StoreMarks k b) s = tt
-storing_of n (Event.RecordFails k) s = tt
-storing_of n (Event.StoreMarksFails k b) s = tt
-storing_of n e s = absurd s
-
-module _ (p : PendingView) (old new : MirrorView) (is : IsPending old.array p) where
-  pub goes_beside : GoesOn alone alone IsStoring old new → GoesOn (among p) (among p) (IsOfRequest p.ticket.number) old new
+module _ (Of : Event → Type 0) (p : PendingView) (old new : MirrorView) (is : IsPending old.array p) where
+  pub goes_beside : GoesOn alone alone Of old new → GoesOn (among p) (among p) Of old new
   goes_beside g = record {
     events = g.events;
-    steps = all_such IsStoring (IsOfRequest p.ticket.number) (storing_of p.ticket.number) g.events g.steps;
+    steps = g.steps;
     leads = λ previous others in_flight. g.leads previous (among p others) (among_in_flight old.array p is others in_flight);
     array = g.array;
     sound = g.sound;
     pending = g.pending;
   }
 
-pub halts_beside : (p : PendingView) (old new : MirrorView) → IsPending old.array p → HaltsAfter alone alone IsStoring old new → HaltsAfter (among p) (among p) (IsOfRequest p.ticket.number) old new
-halts_beside p old new is h = record {
+pub halts_beside : (Of : Event → Type 0) (p : PendingView) (old new : MirrorView) → IsPending old.array p → HaltsAfter alone alone Of old new → HaltsAfter (among p) (among p) Of old new
+halts_beside Of p old new is h = record {
   mid = h.mid;
-  goes = goes_beside p old h.mid is h.goes;
+  goes = goes_beside Of p old h.mid is h.goes;
   failing = h.failing;
-  of = storing_of p.ticket.number h.failing h.of;
+  of = h.of;
   halts = λ others. h.halts (among p others);
   sound = h.sound;
   pending = h.pending;

@@ -9,7 +9,7 @@ use Rattle.md_model.specs.Failures.{failed}
 use Rattle.md_model.specs.Events.{Event, Step}
 use Rattle.md_model.proofs.Cases.{some-injective}
 use Rattle.md_model.proofs.Puts.{by_same, put-at, put-hit, put-miss}
-use Rattle.md_write.specs.Progress.{IsOfRequest}
+use Rattle.md_write.specs.Progress.{IsEventOf}
 
 -- the members in sync have the bytes, and other sectors are as before
 pub record HasBytes (p : Request) (before after : World) : Type 0 where
@@ -92,29 +92,29 @@ module _ (n : ℕ) (p : Request) (first w : World) (is : IsReceiving n p first w
         distinct = is.distinct;
       }
 
-  pub receives_step : (g : Geometry) (e : Event) (u : World) → IsOfRequest n e → Step g w e u → IsReceiving n p first u
-  receives_step g (Event.Record k) u of step = subst (IsReceiving n p first) (sym step.1.3) (receives_record k step.1.0)
-  receives_step g (Event.StoreMarks k b) u of step = subst (IsReceiving n p first) (sym step.1.1) (receives_marks k b)
-  receives_step g (Event.WriteMember m k) u of step =
+  pub receives_step : (g : Geometry) (low high : ℕ) (e : Event) (u : World) → IsEventOf n low high e → Step g w e u → IsReceiving n p first u
+  receives_step g low high (Event.Record k) u of step = subst (IsReceiving n p first) (sym step.1.3) (receives_record k step.1.0)
+  receives_step g low high (Event.StoreMarks k b) u of step = subst (IsReceiving n p first) (sym step.1.1) (receives_marks k b)
+  receives_step g low high (Event.WriteMember m k) u of step =
       let may = step.1.1 in
       subst (IsReceiving n p first) (sym (step.1.2 ∙ ap (λ (i : ℕ). member_written w i step.1.0 k) of))
       (receives_data step.1.0 k (ap w.request (sym of) ∙ may.in_flight) may.in_sync)
-  receives_step g (Event.RecordFails k) u of step =
+  receives_step g low high (Event.RecordFails k) u of step =
       let left = step.1.0 in
       subst (IsReceiving n p first) (sym step.1.2.3)
       (receives_failure g k left step.1.2.0 (λ s out. ap (λ (x : Stored). x.content s) step.1.1.rest))
-  receives_step g (Event.StoreMarksFails k b) u of step =
+  receives_step g low high (Event.StoreMarksFails k b) u of step =
       let left = step.1.0 in
       subst (IsReceiving n p first) (sym step.1.3.3)
       (receives_failure g k left step.1.3.0 (λ s out. ap (λ (x : Stored). x.content s) step.1.2.rest))
-  receives_step g (Event.WriteMemberFails m k) u of step =
+  receives_step g low high (Event.WriteMemberFails m k) u of step =
       let left = step.1.0 in
       let q = step.1.1 in
       let may = step.1.2 in
       let e = is.request q (ap w.request (sym of) ∙ may.in_flight) in
       subst (IsReceiving n p first) (sym step.1.4.3)
       (receives_failure g k left step.1.4.0 (λ s out. step.1.3.outside s (same_touch q e s ∙ out)))
-  receives_step g e u of step = absurd of
+  receives_step g low high e u of step = absurd of
 
   -- it is finished
   pub received : (q : Request) → MayFinish w n q → HasBytes p first (finished w n)

@@ -14,11 +14,11 @@ use Rattle.md_array.specs.Consistency.{IsConsistent}
 use Rattle.md_array.specs.InTurn.{IsSectorDue}
 use Rattle.md_metadata.specs.declared.fault.PartFault.{PartFault}
 use Rattle.md_metadata.specs.Going.{IsSameArray, StepsBy, alone}
-use Rattle.md_metadata.specs.Storing.{IsMarking, IsSector, SectorFails, StaysReady, Stores, StoresAt, StoresOn, StopsStoring}
-use Rattle.md_metadata.proofs.Going.{sector_marks, sector_stops, step_as, stops_as, stores_nowhere, stores_on, stores_step, was_in_sync}
+use Rattle.md_metadata.specs.Storing.{IsSector, SectorFails, StaysReady, Stores, StoresAt, StoresOn, StopsStoring}
+use Rattle.md_metadata.proofs.Going.{sector_stops, step_as, stops_as, stores_nowhere, stores_on, stores_step, was_in_sync}
 use Rattle.md_metadata.proofs.Steps.{now_at}
 use Rattle.md_metadata.proofs.StoredMembers.{IsLasting}
-use Rattle.md_write.specs.Progress.{AreMarked, HasMarksIn}
+use Rattle.md_write.specs.Progress.{AreMarked, HasBitsOf, HasMarksIn, IsMarkingOf}
 
 pub marks_last : (a : ArrayView) (first end : ℕ) → AreMarked a first end → IsLasting a.marks (HasMarksFrom first end)
 marks_last a first end are = record {
@@ -36,7 +36,7 @@ marked_still a b first end same are = record {
 
 -- the marks whose bits are in the sectors before this one are stored
 pub record StoresUpTo (k first end block : ℕ) (old new : MirrorView) : Type 0 where
-  pub stores : Stores IsMarking old new
+  pub stores : Stores (IsMarkingOf first end) old new
   pub done : (m : MemberView) → IsInSync new.array k m → (c : ℕ) → first ≤ c → c < end → block_of c < block → is_set m.stored.bytes c ≡ true
 
 block_mono : (a b : ℕ) → a ≤ b → block_of a ≤ block_of b
@@ -44,12 +44,12 @@ block_mono a b l = omega arith
 
 module _ (k first end : ℕ) where
   pub up_none : (m : MirrorView) → IsConsistent m → StoresUpTo k first end (block_of first) m m
-  up_none m sound = record { stores = stores_nowhere IsMarking m sound; done = λ n in_sync c low high before. absurd (let l = block_mono first c low in omega arith) }
+  up_none m sound = record { stores = stores_nowhere (IsMarkingOf first end) m sound; done = λ n in_sync c low high before. absurd (let l = block_mono first c low in omega arith) }
 
-  pub up_more : (block : ℕ) (old mid new : MirrorView) → AreMarked old.array first end → StoresUpTo k first end block old mid → StoresAt IsMarking k (HasMarksIn block first end) mid new
+  pub up_more : (block : ℕ) (old mid new : MirrorView) → AreMarked old.array first end → StoresUpTo k first end block old mid → StoresAt (IsMarkingOf first end) k (HasMarksIn block first end) mid new
       → StoresUpTo k first end (block + 1) old new
   up_more block old mid new are g h = record {
-    stores = stores_on IsMarking old mid new g.stores h.stores;
+    stores = stores_on (IsMarkingOf first end) old mid new g.stores h.stores;
     done = λ m in_sync c low high before.
         by_same (block_of c) block
         (λ here. h.done m in_sync c low high here)
@@ -59,24 +59,29 @@ module _ (k first end : ℕ) where
         s.marked c (g.done s.before (was_in_sync mid.array new.array k m s in_sync) c low high (omega arith) ∙ sym set) ∙ set);
   }
 
-  pub up_all : (block : ℕ) (old new : MirrorView) → block_of (end - 1) < block → StoresUpTo k first end block old new → StoresAt IsMarking k (HasMarksFrom first end) old new
+  pub up_all : (block : ℕ) (old new : MirrorView) → block_of (end - 1) < block → StoresUpTo k first end block old new → StoresAt (IsMarkingOf first end) k (HasMarksFrom first end) old new
   up_all block old new past g = record {
     stores = g.stores;
     done = λ m in_sync c low high. g.done m in_sync c low high (let l = block_mono c (end - 1) (omega arith) in omega arith);
   }
 
 -- ---- one sector of one member
+sector_marks : (k first end block : ℕ) → HasBitsOf first end block → (e : Event) → IsSector k block e → IsMarkingOf first end e
+sector_marks k first end block bits (Event.StoreMarks j b) is = subst (HasBitsOf first end) (sym is.1) bits
+sector_marks k first end block bits (Event.StoreMarksFails j b) is = subst (HasBitsOf first end) (sym is.1) bits
+sector_marks k first end block bits e is = absurd is
+
 hit : (b x y : Bool) → b ≡ true → x ≡ true → cond b x y ≡ true
 hit true x y e is = is
 hit false x y e is = absurd cc
 
-module _ (k block first end : ℕ) (old new : MirrorView) (are : AreMarked old.array first end) where
-  pub stored_in : IsConsistent old → IsSectorDue old.array k block → StoresOn k block old new → StoresAt IsMarking k (HasMarksIn block first end) old new
+module _ (k block first end : ℕ) (old new : MirrorView) (are : AreMarked old.array first end) (bits : HasBitsOf first end block) where
+  pub stored_in : IsConsistent old → IsSectorDue old.array k block → StoresOn k block old new → StoresAt (IsMarkingOf first end) k (HasMarksIn block first end) old new
   stored_in sound due s =
       let r = s.gives in
       record {
-        stores = stores_step IsMarking (Event.StoreMarks k block) old new tt
-            (step_as (IsSector k block) IsMarking (sector_marks k block) alone alone (Event.StoreMarks k block) old new s.step) (λ previous. due) s.ready;
+        stores = stores_step (IsMarkingOf first end) (Event.StoreMarks k block) old new tt
+            (step_as (IsSector k block) (IsMarkingOf first end) (sector_marks k first end block bits) alone alone (Event.StoreMarks k block) old new s.step) (λ previous. due) s.ready;
         done = λ m in_sync c low high here.
             let it = now_at old.array new.array k r.member (record r.member { stored = r.stored }) r.may.in_sync.member refl r.array m in_sync.member in
             let within = are.within in
@@ -89,9 +94,9 @@ module _ (k block first end : ℕ) (old new : MirrorView) (are : AreMarked old.a
       }
 
   pub stored_or_stops : IsConsistent old → IsSectorDue old.array k block → {T : Type 0} (result : Result T PartFault) → MatchResult result (λ _. StoresOn k block old new) (SectorFails k block old new)
-      → MatchResult result (λ _. StoresAt IsMarking k (HasMarksIn block first end) old new) (StopsStoring IsMarking old new)
+      → MatchResult result (λ _. StoresAt (IsMarkingOf first end) k (HasMarksIn block first end) old new) (StopsStoring (IsMarkingOf first end) old new)
   stored_or_stops sound due (Ok t) s = stored_in sound due s
-  stored_or_stops sound due (Err fault) s = stops_as (IsSector k block) IsMarking (sector_marks k block) old new fault (sector_stops k block old new fault s)
+  stored_or_stops sound due (Err fault) s = stops_as (IsSector k block) (IsMarkingOf first end) (sector_marks k first end block bits) old new fault (sector_stops k block old new fault s)
 
 -- some of these marks are not stored
 pub sector_lacks : (a : ArrayView) (k block first end from to : ℕ) (answer : Bool) → AreMarked a first end

@@ -1,6 +1,5 @@
 -- A whole write is put together.
 use Rattle.std.proofs.Common.{◌≡◌, ◌≢◌, ℕ, ◌+◌, ◌-◌, ◌/◌, ◌<◌, ◌≤◌, Bool, true, false, cond, ◌||◌, ◌&&◌, nat_le, List, [], ◌∷◌, ◌++◌, length, slice_get, Option, None, Some, refl, sym, ap, ◌∙◌, subst, arith, inl}
-use Rattle.std.proofs.Math.Nat.{div-mul-le_self, le-div_iff_mul-le}
 use Rattle.std.proofs.lemmas.Bool.{le-leb}
 use Rattle.std.proofs.lemmas.Option.{none-some}
 use Rattle.md_model.specs.Sectors.{Geometry, put}
@@ -27,21 +26,18 @@ use Rattle.md_state.specs.Finishing.{Finishes, MayFinish, RefusesFinish}
 use Rattle.md_state.specs.Requests.{AreInFlight, IsPending, among, request_of}
 use Rattle.md_array.specs.Consistency.{IsConsistent}
 use Rattle.md_array.specs.Events.{BeginHappens, Does, FinishHappens}
-use Rattle.md_array.specs.InTurn.{AllLeftWhole, InTurn, IsPut, Requests}
+use Rattle.md_array.specs.InTurn.{AllLeftWhole, AllOf, InTurn, IsPut, Requests}
 use Rattle.md_array.specs.Worlds.{AreHonest, geometry_of, world_of}
 use Rattle.md_array.proofs.Steps.InFlight.{found_with_last}
 use Rattle.md_array.proofs.Steps.Turns.{turn_on, turn_then, turn_through}
 use Rattle.md_array.proofs.Worlds.InSync.{in_sync_is, number_at}
-use Rattle.md_write.specs.Progress.{AreChunksOf, HaltsOn, IsOfRequest, IsReadyToFinish}
+use Rattle.md_write.specs.Progress.{AreChunksOf, HaltsOn, IsEventOf, IsOfRequest, IsReadyToFinish, end_chunk, first_chunk}
 use Rattle.md_write.specs.Writing.{HaltsWrite, HasReceived, IsWritten, RefusesWrite, Writes, events_of}
-use Rattle.md_write.proofs.WrittenData.{put_under, under}
+use Rattle.md_write.proofs.WrittenData.{div_mono, put_under, under}
 use Rattle.md_write.proofs.WrittenData as written
 use Rattle.md_write.proofs.Entries.{without_last}
 use Rattle.md_metadata.proofs.Going.{fly_on}
 use Rattle.md_write.proofs.Received.{HasBytes, IsReceiving, received, receives_begin, receives_step}
-
-div_mono : (w a b : ℕ) → 0 < w → a ≤ b → a / w ≤ b / w
-div_mono w a b wide le = let down = div-mul-le_self a w in (le-div_iff_mul-le {k = w} {x = a / w} {y = b} wide).1 (omega arith)
 
 or_right : (a b : Bool) → b ≡ true → (a || b) ≡ true
 or_right true b e = refl
@@ -70,23 +66,23 @@ pub record IsOn (g : Geometry) (n : ℕ) (r : Request) (first : World) (m : Mirr
   pub geometry : geometry_of m.array ≡ g
   pub content : (a : Content) → HoldsBetween g a first → HoldsBetween g a (world_of m s)
 
-becomes_same : (n : ℕ) (e : Event) → IsOfRequest n e → (g : Geometry) (w : World) (a : Content) → Becomes g e w a a
-becomes_same n (Event.Record k) of g w a = refl
-becomes_same n (Event.StoreMarks k b) of g w a = refl
-becomes_same n (Event.WriteMember m k) of g w a = refl
-becomes_same n (Event.RecordFails k) of g w a = refl
-becomes_same n (Event.StoreMarksFails k b) of g w a = refl
-becomes_same n (Event.WriteMemberFails m k) of g w a = refl
-becomes_same n e of g w a = absurd of
+becomes_same : (n low high : ℕ) (e : Event) → IsEventOf n low high e → (g : Geometry) (w : World) (a : Content) → Becomes g e w a a
+becomes_same n low high (Event.Record k) of g w a = refl
+becomes_same n low high (Event.StoreMarks k b) of g w a = refl
+becomes_same n low high (Event.WriteMember m k) of g w a = refl
+becomes_same n low high (Event.RecordFails k) of g w a = refl
+becomes_same n low high (Event.StoreMarksFails k b) of g w a = refl
+becomes_same n low high (Event.WriteMemberFails m k) of g w a = refl
+becomes_same n low high e of g w a = absurd of
 
-on_step : (g : Geometry) (n : ℕ) (r : Request) (first : World) (o : MirrorView) (s : Requests) (e : Event) (m : MirrorView) (y : Requests) → IsOfRequest n e → Does o s e m y
+on_step : (g : Geometry) (n low high : ℕ) (r : Request) (first : World) (o : MirrorView) (s : Requests) (e : Event) (m : MirrorView) (y : Requests) → IsEventOf n low high e → Does o s e m y
     → IsOn g n r first o s → IsOn g n r first m y
-on_step g n r first o s e m y of d is = record {
-  receiving = receives_step n r first (world_of o s) is.receiving (geometry_of o.array) e (world_of m y) of d.step;
+on_step g n low high r first o s e m y of d is = record {
+  receiving = receives_step n r first (world_of o s) is.receiving (geometry_of o.array) low high e (world_of m y) of d.step;
   geometry = d.geometry ∙ is.geometry;
   content = λ a holds.
       subst (λ (h : Geometry). HoldsBetween h a (world_of m y)) is.geometry
-      (d.content a a (subst (λ (h : Geometry). HoldsBetween h a (world_of o s)) (sym is.geometry) (is.content a holds)) (becomes_same n e of (geometry_of o.array) (world_of o s) a));
+      (d.content a a (subst (λ (h : Geometry). HoldsBetween h a (world_of o s)) (sym is.geometry) (is.content a holds)) (becomes_same n low high e of (geometry_of o.array) (world_of o s) a));
 }
 
 on_begin : (n : ℕ) (r : Request) (old : MirrorView) (others : Requests) (m : MirrorView) (s : Requests) → Does old others (Event.Begin n r) m s
@@ -168,8 +164,8 @@ module _ (sector : ℕ) (bytes : List ℕ) (old begun : MirrorView) (p : Pending
               (le-leb _ _ (subst (λ (v : ℕ). sector / v ≤ c) same (omega arith)))
               (le-leb _ _ (subst (λ (v : ℕ). c ≤ ((sector + sectors) - 1) / v) same (omega arith))));
         };
-        from = λ s low high. let up = div_mono w sector s sound.chunks.wide (omega arith) in omega arith;
-        below = λ s low high. let up = div_mono w s ((sector + sectors) - 1) sound.chunks.wide (omega arith) in omega arith;
+        first_is = first_is ∙ ap (λ s. s / w) (sym at);
+        end_is = end_is ∙ ap (λ s. ((s + sectors) - 1) / w + 1) (sym at) ∙ ap (λ m. ((p.sector + m) - 1) / w + 1) (sym many);
       }
 
   -- the number is new
@@ -207,13 +203,13 @@ module _ (sector : ℕ) (bytes : List ℕ) (old begun : MirrorView) (p : Pending
       request = p;
       begins = b;
       events = h.halts.goes.events;
-      steps = h.halts.goes.steps;
+      steps = subst (λ (c : Chunks). AllOf (IsOfRequest c p) h.halts.goes.events) chunks_are h.halts.goes.steps;
       mid = h.halts.mid;
       last = q;
       happens = λ previous others in_flight.
           first_turn h.halts.goes.events _ previous others in_flight (h.halts.goes.leads (Some (Event.Begin n (request_of p))) others (beside others in_flight));
       failing = h.halts.failing;
-      of = h.halts.of;
+      of = subst (λ (c : Chunks). IsOfRequest c p h.halts.failing) chunks_are h.halts.of;
       halts = h.halts.halts;
     }
 
@@ -262,7 +258,8 @@ module _ (sector : ℕ) (bytes : List ℕ) (old begun : MirrorView) (p : Pending
             let shape = geometry_of old.array in
             let first = world_of old others in
             let does : Does old others (Event.Begin n r) begun (among p others) = begins honest others in_flight in
-            let x = turn_through (IsOn shape n r first) (IsOfRequest n) (λ o s e m y of d is. on_step shape n r first o s e m y of d is)
+            let x = turn_through (IsOn shape n r first) (IsOfRequest begun.array.chunks p)
+            (λ o s e m y of d is. on_step shape n (first_chunk begun.array.chunks p) (end_chunk begun.array.chunks p) r first o s e m y of d is)
             g.goes.events (Event.Finish n ∷ []) (Some (Event.Begin n r)) begun (among p others) Ends middle g.goes.steps does.honest
             (on_begin n r old others begun (among p others) does (distinct others)) whole.1 in
             subst (λ (m : MirrorView). HasReceived r old m others) x.rest.5.0
@@ -278,7 +275,7 @@ module _ (sector : ℕ) (bytes : List ℕ) (old begun : MirrorView) (p : Pending
         request = p;
         begins = b;
         events = g.goes.events;
-        steps = g.goes.steps;
+        steps = subst (λ (c : Chunks). AllOf (IsOfRequest c p) g.goes.events) chunks_are g.goes.steps;
         happens = λ previous others in_flight. is_written others in_flight previous;
         entries = ap (λ (x : ArrayView). x.requests.entries) f.array
             ∙ ap (λ xs. without xs q.ticket.number) (ap (λ (x : InflightList Extent). x.entries) g.goes.array.requests ∙ entries_are)

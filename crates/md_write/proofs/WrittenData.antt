@@ -1,9 +1,11 @@
 -- A request's bytes are written to the members.
-use Rattle.std.proofs.Common.{◌≡◌, ◌≢◌, ℕ, ◌+◌, ◌/◌, ◌<◌, ◌≤◌, Bool, true, false, ◌||◌, eqb, List, [], ◌∷◌, ◌++◌, length, Some, refl, sym, ap, ◌∙◌, subst, arith, inl, inr, eq-eqb}
+use Rattle.std.proofs.Common.{◌≡◌, ◌≢◌, ℕ, ◌+◌, ◌-◌, ◌/◌, ◌<◌, ◌≤◌, Bool, true, false, ◌||◌, eqb, List, [], ◌∷◌, ◌++◌, length, Some, refl, sym, ap, ◌∙◌, subst, arith, inl, inr, eq-eqb}
+use Rattle.std.proofs.Math.Nat.{div-mul-le_self, le-div_iff_mul-le}
 use Rattle.std.specs.List.{list_any}
 use Rattle.std.specs.Prelude.{Result, Ok, Err, MatchResult}
 use Rattle.std.proofs.lemmas.Option.{same_Some, slice_get_within}
 use Rattle.md_model.specs.Events.{Event}
+use Rattle.md_model.specs.Sectors.{block_of}
 use Rattle.md_model.proofs.Puts.{by_same, put-hit, put-miss}
 use Rattle.md_bitmap.specs.declared.chunks.Chunks.{Chunks}
 use Rattle.md_assembly.specs.States.{is_in_sync}
@@ -21,13 +23,16 @@ use Rattle.md_array.specs.InTurn.{IsPut, IsUnder, Requests}
 use Rattle.md_metadata.specs.declared.fault.PartFault.{PartFault}
 use Rattle.md_metadata.specs.declared.fault.PartFault.TheVariants as part
 use Rattle.md_metadata.specs.Going.{GoesOn, HaltsAfter, IsSameArray, LosesMember}
-use Rattle.md_metadata.specs.Storing.{AllRecorded, IsMarking, IsRecording, IsStoring, RecordsAll, Stores, StoresAll, StopsStoring}
-use Rattle.md_metadata.proofs.Going.{goes_nowhere, goes_on, goes_step, halts_on, loses_on, marking_stores, recording_stores, same_refl, stops_as, stops_on, stores_as, stores_on}
+use Rattle.md_metadata.specs.Storing.{AllRecorded, IsRecording, RecordsAll, Stores, StoresAll, StopsStoring}
+use Rattle.md_metadata.proofs.Going.{goes_nowhere, goes_on, goes_step, halts_on, loses_on, same_refl, stops_as, stops_on, stores_as, stores_on}
 use Rattle.md_metadata.proofs.StoredMembers.{last_on, records_last}
 use Rattle.md_metadata.proofs.Steps.{failure_loses, failure_step, in_use_there, never_halted, recorded_in_sync}
-use Rattle.md_write.specs.Progress.{AreChunksOf, HaltsOn, IsLater, IsOfRequest, IsReadyToFinish, LosesOn, StopsWriting, WritesAt, WritesBelow, WritesOn, WritesToAll}
+use Rattle.md_write.specs.Progress.{AreChunksOf, HaltsOn, IsLater, IsMarkingOf, IsOfRequest, IsReadyToFinish, LosesOn, StopsWriting, WritesAt, WritesBelow, WritesOn, WritesToAll, end_chunk, first_chunk}
 use Rattle.md_write.proofs.Beside.{goes_beside, halts_beside, later_on, later_refl}
 use Rattle.md_write.proofs.StoredMarks.{marked_still, marks_last}
+
+pub div_mono : (w a b : ℕ) → 0 < w → a ≤ b → a / w ≤ b / w
+div_mono w a b wide le = let down = div-mul-le_self a w in (le-div_iff_mul-le {k = w} {x = a / w} {y = b} wide).1 (omega arith)
 
 or_left : (a b c : Bool) → (b ≡ true → c ≡ true) → (a || b) ≡ true → (a || c) ≡ true
 or_left true b c f e = refl
@@ -80,7 +85,7 @@ module _ (old new : MirrorView) (k : ℕ) (p q : PendingView) (before : IsConsis
         let number : q.ticket.number ≡ n = ap (λ (x : PendingView). x.ticket.number) r.pending in
         record {
           writes = record {
-            goes = goes_step (among p) (among q) (IsOfRequest n) (Event.WriteMember n k) old new (record {
+            goes = goes_step (among p) (among q) (IsOfRequest old.array.chunks p) (Event.WriteMember n k) old new (record {
               of = refl;
               did = λ others. (p, q, under n p others refl, under n q others number, put_under n q (among p others) others number (beside p others), r);
               happens = λ honest whole others in_flight. happens honest others in_flight;
@@ -108,8 +113,8 @@ module _ (old new : MirrorView) (k : ℕ) (p q : PendingView) (before : IsConsis
         let used = in_use_there old.array k f.member f.fails.array.member f.fails.array.at f.may.intent.in_sync.member (recorded_in_sync f.member.state f.may.intent.in_sync.in_sync) in
         let number : q.ticket.number ≡ n = ap (λ (x : PendingView). x.ticket.number) f.pending in
         record {
-          loses = failure_loses (among p) (among q) (IsOfRequest n) (Event.WriteMemberFails n k) old new k f.fails.array used
-              (failure_step (among p) (among q) (IsOfRequest n) (Event.WriteMemberFails n k) old new k f.fails.array used refl
+          loses = failure_loses (among p) (among q) (IsOfRequest old.array.chunks p) (Event.WriteMemberFails n k) old new k f.fails.array used
+              (failure_step (among p) (among q) (IsOfRequest old.array.chunks p) (Event.WriteMemberFails n k) old new k f.fails.array used refl
               (λ others. (p, q, under n p others refl, under n q others number, put_under n q (among p others) others number (beside p others), f))
               (λ honest whole others in_flight. happens honest others in_flight) sound pending) (λ previous. tt);
           later = later_of f.pending;
@@ -121,7 +126,7 @@ module _ (old new : MirrorView) (k : ℕ) (p q : PendingView) (before : IsConsis
     data_halts run (inr h) = record {
       halts = record {
         mid = old;
-        goes = subst (λ (x : PendingView). GoesOn (among p) (among x) (IsOfRequest n) old old) (sym h.pending) (goes_nowhere (among p) (IsOfRequest n) old before);
+        goes = subst (λ (x : PendingView). GoesOn (among p) (among x) (IsOfRequest old.array.chunks p) old old) (sym h.pending) (goes_nowhere (among p) (IsOfRequest old.array.chunks p) old before);
         failing = Event.WriteMemberFails n k;
         of = refl;
         halts = λ others. (p, q, subst (λ (x : PendingView). IsUnder n p (among x others)) (sym h.pending) (under n p others refl), h);
@@ -134,7 +139,7 @@ module _ (old new : MirrorView) (k : ℕ) (p q : PendingView) (before : IsConsis
   -- nothing is to be done at member k
   pub written_nothing : ((m : MemberView) → IsInSync old.array k m → HasBytesOf p m) → WritesAt k p p old old
   written_nothing done = record {
-    writes = record { goes = goes_nowhere (among p) (IsOfRequest n) old before; later = later_refl p; still = is; array = refl };
+    writes = record { goes = goes_nowhere (among p) (IsOfRequest old.array.chunks p) old before; later = later_refl p; still = is; array = refl };
     done = done;
   }
 
@@ -171,32 +176,35 @@ module _ (p q : PendingView) (old new : MirrorView) (w : WritesOn p q old new) w
 
 pub written_none : (p : PendingView) (m : MirrorView) → IsConsistent m → IsPending m.array p → WritesBelow 0 p p m m
 written_none p m sound is = record {
-  writes = record { goes = goes_nowhere (among p) (IsOfRequest p.ticket.number) m sound; later = later_refl p; still = is; array = refl };
+  writes = record { goes = goes_nowhere (among p) (IsOfRequest m.array.chunks p) m sound; later = later_refl p; still = is; array = refl };
   done = λ i n low in_sync. absurd (omega arith);
 }
 
 module _ (p q r : PendingView) (old mid new : MirrorView) where
   -- the events of the later part are of the same request
-  of_same : (Of : ℕ → Type 0) → IsLater p q → Of q.ticket.number → Of p.ticket.number
-  of_same Of later x = subst Of (ap (λ (y : PendingView). y.ticket.number) later.request) x
+  of_same : (Of : (Event → Type 0) → Type 0) → IsLater p q → IsSameArray old.array mid.array → Of (IsOfRequest mid.array.chunks q) → Of (IsOfRequest old.array.chunks p)
+  of_same Of later same x =
+      subst (λ (y : PendingView). Of (IsOfRequest old.array.chunks y)) later.request
+      (subst (λ (c : Chunks). Of (IsOfRequest c q)) same.chunks x)
 
-  pub goes_later : GoesOn (among p) (among q) (IsOfRequest p.ticket.number) old mid → IsLater p q → GoesOn (among q) (among r) (IsOfRequest q.ticket.number) mid new
-      → GoesOn (among p) (among r) (IsOfRequest p.ticket.number) old new
+  pub goes_later : GoesOn (among p) (among q) (IsOfRequest old.array.chunks p) old mid → IsLater p q → GoesOn (among q) (among r) (IsOfRequest mid.array.chunks q) mid new
+      → GoesOn (among p) (among r) (IsOfRequest old.array.chunks p) old new
   goes_later g later h =
-      goes_on (among p) (among q) (among r) (IsOfRequest p.ticket.number) old mid new g
-      (of_same (λ (i : ℕ). GoesOn (among q) (among r) (IsOfRequest i) mid new) later h)
+      goes_on (among p) (among q) (among r) (IsOfRequest old.array.chunks p) old mid new g
+      (of_same (λ (Of : Event → Type 0). GoesOn (among q) (among r) Of mid new) later g.array h)
 
-  pub halts_later : GoesOn (among p) (among q) (IsOfRequest p.ticket.number) old mid → IsLater p q → HaltsOn q r mid new → HaltsOn p r old new
+  pub halts_later : GoesOn (among p) (among q) (IsOfRequest old.array.chunks p) old mid → IsLater p q → HaltsOn q r mid new → HaltsOn p r old new
   halts_later g later h = record {
-    halts = halts_on (among p) (among q) (among r) (IsOfRequest p.ticket.number) old mid new g
-        (of_same (λ (i : ℕ). HaltsAfter (among q) (among r) (IsOfRequest i) mid new) later h.halts);
+    halts = halts_on (among p) (among q) (among r) (IsOfRequest old.array.chunks p) old mid new g
+        (of_same (λ (Of : Event → Type 0). HaltsAfter (among q) (among r) Of mid new) later g.array h.halts);
     later = later_on p q r later h.later;
   }
 
-  pub stops_later : (fault : PartFault) → GoesOn (among p) (among q) (IsOfRequest p.ticket.number) old mid → IsLater p q → mid.array.halted ≡ old.array.halted → StopsWriting q r mid new fault → StopsWriting p r old new fault
+  pub stops_later : (fault : PartFault) → GoesOn (among p) (among q) (IsOfRequest old.array.chunks p) old mid → IsLater p q → mid.array.halted ≡ old.array.halted → StopsWriting q r mid new fault
+      → StopsWriting p r old new fault
   stops_later (part.MemberFailed j) g later run h = record {
-    loses = loses_on (among p) (among q) (among r) (IsOfRequest p.ticket.number) old mid new g run
-        (of_same (λ (i : ℕ). LosesMember (among q) (among r) (IsOfRequest i) mid new) later h.loses);
+    loses = loses_on (among p) (among q) (among r) (IsOfRequest old.array.chunks p) old mid new g run
+        (of_same (λ (Of : Event → Type 0). LosesMember (among q) (among r) Of mid new) later g.array h.loses);
     later = later_on p q r later h.later;
     still = h.still;
   }
@@ -224,33 +232,56 @@ written_all k p q old new last g = record {
 
 -- ---- all parts
 -- marks and records that stop
-storing_stops : (p : PendingView) (old new : MirrorView) → IsPending old.array p → (fault : PartFault) → StopsStoring IsStoring old new fault → StopsWriting p p old new fault
+storing_stops : (p : PendingView) (old new : MirrorView) → IsPending old.array p → (fault : PartFault) → StopsStoring (IsOfRequest old.array.chunks p) old new fault → StopsWriting p p old new fault
 storing_stops p old new is (part.MemberFailed k) h = record {
-  loses = record { goes = goes_beside p old new is h.loses.goes; lost = h.loses.lost; halted = h.loses.halted };
+  loses = record { goes = goes_beside (IsOfRequest old.array.chunks p) p old new is h.loses.goes; lost = h.loses.lost; halted = h.loses.halted };
   later = later_refl p;
   still = h.loses.goes.pending p is;
 }
-storing_stops p old new is part.Halted h = record { halts = halts_beside p old new is h; later = later_refl p }
+storing_stops p old new is part.Halted h = record { halts = halts_beside (IsOfRequest old.array.chunks p) p old new is h; later = later_refl p }
 
-abbrev marks_stored : (a b : MirrorView) → Stores IsMarking a b → Stores IsStoring a b
-marks_stored = stores_as IsMarking IsStoring marking_stores
+marking_is : (chunks : Chunks) (p : PendingView) (first end : ℕ) → first ≡ first_chunk chunks p → end ≡ end_chunk chunks p → (e : Event) → IsMarkingOf first end e → IsOfRequest chunks p e
+marking_is chunks p first end low high (Event.StoreMarks k b) is = inr (subst (λ (c : ℕ). block_of c ≤ b) low is.0, subst (λ (c : ℕ). b ≤ block_of (c - 1)) high is.1)
+marking_is chunks p first end low high (Event.StoreMarksFails k b) is = inr (subst (λ (c : ℕ). block_of c ≤ b) low is.0, subst (λ (c : ℕ). b ≤ block_of (c - 1)) high is.1)
+marking_is chunks p first end low high e is = absurd is
 
-abbrev records_stored : (a b : MirrorView) → Stores IsRecording a b → Stores IsStoring a b
-records_stored = stores_as IsRecording IsStoring recording_stores
+recording_is : (chunks : Chunks) (p : PendingView) (e : Event) → IsRecording e → IsOfRequest chunks p e
+recording_is chunks p (Event.Record k) is = tt
+recording_is chunks p (Event.StoreMarks k b) is = inl is
+recording_is chunks p (Event.RecordFails k) is = tt
+recording_is chunks p (Event.StoreMarksFails k b) is = inl is
+recording_is chunks p e is = absurd is
 
-module _ (p : PendingView) (a b : MirrorView) (is : IsPending a.array p) where
-  pub marks_stop : (fault : PartFault) → StopsStoring IsMarking a b fault → StopsWriting p p a b fault
-  marks_stop fault s = storing_stops p a b is fault (stops_as IsMarking IsStoring marking_stores a b fault s)
+module _ (p : PendingView) (first end : ℕ) (a : MirrorView) (chunks : AreChunksOf a.array p first end) where
+  -- the events of this request
+  abbrev Of : Event → Type 0
+  Of = IsOfRequest a.array.chunks p
 
-  module _ (c : MirrorView) (x : Stores IsMarking a b) where
-    pub records_stop : (fault : PartFault) → StopsStoring IsRecording b c fault → StopsWriting p p a c fault
-    records_stop fault s =
-        storing_stops p a c is fault (stops_on IsStoring a b c fault (marks_stored a b x) (stops_as IsRecording IsStoring recording_stores b c fault s))
+  abbrev marking : (e : Event) → IsMarkingOf first end e → Of e
+  marking = marking_is a.array.chunks p first end chunks.first_is chunks.end_is
 
-    pub others_stop : (d : MirrorView) → Stores IsRecording b c → (fault : PartFault) → StopsStoring IsRecording c d fault → StopsWriting p p a d fault
-    others_stop d y fault s =
-        storing_stops p a d is fault
-        (stops_on IsStoring a c d fault (stores_on IsStoring a b c (marks_stored a b x) (records_stored b c y)) (stops_as IsRecording IsStoring recording_stores c d fault s))
+  abbrev recording : (e : Event) → IsRecording e → Of e
+  recording = recording_is a.array.chunks p
+
+  abbrev marks_stored : (b : MirrorView) → Stores (IsMarkingOf first end) a b → Stores Of a b
+  marks_stored b = stores_as (IsMarkingOf first end) Of marking a b
+
+  abbrev records_stored : (b c : MirrorView) → Stores IsRecording b c → Stores Of b c
+  records_stored = stores_as IsRecording Of recording
+
+  module _ (b : MirrorView) (is : IsPending a.array p) where
+    pub marks_stop : (fault : PartFault) → StopsStoring (IsMarkingOf first end) a b fault → StopsWriting p p a b fault
+    marks_stop fault s = storing_stops p a b is fault (stops_as (IsMarkingOf first end) Of marking a b fault s)
+
+    module _ (c : MirrorView) (x : Stores (IsMarkingOf first end) a b) where
+      pub records_stop : (fault : PartFault) → StopsStoring IsRecording b c fault → StopsWriting p p a c fault
+      records_stop fault s =
+          storing_stops p a c is fault (stops_on Of a b c fault (marks_stored b x) (stops_as IsRecording Of recording b c fault s))
+
+      pub others_stop : (d : MirrorView) → Stores IsRecording b c → (fault : PartFault) → StopsStoring IsRecording c d fault → StopsWriting p p a d fault
+      others_stop d y fault s =
+          storing_stops p a d is fault
+          (stops_on Of a c d fault (stores_on Of a b c (marks_stored b x) (records_stored b c y)) (stops_as IsRecording Of recording c d fault s))
 
 -- the chunks of the request, later on
 pub chunks_later : (a b : ArrayView) (p q : PendingView) (first end : ℕ) → IsSameArray a b → IsLater p q → AreChunksOf a p first end → AreChunksOf b q first end
@@ -258,23 +289,28 @@ chunks_later a b p q first end same later c =
     subst (λ (x : PendingView). AreChunksOf b x first end) (sym later.request)
     (record {
       are = marked_still a b first end same c.are;
-      from = subst (λ (x : Chunks). (s : ℕ) → p.sector ≤ s → s < p.sector + length p.bytes / 512 → first ≤ s / x.sectors) (sym same.chunks) c.from;
-      below = subst (λ (x : Chunks). (s : ℕ) → p.sector ≤ s → s < p.sector + length p.bytes / 512 → s / x.sectors < end) (sym same.chunks) c.below;
+      first_is = subst (λ (x : Chunks). first ≡ first_chunk x p) (sym same.chunks) c.first_is;
+      end_is = subst (λ (x : Chunks). end ≡ end_chunk x p) (sym same.chunks) c.end_is;
     })
 
 module _ (p q : PendingView) (first end : ℕ) (a b c d e : MirrorView) (is : IsPending a.array p) (chunks : AreChunksOf a.array p first end)
-    (x : StoresAll IsMarking (HasMarksFrom first end) a b) (y : StoresAll IsRecording IsNotDue b c) (others : RecordsAll c d) where
-  abbrev rest : Stores IsStoring b d
-  rest = stores_on IsStoring b c d (records_stored b c y.stores) (records_stored c d others.stores)
+    (x : StoresAll (IsMarkingOf first end) (HasMarksFrom first end) a b) (y : StoresAll IsRecording IsNotDue b c) (others : RecordsAll c d) where
+  abbrev rest : Stores (IsOfRequest a.array.chunks p) b d
+  rest = stores_on (IsOfRequest a.array.chunks p) b c d (records_stored p first end a chunks b c y.stores) (records_stored p first end a chunks c d others.stores)
 
-  abbrev all : Stores IsStoring a d
-  all = stores_on IsStoring a b d (marks_stored a b x.stores) rest
+  abbrev all : Stores (IsOfRequest a.array.chunks p) a d
+  all = stores_on (IsOfRequest a.array.chunks p) a b d (marks_stored p first end a chunks b x.stores) rest
 
   pub marked_then : AllInSync d.array (HasMarksOf d.array p)
   marked_then i m in_sync s low high =
       let later = chunks_later a.array d.array p p first end all.goes.array (later_refl p) chunks in
-      let kept = last_on IsStoring (HasMarksFrom first end) a b d (marks_last a.array first end chunks.are) x.stores.goes.array.marks x.done rest i m in_sync in
-      kept (s / d.array.chunks.sectors) (later.from s low high) (later.below s low high)
+      let wide = others.stores.goes.sound.chunks.wide in
+      let up = div_mono d.array.chunks.sectors p.sector s wide low in
+      let down = div_mono d.array.chunks.sectors s ((p.sector + length p.bytes / 512) - 1) wide (omega arith) in
+      let from : first ≡ p.sector / d.array.chunks.sectors = later.first_is in
+      let to : end ≡ ((p.sector + length p.bytes / 512) - 1) / d.array.chunks.sectors + 1 = later.end_is in
+      let kept = last_on (IsOfRequest a.array.chunks p) (HasMarksFrom first end) a b d (marks_last a.array first end chunks.are) x.stores.goes.array.marks x.done rest i m in_sync in
+      kept (s / d.array.chunks.sectors) (omega arith) (omega arith)
 
   pub recorded_then : AllInSync d.array IsNotDue
   recorded_then = last_on IsRecording IsNotDue b c d (records_last b.array.marks) y.stores.goes.array.marks y.done others.stores
@@ -282,7 +318,7 @@ module _ (p q : PendingView) (first end : ℕ) (a b c d e : MirrorView) (is : Is
   pub writes_or_stops : a.array.halted ≡ false → {T : Type 0} (result : Result T PartFault) → MatchResult result (λ _. WritesToAll p q d e) (StopsWriting p q d e)
       → MatchResult result (λ _. IsReadyToFinish p q a e) (StopsWriting p q a e)
   writes_or_stops run (Ok t) w = record {
-    goes = goes_later p p q a d e (goes_beside p a d is all.goes) (later_refl p) w.writes.goes;
+    goes = goes_later p p q a d e (goes_beside (IsOfRequest a.array.chunks p) p a d is all.goes) (later_refl p) w.writes.goes;
     later = w.writes.later;
     still = w.writes.still;
     may = record {
@@ -292,4 +328,4 @@ module _ (p q : PendingView) (first end : ℕ) (a b c d e : MirrorView) (is : Is
     };
     recorded = subst AllRecorded (sym w.writes.array) others.done;
   }
-  writes_or_stops run (Err fault) w = stops_later p p q a d e fault (goes_beside p a d is all.goes) (later_refl p) all.ready.halted w
+  writes_or_stops run (Err fault) w = stops_later p p q a d e fault (goes_beside (IsOfRequest a.array.chunks p) p a d is all.goes) (later_refl p) all.ready.halted w

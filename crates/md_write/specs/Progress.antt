@@ -1,8 +1,9 @@
 -- What the parts of a write have in common: they go on by events of the request, and come to their end or lose a member.
-use Rattle.std.specs.Prelude.{◌≡◌, ℕ, ◌+◌, ◌/◌, ◌<◌, ◌≤◌, true}
+use Rattle.std.specs.Prelude.{◌≡◌, ◌⊎◌, ℕ, ◌+◌, ◌-◌, ◌/◌, ◌<◌, ◌≤◌, true}
 use Rattle.md_model.specs.Sectors.{block_of}
 use Rattle.md_model.specs.Events.{Event}
 use Rattle.md_bitmap.specs.Marks.{is_set}
+use Rattle.md_bitmap.specs.declared.chunks.Chunks.{Chunks}
 use Rattle.md_requests.specs.Pending.{PendingView, has_written, request_sectors}
 use Rattle.md_kept_members.specs.View.{MemberView}
 use Rattle.md_state.specs.View.{ArrayView, MirrorView}
@@ -14,16 +15,39 @@ use Rattle.md_metadata.specs.declared.fault.PartFault.TheVariants.{Halted, Membe
 use Rattle.md_metadata.specs.Going.{GoesOn, HaltsAfter, LosesMember}
 use Rattle.md_metadata.specs.Storing.{AllRecorded}
 
--- an event of this request between its begin and its end
-abbrev pub IsOfRequest : ℕ → Event → Type 0
-IsOfRequest n (Event.Record k) = Unit {0}
-IsOfRequest n (Event.StoreMarks k b) = Unit {0}
-IsOfRequest n (Event.WriteMember m k) = m ≡ n
-IsOfRequest n (Event.RecordFails k) = Unit {0}
-IsOfRequest n (Event.StoreMarksFails k b) = Unit {0}
-IsOfRequest n (Event.WriteMemberFails m k) = m ≡ n
-IsOfRequest n e = ⊥
+-- ---- kinds of events, done or failed
+-- this sector of the bitmap has bits of these chunks
+abbrev pub HasBitsOf : ℕ → ℕ → ℕ → Type 0
+HasBitsOf first end block = (block_of first ≤ block) × (block ≤ block_of (end - 1))
 
+-- marks of these chunks are stored
+abbrev pub IsMarkingOf : ℕ → ℕ → Event → Type 0
+IsMarkingOf first end (Event.StoreMarks k b) = HasBitsOf first end b
+IsMarkingOf first end (Event.StoreMarksFails k b) = HasBitsOf first end b
+IsMarkingOf first end e = ⊥
+
+-- Of the request of this number, with these chunks, between its begin and its end: of a bitmap only those sectors are stored that have
+-- their bits, and the first, which goes with the superblock.
+abbrev pub IsEventOf : ℕ → ℕ → ℕ → Event → Type 0
+IsEventOf n first end (Event.Record k) = Unit {0}
+IsEventOf n first end (Event.StoreMarks k b) = (b ≡ 0) ⊎ HasBitsOf first end b
+IsEventOf n first end (Event.WriteMember m k) = m ≡ n
+IsEventOf n first end (Event.RecordFails k) = Unit {0}
+IsEventOf n first end (Event.StoreMarksFails k b) = (b ≡ 0) ⊎ HasBitsOf first end b
+IsEventOf n first end (Event.WriteMemberFails m k) = m ≡ n
+IsEventOf n first end e = ⊥
+
+-- the chunk that has the request's first sector, and the one past that of its last
+abbrev pub first_chunk : Chunks → PendingView → ℕ
+first_chunk chunks p = p.sector / chunks.sectors
+
+abbrev pub end_chunk : Chunks → PendingView → ℕ
+end_chunk chunks p = ((p.sector + request_sectors p) - 1) / chunks.sectors + 1
+
+abbrev pub IsOfRequest : Chunks → PendingView → Event → Type 0
+IsOfRequest chunks p = IsEventOf p.ticket.number (first_chunk chunks p) (end_chunk chunks p)
+
+-- ---- marks
 -- these chunks are marked in memory
 pub record AreMarked (a : ArrayView) (first end : ℕ) : Type 0 where
   pub some : first < end
@@ -38,8 +62,8 @@ HasMarksIn block first end m = (c : ℕ) → first ≤ c → c < end → block_o
 -- it has these chunks
 pub record AreChunksOf (a : ArrayView) (p : PendingView) (first end : ℕ) : Type 0 where
   pub are : AreMarked a first end
-  pub from : (s : ℕ) → p.sector ≤ s → s < p.sector + request_sectors p → first ≤ s / a.chunks.sectors
-  pub below : (s : ℕ) → p.sector ≤ s → s < p.sector + request_sectors p → s / a.chunks.sectors < end
+  pub first_is : first ≡ first_chunk a.chunks p
+  pub end_is : end ≡ end_chunk a.chunks p
 
 -- a request that has begun is still under way, and more members may have its bytes
 pub record IsLater (p q : PendingView) : Type 0 where
@@ -48,7 +72,7 @@ pub record IsLater (p q : PendingView) : Type 0 where
 
 -- its bytes are written, and what is kept in memory of the array is as before
 pub record WritesOn (p q : PendingView) (old new : MirrorView) : Type 0 where
-  pub goes : GoesOn (among p) (among q) (IsOfRequest p.ticket.number) old new
+  pub goes : GoesOn (among p) (among q) (IsOfRequest old.array.chunks p) old new
   pub later : IsLater p q
   pub still : IsPending new.array q
   pub array : new.array ≡ old.array
@@ -67,12 +91,12 @@ pub record WritesToAll (p q : PendingView) (old new : MirrorView) : Type 0 where
 
 -- a member failed on the way
 pub record LosesOn (p q : PendingView) (old new : MirrorView) : Type 0 where
-  pub loses : LosesMember (among p) (among q) (IsOfRequest p.ticket.number) old new
+  pub loses : LosesMember (among p) (among q) (IsOfRequest old.array.chunks p) old new
   pub later : IsLater p q
   pub still : IsPending new.array q
 
 pub record HaltsOn (p q : PendingView) (old new : MirrorView) : Type 0 where
-  pub halts : HaltsAfter (among p) (among q) (IsOfRequest p.ticket.number) old new
+  pub halts : HaltsAfter (among p) (among q) (IsOfRequest old.array.chunks p) old new
   pub later : IsLater p q
 
 abbrev pub StopsWriting : PendingView → PendingView → MirrorView → MirrorView → PartFault → Type 0
@@ -81,7 +105,7 @@ StopsWriting p q old new (MemberFailed k) = LosesOn p q old new
 
 -- all is done: it may be finished
 pub record IsReadyToFinish (p q : PendingView) (old new : MirrorView) : Type 0 where
-  pub goes : GoesOn (among p) (among q) (IsOfRequest p.ticket.number) old new
+  pub goes : GoesOn (among p) (among q) (IsOfRequest old.array.chunks p) old new
   pub later : IsLater p q
   pub still : IsPending new.array q
   pub may : MayFinish new.array q

@@ -37,7 +37,7 @@ pub record Writes (sector : ℕ) (bytes : List ℕ) (old new : MirrorView) : Typ
   pub request : PendingView
   pub begins : Begins sector bytes old begun request
   pub events : List Event
-  pub steps : AllOf (IsOfRequest request.ticket.number) events
+  pub steps : AllOf (IsOfRequest old.array.chunks request) events
   pub happens : (previous : Option Event) (others : Requests) → AreInFlight old.array others → IsWritten request events previous others old new
   -- of any devices: what the mirror keeps of the array
   pub entries : new.array.requests.entries ≡ old.array.requests.entries
@@ -52,13 +52,13 @@ pub record HaltsWrite (sector : ℕ) (bytes : List ℕ) (old new : MirrorView) :
   pub request : PendingView
   pub begins : Begins sector bytes old begun request
   pub events : List Event
-  pub steps : AllOf (IsOfRequest request.ticket.number) events
+  pub steps : AllOf (IsOfRequest old.array.chunks request) events
   pub mid : MirrorView
   pub last : PendingView  -- the request, with the members that have its bytes by then
   pub happens : (previous : Option Event) (others : Requests) → AreInFlight old.array others
       → Leads previous old others (Event.Begin request.ticket.number (request_of request) ∷ events) mid (among last others)
   pub failing : Event
-  pub of : IsOfRequest request.ticket.number failing
+  pub of : IsOfRequest old.array.chunks request failing
   pub halts : (others : Requests) → HaltsAt mid (among last others) failing new
 
 abbrev pub RefusesWrite : ℕ → List ℕ → MirrorView → MirrorView → BeginFault → Type 0

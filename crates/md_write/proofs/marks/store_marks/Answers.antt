@@ -1,13 +1,13 @@
 use Rattle.std.proofs.Common.{◌∙◌, arith}
 use Rattle.md_state.specs.WritingMember.{HasMarksFrom}
-use Rattle.md_metadata.specs.Storing.{IsMarking}
+use Rattle.md_write.specs.Progress.{IsMarkingOf}
 use Rattle.md_metadata.proofs.Going.{stops_on}
 use Rattle.md_metadata.proofs.StoredMembers.{below_all, below_more, below_none}
 use Rattle.md_write.proofs.StoredMarks.{marked_still, marks_last}
 use Rattle.md_write.proofs.marks.store_marks.Goals as goal
 
 pub loop-k-init : goal.loop-k-init
-loop-k-init g c = below_none IsMarking (HasMarksFrom c.args.first c.args.end) c.args.mirror.now c.requires.sound
+loop-k-init g c = below_none (IsMarkingOf c.args.first c.args.end) (HasMarksFrom c.args.first c.args.end) c.args.mirror.now c.requires.sound
 
 pub store_member_marks-requires-clause-within : goal.store_member_marks-requires-clause-within
 store_member_marks-requires-clause-within g c =
@@ -25,11 +25,11 @@ pub store_member_marks-requires-clause-marked : goal.store_member_marks-requires
 store_member_marks-requires-clause-marked g c = marked_still c.args.mirror.now.array c.loop-k.mirror.array c.args.first c.args.end c.loop-k.invariant.stores.goes.array c.requires.marked
 
 pub returns-in-Err : goal.returns-in-Err
-returns-in-Err g c = stops_on IsMarking c.args.mirror.now c.loop-k.mirror c.store_member_marks.new.mirror c.in-Err.fault c.loop-k.invariant.stores c.in-Err.ensures
+returns-in-Err g c = stops_on (IsMarkingOf c.args.first c.args.end) c.args.mirror.now c.loop-k.mirror c.store_member_marks.new.mirror c.in-Err.fault c.loop-k.invariant.stores c.in-Err.ensures
 
 pub loop-k-preserved : goal.loop-k-preserved
 loop-k-preserved g c =
-    below_more IsMarking (HasMarksFrom c.args.first c.args.end) c.loop-k.k c.args.mirror.now c.loop-k.mirror c.store_member_marks.new.mirror
+    below_more (IsMarkingOf c.args.first c.args.end) (HasMarksFrom c.args.first c.args.end) c.loop-k.k c.args.mirror.now c.loop-k.mirror c.store_member_marks.new.mirror
     (marks_last c.args.mirror.now.array c.args.first c.args.end c.requires.marked) c.loop-k.invariant c.in_default.ensures
 
 pub returns : goal.returns
@@ -37,4 +37,4 @@ returns g c =
     let past = c.loop-k-test.false in
     let count = c.members-k-end.ensures in
     let many = c.loop-k.invariant.stores.goes.array.as_many in
-    below_all IsMarking (HasMarksFrom c.args.first c.args.end) c.loop-k.k c.args.mirror.now c.loop-k.mirror (omega arith) c.loop-k.invariant
+    below_all (IsMarkingOf c.args.first c.args.end) (HasMarksFrom c.args.first c.args.end) c.loop-k.k c.args.mirror.now c.loop-k.mirror (omega arith) c.loop-k.invariant

@@ -1,5 +1,5 @@
 use Rattle.std.proofs.Common.{ℕ, ◌∙◌, subst, sym, arith}
-use Rattle.md_metadata.specs.Storing.{IsMarking}
+use Rattle.md_write.specs.Progress.{IsMarkingOf}
 use Rattle.md_metadata.proofs.Going.{stops_on}
 use Rattle.md_write.proofs.StoredMarks.{StoresUpTo, marked_still, up_all, up_more, up_none}
 use Rattle.md_write.proofs.marks.store_member_marks.Goals as goal
@@ -25,7 +25,7 @@ pub store_lacking-requires-clause-marked : goal.store_lacking-requires-clause-ma
 store_lacking-requires-clause-marked g c = marked_still c.args.mirror.now.array c.loop-block.mirror.array c.args.first c.args.end c.loop-block.invariant.stores.goes.array c.requires.marked
 
 pub returns-in-Err : goal.returns-in-Err
-returns-in-Err g c = stops_on IsMarking c.args.mirror.now c.loop-block.mirror c.store_lacking.new.mirror c.in-Err.fault c.loop-block.invariant.stores c.in-Err.ensures
+returns-in-Err g c = stops_on (IsMarkingOf c.args.first c.args.end) c.args.mirror.now c.loop-block.mirror c.store_lacking.new.mirror c.in-Err.fault c.loop-block.invariant.stores c.in-Err.ensures
 
 pub loop-block-preserved : goal.loop-block-preserved
 loop-block-preserved g c =

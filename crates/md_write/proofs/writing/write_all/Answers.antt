@@ -8,7 +8,7 @@ use Rattle.md_write.proofs.writing.write_all.Goals as goal
 
 pub loop-init : goal.loop-init
 loop-init g c = record {
-  goes = goes_nowhere (among c.args.pending.now) (IsOfRequest c.args.pending.now.ticket.number) c.args.mirror.now c.requires.sound;
+  goes = goes_nowhere (among c.args.pending.now) (IsOfRequest c.args.mirror.now.array.chunks c.args.pending.now) c.args.mirror.now c.requires.sound;
   later = later_refl c.args.pending.now;
   still = c.requires.pending;
   running = c.requires.running;

@@ -10,7 +10,7 @@ decreases-loop g l = recorded_count l.mirror.array
 abbrev pub invariant-loop : goal.invariant-loop
 invariant-loop g l =
     record {
-      goes : GoesOn (among l.fn.pending) (among l.pending) (IsOfRequest l.fn.pending.ticket.number) l.fn.mirror l.mirror;
+      goes : GoesOn (among l.fn.pending) (among l.pending) (IsOfRequest l.fn.mirror.array.chunks l.fn.pending) l.fn.mirror l.mirror;
       later : IsLater l.fn.pending l.pending;
       still : IsPending l.mirror.array l.pending;
       running : l.mirror.array.halted ≡ false;

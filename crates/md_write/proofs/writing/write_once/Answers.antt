@@ -6,7 +6,7 @@ pub store_marks-requires-clause-marked : goal.store_marks-requires-clause-marked
 store_marks-requires-clause-marked g c = c.requires.chunks.are
 
 pub returns-in-Err : goal.returns-in-Err
-returns-in-Err g c = marks_stop c.args.pending.now c.args.mirror.now c.store_marks.new.mirror c.requires.pending c.in-Err.fault c.in-Err.ensures
+returns-in-Err g c = marks_stop c.args.pending.now c.args.first c.args.end c.args.mirror.now c.requires.chunks c.store_marks.new.mirror c.requires.pending c.in-Err.fault c.in-Err.ensures
 
 pub store_records-requires-clause-sound : goal.store_records-requires-clause-sound
 store_records-requires-clause-sound g c = c.in_default.ensures.stores.goes.sound
@@ -16,7 +16,7 @@ store_records-requires-clause-running g c = c.in_default.ensures.stores.ready.ha
 
 pub returns-in-Err-store_records : goal.returns-in-Err-store_records
 returns-in-Err-store_records g c =
-    records_stop c.args.pending.now c.args.mirror.now c.store_marks.new.mirror c.requires.pending c.store_records.new.mirror c.in_default.ensures.stores
+    records_stop c.args.pending.now c.args.first c.args.end c.args.mirror.now c.requires.chunks c.store_marks.new.mirror c.requires.pending c.store_records.new.mirror c.in_default.ensures.stores
     c.in-Err-store_records.fault c.in-Err-store_records.ensures
 
 pub store_other_records-requires-clause-sound : goal.store_other_records-requires-clause-sound
@@ -30,7 +30,7 @@ store_other_records-requires-clause-recorded g c = c.in_default-store_records.en
 
 pub returns-in-Err-store_other_records : goal.returns-in-Err-store_other_records
 returns-in-Err-store_other_records g c =
-    others_stop c.args.pending.now c.args.mirror.now c.store_marks.new.mirror c.requires.pending c.store_records.new.mirror c.in_default.ensures.stores
+    others_stop c.args.pending.now c.args.first c.args.end c.args.mirror.now c.requires.chunks c.store_marks.new.mirror c.requires.pending c.store_records.new.mirror c.in_default.ensures.stores
     c.store_other_records.new.mirror c.in_default-store_records.ensures.stores c.in-Err-store_other_records.fault c.in-Err-store_other_records.ensures
 
 pub write_to_members-requires-clause-sound : goal.write_to_members-requires-clause-sound
