@@ -1,6 +1,6 @@
 -- A whole write is put together.
 use Rattle.std.proofs.Common.{◌≡◌, ◌≢◌, ℕ, ◌+◌, ◌-◌, ◌/◌, ◌<◌, ◌≤◌, Bool, true, false, cond, ◌||◌, ◌&&◌, nat_le, List, [], ◌∷◌, ◌++◌, length, slice_get, Option, None, Some, refl, sym, ap, ◌∙◌, subst, arith, inl}
-use Rattle.std.proofs.lemmas.Bool.{le-leb}
+use Rattle.std.proofs.lemmas.Bool.{and_from, le-leb, or_right}
 use Rattle.std.proofs.lemmas.Option.{none-some}
 use Rattle.md_model.specs.Sectors.{Geometry, put}
 use Rattle.md_model.specs.Content.{Becomes, Content, HoldsBetween, with_request}
@@ -38,14 +38,6 @@ use Rattle.md_write.proofs.WrittenData as written
 use Rattle.md_write.proofs.Entries.{without_last}
 use Rattle.md_metadata.proofs.Going.{fly_on}
 use Rattle.md_write.proofs.Received.{HasBytes, IsReceiving, received, receives_begin, receives_step}
-
-or_right : (a b : Bool) → b ≡ true → (a || b) ≡ true
-or_right true b e = refl
-or_right false b e = e
-
-and_both : (a b : Bool) → a ≡ true → b ≡ true → (a && b) ≡ true
-and_both true b e f = f
-and_both false b e f = absurd cc
 
 module _ (a : ArrayView) (full : Bool) where
   chunks_if : (rises : Bool) → (cond rises (risen a full) a).chunks ≡ a.chunks
@@ -160,7 +152,7 @@ module _ (sector : ℕ) (bytes : List ℕ) (old begun : MirrorView) (p : Pending
           marked = λ c low high.
               b.marked.bits c
               ∙ or_right (is_set old.array.marks.bytes c) (has_sector_of old.array sector sectors c)
-              (and_both (nat_le (sector / old.array.chunks.sectors) c) (nat_le c (((sector + sectors) - 1) / old.array.chunks.sectors))
+              (and_from (nat_le (sector / old.array.chunks.sectors) c) (nat_le c (((sector + sectors) - 1) / old.array.chunks.sectors))
               (le-leb _ _ (subst (λ (v : ℕ). sector / v ≤ c) same (omega arith)))
               (le-leb _ _ (subst (λ (v : ℕ). c ≤ ((sector + sectors) - 1) / v) same (omega arith))));
         };

@@ -3,6 +3,7 @@ use Rattle.std.proofs.Common.{◌≡◌, ◌≢◌, ℕ, ◌+◌, ◌-◌, ◌/�
 use Rattle.std.proofs.Math.Nat.{div-mul-le_self, le-div_iff_mul-le}
 use Rattle.std.specs.List.{list_any}
 use Rattle.std.specs.Prelude.{Result, Ok, Err, MatchResult}
+use Rattle.std.proofs.lemmas.Bool.{or_right}
 use Rattle.std.proofs.lemmas.Option.{same_Some, slice_get_within}
 use Rattle.md_model.specs.Events.{Event}
 use Rattle.md_model.specs.Sectors.{block_of}
@@ -34,17 +35,13 @@ use Rattle.md_write.proofs.StoredMarks.{marked_still, marks_last}
 pub div_mono : (w a b : ℕ) → 0 < w → a ≤ b → a / w ≤ b / w
 div_mono w a b wide le = let down = div-mul-le_self a w in (le-div_iff_mul-le {k = w} {x = a / w} {y = b} wide).1 (omega arith)
 
-or_left : (a b c : Bool) → (b ≡ true → c ≡ true) → (a || b) ≡ true → (a || c) ≡ true
-or_left true b c f e = refl
-or_left false b c f e = f e
+or_more : (a b c : Bool) → (b ≡ true → c ≡ true) → (a || b) ≡ true → (a || c) ≡ true
+or_more true b c f e = refl
+or_more false b c f e = f e
 
 any_more : (p : ℕ → Bool) (xs ys : List ℕ) → list_any p xs ≡ true → list_any p (xs ++ ys) ≡ true
 any_more p [] ys e = absurd cc
-any_more p (x ∷ xs) ys e = or_left (p x) (list_any p xs) (list_any p (xs ++ ys)) (any_more p xs ys) e
-
-or_right : (a b : Bool) → b ≡ true → (a || b) ≡ true
-or_right true b e = refl
-or_right false b e = e
+any_more p (x ∷ xs) ys e = or_more (p x) (list_any p xs) (list_any p (xs ++ ys)) (any_more p xs ys) e
 
 any_last : (p : ℕ → Bool) (xs : List ℕ) (y : ℕ) → p y ≡ true → list_any p (xs ++ y ∷ []) ≡ true
 any_last p [] y e = ap (λ c. c || false) e
