@@ -32,9 +32,10 @@ fn write_to<D: Device + Drop>(
         Err(WriteMemberFault::AlreadyWritten) => Ok(()),
         Err(WriteMemberFault::MemberFailed(j)) => Err(PartFault::MemberFailed(j)),
         Err(WriteMemberFault::Halted) => Err(PartFault::Halted),
-        Err(WriteMemberFault::NotActive) => Err(PartFault::Halted),
-        Err(WriteMemberFault::NotMarked(_)) => Err(PartFault::Halted),
-        Err(WriteMemberFault::NotRecorded(_)) => Err(PartFault::Halted),
+        // The member is in sync, and the marks and records are stored.
+        Err(WriteMemberFault::NotActive)
+        | Err(WriteMemberFault::NotMarked(_))
+        | Err(WriteMemberFault::NotRecorded(_)) => unreachable!(),
     }
 }
 

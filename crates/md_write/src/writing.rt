@@ -87,6 +87,6 @@ pub fn write<D: Device + Drop>(
     }
     match mirror.finish(pending) {
         Ok(()) => Ok(()),
-        Err((_pending, _)) => Err(BeginFault::Halted),
+        Err(_) => unreachable!(),
     }
 }
