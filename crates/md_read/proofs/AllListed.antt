@@ -1,7 +1,7 @@
 -- All of a run of sectors is listed: the runs of a list are maximal, so that one of them has it.
 use Rattle.std.proofs.Common.{◌≡◌, ◌↔◌, ℕ, ◌+◌, ◌-◌, ◌^◌, ◌<◌, ◌≤◌, ◌||◌, Bool, true, false, List, [], ◌∷◌, refl, subst, arith, inl, inr}
 use Rattle.std.specs.List.{list_any}
-use Rattle.std.proofs.lemmas.Bool.{cases_lt}
+use Rattle.std.proofs.lemmas.Bool.{cases_lt, or_left, or_right}
 use Rattle.std.proofs.lemmas.Bool.Decides.{nat_tests}
 use Rattle.md_badblocks.specs.declared.run.Run.{Run}
 use Rattle.md_badblocks.specs.Runs.{IsBad, RisesFrom}
@@ -34,18 +34,11 @@ has_bad start len (run ∷ rest) some x from below = elim (one_is (has_all start
   | inr later ↦ inr (has_bad start len rest later x from below)
 ]
 
-true_or : (a b : Bool) → a ≡ true → (a || b) ≡ true
-true_or a b e = rw e refl
-
-or_true : (a b : Bool) → b ≡ true → (a || b) ≡ true
-or_true true b e = refl
-or_true false b e = e
-
 pub one_has_all : (low start len : ℕ) (runs : List Run) → RisesFrom low runs → 0 < len → AllBad start len runs → list_any (has_all start len) runs ≡ true
 one_has_all low start len [] rises some all = absurd (all start (omega arith) (omega arith))
 one_has_all low start len (run ∷ rest) rises some all =
     let end : ℕ = run.start + run.len in
-    let more : list_any (has_all start len) rest ≡ true → list_any (has_all start len) (run ∷ rest) ≡ true = or_true (has_all start len run) (list_any (has_all start len) rest) in
+    let more : list_any (has_all start len) rest ≡ true → list_any (has_all start len) (run ∷ rest) ≡ true = or_right (has_all start len run) (list_any (has_all start len) rest) in
     elim (all start (omega arith) (omega arith)) [
       | inr later ↦
           let after = bad_from (end + 1) start rest rises.3 later in
@@ -57,7 +50,7 @@ one_has_all low start len (run ∷ rest) rises some all =
               | inl it ↦ let past = it.1 in absurd (omega arith)
               | inr later ↦ let after = bad_from (end + 1) end rest rises.3 later in absurd (omega arith)
             ]
-        | inr fits ↦ true_or (has_all start len run) (list_any (has_all start len) rest) (has_them start len run here.0 fits)
+        | inr fits ↦ or_left (has_all start len run) (list_any (has_all start len) rest) (has_them start len run here.0 fits)
       ]
     ]
 
