@@ -127,7 +127,7 @@ module _ (old : MirrorView) (sound : IsConsistent old) (role k sector sectors : 
   }
 
 -- not read: of one sector it is known that the role does not give it
-pub unread_answer : (role sector : ℕ) (was bytes : List ℕ) (old new : MirrorView) (a : Answer) → (length was / 512 ≡ 1 → a ≡ answer.None) → (1 < length was / 512 → a ≡ answer.Some)
+pub unread_answer : (role sector : ℕ) (was bytes : List ℕ) (old new : MirrorView) (a : Answer) → (length was / 512 ≡ 1 → a ≡ answer.Nothing) → (1 < length was / 512 → a ≡ answer.Perhaps)
     → 512 ≤ length was → Rests old new → (length was / 512 ≡ 1 → (s : ℕ) → sector ≤ s → s < sector + length was / 512 → NotGivenIn role s old new) → TriesRole role sector was bytes old new a
 unread_answer role sector was bytes old new a one more some rests none =
     by_same (length was / 512) 1

@@ -97,9 +97,9 @@ pub record GivesIn (role sector : ℕ) (bytes : List ℕ) (old new : MirrorView)
   pub holds : HoldsData old from sector bytes
 
 abbrev pub TriesRole : ℕ → ℕ → List ℕ → List ℕ → MirrorView → MirrorView → Answer → Type 0
-TriesRole role sector was bytes old new answer.Given = Rests old new × GivesIn role sector bytes old new
-TriesRole role sector was bytes old new answer.None = Rests old new × ((s : ℕ) → sector ≤ s → s < sector + length was / 512 → NotGivenIn role s old new)
-TriesRole role sector was bytes old new answer.Some = Rests old new × (1 < length was / 512)
+TriesRole role sector was bytes old new answer.All = Rests old new × GivesIn role sector bytes old new
+TriesRole role sector was bytes old new answer.Nothing = Rests old new × ((s : ℕ) → sector ≤ s → s < sector + length was / 512 → NotGivenIn role s old new)
+TriesRole role sector was bytes old new answer.Perhaps = Rests old new × (1 < length was / 512)
 
 -- ---- a run of sectors
 pub record GivesRun (sector : ℕ) (bytes : List ℕ) (old new : MirrorView) : Type 0 where
@@ -108,16 +108,21 @@ pub record GivesRun (sector : ℕ) (bytes : List ℕ) (old new : MirrorView) : T
   pub lowest : (lower : ℕ) → lower < role → (s : ℕ) → sector ≤ s → s < sector + length bytes / 512 → NotGivenIn lower s old new
 
 abbrev pub TriesRoles : ℕ → List ℕ → List ℕ → MirrorView → MirrorView → Answer → Type 0
-TriesRoles sector was bytes old new answer.Given = Rests old new × GivesRun sector bytes old new
-TriesRoles sector was bytes old new answer.None = Rests old new × ((role s : ℕ) → sector ≤ s → s < sector + length was / 512 → NotGivenIn role s old new)
-TriesRoles sector was bytes old new answer.Some = Rests old new × (1 < length was / 512)
+TriesRoles sector was bytes old new answer.All = Rests old new × GivesRun sector bytes old new
+TriesRoles sector was bytes old new answer.Nothing = Rests old new × ((role s : ℕ) → sector ≤ s → s < sector + length was / 512 → NotGivenIn role s old new)
+TriesRoles sector was bytes old new answer.Perhaps = Rests old new × (1 < length was / 512)
 
--- so many of the sectors were given, and where none was, no member in sync gave the first
+-- so many of the sectors were given
 pub record GivesFront (sector : ℕ) (was bytes : List ℕ) (old new : MirrorView) (sectors : ℕ) : Type 0 where
   pub rests : Rests old new
+  pub some : 0 < sectors
   pub few : sectors ≤ length was / 512
   pub given : (i : ℕ) → i < sectors → IsGiven (sector + i) (held bytes i 512) old new
-  pub none : sectors ≡ 0 → (role : ℕ) → NotGivenIn role sector old new
+
+-- no member in sync gave the first of them
+pub record GivesNoFront (sector : ℕ) (old new : MirrorView) : Type 0 where
+  pub rests : Rests old new
+  pub none : (role : ℕ) → NotGivenIn role sector old new
 
 pub record GivesAll (sector : ℕ) (bytes : List ℕ) (old new : MirrorView) : Type 0 where
   pub rests : Rests old new

@@ -16,12 +16,12 @@ use md_device::Device;
 /// What came of reading some sectors in a role.
 #[derive(Clone, Copy, Debug, PartialEq, Eq)]
 pub(crate) enum Answer {
-    /// The member in sync in the role gave them.
-    Given,
+    /// The member in sync in the role gave all of them.
+    All,
     /// It gives none of them, or there is none.
-    None,
+    Nothing,
     /// It may give some of them.
-    Some,
+    Perhaps,
 }
 
 // The member in sync in a role.
@@ -97,16 +97,16 @@ pub(crate) fn read_in<D: Device + Drop>(
 {
     let sectors = buf.len() as u64 / 512;
     let Some(k) = member_in(mirror, role) else {
-        return Answer::None;
+        return Answer::Nothing;
     };
     if lists_some(mirror, k, sector, sectors) {
         if lists_all(mirror, k, sector, sectors) {
-            return Answer::None;
+            return Answer::Nothing;
         }
-        return Answer::Some;
+        return Answer::Perhaps;
     }
     match mirror.read_data(k, sector, buf) {
-        Ok(()) => Answer::Given,
+        Ok(()) => Answer::All,
         Err(_) => unread(sectors),
     }
 }
@@ -114,12 +114,12 @@ pub(crate) fn read_in<D: Device + Drop>(
 // Of one sector it is known that the member doesn't give it.
 fn unread(sectors: u64) -> Answer
     requires { 0 < sectors }
-    ensures one { sectors ≡ 1 → result ≡ Answer.None }
-    ensures more { 1 < sectors → result ≡ Answer.Some }
+    ensures one { sectors ≡ 1 → result ≡ Answer.Nothing }
+    ensures more { 1 < sectors → result ≡ Answer.Perhaps }
 {
     if sectors == 1 {
-        Answer::None
+        Answer::Nothing
     } else {
-        Answer::Some
+        Answer::Perhaps
     }
 }

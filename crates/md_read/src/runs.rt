@@ -1,7 +1,7 @@
 // Reading runs of sectors, each from one member.
-ghost use Rattle.std.specs.Prelude.{◌≡◌, ◌+◌, ◌*◌, ◌/◌, ◌%◌, ◌^◌, ◌<◌, ◌≤◌, MatchResult, length};
+ghost use Rattle.std.specs.Prelude.{◌≡◌, ◌+◌, ◌*◌, ◌/◌, ◌%◌, ◌^◌, ◌<◌, ◌≤◌, MatchOption, MatchResult, length};
 ghost use Rattle.md_array.specs.Consistency.{IsConsistent};
-ghost use Rattle.md_read.specs.Reading.{GivesAll, GivesFront, IsGivenUpTo, TriesRoles};
+ghost use Rattle.md_read.specs.Reading.{GivesAll, GivesFront, GivesNoFront, IsGivenUpTo, TriesRoles};
 
 use crate::fault::UnreadFault;
 use crate::roles::{Answer, read_in};
@@ -18,29 +18,29 @@ fn read_run<D: Device + Drop>(mirror: &mut Mirror<D>, sector: u64, buf: &mut [u8
 {
     for role in 0..mirror.shared().raid_disks {
         match read_in(mirror, role, sector, buf) {
-            Answer::Given => return Answer::Given,
-            Answer::Some => return Answer::Some,
-            Answer::None => {}
+            Answer::All => return Answer::All,
+            Answer::Perhaps => return Answer::Perhaps,
+            Answer::Nothing => {}
         }
     }
-    Answer::None
+    Answer::Nothing
 }
 
 // Reads the first of these sectors, and as many of those after it as the same read gives: all, half of them,
-// or fewer. The answer is how many, 0 where no member in sync gave the first.
-fn read_front<D: Device + Drop>(mirror: &mut Mirror<D>, sector: u64, buf: &mut [u8]) -> u64
+// or fewer. The answer is how many, `None` where no member in sync gave the first.
+fn read_front<D: Device + Drop>(mirror: &mut Mirror<D>, sector: u64, buf: &mut [u8]) -> Option<u64>
     requires some { 512 ≤ length buf.old }
     requires whole { length buf.old % 512 ≡ 0 }
     requires inside { sector + length buf.old / 512 ≤ mirror.old.array.chunks.size }
     requires sound { IsConsistent mirror.old }
-    ensures { GivesFront sector buf.old buf.new mirror.old mirror.new result }
+    ensures { MatchOption result (GivesNoFront sector mirror.old mirror.new) (GivesFront sector buf.old buf.new mirror.old mirror.new) }
 {
     let mut sectors = buf.len() / 512;
     loop {
         match read_run(mirror, sector, &mut buf[..512 * sectors]) {
-            Answer::Given => return sectors as u64,
-            Answer::None => return 0,
-            Answer::Some => sectors /= 2,
+            Answer::All => return Some(sectors as u64),
+            Answer::Nothing => return None,
+            Answer::Perhaps => sectors /= 2,
         }
     }
 }
@@ -60,10 +60,9 @@ pub(crate) fn read_runs<D: Device + Drop>(
     let mut done = 0;
     while done < buf.len() {
         let at = sector + done as u64 / 512;
-        let given = read_front(mirror, at, &mut buf[done..]);
-        if given == 0 {
+        let Some(given) = read_front(mirror, at, &mut buf[done..]) else {
             return Err(UnreadFault::Unreadable(at));
-        }
+        };
         done += 512 * given as usize;
     }
     Ok(())

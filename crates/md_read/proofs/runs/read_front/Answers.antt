@@ -10,29 +10,28 @@ use Rattle.md_read.proofs.runs.read_front.Goals as goal
 run_long : (buf : List ℕ) (sectors : ℕ) → sectors ≤ length buf / 512 → length (take (512 * sectors) buf) ≡ 512 * sectors
 run_long buf sectors few = length-take-le (512 * sectors) buf (omega arith)
 
-pub returns-in-Given : goal.returns-in-Given
-returns-in-Given g c =
+pub returns-in-All : goal.returns-in-All
+returns-in-All g c =
     let old = c.args.mirror.now in
     let mid = c.loop-sectors.mirror in
     let new = c.read_run.new.mirror in
     let rests = c.loop-sectors.invariant.rests in
     let bytes = c.read_run.new.buf in
     let rest = drop (512 * c.loop-sectors.sectors) c.loop-sectors.buf in
-    let few = c.loop-sectors.invariant.few in
     let long = run_long c.loop-sectors.buf c.loop-sectors.sectors (let same = c.loop-sectors.invariant.long in omega arith) in
     let same = c.read_run.auto.buf in
-    let run = run_earlier old mid new rests c.in-Given.ensures.0 c.args.sector bytes c.in-Given.ensures.1 in
+    let run = run_earlier old mid new rests c.in-All.ensures.0 c.args.sector bytes c.in-All.ensures.1 in
     record {
-      rests = rests_then old mid new rests c.in-Given.ensures.0;
-      few = few;
+      rests = rests_then old mid new rests c.in-All.ensures.0;
+      some = c.loop-sectors.invariant.some;
+      few = c.loop-sectors.invariant.few;
       given = λ i low.
           let inside : i < length bytes / 512 = omega arith in
           subst (λ (xs : List ℕ). IsGiven (c.args.sector + i) xs old new) (sym (held_front bytes rest i inside)) (sector_given old new c.args.sector bytes run i inside);
-      none = λ zero. let some = c.loop-sectors.invariant.some in absurd (omega arith);
     }
 
-pub returns-in-None : goal.returns-in-None
-returns-in-None g c =
+pub returns-in-Nothing : goal.returns-in-Nothing
+returns-in-Nothing g c =
     let old = c.args.mirror.now in
     let mid = c.loop-sectors.mirror in
     let new = c.read_run.new.mirror in
@@ -41,10 +40,8 @@ returns-in-None g c =
     let some = c.loop-sectors.invariant.some in
     let long = run_long c.loop-sectors.buf c.loop-sectors.sectors (let same = c.loop-sectors.invariant.long in omega arith) in
     record {
-      rests = rests_then old mid new rests c.in-None.ensures.0;
-      few = omega arith;
-      given = λ i low. absurd (omega arith);
-      none = λ _ role. not_given_earlier old mid new rests c.in-None.ensures.0 role c.args.sector (c.in-None.ensures.1 role c.args.sector (omega arith) (omega arith));
+      rests = rests_then old mid new rests c.in-Nothing.ensures.0;
+      none = λ role. not_given_earlier old mid new rests c.in-Nothing.ensures.0 role c.args.sector (c.in-Nothing.ensures.1 role c.args.sector (omega arith) (omega arith));
     }
 
 pub loop-sectors-preserved : goal.loop-sectors-preserved
@@ -57,12 +54,12 @@ loop-sectors-preserved g c =
     let few = c.loop-sectors.invariant.few in
     let same = c.loop-sectors.invariant.long in
     let long = run_long c.loop-sectors.buf sectors (omega arith) in
-    let two = c.in-Some.ensures.1 in
+    let two = c.in-Perhaps.ensures.1 in
     let given = c.read_run.auto.buf in
     let rest = length-drop (512 * sectors) c.loop-sectors.buf in
     record {
-      rests = rests_then old mid new c.loop-sectors.invariant.rests c.in-Some.ensures.0;
-      sound = rests_sound mid new c.in-Some.ensures.0 c.loop-sectors.invariant.sound;
+      rests = rests_then old mid new c.loop-sectors.invariant.rests c.in-Perhaps.ensures.0;
+      sound = rests_sound mid new c.in-Perhaps.ensures.0 c.loop-sectors.invariant.sound;
       long = length-append c.read_run.new.buf (drop (512 * sectors) c.loop-sectors.buf) ∙ (omega arith);
       some = omega arith;
       few = omega arith;

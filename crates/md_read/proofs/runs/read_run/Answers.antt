@@ -6,24 +6,24 @@ use Rattle.md_laws.proofs.Runs.Rests.{rests_then}
 use Rattle.md_read.proofs.RunsRead.{NoneBelow, given_run, none_more}
 use Rattle.md_read.proofs.runs.read_run.Goals as goal
 
-pub returns-in-Given : goal.returns-in-Given
-returns-in-Given g c =
+pub returns-in-All : goal.returns-in-All
+returns-in-All g c =
     let old = c.args.mirror.now in
     let mid = c.loop-role.mirror in
     let new = c.read_in.new.mirror in
     let bytes = c.read_in.new.buf in
     let so_far = c.loop-role.invariant.none in
     let same : length bytes ≡ length c.args.buf.now = c.read_in.auto.buf ∙ c.loop-role.invariant.long in (
-      rests_then old mid new so_far.rests c.in-Given.ensures.0,
-      given_run c.loop-role.role c.args.sector old mid new bytes (subst (λ (n : ℕ). NoneBelow c.loop-role.role c.args.sector (n / 512) old mid) (sym same) so_far) c.in-Given.ensures.0 c.in-Given.ensures.1,
+      rests_then old mid new so_far.rests c.in-All.ensures.0,
+      given_run c.loop-role.role c.args.sector old mid new bytes (subst (λ (n : ℕ). NoneBelow c.loop-role.role c.args.sector (n / 512) old mid) (sym same) so_far) c.in-All.ensures.0 c.in-All.ensures.1,
     )
 
-pub returns-in-Some : goal.returns-in-Some
-returns-in-Some g c =
+pub returns-in-Perhaps : goal.returns-in-Perhaps
+returns-in-Perhaps g c =
     let so_far = c.loop-role.invariant.none in
     let long = c.loop-role.invariant.long in
-    let many = c.in-Some.ensures.1 in (
-      rests_then c.args.mirror.now c.loop-role.mirror c.read_in.new.mirror so_far.rests c.in-Some.ensures.0,
+    let many = c.in-Perhaps.ensures.1 in (
+      rests_then c.args.mirror.now c.loop-role.mirror c.read_in.new.mirror so_far.rests c.in-Perhaps.ensures.0,
       subst (λ (n : ℕ). 1 < n / 512) long many,
     )
 
@@ -34,9 +34,9 @@ loop-role-preserved g c =
     let new = c.read_in.new.mirror in
     let long = c.loop-role.invariant.long in
     record {
-      none = none_more c.loop-role.role c.args.sector old mid new (length c.args.buf.now / 512) c.loop-role.invariant.none c.in-None.ensures.0
-          (λ s from below. c.in-None.ensures.1 s from (let same = ap (λ n. n / 512) long in omega arith));
-      sound = rests_sound mid new c.in-None.ensures.0 c.loop-role.invariant.sound;
+      none = none_more c.loop-role.role c.args.sector old mid new (length c.args.buf.now / 512) c.loop-role.invariant.none c.in-Nothing.ensures.0
+          (λ s from below. c.in-Nothing.ensures.1 s from (let same = ap (λ n. n / 512) long in omega arith));
+      sound = rests_sound mid new c.in-Nothing.ensures.0 c.loop-role.invariant.sound;
       long = c.read_in.auto.buf ∙ long;
     }
 

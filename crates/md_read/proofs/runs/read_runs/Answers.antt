@@ -17,30 +17,30 @@ overflow_add-at g c =
     let fits = c.requires.fits in
     omega arith
 
-pub returns-then-given-eq0 : goal.returns-then-given-eq0
-returns-then-given-eq0 g c =
+pub returns-in_default : goal.returns-in_default
+returns-in_default g c =
     let old = c.args.mirror.now in
     let mid = c.loop-done.mirror in
-    let new = c.read_front-given.new.mirror in
+    let new = c.read_front.new.mirror in
     let so_far = c.loop-done.invariant in
     let before = c.loop-done-test.true in
     let rests = so_far.rests in
-    let later = c.read_front-given.ensures.rests in
+    let later = c.in_default.ensures.rests in
     let done = c.loop-done.done in
     let was = c.loop-done.buf in
-    let bytes = c.read_front-given.new.buf in
+    let bytes = c.read_front.new.buf in
     let rest : ℕ = length was - done in
     let same = so_far.long in
     let past = length-drop done was in
     let taken = length-take-le rest (drop done was) (omega arith) in
-    let as_long : length bytes ≡ rest = c.read_front-given.auto.buf ∙ taken in
+    let as_long : length bytes ≡ rest = c.read_front.auto.buf ∙ taken in
     let long = length-replaced done rest was bytes (omega arith) refl as_long in
     let at : ℕ = c.args.sector + done / 512 in
     record {
       rests = rests_then old mid new rests later;
       from = omega arith;
       below = let whole = so_far.whole in let all = c.requires.whole in omega arith;
-      none = λ role. not_given_earlier old mid new rests later role at (c.read_front-given.ensures.none c.if-given-eq0.true role);
+      none = λ role. not_given_earlier old mid new rests later role at (c.in_default.ensures.none role);
       earlier = λ i below.
           let early : i < done / 512 = omega arith in
           subst (λ (xs : List ℕ). IsGiven (c.args.sector + i) xs old new) (sym (held_before done rest was bytes (omega arith) i early))
@@ -51,12 +51,12 @@ pub loop-done-preserved : goal.loop-done-preserved
 loop-done-preserved g c =
     let old = c.args.mirror.now in
     let mid = c.loop-done.mirror in
-    let new = c.read_front-given.new.mirror in
+    let new = c.read_front.new.mirror in
     let so_far = c.loop-done.invariant in
-    let front = c.read_front-given.ensures in
+    let front = c.in-Some.ensures in
     let done = c.loop-done.done in
     let was = c.loop-done.buf in
-    let bytes = c.read_front-given.new.buf in
+    let bytes = c.read_front.new.buf in
     let rest : ℕ = length was - done in
     let before = c.loop-done-test.true in
     let same = so_far.long in
@@ -64,7 +64,7 @@ loop-done-preserved g c =
     let all = c.requires.whole in
     let past = length-drop done was in
     let taken = length-take-le rest (drop done was) (omega arith) in
-    let as_long : length bytes ≡ rest = c.read_front-given.auto.buf ∙ taken in
+    let as_long : length bytes ≡ rest = c.read_front.auto.buf ∙ taken in
     let few = front.few in
     let at : (i : ℕ) → List ℕ = λ i. held (put_mid done rest was bytes) i 512 in
     record {
