@@ -258,7 +258,10 @@ module _ {S : Type 0} (s : SinkGhosts S) (old new : MirrorView) (before after : 
     writes_as_many OutOfRange h = same old new h.unchanged
     writes_as_many BadLength h = same old new h.unchanged
     writes_as_many (Resync fault) h = not_readied fault old new h.refused
-    writes_as_many (Write fault) h = not_written fault sector h.bytes h.refused.ready new h.refused.refused ∙ readied old h.refused.ready h.refused.readied
+    writes_as_many (Write fault) h = ⊎_elim
+        (λ r. refused old new _ r.refused)
+        (λ r. not_written fault sector r.bytes r.refused.ready new r.refused.refused ∙ readied old r.refused.ready r.refused.readied)
+        h
     writes_as_many (Stop fault) h = fails_after (WritesReadied sector h.bytes old) old new fault (wrote_readied sector h.bytes old) h.refused
     writes_as_many (Read fault) h = absurd h
     writes_as_many OutputFault h = stopped_after (WritesReadied sector h.bytes old) old new (wrote_readied sector h.bytes old) h.done

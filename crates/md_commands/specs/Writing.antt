@@ -1,7 +1,9 @@
 -- The command that writes to an array.
-use Rattle.std.specs.Prelude.{◌≡◌, ℕ, true, List}
+use Rattle.std.specs.Prelude.{◌≡◌, ◌⊎◌, ℕ, true, false, List}
 use Rattle.md_examine.specs.declared.sink.Sink.{Ghosts as SinkGhosts}
 use Rattle.md_state.specs.declared.step_fault.BeginFault.{BeginFault}
+use Rattle.md_state.specs.declared.step_fault.BeginFault.TheVariants.{Halted}
+use Rattle.md_state.specs.Trying.{RefusesHalted}
 use Rattle.md_state.specs.View.{MirrorView}
 use Rattle.md_write.specs.Writing.{RefusesWrite, Writes}
 use Rattle.md_report.specs.SummaryReport.{summary_text}
@@ -39,14 +41,23 @@ module _ {I S : Type 0} (i : SourceGhosts I) (s : SinkGhosts S) (sector : ℕ) (
     pub done : StopsAfter (WritesReadied sector bytes old) new
     pub shown : PutsOut s before after (summary_text new.array)
 
+  -- the mirror is halted, and nothing is done
+  pub record RefusesUnread (fault : BeginFault) : Type 0 where
+    pub is : fault ≡ Halted
+    pub refused : RefusesHalted old new
+    pub unread : rest ≡ input
+    pub unwritten : after ≡ before
+
   -- the input is refused, and nothing else is done
   pub record RefusesAnyInput (fault : DataFault) : Type 0 where
+    pub running : old.array.halted ≡ false
     pub refused : RefusesInput i old.array.chunks.size input rest fault
     pub unchanged : new ≡ old
     pub unwritten : after ≡ before
 
   -- its bytes are not written, or the array is not stopped
   pub record RefusesItsBytes (fault : DataFault) : Type 0 where
+    pub running : old.array.halted ≡ false
     pub bytes : List ℕ
     pub is : IsInput i old.array.chunks.size input rest bytes
     pub refused : RefusesBytes sector bytes old new fault
@@ -65,7 +76,7 @@ module _ {I S : Type 0} (i : SourceGhosts I) (s : SinkGhosts S) (sector : ℕ) (
   RefusesToWrite OutOfRange = RefusesAnyInput OutOfRange
   RefusesToWrite BadLength = RefusesAnyInput BadLength
   RefusesToWrite (Resync fault) = RefusesItsBytes (Resync fault)
-  RefusesToWrite (Write fault) = RefusesItsBytes (Write fault)
+  RefusesToWrite (Write fault) = RefusesUnread fault ⊎ RefusesItsBytes (Write fault)
   RefusesToWrite (Stop fault) = RefusesItsBytes (Stop fault)
   RefusesToWrite (Read fault) = ⊥
   RefusesToWrite OutputFault = WritesInVain

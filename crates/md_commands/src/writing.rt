@@ -11,7 +11,7 @@ use crate::input::whole_input;
 use crate::output::put_summary;
 use crate::resyncing::resync_if_needed;
 use crate::source::Source;
-use md_array::Mirror;
+use md_array::{BeginFault, Mirror};
 use md_device::Device;
 use md_examine::Sink;
 use md_metadata::stop;
@@ -21,7 +21,8 @@ use std::alloc::Global;
 /// Writes all of an input to an array, from this sector on; then stops it, and puts out what it is in one
 /// line. A degraded array that is not resynced is resynced first. The input is read into memory before
 /// anything else is done, to its end or to one byte more than the array has: at `InputFault`, `OutOfRange`,
-/// `BadLength` and `NoMemory` nothing was written.
+/// `BadLength` and `NoMemory` nothing was written. Of a halted mirror, which is `Write` with `Halted`, it is
+/// not read.
 ///
 /// The sector and the length of the input are compared with the end of the array after the resync: that is
 /// `Write` with `OutOfRange`, also where the input is empty.
@@ -41,6 +42,9 @@ pub fn write_array<D: Device + Drop, I: Source, S: Sink>(
     ensures sound { IsConsistent mirror.new }
     ensures pending { (p : PendingView) → IsPending mirror.old.array p → IsPending mirror.new.array p }
 {
+    if mirror.halted() {
+        return Err(DataFault::Write(BeginFault::Halted));
+    }
     let bytes = whole_input(alloc, input, mirror.chunks().size)?;
     write_and_stop(alloc, mirror, sector, &bytes)?;
     put_summary(mirror, out)
