@@ -211,7 +211,7 @@ read_readied sector count bytes old new r = r.reads.reads.rests.disks.same.as_ma
 not_read_of : (fault : UnreadFault) (sector count : ℕ) (old new : MirrorView) → RefusesSectorsOf sector count old new fault → AsMany old new
 not_read_of unread.Halted sector count old new h = refused old new _ h
 not_read_of unread.OutOfRange sector count old new h = refused old new _ h
-not_read_of unread.NotResynced sector count old new h = not_read unread.NotResynced sector h.fails.bytes h.ready new h.fails.refused ∙ readied old h.ready h.readied
+not_read_of unread.NotResynced sector count old new h = refused old new _ h
 not_read_of (unread.Unreadable s) sector count old new h = not_read (unread.Unreadable s) sector h.fails.bytes h.ready new h.fails.refused ∙ readied old h.ready h.readied
 
 wrote_readied : (sector : ℕ) (bytes : List ℕ) (old new : MirrorView) → WritesReadied sector bytes old new → AsMany old new
@@ -243,7 +243,7 @@ module _ {S : Type 0} (s : SinkGhosts S) (old new : MirrorView) (before after : 
   pub reads_as_many : (sector count : ℕ) (fault : DataFault) → RefusesToRead s sector count old new before after fault → AsMany old new
   reads_as_many sector count (Read fault) h = not_read_of fault sector count old new h.0
   reads_as_many sector count (Resync fault) h = not_readied fault old new h.1
-  reads_as_many sector count NoMemory h = readied old new h.1
+  reads_as_many sector count NoMemory h = readied old new h.0.readied
   reads_as_many sector count OutputFault h = read_readied sector count h.bytes old new h.reads
   reads_as_many sector count BadLength h = absurd h
   reads_as_many sector count InputFault h = absurd h

@@ -5,6 +5,7 @@ use Rattle.md_read.specs.declared.fault.UnreadFault.{UnreadFault}
 use Rattle.md_read.specs.declared.fault.UnreadFault.TheVariants.{Halted, NotResynced, OutOfRange, Unreadable}
 use Rattle.md_read.specs.Reading.{Reads, RefusesRead}
 use Rattle.md_state.specs.Beginning.{IsInRange, IsOutOfRange}
+use Rattle.md_state.specs.Members.{is_degraded}
 use Rattle.md_state.specs.Trying.{Refuses, RefusesHalted}
 use Rattle.md_state.specs.View.{ArrayView, MirrorView}
 use Rattle.md_commands.specs.declared.fault.DataFault.{DataFault}
@@ -46,6 +47,18 @@ pub record ReadsReadied (sector count : ℕ) (bytes : List ℕ) (old new : Mirro
   pub readied : ResyncsIfNeeded old ready
   pub reads : ReadsSectors sector count bytes ready new
 
+-- members in sync may differ, and the array is not degraded: it is not resynced before it is read
+pub record MustBeResynced (a : ArrayView) (sector count : ℕ) : Type 0 where
+  pub may : MayReadArray a sector count
+  pub not_yet : a.resynced ≡ false
+  pub complete : is_degraded a ≡ false
+
+-- there is no memory for the sectors
+pub record FindsNoMemory (sector count : ℕ) (old new : MirrorView) : Type 0 where
+  pub may : MayReadArray old.array sector count
+  pub readied : ResyncsIfNeeded old new
+  pub resynced : new.array.resynced ≡ true
+
 -- they are not read
 pub record FailsReadied (sector count : ℕ) (old new : MirrorView) (fault : UnreadFault) : Type 0 where
   pub may : MayReadArray old.array sector count
@@ -56,7 +69,7 @@ pub record FailsReadied (sector count : ℕ) (old new : MirrorView) (fault : Unr
 abbrev pub RefusesSectorsOf : ℕ → ℕ → MirrorView → MirrorView → UnreadFault → Type 0
 RefusesSectorsOf sector count old new Halted = RefusesRange sector count old new Halted
 RefusesSectorsOf sector count old new OutOfRange = RefusesRange sector count old new OutOfRange
-RefusesSectorsOf sector count old new NotResynced = FailsReadied sector count old new NotResynced
+RefusesSectorsOf sector count old new NotResynced = Refuses old new (MustBeResynced old.array sector count)
 RefusesSectorsOf sector count old new (Unreadable s) = FailsReadied sector count old new (Unreadable s)
 
 module _ {S : Type 0} (s : Ghosts S) where
@@ -74,6 +87,6 @@ module _ {S : Type 0} (s : Ghosts S) where
   abbrev pub RefusesToRead : ℕ → ℕ → MirrorView → MirrorView → S → S → DataFault → Type 0
   RefusesToRead sector count old new before after (Read fault) = RefusesSectorsOf sector count old new fault × (after ≡ before)
   RefusesToRead sector count old new before after (Resync fault) = MayReadArray old.array sector count × RefusesNeededResync old new fault × (after ≡ before)
-  RefusesToRead sector count old new before after NoMemory = MayReadArray old.array sector count × ResyncsIfNeeded old new × (after ≡ before)
+  RefusesToRead sector count old new before after NoMemory = FindsNoMemory sector count old new × (after ≡ before)
   RefusesToRead sector count old new before after OutputFault = ReadsInVain sector count old new after
   RefusesToRead sector count old new before after fault = ⊥

@@ -20,7 +20,8 @@ use std::alloc::Global;
 /// the output has none.
 ///
 /// That the mirror is halted, or the range empty or past the end, is looked for before anything else: that is
-/// `Read` with `Halted` or `OutOfRange`.
+/// `Read` with `Halted` or `OutOfRange`. That members in sync may differ, which is `Read` with `NotResynced`, is
+/// looked for before memory is taken.
 ///
 ///     let mut out = Output::new(rt.stdout());
 ///     read_array(rt.alloc(), &mut mirror, 8, 2, &mut out)?; // puts out the 1024 bytes of sectors 8 and 9
@@ -38,6 +39,9 @@ pub fn read_array<D: Device + Drop, S: Sink>(
 {
     check_range(mirror, sector, count)?;
     resync_if_needed(alloc, mirror)?;
+    if !mirror.resynced() {
+        return Err(DataFault::Read(UnreadFault::NotResynced));
+    }
     let bytes = read_sectors(alloc, mirror, sector, count)?;
     put_out(out, &bytes)
 }
