@@ -17,7 +17,6 @@ use Rattle.md_metadata.specs.Going.{LeadsBy}
 use Rattle.md_metadata.specs.Stopping.{IsStopping, RefusesStop, Stops}
 use Rattle.md_read.specs.declared.fault.UnreadFault.{UnreadFault}
 use Rattle.md_read.specs.declared.fault.UnreadFault.TheVariants as unread
-use Rattle.md_read.specs.Reading.{RefusesRead}
 use Rattle.md_resync.specs.declared.fault.ResyncFault.{ResyncFault}
 use Rattle.md_resync.specs.declared.fault.ResyncFault.TheVariants as resync
 use Rattle.md_resync.specs.Resyncing.{GoesOn, GoesUnresynced, IsOfResync, RefusesResync, Resyncs}
@@ -64,28 +63,14 @@ did IsOf keeps Event.Resynced old new before after of h = ap length h.1.marks.di
 did IsOf keeps Event.Unresynced old new before after of h = ap length h.1.disks
 did IsOf keeps Event.MakeClean old new before after of h = ap length h.1.disks
 did IsOf keeps (Event.Remove k) old new before after of h = absurd (keeps k of)
-did IsOf keeps (Event.Add d left) old new before after of h = absurd h
-did IsOf keeps (Event.ReAdd own device left) old new before after of h = absurd h
+did IsOf keeps e old new before after of h = absurd h
 
 halts : (e : Event) (old new : MirrorView) (before : Requests) → HaltsAt old before e new → AsMany old new
-halts (Event.Begin n p) old new before h = absurd h
-halts (Event.Record k) old new before h = absurd h
-halts (Event.StoreMarks k b) old new before h = absurd h
-halts (Event.WriteMember n k) old new before h = absurd h
-halts (Event.Finish n) old new before h = absurd h
-halts (Event.ClearIdle c) old new before h = absurd h
-halts (Event.Fail k) old new before h = absurd h
 halts (Event.RecordFails k) old new before h = h.halts.disks.tried.as_many
 halts (Event.StoreMarksFails k b) old new before h = h.halts.disks.tried.as_many
 halts (Event.WriteMemberFails n k) old new before h = h.3.halts.disks.tried.as_many
 halts (Event.CopyFails k c) old new before h = h.halts.disks.tried.as_many
-halts (Event.Copy from k s) old new before h = absurd h
-halts Event.Resynced old new before h = absurd h
-halts Event.Unresynced old new before h = absurd h
-halts Event.MakeClean old new before h = absurd h
-halts (Event.Remove k) old new before h = absurd h
-halts (Event.Add d left) old new before h = absurd h
-halts (Event.ReAdd own device left) old new before h = absurd h
+halts e old new before h = absurd h
 
 -- ---- lists of events
 module _ (IsOf : Event → Type 0) (keeps : KeepsMembers IsOf) where
@@ -182,12 +167,6 @@ not_written begin.EventsFull sector bytes old new h = refused old new _ h
 not_written begin.NumbersSpent sector bytes old new h = refused old new _ h
 not_written begin.NoMemory sector bytes old new h = refused old new _ h
 
-not_read : (fault : UnreadFault) (sector : ℕ) (bytes : List ℕ) (old new : MirrorView) → RefusesRead sector bytes old new fault → AsMany old new
-not_read unread.Halted sector bytes old new h = refused old new _ h
-not_read unread.OutOfRange sector bytes old new h = refused old new _ h
-not_read unread.NotResynced sector bytes old new h = refused old new _ h
-not_read (unread.Unreadable s) sector bytes old new h = h.1.rests.disks.same.as_many
-
 -- ---- the commands
 readied : (old new : MirrorView) → ResyncsIfNeeded old new → AsMany old new
 readied old new r = by (needs_resync old.array) refl
@@ -212,7 +191,7 @@ not_read_of : (fault : UnreadFault) (sector count : ℕ) (old new : MirrorView) 
 not_read_of unread.Halted sector count old new h = refused old new _ h
 not_read_of unread.OutOfRange sector count old new h = refused old new _ h
 not_read_of unread.NotResynced sector count old new h = refused old new _ h
-not_read_of (unread.Unreadable s) sector count old new h = not_read (unread.Unreadable s) sector h.fails.bytes h.ready new h.fails.refused ∙ readied old h.ready h.readied
+not_read_of (unread.Unreadable s) sector count old new h = h.fails.refused.1.rests.disks.same.as_many ∙ readied old h.ready h.readied
 
 wrote_readied : (sector : ℕ) (bytes : List ℕ) (old new : MirrorView) → WritesReadied sector bytes old new → AsMany old new
 wrote_readied sector bytes old new w = wrote sector bytes w.ready new w.writes ∙ readied old w.ready w.readied
@@ -221,35 +200,20 @@ module _ {S : Type 0} (s : SinkGhosts S) (old new : MirrorView) (before after : 
   pub stops_as_many : (fault : DataFault) → RefusesToStop s old new before after fault → AsMany old new
   stops_as_many (Stop fault) h = not_stopped fault old new h.0
   stops_as_many OutputFault h = stopped old new h.0
-  stops_as_many BadLength h = absurd h
-  stops_as_many InputFault h = absurd h
-  stops_as_many NoMemory h = absurd h
-  stops_as_many OutOfRange h = absurd h
-  stops_as_many (Read fault) h = absurd h
-  stops_as_many (Resync fault) h = absurd h
-  stops_as_many (Write fault) h = absurd h
+  stops_as_many fault h = absurd h
 
   pub resyncs_as_many : (fault : DataFault) → RefusesToResync s old new before after fault → AsMany old new
   resyncs_as_many (Resync fault) h = not_resynced fault old new h.0
   resyncs_as_many (Stop fault) h = fails_after (Resyncs old) old new fault (resynced old) h.0
   resyncs_as_many OutputFault h = stopped_after (Resyncs old) old new (resynced old) h.0
-  resyncs_as_many BadLength h = absurd h
-  resyncs_as_many InputFault h = absurd h
-  resyncs_as_many NoMemory h = absurd h
-  resyncs_as_many OutOfRange h = absurd h
-  resyncs_as_many (Read fault) h = absurd h
-  resyncs_as_many (Write fault) h = absurd h
+  resyncs_as_many fault h = absurd h
 
   pub reads_as_many : (sector count : ℕ) (fault : DataFault) → RefusesToRead s sector count old new before after fault → AsMany old new
   reads_as_many sector count (Read fault) h = not_read_of fault sector count old new h.0
   reads_as_many sector count (Resync fault) h = not_readied fault old new h.1
   reads_as_many sector count NoMemory h = readied old new h.0.readied
   reads_as_many sector count OutputFault h = read_readied sector count h.bytes old new h.reads
-  reads_as_many sector count BadLength h = absurd h
-  reads_as_many sector count InputFault h = absurd h
-  reads_as_many sector count OutOfRange h = absurd h
-  reads_as_many sector count (Stop fault) h = absurd h
-  reads_as_many sector count (Write fault) h = absurd h
+  reads_as_many sector count fault h = absurd h
 
   module _ {I : Type 0} (i : SourceGhosts I) (sector : ℕ) (input rest : I) where
     pub writes_as_many : (fault : DataFault) → RefusesToWrite i s sector old new input rest before after fault → AsMany old new
