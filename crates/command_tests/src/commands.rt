@@ -1,22 +1,23 @@
 // One run of the program over images in memory.
 use crate::checks::{holds, reads};
-use example_members::{image, vault};
+use crate::devices::BadDevice;
+use example_members::{bitmap, member_image, vault};
 use md_cli::{Messages, run};
-use md_commands::Input;
-use md_device::{FaultDevice, MemDevice};
-use md_examine::Sink;
-use md_images::MemImages;
+use md_commands::{Input, Source};
+use md_device::{Access, MemDevice};
+use md_examine::{Output, Sink};
+use md_images::{Images, MemImages};
 use std::alloc::Global;
 use std::process::Abort;
 use std::test::Fail;
 
-pub(crate) type HeldImages = MemImages<FaultDevice<MemDevice>>;
+pub(crate) type HeldImages = MemImages<BadDevice>;
 
 // The vault's member, on a device whose reads of these sectors fail.
-pub(crate) fn member(alloc: Global, bad: &[u64]) -> Result<FaultDevice<MemDevice>, Fail> {
+pub(crate) fn member(alloc: Global, bad: &[u64]) -> Result<BadDevice, Fail> {
     let bad = Vec::from_slice(alloc, bad)?;
-    let device = image(alloc, &vault())?;
-    Ok(FaultDevice::new(device, bad, 1, 0, false))
+    let memory = member_image(alloc, &vault(), &bitmap())?;
+    Ok(BadDevice { memory, bad })
 }
 
 // A run that is refused with these words on the errors.
@@ -38,10 +39,49 @@ pub(crate) fn is_refused<'a, S: Sink>(
     Ok(())
 }
 
+// A write to the array of one image from its first sector on, with these words on the errors. Its status.
+pub(crate) fn writes<R: Source>(
+    rt: &impl Abort,
+    alloc: Global,
+    images: &mut HeldImages,
+    input: &mut R,
+    said: &str,
+) -> Result<u8, Fail> {
+    let words = ["mdcli", "write", "--sector", "0", "a"];
+    let mut err: Vec<u8> = vec![in alloc]?;
+    let mut out = Output::new(vec![in alloc]?);
+    let status = run(
+        alloc,
+        &words,
+        images,
+        input,
+        &mut out,
+        &mut err,
+        Messages::Plain,
+    );
+    reads(rt, "the errors", &err, said);
+    drop(err);
+    let out: Vec<u8> = out.into_inner();
+    drop(out);
+    Ok(status)
+}
+
 // The device has the bytes of the vault's member.
 pub(crate) fn is_kept(rt: &impl Abort, alloc: Global, device: &MemDevice) -> Result<(), Fail> {
-    let before = image(alloc, &vault())?;
+    let before = member_image(alloc, &vault(), &bitmap())?;
     holds(rt, "the image is kept", device.bytes() == before.bytes());
     drop(before);
     Ok(())
+}
+
+pub(crate) fn is_kept_under(
+    rt: &impl Abort,
+    alloc: Global,
+    images: &mut HeldImages,
+    name: &str,
+) -> Result<(), Fail> {
+    let device = images.get(name, Access::Look)?;
+    let kept = is_kept(rt, alloc, &device.memory);
+    drop(device);
+    kept
 }

@@ -1,11 +1,10 @@
 // What is refused over images in memory: a sector that can't be read, an image that may only be looked at, and an output
 // that is full. The images stay as they are.
 use crate::checks::reads;
-use crate::commands::{HeldImages, is_kept, is_refused, member};
+use crate::commands::{HeldImages, is_kept_under, is_refused, member};
 use md_cli::Messages;
-use md_device::Access;
 use md_examine::Output;
-use md_images::{Images, MemImages};
+use md_images::MemImages;
 use std::alloc::Global;
 use std::process::Abort;
 use std::test::Fail;
@@ -50,18 +49,6 @@ fn shows_nothing<'a>(
     reads(rt, "the output", &shown, "");
     drop(shown);
     refused
-}
-
-fn is_kept_under(
-    rt: &impl Abort,
-    alloc: Global,
-    images: &mut HeldImages,
-    name: &str,
-) -> Result<(), Fail> {
-    let device = images.get(name, Access::Look)?.into_inner();
-    let kept = is_kept(rt, alloc, &device);
-    drop(device);
-    kept
 }
 
 fn one_image(alloc: Global, bad: &[u64]) -> Result<HeldImages, Fail> {

@@ -6,6 +6,8 @@ mod checks;
 #[cfg(test)]
 mod commands;
 #[cfg(test)]
+mod devices;
+#[cfg(test)]
 mod faults_in_memory;
 #[cfg(test)]
 mod plan_reports;

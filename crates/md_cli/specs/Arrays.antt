@@ -18,9 +18,10 @@ use Rattle.md_images.specs.declared.fault.ImagesFault.{ImagesFault}
 use Rattle.md_images.specs.declared.fault.ImagesFault.TheVariants as images
 use Rattle.md_images.specs.Taking.{ArePut, AreUnder, IsDistinct, IsThere, RefusesImages, Word, names_of}
 
--- a device over which what is written is kept in memory: no stop leaves any of that
+-- a device that is only looked at, and over which what is written is kept in memory: no call on it has failed yet, and no
+-- stop leaves any of what is written
 abbrev pub overlaid : Disk → Disk
-overlaid d = record d { stops = [] }
+overlaid d = record d { failures = 0; stops = [] }
 
 module _ {X : Type 0} where
   -- they are not opened as a mirror, and nothing is read or put out
@@ -53,25 +54,27 @@ module _ {R S : Type 0} (r : SourceGhosts R) (s : SinkGhosts S) where
   abbrev pub OpensDevices : ArrayTask → List Disk → List Disk → Streams R S → Streams R S → Result (Unit {0}) CommandFault → Type 0
   OpensDevices task before after old new result = PerformsOnMirror task before after old new result ⊎ RefusesMirror before after old new result
 
-  -- What is written is kept in memory over the devices, which are opened so as a mirror. That each device comes back with what
-  -- stood on it is by the contract of the overlay, which does not write to it: no contract of a mirror says so.
-  pub record LooksAtMirror (task : ArrayTask) (before after : List Disk) (old new : Streams R S) (result : Result (Unit {0}) CommandFault) : Type 0 where
+  -- The devices are only looked at, and what is written is kept in memory over them. They are opened so as a mirror, and the
+  -- task is done with it.
+  pub record LooksAtMirror (task : ArrayTask) (devices : List Disk) (old new : Streams R S) (result : Result (Unit {0}) CommandFault) : Type 0 where
     pub seen : List Disk
-    pub opened : OpensDevices task (map overlaid before) seen old new result
-    pub as_many : length after ≡ length before
+    pub opened : OpensDevices task (map overlaid devices) seen old new result
 
   -- there is no memory for the list of overlays
-  pub record LooksAtNothing (before after : List Disk) (old new : Streams R S) (result : Result (Unit {0}) CommandFault) : Type 0 where
+  pub record LooksAtNothing (old new : Streams R S) (result : Result (Unit {0}) CommandFault) : Type 0 where
     pub is : result ≡ Err NoMemory
-    pub untouched : after ≡ before
     pub unused : new ≡ old
 
-  abbrev pub LooksAtDevices : ArrayTask → List Disk → List Disk → Streams R S → Streams R S → Result (Unit {0}) CommandFault → Type 0
-  LooksAtDevices task before after old new result = LooksAtMirror task before after old new result ⊎ LooksAtNothing before after old new result
+  abbrev pub LooksAtDevices : ArrayTask → List Disk → Streams R S → Streams R S → Result (Unit {0}) CommandFault → Type 0
+  LooksAtDevices task devices old new result = LooksAtMirror task devices old new result ⊎ LooksAtNothing old new result
 
 -- What is done with devices, as contracts see them before and after, and with the output, or with both streams.
 abbrev pub Work : Type 0 → Type 1
 Work S = List Disk → List Disk → S → S → Result (Unit {0}) CommandFault → Type 0
+
+-- what is done with devices that are only looked at
+abbrev pub Look : Type 0 → Type 1
+Look S = List Disk → S → S → Result (Unit {0}) CommandFault → Type 0
 
 -- what a command answers where devices are not taken out of their images
 abbrev pub of_images : ImagesFault → CommandFault
@@ -105,3 +108,20 @@ module _ {D S : Type 0} (g : Ghosts D) where
   abbrev pub UsesImages : Work S → Type 0 → Bool → (Text → Bool) → (Text → Option D) → (Text → Option D) → List Word → S → S → Result (Unit {0}) CommandFault → Type 0
   UsesImages Does Unchanged known allowed before after words old new result =
       WorksOnImages Does known allowed before after words old new result ⊎ RefusesWords Unchanged known allowed before after words old new result
+
+  -- The devices of all words are taken out of their images, looked at, and put back under their names.
+  pub record LooksAtImages (Does : Look S) (known : Bool) (allowed : Text → Bool) (before : Text → Option D) (words : List Word) (old new : S) (result : Result (Unit {0}) CommandFault) : Type 0 where
+    pub devices : List D
+    pub distinct : IsDistinct (names_of words) (length words)
+    pub were : known ≡ true → AreUnder before (names_of words) (length words) devices
+    pub there : known ≡ true → (k : ℕ) → k < length words → IsThere allowed before (names_of words) k
+    pub done : Does (disks g devices) old new result
+
+  abbrev pub ViewsImages : Look S → Type 0 → Bool → (Text → Bool) → (Text → Option D) → (Text → Option D) → List Word → S → S → Result (Unit {0}) CommandFault → Type 0
+  ViewsImages Does Unchanged known allowed before after words old new result =
+      LooksAtImages Does known allowed before words old new result ⊎ RefusesWords Unchanged known allowed before after words old new result
+
+-- Where it is known which devices there are, each name has the device that it had, and no image was had so that it might have
+-- been changed.
+abbrev pub KeepsImages : {I D : Type 0} → (I → Bool) → (I → Text → Option D) → (I → Text → Bool) → I → I → Type 0
+KeepsImages known device_at asked before after = known before ≡ true → (name : Text) → (device_at after name ≡ device_at before name) × (asked after name ≡ asked before name)

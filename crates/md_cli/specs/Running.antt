@@ -13,7 +13,7 @@ use Rattle.md_words.specs.declared.array_task.ArrayTask.{ArrayTask}
 use Rattle.md_words.specs.Asked.{Ask, Options, examines, creates, performs}
 use Rattle.md_commands.specs.declared.source.Source.{Ghosts as SourceGhosts}
 use Rattle.md_examine.specs.declared.sink.Sink.{Ghosts as SinkGhosts}
-use Rattle.md_cli.specs.Arrays.{LooksAtDevices, OpensDevices, UsesImages}
+use Rattle.md_cli.specs.Arrays.{KeepsImages, LooksAtDevices, OpensDevices, UsesImages, ViewsImages}
 use Rattle.md_cli.specs.Creating.{CreatesOn}
 use Rattle.md_cli.specs.Examining.{ExaminesOne}
 use Rattle.md_images.specs.Images.{allows}
@@ -56,10 +56,12 @@ module _ {I D S : Type 0} (g : DeviceGhosts D) (s : SinkGhosts S) (known : I →
   abbrev pub MakesArray : Options → List Text → I → I → S → S → Result (Unit {0}) CommandFault → Type 0
   MakesArray o words before after old new result = RefusesOptions o words before after old new result ⊎ Creates o words before after old new result
 
-module _ {I D R S : Type 0} (g : DeviceGhosts D) (r : SourceGhosts R) (s : SinkGhosts S) (known : I → Bool) (device_at : I → Text → Option D) (changeable : I → Text → Bool) where
-  -- a task with an array, whose images may only be looked at or not
+module _ {I D R S : Type 0} (g : DeviceGhosts D) (r : SourceGhosts R) (s : SinkGhosts S) (known : I → Bool) (device_at : I → Text → Option D) (changeable asked : I → Text → Bool) where
+  -- a task with an array, whose images may only be looked at or not: if so, each of them stays as it is
   abbrev pub PerformsOnArray : ArrayTask → Bool → List Text → I → I → Streams R S → Streams R S → Result (Unit {0}) CommandFault → Type 0
-  PerformsOnArray task true words before after old new result = UsesImages g (LooksAtDevices r s task) (after ≡ before) (known before) (may changeable Look before) (device_at before) (device_at after) (image_list false words) old new result
+  PerformsOnArray task true words before after old new result =
+      KeepsImages known device_at asked before after
+      × ViewsImages g (LooksAtDevices r s task) (after ≡ before) (known before) (may changeable Look before) (device_at before) (device_at after) (image_list false words) old new result
   PerformsOnArray task false words before after old new result = UsesImages g (OpensDevices r s task) (after ≡ before) (known before) (may changeable (access_of task) before) (device_at before) (device_at after) (image_list false words) old new result
 
   -- What each command does with the images that its words name. The input is read by a task alone.

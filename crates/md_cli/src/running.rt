@@ -42,7 +42,7 @@ pub fn run<'a, I: Images, R: Source, S: Sink, E: Write>(
     ensures refused { fault_of mdcli (map (λ s. s.now) words.entry.now) ≢ [] → (result ≡ 2) × IsIdle images.old images.new (streams input.old out.old) (streams input.new out.new) }
     ensures taken { fault_of mdcli (map (λ s. s.now) words.entry.now) ≡ [] →
         ((result ≡ 2) × IsIdle images.old images.new (streams input.old out.old) (streams input.new out.new))
-        ⊎ DoesCommand I.Dev.Device R.Source S.Sink I.known I.device_at I.changeable (asked (map (λ s. s.now) words.entry.now)) (image_words (map (λ s. s.now) words.entry.now)) images.old images.new (streams input.old out.old) (streams input.new out.new) result }
+        ⊎ DoesCommand I.Dev.Device R.Source S.Sink I.known I.device_at I.changeable I.asked (asked (map (λ s. s.now) words.entry.now)) (image_words (map (λ s. s.now) words.entry.now)) images.old images.new (streams input.old out.old) (streams input.new out.new) result }
     ensures flushed { result ≡ 0 → S.is_flushed out.new }
 {
     let request = match parse(alloc, words) {
@@ -67,7 +67,7 @@ fn act<I: Images, R: Source, S: Sink, E: Write>(
     out: &mut S,
     err: &mut E,
 ) -> Result<(), CommandFault>
-    ensures gives { Does I.Dev.Device R.Source S.Sink I.known I.device_at I.changeable (ask_of action.entry) (map (λ s. s.now) names.now) images.old images.new (streams input.old out.old) (streams input.new out.new) result }
+    ensures gives { Does I.Dev.Device R.Source S.Sink I.known I.device_at I.changeable I.asked (ask_of action.entry) (map (λ s. s.now) names.now) images.old images.new (streams input.old out.old) (streams input.new out.new) result }
     ensures flushed { IfOk result (λ _. S.is_flushed out.new) }
 {
     match action {
@@ -90,7 +90,7 @@ fn perform_on_array<I: Images, R: Source, S: Sink, E: Write>(
     out: &mut S,
     err: &mut E,
 ) -> Result<(), CommandFault>
-    ensures gives { PerformsOnArray I.Dev.Device R.Source S.Sink I.known I.device_at I.changeable task readonly (map (λ s. s.now) names.now) images.old images.new (streams input.old out.old) (streams input.new out.new) result }
+    ensures gives { PerformsOnArray I.Dev.Device R.Source S.Sink I.known I.device_at I.changeable I.asked task readonly (map (λ s. s.now) names.now) images.old images.new (streams input.old out.old) (streams input.new out.new) result }
     ensures flushed { IfOk result (λ _. S.is_flushed out.new) }
 {
     if readonly {

@@ -1,4 +1,4 @@
 pub mod Listed
 pub mod MemPlaces
-pub mod Overlaid
 pub mod Taken
+pub mod Walks

@@ -1,5 +1,5 @@
 -- Look-ups among the places of images in memory, before and after a device is set.
-use Rattle.std.proofs.Common.{◌≡◌, ◌≢◌, ℕ, suc, zero, ◌+◌, ◌<◌, ◌≤◌, Bool, true, false, cond, not, List, [], ◌∷◌, length, map, get_or, set, Option, Some, None, Result, Ok, Err, IfOk, inl, refl, sym, ap, subst, ◌∙◌, arith, is_some, find, position, option_and_then, option_map, unwrap_or, ok_or, MatchResult, slice_get, string_bytes}
+use Rattle.std.proofs.Common.{◌≡◌, ◌≢◌, ℕ, suc, zero, ◌+◌, ◌<◌, ◌≤◌, ◌||◌, Bool, true, false, cond, not, List, [], ◌∷◌, length, map, get_or, set, Option, Some, None, Result, Ok, Err, IfOk, inl, refl, sym, ap, subst, ◌∙◌, arith, is_some, find, position, option_and_then, option_map, unwrap_or, ok_or, MatchResult, slice_get, string_bytes}
 use Rattle.std.specs.List.{prefix_len, position_or_len}
 use Rattle.std.specs.Str.{bytes_eq}
 use Rattle.std.proofs.lemmas.List.{length-map, map-set, get_or-map}
@@ -11,7 +11,7 @@ use Rattle.std.proofs.lemmas.Slice.Eq.{bytes_eq-Decides}
 use Rattle.md_images.specs.declared.memory_images.Place.{Place}
 use Rattle.md_device.specs.declared.image_fault.ImageFault.{ImageFault}
 use Rattle.md_images.specs.Images.{IsRefused}
-use Rattle.md_images.specs.MemImages.{Named, is_named, changeable_in, holds_in, device_in}
+use Rattle.md_images.specs.MemImages.{Named, is_named, asked_in, changeable_in, holds_in, device_in}
 use Rattle.md_images.specs.MemPlaces.{named, named_places}
 
 prefix_len-map : {X Y : Type 0} (p : Y → Bool) (f : X → Y) (xs : List X) → prefix_len p (map f xs) ≡ prefix_len (λ x. p (f x)) xs
@@ -68,13 +68,15 @@ module _ {X : Type 0} (p : X → Bool) where
       let past : length xs ≤ position_or_len p xs = grind (arith, common_steps) in
       find_at p xs ∙ slice_get_past xs (position_or_len p xs) past
 
--- the device under a name is set, and nothing else changes
-pub record SetsDevice {D : Type 0} (old new : List (Named D)) (name : List ℕ) (was now : Option D) : Type 0 where
+-- the device under a name is set, and whether it was ever had to be changed, and nothing else changes
+pub record SetsDevice {D : Type 0} (old new : List (Named D)) (name : List ℕ) (was now : Option D) (had has : Bool) : Type 0 where
   pub held : holds_in old name ≡ true
   pub before : device_in old name ≡ was
   pub after : device_in new name ≡ now
   pub places : (n : List ℕ) → holds_in new n ≡ holds_in old n
   pub rights : (n : List ℕ) → changeable_in new n ≡ changeable_in old n
+  pub asked : asked_in new name ≡ has
+  pub same_asked : has ≡ had → (n : List ℕ) → asked_in new n ≡ asked_in old n
   pub others : (other : List ℕ) → other ≢ name → device_in new other ≡ device_in old other
 
 other_name : (text name other : List ℕ) → bytes_eq text name ≡ true → other ≢ name → bytes_eq text other ≡ false
@@ -92,9 +94,12 @@ module _ {D : Type 0} where
   abbrev pub has_name : List ℕ → Place D → Bool
   has_name name place = bytes_eq (string_bytes place.name) name
 
-  sets_at : (ps : List (Named D)) (name : List ℕ) (at : ℕ) (place : Named D) (o : Option D) → position (is_named name) ps ≡ Some at → get_or ps at place ≡ place → SetsDevice ps (set ps at (record place { device = o })) name place.device o
-  sets_at ps name at place o here is =
-      let new : Named D = record place { device = o } in
+  abbrev asked_of : Option (Named D) → Bool
+  asked_of p = unwrap_or (option_map (λ q. q.asked) p) false
+
+  sets_at : (ps : List (Named D)) (name : List ℕ) (at : ℕ) (place : Named D) (o : Option D) (a : Bool) → position (is_named name) ps ≡ Some at → get_or ps at place ≡ place → SetsDevice ps (set ps at (record place { device = o; asked = a })) name place.device o place.asked a
+  sets_at ps name at place o a here is =
+      let new : Named D = record place { device = o; asked = a } in
       let first = position-Some (is_named name) ps at place here in
       let its_name : bytes_eq place.name name ≡ true = subst (λ (q : Named D). is_named name q ≡ true) is first.1 in
       let was : find (is_named name) ps ≡ Some place = found (is_named name) ps at place here ∙ ap (λ (q : Named D). Some q) is in
@@ -104,6 +109,8 @@ module _ {D : Type 0} where
         after = ap device_of (find-set (is_named name) ps at new (sym (first_is (is_named name) ps at here)) first.0 its_name);
         places = λ n. is_found-set (is_named n) ps at new place (ap (is_named n) (sym is));
         rights = λ n. ap (λ (o : Option Bool). unwrap_or o false) (found_map-set (is_named n) (λ q. q.changeable) ps at new place (ap (is_named n) (sym is)) (ap (λ (q : Named D). q.changeable) (sym is)));
+        asked = ap asked_of (find-set (is_named name) ps at new (sym (first_is (is_named name) ps at here)) first.0 its_name);
+        same_asked = λ same n. ap (λ (o : Option Bool). unwrap_or o false) (found_map-set (is_named n) (λ q. q.asked) ps at new place (ap (is_named n) (sym is)) (same ∙ ap (λ (q : Named D). q.asked) (sym is)));
         others = λ other n.
             let fails : is_named other place ≡ false = other_name place.name name other its_name n in
             ap device_of (find_past (is_named other) ps at new place (ap (is_named other) is ∙ fails) fails);
@@ -115,16 +122,22 @@ module _ {D : Type 0} where
       ap (position (is_named name)) (sym view) ∙ position-map (is_named name) named items ∙ ap (position (has_name name)) (sym same) ∙ sym found
 
   -- a write into the place that was looked up
-  pub sets_device : (ps : List (Named D)) (items slice : List (Place D)) (name : List ℕ) (at : ℕ) (place : Place D) (o : Option D) → named_places items ≡ ps → slice ≡ items → Some at ≡ position (has_name name) slice → place ≡ get_or items at place → SetsDevice ps (named_places (set items at (record place { device = o }))) name place.device o
-  sets_device ps items slice name at place o view same here is =
+  pub sets_device : (ps : List (Named D)) (items slice : List (Place D)) (name : List ℕ) (at : ℕ) (place : Place D) (o : Option D) (a : Bool) → named_places items ≡ ps → slice ≡ items → Some at ≡ position (has_name name) slice → place ≡ get_or items at place
+      → SetsDevice ps (named_places (set items at (record place { device = o; asked = a }))) name place.device o place.asked a
+  sets_device ps items slice name at place o a view same here is =
       let first : position (is_named name) ps ≡ Some at = looked_up ps items slice name (Some at) view same here in
       let within : at < length (named_places items) = subst (λ (qs : List (Named D)). at < length qs) (sym view) (position-Some (is_named name) ps at (named place) first).0 in
       let inside : at < length items = subst (λ (n : ℕ). at < n) (length-map items named) within in
       let stands : get_or ps at (named place) ≡ named place =
       subst (λ (qs : List (Named D)). get_or qs at (named place) ≡ named place) view (get_or-map named items at place (named place) inside ∙ ap named (sym is)) in
-      let new : Place D = record place { device = o } in
+      let new : Place D = record place { device = o; asked = a } in
       let written : named_places (set items at new) ≡ set ps at (named new) = map-set named items at new ∙ ap (λ (qs : List (Named D)). set qs at (named new)) view in
-      subst (λ (qs : List (Named D)). SetsDevice ps qs name place.device o) (sym written) (sets_at ps name at (named place) o first stands)
+      subst (λ (qs : List (Named D)). SetsDevice ps qs name place.device o place.asked a) (sym written) (sets_at ps name at (named place) o a first stands)
+
+  pub sets_place : (ps : List (Named D)) (items slice : List (Place D)) (name : List ℕ) (at : ℕ) (place new : Place D) (o : Option D) (a : Bool) → named_places items ≡ ps → slice ≡ items → Some at ≡ position (has_name name) slice → place ≡ get_or items at place
+      → new ≡ record place { device = o; asked = a } → SetsDevice ps (named_places (set items at new)) name place.device o place.asked a
+  sets_place ps items slice name at place new o a view same here is made =
+      subst (λ (p : Place D). SetsDevice ps (named_places (set items at p)) name place.device o place.asked a) (sym made) (sets_device ps items slice name at place o a view same here is)
 
   pub no_device : (ps : List (Named D)) (name : List ℕ) → position (is_named name) ps ≡ None → device_in ps name ≡ None
   no_device ps name e = ap device_of (not_found (is_named name) ps e)
@@ -155,3 +168,11 @@ module _ {D : Type 0} where
 pub on_ok : {T E P : Type 0} (r : Result T E) → P → IfOk r (λ _. P)
 on_ok (Ok v) p = p
 on_ok (Err e) p = tt
+
+pub same_or : (a b : Bool) → b ≡ false → (a || b) ≡ a
+same_or true b e = refl
+same_or false b e = e
+
+pub then_or : (a b : Bool) → b ≡ true → (a || b) ≡ true
+then_or true b e = refl
+then_or false b e = e

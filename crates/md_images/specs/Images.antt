@@ -3,12 +3,17 @@ use Rattle.std.specs.Prelude.{◌≡◌, ◌⊎◌, Bool, true, false, Option, N
 use Rattle.md_device.specs.declared.image_fault.ImageFault.{ImageFault}
 use Rattle.md_device.specs.declared.image_fault.ImageFault.TheVariants.{NotWritable}
 use Rattle.md_device.specs.declared.access.Access.{Access}
-use Rattle.md_device.specs.declared.access.Access.TheVariants.{Change}
+use Rattle.md_device.specs.declared.access.Access.TheVariants.{Change, Look}
 
 -- whether an image is had for this access, where it may be changed or not
 abbrev pub allows : Access → Bool → Bool
 allows Change changeable = changeable
 allows _ changeable = true
+
+-- whether what is had for this access may be changed
+abbrev pub asks : Access → Bool
+asks Look = false
+asks _ = true
 
 -- why it is not had: there is no device, or it is to be changed and may not be
 abbrev pub IsRefused : {D : Type 0} → Option D → Bool → ImageFault → Type 0

@@ -2,12 +2,15 @@
 //! overlays laid over devices that are only looked at.
 #![tactic(auto)]
 
+mod count;
 mod fault;
 mod image_refusal;
 mod image_word;
 mod images;
 mod memory_images;
 mod overlays;
+mod seen;
+mod shared_read;
 mod taking;
 
 pub use fault::ImagesFault;
@@ -15,5 +18,7 @@ pub use image_refusal::ImageRefusal;
 pub use image_word::{ImageWord, image_list, is_missing};
 pub use images::Images;
 pub use memory_images::MemImages;
-pub use overlays::{lay_over, take_back};
+pub use overlays::lay_over;
+pub use seen::Seen;
+pub use shared_read::SharedRead;
 pub use taking::{put_back, take_images};

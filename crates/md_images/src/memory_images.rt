@@ -1,17 +1,18 @@
 // Images in memory.
-ghost use Rattle.std.specs.Prelude.{◌≡◌, ◌++◌, ◌∷◌, [], false, true, OnOk, OnErr, option_copied, position, string_bytes};
+ghost use Rattle.std.specs.Prelude.{◌≡◌, ◌||◌, ◌++◌, ◌∷◌, [], false, true, None, OnOk, OnErr, option_copied, position, string_bytes};
 ghost use Rattle.std.specs.Str.{bytes_eq};
-ghost use Rattle.md_images.specs.Images.{allows};
-ghost use Rattle.md_images.specs.MemImages.{changeable_in, device_in, holds_in};
+ghost use Rattle.md_images.specs.Images.{allows, asks};
+ghost use Rattle.md_images.specs.MemImages.{asked_in, changeable_in, device_in, holds_in};
 
 use crate::images::Images;
-use md_device::{Access, Device, ImageFault};
+use crate::shared_read::SharedRead;
+use md_device::{Access, ImageFault};
 use std::alloc::{AllocError, Global};
 use std::marker::Model;
 
 /// Images in memory, for tests and for whoever gives commands without files. Contracts see the
-/// places in order, each with its name, the device in it, and whether that may be changed. Of places
-/// of one name the first counts.
+/// places in order, each with its name, the device in it, whether that may be changed, and whether it was ever
+/// had to be changed. Of places of one name the first counts.
 #[derive(Drop)]
 pub struct MemImages<D> {
     places: Vec<Place<D>>,
@@ -23,6 +24,7 @@ struct Place<D> {
     name: String,
     device: Option<D>,
     changeable: bool,
+    asked: bool,
 }
 
 impl<D> Model for MemImages<D> {
@@ -53,7 +55,7 @@ impl<D> MemImages<D> {
     pub fn add(&mut self, name: &str, device: D) -> Result<(), AllocError>
     where
         D: Drop,
-        ensures ok { OnOk result (self.new ≡ self.old ++ record { name = name.now; device = Some device; changeable = true } ∷ []) }
+        ensures ok { OnOk result (self.new ≡ self.old ++ record { name = name.now; device = Some device; changeable = true; asked = false } ∷ []) }
         ensures err { OnErr result (self.new ≡ self.old) }
     {
         self.add_place(name, device, true)
@@ -64,7 +66,7 @@ impl<D> MemImages<D> {
     pub fn add_protected(&mut self, name: &str, device: D) -> Result<(), AllocError>
     where
         D: Drop,
-        ensures ok { OnOk result (self.new ≡ self.old ++ record { name = name.now; device = Some device; changeable = false } ∷ []) }
+        ensures ok { OnOk result (self.new ≡ self.old ++ record { name = name.now; device = Some device; changeable = false; asked = false } ∷ []) }
         ensures err { OnErr result (self.new ≡ self.old) }
     {
         self.add_place(name, device, false)
@@ -73,7 +75,7 @@ impl<D> MemImages<D> {
     fn add_place(&mut self, name: &str, device: D, changeable: bool) -> Result<(), AllocError>
     where
         D: Drop,
-        ensures ok { OnOk result (self.new ≡ self.old ++ record { name = name.now; device = Some device; changeable = changeable } ∷ []) }
+        ensures ok { OnOk result (self.new ≡ self.old ++ record { name = name.now; device = Some device; changeable = changeable; asked = false } ∷ []) }
         ensures err { OnErr result (self.new ≡ self.old) }
     {
         let name = String::from_str(*self.places.allocator(), name)?;
@@ -82,6 +84,7 @@ impl<D> MemImages<D> {
             name,
             device,
             changeable,
+            asked: false,
         })?;
         Ok(())
     }
@@ -95,7 +98,7 @@ impl<D> MemImages<D> {
     }
 }
 
-impl<D: Device + Drop + Send> Images for MemImages<D> {
+impl<D: SharedRead + Drop + Send> Images for MemImages<D> {
     type Dev = D;
 
     ghost known = { λ _. true };
@@ -106,6 +109,8 @@ impl<D: Device + Drop + Send> Images for MemImages<D> {
 
     ghost changeable = { changeable_in };
 
+    ghost asked = { asked_in };
+
     fn get(&mut self, name: &str, access: Access) -> Result<D, ImageFault> {
         let Some(at) = place_of(self.places.as_slice(), name) else {
             return Err(ImageFault::Missing);
@@ -113,13 +118,34 @@ impl<D: Device + Drop + Send> Images for MemImages<D> {
         if !is_allowed(access, self.places[at].changeable) {
             return Err(ImageFault::NotWritable);
         }
-        self.places[at].device.take().ok_or(ImageFault::Missing)
+        take_out(&mut self.places[at], access).ok_or(ImageFault::Missing)
     }
 
     fn put(&mut self, name: &str, device: D) {
         if let Some(at) = place_of(self.places.as_slice(), name) {
             drop(self.places[at].device.replace(device));
         }
+    }
+}
+
+// Takes the device out of its place, and keeps in mind what for.
+fn take_out<D>(place: &mut Place<D>, access: Access) -> Option<D>
+    ensures device { result ≡ place.old.device }
+    ensures place { place.new ≡ record place.old { device = None; asked = place.old.asked || asks access } }
+{
+    if asks(access) {
+        place.asked = true;
+    }
+    place.device.take()
+}
+
+// Whether what is had for this access may be changed.
+fn asks(access: Access) -> bool
+    ensures { result ≡ asks access }
+{
+    match access {
+        Access::Look => false,
+        Access::Change | Access::ChangeOrLook => true,
     }
 }
 

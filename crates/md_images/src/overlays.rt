@@ -1,40 +1,29 @@
 // Overlays over devices that are only looked at.
-ghost use Rattle.std.specs.Prelude.{◌≡◌, ◌≤◌, [], length, map, vec_capacity};
+ghost use Rattle.std.specs.Prelude.{◌≡◌, IfOk, map};
 ghost use Rattle.md_images.specs.Overlays.{overlay_over};
 
-use md_device::{Device, OverlayDevice};
-use std::alloc::Global;
+use crate::seen::Seen;
+use crate::shared_read::SharedRead;
+use md_device::OverlayDevice;
+use std::alloc::{AllocError, Global};
 
-/// Moves devices below overlays, in their order. Nothing is written over them yet.
-pub fn lay_over<D: Device + Drop>(
-    alloc: Global,
-    devices: &mut Vec<D>,
-    overlays: &mut Vec<OverlayDevice<D>>,
-)
-    requires empty { overlays.old.items ≡ [] }
-    requires room { length devices.old.items ≤ vec_capacity overlays.old }
-    ensures moved { devices.new.items ≡ [] }
-    ensures capacity { vec_capacity devices.new ≡ vec_capacity devices.old }
-    ensures overlays { overlays.new.items ≡ map (overlay_over D.content) devices.old.items }
+// An overlay over a device that is only looked at. Nothing is written over it yet.
+fn overlay_over<D: SharedRead>(alloc: Global, device: &D) -> OverlayDevice<Seen<'_, D>>
+    ensures { result ≡ overlay_over D.content D.honest device.now }
 {
-    while let Some(device) = devices.pop() {
-        if overlays.push(OverlayDevice::new(alloc, device)).is_err() {
-            unreachable!()
-        }
-    }
-    overlays.reverse();
+    OverlayDevice::new(alloc, Seen::new(device))
 }
 
-/// Moves the devices below overlays back, in their order. What was written over them is lost.
-pub fn take_back<D: Device + Drop>(mut overlays: Vec<OverlayDevice<D>>, devices: &mut Vec<D>)
-    requires empty { devices.old.items ≡ [] }
-    requires room { length overlays.items ≤ vec_capacity devices.old }
-    ensures below { devices.new.items ≡ map (λ o. o.inner) overlays.items }
+/// Overlays over devices, in their order. The devices are borrowed: what is written to an overlay is kept in
+/// memory, and the devices stay as they are, whatever is done to the overlays.
+pub fn lay_over<'a, D: SharedRead>(
+    alloc: Global,
+    devices: &'a [D],
+) -> Result<Vec<OverlayDevice<Seen<'a, D>>>, AllocError>
+    ensures { IfOk result (λ overlays. overlays.items ≡ map (λ d. overlay_over D.content D.honest d) devices.now) }
 {
-    while let Some(overlay) = overlays.pop() {
-        if devices.push(overlay.into_inner()).is_err() {
-            unreachable!()
-        }
-    }
-    devices.reverse();
+    devices
+        .iter()
+        .map(|device| overlay_over(alloc, device))
+        .collect(alloc)
 }

@@ -1,9 +1,9 @@
 // Taking devices out of their images, and putting them back.
-ghost use Rattle.std.specs.Prelude.{◌≡◌, ◌≤◌, ◌<◌, ℕ, List, [], true, IfErr, IfOk, MatchResult, length, map, vec_capacity};
+ghost use Rattle.std.specs.Prelude.{◌≡◌, ◌≤◌, ◌<◌, ℕ, List, [], false, true, IfErr, IfOk, MatchResult, length, map, vec_capacity};
 ghost use Rattle.std.specs.List.{list_any};
 ghost use Rattle.std.specs.Str.{bytes_eq};
-ghost use Rattle.md_images.specs.Images.{allows};
-ghost use Rattle.md_images.specs.Taking.{ArePut, IsBad, IsDistinct, RefusesImages, TakesFirst, TakesImages, name_at, names_of, word_of};
+ghost use Rattle.md_images.specs.Images.{allows, asks};
+ghost use Rattle.md_images.specs.Taking.{ArePut, IsBad, IsDistinct, RefusesImages, TakesFirst, TakesImages, Text, name_at, names_of, word_of};
 
 use crate::fault::ImagesFault;
 use crate::image_refusal::ImageRefusal;
@@ -29,6 +29,7 @@ fn take_each<I: Images>(
     requires empty { devices.old.items ≡ [] }
     requires room { length words.now ≤ vec_capacity devices.old }
     ensures known { I.known images.new ≡ I.known images.old }
+    ensures looks { I.known images.old ≡ true → asks access ≡ false → (n : Text) → I.asked images.new n ≡ I.asked images.old n }
     ensures took { TakesFirst (I.known images.old) (λ n. allows access (I.changeable images.old n)) (I.device_at images.old) (I.device_at images.new) (names_of (map word_of words.now)) (length devices.new.items) devices.new.items }
     ensures held { I.known images.old ≡ true → (i : ℕ) → i < length devices.new.items → I.holds images.new (name_at (names_of (map word_of words.now)) i) ≡ true }
     ensures ok { IfOk result (λ _. length devices.new.items ≡ length words.now) }
@@ -56,6 +57,7 @@ pub fn put_back<I: Images>(images: &mut I, words: &[ImageWord<'_>], mut devices:
     requires distinct { IsDistinct (names_of (map word_of words.now)) (length devices.items) }
     requires held { I.known images.old ≡ true → (i : ℕ) → i < length devices.items → I.holds images.old (name_at (names_of (map word_of words.now)) i) ≡ true }
     ensures known { I.known images.new ≡ I.known images.old }
+    ensures asked { I.known images.old ≡ true → (n : Text) → I.asked images.new n ≡ I.asked images.old n }
     ensures back { I.known images.old ≡ true → ArePut (I.device_at images.old) (I.device_at images.new) (names_of (map word_of words.now)) (length devices.items) devices.items }
 {
     while let Some(device) = devices.pop() {
@@ -72,6 +74,7 @@ pub fn take_images<I: Images>(
     words: &[ImageWord<'_>],
 ) -> Result<Vec<I::Dev>, ImagesFault>
     ensures known { I.known images.new ≡ I.known images.old }
+    ensures looks { I.known images.old ≡ true → asks access ≡ false → (n : Text) → I.asked images.new n ≡ I.asked images.old n }
     ensures gives { MatchResult result (λ devices. TakesImages (I.known images.old) (λ n. allows access (I.changeable images.old n)) (I.device_at images.old) (I.device_at images.new) (map word_of words.now) devices.items)
         (RefusesImages (images.new ≡ images.old) (I.known images.old) (λ n. allows access (I.changeable images.old n)) (I.device_at images.old) (I.device_at images.new) (map word_of words.now)) }
     ensures held { MatchResult result (λ _. I.known images.old ≡ true → (i : ℕ) → i < length words.now → I.holds images.new (name_at (names_of (map word_of words.now)) i) ≡ true) (λ _. Unit {0}) }

@@ -1,23 +1,26 @@
 // Images in files.
 ghost use Rattle.std.specs.Prelude.{false, None};
 
+use crate::progress::Progress;
+use crate::watched::WatchedFile;
 use md_device::{Access, FileDevice, ImageFault};
 use md_images::Images;
 
-/// Images under their paths. A device that is put back is closed.
+/// Images under their paths, whose reads and writes are counted. A device that is put back is closed.
 #[derive(Drop)]
 pub struct FileImages<'a> {
     rt: &'a HostRuntime,
+    progress: &'a Progress<'a>,
 }
 
 impl<'a> FileImages<'a> {
-    pub fn new(rt: &'a HostRuntime) -> FileImages<'a> {
-        FileImages { rt }
+    pub fn new(rt: &'a HostRuntime, progress: &'a Progress<'a>) -> FileImages<'a> {
+        FileImages { rt, progress }
     }
 }
 
 impl<'a> Images for FileImages<'a> {
-    type Dev = FileDevice;
+    type Dev = WatchedFile<'a>;
 
     ghost known = { λ _. false };
 
@@ -27,9 +30,12 @@ impl<'a> Images for FileImages<'a> {
 
     ghost changeable = { λ _ _. false };
 
-    fn get(&mut self, name: &str, access: Access) -> Result<FileDevice, ImageFault> {
-        FileDevice::open(self.rt, name, access)
+    ghost asked = { λ _ _. false };
+
+    fn get(&mut self, name: &str, access: Access) -> Result<WatchedFile<'a>, ImageFault> {
+        let device = FileDevice::open(self.rt, name, access)?;
+        Ok(WatchedFile::new(device, self.progress))
     }
 
-    fn put(&mut self, _name: &str, _device: FileDevice) {}
+    fn put(&mut self, _name: &str, _device: WatchedFile<'a>) {}
 }

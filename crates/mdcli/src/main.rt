@@ -1,12 +1,18 @@
 //! The program: commands over images in files.
 #![tactic(auto)]
 
+mod cleared;
 mod files;
+mod progress;
+mod watched;
 
+use crate::cleared::Cleared;
 use crate::files::FileImages;
+use crate::progress::{Progress, WatchedTask};
 use md_cli::{Messages, run};
 use md_commands::Input;
 use md_examine::{Buffered, Output};
+use md_words::{Action, ArrayTask, parse};
 use std::alloc::{AllocError, Global};
 use std::fs::File;
 use std::io::{self, IsTerminal};
@@ -31,24 +37,41 @@ fn main(rt: HostRuntime) -> ExitCode {
         let _ = eprintln!(rt; "mdcli: NoMemory");
         return ExitCode::from(WORDS_NOT_TAKEN);
     };
-    let mut input = Input::new(rt.stdin());
-    let mut out = Buffered::new(rt.alloc(), Output::new(io::writer(&rt)));
-    let mut err = rt.stderr();
-    let messages = if err.is_terminal() {
-        Messages::WithAdvice
+    let err = rt.stderr();
+    let (messages, task) = if err.is_terminal() {
+        (
+            Messages::WithAdvice,
+            watched_task(rt.alloc(), words.as_slice()),
+        )
     } else {
-        Messages::Plain
+        (Messages::Plain, None)
     };
+    let progress = Progress::new(&rt, task);
+    let mut input = Input::new(rt.stdin());
+    let out = Cleared::new(io::writer(&rt), &progress);
     let status = run(
         rt.alloc(),
         words.as_slice(),
-        &mut FileImages::new(&rt),
+        &mut FileImages::new(&rt, &progress),
         &mut input,
-        &mut out,
-        &mut err,
+        &mut Buffered::new(rt.alloc(), Output::new(out)),
+        &mut Cleared::new(err, &progress),
         messages,
     );
+    progress.clear();
     ExitCode::from(status)
+}
+
+// The task that the words ask for, where its progress is shown.
+fn watched_task(alloc: Global, words: &[&str]) -> Option<WatchedTask> {
+    let request = parse(alloc, words).ok()?;
+    match request.action {
+        Action::Perform(ArrayTask::Read { count, .. }, _) => {
+            Some(WatchedTask::Read(count.saturating_mul(512)))
+        }
+        Action::Perform(ArrayTask::Resync, _) => Some(WatchedTask::Resync),
+        _ => None,
+    }
 }
 
 fn word_list(alloc: Global, args: &[String]) -> Result<Vec<&str>, AllocError> {

@@ -10,7 +10,7 @@ use Rattle.md_cli.proofs.running.act.Goals as goal
 pub returns-in-Examine-clause-gives : goal.returns-in-Examine-clause-gives
 returns-in-Examine-clause-gives g c =
     let Doing : Action → Type 0 =
-    λ a. Does g.I.Dev.Device g.R.Source g.S.Sink g.I.Images.known g.I.Images.device_at g.I.Images.changeable (ask_of a) (map (λ s. s.now) c.args.names.now) c.args.images.now c.examine_images.new.images (streams c.args.input.now c.args.out.now) (streams c.args.input.now c.examine_images.new.out) c.examine_images.result in
+    λ a. Does g.I.Dev.Device g.R.Source g.S.Sink g.I.Images.known g.I.Images.device_at g.I.Images.changeable g.I.Images.asked (ask_of a) (map (λ s. s.now) c.args.names.now) c.args.images.now c.examine_images.new.images (streams c.args.input.now c.args.out.now) (streams c.args.input.now c.examine_images.new.out) c.examine_images.result in
     let done : Doing (action.Examine c.in-Examine.report) = (
       refl,
       record {

@@ -14,7 +14,7 @@ pub returns-clause-taken : goal.returns-clause-taken
 returns-clause-taken g c taken =
     let names_are : texts c.as_slice-names.result.now ≡ image_words (texts c.args.words.now) = ap texts c.as_slice-names.ensures.value ∙ c.in-Ok.ensures.images in
     let Doing : Ask → List Text → Type 0 =
-    λ ask names. Does g.I.Dev.Device g.R.Source g.S.Sink g.I.Images.known g.I.Images.device_at g.I.Images.changeable ask names c.args.images.now c.act-outcome.new.images (streams c.args.input.now c.args.out.now) (streams c.act-outcome.new.input c.act-outcome.new.out) c.act-outcome.result in
+    λ ask names. Does g.I.Dev.Device g.R.Source g.S.Sink g.I.Images.known g.I.Images.device_at g.I.Images.changeable g.I.Images.asked ask names c.args.images.now c.act-outcome.new.images (streams c.args.input.now c.args.out.now) (streams c.act-outcome.new.input c.act-outcome.new.out) c.act-outcome.result in
     inr (record {
       result = c.act-outcome.result;
       status_is = c.answer.ensures;

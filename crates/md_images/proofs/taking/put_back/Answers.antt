@@ -7,7 +7,7 @@ use Rattle.md_images.proofs.taking.put_back.Goals as goal
 
 pub put-requires : goal.put-requires
 put-requires g c = λ is.
-    let so = c.loop-device.invariant in
+    let so = c.loop-device.invariant.0 in
     let first = sym so.known_kept ∙ is in
     let place : c.len.result ≡ length c.pop.new.self.items = c.len.ensures ∙ c.pop.new.self.ok.0 in
     let longer : length c.loop-device.devices.items ≡ length c.pop.new.self.items + 1 = ap length c.in-Some.ensures.items ∙ length-append c.pop.new.self.items (c.in-Some.device ∷ []) in
@@ -17,17 +17,22 @@ put-requires g c = λ is.
 
 pub loop-device-preserved : goal.loop-device-preserved
 loop-device-preserved g c =
-    let so = c.loop-device.invariant in
+    let so = c.loop-device.invariant.0 in
     let place : c.len.result ≡ length c.pop.new.self.items = c.len.ensures ∙ c.pop.new.self.ok.0 in
     let longer : length c.loop-device.devices.items ≡ length c.pop.new.self.items + 1 = ap length c.in-Some.ensures.items ∙ length-append c.pop.new.self.items (c.in-Some.device ∷ []) in
     let inside : c.len.result < length c.args.words.now = omega (arith, place, longer, so.shorter, c.requires.few) in
+    let more =
     putting_more g.I.Images.known g.I.Images.holds g.I.Images.device_at g.I.Images.changeable (names_in c.args.words.now) c.args.images.now c.loop-device.images c.put.new.self c.args.devices.items c.loop-device.devices.items c.pop.new.self.items c.in-Some.device
     (slice_index_or c.args.words.now c.len.result no_word).name.now so c.requires.distinct c.in-Some.ensures.items
     (ap (name_at (names_in c.args.words.now)) (sym place) ∙ name_of_word c.args.words.now c.len.result inside)
     (record { known_kept = c.put.ensures.known; places = c.put.ensures.places; rights = c.put.ensures.rights; others = c.put.ensures.others })
-    c.put.ensures.back
+    c.put.ensures.back in
+    (more, λ is n. c.put.ensures.asked (so.known_kept ∙ is) n ∙ c.loop-device.invariant.1 is n)
 
 pub returns-clause-back : goal.returns-clause-back
 returns-clause-back g c = λ is.
     all_put (g.I.Images.device_at c.args.images.now) (g.I.Images.device_at c.loop-device.images) (names_in c.args.words.now) c.args.devices.items c.loop-device.devices.items
-    (sym c.loop-device.devices.ok.0 ∙ c.in_default.ensures.cases.0) (c.loop-device.invariant.down is)
+    (sym c.loop-device.devices.ok.0 ∙ c.in_default.ensures.cases.0) (c.loop-device.invariant.0.down is)
+
+pub returns-clause-asked : goal.returns-clause-asked
+returns-clause-asked g c = c.loop-device.invariant.1

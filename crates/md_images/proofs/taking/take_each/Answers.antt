@@ -21,6 +21,7 @@ loop-place-preserved g c =
       subst (λ ds. Taking g.I.Images.known g.I.Images.holds g.I.Images.device_at (λ images n. allows c.args.access (g.I.Images.changeable images n)) (names_in c.args.words.now) c.args.images.now c.get.new.self (c.loop-place.place + 1) ds) (sym items) more,
       omega (arith, long, so.1),
       omega (arith, so.2, c.push.ensures.capacity),
+      λ is look n. c.get.ensures.looks (so.0.known_kept ∙ is) look n ∙ so.3 is look n,
     )
 
 pub returns-then-is_among-clause-stopped : goal.returns-then-is_among-clause-stopped
@@ -49,3 +50,14 @@ returns-in-Err-clause-stopped g c =
           (record { known_kept = c.get.ensures.known; places = c.get.ensures.places; rights = λ is n. ap (allows c.args.access) (c.get.ensures.rights is n); others = c.get.ensures.others })
           c.in-Err.fault (sym c.is_among.ensures ∙ c.if-is_among.false) c.in-Err.ensures.gives),
     )
+
+pub returns-in-Err-clause-looks : goal.returns-in-Err-clause-looks
+returns-in-Err-clause-looks g c =
+    let so = c.loop-place.invariant in
+    λ is look n. c.get.ensures.looks (so.0.known_kept ∙ is) look n ∙ so.3 is look n
+
+pub returns-then-is_among-clause-looks : goal.returns-then-is_among-clause-looks
+returns-then-is_among-clause-looks g c = c.loop-place.invariant.3
+
+pub returns-clause-looks : goal.returns-clause-looks
+returns-clause-looks g c = c.loop-place.invariant.3

@@ -22,3 +22,6 @@ returns-in-Err-clause-gives g c =
       },
       λ is name. restored (at c.args.images.now) (at c.take_each.new.images) (at c.put_back.new.images) (names_in c.args.words.now) (length devices) devices (took.taken is) (c.put_back.ensures.back (c.take_each.ensures.known ∙ is)) name,
     )
+
+pub returns-in-Err-clause-looks : goal.returns-in-Err-clause-looks
+returns-in-Err-clause-looks g c = λ is look n. c.put_back.ensures.asked (c.take_each.ensures.known ∙ is) n ∙ c.take_each.ensures.looks is look n

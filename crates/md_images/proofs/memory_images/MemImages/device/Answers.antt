@@ -10,4 +10,4 @@ returns-in_err-at g c =
 
 pub returns : goal.returns
 returns g c =
-    c.as_ref.ensures.value ∙ sym (sets_device c.args.self.now c.self.inside.places.items c.as_slice.result.now c.args.name.now c.in_ok-at.at c.index.result.now None c.self.view_is c.as_slice.ensures.value c.in_ok-at.ensures c.index.ensures).before
+    c.as_ref.ensures.value ∙ sym (sets_device c.args.self.now c.self.inside.places.items c.as_slice.result.now c.args.name.now c.in_ok-at.at c.index.result.now None c.index.result.now.asked c.self.view_is c.as_slice.ensures.value c.in_ok-at.ensures c.index.ensures).before

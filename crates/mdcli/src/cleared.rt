@@ -1,0 +1,29 @@
+// Standard streams beside a line of progress.
+use crate::progress::Progress;
+use std::io::{Result, Write};
+
+/// A writer before whose output the line of progress is taken away.
+#[derive(Drop)]
+pub struct Cleared<'a, W> {
+    writer: W,
+    progress: &'a Progress<'a>,
+}
+
+impl<'a, W> Cleared<'a, W> {
+    pub fn new(writer: W, progress: &'a Progress<'a>) -> Cleared<'a, W> {
+        Cleared { writer, progress }
+    }
+}
+
+impl<'a, W: Write> Write for Cleared<'a, W> {
+    ghost contents = { λ c. W.contents c.writer };
+
+    fn write(&mut self, buf: &[u8]) -> Result<usize> {
+        self.progress.clear();
+        self.writer.write(buf)
+    }
+
+    fn flush(&mut self) -> Result<()> {
+        self.writer.flush()
+    }
+}

@@ -1,0 +1,120 @@
+// What a command that takes long shows of its progress.
+use std::io::Write;
+use std::sync::atomic::{AtomicBool, AtomicU64, Ordering};
+use std::time::Instant;
+
+// The line is drawn at most so often.
+const MILLISECONDS: u64 = 100;
+
+const MIB: u64 = 1 << 20;
+
+// Goes to the first column, and clears the line.
+const CLEAR: &str = "\r\u{1b}[K";
+
+/// A line on a terminal that says how much a command has read of its images and written to them. It is
+/// drawn on standard error, at most ten times a second.
+#[derive(Drop)]
+pub struct Progress<'a> {
+    rt: &'a HostRuntime,
+    // Nothing is drawn where there is none.
+    task: Option<WatchedTask>,
+    began: Option<Instant>,
+    read: AtomicU64,
+    written: AtomicU64,
+    // In milliseconds after the beginning, when the line may be drawn again.
+    due: AtomicU64,
+    is_shown: AtomicBool,
+}
+
+/// A task whose progress is shown.
+#[derive(Clone, Copy)]
+pub enum WatchedTask {
+    /// So many bytes of the array are read.
+    Read(u64),
+    Resync,
+}
+
+impl<'a> Progress<'a> {
+    pub fn new(rt: &'a HostRuntime, task: Option<WatchedTask>) -> Progress<'a> {
+        Progress {
+            rt,
+            task,
+            began: Instant::now(rt).ok(),
+            read: AtomicU64::new(0),
+            written: AtomicU64::new(0),
+            due: AtomicU64::new(0),
+            is_shown: AtomicBool::new(false),
+        }
+    }
+
+    /// Counts bytes that were read.
+    pub fn add_read(&self, bytes: usize) {
+        self.read.fetch_add(bytes as u64, Ordering::SeqCst);
+        self.draw_if_due();
+    }
+
+    /// Counts bytes that were written.
+    pub fn add_written(&self, bytes: usize) {
+        self.written.fetch_add(bytes as u64, Ordering::SeqCst);
+        self.draw_if_due();
+    }
+
+    /// Takes the line away, so that something else can be shown.
+    pub fn clear(&self) {
+        if self.is_shown.swap(false, Ordering::SeqCst) {
+            let _ = self.rt.stderr().write_all(CLEAR.as_bytes());
+        }
+    }
+
+    fn draw_if_due(&self) {
+        let Some(task) = self.task else {
+            return;
+        };
+        let Some(now) = self.milliseconds() else {
+            return;
+        };
+        if now < self.due.load(Ordering::SeqCst) {
+            return;
+        }
+        self.due
+            .store(now.saturating_add(MILLISECONDS), Ordering::SeqCst);
+        self.is_shown.store(true, Ordering::SeqCst);
+        self.draw(task);
+    }
+
+    fn milliseconds(&self) -> Option<u64> {
+        let began = self.began?;
+        let elapsed = began.elapsed(self.rt).ok()?;
+        Some(
+            elapsed
+                .as_secs()
+                .saturating_mul(1000)
+                .saturating_add(elapsed.subsec_millis() as u64),
+        )
+    }
+
+    // The line goes out in one write.
+    fn draw(&self, task: WatchedTask) {
+        let read = self.read.load(Ordering::SeqCst);
+        let line = match task {
+            WatchedTask::Read(bytes) => {
+                format!(in self.rt.alloc();
+                    "{CLEAR}read: {} of {} MiB",
+                    read.min(bytes) / MIB,
+                    bytes / MIB
+                )
+            }
+            WatchedTask::Resync => {
+                let written = self.written.load(Ordering::SeqCst);
+                format!(in self.rt.alloc();
+                    "{CLEAR}resync: {} MiB read, {} MiB written",
+                    read / MIB,
+                    written / MIB
+                )
+            }
+        };
+        if let Ok(line) = line {
+            let _ = self.rt.stderr().write_all(line.as_bytes());
+        }
+    }
+}
