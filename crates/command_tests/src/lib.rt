@@ -13,3 +13,5 @@ mod faults_in_memory;
 mod plan_reports;
 #[cfg(test)]
 mod sinks;
+#[cfg(test)]
+mod sources;

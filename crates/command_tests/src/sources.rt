@@ -1,0 +1,141 @@
+// A source over a reader of which some reads are interrupted, and others fail.
+use crate::checks::{holds, reads};
+use crate::commands::{HeldImages, is_kept_under, member, writes};
+use md_commands::{Input, Source, SourceFault};
+use md_images::MemImages;
+use std::alloc::Global;
+use std::io::{Error, ErrorKind, Read, Result as IoResult};
+use std::process::Abort;
+use std::test::Fail;
+
+// What one read answers.
+#[derive(Clone, Copy)]
+enum Step {
+    Gives(&'static [u8]),
+    IsInterrupted,
+    Fails,
+}
+
+// A reader that answers by these steps, and is at its end after them.
+#[derive(Drop)]
+struct Steps<'a> {
+    steps: &'a [Step],
+}
+
+impl<'a> Read for Steps<'a> {
+    fn read(&mut self, buf: &mut [u8]) -> IoResult<usize> {
+        let Some((step, rest)) = self.steps.split_first() else {
+            return Ok(0);
+        };
+        self.steps = rest;
+        match step {
+            Step::Gives(bytes) => {
+                let count = bytes.len().min(buf.len());
+                buf[..count].copy_from_slice(&bytes[..count]);
+                Ok(count)
+            }
+            Step::IsInterrupted => Err(Error::new(ErrorKind::Interrupted, "a signal came")),
+            Step::Fails => Err(Error::new(ErrorKind::Other, "the reader fails")),
+        }
+    }
+}
+
+const SECTOR: [u8; 512] = [7; 512];
+
+fn takes(rt: &impl Abort, source: &mut Input<Steps<'_>>, bytes: &str) -> Result<(), SourceFault> {
+    let mut buf = [0u8; 8];
+    let count = source.take(&mut buf)?;
+    reads(rt, "what it takes", &buf[..count], bytes);
+    Ok(())
+}
+
+#[test]
+fn a_source_takes_what_its_reader_gives(rt: HostRuntime) -> Result<(), Fail> {
+    let steps = [Step::Gives(b"one"), Step::Gives(b" two")];
+    let mut source = Input::new(Steps { steps: &steps });
+    takes(&rt, &mut source, "one")?;
+    takes(&rt, &mut source, " two")?;
+    takes(&rt, &mut source, "")?;
+    Ok(())
+}
+
+#[test]
+fn an_interrupted_read_is_tried_again(rt: HostRuntime) -> Result<(), Fail> {
+    let steps = [
+        Step::IsInterrupted,
+        Step::IsInterrupted,
+        Step::Gives(b"one"),
+        Step::IsInterrupted,
+    ];
+    let mut source = Input::new(Steps { steps: &steps });
+    takes(&rt, &mut source, "one")?;
+    takes(&rt, &mut source, "")?;
+    Ok(())
+}
+
+// A read that fails is not tried again: what the reader would give after it is not asked for.
+#[test]
+fn a_source_fails_with_its_reader(rt: HostRuntime) -> Result<(), Fail> {
+    let steps = [Step::Gives(b"one"), Step::Fails, Step::Gives(b" two")];
+    let mut source = Input::new(Steps { steps: &steps });
+    takes(&rt, &mut source, "one")?;
+    let mut buf = [0u8; 8];
+    holds(&rt, "the read that fails", source.take(&mut buf).is_err());
+    holds(&rt, "what is left", source.into_inner().steps.len() == 1);
+    Ok(())
+}
+
+fn one_image(alloc: Global) -> Result<HeldImages, Fail> {
+    let device = member(alloc, &[])?;
+    let mut images = MemImages::new(alloc);
+    images.add("a", device)?;
+    Ok(images)
+}
+
+fn ends_with(
+    rt: &impl Abort,
+    alloc: Global,
+    images: &mut HeldImages,
+    steps: &[Step],
+    status: u8,
+    said: &str,
+) -> Result<(), Fail> {
+    let mut input = Input::new(Steps { steps });
+    let ended = writes(rt, alloc, images, &mut input, said)?;
+    holds(rt, "the status", ended == status);
+    Ok(())
+}
+
+#[test]
+fn a_write_goes_on_after_an_interrupted_read(rt: HostRuntime) -> Result<(), Fail> {
+    let alloc = rt.alloc();
+    let mut images = one_image(alloc)?;
+    let steps = [
+        Step::IsInterrupted,
+        Step::Gives(&SECTOR),
+        Step::IsInterrupted,
+    ];
+    let written = ends_with(&rt, alloc, &mut images, &steps, 0, "");
+    drop(images);
+    written
+}
+
+fn keeps_the_image(
+    rt: &impl Abort,
+    alloc: Global,
+    images: &mut HeldImages,
+    steps: &[Step],
+) -> Result<(), Fail> {
+    ends_with(rt, alloc, images, steps, 1, "mdcli: InputFault\n")?;
+    is_kept_under(rt, alloc, images, "a")
+}
+
+#[test]
+fn nothing_is_written_after_a_failed_read(rt: HostRuntime) -> Result<(), Fail> {
+    let alloc = rt.alloc();
+    let mut images = one_image(alloc)?;
+    let steps = [Step::Gives(&SECTOR), Step::Fails];
+    let kept = keeps_the_image(&rt, alloc, &mut images, &steps);
+    drop(images);
+    kept
+}
