@@ -147,18 +147,18 @@ not_resynced (resync.MemberFailed k) old new h = gone_unresynced old new h.stops
 
 wrote : (sector : ℕ) (bytes : List ℕ) (old new : MirrorView) → Writes sector bytes old new → AsMany old new
 wrote sector bytes old new w =
-    let n = w.request.ticket.number in
-    led (IsOrEnds (IsOfRequest n)) (keeps_or_ends (IsOfRequest n) (λ k of. of)) (events_of w.request w.events) None old new nothing nothing
-    (inr tt, with_end (IsOfRequest n) w.events (Event.Finish n) w.steps tt) (w.happens None nothing (none_in_flight old.array)).done
+    let Of = IsOfRequest old.array.chunks w.request in
+    led (IsOrEnds Of) (keeps_or_ends Of (λ k of. of)) (events_of w.request w.events) None old new nothing nothing
+    (inr tt, with_end Of w.events (Event.Finish w.request.ticket.number) w.steps tt) (w.happens None nothing (none_in_flight old.array)).done
 
 not_written : (fault : BeginFault) (sector : ℕ) (bytes : List ℕ) (old new : MirrorView) → RefusesWrite sector bytes old new fault → AsMany old new
 not_written begin.Halted sector bytes old new h =
     ⊎_elim (λ r. refused old new _ r)
     (λ r.
+    let Of = IsOfRequest old.array.chunks r.request in
     halts r.failing r.mid new (among r.last nothing) (r.halts nothing)
-    ∙ led (IsOrEnds (IsOfRequest r.request.ticket.number)) (keeps_or_ends (IsOfRequest r.request.ticket.number) (λ k of. of))
-    (Event.Begin r.request.ticket.number (request_of r.request) ∷ r.events) None old r.mid nothing (among r.last nothing)
-    (inr tt, or_ends (IsOfRequest r.request.ticket.number) r.events r.steps) (r.happens None nothing (none_in_flight old.array)))
+    ∙ led (IsOrEnds Of) (keeps_or_ends Of (λ k of. of)) (Event.Begin r.request.ticket.number (request_of r.request) ∷ r.events) None old r.mid
+    nothing (among r.last nothing) (inr tt, or_ends Of r.events r.steps) (r.happens None nothing (none_in_flight old.array)))
     h
 not_written begin.OutOfRange sector bytes old new h = refused old new _ h
 not_written (begin.Overlaps n) sector bytes old new h = refused old new _ h
