@@ -17,7 +17,7 @@ use Rattle.md_array.proofs.Steps.Turns.{all_on, all_such, turn_on, turn_then}
 use Rattle.md_metadata.specs.declared.fault.PartFault.{PartFault}
 use Rattle.md_metadata.specs.declared.fault.PartFault.TheVariants.{Halted, MemberFailed}
 use Rattle.md_metadata.specs.Going.{GoesOn, HaltsAfter, IsFaulty, IsSameArray, LosesMember, StepsBy, alone, recorded_count}
-use Rattle.md_metadata.specs.Storing.{AllStayReady, FailsAtLast, IsFailureOf, IsMarking, IsNoFailure, IsRecording, IsSector, IsStoring, IsUpToDate, LosesStoring, SectorFails, StaysReady, Stores, StoresAll, StopsStoring}
+use Rattle.md_metadata.specs.Storing.{AllStayReady, FailsAtLast, IsFailureOf, IsMarking, IsNoFailure, IsRecording, IsSector, IsStoring, IsUpToDate, LosesStoring, SectorFails, StaysReady, Stores, StoresAll, StoringFails}
 
 pub same_refl : (a : ArrayView) → IsSameArray a a
 same_refl a = record { chunks = refl; marks = refl; as_many = refl; requests = refl; resynced = refl; fewer = omega arith }
@@ -179,7 +179,7 @@ module _ (Of Such : Event → Type 0) (widen : (e : Event) → Of e → Such e) 
     pub all_as : (Done : MemberView → Type 0) → StoresAll Of Done old new → StoresAll Such Done old new
     all_as Done g = record { stores = stores_as g.stores; done = g.done }
 
-    pub stops_as : (fault : PartFault) → StopsStoring Of old new fault → StopsStoring Such old new fault
+    pub stops_as : (fault : PartFault) → StoringFails Of old new fault → StoringFails Such old new fault
     unfolding goes_as
     stops_as Halted h = record {
       mid = h.mid;
@@ -208,7 +208,7 @@ first_records k (Event.StoreMarksFails j b) is = is.1
 first_records k e is = absurd is
 
 -- a sector is something that is stored
-pub sector_stops : (k block : ℕ) (old new : MirrorView) (fault : PartFault) → SectorFails k block old new fault → StopsStoring (IsSector k block) old new fault
+pub sector_stops : (k block : ℕ) (old new : MirrorView) (fault : PartFault) → SectorFails k block old new fault → StoringFails (IsSector k block) old new fault
 sector_stops k block old new Halted h = h
 sector_stops k block old new (MemberFailed j) h = subst (λ (i : ℕ). LosesStoring (IsSector k block) i old new) (sym h.0) h.1
 
@@ -294,6 +294,6 @@ module _ (Of : Event → Type 0) where
       faulty = h.faulty;
     }
 
-    pub stops_on : (fault : PartFault) → Stores Of old mid → StopsStoring Of mid new fault → StopsStoring Of old new fault
+    pub stops_on : (fault : PartFault) → Stores Of old mid → StoringFails Of mid new fault → StoringFails Of old new fault
     stops_on Halted g h = halts_on alone alone alone Of old mid new g.goes h
     stops_on (MemberFailed k) g h = loses_then k g h

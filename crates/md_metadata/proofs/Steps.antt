@@ -30,7 +30,7 @@ use Rattle.md_array.proofs.General.Replaced.{of_set}
 use Rattle.md_array.proofs.General.Indices.{at_set_same}
 use Rattle.md_metadata.specs.declared.fault.PartFault.TheVariants as part
 use Rattle.md_metadata.specs.Going.{HaltsAfter, IsFaulty, IsSameArray, LosesMember, StepsBy, alone, recorded_count}
-use Rattle.md_metadata.specs.Storing.{AllStayReady, IsRecording, IsSector, RecordsOn, SectorFails, StopsRecording, StoresOn}
+use Rattle.md_metadata.specs.Storing.{AllStayReady, IsRecording, IsSector, RecordingFails, RecordsOn, SectorFails, StoresOn}
 use Rattle.md_metadata.proofs.Counts.{count_map, set_alike, set_fewer}
 use Rattle.md_metadata.proofs.Going.{goes_nowhere, goes_step, step_loses}
 
@@ -215,7 +215,7 @@ module _ (old new : MirrorView) (k : ℕ) (sound : IsConsistent new) (pending : 
   record_in_use : (f : FailsToRecord k old new) → is_recorded f.fails.array.member.state ≡ true
   record_in_use f = in_use_there old.array k f.member f.fails.array.member f.fails.array.at f.may.at f.may.active
 
-  pub record_fails : (j : ℕ) → RefusesRecord k old new (MemberFailed j) → HappensIfOldNewOrNone k old new → StopsRecording k old new (part.MemberFailed j)
+  pub record_fails : (j : ℕ) → RefusesRecord k old new (MemberFailed j) → HappensIfOldNewOrNone k old new → RecordingFails k old new (part.MemberFailed j)
   record_fails j r happens =
       let f = r.1 in (
         r.0,

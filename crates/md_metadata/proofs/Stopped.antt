@@ -21,7 +21,7 @@ use Rattle.md_array.specs.Events.{CleanHappens}
 use Rattle.md_metadata.specs.declared.fault.PartFault.{PartFault}
 use Rattle.md_metadata.specs.Clearing.{ClearsAll, IsClearing, MayClearAll}
 use Rattle.md_metadata.specs.Going.{GoesOn, HaltsAfter, LeadsBy, alone, recorded_count}
-use Rattle.md_metadata.specs.Storing.{HasAllMarks, IsMarking, IsRecording, IsStoring, LosesStoring, RecordsAll, StoresAll, StopsStoring}
+use Rattle.md_metadata.specs.Storing.{HasAllMarks, IsMarking, IsRecording, IsStoring, LosesStoring, RecordsAll, StoresAll, StoringFails}
 use Rattle.md_metadata.specs.Stopping.{CleansIfActive, ClearsIfFull, FailsStop, HaltsStop, HasAllMarksIf, IsCleared, IsSettled, IsSettling, IsStopping, IsStoringIf, MayStop, Settles, Stops, StoresSettled, clears_marks, makes_clean}
 use Rattle.md_metadata.proofs.Counts.{count_map}
 use Rattle.md_metadata.proofs.Going.{all_as, marking_stores, recording_stores, stops_as, stops_on, stores_as, stores_on}
@@ -256,17 +256,17 @@ module _ (clears : Bool) where
       }
 
   pub settled_or_stops : (a b c d : MirrorView) → StoresAll Of (HasAllMarksIf clears a.array.marks) a b → StoresAll IsRecording IsNotDue b c
-      → {T : Type 0} (result : Result T PartFault) → MatchResult result (λ _. RecordsAll c d) (StopsStoring IsRecording c d) → MatchResult result (λ _. StoresSettled clears a d) (StopsStoring Of a d)
+      → {T : Type 0} (result : Result T PartFault) → MatchResult result (λ _. RecordsAll c d) (StoringFails IsRecording c d) → MatchResult result (λ _. StoresSettled clears a d) (StoringFails Of a d)
   settled_or_stops a b c d x y (Ok t) others = settled_stored a b c d x (all_as IsRecording Of (recording_if clears) b c IsNotDue y) others
   settled_or_stops a b c d x y (Err fault) s =
       stops_on Of a c d fault (stores_on Of a b c x.stores (stores_as IsRecording Of (recording_if clears) b c y.stores)) (stops_as IsRecording Of (recording_if clears) c d fault s)
 
   -- the superblocks are not all stored
-  pub settled_stops : (a b c : MirrorView) (fault : PartFault) → StoresAll Of (HasAllMarksIf clears a.array.marks) a b → StopsStoring IsRecording b c fault → StopsStoring Of a c fault
+  pub settled_stops : (a b c : MirrorView) (fault : PartFault) → StoresAll Of (HasAllMarksIf clears a.array.marks) a b → StoringFails IsRecording b c fault → StoringFails Of a c fault
   settled_stops a b c fault x s = stops_on Of a b c fault x.stores (stops_as IsRecording Of (recording_if clears) b c fault s)
 
   -- marks are stored where they were cleared
-  pub marks_or_stops : (a b : MirrorView) → clears ≡ true → {T : Type 0} (result : Result T PartFault) → MatchResult result (λ _. StoresAll IsMarking (HasAllMarks a.array.marks) a b) (StopsStoring IsMarking a b)
-      → MatchResult result (λ _. StoresAll Of (HasAllMarksIf clears a.array.marks) a b) (StopsStoring Of a b)
+  pub marks_or_stops : (a b : MirrorView) → clears ≡ true → {T : Type 0} (result : Result T PartFault) → MatchResult result (λ _. StoresAll IsMarking (HasAllMarks a.array.marks) a b) (StoringFails IsMarking a b)
+      → MatchResult result (λ _. StoresAll Of (HasAllMarksIf clears a.array.marks) a b) (StoringFails Of a b)
   marks_or_stops a b so (Ok t) g = record { stores = stores_as IsMarking Of (marking_if clears so) a b g.stores; done = λ i m in_sync is. g.done i m in_sync }
   marks_or_stops a b so (Err fault) s = stops_as IsMarking Of (marking_if clears so) a b fault s

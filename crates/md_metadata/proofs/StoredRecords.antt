@@ -16,7 +16,7 @@ use Rattle.md_array.proofs.General.Indices.{at_set_same}
 use Rattle.md_metadata.specs.declared.fault.PartFault.{PartFault}
 use Rattle.md_metadata.specs.declared.fault.PartFault.TheVariants.{Halted, MemberFailed}
 use Rattle.md_metadata.specs.Going.{StepsBy, alone}
-use Rattle.md_metadata.specs.Storing.{IsRecorded, IsRecording, IsSector, LosesStoring, RecordsAll, RecordsAt, RecordsBelow, RecordsOn, StaysReady, StoresAt, StoresOn, StopsRecording, StopsStoring}
+use Rattle.md_metadata.specs.Storing.{IsRecorded, IsRecording, IsSector, LosesStoring, RecordingFails, RecordsAll, RecordsAt, RecordsBelow, RecordsOn, StaysReady, StoresAt, StoresOn, StoringFails}
 use Rattle.md_metadata.proofs.Going.{first_records, goes_step, halts_on, kept_before, ready_on, same_state, step_as, step_loses, stores_nowhere, stores_on, stores_step, stores_two, two_lose, was_in_sync}
 use Rattle.md_metadata.proofs.Steps.{now_at, recorded_in_sync}
 
@@ -63,14 +63,14 @@ module _ (k : ℕ) (old mid : MirrorView) (s : StoresOn k 0 old mid) where
       done = λ m in_sync. r.done m in_sync.member;
     }
 
-    stops_after : (fault : PartFault) → StopsRecording k mid new fault → StopsStoring IsRecording old new fault
+    stops_after : (fault : PartFault) → RecordingFails k mid new fault → StoringFails IsRecording old new fault
     stops_after (MemberFailed j) (at, l) = subst (λ (i : ℕ). LosesStoring IsRecording i old new) (sym at)
         (two_lose IsRecording old mid new k (Event.StoreMarks k 0) (Event.RecordFails k) tt refl header (λ previous. first) l.step second
         (let x = s.step.array.fewer in let y = l.lost in omega arith) (l.halted ∙ s.ready.halted) (kept_before old.array mid.array k s.ready l.was) l.faulty)
     stops_after Halted h = halts_on alone alone alone IsRecording old mid new (goes_step alone alone IsRecording (Event.StoreMarks k 0) old mid header (λ previous. first)) h
 
-    pub recorded_or_stops : {T : Type 0} (result : Result T PartFault) → MatchResult result (λ _. RecordsOn k mid new) (StopsRecording k mid new)
-        → MatchResult result (λ _. StoresAt IsRecording k IsNotDue old new) (StopsStoring IsRecording old new)
+    pub recorded_or_stops : {T : Type 0} (result : Result T PartFault) → MatchResult result (λ _. RecordsOn k mid new) (RecordingFails k mid new)
+        → MatchResult result (λ _. StoresAt IsRecording k IsNotDue old new) (StoringFails IsRecording old new)
     recorded_or_stops (Ok t) r = recorded_after r
     recorded_or_stops (Err fault) r = stops_after fault r
 
@@ -81,13 +81,13 @@ module _ (k : ℕ) (old new : MirrorView) where
   other_due out due recorded previous = record { due = due; header = λ m in_sync. absurd (out m in_sync); first = λ j m in_sync before. recorded j m in_sync }
 
   module _ (order : (previous : Option Event) → IsRecordDue previous old.array k) where
-    other_stops : (fault : PartFault) → StopsRecording k old new fault → StopsStoring IsRecording old new fault
+    other_stops : (fault : PartFault) → RecordingFails k old new fault → StoringFails IsRecording old new fault
     other_stops (MemberFailed j) (at, l) = subst (λ (i : ℕ). LosesStoring IsRecording i old new) (sym at)
         (step_loses IsRecording k (Event.RecordFails k) old new refl l.step order l.lost l.halted l.was l.faulty)
     other_stops Halted h = h
 
-    pub other_or_stops : {T : Type 0} (result : Result T PartFault) → MatchResult result (λ _. RecordsOn k old new) (StopsRecording k old new)
-        → MatchResult result (λ _. RecordsAt k old new) (StopsStoring IsRecording old new)
+    pub other_or_stops : {T : Type 0} (result : Result T PartFault) → MatchResult result (λ _. RecordsOn k old new) (RecordingFails k old new)
+        → MatchResult result (λ _. RecordsAt k old new) (StoringFails IsRecording old new)
     other_or_stops (Ok t) r = record {
       stores = stores_step IsRecording (Event.Record k) old new tt r.step order r.ready;
       done = λ m at active. r.done m at;

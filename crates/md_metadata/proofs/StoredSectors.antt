@@ -14,7 +14,7 @@ use Rattle.md_array.specs.Consistency.{IsConsistent}
 use Rattle.md_array.specs.InTurn.{HasSector, IsSectorDue}
 use Rattle.md_metadata.specs.declared.fault.PartFault.{PartFault}
 use Rattle.md_metadata.specs.Going.{StepsBy, alone}
-use Rattle.md_metadata.specs.Storing.{HasAllMarks, IsMarking, IsSector, SectorFails, StaysReady, Stores, StoresAt, StoresOn, StopsStoring}
+use Rattle.md_metadata.specs.Storing.{HasAllMarks, IsMarking, IsSector, SectorFails, StaysReady, Stores, StoresAt, StoresOn, StoringFails}
 use Rattle.md_metadata.proofs.Going.{sector_marks, sector_stops, step_as, stops_as, stores_nowhere, stores_on, stores_step, was_in_sync}
 use Rattle.md_metadata.proofs.Steps.{now_at}
 use Rattle.md_metadata.proofs.StoredMembers.{IsLasting}
@@ -54,7 +54,7 @@ module _ (k block : ℕ) (old new : MirrorView) where
       }
 
   pub sector_or_stops : IsConsistent old → IsSectorDue old.array k block → {T : Type 0} (result : Result T PartFault) → MatchResult result (λ _. StoresOn k block old new) (SectorFails k block old new)
-      → MatchResult result (λ _. StoresAt IsMarking k (HasSector old.array block) old new) (StopsStoring IsMarking old new)
+      → MatchResult result (λ _. StoresAt IsMarking k (HasSector old.array block) old new) (StoringFails IsMarking old new)
   sector_or_stops sound due (Ok t) s = sector_in sound due s
   sector_or_stops sound due (Err fault) s = stops_as (IsSector k block) IsMarking (sector_marks k block) old new fault (sector_stops k block old new fault s)
 

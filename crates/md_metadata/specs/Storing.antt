@@ -103,9 +103,9 @@ pub record LosesStoring (Of : Event → Type 0) (k : ℕ) (old new : MirrorView)
   pub faulty : IsFaulty k new.array
 
 -- why they do not come to their end
-abbrev pub StopsStoring : (Event → Type 0) → MirrorView → MirrorView → PartFault → Type 0
-StopsStoring Of old new Halted = HaltsAfter alone alone Of old new
-StopsStoring Of old new (MemberFailed k) = LosesStoring Of k old new
+abbrev pub StoringFails : (Event → Type 0) → MirrorView → MirrorView → PartFault → Type 0
+StoringFails Of old new Halted = HaltsAfter alone alone Of old new
+StoringFails Of old new (MemberFailed k) = LosesStoring Of k old new
 
 -- they came to their end: of member k it holds, if it is in sync
 pub record StoresAt (Of : Event → Type 0) (k : ℕ) (Done : MemberView → Type 0) (old new : MirrorView) : Type 0 where
@@ -167,9 +167,9 @@ pub record LosesRecording (k : ℕ) (old new : MirrorView) : Type 0 where
   pub was : IsUpToDate old.array k
   pub faulty : IsFaulty k new.array
 
-abbrev pub StopsRecording : ℕ → MirrorView → MirrorView → PartFault → Type 0
-StopsRecording k old new Halted = HaltsAfter alone alone IsRecording old new
-StopsRecording k old new (MemberFailed j) = (j ≡ k) × LosesRecording k old new
+abbrev pub RecordingFails : ℕ → MirrorView → MirrorView → PartFault → Type 0
+RecordingFails k old new Halted = HaltsAfter alone alone IsRecording old new
+RecordingFails k old new (MemberFailed j) = (j ≡ k) × LosesRecording k old new
 
 -- the member has all marks stored as these are
 abbrev pub HasAllMarks : Bitmap → MemberView → Type 0

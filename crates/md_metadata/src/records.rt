@@ -6,7 +6,7 @@ ghost use Rattle.md_kept_members.specs.States.{is_recorded};
 ghost use Rattle.md_state.specs.Members.{AllInSync, IsInSync, IsMember};
 ghost use Rattle.md_state.specs.WritingMember.{IsNotDue};
 ghost use Rattle.md_array.specs.Consistency.{IsConsistent};
-ghost use Rattle.md_metadata.specs.Storing.{IsRecording, RecordsAll, RecordsAt, RecordsOn, StoresAll, StoresAt, StopsRecording, StopsStoring};
+ghost use Rattle.md_metadata.specs.Storing.{IsRecording, RecordingFails, RecordsAll, RecordsAt, RecordsOn, StoresAll, StoresAt, StoringFails};
 
 use crate::fault::PartFault;
 use crate::sectors::store_sector;
@@ -21,7 +21,7 @@ pub fn store_record<D: Device + Drop>(mirror: &mut Mirror<D>, k: usize) -> Resul
     requires sound { IsConsistent mirror.old }
     requires running { mirror.old.array.halted ≡ false }
     requires active { (m : MemberView) → IsMember mirror.old.array k m → is_recorded m.state ≡ true }
-    ensures { MatchResult result (λ _. RecordsOn k mirror.old mirror.new) (StopsRecording k mirror.old mirror.new) }
+    ensures { MatchResult result (λ _. RecordsOn k mirror.old mirror.new) (RecordingFails k mirror.old mirror.new) }
 {
     match mirror.record(k) {
         Ok(()) => Ok(()),
@@ -37,7 +37,7 @@ fn store_due_record<D: Device + Drop>(mirror: &mut Mirror<D>, k: usize) -> Resul
     requires sound { IsConsistent mirror.old }
     requires running { mirror.old.array.halted ≡ false }
     requires earlier { (j : ℕ) (m : MemberView) → j < k → IsInSync mirror.old.array j m → IsNotDue m }
-    ensures { MatchResult result (λ _. StoresAt IsRecording k IsNotDue mirror.old mirror.new) (StopsStoring IsRecording mirror.old mirror.new) }
+    ensures { MatchResult result (λ _. StoresAt IsRecording k IsNotDue mirror.old mirror.new) (StoringFails IsRecording mirror.old mirror.new) }
 {
     if !mirror.state(k).is_in_sync() || !mirror.due(k) {
         return Ok(());
@@ -54,7 +54,7 @@ fn store_other_record<D: Device + Drop>(mirror: &mut Mirror<D>, k: usize) -> Res
     requires sound { IsConsistent mirror.old }
     requires running { mirror.old.array.halted ≡ false }
     requires recorded { AllInSync mirror.old.array IsNotDue }
-    ensures { MatchResult result (λ _. RecordsAt k mirror.old mirror.new) (StopsStoring IsRecording mirror.old mirror.new) }
+    ensures { MatchResult result (λ _. RecordsAt k mirror.old mirror.new) (StoringFails IsRecording mirror.old mirror.new) }
 {
     let state = mirror.state(k);
     if state.is_in_sync() || !is_recorded(state) || !mirror.due(k) {
@@ -68,7 +68,7 @@ fn store_other_record<D: Device + Drop>(mirror: &mut Mirror<D>, k: usize) -> Res
 pub fn store_records<D: Device + Drop>(mirror: &mut Mirror<D>) -> Result<(), PartFault>
     requires sound { IsConsistent mirror.old }
     requires running { mirror.old.array.halted ≡ false }
-    ensures { MatchResult result (λ _. StoresAll IsRecording IsNotDue mirror.old mirror.new) (StopsStoring IsRecording mirror.old mirror.new) }
+    ensures { MatchResult result (λ _. StoresAll IsRecording IsNotDue mirror.old mirror.new) (StoringFails IsRecording mirror.old mirror.new) }
 {
     for k in 0..mirror.members() {
         if let Err(fault) = store_due_record(mirror, k) {
@@ -84,7 +84,7 @@ pub fn store_other_records<D: Device + Drop>(mirror: &mut Mirror<D>) -> Result<(
     requires sound { IsConsistent mirror.old }
     requires running { mirror.old.array.halted ≡ false }
     requires recorded { AllInSync mirror.old.array IsNotDue }
-    ensures { MatchResult result (λ _. RecordsAll mirror.old mirror.new) (StopsStoring IsRecording mirror.old mirror.new) }
+    ensures { MatchResult result (λ _. RecordsAll mirror.old mirror.new) (StoringFails IsRecording mirror.old mirror.new) }
 {
     for k in 0..mirror.members() {
         if let Err(fault) = store_other_record(mirror, k) {

@@ -6,7 +6,7 @@ ghost use Rattle.md_state.specs.Requests.{IsPending};
 ghost use Rattle.md_state.specs.Rising.{HasSpentEvents};
 ghost use Rattle.md_array.specs.Consistency.{IsConsistent};
 ghost use Rattle.md_metadata.specs.Stopping.{CleansIfActive, ClearsIfFull, HasAllMarksIf, IsStoringIf, MayStop, RefusesStop, Stops, StoresSettled, clears_marks, makes_clean};
-ghost use Rattle.md_metadata.specs.Storing.{StopsStoring, StoresAll};
+ghost use Rattle.md_metadata.specs.Storing.{StoresAll, StoringFails};
 
 use crate::all_marks::store_all_marks;
 use crate::clearing::clear_marks;
@@ -95,7 +95,7 @@ fn clean_if_active<D: Device + Drop>(mirror: &mut Mirror<D>)
 fn store_marks_if<D: Device + Drop>(mirror: &mut Mirror<D>, clears: bool) -> Result<(), PartFault>
     requires sound { IsConsistent mirror.old }
     requires running { mirror.old.array.halted ≡ false }
-    ensures { MatchResult result (λ _. StoresAll (IsStoringIf clears) (HasAllMarksIf clears mirror.old.array.marks) mirror.old mirror.new) (StopsStoring (IsStoringIf clears) mirror.old mirror.new) }
+    ensures { MatchResult result (λ _. StoresAll (IsStoringIf clears) (HasAllMarksIf clears mirror.old.array.marks) mirror.old mirror.new) (StoringFails (IsStoringIf clears) mirror.old mirror.new) }
 {
     if !clears {
         return Ok(());
@@ -107,7 +107,7 @@ fn store_marks_if<D: Device + Drop>(mirror: &mut Mirror<D>, clears: bool) -> Res
 fn store_settled<D: Device + Drop>(mirror: &mut Mirror<D>, clears: bool) -> Result<(), PartFault>
     requires sound { IsConsistent mirror.old }
     requires running { mirror.old.array.halted ≡ false }
-    ensures { MatchResult result (λ _. StoresSettled clears mirror.old mirror.new) (StopsStoring (IsStoringIf clears) mirror.old mirror.new) }
+    ensures { MatchResult result (λ _. StoresSettled clears mirror.old mirror.new) (StoringFails (IsStoringIf clears) mirror.old mirror.new) }
 {
     if let Err(fault) = store_marks_if(mirror, clears) {
         return Err(fault);

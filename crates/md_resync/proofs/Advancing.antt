@@ -26,7 +26,7 @@ use Rattle.md_metadata.specs.Storing.{HasAllMarks, IsNoFailure, IsUpToDate}
 use Rattle.md_metadata.proofs.Going.{fails_after}
 use Rattle.md_resync.specs.declared.fault.ResyncFault.{ResyncFault}
 use Rattle.md_resync.specs.declared.fault.ResyncFault.TheVariants.{Halted, InFlight, MemberFailed, NoMemory, ReadFault}
-use Rattle.md_resync.specs.Resyncing.{Advances, ComesTo, FailsToAgree, FailsToWrite, GivesUp, GoesOn, GoesUnresynced, HaltsResync, HasSameMembers, IsOfResync, LosesMember, RefusesResync, Stops, StopsIdle, StopsReading, Unresyncs}
+use Rattle.md_resync.specs.Resyncing.{Advances, ComesTo, EndsUnresynced, FailsToAgree, FailsToWrite, GivesUp, GoesOn, GoesUnresynced, HaltsResync, HasSameMembers, IdleFails, IsOfResync, LosesMember, ReadingFails, RefusesResync, Unresyncs}
 use Rattle.md_resync.proofs.CopiedRuns.{same_then}
 
 -- ---- nothing is in flight, before or after
@@ -158,7 +158,7 @@ goes_unresynced old mid new idle g u = record {
 }
 
 module _ (old mid new : MirrorView) (idle : IsIdle old.array) (goes : GoesOn old mid) (now_idle : IsIdle mid.array) (u : Unresyncs mid new) where
-  pub stops : Stops old new
+  pub stops : EndsUnresynced old new
   stops = record {
     idle = idle;
     goes = goes_unresynced old mid new idle goes u;
@@ -181,7 +181,7 @@ module _ (old mid new : MirrorView) (idle : IsIdle old.array) (u : Unresyncs mid
     none = is.none;
   }
 
-  pub stops_reading : (k chunk : ℕ) → FailsToAgree k chunk old mid → StopsReading k chunk old new
+  pub stops_reading : (k chunk : ℕ) → FailsToAgree k chunk old mid → ReadingFails k chunk old new
   unfolding goes_unresynced stops
   stops_reading k chunk f = record {
     stops = stops old mid new idle f.advances.goes f.advances.idle u;
@@ -209,7 +209,7 @@ module _ (old mid new : MirrorView) (idle : IsIdle old.array) (u : Unresyncs mid
     faulty = record { member = f.faulty.member; at = ap (λ (xs : List MemberView). slice_get xs k) (members_stay mid new u) ∙ f.faulty.at; faulty = f.faulty.faulty };
   }
 
-pub refuses : (old mid new : MirrorView) (fault : ResyncFault) → IsIdle old.array → IsConsistent old → StopsIdle old mid fault → GivesUp mid new → RefusesResync old new fault
+pub refuses : (old mid new : MirrorView) (fault : ResyncFault) → IsIdle old.array → IsConsistent old → IdleFails old mid fault → GivesUp mid new → RefusesResync old new fault
 refuses old mid new Halted idle sound h g = inr (subst (HaltsResync old) (sym (g.halted h.halted)) h.halts)
 refuses old mid new (InFlight n) idle sound h g = absurd h
 refuses old mid new NoMemory idle sound h g =
@@ -219,7 +219,7 @@ refuses old mid new (ReadFault k chunk) idle sound h g = stops_reading old mid n
 refuses old mid new (MemberFailed k) idle sound h g = loses_member old mid new idle (g.running h.idle.running) k h
 
 -- where it runs still, nothing is in flight
-pub idle_still : (old mid : MirrorView) (fault : ResyncFault) → IsIdle old.array → StopsIdle old mid fault → mid.array.halted ≡ false → IsIdle mid.array
+pub idle_still : (old mid : MirrorView) (fault : ResyncFault) → IsIdle old.array → IdleFails old mid fault → mid.array.halted ≡ false → IsIdle mid.array
 idle_still old mid Halted idle h running = let halted = h.halted in absurd cc
 idle_still old mid (InFlight n) idle h running = absurd h
 idle_still old mid NoMemory idle h running = subst (λ (m : MirrorView). IsIdle m.array) (sym h) idle

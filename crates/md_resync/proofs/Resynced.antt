@@ -31,7 +31,7 @@ use Rattle.md_metadata.specs.Storing.{HasAllMarks, IsMarking}
 use Rattle.md_resync.specs.declared.fault.ResyncFault.{ResyncFault}
 use Rattle.md_resync.specs.declared.fault.ResyncFault.TheVariants.{Halted, InFlight, MemberFailed, NoMemory, ReadFault}
 use Rattle.md_resync.specs.Copying.{Copies, CopyingFails, FailsReading, IsCopyIn, IsMarkedAt, LosesCopying}
-use Rattle.md_resync.specs.Resyncing.{Advances, Agrees, ClearsStored, ComesTo, FailsToAgree, FailsToWrite, HasSameMembers, IsCopyBelow, IsResynced, Resyncs, SettlesContent, StopsIdle, StopsMarks, StoresMarks}
+use Rattle.md_resync.specs.Resyncing.{Advances, Agrees, ClearsStored, ComesTo, FailsToAgree, FailsToWrite, HasSameMembers, IdleFails, IsCopyBelow, IsResynced, MarkingFails, Resyncs, SettlesContent, StoresMarks}
 use Rattle.md_resync.proofs.Advancing.{advances_on, agree_same, alone_still, fails_on, goes_on, none_flies}
 use Rattle.md_resync.proofs.Agreeing.{copies_advance, copying_goes, copying_is_calm}
 use Rattle.md_resync.proofs.Cleared.{cleared_stored, clearing_advances, content_on, same_but_marks, same_disks}
@@ -243,7 +243,7 @@ module _ (old a b : MirrorView) (idle : IsIdle old.array) (s : StoresMarks old a
   unfolding copying_goes
   copying_loses k h = record { goes = copying_goes a b two_there h.goes; last = h.last; idle = h.idle; was = h.was; faulty = h.faulty }
 
-  pub agreeing_fails : (fault : ResyncFault) → CopyingFails (IsMarkedAt a.array) a b fault → StopsIdle old b fault
+  pub agreeing_fails : (fault : ResyncFault) → CopyingFails (IsMarkedAt a.array) a b fault → IdleFails old b fault
   agreeing_fails Halted h = record {
     halts = record {
       idle = idle;
@@ -261,7 +261,7 @@ module _ (old a b : MirrorView) (idle : IsIdle old.array) (s : StoresMarks old a
   agreeing_fails (MemberFailed k) h = fails_on k old a b idle s.members s.advances (copying_loses k h)
 
 -- ---- storing marks does not come to its end
-pub marks_stop : (old mid new : MirrorView) (fault : ResyncFault) → IsIdle old.array → Advances old mid → HasSameMembers old.array mid.array → StopsMarks mid new fault → StopsMarks old new fault
+pub marks_stop : (old mid new : MirrorView) (fault : ResyncFault) → IsIdle old.array → Advances old mid → HasSameMembers old.array mid.array → MarkingFails mid new fault → MarkingFails old new fault
 marks_stop old mid new Halted idle g s h = record {
   halts = record { idle = idle; mid = h.halts.mid; goes = goes_on old mid h.halts.mid idle s g.goes h.halts.goes; failing = h.halts.failing; of = h.halts.of; halts = h.halts.halts };
   halted = h.halted;
@@ -271,7 +271,7 @@ marks_stop old mid new NoMemory idle g s h = h
 marks_stop old mid new (ReadFault k chunk) idle g s h = h
 marks_stop old mid new (MemberFailed k) idle g s h = fails_on k old mid new idle s g h
 
-pub marks_stop_idle : (old new : MirrorView) (fault : ResyncFault) → StopsMarks old new fault → StopsIdle old new fault
+pub marks_stop_idle : (old new : MirrorView) (fault : ResyncFault) → MarkingFails old new fault → IdleFails old new fault
 marks_stop_idle old new Halted h = h
 marks_stop_idle old new (InFlight n) h = h
 marks_stop_idle old new NoMemory h = absurd h
@@ -280,14 +280,14 @@ marks_stop_idle old new (MemberFailed k) h = h
 
 -- ---- what clearing answers
 pub cleared_or_stops : (old mid new : MirrorView) → IsIdle old.array → is_degraded old.array ≡ false → ClearsAll old mid
-    → {T : Type 0} (result : Result T ResyncFault) → MatchResult result (λ _. StoresMarks mid new) (StopsMarks mid new) → MatchResult result (λ _. ClearsStored old new) (StopsMarks old new)
+    → {T : Type 0} (result : Result T ResyncFault) → MatchResult result (λ _. StoresMarks mid new) (MarkingFails mid new) → MatchResult result (λ _. ClearsStored old new) (MarkingFails old new)
 cleared_or_stops old mid new idle full c (Ok t) s = cleared_stored old mid new idle full c s
 cleared_or_stops old mid new idle full c (Err fault) h =
     marks_stop old mid new fault idle (clearing_advances old mid idle c.remarks) (same_but_marks old.array mid.array c.remarks.array) h
 
 -- ---- what a resync answers while nothing is in flight
 pub resyncs_or_stops : (old a b c d : MirrorView) → IsIdle old.array → StoresMarks old a → Agrees a b → BecomesResynced b c → Happens b Event.Resynced c → IsConsistent c
-    → {T : Type 0} (result : Result T ResyncFault) → MatchResult result (λ _. ClearsStored c d) (StopsMarks c d) → MatchResult result (λ _. Resyncs old d) (StopsIdle old d)
+    → {T : Type 0} (result : Result T ResyncFault) → MatchResult result (λ _. ClearsStored c d) (MarkingFails c d) → MatchResult result (λ _. Resyncs old d) (IdleFails old d)
 resyncs_or_stops old a b c d idle s g r happens sound (Ok t) x = resyncs old a b c idle s g r happens sound d x
 resyncs_or_stops old a b c d idle s g r happens sound (Err fault) h =
     marks_stop_idle old d fault (marks_stop old c d fault idle (before old a b c idle s g r happens sound) (members_c old a b c idle s g r happens sound) h)

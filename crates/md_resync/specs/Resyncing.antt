@@ -94,7 +94,7 @@ pub record ComesTo (sector k chunk : ℕ) (events : List Event) (old new : Mirro
   pub none : AllOf (IsCopyBelow sector) events
 
 -- it did not come to its end, and that is kept
-pub record Stops (old new : MirrorView) : Type 0 where
+pub record EndsUnresynced (old new : MirrorView) : Type 0 where
   pub idle : IsIdle old.array
   pub goes : GoesUnresynced old new
   pub unresynced : new.array.resynced ≡ false
@@ -102,8 +102,8 @@ pub record Stops (old new : MirrorView) : Type 0 where
 
 -- Member k, which is in sync and not alone, could not be read at a sector of this chunk, to which the copying had come. Marks are
 -- stored, and none is cleared.
-pub record StopsReading (k chunk : ℕ) (old new : MirrorView) : Type 0 where
-  pub stops : Stops old new
+pub record ReadingFails (k chunk : ℕ) (old new : MirrorView) : Type 0 where
+  pub stops : EndsUnresynced old new
   pub unfailing : AllOf IsNoFailure stops.goes.events
   pub members : HasSameMembers old.array new.array
   pub marks : new.array.marks ≡ old.array.marks
@@ -117,7 +117,7 @@ pub record StopsReading (k chunk : ℕ) (old new : MirrorView) : Type 0 where
 
 -- a write to member k failed, which was kept up to date before, and that was the last that was done
 pub record LosesMember (k : ℕ) (old new : MirrorView) : Type 0 where
-  pub stops : Stops old new
+  pub stops : EndsUnresynced old new
   pub last : FailsAtLast k stops.goes.events
   pub was : IsUpToDate old.array k
   pub faulty : IsFaulty k new.array
@@ -140,7 +140,7 @@ abbrev pub RefusesResync : MirrorView → MirrorView → ResyncFault → Type 0
 RefusesResync old new Halted = RefusesHalted old new ⊎ HaltsResync old new
 RefusesResync old new (InFlight n) = Refuses old new (HasInFlight n old.array)
 RefusesResync old new NoMemory = FindsNoMemory old new
-RefusesResync old new (ReadFault k chunk) = StopsReading k chunk old new
+RefusesResync old new (ReadFault k chunk) = ReadingFails k chunk old new
 RefusesResync old new (MemberFailed k) = LosesMember k old new
 
 -- ---- before it is kept that the array is not resynced
@@ -175,12 +175,12 @@ pub record HaltsIdle (old new : MirrorView) : Type 0 where
   pub halts : HaltsResync old new
   pub halted : new.array.halted ≡ true
 
-abbrev pub StopsIdle : MirrorView → MirrorView → ResyncFault → Type 0
-StopsIdle old new Halted = HaltsIdle old new
-StopsIdle old new (InFlight n) = ⊥
-StopsIdle old new NoMemory = new ≡ old
-StopsIdle old new (ReadFault k chunk) = FailsToAgree k chunk old new
-StopsIdle old new (MemberFailed k) = FailsToWrite k old new
+abbrev pub IdleFails : MirrorView → MirrorView → ResyncFault → Type 0
+IdleFails old new Halted = HaltsIdle old new
+IdleFails old new (InFlight n) = ⊥
+IdleFails old new NoMemory = new ≡ old
+IdleFails old new (ReadFault k chunk) = FailsToAgree k chunk old new
+IdleFails old new (MemberFailed k) = FailsToWrite k old new
 
 pub record Unresyncs (old new : MirrorView) : Type 0 where
   pub marks : MarksResynced false old new
@@ -203,12 +203,12 @@ pub record StoresMarks (old new : MirrorView) : Type 0 where
   pub agree : (s : ℕ) → s < old.array.chunks.size → AllAgreeAt old s → AllAgreeAt new s
   pub content : KeepsContent old new
 
-abbrev pub StopsMarks : MirrorView → MirrorView → ResyncFault → Type 0
-StopsMarks old new Halted = HaltsIdle old new
-StopsMarks old new (InFlight n) = ⊥
-StopsMarks old new NoMemory = ⊥
-StopsMarks old new (ReadFault k chunk) = ⊥
-StopsMarks old new (MemberFailed k) = FailsToWrite k old new
+abbrev pub MarkingFails : MirrorView → MirrorView → ResyncFault → Type 0
+MarkingFails old new Halted = HaltsIdle old new
+MarkingFails old new (InFlight n) = ⊥
+MarkingFails old new NoMemory = ⊥
+MarkingFails old new (ReadFault k chunk) = ⊥
+MarkingFails old new (MemberFailed k) = FailsToWrite k old new
 
 -- none of these members is in sync
 abbrev pub NoneInSync : ℕ → ℕ → ArrayView → Type 0

@@ -4,7 +4,7 @@ ghost use Rattle.md_state.specs.MakingClean.{IsIdle};
 ghost use Rattle.md_state.specs.Members.{AllInSync};
 ghost use Rattle.md_array.specs.Consistency.{IsConsistent};
 ghost use Rattle.md_metadata.specs.Storing.{HasAllMarks};
-ghost use Rattle.md_resync.specs.Resyncing.{ClearsStored, StopsMarks, StoresMarks};
+ghost use Rattle.md_resync.specs.Resyncing.{ClearsStored, MarkingFails, StoresMarks};
 
 use crate::fault::ResyncFault;
 use md_array::Mirror;
@@ -15,7 +15,7 @@ use md_metadata::{PartFault, clear_marks, store_all_marks};
 pub(crate) fn store_marks<D: Device + Drop>(mirror: &mut Mirror<D>) -> Result<(), ResyncFault>
     requires sound { IsConsistent mirror.old }
     requires idle { IsIdle mirror.old.array }
-    ensures gives { MatchResult result (λ _. StoresMarks mirror.old mirror.new) (StopsMarks mirror.old mirror.new) }
+    ensures gives { MatchResult result (λ _. StoresMarks mirror.old mirror.new) (MarkingFails mirror.old mirror.new) }
     ensures sound { IsConsistent mirror.new }
 {
     match store_all_marks(mirror) {
@@ -31,7 +31,7 @@ pub(crate) fn clear_stored<D: Device + Drop>(mirror: &mut Mirror<D>) -> Result<(
     requires idle { IsIdle mirror.old.array }
     requires resynced { mirror.old.array.resynced ≡ true }
     requires stored { AllInSync mirror.old.array (HasAllMarks mirror.old.array.marks) }
-    ensures gives { MatchResult result (λ _. ClearsStored mirror.old mirror.new) (StopsMarks mirror.old mirror.new) }
+    ensures gives { MatchResult result (λ _. ClearsStored mirror.old mirror.new) (MarkingFails mirror.old mirror.new) }
     ensures sound { IsConsistent mirror.new }
 {
     if mirror.degraded() {

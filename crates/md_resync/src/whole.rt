@@ -4,7 +4,7 @@ ghost use Rattle.md_requests.specs.Pending.{PendingView};
 ghost use Rattle.md_state.specs.MakingClean.{IsIdle};
 ghost use Rattle.md_state.specs.Requests.{IsPending};
 ghost use Rattle.md_array.specs.Consistency.{IsConsistent};
-ghost use Rattle.md_resync.specs.Resyncing.{RefusesResync, Resyncs, StopsIdle};
+ghost use Rattle.md_resync.specs.Resyncing.{IdleFails, RefusesResync, Resyncs};
 
 use crate::buffer::buffer_for;
 use crate::fault::ResyncFault;
@@ -46,7 +46,7 @@ pub fn resync<D: Device + Drop>(alloc: Global, mirror: &mut Mirror<D>) -> Result
 fn resync_idle<D: Device + Drop>(alloc: Global, mirror: &mut Mirror<D>) -> Result<(), ResyncFault>
     requires sound { IsConsistent mirror.old }
     requires idle { IsIdle mirror.old.array }
-    ensures gives { MatchResult result (λ _. Resyncs mirror.old mirror.new) (StopsIdle mirror.old mirror.new) }
+    ensures gives { MatchResult result (λ _. Resyncs mirror.old mirror.new) (IdleFails mirror.old mirror.new) }
     ensures sound { IsConsistent mirror.new }
 {
     let Ok(mut buffer) = buffer_for(alloc, mirror.chunks().sectors) else {
@@ -63,7 +63,7 @@ fn resync_through<D: Device + Drop>(
     requires room { 512 ≤ length buffer.old }
     requires sound { IsConsistent mirror.old }
     requires idle { IsIdle mirror.old.array }
-    ensures gives { MatchResult result (λ _. Resyncs mirror.old mirror.new) (StopsIdle mirror.old mirror.new) }
+    ensures gives { MatchResult result (λ _. Resyncs mirror.old mirror.new) (IdleFails mirror.old mirror.new) }
     ensures sound { IsConsistent mirror.new }
 {
     if let Err(fault) = store_marks(mirror) {

@@ -14,7 +14,7 @@ use Rattle.md_array.specs.Consistency.{IsConsistent}
 use Rattle.md_array.specs.InTurn.{IsSectorDue}
 use Rattle.md_metadata.specs.declared.fault.PartFault.{PartFault}
 use Rattle.md_metadata.specs.Going.{IsSameArray, StepsBy, alone}
-use Rattle.md_metadata.specs.Storing.{IsSector, SectorFails, StaysReady, Stores, StoresAt, StoresOn, StopsStoring}
+use Rattle.md_metadata.specs.Storing.{IsSector, SectorFails, StaysReady, Stores, StoresAt, StoresOn, StoringFails}
 use Rattle.md_metadata.proofs.Going.{sector_stops, step_as, stops_as, stores_nowhere, stores_on, stores_step, was_in_sync}
 use Rattle.md_metadata.proofs.Steps.{now_at}
 use Rattle.md_metadata.proofs.StoredMembers.{IsLasting}
@@ -94,7 +94,7 @@ module _ (k block first end : ℕ) (old new : MirrorView) (are : AreMarked old.a
       }
 
   pub stored_or_stops : IsConsistent old → IsSectorDue old.array k block → {T : Type 0} (result : Result T PartFault) → MatchResult result (λ _. StoresOn k block old new) (SectorFails k block old new)
-      → MatchResult result (λ _. StoresAt (IsMarkingOf first end) k (HasMarksIn block first end) old new) (StopsStoring (IsMarkingOf first end) old new)
+      → MatchResult result (λ _. StoresAt (IsMarkingOf first end) k (HasMarksIn block first end) old new) (StoringFails (IsMarkingOf first end) old new)
   stored_or_stops sound due (Ok t) s = stored_in sound due s
   stored_or_stops sound due (Err fault) s = stops_as (IsSector k block) (IsMarkingOf first end) (sector_marks k first end block bits) old new fault (sector_stops k block old new fault s)
 

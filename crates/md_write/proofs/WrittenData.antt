@@ -24,7 +24,7 @@ use Rattle.md_array.specs.InTurn.{IsPut, IsUnder, Requests}
 use Rattle.md_metadata.specs.declared.fault.PartFault.{PartFault}
 use Rattle.md_metadata.specs.declared.fault.PartFault.TheVariants as part
 use Rattle.md_metadata.specs.Going.{GoesOn, HaltsAfter, IsSameArray, LosesMember}
-use Rattle.md_metadata.specs.Storing.{AllRecorded, IsRecording, RecordsAll, Stores, StoresAll, StopsStoring}
+use Rattle.md_metadata.specs.Storing.{AllRecorded, IsRecording, RecordsAll, Stores, StoresAll, StoringFails}
 use Rattle.md_metadata.proofs.Going.{goes_nowhere, goes_on, goes_step, halts_on, loses_on, same_refl, stops_as, stops_on, stores_as, stores_on}
 use Rattle.md_metadata.proofs.StoredMembers.{last_on, records_last}
 use Rattle.md_metadata.proofs.Steps.{failure_loses, failure_step, in_use_there, never_halted, recorded_in_sync}
@@ -229,7 +229,7 @@ written_all k p q old new last g = record {
 
 -- ---- all parts
 -- marks and records that stop
-storing_stops : (p : PendingView) (old new : MirrorView) → IsPending old.array p → (fault : PartFault) → StopsStoring (IsOfRequest old.array.chunks p) old new fault → StopsWriting p p old new fault
+storing_stops : (p : PendingView) (old new : MirrorView) → IsPending old.array p → (fault : PartFault) → StoringFails (IsOfRequest old.array.chunks p) old new fault → StopsWriting p p old new fault
 storing_stops p old new is (part.MemberFailed k) h = record {
   loses = record { goes = goes_beside (IsOfRequest old.array.chunks p) p old new is h.loses.goes; lost = h.loses.lost; halted = h.loses.halted };
   later = later_refl p;
@@ -267,15 +267,15 @@ module _ (p : PendingView) (first end : ℕ) (a : MirrorView) (chunks : AreChunk
   records_stored = stores_as IsRecording Of recording
 
   module _ (b : MirrorView) (is : IsPending a.array p) where
-    pub marks_stop : (fault : PartFault) → StopsStoring (IsMarkingOf first end) a b fault → StopsWriting p p a b fault
+    pub marks_stop : (fault : PartFault) → StoringFails (IsMarkingOf first end) a b fault → StopsWriting p p a b fault
     marks_stop fault s = storing_stops p a b is fault (stops_as (IsMarkingOf first end) Of marking a b fault s)
 
     module _ (c : MirrorView) (x : Stores (IsMarkingOf first end) a b) where
-      pub records_stop : (fault : PartFault) → StopsStoring IsRecording b c fault → StopsWriting p p a c fault
+      pub records_stop : (fault : PartFault) → StoringFails IsRecording b c fault → StopsWriting p p a c fault
       records_stop fault s =
           storing_stops p a c is fault (stops_on Of a b c fault (marks_stored b x) (stops_as IsRecording Of recording b c fault s))
 
-      pub others_stop : (d : MirrorView) → Stores IsRecording b c → (fault : PartFault) → StopsStoring IsRecording c d fault → StopsWriting p p a d fault
+      pub others_stop : (d : MirrorView) → Stores IsRecording b c → (fault : PartFault) → StoringFails IsRecording c d fault → StopsWriting p p a d fault
       others_stop d y fault s =
           storing_stops p a d is fault
           (stops_on Of a c d fault (stores_on Of a b c (marks_stored b x) (records_stored b c y)) (stops_as IsRecording Of recording c d fault s))

@@ -3,7 +3,7 @@ ghost use Rattle.std.specs.Prelude.{◌≡◌, ◌+◌, ◌-◌, ◌<◌, ◌≤
 ghost use Rattle.md_members.specs.Areas.{bitmap_sectors};
 ghost use Rattle.md_state.specs.WritingMember.{HasMarksFrom};
 ghost use Rattle.md_array.specs.Consistency.{IsConsistent};
-ghost use Rattle.md_metadata.specs.Storing.{StoresAll, StoresAt, StopsStoring};
+ghost use Rattle.md_metadata.specs.Storing.{StoresAll, StoresAt, StoringFails};
 ghost use Rattle.md_write.specs.Progress.{AreMarked, HasBitsOf, HasMarksIn, IsMarkingOf};
 
 use crate::chunks::{block_of, chunks_in};
@@ -25,7 +25,7 @@ fn store_lacking<D: Device + Drop>(
     requires sound { IsConsistent mirror.old }
     requires running { mirror.old.array.halted ≡ false }
     requires marked { AreMarked mirror.old.array first end }
-    ensures { MatchResult result (λ _. StoresAt (IsMarkingOf first end) k (HasMarksIn block first end) mirror.old mirror.new) (StopsStoring (IsMarkingOf first end) mirror.old mirror.new) }
+    ensures { MatchResult result (λ _. StoresAt (IsMarkingOf first end) k (HasMarksIn block first end) mirror.old mirror.new) (StoringFails (IsMarkingOf first end) mirror.old mirror.new) }
 {
     if !mirror.state(k).is_in_sync() {
         return Ok(());
@@ -48,7 +48,7 @@ fn store_member_marks<D: Device + Drop>(
     requires sound { IsConsistent mirror.old }
     requires running { mirror.old.array.halted ≡ false }
     requires marked { AreMarked mirror.old.array first end }
-    ensures { MatchResult result (λ _. StoresAt (IsMarkingOf first end) k (HasMarksFrom first end) mirror.old mirror.new) (StopsStoring (IsMarkingOf first end) mirror.old mirror.new) }
+    ensures { MatchResult result (λ _. StoresAt (IsMarkingOf first end) k (HasMarksFrom first end) mirror.old mirror.new) (StoringFails (IsMarkingOf first end) mirror.old mirror.new) }
 {
     for block in block_of(first)..block_of(end - 1) + 1 {
         if let Err(fault) = store_lacking(mirror, k, block, first, end) {
@@ -67,7 +67,7 @@ pub(crate) fn store_marks<D: Device + Drop>(
     requires sound { IsConsistent mirror.old }
     requires running { mirror.old.array.halted ≡ false }
     requires marked { AreMarked mirror.old.array first end }
-    ensures { MatchResult result (λ _. StoresAll (IsMarkingOf first end) (HasMarksFrom first end) mirror.old mirror.new) (StopsStoring (IsMarkingOf first end) mirror.old mirror.new) }
+    ensures { MatchResult result (λ _. StoresAll (IsMarkingOf first end) (HasMarksFrom first end) mirror.old mirror.new) (StoringFails (IsMarkingOf first end) mirror.old mirror.new) }
 {
     for k in 0..mirror.members() {
         if let Err(fault) = store_member_marks(mirror, k, first, end) {

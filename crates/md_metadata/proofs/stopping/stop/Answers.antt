@@ -1,6 +1,6 @@
 use Rattle.std.proofs.Common.{Bool, subst, inr}
 use Rattle.md_metadata.specs.Going.{HaltsAfter, alone}
-use Rattle.md_metadata.specs.Storing.{LosesStoring, StopsStoring}
+use Rattle.md_metadata.specs.Storing.{LosesStoring, StoringFails}
 use Rattle.md_metadata.specs.Stopping.{IsStoringIf, StoresSettled}
 use Rattle.md_metadata.proofs.Stopped.{stop_fails, stop_halts, stops}
 use Rattle.md_metadata.proofs.stopping.stop.Goals as goal
@@ -20,7 +20,7 @@ returns-in-Err-Halted-clause-gives g c =
     let d = c.clean_if_active.new.mirror in
     let e = c.store_settled.new.mirror in
     let at = c.in-Err-Halted in
-    let stopped = subst (StopsStoring (IsStoringIf c.clears_marks-clears.result) d e) at.field-0-is at.ensures in
+    let stopped = subst (StoringFails (IsStoringIf c.clears_marks-clears.result) d e) at.field-0-is at.ensures in
     inr (stop_halts old b d c.clear_if_full.ensures c.clean_if_active.ensures c.in_default.ensures e
     (subst (λ (x : Bool). HaltsAfter alone alone (IsStoringIf x) d e) c.clears_marks-clears.ensures stopped))
 
@@ -31,6 +31,6 @@ returns-in-Err-MemberFailed-clause-gives g c =
     let d = c.clean_if_active.new.mirror in
     let e = c.store_settled.new.mirror in
     let at = c.in-Err-MemberFailed in
-    let stopped = subst (StopsStoring (IsStoringIf c.clears_marks-clears.result) d e) at.field-0-is at.ensures in
+    let stopped = subst (StoringFails (IsStoringIf c.clears_marks-clears.result) d e) at.field-0-is at.ensures in
     stop_fails old b d c.clear_if_full.ensures c.clean_if_active.ensures c.in_default.ensures e at.k
     (subst (λ (x : Bool). LosesStoring (IsStoringIf x) at.k d e) c.clears_marks-clears.ensures stopped)
