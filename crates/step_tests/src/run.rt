@@ -5,6 +5,8 @@ use crate::steps::{Answer, Step};
 use example_members::open;
 use md_array::{Mirror, Pending};
 use md_device::{FaultDevice, MemDevice};
+use md_metadata::{StopFault, stop};
+use md_resync::{ResyncFault, resync};
 use std::alloc::Global;
 use std::marker::Model;
 use std::mem::swap;
@@ -56,6 +58,14 @@ impl<'a> Run<'a> {
     pub(crate) fn into_devices(self) -> Vec<FaultDevice<MemDevice>> {
         let Run { mirror, .. } = self;
         mirror.into_devices()
+    }
+
+    pub(crate) fn stop(&mut self) -> Result<(), StopFault> {
+        stop(&mut self.mirror)
+    }
+
+    pub(crate) fn resync(&mut self, alloc: Global) -> Result<(), ResyncFault> {
+        resync(alloc, &mut self.mirror)
     }
 
     // Has the other request at hand.

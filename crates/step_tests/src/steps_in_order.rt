@@ -1,5 +1,5 @@
 // The steps of a write, in their turn and out of it.
-use crate::checks::same;
+use crate::checks::{holds, same};
 use crate::members_in_step::{ACTIVE, CLEAN, NO_WRITE, add, member};
 use crate::run::Run;
 use crate::steps::{Answer, Step};
@@ -8,6 +8,7 @@ use md_array::{BeginFault, ClearFault, FinishFault, StoreFault, WriteMemberFault
 use md_assembly::MemberState;
 use md_device::{Device, FaultDevice, MemDevice};
 use md_members::read_member;
+use md_metadata::StopFault;
 use std::alloc::Global;
 use std::process::Abort;
 use std::test::Fail;
@@ -15,6 +16,9 @@ use std::test::Fail;
 type Worked = (Step, Answer);
 
 const NEVER: u64 = u64::MAX;
+
+// On a device: sector 8 of the array.
+const WRITTEN: u64 = 2056;
 
 fn add_both(
     alloc: Global,
@@ -65,7 +69,7 @@ const IN_ORDER: [Worked; 11] = [
     (Step::Finish, Answer::NotFinished(FinishFault::Unwritten(1))),
 ];
 
-// The array is opened again, and chunk 1 is marked.
+// After it is opened again, while chunk 1 is marked.
 const NOT_RESYNCED: [Worked; 2] = [
     (Step::Begin(8), Answer::NotBegun(BeginFault::NotResynced)),
     (Step::ClearIdle, Answer::NotCleared(ClearFault::NotResynced)),
@@ -96,19 +100,60 @@ fn step_order(rt: HostRuntime) -> Result<(), Fail> {
     let mut run = run_failing(alloc, NEVER, 10, CLEAN)?;
     plays(&rt, &mut run, &IN_ORDER, shows_in_flight(Some(0)));
     is_chunk_1_marked(&rt, &run);
-    is_not_resynced(&rt, alloc, run.into_devices())
+    is_reopened(&rt, alloc, run.into_devices())
 }
 
-fn is_not_resynced(
+// The array is opened again, and resynchronised.
+fn is_reopened(
     rt: &impl Abort,
     alloc: Global,
     devices: Vec<FaultDevice<MemDevice>>,
 ) -> Result<(), Fail> {
     let mut run = Run::open(alloc, devices)?;
-    is_chunk_1_marked(rt, &run);
-    plays(rt, &mut run, &NOT_RESYNCED, shows_in_flight(None));
-    run.end();
+    let resynced = is_resynced(rt, alloc, &mut run);
+    let mut devices = run.into_devices();
+    let alike = match resynced {
+        Ok(()) => are_alike(rt, alloc, &mut devices),
+        Err(fail) => Err(fail),
+    };
+    drop(devices);
+    alike
+}
+
+fn is_resynced(rt: &impl Abort, alloc: Global, run: &mut Run<'_>) -> Result<(), Fail> {
+    is_chunk_1_marked(rt, run);
+    plays(rt, run, &NOT_RESYNCED, shows_in_flight(None));
+    run.resync(alloc)?;
+    plays(rt, run, &[], ALL_FINISHED);
     Ok(())
+}
+
+// What was written on the first member alone is on both, and no chunk is marked.
+fn are_alike<D: Device>(rt: &impl Abort, alloc: Global, devices: &mut [D]) -> Result<(), Fail> {
+    same(rt, "the members", devices.len(), 2);
+    for device in devices {
+        let has = has_sector(device)?;
+        holds(rt, "the sector is written", has);
+        let marked = stored_marks(alloc, device)?;
+        same(rt, "the marks that are stored", marked, Some(0));
+    }
+    Ok(())
+}
+
+fn has_sector<D: Device>(device: &mut D) -> Result<bool, Fail> {
+    let mut sector = [0; 512];
+    if device.sectors() <= WRITTEN {
+        return Ok(false);
+    }
+    device.read(WRITTEN, &mut sector)?;
+    Ok(sector == SECTOR)
+}
+
+fn stored_marks<D: Device>(alloc: Global, device: &mut D) -> Result<Option<u32>, Fail> {
+    let info = read_member(alloc, device)?;
+    let marked = info.marks.as_ref().map(|marks| marks.count());
+    drop(info);
+    Ok(marked)
 }
 
 // Request 1 keeps its chunk's mark until it is finished.
@@ -153,6 +198,7 @@ fn overlap(rt: &impl Abort, run: &mut Run<'_>) {
     same(rt, "the first in flight", run.mirror().in_flight(), Some(0));
     answers(rt, run, &FIRST_FINISHED, &SECTOR);
     answers(rt, run, &NO_BYTES, &[]);
+    same(rt, "a stop", run.stop(), Err(StopFault::InFlight(1)));
     run.turn();
     plays(rt, run, &SECOND_FINISHED, ALL_FINISHED);
 }
