@@ -13,7 +13,7 @@ use Rattle.md_state.specs.WritingMember.{HasMarksFrom}
 use Rattle.md_array.specs.Consistency.{IsConsistent}
 use Rattle.md_array.specs.InTurn.{IsSectorDue}
 use Rattle.md_metadata.specs.declared.fault.PartFault.{PartFault}
-use Rattle.md_metadata.specs.Going.{IsSameArray, StepsBy, alone}
+use Rattle.md_metadata.specs.Going.{IsSameArray, alone}
 use Rattle.md_metadata.specs.Storing.{IsSector, SectorFails, StaysReady, Stores, StoresAt, StoresOn, StoringFails}
 use Rattle.md_metadata.proofs.Going.{sector_stops, step_as, stops_as, stores_nowhere, stores_on, stores_step, was_in_sync}
 use Rattle.md_metadata.proofs.Steps.{now_at}

@@ -1,5 +1,5 @@
 -- A whole write is put together.
-use Rattle.std.proofs.Common.{◌≡◌, ◌≢◌, ℕ, ◌+◌, ◌-◌, ◌/◌, ◌<◌, ◌≤◌, Bool, true, false, cond, ◌||◌, ◌&&◌, nat_le, List, [], ◌∷◌, ◌++◌, length, slice_get, Option, None, Some, refl, sym, ap, ◌∙◌, subst, arith, inl}
+use Rattle.std.proofs.Common.{◌≡◌, ℕ, ◌+◌, ◌-◌, ◌/◌, ◌<◌, ◌≤◌, Bool, true, false, cond, nat_le, List, [], ◌∷◌, ◌++◌, length, slice_get, Option, None, Some, refl, sym, ap, ◌∙◌, subst, arith, inl}
 use Rattle.std.proofs.lemmas.Bool.{and_from, le-leb, or_right}
 use Rattle.std.proofs.lemmas.Option.{none-some}
 use Rattle.md_model.specs.Sectors.{Geometry, put}
@@ -17,13 +17,11 @@ use Rattle.md_requests.specs.declared.extent.Extent.{Extent}
 use Rattle.md_requests.specs.Pending.{PendingView}
 use Rattle.md_state.specs.declared.step_fault.BeginFault.{BeginFault}
 use Rattle.md_state.specs.declared.step_fault.BeginFault.TheVariants as begin
-use Rattle.md_state.specs.declared.step_fault.FinishFault.{FinishFault}
-use Rattle.md_state.specs.declared.step_fault.FinishFault.TheVariants as finish
 use Rattle.md_state.specs.View.{ArrayView, MirrorView}
 use Rattle.md_state.specs.Beginning.{Begins, HasMarked, RefusesBegin, has_sector_of, has_to_rise}
 use Rattle.md_state.specs.Rising.{risen}
-use Rattle.md_state.specs.Finishing.{Finishes, MayFinish, RefusesFinish}
-use Rattle.md_state.specs.Requests.{AreInFlight, IsPending, among, request_of}
+use Rattle.md_state.specs.Finishing.{Finishes}
+use Rattle.md_state.specs.Requests.{AreInFlight, among, request_of}
 use Rattle.md_array.specs.Consistency.{IsConsistent}
 use Rattle.md_array.specs.Events.{BeginHappens, Does, FinishHappens}
 use Rattle.md_array.specs.InTurn.{AllLeftWhole, AllOf, InTurn, IsPut, Requests}
@@ -167,9 +165,6 @@ module _ (sector : ℕ) (bytes : List ℕ) (old begun : MirrorView) (p : Pending
   pub new_number : (others : Requests) → AreInFlight old.array others → others n ≡ None
   new_number others in_flight = by_option (others n) (λ e. e) (λ q e. absurd (none-some _ (sym (none_under n refl) ∙ in_flight n q e)))
 
-  pub other_number : (o : PendingView) → IsPending old.array o → o.ticket.number ≢ n
-  other_number o is same = absurd (none-some _ (sym (none_under o.ticket.number same) ∙ is.extent))
-
   -- and the others are in flight still
   beside : (others : Requests) → AreInFlight old.array others → AreInFlight begun.array others
   beside others in_flight m q e = ap (λ xs. lookup xs m) entries_are ∙ found_with_last old.array.requests.next _ old.array.requests.entries m _ (in_flight m q e)
@@ -277,12 +272,6 @@ module _ (sector : ℕ) (bytes : List ℕ) (old begun : MirrorView) (p : Pending
         recorded = λ i m at. g.recorded i m (ap (λ (x : ArrayView). slice_get x.members i) (sym f.array) ∙ at);
         marked = subst (HasMarked old.array sector sectors) (sym (ap (λ (x : ArrayView). x.marks) f.array ∙ g.goes.array.marks)) b.marked;
       }
-
--- a request that may be finished is
-pub finish_given : (old new : MirrorView) (p : PendingView) (f : FinishFault) → MayFinish old.array p → RefusesFinish old new p f → ⊥
-finish_given old new p finish.Halted may r = absurd (let h = r.reason in let run = may.running in cc)
-finish_given old new p (finish.Unwritten k) may r = r.reason.first.lacks (may.written k r.reason.first.member r.reason.first.in_sync)
-finish_given old new p (finish.MustRecord k) may r = r.reason.first.lacks (may.recorded k r.reason.first.member r.reason.first.in_sync)
 
 pub refused : (sector : ℕ) (bytes : List ℕ) (old new : MirrorView) (f : BeginFault) → RefusesBegin sector (length bytes / 512) old new f → RefusesWrite sector bytes old new f
 refused sector bytes old new begin.Halted r = inl r
