@@ -2,6 +2,7 @@
 use Rattle.std.proofs.Common.{◌≡◌, ℕ, ◌<◌, Bool, true, false, List, [], ◌∷◌, ◌++◌, length, slice_get, Option, None, refl, sym, ap, ◌∙◌, subst, arith, inr}
 use Rattle.std.proofs.lemmas.Option.{none-some, slice_get_within}
 use Rattle.md_assembly.specs.States.{is_in_sync}
+use Rattle.md_bitmap.specs.Marks.{Bitmap}
 use Rattle.md_model.specs.Events.{Event}
 use Rattle.md_requests.specs.Pending.{PendingView, extent_of}
 use Rattle.md_kept_members.specs.View.{MemberView}
@@ -26,7 +27,7 @@ use Rattle.md_metadata.specs.Storing.{HasAllMarks, IsNoFailure, IsUpToDate}
 use Rattle.md_metadata.proofs.Going.{fails_after}
 use Rattle.md_resync.specs.declared.fault.ResyncFault.{ResyncFault}
 use Rattle.md_resync.specs.declared.fault.ResyncFault.TheVariants.{Halted, InFlight, MemberFailed, NoMemory, ReadFault}
-use Rattle.md_resync.specs.Resyncing.{Advances, ComesTo, EndsUnresynced, FailsToAgree, FailsToWrite, GivesUp, GoesOn, GoesUnresynced, HaltsResync, HasSameMembers, IdleFails, IsOfResync, LosesMember, ReadingFails, RefusesResync, Unresyncs}
+use Rattle.md_resync.specs.Resyncing.{Advances, ComesTo, EndsUnresynced, FailsToAgree, FailsToWrite, GivesUp, GoesOn, GoesUnresynced, HaltsResync, HasSameMembers, IdleFails, IsOfResync, LeavesMarks, LosesMember, ReadingFails, RefusesResync, Unresyncs}
 use Rattle.md_resync.proofs.CopiedRuns.{same_then}
 
 -- ---- nothing is in flight, before or after
@@ -124,11 +125,12 @@ advances_on old mid new idle same g h = record {
 }
 
 -- a member fails after them
-pub fails_on : (k : ℕ) (old mid new : MirrorView) → IsIdle old.array → HasSameMembers old.array mid.array → Advances old mid → FailsToWrite k mid new → FailsToWrite k old new
+pub fails_on : (k : ℕ) (old mid new : MirrorView) → IsIdle old.array → HasSameMembers old.array mid.array → Advances old mid → LeavesMarks old.array new.array → FailsToWrite k mid new → FailsToWrite k old new
 unfolding goes_on
-fails_on k old mid new idle same g h = record {
+fails_on k old mid new idle same g marks h = record {
   goes = goes_on old mid new idle same g.goes h.goes;
   last = fails_after k g.goes.events h.goes.events g.unfailing h.last;
+  marks = marks;
   idle = h.idle;
   was = up_to_date_before old.array mid.array k same h.was;
   faulty = h.faulty;
@@ -205,6 +207,7 @@ module _ (old mid new : MirrorView) (idle : IsIdle old.array) (u : Unresyncs mid
   loses_member k f = record {
     stops = stops old mid new idle f.goes f.idle u;
     last = f.last;
+    marks = subst (λ (x : Bitmap). LeavesMarks old.array (record new.array { marks = x })) (sym (ap (λ (a : ArrayView). a.marks) u.marks.array)) f.marks;
     was = f.was;
     faulty = record { member = f.faulty.member; at = ap (λ (xs : List MemberView). slice_get xs k) (members_stay mid new u) ∙ f.faulty.at; faulty = f.faulty.faulty };
   }

@@ -1,5 +1,5 @@
 -- All marks are cleared, and that is stored.
-use Rattle.std.proofs.Common.{◌≡◌, ℕ, ◌<◌, true, false, List, slice_get, length, refl, sym, ap, ◌∙◌, subst, arith}
+use Rattle.std.proofs.Common.{◌≡◌, ◌<◌, true, false, List, slice_get, length, refl, sym, ap, ◌∙◌, subst, arith}
 use Rattle.md_model.specs.Content.{HoldsBetween}
 use Rattle.md_model.specs.Events.{Event}
 use Rattle.md_model.specs.Sectors.{Geometry}

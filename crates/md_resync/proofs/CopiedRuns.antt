@@ -135,6 +135,7 @@ module _ (Of : ℕ → Type 0) where
   loses_then k old mid new g h = record {
     goes = goes_then Of old mid new g h.goes;
     last = fails_after k g.goes.events h.goes.events (copies_unfailing old mid g) h.last;
+    marks = h.marks ∙ ap (λ (a : ArrayView). a.marks) g.array;
     was = subst (λ (a : ArrayView). IsUpToDate a k) g.array h.was;
     idle = h.idle;
     faulty = h.faulty;
@@ -295,6 +296,7 @@ module _ (k chunk : ℕ) (old new : MirrorView) where
           sound = sound;
         };
         last = record { before = []; unfailing = tt; failing = Event.CopyFails k chunk; of = sym r.0; list = refl };
+        marks = ap (λ (a : ArrayView). a.marks) f.fails.array.array;
         was = subst (λ (i : ℕ). IsUpToDate old.array i) (sym r.0) (record { member = f.fails.array.member; at = f.fails.array.at; recorded = in_use });
         idle = subst IsIdle (sym f.fails.array.array) (record { running = idle.running; none = idle.none });
         faulty = subst (λ (i : ℕ). IsFaulty i new.array) (sym r.0) (faulty_after old.array new.array k f.fails.array in_use);

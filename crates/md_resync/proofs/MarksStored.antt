@@ -278,6 +278,7 @@ loses_marks k old new idle s =
     record {
       goes = marking_goes old new l.goes;
       last = s.last;
+      marks = inl l.goes.array.marks;
       idle = record { running = l.halted ∙ idle.running; none = subst (λ (x : InflightList Extent). first_number (record old.array { requests = x }) ≡ None) (sym l.goes.array.requests) idle.none };
       was = s.was;
       faulty = s.faulty;

@@ -1,5 +1,5 @@
 -- A resync is put together.
-use Rattle.std.proofs.Common.{◌≡◌, ℕ, suc, ◌/◌, ◌<◌, Bool, true, false, not, ◌||◌, List, [], ◌∷◌, length, slice_get, Some, refl, sym, ap, ◌∙◌, subst, arith}
+use Rattle.std.proofs.Common.{◌≡◌, ℕ, suc, ◌/◌, ◌<◌, Bool, true, false, not, ◌||◌, List, [], ◌∷◌, length, slice_get, Some, refl, sym, ap, ◌∙◌, inl, inr, subst, arith}
 use Rattle.std.specs.Prelude.{Result, Ok, Err, MatchResult}
 use Rattle.std.specs.List.{list_any, range_with_len}
 use Rattle.std.proofs.lemmas.Option.{slice_get_within}
@@ -31,7 +31,7 @@ use Rattle.md_metadata.specs.Storing.{HasAllMarks, IsMarking}
 use Rattle.md_resync.specs.declared.fault.ResyncFault.{ResyncFault}
 use Rattle.md_resync.specs.declared.fault.ResyncFault.TheVariants.{Halted, InFlight, MemberFailed, NoMemory, ReadFault}
 use Rattle.md_resync.specs.Copying.{Copies, CopyingFails, FailsReading, IsCopyIn, IsMarkedAt, LosesCopying}
-use Rattle.md_resync.specs.Resyncing.{Advances, Agrees, ClearsStored, ComesTo, FailsToAgree, FailsToWrite, HasSameMembers, IdleFails, IsCopyBelow, IsResynced, MarkingFails, Resyncs, SettlesContent, StoresMarks}
+use Rattle.md_resync.specs.Resyncing.{Advances, Agrees, ClearsStored, ComesTo, FailsToAgree, FailsToWrite, HasSameMembers, IdleFails, IsCopyBelow, IsResynced, LeavesMarks, MarkingFails, Resyncs, SettlesContent, StoresMarks}
 use Rattle.md_resync.proofs.Advancing.{advances_on, agree_same, alone_still, fails_on, goes_on, none_flies}
 use Rattle.md_resync.proofs.Agreeing.{copies_advance, copying_goes, copying_is_calm}
 use Rattle.md_resync.proofs.Cleared.{cleared_stored, clearing_advances, content_on, same_but_marks, same_disks}
@@ -241,7 +241,7 @@ module _ (old a b : MirrorView) (idle : IsIdle old.array) (s : StoresMarks old a
 
   copying_loses : (k : ℕ) → LosesCopying k a b → FailsToWrite k a b
   unfolding copying_goes
-  copying_loses k h = record { goes = copying_goes a b two_there h.goes; last = h.last; idle = h.idle; was = h.was; faulty = h.faulty }
+  copying_loses k h = record { goes = copying_goes a b two_there h.goes; last = h.last; marks = inl h.marks; idle = h.idle; was = h.was; faulty = h.faulty }
 
   pub agreeing_fails : (fault : ResyncFault) → CopyingFails (IsMarkedAt a.array) a b fault → IdleFails old b fault
   agreeing_fails Halted h = record {
@@ -258,18 +258,24 @@ module _ (old a b : MirrorView) (idle : IsIdle old.array) (s : StoresMarks old a
   agreeing_fails (InFlight n) h = h
   agreeing_fails NoMemory h = absurd h
   agreeing_fails (ReadFault k chunk) h = reading_fails k chunk h
-  agreeing_fails (MemberFailed k) h = fails_on k old a b idle s.members s.advances (copying_loses k h)
+  agreeing_fails (MemberFailed k) h = fails_on k old a b idle s.members s.advances (inl (h.marks ∙ ap (λ (v : ArrayView). v.marks) s.array)) (copying_loses k h)
 
 -- ---- storing marks does not come to its end
-pub marks_stop : (old mid new : MirrorView) (fault : ResyncFault) → IsIdle old.array → Advances old mid → HasSameMembers old.array mid.array → MarkingFails mid new fault → MarkingFails old new fault
-marks_stop old mid new Halted idle g s h = record {
+-- marks that a later part leaves so are left so by both, if the part before only cleared them where it might
+pub marks_on : (a b c : ArrayView) → is_degraded b ≡ is_degraded a → LeavesMarks a b → LeavesMarks b c → LeavesMarks a c
+marks_on a b c degraded before (inl same) = subst (λ (x : Bitmap). LeavesMarks a (record b { marks = x })) (sym same) before
+marks_on a b c degraded before (inr cleared) = inr (sym degraded ∙ cleared.0, cleared.1)
+
+pub marks_stop : (old mid new : MirrorView) (fault : ResyncFault) → IsIdle old.array → Advances old mid → HasSameMembers old.array mid.array → is_degraded mid.array ≡ is_degraded old.array
+    → LeavesMarks old.array mid.array → MarkingFails mid new fault → MarkingFails old new fault
+marks_stop old mid new Halted idle g s degraded marks h = record {
   halts = record { idle = idle; mid = h.halts.mid; goes = goes_on old mid h.halts.mid idle s g.goes h.halts.goes; failing = h.halts.failing; of = h.halts.of; halts = h.halts.halts };
   halted = h.halted;
 }
-marks_stop old mid new (InFlight n) idle g s h = h
-marks_stop old mid new NoMemory idle g s h = h
-marks_stop old mid new (ReadFault k chunk) idle g s h = h
-marks_stop old mid new (MemberFailed k) idle g s h = fails_on k old mid new idle s g h
+marks_stop old mid new (InFlight n) idle g s degraded marks h = h
+marks_stop old mid new NoMemory idle g s degraded marks h = h
+marks_stop old mid new (ReadFault k chunk) idle g s degraded marks h = h
+marks_stop old mid new (MemberFailed k) idle g s degraded marks h = fails_on k old mid new idle s g (marks_on old.array mid.array new.array degraded marks h.marks) h
 
 pub marks_stop_idle : (old new : MirrorView) (fault : ResyncFault) → MarkingFails old new fault → IdleFails old new fault
 marks_stop_idle old new Halted h = h
@@ -283,14 +289,17 @@ pub cleared_or_stops : (old mid new : MirrorView) → IsIdle old.array → is_de
     → {T : Type 0} (result : Result T ResyncFault) → MatchResult result (λ _. StoresMarks mid new) (MarkingFails mid new) → MatchResult result (λ _. ClearsStored old new) (MarkingFails old new)
 cleared_or_stops old mid new idle full c (Ok t) s = cleared_stored old mid new idle full c s
 cleared_or_stops old mid new idle full c (Err fault) h =
-    marks_stop old mid new fault idle (clearing_advances old mid idle c.remarks) (same_but_marks old.array mid.array c.remarks.array) h
+    let same = same_but_marks old.array mid.array c.remarks.array in
+    marks_stop old mid new fault idle (clearing_advances old mid idle c.remarks) same (degraded_alike old.array mid.array (ap (λ (v : ArrayView). v.shared.raid_disks) c.remarks.array) same) (inr (full, c.none)) h
 
 -- ---- what a resync answers while nothing is in flight
 pub resyncs_or_stops : (old a b c d : MirrorView) → IsIdle old.array → StoresMarks old a → Agrees a b → BecomesResynced b c → Happens b Event.Resynced c → IsConsistent c
     → {T : Type 0} (result : Result T ResyncFault) → MatchResult result (λ _. ClearsStored c d) (MarkingFails c d) → MatchResult result (λ _. Resyncs old d) (IdleFails old d)
 resyncs_or_stops old a b c d idle s g r happens sound (Ok t) x = resyncs old a b c idle s g r happens sound d x
 resyncs_or_stops old a b c d idle s g r happens sound (Err fault) h =
-    marks_stop_idle old d fault (marks_stop old c d fault idle (before old a b c idle s g r happens sound) (members_c old a b c idle s g r happens sound) h)
+    marks_stop_idle old d fault
+    (marks_stop old c d fault idle (before old a b c idle s g r happens sound) (members_c old a b c idle s g r happens sound) (degraded_c old a b c idle s g r happens sound)
+    (inl (ap (λ (v : ArrayView). v.marks) (array_c old a b c idle s g r happens sound))) h)
 
 pub copying_sound : (Of : ℕ → Type 0) (old new : MirrorView) (fault : ResyncFault) → CopyingFails Of old new fault → IsConsistent new
 copying_sound Of old new Halted h = h.sound

@@ -156,6 +156,7 @@ pub record FailsReading (Of : ℕ → Type 0) (k chunk : ℕ) (old new : MirrorV
 pub record LosesCopying (k : ℕ) (old new : MirrorView) : Type 0 where
   pub goes : CopyingGoesOn old new
   pub last : FailsAtLast k goes.events
+  pub marks : new.array.marks ≡ old.array.marks
   pub was : IsUpToDate old.array k
   pub idle : IsIdle new.array
   pub faulty : IsFaulty k new.array

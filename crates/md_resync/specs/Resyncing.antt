@@ -115,10 +115,15 @@ pub record ReadingFails (k chunk : ℕ) (old new : MirrorView) : Type 0 where
   pub in_sync : IsInSync old.array k member
   pub failed : AtDevice k old.disks new.disks (λ d e. d.honest ≡ true → d.failures < e.failures)
 
+-- The marks in memory are as they were, or, where the array was not degraded, none is set.
+abbrev pub LeavesMarks : ArrayView → ArrayView → Type 0
+LeavesMarks old new = (new.marks ≡ old.marks) ⊎ ((is_degraded old ≡ false) × ((c : ℕ) → is_set new.marks.bytes c ≡ false))
+
 -- a write to member k failed, which was kept up to date before, and that was the last that was done
 pub record LosesMember (k : ℕ) (old new : MirrorView) : Type 0 where
   pub stops : EndsUnresynced old new
   pub last : FailsAtLast k stops.goes.events
+  pub marks : LeavesMarks old.array new.array
   pub was : IsUpToDate old.array k
   pub faulty : IsFaulty k new.array
 
@@ -167,6 +172,7 @@ pub record FailsToAgree (k chunk : ℕ) (old new : MirrorView) : Type 0 where
 pub record FailsToWrite (k : ℕ) (old new : MirrorView) : Type 0 where
   pub goes : GoesOn old new
   pub last : FailsAtLast k goes.events
+  pub marks : LeavesMarks old.array new.array
   pub idle : IsIdle new.array
   pub was : IsUpToDate old.array k
   pub faulty : IsFaulty k new.array
