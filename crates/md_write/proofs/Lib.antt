@@ -1,4 +1,5 @@
-pub mod Beside
+pub mod InRounds
+pub mod Advancing
 pub mod StoredMarks
 pub mod WrittenData
 pub mod Received

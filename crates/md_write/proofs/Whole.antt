@@ -29,11 +29,12 @@ use Rattle.md_array.specs.Worlds.{AreHonest, geometry_of, world_of}
 use Rattle.md_array.proofs.Steps.InFlight.{found_with_last}
 use Rattle.md_array.proofs.Steps.Turns.{turn_on, turn_then, turn_through}
 use Rattle.md_array.proofs.Worlds.InSync.{in_sync_is, number_at}
-use Rattle.md_write.specs.Progress.{AreChunksOf, HaltsOn, IsEventOf, IsOfRequest, IsReadyToFinish, end_chunk, first_chunk}
+use Rattle.md_write.specs.Progress.{AreChunksOf, HaltsOn, IsEventOf, IsOfRequest, IsReadyToFinish, Part, end_chunk, first_chunk}
 use Rattle.md_write.specs.Writing.{HaltsWrite, HasReceived, IsWritten, RefusesWrite, Writes, events_of}
 use Rattle.md_write.proofs.WrittenData.{div_mono, put_under, under}
 use Rattle.md_write.proofs.WrittenData as written
 use Rattle.md_write.proofs.Entries.{without_last}
+use Rattle.md_write.proofs.InRounds.{left_at}
 use Rattle.md_metadata.proofs.Going.{fly_on}
 use Rattle.md_write.proofs.Received.{HasBytes, IsReceiving, received, receives_begin, receives_step}
 
@@ -184,7 +185,7 @@ module _ (sector : ℕ) (bytes : List ℕ) (old begun : MirrorView) (p : Pending
     first_turn es Then previous others in_flight t =
         (begun, among p others, tt, (sector, bytes, p, under n p others refl, put_under n p others others refl (λ m apart. refl), b), λ honest whole. begins honest others in_flight, t)
 
-    pub halts_write : (q : PendingView) (new : MirrorView) → HaltsOn p q begun new → HaltsWrite sector bytes old new
+    pub halts_write : (q : PendingView) (new : MirrorView) → HaltsOn Part.Marks p q begun new → HaltsWrite sector bytes old new
     halts_write q new h = record {
       begun = begun;
       request = p;
@@ -197,12 +198,13 @@ module _ (sector : ℕ) (bytes : List ℕ) (old begun : MirrorView) (p : Pending
           first_turn h.halts.goes.events _ previous others in_flight (h.halts.goes.leads (Some (Event.Begin n (request_of p))) others (beside others in_flight));
       failing = h.halts.failing;
       of = subst (λ (c : Chunks). IsOfRequest c p h.halts.failing) chunks_are h.halts.of;
+      rounds = h.rounds;
       halts = h.halts.halts;
     }
 
     module _ (q : PendingView) (mid new : MirrorView) (g : IsReadyToFinish p q begun mid) (f : Finishes mid new q) (finishes : FinishHappens mid new q) where
       same_n : q.ticket.number ≡ n
-      same_n = ap (λ (x : PendingView). x.ticket.number) g.later.request
+      same_n = ap (λ (x : PendingView). x.ticket.number) g.advances.later.request
 
       module _ (others : Requests) (in_flight : AreInFlight old.array others) where
         abbrev r : Request
@@ -215,7 +217,7 @@ module _ (sector : ℕ) (bytes : List ℕ) (old begun : MirrorView) (p : Pending
         none = new_number others in_flight
 
         there : AreInFlight mid.array others
-        there = fly_on begun.array mid.array g.goes.array others (beside others in_flight)
+        there = fly_on begun.array mid.array g.advances.goes.array others (beside others in_flight)
 
         taken_out : IsPut n None (among q others) others
         taken_out = record { at = none; others = λ m apart. sym (written.beside q others m (λ here. apart (here ∙ same_n))) }
@@ -232,28 +234,28 @@ module _ (sector : ℕ) (bytes : List ℕ) (old begun : MirrorView) (p : Pending
             (subst (λ (x : Requests). InTurn last mid x (Event.Finish n ∷ []) Ends) (sym at.1)
             (new, others, tt, (q, under n q others same_n, taken_out, f), λ honest whole. last_does honest, (refl, refl)))
 
-        middle : InTurn (Some (Event.Begin n r)) begun (among p others) g.goes.events (λ m s. (last : Option Event) → InTurn last m s (Event.Finish n ∷ []) Ends)
-        middle = turn_then g.goes.events (Some (Event.Begin n r)) begun (among p others) _ _ ends (g.goes.leads (Some (Event.Begin n r)) others (beside others in_flight))
+        middle : InTurn (Some (Event.Begin n r)) begun (among p others) g.advances.goes.events (λ m s. (last : Option Event) → InTurn last m s (Event.Finish n ∷ []) Ends)
+        middle = turn_then g.advances.goes.events (Some (Event.Begin n r)) begun (among p others) _ _ ends (g.advances.goes.leads (Some (Event.Begin n r)) others (beside others in_flight))
 
-        abbrev in_turn : (previous : Option Event) → InTurn previous old others (events_of p g.goes.events) Ends
+        abbrev in_turn : (previous : Option Event) → InTurn previous old others (events_of p g.advances.goes.events) Ends
         in_turn previous =
-            first_turn (g.goes.events ++ Event.Finish n ∷ []) Ends previous others in_flight
-            (turn_on g.goes.events (Event.Finish n ∷ []) (Some (Event.Begin n r)) begun (among p others) Ends middle)
+            first_turn (g.advances.goes.events ++ Event.Finish n ∷ []) Ends previous others in_flight
+            (turn_on g.advances.goes.events (Event.Finish n ∷ []) (Some (Event.Begin n r)) begun (among p others) Ends middle)
 
-        all_received : (previous : Option Event) → AreHonest old.disks → AllLeftWhole (events_of p g.goes.events) previous old others Ends (in_turn previous) → HasReceived r old new others
+        all_received : (previous : Option Event) → AreHonest old.disks → AllLeftWhole (events_of p g.advances.goes.events) previous old others Ends (in_turn previous) → HasReceived r old new others
         all_received previous honest whole =
             let shape = geometry_of old.array in
             let first = world_of old others in
             let does : Does old others (Event.Begin n r) begun (among p others) = begins honest others in_flight in
             let x = turn_through (IsOn shape n r first) (IsOfRequest begun.array.chunks p)
             (λ o s e m y of d is. on_step shape n (first_chunk begun.array.chunks p) (end_chunk begun.array.chunks p) r first o s e m y of d is)
-            g.goes.events (Event.Finish n ∷ []) (Some (Event.Begin n r)) begun (among p others) Ends middle g.goes.steps does.honest
+            g.advances.goes.events (Event.Finish n ∷ []) (Some (Event.Begin n r)) begun (among p others) Ends middle g.advances.goes.steps does.honest
             (on_begin n r old others begun (among p others) does (distinct others)) whole.1 in
             subst (λ (m : MirrorView). HasReceived r old m others) x.rest.5.0
             (on_end n r old others x.mirror x.requests x.rest.0 x.kept
             (subst (λ (y : Requests). Does x.mirror x.requests (Event.Finish n) x.rest.0 y) x.rest.5.1 (x.rest.4 x.honest tt)))
 
-        is_written : (previous : Option Event) → IsWritten p g.goes.events previous others old new
+        is_written : (previous : Option Event) → IsWritten p g.advances.goes.events previous others old new
         is_written previous = record { done = in_turn previous; received = all_received previous }
 
       pub writes : Writes sector bytes old new
@@ -261,16 +263,17 @@ module _ (sector : ℕ) (bytes : List ℕ) (old begun : MirrorView) (p : Pending
         begun = begun;
         request = p;
         begins = b;
-        events = g.goes.events;
-        steps = subst (λ (c : Chunks). AllOf (IsOfRequest c p) g.goes.events) chunks_are g.goes.steps;
+        events = g.advances.goes.events;
+        steps = subst (λ (c : Chunks). AllOf (IsOfRequest c p) g.advances.goes.events) chunks_are g.advances.goes.steps;
+        rounds = left_at Part.Marks Part.Bytes g.advances.goes.events g.advances.rounds;
         happens = λ previous others in_flight. is_written others in_flight previous;
         entries = ap (λ (x : ArrayView). x.requests.entries) f.array
-            ∙ ap (λ xs. without xs q.ticket.number) (ap (λ (x : InflightList Extent). x.entries) g.goes.array.requests ∙ entries_are)
+            ∙ ap (λ xs. without xs q.ticket.number) (ap (λ (x : InflightList Extent). x.entries) g.advances.goes.array.requests ∙ entries_are)
             ∙ ap (λ m. without (old.array.requests.entries ++ (old.array.requests.next, record { start = sector; sectors = sectors }) ∷ []) m) (same_n ∙ number_is)
             ∙ without_last old.array.requests.next _ old.array.requests.entries b.fresh;
-        resynced = ap (λ (x : ArrayView). x.resynced) f.array ∙ g.goes.array.resynced ∙ resynced_is;
+        resynced = ap (λ (x : ArrayView). x.resynced) f.array ∙ g.advances.goes.array.resynced ∙ resynced_is;
         recorded = λ i m at. g.recorded i m (ap (λ (x : ArrayView). slice_get x.members i) (sym f.array) ∙ at);
-        marked = subst (HasMarked old.array sector sectors) (sym (ap (λ (x : ArrayView). x.marks) f.array ∙ g.goes.array.marks)) b.marked;
+        marked = subst (HasMarked old.array sector sectors) (sym (ap (λ (x : ArrayView). x.marks) f.array ∙ g.advances.goes.array.marks)) b.marked;
       }
 
 pub refused : (sector : ℕ) (bytes : List ℕ) (old new : MirrorView) (f : BeginFault) → RefusesBegin sector (length bytes / 512) old new f → RefusesWrite sector bytes old new f

@@ -22,14 +22,14 @@ use Rattle.md_array.specs.Consistency.{IsConsistent}
 use Rattle.md_array.specs.Events.{HappensAmong}
 use Rattle.md_array.specs.InTurn.{IsPut, IsUnder, Requests}
 use Rattle.md_metadata.specs.declared.fault.PartFault.{PartFault}
-use Rattle.md_metadata.specs.declared.fault.PartFault.TheVariants as part
-use Rattle.md_metadata.specs.Going.{GoesOn, HaltsAfter, IsSameArray, LosesMember}
+use Rattle.md_metadata.specs.Going.{IsSameArray}
 use Rattle.md_metadata.specs.Storing.{AllRecorded, IsRecording, RecordsAll, Stores, StoresAll, StoringFails}
-use Rattle.md_metadata.proofs.Going.{goes_nowhere, goes_on, goes_step, halts_on, loses_on, same_refl, stops_as, stops_on, stores_as, stores_on}
+use Rattle.md_metadata.proofs.Going.{same_refl, stores_as, stores_on}
 use Rattle.md_metadata.proofs.StoredMembers.{last_on, records_last}
-use Rattle.md_metadata.proofs.Steps.{failure_loses, failure_step, in_use_there, never_halted, recorded_in_sync}
-use Rattle.md_write.specs.Progress.{AreChunksOf, HaltsOn, IsLater, IsMarkingOf, IsOfRequest, IsReadyToFinish, LosesOn, StopsWriting, WritesAt, WritesBelow, WritesOn, WritesToAll, end_chunk, first_chunk}
-use Rattle.md_write.proofs.Beside.{goes_beside, halts_beside, later_on, later_refl}
+use Rattle.md_metadata.proofs.Steps.{failure_step, fewer_after, halted_after, in_use_there, never_halted, recorded_in_sync}
+use Rattle.md_write.specs.Progress.{Advances, AreChunksOf, HaltsOn, IsLater, IsMarkingOf, IsOfRequest, IsReadyToFinish, LosesOn, Part, StopsWriting, WritesAt, WritesBelow, WritesOn, WritesToAll, end_chunk, first_chunk}
+use Rattle.md_write.proofs.InRounds.{first_records_leave, marks_leave, other_records_leave}
+use Rattle.md_write.proofs.Advancing.{advances_on, later_refl, stays, steps_once, stops_later, stored_beside, storing_stops}
 use Rattle.md_write.proofs.StoredMarks.{marked_still, marks_last}
 
 pub div_mono : (w a b : ℕ) → 0 < w → a ≤ b → a / w ≤ b / w
@@ -82,15 +82,14 @@ module _ (old new : MirrorView) (k : ℕ) (p q : PendingView) (before : IsConsis
         let number : q.ticket.number ≡ n = ap (λ (x : PendingView). x.ticket.number) r.pending in
         record {
           writes = record {
-            goes = goes_step (among p) (among q) (IsOfRequest old.array.chunks p) (Event.WriteMember n k) old new (record {
+            advances = steps_once Part.Bytes Part.Bytes p q (Event.WriteMember n k) old new (record {
               of = refl;
               did = λ others. (p, q, under n p others refl, under n q others number, put_under n q (among p others) others number (beside p others), r);
               happens = λ honest whole others in_flight. happens honest others in_flight;
               array = same_of old.array new.array r.array;
               sound = sound;
               pending = pending;
-            }) (λ previous. tt);
-            later = written_later r;
+            }) (λ previous. tt) (λ after rest. rest) (written_later r);
             still = still;
             array = r.array;
           };
@@ -104,39 +103,43 @@ module _ (old new : MirrorView) (k : ℕ) (p q : PendingView) (before : IsConsis
     later_of : q ≡ p → IsLater p q
     later_of e = subst (IsLater p) (sym e) (later_refl p)
 
-    pub data_fails : (j : ℕ) → RefusesWriteMember k old new p q (MemberFailed j) → HappensAmong old p (Event.WriteMemberFails n k) new q → LosesOn p q old new
+    pub data_fails : (j : ℕ) → RefusesWriteMember k old new p q (MemberFailed j) → HappensAmong old p (Event.WriteMemberFails n k) new q → LosesOn Part.Bytes p q old new
     data_fails j r happens =
         let f = r.1 in
         let used = in_use_there old.array k f.member f.fails.array.member f.fails.array.at f.may.intent.in_sync.member (recorded_in_sync f.member.state f.may.intent.in_sync.in_sync) in
         let number : q.ticket.number ≡ n = ap (λ (x : PendingView). x.ticket.number) f.pending in
         record {
-          loses = failure_loses (among p) (among q) (IsOfRequest old.array.chunks p) (Event.WriteMemberFails n k) old new k f.fails.array used
+          advances = steps_once Part.Bytes Part.Marks p q (Event.WriteMemberFails n k) old new
               (failure_step (among p) (among q) (IsOfRequest old.array.chunks p) (Event.WriteMemberFails n k) old new k f.fails.array used refl
               (λ others. (p, q, under n p others refl, under n q others number, put_under n q (among p others) others number (beside p others), f))
-              (λ honest whole others in_flight. happens honest others in_flight) sound pending) (λ previous. tt);
-          later = later_of f.pending;
+              (λ honest whole others in_flight. happens honest others in_flight) sound pending) (λ previous. tt) (λ after rest. rest) (later_of f.pending);
+          lost = fewer_after old.array new.array k f.fails.array used;
+          halted = halted_after old.array new.array k f.fails.array used;
           still = subst (IsPending new.array) (sym f.pending) (pending p is);
         }
 
-    pub data_halts : old.array.halted ≡ false → RefusesWriteMember k old new p q Halted → HaltsOn p q old new
+    pub data_halts : old.array.halted ≡ false → RefusesWriteMember k old new p q Halted → HaltsOn Part.Bytes p q old new
     data_halts run (inl r) = never_halted old new run r.0
-    data_halts run (inr h) = record {
-      halts = record {
-        mid = old;
-        goes = subst (λ (x : PendingView). GoesOn (among p) (among x) (IsOfRequest old.array.chunks p) old old) (sym h.pending) (goes_nowhere (among p) (IsOfRequest old.array.chunks p) old before);
-        failing = Event.WriteMemberFails n k;
-        of = refl;
-        halts = λ others. (p, q, subst (λ (x : PendingView). IsUnder n p (among x others)) (sym h.pending) (under n p others refl), h);
-        sound = sound;
-        pending = pending;
-      };
-      later = later_of h.pending;
-    }
+    data_halts run (inr h) =
+        let none = stays Part.Bytes p q old before h.pending in
+        record {
+          halts = record {
+            mid = old;
+            goes = none.goes;
+            failing = Event.WriteMemberFails n k;
+            of = refl;
+            halts = λ others. (p, q, subst (λ (x : PendingView). IsUnder n p (among x others)) (sym h.pending) (under n p others refl), h);
+            sound = sound;
+            pending = pending;
+          };
+          rounds = none.rounds (Event.WriteMemberFails n k ∷ []) tt;
+          later = none.later;
+        }
 
   -- nothing is to be done at member k
   pub written_nothing : ((m : MemberView) → IsInSync old.array k m → HasBytesOf p m) → WritesAt k p p old old
   written_nothing done = record {
-    writes = record { goes = goes_nowhere (among p) (IsOfRequest old.array.chunks p) old before; later = later_refl p; still = is; array = refl };
+    writes = record { advances = stays Part.Bytes p p old before refl; still = is; array = refl };
     done = done;
   }
 
@@ -163,7 +166,7 @@ module _ (p q : PendingView) (old new : MirrorView) (w : WritesOn p q old new) w
   pub marked_on : AllInSync old.array (HasMarksOf old.array p) → AllInSync new.array (HasMarksOf new.array q)
   marked_on all i m in_sync =
       subst (λ (x : ArrayView). HasMarksOf x q m) (sym w.array)
-      (subst (λ (x : PendingView). HasMarksOf old.array x m) (sym w.later.request) (all i m (subst (λ (x : ArrayView). IsInSync x i m) w.array in_sync)))
+      (subst (λ (x : PendingView). HasMarksOf old.array x m) (sym w.advances.later.request) (all i m (subst (λ (x : ArrayView). IsInSync x i m) w.array in_sync)))
 
   pub recorded_on : AllInSync old.array IsNotDue → AllInSync new.array IsNotDue
   recorded_on all i m in_sync = all i m (subst (λ (x : ArrayView). IsInSync x i m) w.array in_sync)
@@ -173,53 +176,22 @@ module _ (p q : PendingView) (old new : MirrorView) (w : WritesOn p q old new) w
 
 pub written_none : (p : PendingView) (m : MirrorView) → IsConsistent m → IsPending m.array p → WritesBelow 0 p p m m
 written_none p m sound is = record {
-  writes = record { goes = goes_nowhere (among p) (IsOfRequest m.array.chunks p) m sound; later = later_refl p; still = is; array = refl };
+  writes = record { advances = stays Part.Bytes p p m sound refl; still = is; array = refl };
   done = λ i n low in_sync. absurd (omega arith);
 }
 
-module _ (p q r : PendingView) (old mid new : MirrorView) where
-  -- the events of the later part are of the same request
-  of_same : (Of : (Event → Type 0) → Type 0) → IsLater p q → IsSameArray old.array mid.array → Of (IsOfRequest mid.array.chunks q) → Of (IsOfRequest old.array.chunks p)
-  of_same Of later same x =
-      subst (λ (y : PendingView). Of (IsOfRequest old.array.chunks y)) later.request
-      (subst (λ (c : Chunks). Of (IsOfRequest c q)) same.chunks x)
-
-  pub goes_later : GoesOn (among p) (among q) (IsOfRequest old.array.chunks p) old mid → IsLater p q → GoesOn (among q) (among r) (IsOfRequest mid.array.chunks q) mid new
-      → GoesOn (among p) (among r) (IsOfRequest old.array.chunks p) old new
-  goes_later g later h =
-      goes_on (among p) (among q) (among r) (IsOfRequest old.array.chunks p) old mid new g
-      (of_same (λ (Of : Event → Type 0). GoesOn (among q) (among r) Of mid new) later g.array h)
-
-  pub halts_later : GoesOn (among p) (among q) (IsOfRequest old.array.chunks p) old mid → IsLater p q → HaltsOn q r mid new → HaltsOn p r old new
-  halts_later g later h = record {
-    halts = halts_on (among p) (among q) (among r) (IsOfRequest old.array.chunks p) old mid new g
-        (of_same (λ (Of : Event → Type 0). HaltsAfter (among q) (among r) Of mid new) later g.array h.halts);
-    later = later_on p q r later h.later;
-  }
-
-  pub stops_later : (fault : PartFault) → GoesOn (among p) (among q) (IsOfRequest old.array.chunks p) old mid → IsLater p q → mid.array.halted ≡ old.array.halted → StopsWriting q r mid new fault
-      → StopsWriting p r old new fault
-  stops_later (part.MemberFailed j) g later run h = record {
-    loses = loses_on (among p) (among q) (among r) (IsOfRequest old.array.chunks p) old mid new g run
-        (of_same (λ (Of : Event → Type 0). LosesMember (among q) (among r) Of mid new) later g.array h.loses);
-    later = later_on p q r later h.later;
-    still = h.still;
-  }
-  stops_later part.Halted g later run h = halts_later g later h
-
-  pub written_more : (k : ℕ) → WritesBelow k p q old mid → WritesAt k q r mid new → WritesBelow (k + 1) p r old new
-  written_more k g h = record {
-    writes = record {
-      goes = goes_later g.writes.goes g.writes.later h.writes.goes;
-      later = later_on p q r g.writes.later h.writes.later;
-      still = h.writes.still;
-      array = h.writes.array ∙ g.writes.array;
-    };
-    done = λ i m low in_sync.
-        by_same i k
-        (λ same. h.done m (subst (λ (j : ℕ). IsInSync new.array j m) same in_sync))
-        (λ apart. h.writes.later.more m.superblock.dev_number (g.done i m (omega arith) (subst (λ (x : ArrayView). IsInSync x i m) h.writes.array in_sync)));
-  }
+pub written_more : (k : ℕ) (p q r : PendingView) (old mid new : MirrorView) → WritesBelow k p q old mid → WritesAt k q r mid new → WritesBelow (k + 1) p r old new
+written_more k p q r old mid new g h = record {
+  writes = record {
+    advances = advances_on p q r old mid new Part.Bytes Part.Bytes g.writes.advances Part.Bytes h.writes.advances;
+    still = h.writes.still;
+    array = h.writes.array ∙ g.writes.array;
+  };
+  done = λ i m low in_sync.
+      by_same i k
+      (λ same. h.done m (subst (λ (j : ℕ). IsInSync new.array j m) same in_sync))
+      (λ apart. h.writes.advances.later.more m.superblock.dev_number (g.done i m (omega arith) (subst (λ (x : ArrayView). IsInSync x i m) h.writes.array in_sync)));
+}
 
 pub written_all : (k : ℕ) (p q : PendingView) (old new : MirrorView) → length new.array.members ≤ k → WritesBelow k p q old new → WritesToAll p q old new
 written_all k p q old new last g = record {
@@ -228,15 +200,6 @@ written_all k p q old new last g = record {
 }
 
 -- ---- all parts
--- marks and records that stop
-storing_stops : (p : PendingView) (old new : MirrorView) → IsPending old.array p → (fault : PartFault) → StoringFails (IsOfRequest old.array.chunks p) old new fault → StopsWriting p p old new fault
-storing_stops p old new is (part.MemberFailed k) h = record {
-  loses = record { goes = goes_beside (IsOfRequest old.array.chunks p) p old new is h.loses.goes; lost = h.loses.lost; halted = h.loses.halted };
-  later = later_refl p;
-  still = h.loses.goes.pending p is;
-}
-storing_stops p old new is part.Halted h = record { halts = halts_beside (IsOfRequest old.array.chunks p) p old new is h; later = later_refl p }
-
 marking_is : (chunks : Chunks) (p : PendingView) (first end : ℕ) → first ≡ first_chunk chunks p → end ≡ end_chunk chunks p → (e : Event) → IsMarkingOf first end e → IsOfRequest chunks p e
 marking_is chunks p first end low high (Event.StoreMarks k b) is = inr (subst (λ (c : ℕ). block_of c ≤ b) low is.0, subst (λ (c : ℕ). b ≤ block_of (c - 1)) high is.1)
 marking_is chunks p first end low high (Event.StoreMarksFails k b) is = inr (subst (λ (c : ℕ). block_of c ≤ b) low is.0, subst (λ (c : ℕ). b ≤ block_of (c - 1)) high is.1)
@@ -267,18 +230,33 @@ module _ (p : PendingView) (first end : ℕ) (a : MirrorView) (chunks : AreChunk
   records_stored = stores_as IsRecording Of recording
 
   module _ (b : MirrorView) (is : IsPending a.array p) where
-    pub marks_stop : (fault : PartFault) → StoringFails (IsMarkingOf first end) a b fault → StopsWriting p p a b fault
-    marks_stop fault s = storing_stops p a b is fault (stops_as (IsMarkingOf first end) Of marking a b fault s)
+    pub marks_stop : (fault : PartFault) → StoringFails (IsMarkingOf first end) a b fault → StopsWriting Part.Marks p p a b fault
+    marks_stop = storing_stops (IsMarkingOf first end) p a b is marking Part.Marks Part.Marks (marks_leave first end)
 
     module _ (c : MirrorView) (x : Stores (IsMarkingOf first end) a b) where
-      pub records_stop : (fault : PartFault) → StoringFails IsRecording b c fault → StopsWriting p p a c fault
-      records_stop fault s =
-          storing_stops p a c is fault (stops_on Of a b c fault (marks_stored b x) (stops_as IsRecording Of recording b c fault s))
+      marked : Advances Part.Marks Part.Marks p p a b
+      marked = stored_beside (IsMarkingOf first end) p a b is marking Part.Marks Part.Marks (marks_leave first end) x.goes
 
-      pub others_stop : (d : MirrorView) → Stores IsRecording b c → (fault : PartFault) → StoringFails IsRecording c d fault → StopsWriting p p a d fault
-      others_stop d y fault s =
-          storing_stops p a d is fault
-          (stops_on Of a c d fault (stores_on Of a b c (marks_stored b x) (records_stored b c y)) (stops_as IsRecording Of recording c d fault s))
+      pub records_stop : (fault : PartFault) → StoringFails IsRecording b c fault → StopsWriting Part.Marks p p a c fault
+      records_stop fault s =
+          stops_later p p p a b c Part.Marks Part.Marks marked fault x.ready.halted
+          (storing_stops IsRecording p b c (x.goes.pending p is) (recording_is b.array.chunks p) Part.Marks Part.Records first_records_leave fault s)
+
+      module _ (d : MirrorView) (y : Stores IsRecording b c) where
+        recorded : Advances Part.Marks Part.Records p p a c
+        recorded =
+            advances_on p p p a b c Part.Marks Part.Marks marked Part.Records
+            (stored_beside IsRecording p b c (x.goes.pending p is) (recording_is b.array.chunks p) Part.Marks Part.Records first_records_leave y.goes)
+
+        pub others_stop : (fault : PartFault) → StoringFails IsRecording c d fault → StopsWriting Part.Marks p p a d fault
+        others_stop fault s =
+            stops_later p p p a c d Part.Marks Part.Records recorded fault (y.ready.halted ∙ x.ready.halted)
+            (storing_stops IsRecording p c d (y.goes.pending p (x.goes.pending p is)) (recording_is c.array.chunks p) Part.Records Part.Bytes other_records_leave fault s)
+
+        pub all_stored : Stores IsRecording c d → Advances Part.Marks Part.Bytes p p a d
+        all_stored z =
+            advances_on p p p a c d Part.Marks Part.Records recorded Part.Bytes
+            (stored_beside IsRecording p c d (y.goes.pending p (x.goes.pending p is)) (recording_is c.array.chunks p) Part.Records Part.Bytes other_records_leave z.goes)
 
 -- the chunks of the request, later on
 pub chunks_later : (a b : ArrayView) (p q : PendingView) (first end : ℕ) → IsSameArray a b → IsLater p q → AreChunksOf a p first end → AreChunksOf b q first end
@@ -312,11 +290,13 @@ module _ (p q : PendingView) (first end : ℕ) (a b c d e : MirrorView) (is : Is
   pub recorded_then : AllInSync d.array IsNotDue
   recorded_then = last_on IsRecording IsNotDue b c d (records_last b.array.marks) y.stores.goes.array.marks y.done others.stores
 
-  pub writes_or_stops : a.array.halted ≡ false → {T : Type 0} (result : Result T PartFault) → MatchResult result (λ _. WritesToAll p q d e) (StopsWriting p q d e)
-      → MatchResult result (λ _. IsReadyToFinish p q a e) (StopsWriting p q a e)
+  abbrev stored : Advances Part.Marks Part.Bytes p p a d
+  stored = all_stored p first end a chunks b is c x.stores d y.stores others.stores
+
+  pub writes_or_stops : a.array.halted ≡ false → {T : Type 0} (result : Result T PartFault) → MatchResult result (λ _. WritesToAll p q d e) (StopsWriting Part.Bytes p q d e)
+      → MatchResult result (λ _. IsReadyToFinish p q a e) (StopsWriting Part.Marks p q a e)
   writes_or_stops run (Ok t) w = record {
-    goes = goes_later p p q a d e (goes_beside (IsOfRequest a.array.chunks p) p a d is all.goes) (later_refl p) w.writes.goes;
-    later = w.writes.later;
+    advances = advances_on p p q a d e Part.Marks Part.Bytes stored Part.Bytes w.writes.advances;
     still = w.writes.still;
     may = record {
       running = running_on p q d e w.writes (all.ready.halted ∙ run);
@@ -325,4 +305,4 @@ module _ (p q : PendingView) (first end : ℕ) (a b c d e : MirrorView) (is : Is
     };
     recorded = subst AllRecorded (sym w.writes.array) others.done;
   }
-  writes_or_stops run (Err fault) w = stops_later p p q a d e fault (goes_beside (IsOfRequest a.array.chunks p) p a d is all.goes) (later_refl p) all.ready.halted w
+  writes_or_stops run (Err fault) w = stops_later p p q a d e Part.Marks Part.Bytes stored fault all.ready.halted w

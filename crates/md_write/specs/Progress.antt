@@ -1,5 +1,5 @@
 -- What the parts of a write have in common: they go on by events of the request, and come to their end or lose a member.
-use Rattle.std.specs.Prelude.{◌≡◌, ◌⊎◌, ℕ, ◌+◌, ◌-◌, ◌/◌, ◌<◌, ◌≤◌, true}
+use Rattle.std.specs.Prelude.{◌≡◌, ◌⊎◌, ℕ, ◌+◌, ◌-◌, ◌/◌, ◌<◌, ◌≤◌, true, List, [], ◌∷◌, ◌++◌}
 use Rattle.md_model.specs.Sectors.{block_of}
 use Rattle.md_model.specs.Events.{Event}
 use Rattle.md_bitmap.specs.Marks.{is_set}
@@ -12,7 +12,7 @@ use Rattle.md_state.specs.Members.{IsInSync}
 use Rattle.md_state.specs.Finishing.{HasBytesOf, MayFinish}
 use Rattle.md_metadata.specs.declared.fault.PartFault.{PartFault}
 use Rattle.md_metadata.specs.declared.fault.PartFault.TheVariants.{Halted, MemberFailed}
-use Rattle.md_metadata.specs.Going.{GoesOn, HaltsAfter, LosesMember}
+use Rattle.md_metadata.specs.Going.{GoesOn, HaltsAfter, recorded_count}
 use Rattle.md_metadata.specs.Storing.{AllRecorded}
 
 -- ---- kinds of events, done or failed
@@ -47,6 +47,34 @@ end_chunk chunks p = ((p.sector + request_sectors p) - 1) / chunks.sectors + 1
 abbrev pub IsOfRequest : Chunks → PendingView → Event → Type 0
 IsOfRequest chunks p = IsEventOf p.ticket.number (first_chunk chunks p) (end_chunk chunks p)
 
+-- ---- rounds
+-- the parts of a round
+pub data Part : Type 0 where
+  Marks : Part
+  Records : Part
+  Bytes : Part
+
+-- no bytes are written in this round yet
+abbrev pub IsBeforeBytes : Part → Type 0
+IsBeforeBytes Part.Bytes = ⊥
+IsBeforeBytes part = Unit {0}
+
+-- The list goes on in rounds, from this part of one: marks are stored, then superblocks, with the first sectors of bitmaps, then bytes.
+-- After a failure another round may follow.
+abbrev pub InRounds : Part → List Event → Type 0
+InRounds part [] = Unit {0}
+InRounds part (Event.StoreMarks k b ∷ es) = ((part ≡ Part.Marks) × InRounds Part.Marks es) ⊎ ((b ≡ 0) × IsBeforeBytes part × InRounds Part.Records es)
+InRounds part (Event.Record k ∷ es) = IsBeforeBytes part × InRounds Part.Records es
+InRounds part (Event.WriteMember n k ∷ es) = InRounds Part.Bytes es
+InRounds part (Event.StoreMarksFails k b ∷ es) = ((part ≡ Part.Marks) ⊎ ((b ≡ 0) × IsBeforeBytes part)) × InRounds Part.Marks es
+InRounds part (Event.RecordFails k ∷ es) = IsBeforeBytes part × InRounds Part.Marks es
+InRounds part (Event.WriteMemberFails n k ∷ es) = InRounds Part.Marks es
+InRounds part (e ∷ es) = ⊥
+
+-- these events, and then any that are in rounds from that part on, are in rounds from this one on
+abbrev pub LeavesAt : Part → Part → List Event → Type 0
+LeavesAt from to events = (after : List Event) → InRounds to after → InRounds from (events ++ after)
+
 -- ---- marks
 -- these chunks are marked in memory
 pub record AreMarked (a : ArrayView) (first end : ℕ) : Type 0 where
@@ -70,10 +98,15 @@ pub record IsLater (p q : PendingView) : Type 0 where
   pub request : q ≡ record p { written = q.written }
   pub more : (d : ℕ) → has_written p d ≡ true → has_written q d ≡ true
 
+-- it goes on by its events, from one part of a round to another
+pub record Advances (from to : Part) (p q : PendingView) (old new : MirrorView) : Type 0 where
+  pub goes : GoesOn (among p) (among q) (IsOfRequest old.array.chunks p) old new
+  pub rounds : LeavesAt from to goes.events
+  pub later : IsLater p q
+
 -- its bytes are written, and what is kept in memory of the array is as before
 pub record WritesOn (p q : PendingView) (old new : MirrorView) : Type 0 where
-  pub goes : GoesOn (among p) (among q) (IsOfRequest old.array.chunks p) old new
-  pub later : IsLater p q
+  pub advances : Advances Part.Bytes Part.Bytes p q old new
   pub still : IsPending new.array q
   pub array : new.array ≡ old.array
 
@@ -89,24 +122,25 @@ pub record WritesToAll (p q : PendingView) (old new : MirrorView) : Type 0 where
   pub writes : WritesOn p q old new
   pub done : (i : ℕ) (m : MemberView) → IsInSync new.array i m → HasBytesOf q m
 
--- a member failed on the way
-pub record LosesOn (p q : PendingView) (old new : MirrorView) : Type 0 where
-  pub loses : LosesMember (among p) (among q) (IsOfRequest old.array.chunks p) old new
-  pub later : IsLater p q
+-- a member failed on the way, and another round may follow
+pub record LosesOn (from : Part) (p q : PendingView) (old new : MirrorView) : Type 0 where
+  pub advances : Advances from Part.Marks p q old new
+  pub lost : recorded_count new.array < recorded_count old.array
+  pub halted : new.array.halted ≡ old.array.halted
   pub still : IsPending new.array q
 
-pub record HaltsOn (p q : PendingView) (old new : MirrorView) : Type 0 where
+pub record HaltsOn (from : Part) (p q : PendingView) (old new : MirrorView) : Type 0 where
   pub halts : HaltsAfter (among p) (among q) (IsOfRequest old.array.chunks p) old new
+  pub rounds : InRounds from (halts.goes.events ++ halts.failing ∷ [])
   pub later : IsLater p q
 
-abbrev pub StopsWriting : PendingView → PendingView → MirrorView → MirrorView → PartFault → Type 0
-StopsWriting p q old new Halted = HaltsOn p q old new
-StopsWriting p q old new (MemberFailed k) = LosesOn p q old new
+abbrev pub StopsWriting : Part → PendingView → PendingView → MirrorView → MirrorView → PartFault → Type 0
+StopsWriting from p q old new Halted = HaltsOn from p q old new
+StopsWriting from p q old new (MemberFailed k) = LosesOn from p q old new
 
 -- all is done: it may be finished
 pub record IsReadyToFinish (p q : PendingView) (old new : MirrorView) : Type 0 where
-  pub goes : GoesOn (among p) (among q) (IsOfRequest old.array.chunks p) old new
-  pub later : IsLater p q
+  pub advances : Advances Part.Marks Part.Bytes p q old new
   pub still : IsPending new.array q
   pub may : MayFinish new.array q
   pub recorded : AllRecorded new.array

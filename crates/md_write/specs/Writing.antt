@@ -12,7 +12,7 @@ use Rattle.md_state.specs.Requests.{AreInFlight, among, request_of}
 use Rattle.md_array.specs.InTurn.{AllLeftWhole, AllOf, HaltsAt, Leads, Requests}
 use Rattle.md_array.specs.Worlds.{AreHonest, geometry_of, world_of}
 use Rattle.md_metadata.specs.Storing.{AllRecorded}
-use Rattle.md_write.specs.Progress.{IsOfRequest}
+use Rattle.md_write.specs.Progress.{InRounds, IsOfRequest, Part}
 
 -- Every member in sync holds the request's bytes at its sectors, those that it lists among them, and elsewhere each holds what it
 -- held. A content that the members in sync held before, they hold with the request's bytes.
@@ -38,6 +38,7 @@ pub record Writes (sector : ℕ) (bytes : List ℕ) (old new : MirrorView) : Typ
   pub begins : Begins sector bytes old begun request
   pub events : List Event
   pub steps : AllOf (IsOfRequest old.array.chunks request) events
+  pub rounds : InRounds Part.Marks events
   pub happens : (previous : Option Event) (others : Requests) → AreInFlight old.array others → IsWritten request events previous others old new
   -- of any devices: what the mirror keeps of the array
   pub entries : new.array.requests.entries ≡ old.array.requests.entries
@@ -59,6 +60,7 @@ pub record HaltsWrite (sector : ℕ) (bytes : List ℕ) (old new : MirrorView) :
       → Leads previous old others (Event.Begin request.ticket.number (request_of request) ∷ events) mid (among last others)
   pub failing : Event
   pub of : IsOfRequest old.array.chunks request failing
+  pub rounds : InRounds Part.Marks (events ++ failing ∷ [])
   pub halts : (others : Requests) → HaltsAt mid (among last others) failing new
 
 abbrev pub RefusesWrite : ℕ → List ℕ → MirrorView → MirrorView → BeginFault → Type 0

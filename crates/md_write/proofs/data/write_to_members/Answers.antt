@@ -1,6 +1,8 @@
 use Rattle.std.proofs.Common.{ap, arith}
 use Rattle.md_state.specs.View.{ArrayView}
-use Rattle.md_write.proofs.WrittenData.{marked_on, recorded_on, running_on, stops_later, written_all, written_more, written_none}
+use Rattle.md_write.specs.Progress.{Part}
+use Rattle.md_write.proofs.Advancing.{stops_later}
+use Rattle.md_write.proofs.WrittenData.{marked_on, recorded_on, running_on, written_all, written_more, written_none}
 use Rattle.md_write.proofs.data.write_to_members.Goals as goal
 
 pub loop-k-init : goal.loop-k-init
@@ -8,12 +10,12 @@ loop-k-init g c = written_none c.args.pending.now c.args.mirror.now c.requires.s
 
 pub write_to-requires-clause-within : goal.write_to-requires-clause-within
 write_to-requires-clause-within g c =
-    let many = c.loop-k.invariant.writes.goes.array.as_many in
+    let many = c.loop-k.invariant.writes.advances.goes.array.as_many in
     let count = c.members-k-end.ensures in
     omega arith
 
 pub write_to-requires-clause-sound : goal.write_to-requires-clause-sound
-write_to-requires-clause-sound g c = c.loop-k.invariant.writes.goes.sound
+write_to-requires-clause-sound g c = c.loop-k.invariant.writes.advances.goes.sound
 
 pub write_to-requires-clause-pending : goal.write_to-requires-clause-pending
 write_to-requires-clause-pending g c = c.loop-k.invariant.writes.still
@@ -30,16 +32,16 @@ write_to-requires-clause-recorded g c = recorded_on c.args.pending.now c.loop-k.
 pub returns-in-Err : goal.returns-in-Err
 returns-in-Err g c =
     let so_far = c.loop-k.invariant.writes in
-    stops_later c.args.pending.now c.loop-k.pending c.write_to.new.pending c.args.mirror.now c.loop-k.mirror c.write_to.new.mirror c.in-Err.fault
-    so_far.goes so_far.later (ap (λ (x : ArrayView). x.halted) so_far.array) c.in-Err.ensures
+    stops_later c.args.pending.now c.loop-k.pending c.write_to.new.pending c.args.mirror.now c.loop-k.mirror c.write_to.new.mirror Part.Bytes Part.Bytes
+    so_far.advances c.in-Err.fault (ap (λ (x : ArrayView). x.halted) so_far.array) c.in-Err.ensures
 
 pub loop-k-preserved : goal.loop-k-preserved
 loop-k-preserved g c =
-    written_more c.args.pending.now c.loop-k.pending c.write_to.new.pending c.args.mirror.now c.loop-k.mirror c.write_to.new.mirror c.loop-k.k c.loop-k.invariant c.in_default.ensures
+    written_more c.loop-k.k c.args.pending.now c.loop-k.pending c.write_to.new.pending c.args.mirror.now c.loop-k.mirror c.write_to.new.mirror c.loop-k.invariant c.in_default.ensures
 
 pub returns : goal.returns
 returns g c =
     let past = c.loop-k-test.false in
     let count = c.members-k-end.ensures in
-    let many = c.loop-k.invariant.writes.goes.array.as_many in
+    let many = c.loop-k.invariant.writes.advances.goes.array.as_many in
     written_all c.loop-k.k c.args.pending.now c.loop-k.pending c.args.mirror.now c.loop-k.mirror (omega arith) c.loop-k.invariant
