@@ -2,7 +2,7 @@ use Rattle.std.proofs.Common.{◌≡◌, ◌∙◌, ◌/◌, ◌+◌, ◌-◌, s
 use Rattle.md_requests.specs.Pending.{PendingView}
 use Rattle.md_bitmap.specs.declared.chunks.Chunks.{Chunks}
 use Rattle.md_write.specs.Writing.{RefusesWrite}
-use Rattle.md_write.proofs.Whole.{chunks_begun, finish_given, halts_write, other_number, writes}
+use Rattle.md_write.proofs.Whole.{chunks_begun, halts_write, writes}
 use Rattle.md_write.proofs.writing.write.Goals as goal
 
 pub write_all-requires-clause-chunks : goal.write_all-requires-clause-chunks
@@ -29,26 +29,9 @@ returns-in-Err-write_all-clause-sound g c = c.in-Err-write_all.ensures.1.halts.s
 pub returns-in-Err-write_all-clause-pending : goal.returns-in-Err-write_all-clause-pending
 returns-in-Err-write_all-clause-pending g c o is = c.in-Err-write_all.ensures.1.halts.pending o (c.in-Ok.ensures.pending o is)
 
-pub returns-in-Ok-finish-clause-gives : goal.returns-in-Ok-finish-clause-gives
-returns-in-Ok-finish-clause-gives g c =
+pub returns-clause-gives : goal.returns-clause-gives
+returns-clause-gives g c =
     let e = c.in-Ok.ensures in
     let f = c.in-Ok-finish.ensures in
     writes c.args.sector c.args.bytes.now c.args.mirror.now c.begin.new.self c.in-Ok.pending e.gives c.requires.sound e.sound
     e.event c.write_all.new.pending c.write_all.new.mirror c.finish.new.self c.in_default.ensures f.gives f.event
-
-pub returns-in-Ok-finish-clause-pending : goal.returns-in-Ok-finish-clause-pending
-returns-in-Ok-finish-clause-pending g c o is =
-    let e = c.in-Ok.ensures in
-    let w = c.in_default.ensures in
-    let apart = other_number c.args.sector c.args.bytes.now c.args.mirror.now c.begin.new.self c.in-Ok.pending e.gives c.requires.sound e.sound o is in
-    c.in-Ok-finish.ensures.pending o (λ same. apart (same ∙ ap (λ (x : PendingView). x.ticket.number) w.later.request)) (w.goes.pending o (e.pending o is))
-
-pub returns-in-Err-finish-clause-gives : goal.returns-in-Err-finish-clause-gives
-returns-in-Err-finish-clause-gives g c =
-    let r = c.in-Err-finish.ensures.gives in
-    absurd (finish_given c.write_all.new.mirror c.finish.new.self c.write_all.new.pending c.in-Err-finish.field-0-1 c.in_default.ensures.may r.1)
-
-pub returns-in-Err-finish-clause-pending : goal.returns-in-Err-finish-clause-pending
-returns-in-Err-finish-clause-pending g c o is =
-    let r = c.in-Err-finish.ensures.gives in
-    absurd (finish_given c.write_all.new.mirror c.finish.new.self c.write_all.new.pending c.in-Err-finish.field-0-1 c.in_default.ensures.may r.1)
