@@ -84,6 +84,7 @@ fn read_pieces(
 ) -> Result<(), ReadFault>
     requires whole { length buf.old % 512 ≡ 0 }
     requires within { 512 * sector + length buf.old ≤ 512 * device.old.sectors }
+    requires limit { device.old.sectors ≤ 2 ^ 54 }
 {
     for place in 0..buf.len() / PIECE + 1 {
         let start = place * PIECE;
