@@ -5,8 +5,8 @@ use Rattle.md_cli.specs.Performing.{streams}
 use Rattle.md_cli.proofs.Overlaid.{overlay_ghosts, shown_over}
 use Rattle.md_cli.proofs.looking.look_at_devices.Goals as goal
 
-pub returns-in-Ok-clause-gives : goal.returns-in-Ok-clause-gives
-returns-in-Ok-clause-gives g c =
+pub returns-clause-gives : goal.returns-clause-gives
+returns-clause-gives g c =
     let before = map (disk_of g.D.Device) c.args.devices.now in
     let over : map (disk_of overlay_ghosts) c.in-Ok.overlays.items ≡ map overlaid before = ap (map (disk_of overlay_ghosts)) c.in-Ok.ensures ∙ shown_over g.D.Device c.args.devices.now in
     inl (record {
