@@ -124,6 +124,8 @@ BLANK = "\0" * (2 * SECTOR)
 CLEAN = "in sync 2 of 2, events 1, marked 0\n"
 WRITTEN = "in sync 2 of 2, events 3, marked 0\n"
 MARKED = "in sync 1 of 2, events 10, marked 8\n"
+FAILED = "in sync 1 of 2, events 4, marked 0\n"
+ALONE = "in sync 1 of 2, events 6, marked 1\n"
 STORED = "mdcli: a: its bitmap did not tell of the array, so all chunks are marked in it now\n"
 
 PLAN = (
@@ -233,6 +235,47 @@ CASES = [
             Step("write --sector 0 a b", fault="BadLength", given=bytes(100)),
             Step("write --sector 63 a b", fault="OutOfRange", given=DATA),
             Step("write --sector 0 a b", fault="OutOfRange"),
+        ],
+    ),
+    (
+        "a member fails, and is removed",
+        TWO,
+        [
+            create("raid1", 2, 4, "--assume-clean a b", output=CLEAN, changes="a b"),
+            Step("write --sector 8 a b", WRITTEN, changes="a b", given=DATA[:SECTOR]),
+            Step("remove --member 1 a b", fault="StillActive"),
+            # Its own image stays as it is.
+            Step("fail --member 1 a b", FAILED, changes="a"),
+            Step("fail --member 1 a b", fault="NotActive"),
+            Step("fail --member 0 a b", fault="LastMember"),
+            Step("write --sector 16 a b", ALONE, changes="a", given=DATA[SECTOR:]),
+            Step("remove --member 0 a b", fault="StillActive"),
+            Step("remove --member 1 a b", ALONE),
+            Step("fail --member 0 a", fault="LastMember"),
+            Step("read --sector 16 --count 1 a", DATA[SECTOR:].decode()),
+        ],
+    ),
+    (
+        "no member of that index",
+        TWO,
+        [
+            create("raid1", 2, 4, "--assume-clean a b", output=CLEAN, changes="a b"),
+            Step("fail --member 2 a b", fault="BadMember"),
+            Step("remove --member 2 a b", fault="BadMember"),
+            Step("fail --member 4294967295 a b", fault="BadMember"),
+            Step("fail --member 0 a a", fault="BadImage 1"),
+            Step("remove --member 0 a c", fault="BadImage 1"),
+        ],
+    ),
+    (
+        "a spare is removed",
+        TWO,
+        WITH_A_SPARE
+        + [
+            Step("fail --member 2 a b c", fault="NotActive"),
+            # The others are told, wherever it stands among them.
+            Step("remove --member 1 a c b", "in sync 2 of 3, events 2, marked 0\n", changes="a b"),
+            Step("assemble a b", "in sync 2 of 3, events 2, marked 0\n"),
         ],
     ),
     ("the plan of a third member", TWO, WITH_A_SPARE + [Step("plan --member 2 a b c", PLAN)]),

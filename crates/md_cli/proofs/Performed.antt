@@ -1,8 +1,9 @@
 -- No task wins or loses a device.
 use Rattle.std.proofs.Common.{◌≡◌, ℕ, length, Result, Ok, Err, ap}
-use Rattle.md_commands.proofs.DeviceCounts.{AsMany, done_read, done_resync, done_stop, done_write, reads_as_many, resyncs_as_many, stops_as_many, writes_as_many}
+use Rattle.md_commands.proofs.DeviceCounts.{AsMany, done_fail, done_read, done_resync, done_stop, done_write, fails_as_many, reads_as_many, resyncs_as_many, stops_as_many, writes_as_many}
 use Rattle.md_commands.specs.declared.fault.DataFault.{DataFault}
 use Rattle.md_commands.specs.declared.source.Source.{Ghosts as SourceGhosts}
+use Rattle.md_commands.specs.Failing.{RefusesToFail}
 use Rattle.md_commands.specs.Reading.{RefusesToRead}
 use Rattle.md_commands.specs.Resyncing.{RefusesToResync}
 use Rattle.md_commands.specs.Stopping.{RefusesToStop}
@@ -25,7 +26,6 @@ of_data P fault.NoBitmap h f = absurd h
 of_data P (fault.Create d) h f = absurd h
 of_data P (fault.MetadataFault index) h f = absurd h
 of_data P (fault.Open d) h f = absurd h
-of_data P fault.BadMember h f = absurd h
 of_data P (fault.Rebuild d) h f = absurd h
 of_data P fault.OutputFault h f = absurd h
 of_data P fault.NoMemory h f = absurd h
@@ -43,5 +43,7 @@ module _ {R S : Type 0} (r : SourceGhosts R) (s : SinkGhosts S) (opened left : M
       of_data (RefusesToWrite r s sector opened left old.input new.input old.output new.output) f h (writes_as_many s opened left old.output new.output r sector old.input new.input)
   as_many task.Resync (Ok v) h = done_resync opened left h.1.stops
   as_many task.Resync (Err f) h = of_data (RefusesToResync s opened left old.output new.output) f h.1 (resyncs_as_many s opened left old.output new.output)
+  as_many (task.Fail k) (Ok v) h = done_fail s k opened left old.output new.output h.1
+  as_many (task.Fail k) (Err f) h = of_data (RefusesToFail s k opened left old.output new.output) f h.1 (fails_as_many s k opened left old.output new.output)
   as_many task.Stop (Ok v) h = done_stop opened left h.1.stops
   as_many task.Stop (Err f) h = of_data (RefusesToStop s opened left old.output new.output) f h.1 (stops_as_many s opened left old.output new.output)

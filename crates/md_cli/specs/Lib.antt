@@ -4,6 +4,7 @@ pub mod Examining
 pub mod Performing
 pub mod Planning
 pub mod RebuildPlans
+pub mod Removing
 pub mod Reports
 pub mod Running
 pub use Rattle.md_examine.specs.Sink

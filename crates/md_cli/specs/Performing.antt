@@ -2,18 +2,20 @@
 use Rattle.std.specs.Prelude.{◌≡◌, Result, MatchResult}
 use Rattle.md_commands.specs.declared.fault.DataFault.{DataFault}
 use Rattle.md_commands.specs.declared.source.Source.{Ghosts as SourceGhosts}
+use Rattle.md_commands.specs.Failing.{RefusesToFail}
 use Rattle.md_commands.specs.Reading.{ReadsArray, RefusesToRead}
 use Rattle.md_commands.specs.Resyncing.{RefusesToResync, ResyncsArray}
-use Rattle.md_commands.specs.Stopping.{RefusesToStop, StopsArray}
+use Rattle.md_commands.specs.Stopping.{RefusesToStop, StopsArray, StopsArrayAfter}
 use Rattle.md_commands.specs.Writing.{RefusesToWrite, WritesArray}
 use Rattle.md_device.specs.declared.access.Access.{Access}
 use Rattle.md_device.specs.declared.access.Access.TheVariants.{Change, ChangeOrLook}
 use Rattle.md_examine.specs.declared.sink.Sink.{Ghosts as SinkGhosts}
 use Rattle.md_report.specs.DetailReport.{detail_text}
 use Rattle.md_report.specs.SummaryReport.{summary_text}
+use Rattle.md_state.specs.FailingMembers.{FailsMember}
 use Rattle.md_state.specs.View.{MirrorView}
 use Rattle.md_words.specs.declared.array_task.ArrayTask.{ArrayTask}
-use Rattle.md_words.specs.declared.array_task.ArrayTask.TheVariants.{Summary, Detail, Plan, Read, Write, Resync, Stop}
+use Rattle.md_words.specs.declared.array_task.ArrayTask.TheVariants.{Summary, Detail, Plan, Read, Write, Resync, Fail, Stop}
 use Rattle.md_cli.specs.declared.fault.CommandFault.{CommandFault}
 use Rattle.md_cli.specs.declared.fault.CommandFault.TheVariants.{Data}
 use Rattle.md_cli.specs.Reports.{ShowsPlan, ShowsText}
@@ -34,9 +36,10 @@ access_of (Plan k) = ChangeOrLook
 access_of (Read sector count) = ChangeOrLook
 access_of (Write sector) = Change
 access_of Resync = Change
+access_of (Fail k) = Change
 access_of Stop = Change
 
--- a fault of the commands on an array's data
+-- a fault of the commands that md_commands has
 abbrev pub OfData : (DataFault → Type 0) → CommandFault → Type 0
 OfData Refuses (Data fault) = Refuses fault
 OfData Refuses fault = ⊥
@@ -57,6 +60,9 @@ module _ {R S : Type 0} (r : SourceGhosts R) (s : SinkGhosts S) where
   Performs Resync opened left old new result =
       (new.input ≡ old.input)
       × MatchResult result (λ _. ResyncsArray s opened left old.output new.output) (OfData (RefusesToResync s opened left old.output new.output))
+  Performs (Fail k) opened left old new result =
+      (new.input ≡ old.input)
+      × MatchResult result (λ _. StopsArrayAfter s (FailsMember k opened) left old.output new.output) (OfData (RefusesToFail s k opened left old.output new.output))
   Performs Stop opened left old new result =
       (new.input ≡ old.input)
       × MatchResult result (λ _. StopsArray s opened left old.output new.output) (OfData (RefusesToStop s opened left old.output new.output))

@@ -15,9 +15,10 @@ use Rattle.md_copy.specs.Sources.{IsTableOf}
 use Rattle.md_copy.specs.Targets.{IsTarget}
 use Rattle.md_copy.specs.declared.fault.RebuildFault.{RebuildFault}
 use Rattle.md_copy.specs.declared.fault.RebuildFault.TheVariants.{NotSpare, NoMemory}
+use Rattle.md_commands.specs.declared.fault.DataFault.TheVariants.{BadMember}
 use Rattle.md_report.specs.PlanReport.{plan_text}
 use Rattle.md_cli.specs.declared.fault.CommandFault.{CommandFault}
-use Rattle.md_cli.specs.declared.fault.CommandFault.TheVariants.{BadMember, Rebuild}
+use Rattle.md_cli.specs.declared.fault.CommandFault.TheVariants.{Data, Rebuild}
 
 -- A plan of the table of the chunks that the member lacks, in the fewest rounds, with a certificate for them. Whatever the
 -- checker may answer to it is `Yes`.
@@ -48,6 +49,6 @@ RefusesTarget a k NotSpare = (m : MemberView) × IsMember a k m × (IsTarget a m
 RefusesTarget a k NoMemory = (m : MemberView) × IsMember a k m × IsTarget a m
 
 abbrev pub RefusesPlan : ArrayView → ℕ → CommandFault → Type 0
-RefusesPlan a k BadMember = length a.members ≤ k
+RefusesPlan a k (Data BadMember) = length a.members ≤ k
 RefusesPlan a k (Rebuild fault) = RefusesTarget a k fault
 RefusesPlan a k _ = ⊥

@@ -10,7 +10,7 @@ use Rattle.md_cli.specs.declared.fault.CommandFault.TheVariants as fault
 use Rattle.md_cli.specs.declared.option_fault.OptionFault.{OptionFault}
 use Rattle.md_words.specs.declared.report.Report.{Report}
 use Rattle.md_words.specs.declared.array_task.ArrayTask.{ArrayTask}
-use Rattle.md_words.specs.Asked.{Ask, Options, examines, creates, performs}
+use Rattle.md_words.specs.Asked.{Ask, Options, examines, creates, performs, removes}
 use Rattle.md_commands.specs.declared.source.Source.{Ghosts as SourceGhosts}
 use Rattle.md_examine.specs.declared.sink.Sink.{Ghosts as SinkGhosts}
 use Rattle.md_cli.specs.Arrays.{KeepsImages, LooksAtDevices, OpensDevices, UsesImages, ViewsImages}
@@ -19,6 +19,7 @@ use Rattle.md_cli.specs.Examining.{ExaminesOne}
 use Rattle.md_images.specs.Images.{allows}
 use Rattle.md_cli.specs.Performing.{Streams, access_of}
 use Rattle.md_cli.specs.Planning.{IsPlan, option_fault}
+use Rattle.md_cli.specs.Removing.{RemovesFromDevices}
 use Rattle.md_images.specs.Taking.{image_list}
 
 -- the status of a command: done, or refused
@@ -56,6 +57,11 @@ module _ {I D S : Type 0} (g : DeviceGhosts D) (s : SinkGhosts S) (known : I →
   abbrev pub MakesArray : Options → List Text → I → I → S → S → Result (Unit {0}) CommandFault → Type 0
   MakesArray o words before after old new result = RefusesOptions o words before after old new result ⊎ Creates o words before after old new result
 
+  -- a member leaves an array
+  abbrev pub RemovesFromArray : ℕ → List Text → I → I → S → S → Result (Unit {0}) CommandFault → Type 0
+  RemovesFromArray k words before after old new result =
+      UsesImages g (RemovesFromDevices s k) (after ≡ before) (known before) (may changeable Change before) (device_at before) (device_at after) (image_list false words) old new result
+
 module _ {I D R S : Type 0} (g : DeviceGhosts D) (r : SourceGhosts R) (s : SinkGhosts S) (known : I → Bool) (device_at : I → Text → Option D) (changeable asked : I → Text → Bool) where
   -- a task with an array, whose images may only be looked at or not: if so, each of them stays as it is
   abbrev pub PerformsOnArray : ArrayTask → Bool → List Text → I → I → Streams R S → Streams R S → Result (Unit {0}) CommandFault → Type 0
@@ -69,6 +75,8 @@ module _ {I D R S : Type 0} (g : DeviceGhosts D) (r : SourceGhosts R) (s : SinkG
   Does (examines report) words before after old new result = (new.input ≡ old.input) × Examines g s known device_at changeable report words before after old.output new.output result
   Does (creates o) words before after old new result = (new.input ≡ old.input) × MakesArray g s known device_at changeable o words before after old.output new.output result
   Does (performs task readonly) words before after old new result = PerformsOnArray task readonly words before after old new result
+  Does (removes k) words before after old new result =
+      (new.input ≡ old.input) × RemovesFromArray g s known device_at changeable k words before after old.output new.output result
 
   -- the command's own answer, whose status this is
   pub record DoesCommand (ask : Ask) (words : List Text) (before after : I) (old new : Streams R S) (status : ℕ) : Type 0 where

@@ -1,7 +1,7 @@
 // What to do about a fault. The texts are those of docs/FAULTS.md, which a test compares with them.
 use crate::fault::CommandFault;
 use crate::option_fault::OptionFault;
-use md_array::{BeginFault, OpenFault};
+use md_array::{BeginFault, FailFault, OpenFault, RemoveFault};
 use md_assembly::AssembleFault;
 use md_commands::DataFault;
 use md_copy::RebuildFault;
@@ -33,7 +33,6 @@ pub(crate) fn advice(fault: &CommandFault) -> &'static str {
         CommandFault::MetadataFault(_) | CommandFault::Open(OpenFault::MetadataFault(_)) => {
             "see why the device can't be written (`dmesg`, free space, write protection); run the command again, which begins anew"
         }
-        CommandFault::BadMember => "count the images from 0, in the order in which they are named",
         CommandFault::Rebuild(RebuildFault::NotSpare) => {
             "`detail` shows the state of each member: a recovering one can be rebuilt, and a spare where a role is free"
         }
@@ -71,12 +70,36 @@ fn data_advice(fault: DataFault) -> &'static str {
         DataFault::InputFault => "see why its file or program fails; nothing was written",
         DataFault::BadLength => "give it a multiple of 512 bytes",
         DataFault::OutOfRange => WITHIN_ARRAY,
+        DataFault::BadMember => "count the images from 0, in the order in which they are named",
+        DataFault::Fail(fault) => fail_advice(fault),
+        DataFault::Remove(fault) => remove_advice(fault),
         DataFault::Resync(fault) => resync_advice(fault),
         DataFault::Read(fault) => read_advice(fault),
         DataFault::Write(fault) => write_advice(fault),
         DataFault::Stop(fault) => stop_advice(fault),
         DataFault::NoMemory => MORE_MEMORY,
         DataFault::OutputFault => ANOTHER_OUTPUT,
+    }
+}
+
+fn fail_advice(fault: FailFault) -> &'static str {
+    match fault {
+        FailFault::NotActive => {
+            "it is not in use: `remove` takes it out, and `detail` shows the state of each member"
+        }
+        FailFault::LastMember => {
+            "no other member is in sync, so that the array would be lost with it; `detail` shows the state of each member"
+        }
+        FailFault::EventsFull => NEW_ARRAY,
+        FailFault::Halted => SEE_DEVICE,
+    }
+}
+
+fn remove_advice(fault: RemoveFault) -> &'static str {
+    match fault {
+        RemoveFault::StillActive => "run `fail` on it first",
+        RemoveFault::EventsFull => NEW_ARRAY,
+        RemoveFault::Halted => SEE_DEVICE,
     }
 }
 

@@ -8,6 +8,7 @@ use md_device::ImageFault;
 use md_images::{ImageRefusal, is_missing};
 use md_metadata::StopFault;
 use md_resync::ResyncFault;
+use md_words::{Action, ArrayTask};
 use std::io::Write;
 
 // The image that a fault is about.
@@ -17,6 +18,10 @@ enum Culprit {
     Word(usize),
     // The device with this index: words that stand for a missing member have none.
     Device(usize),
+    // The device with this index, where a member that was removed is not counted.
+    Staying(usize),
+    // The member that the command names.
+    Named,
 }
 
 fn culprit_of(fault: &CommandFault) -> Option<Culprit> {
@@ -48,25 +53,52 @@ fn culprit_of_data(fault: DataFault) -> Option<Culprit> {
     match fault {
         DataFault::Resync(ResyncFault::ReadFault(device, _)) => Some(Culprit::Device(device)),
         DataFault::Resync(ResyncFault::MemberFailed(device)) => Some(Culprit::Device(device)),
-        DataFault::Stop(StopFault::MemberFailed(device)) => Some(Culprit::Device(device)),
+        DataFault::Stop(StopFault::MemberFailed(device)) => Some(Culprit::Staying(device)),
+        DataFault::Fail(_) => Some(Culprit::Named),
+        DataFault::Remove(_) => Some(Culprit::Named),
         _ => None,
     }
 }
 
-fn path_of<'a>(culprit: Culprit, names: &[&'a str], may_miss: bool) -> Option<&'a str> {
+// The member that a command fails or removes.
+fn member_of(action: Action<'_>) -> Option<usize> {
+    match action {
+        Action::Perform(ArrayTask::Fail(member), _) => Some(member as usize),
+        Action::Remove(member) => Some(member as usize),
+        _ => None,
+    }
+}
+
+// The place among all images of one that stays when a member is removed.
+fn place_of(device: usize, action: Action<'_>) -> usize {
+    match action {
+        Action::Remove(member) if device >= member as usize => device.saturating_add(1),
+        _ => device,
+    }
+}
+
+fn path_of<'a>(culprit: Culprit, names: &[&'a str], action: Action<'_>) -> Option<&'a str> {
     match culprit {
         Culprit::Word(word) => names.get(word).copied(),
         Culprit::Device(device) => {
+            let may_miss = matches!(action, Action::Create(_));
             let mut images = names.iter().filter(|name| !is_missing(may_miss, name));
             images.nth(device).copied()
         }
+        Culprit::Staying(device) => names.get(place_of(device, action)).copied(),
+        Culprit::Named => names.get(member_of(action)?).copied(),
     }
 }
 
 /// Writes the image that a fault is about, and what to do, in one line.
-pub(crate) fn advise<E: Write>(fault: &CommandFault, names: &[&str], may_miss: bool, err: &mut E) {
+pub(crate) fn advise<E: Write>(
+    fault: &CommandFault,
+    names: &[&str],
+    action: Action<'_>,
+    err: &mut E,
+) {
     if let Some(culprit) = culprit_of(fault) {
-        if let Some(path) = path_of(culprit, names, may_miss) {
+        if let Some(path) = path_of(culprit, names, action) {
             let _ = write!(err, "{path}: ");
         }
     }

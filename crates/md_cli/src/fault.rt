@@ -39,13 +39,11 @@ pub enum CommandFault {
     /// The images are not opened as an array.
     #[error("{0}")]
     Open(OpenFault),
-    /// No image has the index that the command names.
-    #[error("BadMember")]
-    BadMember,
     /// No rebuild of the member is planned.
     #[error("{0}")]
     Rebuild(RebuildFault),
-    /// The array's data are not read or written, or it is not resynchronised or stopped.
+    /// No member has the index that the command names; or the array's data are not read or written, it is
+    /// not resynchronised or stopped, or its member is not failed or removed.
     #[error("{0}")]
     Data(DataFault),
     /// The report can't be written.

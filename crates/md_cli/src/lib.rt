@@ -16,6 +16,7 @@ mod output;
 mod performing;
 mod planning;
 mod rebuild_plan;
+mod removing;
 mod running;
 mod showing;
 mod sizing;

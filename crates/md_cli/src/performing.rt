@@ -6,7 +6,7 @@ ghost use Rattle.md_cli.specs.Performing.{Performs, access_of, streams};
 use crate::fault::CommandFault;
 use crate::showing::{show_detail, show_plan, show_summary};
 use md_array::Mirror;
-use md_commands::{Source, read_array, resync_array, stop_array, write_array};
+use md_commands::{Source, fail_member, read_array, resync_array, stop_array, write_array};
 use md_device::{Access, Device};
 use md_examine::Sink;
 use md_words::ArrayTask;
@@ -19,7 +19,8 @@ pub(crate) fn access_of(task: ArrayTask) -> Access
     match task {
         ArrayTask::Summary | ArrayTask::Detail | ArrayTask::Plan(_) | ArrayTask::Read { .. } =>
             Access::ChangeOrLook,
-        ArrayTask::Write { .. } | ArrayTask::Resync | ArrayTask::Stop => Access::Change,
+        ArrayTask::Write { .. } | ArrayTask::Resync | ArrayTask::Fail(_) | ArrayTask::Stop =>
+            Access::Change,
     }
 }
 
@@ -42,6 +43,7 @@ pub(crate) fn perform<D: Device + Drop, R: Source, S: Sink>(
         ArrayTask::Read { sector, count } => Ok(read_array(alloc, mirror, sector, count, out)?),
         ArrayTask::Write { sector } => Ok(write_array(alloc, mirror, sector, input, out)?),
         ArrayTask::Resync => Ok(resync_array(alloc, mirror, out)?),
+        ArrayTask::Fail(member) => Ok(fail_member(mirror, member, out)?),
         ArrayTask::Stop => Ok(stop_array(mirror, out)?),
     }
 }

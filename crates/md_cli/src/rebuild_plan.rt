@@ -5,6 +5,7 @@ ghost use Rattle.md_cli.specs.RebuildPlans.{IsRebuildPlan, RefusesPlan, RefusesT
 
 use crate::fault::CommandFault;
 use md_array::Mirror;
+use md_commands::DataFault;
 use md_copy::{RebuildFault, table};
 use md_device::Device;
 use md_plan::{Planned, plan};
@@ -21,7 +22,7 @@ pub(crate) fn plan_rebuild<D: Device + Drop>(
 {
     let target = member as usize;
     if target >= mirror.members() {
-        return Err(CommandFault::BadMember);
+        return Err(CommandFault::Data(DataFault::BadMember));
     }
     match plan_target(alloc, mirror, target) {
         Ok(planned) => Ok(planned),

@@ -14,6 +14,7 @@ use crate::fault::CommandFault;
 use crate::looking::look_at_images;
 use crate::messages::Messages;
 use crate::planning::plan;
+use crate::removing::remove_from_images;
 use md_commands::Source;
 use md_examine::Sink;
 use md_images::Images;
@@ -76,6 +77,7 @@ fn act<I: Images, R: Source, S: Sink, E: Write>(
         Action::Perform(task, readonly) => {
             perform_on_array(alloc, task, readonly, images, names, input, out, err)
         }
+        Action::Remove(member) => remove_from_images(alloc, member, images, names, out, err),
     }
 }
 
@@ -131,7 +133,7 @@ fn answer<E: Write>(
         Err(fault) => {
             let _ = writeln!(err, "mdcli: {fault}");
             if messages == Messages::WithAdvice {
-                advise(&fault, names, matches!(action, Action::Create(_)), err);
+                advise(&fault, names, action, err);
             }
             1
         }

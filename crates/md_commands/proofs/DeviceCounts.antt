@@ -1,13 +1,20 @@
--- No command that stands yet wins or loses a device.
-use Rattle.std.proofs.Common.{◌≡◌, ◌∙◌, ◌⊎◌, inl, inr, ⊎_elim, ℕ, Bool, true, false, List, [], ◌∷◌, ◌++◌, length, Option, Some, None, refl, sym, ap}
-use Rattle.std.proofs.lemmas.Option.{none-some}
+-- No command wins a device, and only `remove` loses one.
+use Rattle.std.proofs.Common.{◌≡◌, ◌∙◌, ◌⊎◌, inl, inr, ⊎_elim, ℕ, ◌+◌, Bool, true, false, List, [], ◌∷◌, ◌++◌, length, Option, Some, None, Result, Ok, Err, MatchResult, refl, sym, ap}
+use Rattle.std.proofs.lemmas.List.Edits.{length-remove}
+use Rattle.std.proofs.lemmas.Option.{none-some, slice_get_within}
 use Rattle.md_model.specs.Events.{Event}
 use Rattle.md_model.specs.Worlds.{Request}
 use Rattle.md_state.specs.declared.step_fault.BeginFault.{BeginFault}
 use Rattle.md_state.specs.declared.step_fault.BeginFault.TheVariants as begin
+use Rattle.md_state.specs.declared.step_fault.FailFault.{FailFault}
+use Rattle.md_state.specs.declared.step_fault.FailFault.TheVariants as fail
+use Rattle.md_state.specs.declared.step_fault.RemoveFault.{RemoveFault}
+use Rattle.md_state.specs.declared.step_fault.RemoveFault.TheVariants as remove
+use Rattle.md_state.specs.FailingMembers.{FailsMember, RefusesFail}
+use Rattle.md_state.specs.Removing.{RefusesRemove, Removes}
 use Rattle.md_state.specs.Requests.{AreInFlight, among, request_of}
 use Rattle.md_state.specs.Trying.{Refuses}
-use Rattle.md_state.specs.View.{ArrayView, MirrorView}
+use Rattle.md_state.specs.View.{ArrayView, Disk, MirrorView}
 use Rattle.md_array.specs.InTurn.{AllOf, Did, HaltsAt, Leads, Requests}
 use Rattle.md_array.proofs.Steps.Turns.{all_on, all_such}
 use Rattle.md_laws.specs.ReadInTurn.{LeadsReading}
@@ -24,11 +31,13 @@ use Rattle.md_write.specs.Progress.{IsOfRequest}
 use Rattle.md_write.specs.Writing.{RefusesWrite, Writes, events_of}
 use Rattle.md_examine.specs.declared.sink.Sink.{Ghosts as SinkGhosts}
 use Rattle.md_commands.specs.declared.fault.DataFault.{DataFault}
-use Rattle.md_commands.specs.declared.fault.DataFault.TheVariants.{BadLength, InputFault, NoMemory, OutOfRange, OutputFault, Read, Resync, Stop, Write}
+use Rattle.md_commands.specs.declared.fault.DataFault.TheVariants.{BadLength, BadMember, Fail, InputFault, NoMemory, OutOfRange, OutputFault, Read, Remove, Resync, Stop, Write}
 use Rattle.md_commands.specs.declared.source.Source.{Ghosts as SourceGhosts}
+use Rattle.md_commands.specs.Failing.{RefusesToFail}
 use Rattle.md_commands.specs.Reading.{ReadsReadied, RefusesSectorsOf, RefusesToRead}
+use Rattle.md_commands.specs.Removing.{HandsBack, RefusesRemoving}
 use Rattle.md_commands.specs.Resyncing.{RefusesNeededResync, RefusesToResync, ResyncsIfNeeded, needs_resync}
-use Rattle.md_commands.specs.Stopping.{FailsToStop, RefusesToStop, StopsAfter}
+use Rattle.md_commands.specs.Stopping.{FailsToStop, FailsToStopArray, RefusesToStop, StopsAfter, StopsArray, StopsArrayAfter}
 use Rattle.md_commands.specs.Writing.{RefusesToWrite, WritesReadied}
 
 -- as many devices after as before
@@ -227,8 +236,8 @@ module _ {S : Type 0} (s : SinkGhosts S) (old new : MirrorView) (before after : 
         (λ r. not_written fault sector r.bytes r.refused.ready new r.refused.refused ∙ readied old r.refused.ready r.refused.readied)
         h
     writes_as_many (Stop fault) h = fails_after (WritesReadied sector h.bytes old) old new fault (wrote_readied sector h.bytes old) h.refused
-    writes_as_many (Read fault) h = absurd h
     writes_as_many OutputFault h = stopped_after (WritesReadied sector h.bytes old) old new (wrote_readied sector h.bytes old) h.done
+    writes_as_many fault h = absurd h
 
 -- where the command is done
 pub done_stop : (old new : MirrorView) → Stops old new → AsMany old new
@@ -242,3 +251,49 @@ done_read = read_readied
 
 pub done_write : (sector : ℕ) (bytes : List ℕ) (old new : MirrorView) → StopsAfter (WritesReadied sector bytes old) new → AsMany old new
 done_write sector bytes old new = stopped_after (WritesReadied sector bytes old) old new (wrote_readied sector bytes old)
+
+-- ---- a member fails
+failed : (k : ℕ) (old new : MirrorView) → FailsMember k old new → AsMany old new
+failed k old new f = ap length f.disks
+
+not_failed : (fault : FailFault) (k : ℕ) (old new : MirrorView) → RefusesFail k old new fault → AsMany old new
+not_failed fail.Halted k old new h = refused old new _ h
+not_failed fail.NotActive k old new h = refused old new _ h
+not_failed fail.LastMember k old new h = refused old new _ h
+not_failed fail.EventsFull k old new h = refused old new _ h
+
+module _ {S : Type 0} (s : SinkGhosts S) (k : ℕ) (old new : MirrorView) (before after : S) where
+  pub done_fail : StopsArrayAfter s (FailsMember k old) new before after → AsMany old new
+  done_fail h = stopped h.mid new h.stops.stops ∙ failed k old h.mid h.through
+
+  not_stopped_after : (fault : DataFault) → FailsToStopArray s (FailsMember k old) new before after fault → AsMany old new
+  not_stopped_after fault h = stops_as_many s h.mid new before after fault h.refused ∙ failed k old h.mid h.through
+
+  pub fails_as_many : (fault : DataFault) → RefusesToFail s k old new before after fault → AsMany old new
+  fails_as_many BadMember h = refused old new _ h.0
+  fails_as_many (Fail fault) h = not_failed fault k old new h.0.1
+  fails_as_many fault h = not_stopped_after fault h
+
+-- ---- a member is removed
+not_removed : (fault : RemoveFault) (k : ℕ) (old new : MirrorView) → RefusesRemove k old new fault → AsMany old new
+not_removed remove.Halted k old new h = refused old new _ h
+not_removed remove.StillActive k old new h = refused old new _ h
+not_removed remove.EventsFull k old new h = refused old new _ h
+
+pub stays : (k : ℕ) (old new : MirrorView) (fault : DataFault) → RefusesRemoving k old new fault → AsMany old new
+stays k old new BadMember h = refused old new _ h
+stays k old new (Remove fault) h = not_removed fault k old new h.1
+stays k old new fault h = absurd h
+
+-- the array is stopped after it, or not
+as_many_stopped : {S : Type 0} (s : SinkGhosts S) (old new : MirrorView) (before after : S) (result : Result (Unit {0}) DataFault)
+    → MatchResult result (λ _. StopsArray s old new before after) (RefusesToStop s old new before after) → AsMany old new
+as_many_stopped s old new before after (Ok x) h = stopped old new h.stops
+as_many_stopped s old new before after (Err fault) h = stops_as_many s old new before after fault h
+
+pub leaves : {S : Type 0} (s : SinkGhosts S) (k : ℕ) (d : Disk) (old mid new : MirrorView) (before after : S) (result : Result (Unit {0}) DataFault)
+    → Removes k d old mid → MatchResult result (λ _. StopsArray s mid new before after) (RefusesToStop s mid new before after) → HandsBack k old.disks new.disks (Some d)
+leaves s k d old mid new before after result r h = (
+  r.device,
+  ap (λ (n : ℕ). n + 1) (as_many_stopped s mid new before after result h ∙ ap length r.disks) ∙ length-remove old.disks k (slice_get_within old.disks k d r.device),
+)

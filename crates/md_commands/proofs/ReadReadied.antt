@@ -8,7 +8,7 @@ use Rattle.md_state.specs.Members.{is_degraded}
 use Rattle.md_state.specs.Trying.{Refuses}
 use Rattle.md_state.specs.View.{ArrayView, MirrorView}
 use Rattle.md_commands.specs.declared.fault.DataFault.{DataFault}
-use Rattle.md_commands.specs.declared.fault.DataFault.TheVariants.{BadLength, InputFault, NoMemory, OutputFault, Read, Resync, Stop, Write, OutOfRange as InputOutOfRange}
+use Rattle.md_commands.specs.declared.fault.DataFault.TheVariants.{NoMemory, Read}
 use Rattle.md_commands.specs.Output.{FailsOutput, PutsOut}
 use Rattle.md_commands.specs.Reading.{FailsSectors, FindsNoMemory, MayReadArray, MustBeResynced, ReadsArray, ReadsReadied, RefusesSectors, RefusesSectorsOf, RefusesToRead}
 use Rattle.md_commands.specs.Resyncing.{ResyncsIfNeeded, needs_resync}
@@ -61,13 +61,7 @@ module _ (old ready : MirrorView) (readied : ResyncsIfNeeded old ready) where
       refuses_readied NoMemory is =
           (subst (FindsNoMemory sector count old) (sym is) (record { may = may; readied = readied; resynced = resynced }), refl)
       refuses_readied (Read fault) fails = (fails_readied fault fails, refl)
-      refuses_readied InputFault h = absurd h
-      refuses_readied InputOutOfRange h = absurd h
-      refuses_readied BadLength h = absurd h
-      refuses_readied (Resync fault) h = absurd h
-      refuses_readied (Write fault) h = absurd h
-      refuses_readied (Stop fault) h = absurd h
-      refuses_readied OutputFault h = absurd h
+      refuses_readied fault h = absurd h
 
 -- the end of the command
 pub shown_or_not : {S : Type 0} (s : Ghosts S) (sector count : ℕ) (bytes : List ℕ) (old new : MirrorView) (before after : S) → ReadsReadied sector count bytes old new

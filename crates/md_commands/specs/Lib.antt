@@ -1,7 +1,9 @@
+pub mod Failing
 pub mod Input
 pub mod Output
 pub mod Reading
 pub mod ReadingInput
+pub mod Removing
 pub mod Resyncing
 pub mod Source
 pub mod Stopping

@@ -8,7 +8,7 @@ use Rattle.md_state.specs.View.{MirrorView}
 use Rattle.md_write.specs.Writing.{RefusesWrite, Writes}
 use Rattle.md_report.specs.SummaryReport.{summary_text}
 use Rattle.md_commands.specs.declared.fault.DataFault.{DataFault}
-use Rattle.md_commands.specs.declared.fault.DataFault.TheVariants.{BadLength, InputFault, NoMemory, OutOfRange, OutputFault, Read, Resync, Stop, Write}
+use Rattle.md_commands.specs.declared.fault.DataFault.TheVariants.{BadLength, InputFault, NoMemory, OutOfRange, OutputFault, Resync, Stop, Write}
 use Rattle.md_commands.specs.declared.source.Source.{Ghosts as SourceGhosts}
 use Rattle.md_commands.specs.Output.{PutsOut}
 use Rattle.md_commands.specs.ReadingInput.{IsInput, RefusesInput}
@@ -78,5 +78,5 @@ module _ {I S : Type 0} (i : SourceGhosts I) (s : SinkGhosts S) (sector : ℕ) (
   RefusesToWrite (Resync fault) = RefusesItsBytes (Resync fault)
   RefusesToWrite (Write fault) = RefusesUnread fault ⊎ RefusesItsBytes (Write fault)
   RefusesToWrite (Stop fault) = RefusesItsBytes (Stop fault)
-  RefusesToWrite (Read fault) = ⊥
   RefusesToWrite OutputFault = WritesInVain
+  RefusesToWrite fault = ⊥

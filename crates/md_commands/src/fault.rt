@@ -1,6 +1,6 @@
-// Why a command on an array's data is refused.
+// Why a command on an opened array is refused.
 use crate::source::SourceFault;
-use md_array::BeginFault;
+use md_array::{BeginFault, FailFault, RemoveFault};
 use md_examine::SinkFault;
 use md_metadata::StopFault;
 use md_read::UnreadFault;
@@ -8,7 +8,7 @@ use md_resync::ResyncFault;
 use std::alloc::AllocError;
 use thiserror::Error;
 
-/// Why a command on an array's data is refused. The calls that it makes have faults of their own, which are
+/// Why a command on an opened array is refused. The calls that it makes have faults of their own, which are
 /// shown as they are. A message is the fault's name and its values, one space between them.
 #[derive(Clone, Copy, Debug, PartialEq, Eq, Error)]
 pub enum DataFault {
@@ -24,6 +24,15 @@ pub enum DataFault {
     /// The input ends within a sector.
     #[error("BadLength")]
     BadLength,
+    /// No member has the index that the command names.
+    #[error("BadMember")]
+    BadMember,
+    /// The member is not failed.
+    #[error("{0}")]
+    Fail(FailFault),
+    /// The member is not removed.
+    #[error("{0}")]
+    Remove(RemoveFault),
     /// The array is not resynchronised.
     #[error("{0}")]
     Resync(ResyncFault),
@@ -71,6 +80,28 @@ impl From<SinkFault> for DataFault {
 
     fn from(_: SinkFault) -> DataFault {
         DataFault::OutputFault
+    }
+}
+
+impl From<FailFault> for DataFault {
+    ghost use Rattle.std.specs.Prelude.{◌≡◌};
+    ghost use Rattle.md_commands.specs.declared.fault.DataFault.TheVariants.{Fail};
+
+    ghost from_gives = { λ fault e. e ≡ Fail fault };
+
+    fn from(fault: FailFault) -> DataFault {
+        DataFault::Fail(fault)
+    }
+}
+
+impl From<RemoveFault> for DataFault {
+    ghost use Rattle.std.specs.Prelude.{◌≡◌};
+    ghost use Rattle.md_commands.specs.declared.fault.DataFault.TheVariants.{Remove};
+
+    ghost from_gives = { λ fault e. e ≡ Remove fault };
+
+    fn from(fault: RemoveFault) -> DataFault {
+        DataFault::Remove(fault)
     }
 }
 

@@ -1,19 +1,24 @@
-//! What commands do with an opened array: stop it, read it, write to it, resynchronise it. Images, names and
-//! words are no matter of this crate: it has a mirror, an input and an output.
+//! What commands do with an opened array: stop it, read it, write to it, resynchronise it, fail or remove a
+//! member. Images, names and words are no matter of this crate: it has a mirror, an input and an output.
 #![tactic(auto)]
 
 mod buffer;
+mod failing;
 mod fault;
 mod input;
+mod named_member;
 mod output;
 mod reading;
+mod removing;
 mod resyncing;
 mod source;
 mod stopping;
 mod writing;
 
+pub use failing::fail_member;
 pub use fault::DataFault;
 pub use reading::read_array;
+pub use removing::remove_member;
 pub use resyncing::resync_array;
 pub use source::{Input, Source, SourceFault};
 pub use stopping::stop_array;

@@ -9,7 +9,7 @@ use Rattle.md_words.specs.Words.{mdcli}
 use Rattle.md_words.specs.declared.options.CreateOptions.{CreateOptions}
 use Rattle.md_words.specs.declared.report.Report.{Report}
 use Rattle.md_words.specs.declared.array_task.ArrayTask.{ArrayTask}
-use Rattle.md_words.specs.declared.array_task.ArrayTask.TheVariants.{Summary, Detail, Plan, Read, Write, Resync, Stop}
+use Rattle.md_words.specs.declared.array_task.ArrayTask.TheVariants.{Summary, Detail, Plan, Read, Write, Resync, Fail, Stop}
 use Rattle.md_words.specs.declared.report.Report.TheVariants.{Superblock, Bitmap, BadBlocks}
 use Rattle.md_words.specs.declared.request.Action.{Action}
 use Rattle.md_words.specs.declared.request.Action.TheVariants as action
@@ -30,6 +30,7 @@ pub data Ask : Type 0 where
   examines : Report → Ask
   creates : Options → Ask
   performs : ArrayTask → Bool → Ask  -- whether no image may be changed
+  removes : ℕ → Ask  -- the member with this index leaves the array
 
 -- whether the text is a number: one decimal digit or more, and nothing else
 abbrev pub is_number : Text → Bool
@@ -83,6 +84,7 @@ abbrev pub change_of : Text → List Row → Option ArrayTask
 change_of name rows =
     if bytes_eq name (codes "write") then Some (Write (number_in 64 (codes "sector") rows))
     else if bytes_eq name (codes "resync") then Some Resync
+    else if bytes_eq name (codes "fail") then Some (Fail (number_in 32 (codes "member") rows))
     else if bytes_eq name (codes "stop") then Some Stop
     else None
 
@@ -96,6 +98,7 @@ asks_by name readonly None None = examines (report_of name)
 abbrev pub asks_of : Text → List Row → Ask
 asks_of name rows =
     if bytes_eq name (codes "create") then creates (options_in rows)
+    else if bytes_eq name (codes "remove") then removes (number_in 32 (codes "member") rows)
     else asks_by name (is_readonly rows) (task_of name rows) (change_of name rows)
 
 abbrev pub asks_in : Option (Text × List Row) → Ask
@@ -131,3 +134,4 @@ abbrev pub ask_of : Action → Ask
 ask_of (action.Examine report) = examines report
 ask_of (action.Create options) = creates (options_of options)
 ask_of (action.Perform task readonly) = performs task readonly
+ask_of (action.Remove k) = removes k

@@ -40,8 +40,16 @@ with_images a = with_rule (with_rule a (flag_rule (codes "readonly"))) image_rul
 abbrev pub array_app : Text → App
 array_app name = with_images (new_app name)
 
+-- an option that is a member of the array
+abbrev pub with_member : App → App
+with_member a = with_rule a (required (u32_rule (codes "member")))
+
 abbrev pub plan_app : App
-plan_app = with_images (with_rule (new_app (codes "plan")) (required (u32_rule (codes "member"))))
+plan_app = with_images (with_member (new_app (codes "plan")))
+
+-- a command that changes the state of one member
+abbrev pub member_app : Text → App
+member_app name = with_rule (with_member (new_app name)) image_rule
 
 -- an option that is a sector of the array
 abbrev pub with_sector : App → App
@@ -80,7 +88,7 @@ with_version a = record a { top = record a.top { has_version = true } }
 abbrev pub required_command : App → App
 required_command a = record a { top = record a.top { subcommand_required = true } }
 
--- the commands on one image, those that make an array or show it, and those on its data
+-- the commands on one image, those that make an array or show it, those on its data, and those on one of its members
 abbrev pub with_examine_commands : App → App
 with_examine_commands a =
     with_subcommand
@@ -101,6 +109,9 @@ with_data_commands a =
     (with_subcommand (with_subcommand (with_subcommand a read_app.top) write_app.top) (bare_app (codes "resync")).top)
     (bare_app (codes "stop")).top
 
+abbrev pub with_member_commands : App → App
+with_member_commands a = with_subcommand (with_subcommand a (member_app (codes "fail")).top) (member_app (codes "remove")).top
+
 -- the whole command line
 unfoldable pub mdcli : App
-mdcli = with_data_commands (with_array_commands (with_examine_commands (required_command (with_version (new_app (codes "mdcli"))))))
+mdcli = with_member_commands (with_data_commands (with_array_commands (with_examine_commands (required_command (with_version (new_app (codes "mdcli")))))))

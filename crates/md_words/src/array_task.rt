@@ -1,6 +1,6 @@
 // What is done with a whole array.
 
-/// What a command does with the array that the images make.
+/// What a command does with the array that the images make. All of them stay its members.
 #[derive(Clone, Copy, Debug)]
 pub enum ArrayTask {
     /// Shows it in one line.
@@ -15,6 +15,8 @@ pub enum ArrayTask {
     Write { sector: u64 },
     /// Makes the members in sync agree, and stops it.
     Resync,
+    /// Makes the member with this index faulty, and stops it.
+    Fail(u32),
     /// Stops it: what is to be stored at the end is stored.
     Stop,
 }

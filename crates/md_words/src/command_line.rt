@@ -2,7 +2,7 @@
 ghost use Rattle.std.specs.Prelude.{◌≡◌, IfOk, false};
 ghost use Rattle.clap.specs.Words.{app_of, rule_of};
 ghost use Rattle.clap.specs.declared.builder.command.Command.TheViews.{out-Command as fields_of};
-ghost use Rattle.md_words.specs.Words.{create_app, array_app, bare_app, flag_rule, image_rule, mdcli, plan_app, read_app, required, u32_rule, u64_rule, with_images, with_optional, with_required, with_sector, value_rule, with_array_commands, with_data_commands, with_examine_commands, write_app};
+ghost use Rattle.md_words.specs.Words.{create_app, array_app, bare_app, flag_rule, image_rule, mdcli, member_app, plan_app, read_app, required, u32_rule, u64_rule, with_images, with_member, with_optional, with_required, with_sector, value_rule, with_array_commands, with_data_commands, with_examine_commands, with_member_commands, write_app};
 
 use crate::help;
 use clap::builder::ValueParserFactory;
@@ -102,23 +102,47 @@ fn array_command<'a>(
     array_images(alloc, command)
 }
 
-// The command that shows the plan of a rebuild.
-fn plan_command<'a>(alloc: Global) -> Result<Command<'a>, AllocError>
-    ensures app { IfOk result (λ c. app_of c ≡ plan_app) }
-    ensures local { IfOk result (λ c. (fields_of c).has_globals ≡ false) }
+// The member that a command is about.
+fn with_member<'a>(alloc: Global, command: Command<'a>) -> Result<Command<'a>, AllocError>
+    ensures app { IfOk result (λ c. app_of c ≡ with_member (app_of command.entry)) }
+    ensures local { IfOk result (λ c. (fields_of command.entry).has_globals ≡ false → (fields_of c).has_globals ≡ false) }
 {
     let member = u32_arg(
         alloc,
         "member",
         "N",
-        "The member to be rebuilt, by its place among the images, from 0",
+        "The member, by its place among the images, from 0",
     )
     .required(true);
+    command.arg(member)
+}
+
+// The command that shows the plan of a rebuild.
+fn plan_command<'a>(alloc: Global) -> Result<Command<'a>, AllocError>
+    ensures app { IfOk result (λ c. app_of c ≡ plan_app) }
+    ensures local { IfOk result (λ c. (fields_of c).has_globals ≡ false) }
+{
     let command = Command::new(alloc, "plan")
         .about("Shows the plan of a member's rebuild, in the fewest rounds; may store marks")
-        .after_help(help::PLAN)
-        .arg(member)?;
+        .after_help(help::PLAN);
+    let command = with_member(alloc, command)?;
     array_images(alloc, command)
+}
+
+// A command that changes the state of one member.
+fn member_command<'a>(
+    alloc: Global,
+    name: &'a str,
+    about: &'a str,
+    after_help: &'a str,
+) -> Result<Command<'a>, AllocError>
+    ensures app { IfOk result (λ c. app_of c ≡ member_app name.entry.now) }
+    ensures local { IfOk result (λ c. (fields_of c).has_globals ≡ false) }
+{
+    let command = Command::new(alloc, name)
+        .about(about)
+        .after_help(after_help);
+    with_member(alloc, command)?.arg(image_arg(alloc))
 }
 
 // The sector of the array at which a command begins.
@@ -279,6 +303,25 @@ fn data_commands<'a>(alloc: Global, program: Command<'a>) -> Result<Command<'a>,
         .subcommand(stop)
 }
 
+// The commands on one member of an array.
+fn member_commands<'a>(alloc: Global, program: Command<'a>) -> Result<Command<'a>, AllocError>
+    ensures { IfOk result (λ c. app_of c ≡ with_member_commands (app_of program.entry)) }
+{
+    let fail = member_command(
+        alloc,
+        "fail",
+        "Makes a member faulty, and stops the array",
+        help::FAIL,
+    )?;
+    let remove = member_command(
+        alloc,
+        "remove",
+        "Takes a member that is not in use out of the array, and stops it",
+        help::REMOVE,
+    )?;
+    program.subcommand(fail)?.subcommand(remove)
+}
+
 // The commands on one image.
 fn examine_commands<'a>(alloc: Global, program: Command<'a>) -> Result<Command<'a>, AllocError>
     ensures { IfOk result (λ c. app_of c ≡ with_examine_commands (app_of program.entry)) }
@@ -317,5 +360,6 @@ pub(crate) fn command_line<'a>(alloc: Global) -> Result<Command<'a>, AllocError>
         .subcommand_required(true);
     let program = examine_commands(alloc, program)?;
     let program = array_commands(alloc, program)?;
-    data_commands(alloc, program)
+    let program = data_commands(alloc, program)?;
+    member_commands(alloc, program)
 }

@@ -31,3 +31,11 @@ pub(crate) const RESYNC: &str =
 /// Of `stop`.
 pub(crate) const STOP: &str =
     "THE IMAGES ARE CHANGED: their superblocks and bitmaps, and none of the data. Where the members in sync agree, the array is clean after it; where it is not degraded either, no chunk is marked. It is shown in a line.\n\nName all images of the array, in any order.\n\nThe status is 0 where it is done, 1 where it is refused (standard error names the fault), and 2 where the words are not accepted.\n\nExample:\n  mdcli stop a.img b.img";
+
+/// Of `fail`.
+pub(crate) const FAIL: &str =
+    "THE IMAGES ARE CHANGED: the superblocks and bitmaps of the other members, and none of the data. The member is faulty from then on. That stands in the superblocks of the others alone: its own image is not written, so that it is not to be used without them. Only a member that is in sync or recovering can be failed, and the last one in sync can't. Then the array is stopped, and shown in a line.\n\nName all images of the array, in any order.\n\nThe status is 0 where it is done, 1 where it is refused (standard error names the fault), and 2 where the words are not accepted.\n\nExample:\n  mdcli fail --member 1 a.img b.img";
+
+/// Of `remove`.
+pub(crate) const REMOVE: &str =
+    "THE IMAGES ARE CHANGED: the superblocks and bitmaps of the other members, and none of the data. The member leaves the array: it has to be faulty, stale or a spare, so that one in use is failed first. Its own image is not written. Where it was a spare, the others are told that it left. Then the array is stopped, and shown in a line. Later commands are given the images without it.\n\nName all images of the array, in any order.\n\nThe status is 0 where it is done, 1 where it is refused (standard error names the fault), and 2 where the words are not accepted.\n\nExample:\n  mdcli remove --member 1 a.img b.img";

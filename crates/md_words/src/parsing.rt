@@ -77,6 +77,13 @@ fn number_of<'a>(found: &ArgMatches<'a>, name: &str) -> u64
     u64_of(text_of(found, name))
 }
 
+// The index of the member that a command names, 0 where it names none.
+fn member_of(found: &ArgMatches<'_>) -> u32
+    ensures { result ≡ number_in 32 (codes "member") (rows_of (found_of found.now)) }
+{
+    u32_of(text_of(found, "member"))
+}
+
 // What the command of a name does with an array, where it may be asked to change no image.
 fn task_of(name: &str, found: &ArgMatches<'_>) -> Option<ArrayTask>
     ensures { result ≡ task_of name.now (rows_of (found_of found.now)) }
@@ -88,8 +95,7 @@ fn task_of(name: &str, found: &ArgMatches<'_>) -> Option<ArrayTask>
         return Some(ArrayTask::Detail);
     }
     if name == "plan" {
-        let member = u32_of(text_of(found, "member"));
-        return Some(ArrayTask::Plan(member));
+        return Some(ArrayTask::Plan(member_of(found)));
     }
     if name == "read" {
         let sector = number_of(found, "sector");
@@ -110,6 +116,9 @@ fn change_of(name: &str, found: &ArgMatches<'_>) -> Option<ArrayTask>
     if name == "resync" {
         return Some(ArrayTask::Resync);
     }
+    if name == "fail" {
+        return Some(ArrayTask::Fail(member_of(found)));
+    }
     if name == "stop" {
         return Some(ArrayTask::Stop);
     }
@@ -122,6 +131,9 @@ fn action_of<'a>(name: &str, found: &ArgMatches<'a>) -> Action<'a>
 {
     if name == "create" {
         return Action::Create(create_options(found));
+    }
+    if name == "remove" {
+        return Action::Remove(member_of(found));
     }
     if let Some(task) = task_of(name, found) {
         return Action::Perform(task, is_readonly(found));

@@ -10,6 +10,8 @@ pub enum Action<'a> {
     Create(CreateOptions<'a>),
     /// What is done with the array that the images make, and whether no image may be changed.
     Perform(ArrayTask, bool),
+    /// The member with this index leaves the array that the images make, which is stopped then.
+    Remove(u32),
 }
 
 /// An action, and the image words.

@@ -1,0 +1,21 @@
+// The member that a command names.
+ghost use Rattle.std.specs.Prelude.{◌≡◌, ◌<◌, ◌≤◌, MatchResult, length};
+ghost use Rattle.md_commands.specs.declared.fault.DataFault.TheVariants.{BadMember};
+
+use crate::fault::DataFault;
+use md_array::Mirror;
+use md_device::Device;
+
+/// The member with this index, if there is one.
+pub(crate) fn named_member<D: Device + Drop>(
+    mirror: &Mirror<D>,
+    member: u32,
+) -> Result<usize, DataFault>
+    ensures { MatchResult result (λ k. (k ≡ member) × (k < length mirror.now.array.members)) (λ fault. (fault ≡ BadMember) × (length mirror.now.array.members ≤ member)) }
+{
+    let k = member as usize;
+    if k >= mirror.members() {
+        return Err(DataFault::BadMember);
+    }
+    Ok(k)
+}
