@@ -1,5 +1,5 @@
 -- Lists of events that are in rounds, one after another.
-use Rattle.std.proofs.Common.{ℕ, List, [], ◌∷◌, ◌++◌, refl, sym, subst, inl, inr}
+use Rattle.std.proofs.Common.{ℕ, suc, List, [], ◌∷◌, ◌++◌, refl, sym, subst, inl, inr}
 use Rattle.std.proofs.lemmas.List.{append-nil, append_assoc}
 use Rattle.md_model.specs.Events.{Event}
 use Rattle.md_array.specs.InTurn.{AllOf}
@@ -83,3 +83,17 @@ after_last part k (x ∷ es) e is r after rest = absurd r
 pub fails_leave : (a b : Part) (k : ℕ) (es : List Event) → LeavesAt a b es → FailsAtLast k es → LeavesAt a Part.Marks es
 fails_leave a b k es g last =
     subst (LeavesAt a Part.Marks) (sym last.list) (after_last a k last.before last.failing last.of (subst (InRounds a) last.list (left_at a b es g)))
+
+-- ---- what is in no round
+-- marks past the first sector of a bitmap, once a superblock is stored
+pub no_marks_after_record : (part : Part) (j k b : ℕ) (es : List Event) → InRounds part (Event.Record j ∷ Event.StoreMarks k (suc b) ∷ es) → ⊥
+no_marks_after_record part j k b es (before, inl r) = let no = r.0 in cc
+no_marks_after_record part j k b es (before, inr r) = let no = r.0 in cc
+
+-- marks or a superblock, once bytes are written
+pub no_marks_after_bytes : (part : Part) (n j k b : ℕ) (es : List Event) → InRounds part (Event.WriteMember n j ∷ Event.StoreMarks k b ∷ es) → ⊥
+no_marks_after_bytes part n j k b es (inl r) = let no = r.0 in cc
+no_marks_after_bytes part n j k b es (inr r) = r.1
+
+pub no_record_after_bytes : (part : Part) (n j k : ℕ) (es : List Event) → InRounds part (Event.WriteMember n j ∷ Event.Record k ∷ es) → ⊥
+no_record_after_bytes part n j k es r = r.0
