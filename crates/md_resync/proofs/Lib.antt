@@ -1,4 +1,5 @@
 pub mod Bests
+pub mod StepsOn
 pub mod CopiedRuns
 pub mod CopiedChunks
 pub mod Advancing

@@ -1,3 +1,4 @@
 pub mod Sources
+pub mod Steps
 pub mod Resyncing
 pub mod Copying
