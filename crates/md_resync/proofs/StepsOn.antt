@@ -1,5 +1,5 @@
 -- Steps of the mirror, joined and carried along.
-use Rattle.std.proofs.Common.{◌≡◌, ℕ, ◌*◌, ◌/◌, List, [], ◌∷◌, ◌++◌, length, Option, Some, None, refl, sym, ap, ◌∙◌, subst, arith}
+use Rattle.std.proofs.Common.{◌≡◌, ℕ, ◌/◌, List, [], ◌∷◌, ◌++◌, length, Option, Some, None, refl, sym, ap, ◌∙◌, subst, arith}
 use Rattle.std.proofs.lemmas.List.{append_assoc, append-nil}
 use Rattle.md_model.specs.Events.{Event}
 use Rattle.md_state.specs.CopyingData.{CopiesTo, copies_of}
@@ -9,7 +9,7 @@ use Rattle.md_state.specs.View.{MirrorView}
 use Rattle.md_array.specs.CopyEvents.{CopiesInTurn}
 use Rattle.md_array.specs.InTurn.{AllOf, InTurn, Leads, Requests}
 use Rattle.md_laws.proofs.Runs.Rests.{rests_same, rests_then}
-use Rattle.md_resync.specs.Steps.{CopiedRun, GoesBySteps, IsNoCopy, MirrorStep, StepsInTurn, copies_in, events_of}
+use Rattle.md_resync.specs.Steps.{GoesBySteps, IsNoCopy, MirrorStep, StepsInTurn, copies_in, events_of}
 
 -- what holds at the end, weaker
 steps_then : (steps : List MirrorStep) (old : MirrorView) (before : Requests) (P Q : MirrorView → Requests → Type 0)
