@@ -29,6 +29,7 @@ use Rattle.md_resync.specs.declared.fault.ResyncFault.{ResyncFault}
 use Rattle.md_resync.specs.declared.fault.ResyncFault.TheVariants.{Halted, InFlight, MemberFailed, NoMemory, ReadFault}
 use Rattle.md_resync.specs.Resyncing.{Advances, ComesTo, EndsUnresynced, FailsToAgree, FailsToWrite, GivesUp, GoesOn, GoesUnresynced, HaltsResync, HasSameMembers, IdleFails, IsOfResync, LeavesMarks, LosesMember, ReadingFails, RefusesResync, Unresyncs}
 use Rattle.md_resync.proofs.CopiedRuns.{same_then}
+use Rattle.md_resync.proofs.StepsOn.{by_none, by_on, by_singles}
 
 -- ---- nothing is in flight, before or after
 pub none_flies : (a b : ArrayView) → IsIdle a → (requests : Requests) → AreInFlight a requests → AreInFlight b requests
@@ -77,6 +78,7 @@ goes_none m = record {
   events = [];
   steps = tt;
   leads = λ previous requests in_flight. (m, rests_same m, (refl, refl));
+  by_steps = by_none m m (rests_same m);
   unread = λ alone previous requests in_flight. (refl, refl);
 }
 
@@ -108,6 +110,7 @@ goes_on old mid new idle same g h = record {
       (subst (λ (x : Requests). ReadInTurn last mid x h.events (λ m s. (m ≡ new) × (s ≡ requests))) (sym at.1)
       (h.leads last requests there)))
       (g.leads previous requests in_flight));
+  by_steps = by_on g.events h.events old mid new (none_flies old.array mid.array idle) g.by_steps h.by_steps;
   unread = λ alone previous requests in_flight.
       let there = none_flies old.array mid.array idle requests in_flight in
       unread_on g.events h.events old mid new requests previous (g.unread alone previous requests in_flight)
@@ -153,6 +156,8 @@ goes_unresynced old mid new idle g u = record {
       (unread (Event.Unresynced ∷ []) last mid requests (λ m s. (m ≡ new) × (s ≡ requests))
       (new, requests, tt, (refl, u.marks), (λ honest whole. u.happens honest requests there), (refl, refl)))))
       (g.leads previous requests in_flight));
+  by_steps = by_on g.events (Event.Unresynced ∷ []) old mid new (none_flies old.array mid.array idle) g.by_steps
+      (by_singles (Event.Unresynced ∷ []) mid new (tt, tt) (λ previous requests in_flight. (new, requests, tt, (refl, u.marks), (λ honest whole. u.happens honest requests in_flight), (refl, refl))));
   unread = λ alone previous requests in_flight.
       let there = none_flies old.array mid.array idle requests in_flight in
       unread_on g.events (Event.Unresynced ∷ []) old mid new requests previous (g.unread alone previous requests in_flight)

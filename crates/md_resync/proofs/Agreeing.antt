@@ -139,6 +139,7 @@ copying_goes old new two g = record {
   events = g.events;
   steps = all_such IsCopying IsOfResync (λ e is. (copying_is_calm e is).of) g.events g.steps;
   leads = g.leads;
+  by_steps = g.by_steps;
   unread = λ alone. absurd (two alone);
 }
 

@@ -20,6 +20,8 @@ use Rattle.md_resync.specs.Resyncing.{Advances, ClearsStored, HasSameMembers, Is
 use Rattle.md_resync.proofs.Advancing.{advances_on, agree_same, goes_none, none_flies}
 use Rattle.md_resync.proofs.Agreeing.{IsCalm, calm_content, clearing_is_calm}
 use Rattle.md_array.proofs.General.Honesty.{same_honest}
+use Rattle.md_resync.specs.Steps.{IsNoCopy}
+use Rattle.md_resync.proofs.StepsOn.{by_singles}
 
 pub same_disks : (before after : List Disk) → after ≡ before → AreSame before after
 same_disks before after same = subst (AreSame before) (sym same) (record { as_many = refl; honest = λ k d e was is. let it = got_same before k e d is was in subst (λ (x : Disk). StaysHonest d x) (sym it) (record { honest = refl; counted = omega arith }) })
@@ -44,6 +46,10 @@ clearing_unfailing : (e : Event) → IsClearing e → IsNoFailure e
 clearing_unfailing (Event.ClearIdle c) is = tt
 clearing_unfailing e is = absurd is
 
+clearing_no_copy : (e : Event) → IsClearing e → IsNoCopy e
+clearing_no_copy (Event.ClearIdle c) is = tt
+clearing_no_copy e is = absurd is
+
 pub same_but_marks : (a b : ArrayView) → b ≡ record a { marks = b.marks } → HasSameMembers a b
 same_but_marks a b is = subst (HasSameMembers a) (sym is) (record { as_many = refl; each = (same_members a).each })
 
@@ -57,6 +63,7 @@ module _ (old mid : MirrorView) (idle : IsIdle old.array) (r : Remarks old mid) 
       events = r.goes.events;
       steps = all_such IsClearing IsOfResync (λ e is. (clearing_is_calm e is).of) r.goes.events r.goes.steps;
       leads = λ previous requests in_flight. unread r.goes.events previous old requests (λ m x. (m ≡ mid) × (x ≡ requests)) (r.goes.leads previous requests in_flight);
+      by_steps = by_singles r.goes.events old mid (all_such IsClearing IsNoCopy clearing_no_copy r.goes.events r.goes.steps) r.goes.leads;
       unread = λ alone. r.goes.leads;
     };
     unfailing = all_such IsClearing IsNoFailure clearing_unfailing r.goes.events r.goes.steps;

@@ -23,7 +23,7 @@ use Rattle.md_state.specs.Rests.{Rests}
 use Rattle.md_array.specs.Consistency.{IsConsistent}
 use Rattle.md_array.specs.CopyEvents.{CopiesInTurn}
 use Rattle.md_array.specs.Events.{Happens}
-use Rattle.md_array.specs.InTurn.{AllOf, Requests}
+use Rattle.md_array.specs.InTurn.{AllOf, Leads, Requests}
 use Rattle.md_array.specs.MarkingResynced.{AllAgreeAt, IsServed, sector_of}
 use Rattle.md_array.proofs.General.Indices.{got_same, got_within}
 use Rattle.md_array.proofs.General.Resting.{rests_sound}
@@ -37,6 +37,7 @@ use Rattle.md_metadata.specs.Storing.{IsNoFailure, IsUpToDate}
 use Rattle.md_metadata.proofs.Going.{fails_after}
 use Rattle.md_metadata.proofs.Steps.{faulty_after, recorded_in_sync}
 use Rattle.md_resync.specs.Copying.{Copies, CopyingGoesOn, GivesTo, HaltsCopying, IsAmong, IsBeside, IsBetween, IsCopyIn, IsCopying, IsRun, LosesCopying}
+use Rattle.md_resync.proofs.StepsOn.{by_none, by_on, by_run, by_singles}
 
 -- ---- devices, each as honest as it was
 pub same_then : (before mid after : List Disk) → AreSame before mid → AreSame mid after → AreSame before after
@@ -65,6 +66,7 @@ goes_nowhere m sound = record {
   events = [];
   steps = tt;
   leads = λ previous requests in_flight. (m, rests_same m, (refl, refl));
+  by_steps = by_none m m (rests_same m);
   same = (rests_same m).disks.same;
   sound = sound;
 }
@@ -74,6 +76,7 @@ goes_read old new rests sound = record {
   events = [];
   steps = tt;
   leads = λ previous requests in_flight. (new, rests, (refl, refl));
+  by_steps = by_none old new rests;
   same = rests.disks.same;
   sound = rests_sound old new rests sound;
 }
@@ -93,6 +96,7 @@ goes_then Of old mid new g h = record {
       (subst (λ (x : Requests). ReadInTurn last mid x h.events (λ m s. (m ≡ new) × (s ≡ requests))) (sym at.1)
       (h.leads last requests there)))
       (g.goes.leads previous requests in_flight));
+  by_steps = by_on g.goes.events h.events old mid new (λ requests in_flight. subst (λ (a : ArrayView). AreInFlight a requests) (sym g.array) in_flight) g.goes.by_steps h.by_steps;
   same = same_then old.disks mid.disks new.disks g.goes.same h.same;
   sound = h.sound;
 }
@@ -263,6 +267,7 @@ module _ (k sector : ℕ) (bytes : List ℕ) (old new : MirrorView) (c : IsConsi
         steps = all_copying turn.from k sector turn.sectors;
         leads = λ previous requests in_flight.
             unread (copies_of turn.from k sector turn.sectors) previous old requests (λ m r. (m ≡ new) × (r ≡ requests)) (turn.leads previous requests in_flight);
+        by_steps = by_run k sector bytes old new t turn;
         same = tried_same k (run_write target sector bytes) old.disks new.disks t.disks.tried;
         sound = copied_run_is_consistent k sector bytes old c t.copy new t;
       };
@@ -286,12 +291,15 @@ module _ (k chunk : ℕ) (old new : MirrorView) where
       let on = f.copy.may.in_sync in
       let same = got_same old.array.members k f.copy.may.target f.fails.array.member on.member f.fails.array.at in
       let in_use = recorded_in_sync f.fails.array.member.state (subst (λ (m : MemberView). is_in_sync m.state ≡ true) same on.in_sync) in
+      let failing : List Event = Event.CopyFails k chunk ∷ [] in
+      let leads : (previous : Option Event) (requests : Requests) → AreInFlight old.array requests → Leads previous old requests failing new requests =
+      λ previous requests in_flight. (new, requests, tt, (refl, f), (λ honest whole. happens honest requests in_flight), (refl, refl)) in
       record {
         goes = record {
-          events = Event.CopyFails k chunk ∷ [];
+          events = failing;
           steps = (tt, tt);
-          leads = λ previous requests in_flight. unread (Event.CopyFails k chunk ∷ []) previous old requests (λ m r. (m ≡ new) × (r ≡ requests))
-              (new, requests, tt, (refl, f), (λ honest whole. happens honest requests in_flight), (refl, refl));
+          leads = λ previous requests in_flight. unread failing previous old requests (λ m r. (m ≡ new) × (r ≡ requests)) (leads previous requests in_flight);
+          by_steps = by_singles failing old new (tt, tt) leads;
           same = tried_same k (run_write f.copy.may.target f.sector f.bytes) old.disks new.disks f.fails.disks.tried;
           sound = sound;
         };

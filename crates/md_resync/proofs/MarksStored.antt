@@ -38,7 +38,9 @@ use Rattle.md_resync.specs.Resyncing.{FailsToWrite, GoesOn, HaltsIdle, HasSameMe
 use Rattle.md_resync.proofs.Agreeing.{IsCalm, calm_content}
 use Rattle.md_resync.proofs.Cleared.{same_disks, same_members}
 use Rattle.md_resync.proofs.CopiedRuns.{same_then, tried_same}
+use Rattle.md_resync.specs.Steps.{GoesBySteps, IsNoCopy}
 use Rattle.md_resync.proofs.Resynced.{members_on}
+use Rattle.md_resync.proofs.StepsOn.{by_singles}
 
 module _ (k block : ℕ) (old new : MirrorView) (c : IsConsistent old) (low : block < bitmap_sectors old.array.marks.chunks) (r : StoresMarkSector k block old new) where
   abbrev m : MemberView
@@ -217,6 +219,15 @@ all_stored : (es : List Event) → AllOf IsMarking es → AllOf IsNoFailure es �
 all_stored [] marking unfailing = tt
 all_stored (e ∷ es) marking unfailing = (mark_is_stored e marking.0 unfailing.0, all_stored es marking.1 unfailing.1)
 
+marking_no_copy : (e : Event) → IsMarking e → IsNoCopy e
+marking_no_copy (Event.StoreMarks k b) is = tt
+marking_no_copy (Event.StoreMarksFails k b) is = tt
+marking_no_copy e is = absurd is
+
+marking_by_steps : (es : List Event) (old new : MirrorView) → AllOf IsMarking es
+    → ((previous : Option Event) (requests : Requests) → AreInFlight old.array requests → Leads previous old requests es new requests) → GoesBySteps es old new
+marking_by_steps es old new all = by_singles es old new (all_such IsMarking IsNoCopy marking_no_copy es all)
+
 -- all of it
 pub stores_marks : (old new : MirrorView) → IsIdle old.array → IsConsistent old → StoresAll IsMarking (HasAllMarks old.array.marks) old new → StoresMarks old new
 stores_marks old new idle sound s =
@@ -228,7 +239,7 @@ stores_marks old new idle sound s =
     unread g.events previous old requests (λ v x. (v ≡ new) × (x ≡ requests)) (g.leads previous requests in_flight) in
     record {
       advances = record {
-        goes = record { events = g.events; steps = all_such IsMarkStored IsOfResync (λ e is. (mark_is_calm e is).of) g.events steps; leads = leads; unread = λ alone. g.leads };
+        goes = record { events = g.events; steps = all_such IsMarkStored IsOfResync (λ e is. (mark_is_calm e is).of) g.events steps; leads = leads; by_steps = marking_by_steps g.events old new g.steps g.leads; unread = λ alone. g.leads };
         unfailing = s.stores.unfailing;
         same = leaves.same;
         idle = subst IsIdle (sym ready.others) (record { running = idle.running; none = idle.none });
@@ -268,6 +279,7 @@ marking_goes old new g = record {
   events = g.events;
   steps = all_such IsMarking IsOfResync marking_of g.events g.steps;
   leads = λ previous requests in_flight. unread g.events previous old requests (λ v x. (v ≡ new) × (x ≡ requests)) (g.leads previous requests in_flight);
+  by_steps = marking_by_steps g.events old new g.steps g.leads;
   unread = λ alone. g.leads;
 }
 

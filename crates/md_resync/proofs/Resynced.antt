@@ -37,6 +37,7 @@ use Rattle.md_resync.proofs.Agreeing.{copies_advance, copying_goes, copying_is_c
 use Rattle.md_resync.proofs.Cleared.{cleared_stored, clearing_advances, content_on, same_but_marks, same_disks}
 use Rattle.md_resync.proofs.CopiedRuns.{copies_read, copies_then, same_then}
 use Rattle.md_resync.proofs.Settled.{settles}
+use Rattle.md_resync.proofs.StepsOn.{by_singles}
 
 -- ---- members that are the same but for what is stored
 pub members_on : (a b c : ArrayView) → HasSameMembers a b → HasSameMembers b c → HasSameMembers a c
@@ -71,6 +72,7 @@ resynced_advances b c r happens sound = record {
     steps = (tt, tt);
     leads = λ previous requests in_flight. unread (Event.Resynced ∷ []) previous b requests (λ m x. (m ≡ c) × (x ≡ requests))
         (c, requests, tt, (refl, r), (λ honest whole. happens honest requests in_flight), (refl, refl));
+    by_steps = by_singles (Event.Resynced ∷ []) b c (tt, tt) (λ previous requests in_flight. (c, requests, tt, (refl, r), (λ honest whole. happens honest requests in_flight), (refl, refl)));
     unread = λ alone previous requests in_flight. (c, requests, tt, (refl, r), (λ honest whole. happens honest requests in_flight), (refl, refl));
   };
   unfailing = (tt, tt);

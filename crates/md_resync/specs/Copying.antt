@@ -16,6 +16,7 @@ use Rattle.md_array.specs.MarkingResynced.{AllAgreeAt, AllAgreeWhereMarked}
 use Rattle.md_laws.specs.ReadInTurn.{LeadsReading}
 use Rattle.md_metadata.specs.Going.{IsFaulty}
 use Rattle.md_metadata.specs.Storing.{FailsAtLast, HasAllMarks, IsUpToDate}
+use Rattle.md_resync.specs.Steps.{GoesBySteps}
 use Rattle.md_resync.specs.declared.fault.ResyncFault.{ResyncFault}
 use Rattle.md_resync.specs.declared.fault.ResyncFault.TheVariants.{Halted, InFlight, MemberFailed, NoMemory, ReadFault}
 
@@ -29,6 +30,7 @@ pub record CopyingGoesOn (old new : MirrorView) : Type 0 where
   pub events : List Event
   pub steps : AllOf IsCopying events
   pub leads : (previous : Option Event) (requests : Requests) → AreInFlight old.array requests → LeadsReading previous old requests events new requests
+  pub by_steps : GoesBySteps events old new
   pub same : AreSame old.disks new.disks
   pub sound : IsConsistent new
 

@@ -1,3 +1,5 @@
 pub mod Sources
+pub mod Steps
+pub mod StepRuns
 pub mod Resyncing
 pub mod Copying

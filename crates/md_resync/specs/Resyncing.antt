@@ -21,6 +21,7 @@ use Rattle.md_laws.specs.ReadInTurn.{LeadsReading}
 use Rattle.md_metadata.specs.Going.{IsFaulty}
 use Rattle.md_metadata.specs.Storing.{FailsAtLast, HasAllMarks, IsMarking, IsNoFailure, IsUpToDate}
 use Rattle.md_resync.specs.Copying.{CopyingFails, IsMarkedAt}
+use Rattle.md_resync.specs.Steps.{GoesBySteps}
 use Rattle.md_resync.specs.declared.fault.ResyncFault.{ResyncFault}
 use Rattle.md_resync.specs.declared.fault.ResyncFault.TheVariants.{Halted, InFlight, MemberFailed, NoMemory, ReadFault}
 
@@ -39,6 +40,7 @@ pub record GoesOn (old new : MirrorView) : Type 0 where
   pub events : List Event
   pub steps : AllOf IsOfResync events
   pub leads : (previous : Option Event) (requests : Requests) → AreInFlight old.array requests → LeadsReading previous old requests events new requests
+  pub by_steps : GoesBySteps events old new
   pub unread : IsAlone old.array → (previous : Option Event) (requests : Requests) → AreInFlight old.array requests → Leads previous old requests events new requests
 
 -- So they were, and at the end it was kept that the array is not resynced.
@@ -46,6 +48,7 @@ pub record GoesUnresynced (old new : MirrorView) : Type 0 where
   pub events : List Event
   pub steps : AllOf IsOfResync events
   pub leads : (previous : Option Event) (requests : Requests) → AreInFlight old.array requests → LeadsReading previous old requests (events ++ Event.Unresynced ∷ []) new requests
+  pub by_steps : GoesBySteps (events ++ Event.Unresynced ∷ []) old new
   pub unread : IsAlone old.array → (previous : Option Event) (requests : Requests) → AreInFlight old.array requests → Leads previous old requests (events ++ Event.Unresynced ∷ []) new requests
 
 -- member by member nothing but the stored marks changed

@@ -12,6 +12,7 @@ mod marks;
 mod members;
 mod resyncing;
 mod source;
+pub mod steps;
 mod whole;
 
 pub use fault::ResyncFault;
