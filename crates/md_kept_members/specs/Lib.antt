@@ -16,3 +16,5 @@ pub mod Kept
 pub mod Remembering
 -- The marks that are kept of a member once a sector of its bitmap is stored.
 pub mod StoredMarks
+-- What is kept in memory of a device that left, and is taken back.
+pub mod TakingBack

@@ -20,7 +20,7 @@ pub struct Member {
     pub state: MemberState,
     /// Its superblock has to be stored.
     pub due: bool,
-    /// This mirror took it back. No call does that yet.
+    /// This mirror took it back, and it is recovering.
     pub re_added: bool,
 }
 

@@ -49,3 +49,7 @@ pub mod ReadingData
 -- Sectors are copied from a member in sync to another, as a resync does (sync_request and sync_request_write of raid1.c in the
 -- kernel's md driver; the order of sources, and that marks are stored first, are this project's own).
 pub mod CopyingData
+-- A device comes in as the last member.
+pub mod Joining
+-- A device that left is taken back in its former role.
+pub mod ReAdding

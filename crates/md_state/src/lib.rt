@@ -11,10 +11,13 @@ mod failing_members;
 mod finishing;
 mod header;
 mod in_sync;
+mod joining;
 mod making_clean;
 mod marking_resynced;
 mod missing;
 mod observing;
+mod re_add_fault;
+mod re_adding;
 mod recording;
 mod remembering;
 mod removing;
@@ -25,6 +28,7 @@ mod writing_member;
 
 pub use array::Array;
 pub use copy_fault::CopyFault;
+pub use re_add_fault::ReAddFault;
 pub use step_fault::{
     BeginFault, CleanFault, ClearFault, FailFault, FinishFault, RemoveFault, StoreFault,
     WriteMemberFault,

@@ -46,14 +46,14 @@ impl Array {
         (0..self.shared.roles.max_dev()).any(|number| self.is_absent(number))
     }
 
-    // Whether the number has a role below raid_disks, and no member has it.
-    fn is_absent(&self, number: u32) -> bool
+    /// Whether the number has a role below raid_disks, and no member has it.
+    pub(crate) fn is_absent(&self, number: u32) -> bool
         ensures { result ≡ is_absent self.now number }
     {
         u32::from(self.shared.role_of(number)) < self.shared.raid_disks && !self.has_number(number)
     }
 
-    fn has_number(&self, number: u32) -> bool
+    pub(crate) fn has_number(&self, number: u32) -> bool
         ensures { result ≡ has_number self.now number }
     {
         self.members

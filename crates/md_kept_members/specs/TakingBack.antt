@@ -1,0 +1,43 @@
+-- What is kept in memory of a device that left, and is taken back.
+use Rattle.std.specs.Prelude.{◌≡◌, ℕ, true, false, bit_or, Some, refl}
+use Rattle.std.proofs.Common.{◌∙◌}
+use Rattle.std.proofs.lemmas.Nat.{and_or_apart}
+use Rattle.md_super.specs.declared.superblock.Superblock.{Superblock}
+use Rattle.md_super.specs.Profile.{unsupported_features}
+use Rattle.md_members.specs.declared.info.MemberInfo.{MemberInfo}
+use Rattle.md_assembly.specs.declared.state.MemberState.TheVariants.{Recovering}
+use Rattle.md_assembly.specs.States.{role_in}
+use Rattle.md_kept_members.specs.View.{MemberView}
+use Rattle.md_kept_members.specs.OwnFields.{kept_superblock}
+
+pub recovering-supported : (feature_map : ℕ) → unsupported_features feature_map ≡ 0 → unsupported_features (bit_or feature_map 2) ≡ 0
+recovering-supported feature_map none = and_or_apart 0xffff_fff4 feature_map 2 refl ∙ none
+
+-- the superblock of a member that is rebuilt, nothing of which is known to be done (RECOVERY_OFFSET of md_p.h)
+abbrev pub recovering : Superblock → Superblock
+recovering v = record v {
+  feature_map = bit_or v.feature_map 2;
+  recovery_offset = 0;
+  in_profile = record {
+    features = recovering-supported v.feature_map v.in_profile.features;
+    level_is = v.in_profile.level_is;
+    some_disks = v.in_profile.some_disks;
+    few_disks = v.in_profile.few_disks;
+    super_offset_is = v.in_profile.super_offset_is;
+  };
+}
+
+-- the role that its own superblock gives it
+abbrev pub own_role : Superblock → ℕ
+own_role v = role_in v v.dev_number
+
+-- What is kept of it: its bitmap and its log as they were read, and of its superblock what is written next. That is what is done
+-- first, so that its superblock is not due.
+pub record IsTakenBack (info : MemberInfo) (m : MemberView) : Type 0 where
+  pub superblock : m.superblock ≡ recovering (kept_superblock info)
+  pub header : info.header ≡ Some m.header
+  pub stored : info.marks ≡ Some m.stored
+  pub bad : m.bad ≡ info.bad
+  pub state : m.state ≡ Recovering (own_role info.superblock)
+  pub due : m.due ≡ false
+  pub re_added : m.re_added ≡ true

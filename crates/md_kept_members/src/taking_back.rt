@@ -1,0 +1,44 @@
+// What is kept in memory of a device that left, and is taken back.
+ghost use Rattle.std.specs.Prelude.{◌≡◌};
+ghost use Rattle.md_kept_members.specs.Remembering.{IsWhole};
+ghost use Rattle.md_kept_members.specs.TakingBack.{IsTakenBack, recovering};
+
+use crate::member::Member;
+use crate::own_fields::stored_next;
+use md_assembly::MemberState;
+use md_members::MemberInfo;
+use md_super::{FEATURE_RECOVERY_OFFSET, Superblock};
+
+/// What is kept of a device that was read, and is taken back in the role that its own superblock gives it.
+pub fn taken_back(info: MemberInfo) -> Member
+    requires { IsWhole info }
+    ensures { IsTakenBack info result }
+{
+    let MemberInfo {
+        superblock,
+        header,
+        marks,
+        bad,
+        ..
+    } = info;
+    let role = superblock.role_of(superblock.dev_number);
+    Member {
+        superblock: recovering(stored_next(superblock, &bad)),
+        header: header.unwrap(),
+        stored: marks.unwrap(),
+        bad,
+        state: MemberState::Recovering(role),
+        due: false,
+        re_added: true,
+    }
+}
+
+// The superblock of a member that is rebuilt, nothing of which is known to be done.
+fn recovering(v: Superblock) -> Superblock
+    ensures { result ≡ recovering v }
+{
+    let mut next = v;
+    next.feature_map |= FEATURE_RECOVERY_OFFSET;
+    next.recovery_offset = 0;
+    next
+}

@@ -1,0 +1,83 @@
+-- A device that left is taken back in its former role (super_1_validate and hot_add_disk in the kernel's md driver, which let it by
+-- events_cleared; the other conditions and their order are this project's own).
+use Rattle.std.specs.Prelude.{◌≡◌, ℕ, ◌≤◌, ◌<◌, ◌/◌, Bool, true, false, Some}
+use Rattle.std.specs.List.{list_any}
+use Rattle.md_super.specs.declared.superblock.Superblock.{Superblock}
+use Rattle.md_bitmap.specs.declared.header.BitmapHeader.{BitmapHeader}
+use Rattle.md_members.specs.declared.info.MemberInfo.{MemberInfo}
+use Rattle.md_assembly.specs.States.{has_recovery_offset, takes_role}
+use Rattle.md_kept_members.specs.TakingBack.{IsTakenBack, own_role}
+use Rattle.md_kept_members.specs.View.{MemberView}
+use Rattle.md_state.specs.declared.re_add_fault.ReAddFault.{ReAddFault}
+use Rattle.md_state.specs.declared.re_add_fault.ReAddFault.TheVariants.{Halted, Member, Full, NotReAddable, NoRole, EventsFull, WriteFault, NoMemory}
+use Rattle.md_state.specs.Joining.{IsFull, joined}
+use Rattle.md_state.specs.Rising.{HasSpentEvents, has_number}
+use Rattle.md_state.specs.View.{ArrayView}
+
+-- It is of this array, and is cut into the same chunks.
+pub record IsOfArray (a : ArrayView) (v : Superblock) (h : BitmapHeader) : Type 0 where
+  pub set_uuid : v.set_uuid ≡ a.shared.set_uuid
+  pub size : v.size ≡ a.shared.size
+  pub raid_disks : v.raid_disks ≡ a.shared.raid_disks
+  pub width : h.chunksize / 512 ≡ a.chunks.sectors
+
+-- No member has its number, it was not being rebuilt, and its own superblock gives it a role.
+pub record LeftItsRole (a : ArrayView) (v : Superblock) : Type 0 where
+  pub absent : has_number a v.dev_number ≡ false
+  pub whole : has_recovery_offset v ≡ false
+  pub has_role : own_role v < a.shared.raid_disks
+
+-- It left when the array had no more events than now, and marks were last cleared no later than that.
+pub record LeftInTime (a : ArrayView) (v : Superblock) : Type 0 where
+  pub late : a.events_cleared ≤ v.events
+  pub no_newer : v.events ≤ a.shared.events
+
+-- it has a bitmap, too
+pub record IsReAddable (a : ArrayView) (info : MemberInfo) : Type 0 where
+  pub header : BitmapHeader
+  pub has_header : info.header ≡ Some header
+  pub of_array : IsOfArray a info.superblock header
+  pub role : LeftItsRole a info.superblock
+  pub in_time : LeftInTime a info.superblock
+
+-- a member in sync or recovering has the role
+abbrev pub is_taken : ArrayView → ℕ → Bool
+is_taken a role = list_any (λ m. takes_role role m.state) a.members
+
+-- it may be taken back
+pub record MayReAdd (a : ArrayView) (info : MemberInfo) : Type 0 where
+  pub room : IsFull a → ⊥
+  pub fits : IsReAddable a info
+  pub free : is_taken a (own_role info.superblock) ≡ false
+  pub unspent : HasSpentEvents a → ⊥
+
+-- the array with it
+pub record TakesBack (info : MemberInfo) (old new : ArrayView) : Type 0 where
+  pub may : MayReAdd old info
+  pub member : MemberView
+  pub taken : IsTakenBack info member
+  pub array : new ≡ joined old member (own_role info.superblock)
+
+-- no role is free for it
+pub record HasNoRole (a : ArrayView) (info : MemberInfo) : Type 0 where
+  pub room : IsFull a → ⊥
+  pub fits : IsReAddable a info
+  pub taken : is_taken a (own_role info.superblock) ≡ true
+
+-- the count has to rise, and can't
+pub record CannotCountReAdd (a : ArrayView) (info : MemberInfo) : Type 0 where
+  pub room : IsFull a → ⊥
+  pub fits : IsReAddable a info
+  pub free : is_taken a (own_role info.superblock) ≡ false
+  pub spent : HasSpentEvents a
+
+-- why a device that was read is refused, before anything is written
+abbrev pub RefusesToTakeBack : ArrayView → MemberInfo → ReAddFault → Type 0
+RefusesToTakeBack a info Full = IsFull a
+RefusesToTakeBack a info NotReAddable = (IsFull a → ⊥) × (IsReAddable a info → ⊥)
+RefusesToTakeBack a info NoRole = HasNoRole a info
+RefusesToTakeBack a info EventsFull = CannotCountReAdd a info
+RefusesToTakeBack a info Halted = ⊥
+RefusesToTakeBack a info (Member fault) = ⊥
+RefusesToTakeBack a info WriteFault = ⊥
+RefusesToTakeBack a info NoMemory = ⊥
