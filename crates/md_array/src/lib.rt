@@ -12,6 +12,7 @@ mod marking_resynced;
 mod mirror;
 mod missing;
 mod opening;
+mod re_adding;
 mod reading;
 mod reading_data;
 mod recording;

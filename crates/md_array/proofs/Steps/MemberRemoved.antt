@@ -52,7 +52,7 @@ without_role (Stale own) e role = refl
 without_role Spare e role = refl
 without_role Faulty e role = refl
 
-same_active : (s : MemberState) → model.is_active (kind_of s) ≡ is_active s
+pub same_active : (s : MemberState) → model.is_active (kind_of s) ≡ is_active s
 same_active (InSync role) = refl
 same_active (Recovering role) = refl
 same_active (Stale role) = refl
