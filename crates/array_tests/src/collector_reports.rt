@@ -117,14 +117,18 @@ const TAKEN_ONCE: [(Sent, Result<(), Refusal>); 7] = [
     ((1, 0, Some((CHUNK, 9))), Err(Refusal::Double)),
 ];
 
-fn are_taken_once(rt: &impl Abort, alloc: Global, collecting: &mut Collecting) -> Result<(), Fail> {
+fn expect_taken_once(
+    rt: &impl Abort,
+    alloc: Global,
+    collecting: &mut Collecting,
+) -> Result<(), Fail> {
     takes(rt, alloc, collecting, &TAKEN_ONCE)?;
     same(rt, "the reports", collecting.collector.reports(), 2);
     Ok(())
 }
 
 // Chunk 0 was written, and chunk 1 was not.
-fn is_written(rt: &impl Abort, target: &MemDevice) {
+fn expect_written(rt: &impl Abort, target: &MemDevice) {
     holds(rt, "chunk 0", target.bytes().starts_with(&[7; CHUNK]));
     holds(rt, "chunk 1", target.bytes().ends_with(&[0; CHUNK]));
 }
@@ -132,10 +136,10 @@ fn is_written(rt: &impl Abort, target: &MemDevice) {
 #[test]
 fn each_planned_chunk_is_taken_once(rt: HostRuntime) -> Result<(), Fail> {
     let mut collecting = Collecting::new(rt.alloc(), 0)?;
-    let taken = are_taken_once(&rt, rt.alloc(), &mut collecting);
+    let taken = expect_taken_once(&rt, rt.alloc(), &mut collecting);
     let target = collecting.into_target();
     if taken.is_ok() {
-        is_written(&rt, &target);
+        expect_written(&rt, &target);
     }
     drop(target);
     taken
@@ -148,7 +152,7 @@ const SPOILED: [(Sent, Result<(), Refusal>); 4] = [
     ((5, 0, Some((CHUNK, 7))), Err(Refusal::Spoiled)),
 ];
 
-fn are_spoiled(rt: &impl Abort, alloc: Global, collecting: &mut Collecting) -> Result<(), Fail> {
+fn expect_spoiled(rt: &impl Abort, alloc: Global, collecting: &mut Collecting) -> Result<(), Fail> {
     takes(rt, alloc, collecting, &SPOILED)?;
     same(rt, "the reports", collecting.collector.reports(), 0);
     Ok(())
@@ -157,7 +161,7 @@ fn are_spoiled(rt: &impl Abort, alloc: Global, collecting: &mut Collecting) -> R
 #[test]
 fn a_target_fault_ends_the_counting(rt: HostRuntime) -> Result<(), Fail> {
     let mut collecting = Collecting::new(rt.alloc(), 1)?;
-    let spoiled = are_spoiled(&rt, rt.alloc(), &mut collecting);
+    let spoiled = expect_spoiled(&rt, rt.alloc(), &mut collecting);
     drop(collecting);
     spoiled
 }

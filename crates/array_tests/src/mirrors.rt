@@ -109,7 +109,7 @@ fn marked<D: Device>(alloc: Global, device: &mut D) -> Result<u32, Fail> {
     Ok(count)
 }
 
-fn are_marked<D: Device>(
+fn expect_marked<D: Device>(
     rt: &impl Abort,
     alloc: Global,
     devices: &mut [D],
@@ -123,7 +123,7 @@ fn are_marked<D: Device>(
     Ok(())
 }
 
-fn is_opened(
+fn expect_opened(
     rt: &impl Abort,
     alloc: Global,
     bitmap_events: u64,
@@ -142,16 +142,16 @@ fn is_opened(
     };
     same(rt, "what the mirror shows", what_shows(&mirror), wanted);
     let mut devices = mirror.into_devices();
-    let are_stored = are_marked(rt, alloc, &mut devices, &[marked, marked]);
+    let are_stored = expect_marked(rt, alloc, &mut devices, &[marked, marked]);
     drop(devices);
     are_stored
 }
 
 #[test]
 fn bitmap_accepted(rt: HostRuntime) -> Result<(), Fail> {
-    is_opened(&rt, rt.alloc(), 11, 0, true)?;
-    is_opened(&rt, rt.alloc(), 10, 0, true)?;
-    is_opened(&rt, rt.alloc(), 8, 8, false)
+    expect_opened(&rt, rt.alloc(), 11, 0, true)?;
+    expect_opened(&rt, rt.alloc(), 10, 0, true)?;
+    expect_opened(&rt, rt.alloc(), 8, 8, false)
 }
 
 const ALONE: Shown = Shown {
@@ -187,7 +187,7 @@ fn opened_alone(rt: HostRuntime) -> Result<(), Fail> {
     Ok(())
 }
 
-fn are_permitted<D: Device + Drop>(rt: &impl Abort, mirror: &Mirror<D>) {
+fn expect_permitted<D: Device + Drop>(rt: &impl Abort, mirror: &Mirror<D>) {
     let count = mirror.chunks().count();
     same(rt, "the chunks", count, 8);
     for chunk in 0..count {
@@ -206,7 +206,7 @@ fn log_entry_on_device(rt: HostRuntime) -> Result<(), Fail> {
     let mut devices = Vec::new(rt.alloc());
     add_listing(rt.alloc(), &mut devices)?;
     let mirror = open(rt.alloc(), devices)?;
-    are_permitted(&rt, &mirror);
+    expect_permitted(&rt, &mirror);
     drop(mirror);
     Ok(())
 }
@@ -229,13 +229,13 @@ fn add_two(alloc: Global, devices: &mut Vec<FaultDevice<MemDevice>>) -> Result<(
 }
 
 // The devices are given back with what was stored on the first.
-fn are_returned(
+fn expect_returned(
     rt: &impl Abort,
     alloc: Global,
     devices: Vec<FaultDevice<MemDevice>>,
 ) -> Result<(), Fail> {
     let mut devices = devices;
-    let are_stored = are_marked(rt, alloc, &mut devices, &[8, 0]);
+    let are_stored = expect_marked(rt, alloc, &mut devices, &[8, 0]);
     drop(devices);
     are_stored
 }
@@ -246,7 +246,7 @@ fn marks_cannot_be_stored(rt: HostRuntime) -> Result<(), Fail> {
     let mut devices = Vec::new(alloc);
     add_two(alloc, &mut devices)?;
     match Mirror::open(alloc, devices) {
-        Err((devices, OpenFault::MetadataFault(1))) => are_returned(&rt, alloc, devices),
+        Err((devices, OpenFault::MetadataFault(1))) => expect_returned(&rt, alloc, devices),
         Err((_, fault)) => Err(Fail::from(fault)),
         Ok(_) => Err(Fail::new("a failed write was not noticed")),
     }

@@ -75,7 +75,7 @@ const DEVICES: [u128; 2] = [
     0x2bb2_8c74_3668_5e67_b896_94fe_3712_f904,
 ];
 
-fn are_named(rt: &impl Abort, members: &[NewMember]) {
+fn expect_named(rt: &impl Abort, members: &[NewMember]) {
     same(rt, "the members", members.len(), DEVICES.len());
     for (member, uuid) in members.iter().zip(DEVICES) {
         let found = member.superblock.device_uuid;
@@ -86,7 +86,7 @@ fn are_named(rt: &impl Abort, members: &[NewMember]) {
 #[test]
 fn device_uuids(rt: HostRuntime) -> Result<(), Fail> {
     let members = made(rt.alloc(), &SIZES)?;
-    are_named(&rt, &members);
+    expect_named(&rt, &members);
     drop(members);
     Ok(())
 }
@@ -129,7 +129,7 @@ fn new_members_read_back(rt: HostRuntime) -> Result<(), Fail> {
     found
 }
 
-fn is_fault_noticed(rt: &impl Abort, alloc: Global, member: &NewMember) -> Result<(), Fail> {
+fn expect_fault_noticed(rt: &impl Abort, alloc: Global, member: &NewMember) -> Result<(), Fail> {
     let zeros = zeros(alloc, 2112)?;
     let mut device = FaultDevice::new(zeros, Vec::new(alloc), 1, 1, false);
     let laid_out = lay_out(&mut device, member);
@@ -138,9 +138,13 @@ fn is_fault_noticed(rt: &impl Abort, alloc: Global, member: &NewMember) -> Resul
     Ok(())
 }
 
-fn are_faults_noticed(rt: &impl Abort, alloc: Global, members: &[NewMember]) -> Result<(), Fail> {
+fn expect_faults_noticed(
+    rt: &impl Abort,
+    alloc: Global,
+    members: &[NewMember],
+) -> Result<(), Fail> {
     for member in members {
-        is_fault_noticed(rt, alloc, member)?;
+        expect_fault_noticed(rt, alloc, member)?;
     }
     Ok(())
 }
@@ -148,7 +152,7 @@ fn are_faults_noticed(rt: &impl Abort, alloc: Global, members: &[NewMember]) -> 
 #[test]
 fn first_write_fails(rt: HostRuntime) -> Result<(), Fail> {
     let members = made(rt.alloc(), &SIZES)?;
-    let noticed = are_faults_noticed(&rt, rt.alloc(), &members);
+    let noticed = expect_faults_noticed(&rt, rt.alloc(), &members);
     drop(members);
     noticed
 }

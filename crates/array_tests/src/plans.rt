@@ -80,7 +80,7 @@ fn verdict(
     Ok(verdict)
 }
 
-fn are_judged(
+fn expect_judged(
     rt: &impl Abort,
     alloc: Global,
     table: &Table,
@@ -99,7 +99,7 @@ fn judges(rt: &impl Abort, alloc: Global, masks: &[u32], cases: &[Checked<'_>]) 
 {
     let mut table = Table::new(alloc);
     add_rows(&mut table, masks)?;
-    let judged = are_judged(rt, alloc, &table, cases);
+    let judged = expect_judged(rt, alloc, &table, cases);
     drop(table);
     judged
 }

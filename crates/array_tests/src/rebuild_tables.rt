@@ -55,7 +55,7 @@ fn table_of_spare(alloc: Global) -> Result<Table, Fail>
 }
 
 // Each chunk from member 0, but for chunk 3.
-fn has_rows(rt: &impl Abort, table: &Table) {
+fn expect_rows(rt: &impl Abort, table: &Table) {
     let mut rows = [Row { chunk: 0, mask: 1 }; 8];
     for (chunk, row) in rows.iter_mut().enumerate() {
         row.chunk = chunk as u32;
@@ -66,7 +66,7 @@ fn has_rows(rt: &impl Abort, table: &Table) {
 
 const SHORT: [u32; 7] = [0, 1, 2, 4, 5, 6, 7];
 
-fn is_planned(rt: &impl Abort, planned: &Planned) {
+fn expect_planned(rt: &impl Abort, planned: &Planned) {
     same(rt, "the rounds", planned.plan.rounds, 7);
     let certificate = &planned.certificate;
     same(rt, "the certificate's rounds", certificate.rounds, 6);
@@ -90,12 +90,12 @@ fn verdict_on(table: &Table, planned: &Planned) -> Option<Verdict> {
     Some(check(table, &planned.plan, &planned.certificate, &mut lent))
 }
 
-fn has_plan(rt: &impl Abort, alloc: Global, table: &Table) -> Result<(), Fail>
+fn expect_plan(rt: &impl Abort, alloc: Global, table: &Table) -> Result<(), Fail>
     requires few { length table.now ≤ 2 ^ 20 }
 {
-    has_rows(rt, table);
+    expect_rows(rt, table);
     let planned = plan(alloc, table)?;
-    is_planned(rt, &planned);
+    expect_planned(rt, &planned);
     same(
         rt,
         "the verdict",
@@ -109,7 +109,7 @@ fn has_plan(rt: &impl Abort, alloc: Global, table: &Table) -> Result<(), Fail>
 #[test]
 fn rebuild_with_orphan(rt: HostRuntime) -> Result<(), Fail> {
     let table = table_of_spare(rt.alloc())?;
-    let planned = has_plan(&rt, rt.alloc(), &table);
+    let planned = expect_plan(&rt, rt.alloc(), &table);
     drop(table);
     planned
 }

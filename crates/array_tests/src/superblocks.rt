@@ -21,7 +21,7 @@ fn checksum_values(rt: HostRuntime) {
     same(&rt, "the vault's", checksum(&vault(), 2), 0x8ab7_c54f);
 }
 
-fn is_vault(rt: &impl Abort, v: &Superblock) {
+fn expect_vault(rt: &impl Abort, v: &Superblock) {
     same(rt, "the events", v.events, 10);
     same(rt, "where the log is", v.bblog_offset, 2024);
     holds(rt, "the roles", v.roles.as_slice() == [0u16, 1].as_slice());
@@ -32,7 +32,7 @@ fn is_vault(rt: &impl Abort, v: &Superblock) {
 #[test]
 fn reads_a_member(rt: HostRuntime) -> Result<(), Fail> {
     let v = decode(rt.alloc(), &vault())?;
-    is_vault(&rt, &v);
+    expect_vault(&rt, &v);
     drop(v);
     Ok(())
 }

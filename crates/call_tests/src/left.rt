@@ -42,7 +42,7 @@ fn counts(alloc: Global, device: &mut MemDevice) -> Result<(u64, u32), Fail> {
     Ok(counts)
 }
 
-fn is_left(
+fn expect_left(
     rt: &impl Abort,
     alloc: Global,
     device: FaultDevice<MemDevice>,
@@ -71,6 +71,6 @@ pub(crate) fn leaves(
     drop(devices);
     let first = first.ok_or("the first device is lost")?;
     let last = last.ok_or("the last device is lost")?;
-    is_left(rt, alloc, first, wanted[0])?;
-    is_left(rt, alloc, last, wanted[1])
+    expect_left(rt, alloc, first, wanted[0])?;
+    expect_left(rt, alloc, last, wanted[1])
 }

@@ -167,7 +167,7 @@ fn degraded_array(rt: HostRuntime) -> Result<(), Fail> {
     resyncs(&rt, rt.alloc(), &members, Ok(()), shown(2, true), left)
 }
 
-fn is_unread(
+fn expect_unread(
     rt: &impl Abort,
     alloc: Global,
     bad: u64,
@@ -188,10 +188,10 @@ fn is_unread(
 #[test]
 fn unreadable_sectors(rt: HostRuntime) -> Result<(), Fail> {
     for sector in 8..16 {
-        is_unread(&rt, rt.alloc(), sector, 1, NEW)?;
+        expect_unread(&rt, rt.alloc(), sector, 1, NEW)?;
     }
     for sector in 16..24 {
-        is_unread(&rt, rt.alloc(), sector, 2, HALF)?;
+        expect_unread(&rt, rt.alloc(), sector, 2, HALF)?;
     }
     Ok(())
 }

@@ -29,7 +29,7 @@ fn shown(events: u64, marked: u32, states: [MemberState; 2]) -> Option<Shown> {
 
 const BOTH: [MemberState; 2] = [MemberState::InSync(0), MemberState::InSync(1)];
 
-fn is_read_back(rt: &impl Abort, run: &mut Run) -> Result<(), Fail> {
+fn expect_read_back(rt: &impl Abort, run: &mut Run) -> Result<(), Fail> {
     run.write(8, &SECTOR)?;
     let mut sector = [0; 512];
     run.read(8, &mut sector)?;
@@ -50,12 +50,12 @@ fn is_read_back(rt: &impl Abort, run: &mut Run) -> Result<(), Fail> {
 #[test]
 fn read_back(rt: HostRuntime) -> Result<(), Fail> {
     let mut run = run_of(rt.alloc(), &[clean_member(0, OLD), clean_member(1, OLD)])?;
-    let read = is_read_back(&rt, &mut run);
+    let read = expect_read_back(&rt, &mut run);
     run.end();
     read
 }
 
-fn is_last(rt: &impl Abort, run: &mut Run) -> Result<(), Fail> {
+fn expect_last(rt: &impl Abort, run: &mut Run) -> Result<(), Fail> {
     run.write(8, &SECTOR)?;
     same(rt, "a stop", run.stop(), Err(StopFault::EventsFull));
     let wanted = shown(u64::MAX, 1, BOTH);
@@ -73,7 +73,7 @@ fn almost_full(number: u32) -> Member {
 #[test]
 fn last_event(rt: HostRuntime) -> Result<(), Fail> {
     let mut run = run_of(rt.alloc(), &[almost_full(0), almost_full(1)])?;
-    let last = is_last(&rt, &mut run);
+    let last = expect_last(&rt, &mut run);
     run.end();
     last
 }

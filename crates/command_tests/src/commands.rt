@@ -21,7 +21,7 @@ pub(crate) fn member(alloc: Global, bad: &[u64]) -> Result<BadDevice, Fail> {
 }
 
 // A run that is refused with these words on the errors.
-pub(crate) fn is_refused<'a, S: Sink>(
+pub(crate) fn expect_refused<'a, S: Sink>(
     rt: &impl Abort,
     alloc: Global,
     words: &'a [&'a str],
@@ -67,21 +67,21 @@ pub(crate) fn writes<R: Source>(
 }
 
 // The device has the bytes of the vault's member.
-pub(crate) fn is_kept(rt: &impl Abort, alloc: Global, device: &MemDevice) -> Result<(), Fail> {
+pub(crate) fn expect_kept(rt: &impl Abort, alloc: Global, device: &MemDevice) -> Result<(), Fail> {
     let before = member_image(alloc, &vault(), &bitmap())?;
     holds(rt, "the image is kept", device.bytes() == before.bytes());
     drop(before);
     Ok(())
 }
 
-pub(crate) fn is_kept_under(
+pub(crate) fn expect_kept_under(
     rt: &impl Abort,
     alloc: Global,
     images: &mut HeldImages,
     name: &str,
 ) -> Result<(), Fail> {
     let device = images.get(name, Access::Look)?;
-    let kept = is_kept(rt, alloc, &device.memory);
+    let kept = expect_kept(rt, alloc, &device.memory);
     drop(device);
     kept
 }

@@ -1,7 +1,7 @@
 // What is refused over images in memory: a sector that can't be read, an image that may only be looked at, and an output
 // that is full. The images stay as they are.
 use crate::checks::reads;
-use crate::commands::{HeldImages, is_kept_under, is_refused, member};
+use crate::commands::{HeldImages, expect_kept_under, expect_refused, member};
 use md_cli::Messages;
 use md_examine::Output;
 use md_images::MemImages;
@@ -44,7 +44,7 @@ fn shows_nothing<'a>(
     said: &str,
 ) -> Result<(), Fail> {
     let mut out = Output::new(vec![in alloc]?);
-    let refused = is_refused(rt, alloc, words, images, &mut out, messages, said);
+    let refused = expect_refused(rt, alloc, words, images, &mut out, messages, said);
     let shown: Vec<u8> = out.into_inner();
     reads(rt, "the output", &shown, "");
     drop(shown);
@@ -64,32 +64,32 @@ fn add_protected(alloc: Global, images: &mut HeldImages) -> Result<(), Fail> {
     Ok(())
 }
 
-fn is_unread(rt: &impl Abort, alloc: Global, images: &mut HeldImages) -> Result<(), Fail> {
+fn expect_unread(rt: &impl Abort, alloc: Global, images: &mut HeldImages) -> Result<(), Fail> {
     shows_nothing(rt, alloc, &EXAMINE, images, Messages::Plain, UNREAD)?;
-    is_kept_under(rt, alloc, images, "a")
+    expect_kept_under(rt, alloc, images, "a")
 }
 
 #[test]
 fn bad_sector(rt: HostRuntime) -> Result<(), Fail> {
     let alloc = rt.alloc();
     let mut images = one_image(alloc, &BAD)?;
-    let unread = is_unread(&rt, alloc, &mut images);
+    let unread = expect_unread(&rt, alloc, &mut images);
     drop(images);
     unread
 }
 
-fn is_protected(rt: &impl Abort, alloc: Global, images: &mut HeldImages) -> Result<(), Fail> {
+fn expect_protected(rt: &impl Abort, alloc: Global, images: &mut HeldImages) -> Result<(), Fail> {
     add_protected(alloc, images)?;
     shows_nothing(rt, alloc, &CREATE, images, Messages::WithAdvice, UNWRITABLE)?;
-    is_kept_under(rt, alloc, images, "a")?;
-    is_kept_under(rt, alloc, images, "b")
+    expect_kept_under(rt, alloc, images, "a")?;
+    expect_kept_under(rt, alloc, images, "b")
 }
 
 #[test]
 fn create_over_an_image_that_may_only_be_looked_at(rt: HostRuntime) -> Result<(), Fail> {
     let alloc = rt.alloc();
     let mut images = one_image(alloc, &[])?;
-    let kept = is_protected(&rt, alloc, &mut images);
+    let kept = expect_protected(&rt, alloc, &mut images);
     drop(images);
     kept
 }
@@ -97,8 +97,8 @@ fn create_over_an_image_that_may_only_be_looked_at(rt: HostRuntime) -> Result<()
 fn fills(rt: &impl Abort, alloc: Global, images: &mut HeldImages) -> Result<(), Fail> {
     let mut room = [0u8; 100];
     let mut out = Output::new(room.as_mut_slice());
-    is_refused(rt, alloc, &EXAMINE, images, &mut out, Messages::Plain, FULL)?;
-    is_kept_under(rt, alloc, images, "a")
+    expect_refused(rt, alloc, &EXAMINE, images, &mut out, Messages::Plain, FULL)?;
+    expect_kept_under(rt, alloc, images, "a")
 }
 
 #[test]

@@ -1,6 +1,6 @@
 // A source over a reader of which some reads are interrupted, and others fail.
 use crate::checks::{holds, reads};
-use crate::commands::{HeldImages, is_kept_under, member, writes};
+use crate::commands::{HeldImages, expect_kept_under, member, writes};
 use md_commands::{Input, Source, SourceFault};
 use md_images::MemImages;
 use std::alloc::Global;
@@ -127,7 +127,7 @@ fn keeps_the_image(
     steps: &[Step],
 ) -> Result<(), Fail> {
     ends_with(rt, alloc, images, steps, 1, "mdcli: InputFault\n")?;
-    is_kept_under(rt, alloc, images, "a")
+    expect_kept_under(rt, alloc, images, "a")
 }
 
 #[test]

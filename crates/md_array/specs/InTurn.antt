@@ -20,7 +20,7 @@ use Rattle.md_state.specs.WritingMember.{FailsToWrite, HaltsWritingTo, IsNotDue,
 use Rattle.md_state.specs.Requests.{request_of}
 use Rattle.md_state.specs.CopyingData.{CopiesSector, FailsToCopy, HaltsCopying}
 use Rattle.md_array.specs.Recording.{FailsToRecord, HaltsRecording, Records, super_write}
-use Rattle.md_array.specs.MarkingResynced.{BecomesResynced, MarksResynced}
+use Rattle.md_array.specs.NotingResynced.{BecomesResynced, NotesResynced}
 use Rattle.md_array.specs.Events.{Does, IsOldNewOrNone}
 use Rattle.md_array.specs.Worlds.{AreHonest}
 
@@ -95,7 +95,7 @@ Did old before (Event.WriteMemberFails n k) new after =
 Did old before (Event.Copy from k s) new after = (after ≡ before) × CopiesSector from k s old new
 Did old before (Event.CopyFails k c) new after = (after ≡ before) × FailsToCopy k c old new
 Did old before Event.Resynced new after = (after ≡ before) × BecomesResynced old new
-Did old before Event.Unresynced new after = (after ≡ before) × MarksResynced false old new
+Did old before Event.Unresynced new after = (after ≡ before) × NotesResynced false old new
 Did old before e new after = ⊥
 
 -- From this mirror, with these requests in flight, the events were done one after another, the first of them after this one, and

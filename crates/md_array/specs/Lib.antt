@@ -19,7 +19,7 @@ pub mod ReadAsKept
 -- The steps as events of the model: what each makes of the world, where devices do what they answer.
 pub mod Events
 -- The array is known to be resynced, or no longer.
-pub mod MarkingResynced
+pub mod NotingResynced
 -- Whole calls: the events that a call does, one after another (this project's own).
 pub mod InTurn
 -- A copy of a run of sectors is the model's events, one a sector.

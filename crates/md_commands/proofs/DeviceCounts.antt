@@ -34,7 +34,7 @@ use Rattle.md_commands.specs.declared.fault.DataFault.{DataFault}
 use Rattle.md_commands.specs.declared.fault.DataFault.TheVariants.{BadLength, BadMember, Fail, InputFault, NoMemory, OutOfRange, OutputFault, Read, Remove, Resync, Stop, Write}
 use Rattle.md_commands.specs.declared.source.Source.{Ghosts as SourceGhosts}
 use Rattle.md_commands.specs.Failing.{RefusesToFail}
-use Rattle.md_commands.specs.Reading.{ReadsReadied, RefusesSectorsOf, RefusesToRead}
+use Rattle.md_commands.specs.Reading.{ReadsWhenReady, RefusesSectorsOf, RefusesToRead}
 use Rattle.md_commands.specs.Removing.{HandsBack, RefusesRemoving}
 use Rattle.md_commands.specs.Resyncing.{RefusesNeededResync, RefusesToResync, ResyncsIfNeeded, needs_resync}
 use Rattle.md_commands.specs.Stopping.{FailsToStop, FailsToStopArray, RefusesToStop, StopsAfter, StopsArray, StopsArrayAfter}
@@ -193,7 +193,7 @@ stopped_after Through old new through s = stopped s.mid new s.stops ∙ through 
 fails_after : (Through : MirrorView → Type 0) (old new : MirrorView) (fault : StopFault) → ((mid : MirrorView) → Through mid → AsMany old mid) → FailsToStop Through new fault → AsMany old new
 fails_after Through old new fault through s = not_stopped fault s.mid new s.refused ∙ through s.mid s.through
 
-read_readied : (sector count : ℕ) (bytes : List ℕ) (old new : MirrorView) → ReadsReadied sector count bytes old new → AsMany old new
+read_readied : (sector count : ℕ) (bytes : List ℕ) (old new : MirrorView) → ReadsWhenReady sector count bytes old new → AsMany old new
 read_readied sector count bytes old new r = r.reads.reads.rests.disks.same.as_many ∙ readied old r.ready r.readied
 
 not_read_of : (fault : UnreadFault) (sector count : ℕ) (old new : MirrorView) → RefusesSectorsOf sector count old new fault → AsMany old new
@@ -246,7 +246,7 @@ done_stop = stopped
 pub done_resync : (old new : MirrorView) → StopsAfter (Resyncs old) new → AsMany old new
 done_resync old new = stopped_after (Resyncs old) old new (resynced old)
 
-pub done_read : (sector count : ℕ) (bytes : List ℕ) (old new : MirrorView) → ReadsReadied sector count bytes old new → AsMany old new
+pub done_read : (sector count : ℕ) (bytes : List ℕ) (old new : MirrorView) → ReadsWhenReady sector count bytes old new → AsMany old new
 done_read = read_readied
 
 pub done_write : (sector : ℕ) (bytes : List ℕ) (old new : MirrorView) → StopsAfter (WritesReadied sector bytes old) new → AsMany old new

@@ -10,7 +10,7 @@ use Rattle.md_state.specs.View.{ArrayView, MirrorView}
 use Rattle.md_commands.specs.declared.fault.DataFault.{DataFault}
 use Rattle.md_commands.specs.declared.fault.DataFault.TheVariants.{NoMemory, Read}
 use Rattle.md_commands.specs.Output.{FailsOutput, PutsOut}
-use Rattle.md_commands.specs.Reading.{FailsSectors, FindsNoMemory, MayReadArray, MustBeResynced, ReadsArray, ReadsReadied, RefusesSectors, RefusesSectorsOf, RefusesToRead}
+use Rattle.md_commands.specs.Reading.{FailsSectors, FindsNoMemory, MayReadArray, MustBeResynced, ReadsArray, ReadsWhenReady, RefusesSectors, RefusesSectorsOf, RefusesToRead}
 use Rattle.md_commands.specs.Resyncing.{ResyncsIfNeeded, needs_resync}
 
 module _ (old ready : MirrorView) (readied : ResyncsIfNeeded old ready) where
@@ -64,7 +64,7 @@ module _ (old ready : MirrorView) (readied : ResyncsIfNeeded old ready) where
       refuses_readied fault h = absurd h
 
 -- the end of the command
-pub shown_or_not : {S : Type 0} (s : Ghosts S) (sector count : ℕ) (bytes : List ℕ) (old new : MirrorView) (before after : S) → ReadsReadied sector count bytes old new
+pub shown_or_not : {S : Type 0} (s : Ghosts S) (sector count : ℕ) (bytes : List ℕ) (old new : MirrorView) (before after : S) → ReadsWhenReady sector count bytes old new
     → (result : Result (Unit {0}) DataFault) → MatchResult result (λ _. PutsOut s before after bytes) (FailsOutput s after)
     → MatchResult result (λ _. ReadsArray s sector count old new before after) (RefusesToRead s sector count old new before after)
 shown_or_not s sector count bytes old new before after reads (Ok x) shown = record { bytes = bytes; reads = reads; shown = shown }

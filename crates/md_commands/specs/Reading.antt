@@ -41,7 +41,7 @@ RefusesSectors sector count old new fault = ⊥
 
 -- ---- the command
 -- The range is right, the array is resynced where it has to be, and then its sectors are read: these bytes.
-pub record ReadsReadied (sector count : ℕ) (bytes : List ℕ) (old new : MirrorView) : Type 0 where
+pub record ReadsWhenReady (sector count : ℕ) (bytes : List ℕ) (old new : MirrorView) : Type 0 where
   pub may : MayReadArray old.array sector count
   pub ready : MirrorView
   pub readied : ResyncsIfNeeded old ready
@@ -75,13 +75,13 @@ RefusesSectorsOf sector count old new (Unreadable s) = FailsReadied sector count
 module _ {S : Type 0} (s : Ghosts S) where
   pub record ReadsArray (sector count : ℕ) (old new : MirrorView) (before after : S) : Type 0 where
     pub bytes : List ℕ
-    pub reads : ReadsReadied sector count bytes old new
+    pub reads : ReadsWhenReady sector count bytes old new
     pub shown : PutsOut s before after bytes
 
   -- the sectors are read, and the output failed
   pub record ReadsInVain (sector count : ℕ) (old new : MirrorView) (after : S) : Type 0 where
     pub bytes : List ℕ
-    pub reads : ReadsReadied sector count bytes old new
+    pub reads : ReadsWhenReady sector count bytes old new
     pub failed : s.failed after ≡ true
 
   abbrev pub RefusesToRead : ℕ → ℕ → MirrorView → MirrorView → S → S → DataFault → Type 0

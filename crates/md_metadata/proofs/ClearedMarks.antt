@@ -16,7 +16,7 @@ use Rattle.md_state.specs.MakingClean.{first_number}
 use Rattle.md_state.specs.Requests.{IsPending}
 use Rattle.md_array.specs.Consistency.{IsConsistent}
 use Rattle.md_array.specs.Events.{ClearHappens}
-use Rattle.md_metadata.specs.Clearing.{ClearsAll, ClearsMark, IsClearing, MayClearAll, Remarks}
+use Rattle.md_metadata.specs.Clearing.{ClearsAll, ClearsMark, IsClearing, MayClearAll, ChangesMarksAlone}
 use Rattle.md_metadata.proofs.Leading.{leads_nowhere, leads_once, leads_then}
 
 -- where no request is the first, there is none
@@ -41,7 +41,7 @@ module _ (chunk : ℕ) (old new : MirrorView) where
       → MatchResult result (λ _. Clears chunk old new) (RefusesClear chunk old new)
       → ClearHappens chunk old new result → IsConsistent new → ((o : PendingView) → IsPending old.array o → IsPending new.array o) → ClearsMark chunk old new
   mark_cleared may marked (Ok t) c happens sound pending = record {
-    remarks = record {
+    marks_alone = record {
       goes = leads_once IsClearing (Event.ClearIdle chunk) old new tt (λ previous. tt) (λ others. (refl, c)) (λ honest whole others in_flight. happens honest others in_flight)
           (ap (λ (x : ArrayView). x.requests) c.array) sound pending;
       disks = c.disks;
@@ -52,13 +52,13 @@ module _ (chunk : ℕ) (old new : MirrorView) where
   }
   mark_cleared may marked (Err fault) r happens sound pending = clear_refused fault may marked r
 
-remarks_none : (m : MirrorView) → IsConsistent m → Remarks m m
-remarks_none m sound = record { goes = leads_nowhere IsClearing m sound; disks = refl; chunks = refl; array = refl }
+no_marks_changed : (m : MirrorView) → IsConsistent m → ChangesMarksAlone m m
+no_marks_changed m sound = record { goes = leads_nowhere IsClearing m sound; disks = refl; chunks = refl; array = refl }
 
 -- there was no mark
 pub unmarked_already : (chunk : ℕ) (m : MirrorView) → IsConsistent m → is_set m.array.marks.bytes chunk ≡ false → ClearsMark chunk m m
 unmarked_already chunk m sound none = record {
-  remarks = remarks_none m sound;
+  marks_alone = no_marks_changed m sound;
   bits = λ c. elim (eqb_tells c chunk) [
     | inl same ↦ ap (is_set m.array.marks.bytes) same.1 ∙ none ∙ sym (ap (λ b. not b && is_set m.array.marks.bytes c) same.0)
     | inr other ↦ sym (ap (λ b. not b && is_set m.array.marks.bytes c) other.0)
@@ -68,15 +68,15 @@ unmarked_already chunk m sound none = record {
 -- ---- one after another
 -- the chunks before this one have none
 pub record ClearsTo (n : ℕ) (old new : MirrorView) : Type 0 where
-  pub remarks : Remarks old new
+  pub marks_alone : ChangesMarksAlone old new
   pub bits : (c : ℕ) → is_set new.array.marks.bytes c ≡ (nat_le n c && is_set old.array.marks.bytes c)
 
-pub still_may : (old new : MirrorView) → Remarks old new → MayClearAll old.array → MayClearAll new.array
+pub still_may : (old new : MirrorView) → ChangesMarksAlone old new → MayClearAll old.array → MayClearAll new.array
 still_may old new r may = subst MayClearAll (sym r.array)
     (record { idle = record { running = may.idle.running; none = may.idle.none }; resynced = may.resynced; full = may.full })
 
 pub to_none : (m : MirrorView) → IsConsistent m → ClearsTo 0 m m
-to_none m sound = record { remarks = remarks_none m sound; bits = λ c. from_first c (is_set m.array.marks.bytes c) }
+to_none m sound = record { marks_alone = no_marks_changed m sound; bits = λ c. from_first c (is_set m.array.marks.bytes c) }
   where
     from_first : (c : ℕ) (x : Bool) → x ≡ (nat_le 0 c && x)
     from_first c x = grind (arith, nat_tests)
@@ -86,18 +86,18 @@ one_more n c x = grind (arith, nat_tests)
 
 pub to_more : (n : ℕ) (old mid new : MirrorView) → ClearsTo n old mid → ClearsMark n mid new → ClearsTo (n + 1) old new
 to_more n old mid new g h = record {
-  remarks = record {
-    goes = leads_then IsClearing old mid new g.remarks.goes h.remarks.goes;
-    disks = h.remarks.disks ∙ g.remarks.disks;
-    chunks = h.remarks.chunks ∙ g.remarks.chunks;
-    array = h.remarks.array ∙ ap (λ (x : ArrayView). record x { marks = new.array.marks }) g.remarks.array;
+  marks_alone = record {
+    goes = leads_then IsClearing old mid new g.marks_alone.goes h.marks_alone.goes;
+    disks = h.marks_alone.disks ∙ g.marks_alone.disks;
+    chunks = h.marks_alone.chunks ∙ g.marks_alone.chunks;
+    array = h.marks_alone.array ∙ ap (λ (x : ArrayView). record x { marks = new.array.marks }) g.marks_alone.array;
   };
   bits = λ c. h.bits c ∙ ap (λ b. not (c == n) && b) (g.bits c) ∙ one_more n c (is_set old.array.marks.bytes c);
 }
 
 pub to_all : (n : ℕ) (old new : MirrorView) → IsConsistent old → old.array.marks.chunks ≤ n → ClearsTo n old new → ClearsAll old new
 to_all n old new sound past g = record {
-  remarks = g.remarks;
+  marks_alone = g.marks_alone;
   none = λ c. g.bits c ∙ elim (cases_lt c n) [
     | inl low ↦ before n c (is_set old.array.marks.bytes c) low
     | inr high ↦ ap (λ b. nat_le n c && b) (sound.chunks.none_past c (omega arith)) ∙ none_of (nat_le n c)

@@ -64,10 +64,10 @@ may_clear a idle clears =
 module _ (old new : MirrorView) where
   pub cleared_all : clears_marks old.array ≡ true → ClearsAll old new → ClearsIfFull old new
   cleared_all clears c = record {
-    goes = leads_as IsClearing IsSettling clearing_settles old new c.remarks.goes;
-    disks = c.remarks.disks;
-    marks = record { chunks = c.remarks.chunks; bits = λ x. c.none x ∙ sym (ap (λ b. not b && is_set old.array.marks.bytes x) clears) };
-    array = c.remarks.array;
+    goes = leads_as IsClearing IsSettling clearing_settles old new c.marks_alone.goes;
+    disks = c.marks_alone.disks;
+    marks = record { chunks = c.marks_alone.chunks; bits = λ x. c.none x ∙ sym (ap (λ b. not b && is_set old.array.marks.bytes x) clears) };
+    array = c.marks_alone.array;
   }
 
 pub cleared_none : (m : MirrorView) → IsConsistent m → clears_marks m.array ≡ false → ClearsIfFull m m

@@ -18,7 +18,7 @@ pub record MayClearAll (a : ArrayView) : Type 0 where
   pub full : is_degraded a ≡ false
 
 -- of the array nothing but marks changed, and of the devices nothing
-pub record Remarks (old new : MirrorView) : Type 0 where
+pub record ChangesMarksAlone (old new : MirrorView) : Type 0 where
   pub goes : LeadsBy IsClearing old new
   pub disks : new.disks ≡ old.disks
   pub chunks : new.array.marks.chunks ≡ old.array.marks.chunks
@@ -26,10 +26,10 @@ pub record Remarks (old new : MirrorView) : Type 0 where
 
 -- a chunk has no mark any more
 pub record ClearsMark (chunk : ℕ) (old new : MirrorView) : Type 0 where
-  pub remarks : Remarks old new
+  pub marks_alone : ChangesMarksAlone old new
   pub bits : (c : ℕ) → is_set new.array.marks.bytes c ≡ (not (c == chunk) && is_set old.array.marks.bytes c)
 
 -- no chunk has one
 pub record ClearsAll (old new : MirrorView) : Type 0 where
-  pub remarks : Remarks old new
+  pub marks_alone : ChangesMarksAlone old new
   pub none : (c : ℕ) → is_set new.array.marks.bytes c ≡ false

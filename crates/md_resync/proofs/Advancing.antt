@@ -15,7 +15,7 @@ use Rattle.md_state.specs.Members.{AllInSync, IsAlone, IsInSync}
 use Rattle.md_state.specs.CopyingData.{IsSource}
 use Rattle.md_array.specs.Consistency.{IsConsistent}
 use Rattle.md_array.specs.InTurn.{InTurn, Leads, Requests}
-use Rattle.md_array.specs.MarkingResynced.{AllAgreeAt, IsServed}
+use Rattle.md_array.specs.NotingResynced.{AllAgreeAt, IsServed}
 use Rattle.md_array.proofs.Steps.MadeClean.{none_listed}
 use Rattle.md_array.proofs.General.Indices.{got_within}
 use Rattle.md_array.proofs.Steps.Turns.{all_on, turn_on, turn_then}

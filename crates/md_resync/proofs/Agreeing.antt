@@ -14,7 +14,7 @@ use Rattle.md_state.specs.Requests.{AreInFlight}
 use Rattle.md_state.specs.Rests.{Rests}
 use Rattle.md_array.specs.Consistency.{IsConsistent}
 use Rattle.md_array.specs.InTurn.{AllOf, LeftWhole, Requests}
-use Rattle.md_array.specs.MarkingResynced.{AllAgreeWhereMarked, sector_of}
+use Rattle.md_array.specs.NotingResynced.{AllAgreeWhereMarked, sector_of}
 use Rattle.md_array.specs.Worlds.{AreHonest, geometry_of, world_of}
 use Rattle.md_array.proofs.General.Honesty.{same_honest}
 use Rattle.md_array.proofs.General.Indices.{got_same}

@@ -14,7 +14,7 @@ use Rattle.md_array.specs.Consistency.{IsConsistent}
 use Rattle.md_array.proofs.General.Indices.{got_same}
 use Rattle.md_array.proofs.Steps.Turns.{all_such}
 use Rattle.md_laws.proofs.Runs.ReadTurns.{unread}
-use Rattle.md_metadata.specs.Clearing.{ClearsAll, IsClearing, Remarks}
+use Rattle.md_metadata.specs.Clearing.{ClearsAll, IsClearing, ChangesMarksAlone}
 use Rattle.md_metadata.specs.Storing.{HasAllMarks, IsNoFailure}
 use Rattle.md_resync.specs.Resyncing.{Advances, ClearsStored, HasSameMembers, IsOfResync, KeepsContent, StoresMarks}
 use Rattle.md_resync.proofs.Advancing.{advances_on, agree_same, goes_none, none_flies}
@@ -53,7 +53,7 @@ clearing_no_copy e is = absurd is
 pub same_but_marks : (a b : ArrayView) → b ≡ record a { marks = b.marks } → HasSameMembers a b
 same_but_marks a b is = subst (HasSameMembers a) (sym is) (record { as_many = refl; each = (same_members a).each })
 
-module _ (old mid : MirrorView) (idle : IsIdle old.array) (r : Remarks old mid) where
+module _ (old mid : MirrorView) (idle : IsIdle old.array) (r : ChangesMarksAlone old mid) where
   pub clearing_idle : IsIdle mid.array
   clearing_idle = subst IsIdle (sym r.array) (record { running = idle.running; none = idle.none })
 
@@ -79,11 +79,11 @@ module _ (old mid : MirrorView) (idle : IsIdle old.array) (r : Remarks old mid) 
 -- ---- and on the members
 pub cleared_stored : (old mid new : MirrorView) → IsIdle old.array → is_degraded old.array ≡ false → ClearsAll old mid → StoresMarks mid new → ClearsStored old new
 cleared_stored old mid new idle full c s =
-    let array = c.remarks.array in
+    let array = c.marks_alone.array in
     let members = ap (λ (x : ArrayView). x.members) array in
     let marks = ap (λ (x : ArrayView). x.marks) s.array in
     record {
-      advances = advances_on old mid new idle (same_but_marks old.array mid.array array) (clearing_advances old mid idle c.remarks) s.advances;
+      advances = advances_on old mid new idle (same_but_marks old.array mid.array array) (clearing_advances old mid idle c.marks_alone) s.advances;
       members = record {
         as_many = s.members.as_many ∙ ap length members;
         each = λ k m n was is. s.members.each k m n (ap (λ (xs : List MemberView). slice_get xs k) members ∙ was) is;
@@ -93,8 +93,8 @@ cleared_stored old mid new idle full c s =
       kept = λ degraded. absurd cc;
       cleared = λ _ x. ap (λ (b : Bitmap). is_set b.bytes x) marks ∙ c.none x;
       stored = s.stored;
-      agree = λ x low agree. s.agree x (subst (λ (v : ArrayView). x < v.chunks.size) (sym array) low) (agree_same old mid c.remarks.disks members x agree);
-      content = content_on old mid new idle (same_disks old.disks mid.disks c.remarks.disks) (ap geometry_of array) (clearing_content old mid idle c.remarks) s.content;
+      agree = λ x low agree. s.agree x (subst (λ (v : ArrayView). x < v.chunks.size) (sym array) low) (agree_same old mid c.marks_alone.disks members x agree);
+      content = content_on old mid new idle (same_disks old.disks mid.disks c.marks_alone.disks) (ap geometry_of array) (clearing_content old mid idle c.marks_alone) s.content;
     }
 
 pub cleared_nothing : (v : MirrorView) → IsIdle v.array → IsConsistent v → is_degraded v.array ≡ true → AllInSync v.array (HasAllMarks v.array.marks) → ClearsStored v v

@@ -11,7 +11,7 @@ use Rattle.md_state.specs.CopyingData.{IsSource, MayCopyChunk}
 use Rattle.md_state.specs.Members.{IsInSync}
 use Rattle.md_state.specs.ReadingData.{FailsToRead, HoldsData, ReadsData}
 use Rattle.md_array.specs.Consistency.{IsConsistent}
-use Rattle.md_array.specs.MarkingResynced.{AllAgreeAt}
+use Rattle.md_array.specs.NotingResynced.{AllAgreeAt}
 use Rattle.md_array.proofs.Worlds.SectorCopied.{has_role}
 use Rattle.md_resync.specs.declared.fault.ResyncFault.{ResyncFault}
 use Rattle.md_resync.specs.declared.fault.ResyncFault.TheVariants.{Halted, InFlight, MemberFailed, NoMemory, ReadFault}

@@ -24,7 +24,7 @@ use Rattle.md_array.specs.Consistency.{IsConsistent}
 use Rattle.md_array.specs.CopyEvents.{CopiesInTurn}
 use Rattle.md_array.specs.Events.{Happens}
 use Rattle.md_array.specs.InTurn.{AllOf, Leads, Requests}
-use Rattle.md_array.specs.MarkingResynced.{AllAgreeAt, IsServed, sector_of}
+use Rattle.md_array.specs.NotingResynced.{AllAgreeAt, IsServed, sector_of}
 use Rattle.md_array.proofs.General.Indices.{got_same, got_within}
 use Rattle.md_array.proofs.General.Resting.{rests_sound}
 use Rattle.md_array.proofs.Steps.CopyWrites.{copied_run_is_consistent, run_fits}

@@ -20,7 +20,7 @@ use Rattle.md_state.specs.StoringMarks.{StoresMarkSector}
 use Rattle.md_state.specs.View.{ArrayView, Disk, MirrorView}
 use Rattle.md_array.specs.Consistency.{IsConsistent}
 use Rattle.md_array.specs.InTurn.{AllOf, HaltsAt, IsSectorDue, Leads, Requests}
-use Rattle.md_array.specs.MarkingResynced.{AllAgreeAt, IsServed, sector_of}
+use Rattle.md_array.specs.NotingResynced.{AllAgreeAt, IsServed, sector_of}
 use Rattle.md_array.specs.Worlds.{from_super, none_in_flight}
 use Rattle.md_array.proofs.Steps.Turns.{all_such}
 use Rattle.md_laws.proofs.Runs.ReadTurns.{unread}

@@ -18,7 +18,7 @@ use Rattle.md_state.specs.CopyingData.{IsSource}
 use Rattle.md_array.specs.Consistency.{IsConsistent}
 use Rattle.md_array.specs.Events.{Happens}
 use Rattle.md_array.specs.InTurn.{AllOf}
-use Rattle.md_array.specs.MarkingResynced.{AllAgreeAt, BecomesResynced}
+use Rattle.md_array.specs.NotingResynced.{AllAgreeAt, BecomesResynced}
 use Rattle.md_array.specs.Worlds.{geometry_of, world_of}
 use Rattle.md_array.proofs.General.Honesty.{same_honest}
 use Rattle.md_array.proofs.General.Indices.{got_within}
@@ -291,8 +291,8 @@ pub cleared_or_stops : (old mid new : MirrorView) → IsIdle old.array → is_de
     → {T : Type 0} (result : Result T ResyncFault) → MatchResult result (λ _. StoresMarks mid new) (MarkingFails mid new) → MatchResult result (λ _. ClearsStored old new) (MarkingFails old new)
 cleared_or_stops old mid new idle full c (Ok t) s = cleared_stored old mid new idle full c s
 cleared_or_stops old mid new idle full c (Err fault) h =
-    let same = same_but_marks old.array mid.array c.remarks.array in
-    marks_stop old mid new fault idle (clearing_advances old mid idle c.remarks) same (degraded_alike old.array mid.array (ap (λ (v : ArrayView). v.shared.raid_disks) c.remarks.array) same) (inr (full, c.none)) h
+    let same = same_but_marks old.array mid.array c.marks_alone.array in
+    marks_stop old mid new fault idle (clearing_advances old mid idle c.marks_alone) same (degraded_alike old.array mid.array (ap (λ (v : ArrayView). v.shared.raid_disks) c.marks_alone.array) same) (inr (full, c.none)) h
 
 -- ---- what a resync answers while nothing is in flight
 pub resyncs_or_stops : (old a b c d : MirrorView) → IsIdle old.array → StoresMarks old a → Agrees a b → BecomesResynced b c → Happens b Event.Resynced c → IsConsistent c

@@ -12,7 +12,7 @@ use Rattle.md_state.specs.Requests.{AreInFlight}
 use Rattle.md_state.specs.View.{ArrayView, MirrorView}
 use Rattle.md_array.specs.Consistency.{IsConsistent}
 use Rattle.md_array.specs.InTurn.{AllOf, HaltsAt, Requests}
-use Rattle.md_array.specs.MarkingResynced.{AllAgreeAt, AllAgreeWhereMarked}
+use Rattle.md_array.specs.NotingResynced.{AllAgreeAt, AllAgreeWhereMarked}
 use Rattle.md_laws.specs.ReadInTurn.{LeadsReading}
 use Rattle.md_metadata.specs.Going.{IsFaulty}
 use Rattle.md_metadata.specs.Storing.{FailsAtLast, HasAllMarks, IsUpToDate}

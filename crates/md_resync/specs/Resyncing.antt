@@ -15,7 +15,7 @@ use Rattle.md_state.specs.View.{ArrayView, MirrorView}
 use Rattle.md_array.specs.Consistency.{IsConsistent}
 use Rattle.md_array.specs.Events.{Happens}
 use Rattle.md_array.specs.InTurn.{AllOf, HaltsAt, Leads, Requests}
-use Rattle.md_array.specs.MarkingResynced.{AllAgreeAt, AllAgreeWhereMarked, MarksResynced}
+use Rattle.md_array.specs.NotingResynced.{AllAgreeAt, AllAgreeWhereMarked, NotesResynced}
 use Rattle.md_array.specs.Worlds.{AreHonest, geometry_of, world_of}
 use Rattle.md_laws.specs.ReadInTurn.{LeadsReading}
 use Rattle.md_metadata.specs.Going.{IsFaulty}
@@ -142,7 +142,7 @@ pub record HaltsResync (old new : MirrorView) : Type 0 where
 -- no device was used
 pub record FindsNoMemory (old new : MirrorView) : Type 0 where
   pub goes : GoesUnresynced old new
-  pub marks : MarksResynced false old new
+  pub marks : NotesResynced false old new
 
 abbrev pub RefusesResync : MirrorView → MirrorView → ResyncFault → Type 0
 RefusesResync old new Halted = RefusesHalted old new ⊎ HaltsResync old new
@@ -192,7 +192,7 @@ IdleFails old new (ReadFault k chunk) = FailsToAgree k chunk old new
 IdleFails old new (MemberFailed k) = FailsToWrite k old new
 
 pub record Unresyncs (old new : MirrorView) : Type 0 where
-  pub marks : MarksResynced false old new
+  pub marks : NotesResynced false old new
   pub happens : Happens old Event.Unresynced new
 
 -- ---- its parts

@@ -7,7 +7,7 @@ ghost use Rattle.md_resync.specs.Resyncing.{GivesUp};
 use md_array::Mirror;
 use md_device::Device;
 
-/// Keeps that the array is not resynced, unless the mirror is halted: such a mirror changes no more.
+/// Notes that the array is not resynced, unless the mirror is halted: such a mirror changes no more.
 pub(crate) fn give_up<D: Device + Drop>(mirror: &mut Mirror<D>)
     requires sound { IsConsistent mirror.old }
     requires idle { mirror.old.array.halted ≡ false → IsIdle mirror.old.array }
@@ -17,5 +17,5 @@ pub(crate) fn give_up<D: Device + Drop>(mirror: &mut Mirror<D>)
     if mirror.halted() {
         return;
     }
-    mirror.mark_unresynced();
+    mirror.note_unresynced();
 }

@@ -72,6 +72,6 @@ fn resync_through<D: Device + Drop>(
     if let Err(fault) = make_agree(mirror, buffer) {
         return Err(fault);
     }
-    mirror.mark_resynced();
+    mirror.note_resynced();
     clear_stored(mirror)
 }

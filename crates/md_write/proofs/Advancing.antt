@@ -14,7 +14,7 @@ use Rattle.md_metadata.specs.declared.fault.PartFault.TheVariants.{Halted, Membe
 use Rattle.md_metadata.specs.Going.{GoesOn, StepsBy, alone}
 use Rattle.md_metadata.specs.Storing.{StoringFails}
 use Rattle.md_metadata.proofs.Going.{fly_on, same_on, same_refl}
-use Rattle.md_write.specs.Progress.{Advances, HaltsOn, IsLater, IsOfRequest, LeavesAt, Part, StopsWriting}
+use Rattle.md_write.specs.Progress.{Advances, HaltsOn, IsLater, IsOfRequest, LeavesAt, Part, WritingFails}
 use Rattle.md_write.proofs.InRounds.{fails_leave, leaves_before, leaves_on, left_at}
 
 pub later_refl : (p : PendingView) → IsLater p p
@@ -106,7 +106,7 @@ module _ (p q r : PendingView) (old mid new : MirrorView) (a b : Part) (g : Adva
     later = later_on p q r g.later h.later;
   }
 
-  pub stops_later : (fault : PartFault) → mid.array.halted ≡ old.array.halted → StopsWriting b q r mid new fault → StopsWriting a p r old new fault
+  pub stops_later : (fault : PartFault) → mid.array.halted ≡ old.array.halted → WritingFails b q r mid new fault → WritingFails a p r old new fault
   stops_later (MemberFailed k) run h = record {
     advances = advances_on p q r old mid new a b g Part.Marks h.advances;
     lost = let l = g.goes.array.fewer in let m = h.lost in omega arith;
@@ -132,7 +132,7 @@ module _ (Kind : Event → Type 0) (p : PendingView) (old new : MirrorView) (is 
     unfolding goes_beside
     stored_beside g = record { goes = goes_beside new g; rounds = leave g.events g.steps; later = later_refl p }
 
-    pub storing_stops : (fault : PartFault) → StoringFails Kind old new fault → StopsWriting from p p old new fault
+    pub storing_stops : (fault : PartFault) → StoringFails Kind old new fault → WritingFails from p p old new fault
     unfolding goes_beside
     storing_stops (MemberFailed k) h = record {
       advances = record {

@@ -27,7 +27,7 @@ use Rattle.md_metadata.specs.Storing.{AllRecorded, IsRecording, RecordsAll, Stor
 use Rattle.md_metadata.proofs.Going.{same_refl, stores_as, stores_on}
 use Rattle.md_metadata.proofs.StoredMembers.{last_on, records_last}
 use Rattle.md_metadata.proofs.Steps.{failure_step, fewer_after, halted_after, in_use_there, never_halted, recorded_in_sync}
-use Rattle.md_write.specs.Progress.{Advances, AreChunksOf, HaltsOn, IsLater, IsMarkingOf, IsOfRequest, IsReadyToFinish, LosesOn, Part, StopsWriting, WritesAt, WritesBelow, WritesOn, WritesToAll, end_chunk, first_chunk}
+use Rattle.md_write.specs.Progress.{Advances, AreChunksOf, HaltsOn, IsLater, IsMarkingOf, IsOfRequest, IsReadyToFinish, LosesOn, Part, WritingFails, WritesAt, WritesBelow, WritesOn, WritesToAll, end_chunk, first_chunk}
 use Rattle.md_write.proofs.InRounds.{first_records_leave, marks_leave, other_records_leave}
 use Rattle.md_write.proofs.Advancing.{advances_on, later_refl, stays, steps_once, stops_later, stored_beside, storing_stops}
 use Rattle.md_write.proofs.StoredMarks.{marked_still, marks_last}
@@ -230,14 +230,14 @@ module _ (p : PendingView) (first end : ℕ) (a : MirrorView) (chunks : AreChunk
   records_stored = stores_as IsRecording Of recording
 
   module _ (b : MirrorView) (is : IsPending a.array p) where
-    pub marks_stop : (fault : PartFault) → StoringFails (IsMarkingOf first end) a b fault → StopsWriting Part.Marks p p a b fault
+    pub marks_stop : (fault : PartFault) → StoringFails (IsMarkingOf first end) a b fault → WritingFails Part.Marks p p a b fault
     marks_stop = storing_stops (IsMarkingOf first end) p a b is marking Part.Marks Part.Marks (marks_leave first end)
 
     module _ (c : MirrorView) (x : Stores (IsMarkingOf first end) a b) where
       marked : Advances Part.Marks Part.Marks p p a b
       marked = stored_beside (IsMarkingOf first end) p a b is marking Part.Marks Part.Marks (marks_leave first end) x.goes
 
-      pub records_stop : (fault : PartFault) → StoringFails IsRecording b c fault → StopsWriting Part.Marks p p a c fault
+      pub records_stop : (fault : PartFault) → StoringFails IsRecording b c fault → WritingFails Part.Marks p p a c fault
       records_stop fault s =
           stops_later p p p a b c Part.Marks Part.Marks marked fault x.ready.halted
           (storing_stops IsRecording p b c (x.goes.pending p is) (recording_is b.array.chunks p) Part.Marks Part.Records first_records_leave fault s)
@@ -248,7 +248,7 @@ module _ (p : PendingView) (first end : ℕ) (a : MirrorView) (chunks : AreChunk
             advances_on p p p a b c Part.Marks Part.Marks marked Part.Records
             (stored_beside IsRecording p b c (x.goes.pending p is) (recording_is b.array.chunks p) Part.Marks Part.Records first_records_leave y.goes)
 
-        pub others_stop : (fault : PartFault) → StoringFails IsRecording c d fault → StopsWriting Part.Marks p p a d fault
+        pub others_stop : (fault : PartFault) → StoringFails IsRecording c d fault → WritingFails Part.Marks p p a d fault
         others_stop fault s =
             stops_later p p p a c d Part.Marks Part.Records recorded fault (y.ready.halted ∙ x.ready.halted)
             (storing_stops IsRecording p c d (y.goes.pending p (x.goes.pending p is)) (recording_is c.array.chunks p) Part.Records Part.Bytes other_records_leave fault s)
@@ -293,8 +293,8 @@ module _ (p q : PendingView) (first end : ℕ) (a b c d e : MirrorView) (is : Is
   abbrev stored : Advances Part.Marks Part.Bytes p p a d
   stored = all_stored p first end a chunks b is c x.stores d y.stores others.stores
 
-  pub writes_or_stops : a.array.halted ≡ false → {T : Type 0} (result : Result T PartFault) → MatchResult result (λ _. WritesToAll p q d e) (StopsWriting Part.Bytes p q d e)
-      → MatchResult result (λ _. IsReadyToFinish p q a e) (StopsWriting Part.Marks p q a e)
+  pub writes_or_stops : a.array.halted ≡ false → {T : Type 0} (result : Result T PartFault) → MatchResult result (λ _. WritesToAll p q d e) (WritingFails Part.Bytes p q d e)
+      → MatchResult result (λ _. IsReadyToFinish p q a e) (WritingFails Part.Marks p q a e)
   writes_or_stops run (Ok t) w = record {
     advances = advances_on p p q a d e Part.Marks Part.Bytes stored Part.Bytes w.writes.advances;
     still = w.writes.still;

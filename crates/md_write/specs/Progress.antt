@@ -134,9 +134,9 @@ pub record HaltsOn (from : Part) (p q : PendingView) (old new : MirrorView) : Ty
   pub rounds : InRounds from (halts.goes.events ++ halts.failing ∷ [])
   pub later : IsLater p q
 
-abbrev pub StopsWriting : Part → PendingView → PendingView → MirrorView → MirrorView → PartFault → Type 0
-StopsWriting from p q old new Halted = HaltsOn from p q old new
-StopsWriting from p q old new (MemberFailed k) = LosesOn from p q old new
+abbrev pub WritingFails : Part → PendingView → PendingView → MirrorView → MirrorView → PartFault → Type 0
+WritingFails from p q old new Halted = HaltsOn from p q old new
+WritingFails from p q old new (MemberFailed k) = LosesOn from p q old new
 
 -- all is done: it may be finished
 pub record IsReadyToFinish (p q : PendingView) (old new : MirrorView) : Type 0 where

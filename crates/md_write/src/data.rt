@@ -4,7 +4,7 @@ ghost use Rattle.md_state.specs.Members.{AllInSync};
 ghost use Rattle.md_state.specs.Requests.{IsPending};
 ghost use Rattle.md_state.specs.WritingMember.{HasMarksOf, IsNotDue};
 ghost use Rattle.md_array.specs.Consistency.{IsConsistent};
-ghost use Rattle.md_write.specs.Progress.{Part, StopsWriting, WritesAt, WritesToAll};
+ghost use Rattle.md_write.specs.Progress.{Part, WritingFails, WritesAt, WritesToAll};
 
 use md_array::{Mirror, Pending, WriteMemberFault};
 use md_device::Device;
@@ -22,7 +22,7 @@ fn write_to<D: Device + Drop>(
     requires running { mirror.old.array.halted ≡ false }
     requires marked { AllInSync mirror.old.array (HasMarksOf mirror.old.array pending.old) }
     requires recorded { AllInSync mirror.old.array IsNotDue }
-    ensures { MatchResult result (λ _. WritesAt k pending.old pending.new mirror.old mirror.new) (StopsWriting Part.Bytes pending.old pending.new mirror.old mirror.new) }
+    ensures { MatchResult result (λ _. WritesAt k pending.old pending.new mirror.old mirror.new) (WritingFails Part.Bytes pending.old pending.new mirror.old mirror.new) }
 {
     if !mirror.state(k).is_in_sync() {
         return Ok(());
@@ -49,7 +49,7 @@ pub(crate) fn write_to_members<D: Device + Drop>(
     requires running { mirror.old.array.halted ≡ false }
     requires marked { AllInSync mirror.old.array (HasMarksOf mirror.old.array pending.old) }
     requires recorded { AllInSync mirror.old.array IsNotDue }
-    ensures { MatchResult result (λ _. WritesToAll pending.old pending.new mirror.old mirror.new) (StopsWriting Part.Bytes pending.old pending.new mirror.old mirror.new) }
+    ensures { MatchResult result (λ _. WritesToAll pending.old pending.new mirror.old mirror.new) (WritingFails Part.Bytes pending.old pending.new mirror.old mirror.new) }
 {
     for k in 0..mirror.members() {
         if let Err(fault) = write_to(mirror, pending, k) {

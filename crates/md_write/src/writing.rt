@@ -3,7 +3,7 @@ ghost use Rattle.std.specs.Prelude.{◌≡◌, ◌%◌, MatchResult, length, fal
 ghost use Rattle.md_requests.specs.Pending.{PendingView};
 ghost use Rattle.md_state.specs.Requests.{IsPending};
 ghost use Rattle.md_array.specs.Consistency.{IsConsistent};
-ghost use Rattle.md_write.specs.Progress.{AreChunksOf, HaltsOn, IsReadyToFinish, Part, StopsWriting};
+ghost use Rattle.md_write.specs.Progress.{AreChunksOf, HaltsOn, IsReadyToFinish, Part, WritingFails};
 ghost use Rattle.md_write.specs.Writing.{RefusesWrite, Writes};
 
 use crate::data::write_to_members;
@@ -24,7 +24,7 @@ fn write_once<D: Device + Drop>(
     requires pending { IsPending mirror.old.array pending.old }
     requires running { mirror.old.array.halted ≡ false }
     requires chunks { AreChunksOf mirror.old.array pending.old first end }
-    ensures { MatchResult result (λ _. IsReadyToFinish pending.old pending.new mirror.old mirror.new) (StopsWriting Part.Marks pending.old pending.new mirror.old mirror.new) }
+    ensures { MatchResult result (λ _. IsReadyToFinish pending.old pending.new mirror.old mirror.new) (WritingFails Part.Marks pending.old pending.new mirror.old mirror.new) }
 {
     if let Err(fault) = store_marks(mirror, first, end) {
         return Err(fault);

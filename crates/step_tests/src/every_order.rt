@@ -173,11 +173,11 @@ fn play(
     let mut expected = Expected::opened(images.len(), 10, writes);
     follow(rt, &mut run, &mut expected, start, &SECTOR);
     follow(rt, &mut run, &mut expected, steps, &SECTOR);
-    have_data(rt, run.into_devices(), &expected, steps);
+    expect_data(rt, run.into_devices(), &expected, steps);
     Ok(())
 }
 
-fn have_data(
+fn expect_data(
     rt: &impl Abort,
     devices: Vec<FaultDevice<MemDevice>>,
     expected: &Expected,

@@ -108,7 +108,7 @@ fn written_alone(rt: &impl Abort, alloc: Global, offset: u64) -> Result<MemDevic
     Ok(device.into_inner())
 }
 
-fn is_changed_alone(
+fn expect_changed_alone(
     rt: &impl Abort,
     alloc: Global,
     offset: u64,
@@ -138,9 +138,9 @@ fn both<'a>(alloc: Global, offset: u64, written: MemDevice) -> Result<Run<'a>, F
     Run::open(alloc, devices)
 }
 
-fn is_left_out(rt: &impl Abort, alloc: Global, offset: u64) -> Result<(), Fail> {
+fn expect_left_out(rt: &impl Abort, alloc: Global, offset: u64) -> Result<(), Fail> {
     let written = written_alone(rt, alloc, offset)?;
-    is_changed_alone(rt, alloc, offset, &written)?;
+    expect_changed_alone(rt, alloc, offset, &written)?;
     let run = both(alloc, offset, written)?;
     let wanted = [MemberState::Faulty, MemberState::InSync(1)];
     same(rt, "the states", states_of_two(run.mirror()), Some(wanted));
@@ -157,6 +157,6 @@ fn is_left_out(rt: &impl Abort, alloc: Global, offset: u64) -> Result<(), Fail> 
 
 #[test]
 fn absent_member_is_left_out(rt: HostRuntime) -> Result<(), Fail> {
-    is_left_out(&rt, rt.alloc(), CLEAN)?;
-    is_left_out(&rt, rt.alloc(), ACTIVE)
+    expect_left_out(&rt, rt.alloc(), CLEAN)?;
+    expect_left_out(&rt, rt.alloc(), ACTIVE)
 }

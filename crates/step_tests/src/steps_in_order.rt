@@ -75,7 +75,7 @@ const NOT_RESYNCED: [Worked; 2] = [
     (Step::ClearIdle, Answer::NotCleared(ClearFault::NotResynced)),
 ];
 
-fn is_chunk_1_marked(rt: &impl Abort, run: &Run<'_>) {
+fn expect_chunk_1_marked(rt: &impl Abort, run: &Run<'_>) {
     same(
         rt,
         "the marked chunk",
@@ -99,29 +99,29 @@ fn step_order(rt: HostRuntime) -> Result<(), Fail> {
     let alloc = rt.alloc();
     let mut run = run_failing(alloc, NEVER, 10, CLEAN)?;
     plays(&rt, &mut run, &IN_ORDER, shows_in_flight(Some(0)));
-    is_chunk_1_marked(&rt, &run);
-    is_reopened(&rt, alloc, run.into_devices())
+    expect_chunk_1_marked(&rt, &run);
+    expect_reopened(&rt, alloc, run.into_devices())
 }
 
 // The array is opened again, and resynchronised.
-fn is_reopened(
+fn expect_reopened(
     rt: &impl Abort,
     alloc: Global,
     devices: Vec<FaultDevice<MemDevice>>,
 ) -> Result<(), Fail> {
     let mut run = Run::open(alloc, devices)?;
-    let resynced = is_resynced(rt, alloc, &mut run);
+    let resynced = expect_resynced(rt, alloc, &mut run);
     let mut devices = run.into_devices();
     let alike = match resynced {
-        Ok(()) => are_alike(rt, alloc, &mut devices),
+        Ok(()) => expect_alike(rt, alloc, &mut devices),
         Err(fail) => Err(fail),
     };
     drop(devices);
     alike
 }
 
-fn is_resynced(rt: &impl Abort, alloc: Global, run: &mut Run<'_>) -> Result<(), Fail> {
-    is_chunk_1_marked(rt, run);
+fn expect_resynced(rt: &impl Abort, alloc: Global, run: &mut Run<'_>) -> Result<(), Fail> {
+    expect_chunk_1_marked(rt, run);
     plays(rt, run, &NOT_RESYNCED, shows_in_flight(None));
     run.resync(alloc)?;
     plays(rt, run, &[], ALL_FINISHED);
@@ -129,7 +129,7 @@ fn is_resynced(rt: &impl Abort, alloc: Global, run: &mut Run<'_>) -> Result<(), 
 }
 
 // What was written on the first member alone is on both, and no chunk is marked.
-fn are_alike<D: Device>(rt: &impl Abort, alloc: Global, devices: &mut [D]) -> Result<(), Fail> {
+fn expect_alike<D: Device>(rt: &impl Abort, alloc: Global, devices: &mut [D]) -> Result<(), Fail> {
     same(rt, "the members", devices.len(), 2);
     for device in devices {
         let has = has_sector(device)?;
@@ -260,10 +260,10 @@ fn write_fails_on_one(rt: HostRuntime) -> Result<(), Fail> {
     let mut run = run_failing(alloc, 3, 10, CLEAN)?;
     plays(&rt, &mut run, &SECOND_FAILS, shows_degraded(Some(0)));
     plays(&rt, &mut run, &WITHOUT_SECOND, shows_degraded(None));
-    is_second_left_out(&rt, alloc, run.into_devices())
+    expect_second_left_out(&rt, alloc, run.into_devices())
 }
 
-fn is_second_left_out(
+fn expect_second_left_out(
     rt: &impl Abort,
     alloc: Global,
     devices: Vec<FaultDevice<MemDevice>>,
@@ -272,13 +272,13 @@ fn is_second_left_out(
     let wanted = [MemberState::InSync(0), MemberState::Faulty];
     same(rt, "the states", states_of_two(run.mirror()), Some(wanted));
     let mut devices = run.into_devices();
-    let stored = are_counts_stored(rt, alloc, &mut devices);
+    let stored = expect_counts_stored(rt, alloc, &mut devices);
     drop(devices);
     stored
 }
 
 // The failure is counted on the first member alone. Marks were last cleared at 11 on both.
-fn are_counts_stored<D: Device>(
+fn expect_counts_stored<D: Device>(
     rt: &impl Abort,
     alloc: Global,
     devices: &mut [D],

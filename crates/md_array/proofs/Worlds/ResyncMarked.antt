@@ -17,7 +17,7 @@ use Rattle.md_state.specs.Requests.{AreInFlight, IsPending}
 use Rattle.md_array.specs.Consistency.{IsConsistent}
 use Rattle.md_array.specs.Events.{Does, Happens, WritesOnce}
 use Rattle.md_array.specs.Fits.{Fits}
-use Rattle.md_array.specs.MarkingResynced.{AllAgreeWhereMarked, BecomesResynced, IsServed, MarksResynced, sector_of}
+use Rattle.md_array.specs.NotingResynced.{AllAgreeWhereMarked, BecomesResynced, IsServed, NotesResynced, sector_of}
 use Rattle.md_array.specs.ReadAsKept.{AreReadAsKept}
 use Rattle.md_array.specs.Worlds.{AreHonest, geometry_of, world_of}
 use Rattle.md_array.proofs.Steps.OneMember.{stored_there}
@@ -27,7 +27,7 @@ use Rattle.md_array.proofs.Worlds.SectorCopied.{none_there, unlisted_is}
 use Rattle.md_array.proofs.Worlds.InSync.{in_sync_is}
 use Rattle.md_array.proofs.General.Indices.{got_within}
 
-module _ (is : Bool) (old new : MirrorView) (c : IsConsistent old) (t : MarksResynced is old new) where
+module _ (is : Bool) (old new : MirrorView) (c : IsConsistent old) (t : NotesResynced is old new) where
   abbrev a : ArrayView
   a = old.array
 
@@ -96,7 +96,7 @@ module _ (is : Bool) (old new : MirrorView) (c : IsConsistent old) (t : MarksRes
   pub none_in_list : (requests : ℕ → Option Request) → AreInFlight a requests → model.IsIdle (world_of old requests)
   none_in_list requests in_flight = none_there a requests in_flight t.idle.none
 
-pub unresynced_happens : (old new : MirrorView) → IsConsistent old → MarksResynced false old new → Happens old Event.Unresynced new
+pub unresynced_happens : (old new : MirrorView) → IsConsistent old → NotesResynced false old new → Happens old Event.Unresynced new
 unresynced_happens old new c t honest requests in_flight =
     does_marking false old new c t Event.Unresynced honest requests in_flight t.disks
     (t.idle.running, (none_in_list false old new c t requests in_flight, world_marked false old new c t requests)) (λ _. refl) t.disks

@@ -14,6 +14,6 @@ returns-in-Err-make_agree-clause-sound g c =
 
 pub returns-clause-gives : goal.returns-clause-gives
 returns-clause-gives g c =
-    let r = c.mark_resynced.ensures in
-    resyncs_or_stops c.args.mirror.now c.store_marks.new.mirror c.make_agree.new.mirror c.mark_resynced.new.self c.clear_stored.new.mirror c.requires.idle
+    let r = c.note_resynced.ensures in
+    resyncs_or_stops c.args.mirror.now c.store_marks.new.mirror c.make_agree.new.mirror c.note_resynced.new.self c.clear_stored.new.mirror c.requires.idle
     c.in_default.ensures.gives c.in_default-make_agree.ensures r.gives r.event r.sound c.clear_stored.result c.clear_stored.ensures.gives

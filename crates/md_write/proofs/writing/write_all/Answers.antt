@@ -1,5 +1,5 @@
 use Rattle.std.proofs.Common.{◌∙◌, refl, subst}
-use Rattle.md_write.specs.Progress.{Part, StopsWriting}
+use Rattle.md_write.specs.Progress.{Part, WritingFails}
 use Rattle.md_write.proofs.WrittenData.{chunks_later}
 use Rattle.md_write.proofs.Advancing.{advances_on, halts_later, stays}
 use Rattle.md_write.proofs.writing.write_all.Goals as goal
@@ -29,7 +29,7 @@ returns-in-Err-Halted g c =
     let r = c.write_once.new.pending in (
       refl,
       halts_later c.args.pending.now q r c.args.mirror.now c.loop.mirror c.write_once.new.mirror Part.Marks Part.Marks c.loop.invariant.advances
-          (subst (StopsWriting Part.Marks q r c.loop.mirror c.write_once.new.mirror) c.in-Err-Halted.field-0-is c.in-Err-Halted.ensures),
+          (subst (WritingFails Part.Marks q r c.loop.mirror c.write_once.new.mirror) c.in-Err-Halted.field-0-is c.in-Err-Halted.ensures),
     )
 
 pub loop-preserved : goal.loop-preserved
@@ -37,7 +37,7 @@ loop-preserved g c =
     let p = c.args.pending.now in
     let q = c.loop.pending in
     let r = c.write_once.new.pending in
-    let lost = subst (StopsWriting Part.Marks q r c.loop.mirror c.write_once.new.mirror) c.in-Err-MemberFailed.field-0-is c.in-Err-MemberFailed.ensures in
+    let lost = subst (WritingFails Part.Marks q r c.loop.mirror c.write_once.new.mirror) c.in-Err-MemberFailed.field-0-is c.in-Err-MemberFailed.ensures in
     record {
       advances = advances_on p q r c.args.mirror.now c.loop.mirror c.write_once.new.mirror Part.Marks Part.Marks c.loop.invariant.advances Part.Marks lost.advances;
       still = lost.still;
@@ -47,5 +47,5 @@ loop-preserved g c =
 
 pub loop-smaller : goal.loop-smaller
 loop-smaller g c =
-    let lost = subst (StopsWriting Part.Marks c.loop.pending c.write_once.new.pending c.loop.mirror c.write_once.new.mirror) c.in-Err-MemberFailed.field-0-is c.in-Err-MemberFailed.ensures in
+    let lost = subst (WritingFails Part.Marks c.loop.pending c.write_once.new.pending c.loop.mirror c.write_once.new.mirror) c.in-Err-MemberFailed.field-0-is c.in-Err-MemberFailed.ensures in
     lost.lost

@@ -30,11 +30,11 @@ AllAgreeWhereMarked v =
     (s : ℕ) → s < v.array.chunks.size → is_set v.array.marks.bytes (s / v.array.chunks.sectors) ≡ true → AllAgreeAt v s
 
 -- it is kept that the array is resynced, or that it is not; nothing else changes
-pub record MarksResynced (is : Bool) (old new : MirrorView) : Type 0 where
+pub record NotesResynced (is : Bool) (old new : MirrorView) : Type 0 where
   pub idle : IsIdle old.array
   pub disks : new.disks ≡ old.disks
   pub array : new.array ≡ record old.array { resynced = is }
 
 pub record BecomesResynced (old new : MirrorView) : Type 0 where
-  pub marks : MarksResynced true old new
+  pub marks : NotesResynced true old new
   pub agree : AllAgreeWhereMarked old

@@ -1,4 +1,4 @@
-// Keeping whether the array is resynced.
+// Noting whether the array is resynced.
 ghost use Rattle.std.specs.Prelude.{◌≡◌};
 
 use crate::array::Array;

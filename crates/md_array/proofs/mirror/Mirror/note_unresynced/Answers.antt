@@ -2,16 +2,16 @@ use Rattle.std.proofs.Common.{false, map, refl, sym, subst}
 use Rattle.md_state.specs.MakingClean.{IsIdle}
 use Rattle.md_state.specs.View.{MirrorView, disk_of}
 use Rattle.md_array.specs.Consistency.{IsConsistent}
-use Rattle.md_array.specs.MarkingResynced.{MarksResynced}
+use Rattle.md_array.specs.NotingResynced.{NotesResynced}
 use Rattle.md_array.proofs.Worlds.ResyncMarked.{marked_is_consistent, marked_keeps_pending, unresynced_happens}
-use Rattle.md_array.proofs.mirror.Mirror.mark_unresynced.Goals as goal
+use Rattle.md_array.proofs.mirror.Mirror.note_unresynced.Goals as goal
 
 pub returns : goal.returns
 returns g c =
     let old : MirrorView = record { disks = map (disk_of g.D.Device) c.self.inside.devices.items; array = c.self.inside.array } in
     let new : MirrorView = record old { array = c.note_resynced.new.self } in
     let sound = subst IsConsistent (sym c.self.view_is) c.requires.sound in
-    let marked : MarksResynced false old new = record {
+    let marked : NotesResynced false old new = record {
       idle = subst (λ (v : MirrorView). IsIdle v.array) (sym c.self.view_is) c.requires.idle;
       disks = refl;
       array = c.note_resynced.ensures;

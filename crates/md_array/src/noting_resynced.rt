@@ -1,4 +1,4 @@
-// Keeping whether the array is resynced.
+// Noting whether the array is resynced.
 ghost use Rattle.std.specs.Prelude.{true, false};
 ghost use Rattle.md_model.specs.Events.{Event};
 ghost use Rattle.md_requests.specs.Pending.{PendingView};
@@ -6,15 +6,15 @@ ghost use Rattle.md_state.specs.MakingClean.{IsIdle};
 ghost use Rattle.md_state.specs.Requests.{IsPending};
 ghost use Rattle.md_array.specs.Consistency.{IsConsistent};
 ghost use Rattle.md_array.specs.Events.{Happens};
-ghost use Rattle.md_array.specs.MarkingResynced.{AllAgreeWhereMarked, BecomesResynced, MarksResynced};
+ghost use Rattle.md_array.specs.NotingResynced.{AllAgreeWhereMarked, BecomesResynced, NotesResynced};
 
 use crate::mirror::Mirror;
 use md_device::Device;
 
 impl<D: Device + Drop> Mirror<D> {
-    /// Keeps that the array is resynced: members in sync agree in the marked chunks, and in the others
+    /// Notes that the array is resynced: members in sync agree in the marked chunks, and in the others
     /// they always do. It uses no device, and takes no memory.
-    pub fn mark_resynced(&mut self)
+    pub fn note_resynced(&mut self)
         requires sound { IsConsistent self.old }
         requires idle { IsIdle self.old.array }
         requires agree { AllAgreeWhereMarked self.old }
@@ -26,12 +26,12 @@ impl<D: Device + Drop> Mirror<D> {
         self.array.note_resynced(true);
     }
 
-    /// Keeps that the array is not resynced, where copying sectors did not come to its end. It uses no
+    /// Notes that the array is not resynced, where copying sectors did not come to its end. It uses no
     /// device, and takes no memory.
-    pub fn mark_unresynced(&mut self)
+    pub fn note_unresynced(&mut self)
         requires sound { IsConsistent self.old }
         requires idle { IsIdle self.old.array }
-        ensures gives { MarksResynced false self.old self.new }
+        ensures gives { NotesResynced false self.old self.new }
         ensures event { Happens self.old Event.Unresynced self.new }
         ensures sound { IsConsistent self.new }
         ensures pending { (p : PendingView) → IsPending self.old.array p → IsPending self.new.array p }
