@@ -5,7 +5,7 @@ use Rattle.md_super.specs.declared.superblock.Superblock.{Superblock}
 use Rattle.md_super.specs.Faults.{NoFault}
 use Rattle.md_super.specs.Format.{IsSuper}
 use Rattle.md_kept_members.specs.View.{MemberView}
-use Rattle.md_kept_members.specs.States.{is_recorded}
+use Rattle.md_assembly.specs.States.{is_recorded}
 use Rattle.md_state.specs.Members.{IsMember}
 use Rattle.md_state.specs.View.{Disk, ArrayView, MirrorView}
 use Rattle.md_array.specs.Worlds.{block_on, from_super, header_on, is_listed}

@@ -43,7 +43,7 @@ fn count_of_role(members: &[MemberInfo], freshest: &Superblock, role: u16) -> us
 {
     members
         .iter()
-        .filter(|member| state_of(freshest, &member.superblock).takes_role(role))
+        .filter(|member| state_of(freshest, &member.superblock).takes_role(u32::from(role)))
         .count()
 }
 

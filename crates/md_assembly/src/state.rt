@@ -1,6 +1,6 @@
 // The state of a member.
 ghost use Rattle.std.specs.Prelude.{◌≡◌};
-ghost use Rattle.md_assembly.specs.States.{has_recovery_offset, is_in_sync, is_up_to_date, role_in, role_of, state_of, takes_role};
+ghost use Rattle.md_assembly.specs.States.{has_recovery_offset, is_active, is_in_sync, is_in_sync_as, is_recorded, is_spare, is_up_to_date, role_in, role_of, state_of, takes_role};
 
 use md_super::{FAULTY, FEATURE_RECOVERY_OFFSET, Superblock};
 
@@ -21,10 +21,10 @@ pub enum MemberState {
 
 impl MemberState {
     /// The role, where the member has one.
-    pub fn role(&self) -> Option<u16>
-        ensures { result ≡ role_of self.now }
+    pub fn role(self) -> Option<u16>
+        ensures { result ≡ role_of self }
     {
-        match *self {
+        match self {
             MemberState::InSync(role) => Some(role),
             MemberState::Recovering(role) => Some(role),
             MemberState::Stale(role) => Some(role),
@@ -33,20 +33,54 @@ impl MemberState {
     }
 
     /// Whether the member holds what the array holds.
-    pub fn is_in_sync(&self) -> bool
-        ensures { result ≡ is_in_sync self.now }
+    pub fn is_in_sync(self) -> bool
+        ensures { result ≡ is_in_sync self }
     {
         matches!(self, MemberState::InSync(_))
     }
 
-    // Whether the member is in sync or recovering in this role: then no other may have it.
-    pub(crate) fn takes_role(&self, wanted: u16) -> bool
-        ensures { result ≡ takes_role wanted self.now }
+    /// Whether the member is in sync in this role.
+    pub fn is_in_sync_as(self, wanted: u32) -> bool
+        ensures { result ≡ is_in_sync_as wanted self }
     {
-        match *self {
-            MemberState::InSync(role) | MemberState::Recovering(role) => role == wanted,
+        match self {
+            MemberState::InSync(role) => u32::from(role) == wanted,
             _ => false,
         }
+    }
+
+    /// Whether the member is in sync or recovering.
+    pub fn is_active(self) -> bool
+        ensures { result ≡ is_active self }
+    {
+        matches!(self, MemberState::InSync(_) | MemberState::Recovering(_))
+    }
+
+    /// Whether the member is in sync or recovering in this role: then no other may have it.
+    pub fn takes_role(self, wanted: u32) -> bool
+        ensures { result ≡ takes_role wanted self }
+    {
+        match self {
+            MemberState::InSync(role) | MemberState::Recovering(role) => u32::from(role) == wanted,
+            _ => false,
+        }
+    }
+
+    /// Whether the member's superblock is kept up to date.
+    pub fn is_recorded(self) -> bool
+        ensures { result ≡ is_recorded self }
+    {
+        match self {
+            MemberState::InSync(_) | MemberState::Recovering(_) | MemberState::Spare => true,
+            MemberState::Stale(_) | MemberState::Faulty => false,
+        }
+    }
+
+    /// Whether the member is a spare.
+    pub fn is_spare(self) -> bool
+        ensures { result ≡ is_spare self }
+    {
+        matches!(self, MemberState::Spare)
     }
 }
 

@@ -7,9 +7,8 @@ use Rattle.std.proofs.lemmas.Nat.Bits.{bit_at-lt, bit_at_or}
 use Rattle.std.proofs.lemmas.Option.{slice_get_within}
 use Rattle.md_assembly.specs.declared.state.MemberState.{MemberState}
 use Rattle.md_assembly.specs.declared.state.MemberState.TheVariants.{InSync, Recovering, Stale, Spare, Faulty}
-use Rattle.md_assembly.specs.States.{is_in_sync}
+use Rattle.md_assembly.specs.States.{is_in_sync, is_in_sync_as}
 use Rattle.md_kept_members.specs.View.{MemberView}
-use Rattle.md_kept_members.specs.States.{is_in_sync_as}
 use Rattle.md_kept_members.proofs.Members.Roles.{zero_bits}
 use Rattle.md_kept_members.proofs.Members.Indices.{cases_more}
 use Rattle.md_state.specs.View.{ArrayView}

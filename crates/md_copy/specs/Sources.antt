@@ -6,7 +6,7 @@ use Rattle.md_bitmap.specs.Marks.{Bitmap, is_set}
 use Rattle.md_cert.specs.declared.table.Row.{Row}
 use Rattle.md_cert.specs.Tables.{chunks_of}
 use Rattle.md_kept_members.specs.View.{MemberView}
-use Rattle.md_kept_members.specs.States.{is_in_sync_as}
+use Rattle.md_assembly.specs.States.{is_in_sync_as}
 use Rattle.md_state.specs.Members.{IsMember, IsPermitted}
 use Rattle.md_state.specs.View.{ArrayView}
 

@@ -1,7 +1,7 @@
 // The roles of the members in sync.
 ghost use Rattle.std.specs.Prelude.{◌≡◌, ◌↔◌, ◌<◌, ℕ, true};
 ghost use Rattle.std.specs.Int.{bit_at};
-ghost use Rattle.md_kept_members.specs.States.{is_in_sync_as};
+ghost use Rattle.md_assembly.specs.States.{is_in_sync_as};
 ghost use Rattle.md_copy.specs.Sources.{IsInSyncAs};
 
 use md_array::Mirror;

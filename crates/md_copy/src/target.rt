@@ -42,19 +42,9 @@ fn is_free<D: Device + Drop>(mirror: &Mirror<D>, role: u32) -> bool
         (IsFree mirror.now.array role → ⊥) }
 {
     for k in 0..mirror.members() {
-        if takes_role(mirror.state(k), role) {
+        if mirror.state(k).takes_role(role) {
             return false;
         }
     }
     true
-}
-
-// Whether a member in this state is in sync or recovering in the role.
-fn takes_role(state: MemberState, wanted: u32) -> bool
-    ensures { result ≡ takes_role wanted state }
-{
-    match state {
-        MemberState::InSync(role) | MemberState::Recovering(role) => u32::from(role) == wanted,
-        _ => false,
-    }
 }

@@ -5,7 +5,7 @@ use Rattle.md_bitmap.specs.Sound.{chunk_count}
 use Rattle.md_members.specs.declared.info.MemberInfo.{MemberInfo}
 use Rattle.md_assembly.specs.declared.state.MemberState.{MemberState}
 use Rattle.md_kept_members.specs.View.{MemberView}
-use Rattle.md_kept_members.specs.States.{is_recorded}
+use Rattle.md_assembly.specs.States.{is_recorded}
 use Rattle.md_kept_members.specs.Members.{NeedsMarks}
 use Rattle.md_kept_members.specs.OwnFields.{kept_superblock}
 

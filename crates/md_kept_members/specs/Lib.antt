@@ -1,7 +1,5 @@
 -- A member as contracts see it, but for its device.
 pub mod View
--- What a member's state says of it.
-pub mod States
 -- Facts of the members that are kept, of one or of a list.
 pub mod Members
 -- Where a chunk may be read, found by going through a list of members.

@@ -1,9 +1,8 @@
 -- Facts of the members that are kept, of one or of a list.
 use Rattle.std.specs.Prelude.{◌≡◌, ◌≢◌, ℕ, true, ◌||◌, List, slice_get, Some}
 use Rattle.md_members.specs.Members.{IsAccepted}
-use Rattle.md_assembly.specs.States.{is_in_sync}
+use Rattle.md_assembly.specs.States.{is_in_sync, is_recorded}
 use Rattle.md_kept_members.specs.View.{MemberView}
-use Rattle.md_kept_members.specs.States.{is_recorded}
 
 -- the member is in sync, and the bitmap that was read on it is not accepted: every chunk counts as marked
 pub record NeedsMarks (m : MemberView) : Type 0 where

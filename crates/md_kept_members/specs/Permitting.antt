@@ -4,7 +4,7 @@ use Rattle.md_bitmap.specs.declared.chunks.Chunks.{Chunks}
 use Rattle.md_bitmap.specs.Chunks.{InChunk}
 use Rattle.md_badblocks.specs.Runs.{IsBad}
 use Rattle.md_kept_members.specs.View.{MemberView}
-use Rattle.md_kept_members.specs.States.{is_in_sync_as}
+use Rattle.md_assembly.specs.States.{is_in_sync_as}
 
 -- the member lists a sector of the chunk
 pub record ListsAny (chunks : Chunks) (chunk : ℕ) (m : MemberView) : Type 0 where

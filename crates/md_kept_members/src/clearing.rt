@@ -3,7 +3,6 @@ ghost use Rattle.std.specs.Prelude.{◌≡◌, ◌↔◌, true, MatchOption, max
 ghost use Rattle.md_kept_members.specs.Remembering.{HasAccepted, IsLastClearedOr};
 
 use crate::member::Member;
-use crate::states::is_in_sync;
 use md_members::accepted;
 
 /// The greatest events at which an accepted bitmap of a member in sync says that marks were cleared;
@@ -32,7 +31,7 @@ fn greater(last: Option<u64>, events: u64) -> u64
 fn has_accepted(member: &Member) -> bool
     ensures { (result ≡ true) ↔ HasAccepted member.now }
 {
-    if !is_in_sync(member.state) {
+    if !member.state.is_in_sync() {
         return false;
     }
     accepted(&member.superblock, &member.header)

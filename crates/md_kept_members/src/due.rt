@@ -3,7 +3,6 @@ ghost use Rattle.std.specs.Prelude.{◌≡◌, map};
 ghost use Rattle.md_kept_members.specs.Members.{made_due};
 
 use crate::member::Member;
-use crate::states::is_recorded;
 
 /// The superblock of each member that is kept up to date has to be stored.
 pub fn make_due(members: &mut [Member])
@@ -17,7 +16,7 @@ pub fn make_due(members: &mut [Member])
 fn note_due(member: &mut Member)
     ensures { member.new ≡ made_due member.old }
 {
-    if is_recorded(member.state) {
+    if member.state.is_recorded() {
         member.due = true;
     }
 }

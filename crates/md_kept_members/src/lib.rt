@@ -11,7 +11,6 @@ mod own_fields;
 mod permitting;
 mod remembering;
 mod resyncing;
-mod states;
 mod stored_marks;
 mod taking_back;
 
@@ -24,6 +23,5 @@ pub use other_in_sync::has_other_in_sync;
 pub use permitting::permitted_roles;
 pub use remembering::{chunking_of, members_of};
 pub use resyncing::is_resynced;
-pub use states::{is_active, is_in_sync, is_in_sync_as, is_recorded, is_spare, takes_role};
 pub use stored_marks::copy_block;
 pub use taking_back::taken_back;

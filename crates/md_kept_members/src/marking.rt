@@ -5,7 +5,6 @@ ghost use Rattle.md_kept_members.specs.Members.{NeedsMarks};
 ghost use Rattle.md_kept_members.specs.Remembering.{HaveChunks, IsMarkedIn};
 
 use crate::member::Member;
-use crate::states::is_in_sync;
 use md_bitmap::Marks;
 use md_members::accepted;
 use std::alloc::{AllocError, Global};
@@ -14,7 +13,7 @@ use std::alloc::{AllocError, Global};
 pub fn needs_marks(member: &Member) -> bool
     ensures { IsTrue result ↔ NeedsMarks member.now }
 {
-    if !is_in_sync(member.state) {
+    if !member.state.is_in_sync() {
         return false;
     }
     !accepted(&member.superblock, &member.header)
@@ -28,7 +27,7 @@ pub fn united_marks(alloc: Global, members: &[Member], chunks: u32) -> Result<Ma
 {
     let mut marks = Marks::none(alloc, chunks)?;
     for member in members {
-        if is_in_sync(member.state) {
+        if member.state.is_in_sync() {
             marks.unite(&member.stored);
         }
     }

@@ -1,7 +1,7 @@
 // The roles in which a chunk may be read.
 ghost use Rattle.std.specs.Prelude.{◌≡◌, ◌↔◌, ◌<◌, ℕ, true, length};
 ghost use Rattle.std.specs.Int.{bit_at, div_ceil};
-ghost use Rattle.md_kept_members.specs.States.{is_in_sync_as};
+ghost use Rattle.md_assembly.specs.States.{is_in_sync_as};
 ghost use Rattle.md_kept_members.specs.Permitting.{IsPermittedIn, ListsAny, MayRead};
 
 use crate::member::Member;

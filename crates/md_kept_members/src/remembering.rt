@@ -1,13 +1,12 @@
 // What is kept in memory of the members that were read.
 ghost use Rattle.std.specs.Prelude.{◌≡◌, ◌&&◌, IfOk, length, nat_lt};
-ghost use Rattle.md_kept_members.specs.States.{is_recorded};
+ghost use Rattle.md_assembly.specs.States.{is_recorded};
 ghost use Rattle.md_kept_members.specs.Kept.{IsKept};
 ghost use Rattle.md_kept_members.specs.Remembering.{AreKept, AreWhole, IsChunkingOf, IsWhole};
 
 use crate::marking::needs_marks;
 use crate::member::Member;
 use crate::own_fields::stored_next;
-use crate::states::is_recorded;
 use md_assembly::MemberState;
 use md_bitmap::{Chunks, Marks};
 use md_members::MemberInfo;
@@ -79,5 +78,5 @@ fn member_of(
 fn is_due(state: MemberState, own: u64, events: u64) -> bool
     ensures { result ≡ (is_recorded state && nat_lt own events) }
 {
-    is_recorded(state) && own < events
+    state.is_recorded() && own < events
 }

@@ -5,7 +5,6 @@ ghost use Rattle.md_bitmap.specs.Marks.{is_set};
 ghost use Rattle.md_kept_members.specs.Remembering.{IsAloneIn};
 
 use crate::member::Member;
-use crate::states::is_in_sync;
 use md_bitmap::Marks;
 
 /// Whether members in sync hold the same: no chunk is marked, or they are one.
@@ -24,7 +23,7 @@ fn is_alone(members: &[Member]) -> bool
 {
     members
         .iter()
-        .filter(|member| is_in_sync(member.state))
+        .filter(|member| member.state.is_in_sync())
         .count()
         <= 1
 }

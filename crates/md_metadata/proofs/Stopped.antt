@@ -6,7 +6,7 @@ use Rattle.md_model.specs.Events.{Event}
 use Rattle.md_bitmap.specs.Marks.{Bitmap, is_set}
 use Rattle.md_requests.specs.Pending.{PendingView}
 use Rattle.md_kept_members.specs.View.{MemberView}
-use Rattle.md_kept_members.specs.States.{is_recorded}
+use Rattle.md_assembly.specs.States.{is_recorded}
 use Rattle.md_kept_members.specs.Members.{made_due}
 use Rattle.md_state.specs.declared.step_fault.CleanFault.{CleanFault}
 use Rattle.md_state.specs.declared.step_fault.CleanFault.TheVariants as clean

@@ -3,7 +3,7 @@ use Rattle.std.specs.Prelude.{◌≡◌, ℕ, ◌<◌, true, List, [], ◌∷◌
 use Rattle.md_model.specs.Events.{Event}
 use Rattle.md_bitmap.specs.Marks.{Bitmap, is_set}
 use Rattle.md_kept_members.specs.View.{MemberView}
-use Rattle.md_kept_members.specs.States.{is_recorded}
+use Rattle.md_assembly.specs.States.{is_recorded}
 use Rattle.md_state.specs.Members.{IsInSync, IsMember}
 use Rattle.md_state.specs.View.{ArrayView, MirrorView}
 use Rattle.md_state.specs.StoringMarks.{StoresMarkSector}

@@ -2,7 +2,7 @@
 ghost use Rattle.std.specs.Prelude.{◌≡◌, ◌<◌, ℕ, MatchResult, Some, length, true, false};
 ghost use Rattle.md_model.specs.Events.{Event};
 ghost use Rattle.md_kept_members.specs.View.{MemberView};
-ghost use Rattle.md_kept_members.specs.States.{is_recorded};
+ghost use Rattle.md_assembly.specs.States.{is_recorded};
 ghost use Rattle.md_state.specs.Members.{AllInSync, IsInSync, IsMember};
 ghost use Rattle.md_state.specs.WritingMember.{IsNotDue};
 ghost use Rattle.md_array.specs.Consistency.{IsConsistent};
@@ -11,7 +11,6 @@ ghost use Rattle.md_metadata.specs.Storing.{IsRecording, RecordingFails, Records
 use crate::fault::PartFault;
 use crate::sectors::store_sector;
 use md_array::{Mirror, StoreFault};
-use md_assembly::MemberState;
 use md_device::Device;
 
 /// Stores the superblock of member k, which is kept up to date. Of a member in sync the first sector of its
@@ -57,7 +56,7 @@ fn store_other_record<D: Device + Drop>(mirror: &mut Mirror<D>, k: usize) -> Res
     ensures { MatchResult result (λ _. RecordsAt k mirror.old mirror.new) (StoringFails IsRecording mirror.old mirror.new) }
 {
     let state = mirror.state(k);
-    if state.is_in_sync() || !is_recorded(state) || !mirror.due(k) {
+    if state.is_in_sync() || !state.is_recorded() || !mirror.due(k) {
         return Ok(());
     }
     store_record(mirror, k)
@@ -92,14 +91,4 @@ pub fn store_other_records<D: Device + Drop>(mirror: &mut Mirror<D>) -> Result<(
         }
     }
     Ok(())
-}
-
-// Whether the superblock of a member in this state is kept up to date.
-fn is_recorded(state: MemberState) -> bool
-    ensures { result ≡ is_recorded state }
-{
-    match state {
-        MemberState::InSync(_) | MemberState::Recovering(_) | MemberState::Spare => true,
-        MemberState::Stale(_) | MemberState::Faulty => false,
-    }
 }

@@ -6,7 +6,7 @@ use Rattle.md_device.specs.Device.{held}
 use Rattle.md_model.specs.Content.{Content, HoldsAtRest}
 use Rattle.md_model.specs.Worlds.{IsQuiet, Request}
 use Rattle.md_kept_members.specs.View.{MemberView}
-use Rattle.md_kept_members.specs.States.{is_in_sync_as}
+use Rattle.md_assembly.specs.States.{is_in_sync_as}
 use Rattle.md_state.specs.Beginning.{IsInRange, IsOutOfRange}
 use Rattle.md_state.specs.CopyingData.{Lists}
 use Rattle.md_state.specs.DiskWrites.{AtDevice}

@@ -2,14 +2,13 @@
 ghost use Rattle.std.specs.Prelude.{◌≡◌, ◌+◌, ◌*◌, ◌/◌, ◌%◌, ◌<◌, ◌≤◌, ◌↔◌, ℕ, MatchOption, length, true};
 ghost use Rattle.std.specs.List.{list_any};
 ghost use Rattle.md_kept_members.specs.View.{MemberView};
-ghost use Rattle.md_kept_members.specs.States.{is_in_sync_as};
+ghost use Rattle.md_assembly.specs.States.{is_in_sync_as};
 ghost use Rattle.md_state.specs.Members.{IsMember};
 ghost use Rattle.md_state.specs.CopyingData.{Lists};
 ghost use Rattle.md_array.specs.Consistency.{IsConsistent};
 ghost use Rattle.md_read.specs.Reading.{HasRole, IsInRole, TriesRole, has_all};
 
 use md_array::Mirror;
-use md_assembly::MemberState;
 use md_badblocks::Run;
 use md_device::Device;
 
@@ -29,20 +28,11 @@ fn member_in<D: Device + Drop>(mirror: &Mirror<D>, role: u32) -> Option<usize>
     ensures { MatchOption result (HasRole mirror.now.array role → ⊥) (IsInRole mirror.now.array role) }
 {
     for k in 0..mirror.members() {
-        if is_in_sync_as(mirror.state(k), role) {
+        if mirror.state(k).is_in_sync_as(role) {
             return Some(k);
         }
     }
     None
-}
-
-fn is_in_sync_as(state: MemberState, wanted: u32) -> bool
-    ensures { result ≡ is_in_sync_as wanted state }
-{
-    match state {
-        MemberState::InSync(role) => u32::from(role) == wanted,
-        _ => false,
-    }
 }
 
 // Whether member k lists one of these sectors of the array. No list has sectors from 2^54 on.

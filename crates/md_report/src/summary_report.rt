@@ -5,7 +5,6 @@ ghost use Rattle.md_assembly.specs.States.{is_in_sync};
 ghost use Rattle.md_report.specs.SummaryReport.{in_sync_members, summary_text};
 
 use md_array::Mirror;
-use md_assembly::MemberState;
 use md_device::Device;
 use md_examine::{Sink, SinkFault, number_after};
 
@@ -29,15 +28,9 @@ pub(crate) fn members_in_sync<D: Device + Drop>(mirror: &Mirror<D>) -> usize
 {
     let mut count = 0;
     for k in 0..mirror.members() {
-        if is_in_sync(mirror.state(k)) {
+        if mirror.state(k).is_in_sync() {
             count += 1;
         }
     }
     count
-}
-
-fn is_in_sync(state: MemberState) -> bool
-    ensures { result ≡ is_in_sync state }
-{
-    matches!(state, MemberState::InSync(_))
 }

@@ -8,7 +8,7 @@ use Rattle.md_assembly.specs.declared.state.MemberState.{MemberState}
 use Rattle.md_assembly.specs.declared.state.MemberState.TheVariants.{Faulty, InSync, Recovering, Spare, Stale}
 use Rattle.md_model.proofs.Cases.{by_test, is_above}
 use Rattle.md_kept_members.specs.View.{MemberView}
-use Rattle.md_kept_members.specs.States.{is_in_sync_as}
+use Rattle.md_assembly.specs.States.{is_in_sync_as}
 use Rattle.md_state.specs.CopyingData.{IsSource}
 use Rattle.md_state.specs.View.{ArrayView}
 use Rattle.md_state.specs.Members.{IsMember}

@@ -5,12 +5,11 @@ use Rattle.std.specs.List.{list_any, range_with_len}
 use Rattle.std.proofs.lemmas.Option.{slice_get_within}
 use Rattle.md_bitmap.specs.declared.chunks.Chunks.{Chunks}
 use Rattle.md_bitmap.specs.Marks.{Bitmap, is_set}
-use Rattle.md_assembly.specs.States.{is_in_sync}
+use Rattle.md_assembly.specs.States.{is_in_sync, is_in_sync_as}
 use Rattle.md_model.specs.Content.{HoldsBetween}
 use Rattle.md_model.specs.Events.{Event}
 use Rattle.md_model.specs.Sectors.{Geometry}
 use Rattle.md_kept_members.specs.View.{MemberView}
-use Rattle.md_kept_members.specs.States.{is_in_sync_as}
 use Rattle.md_state.specs.View.{ArrayView, MirrorView}
 use Rattle.md_state.specs.MakingClean.{IsIdle}
 use Rattle.md_state.specs.Members.{AllInSync, IsAlone, is_degraded, is_filled}

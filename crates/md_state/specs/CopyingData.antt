@@ -7,7 +7,7 @@ use Rattle.md_device.specs.Device.{written}
 use Rattle.md_model.specs.Events.{Event}
 use Rattle.md_writes.specs.Writes.{Write}
 use Rattle.md_kept_members.specs.View.{MemberView}
-use Rattle.md_kept_members.specs.States.{is_in_sync_as}
+use Rattle.md_assembly.specs.States.{is_in_sync_as}
 use Rattle.md_state.specs.declared.copy_fault.CopyFault.{CopyFault}
 use Rattle.md_state.specs.declared.copy_fault.CopyFault.TheVariants.{Halted, MemberFailed}
 use Rattle.md_state.specs.DiskWrites.{AtDevice, IsTried, IsWritten}

@@ -2,7 +2,7 @@
 -- count rises at once, are this project's own).
 use Rattle.std.specs.Prelude.{◌≡◌, ℕ, true, false}
 use Rattle.md_kept_members.specs.View.{MemberView}
-use Rattle.md_kept_members.specs.States.{is_active}
+use Rattle.md_assembly.specs.States.{is_active}
 use Rattle.md_kept_members.specs.Members.{HasOtherInSync, IsLastInSync}
 use Rattle.md_state.specs.declared.step_fault.FailFault.{FailFault}
 use Rattle.md_state.specs.declared.step_fault.FailFault.TheVariants.{Halted, NotActive, LastMember, EventsFull}

@@ -3,9 +3,8 @@ use Rattle.std.specs.Prelude.{◌≡◌, ℕ, ◌+◌, ◌-◌, ◌^◌, ◌<◌
 use Rattle.std.specs.List.{list_any, range_with_len}
 use Rattle.md_bitmap.specs.Chunks.{InChunk}
 use Rattle.md_badblocks.specs.Runs.{IsBad}
-use Rattle.md_assembly.specs.States.{is_in_sync}
+use Rattle.md_assembly.specs.States.{is_in_sync, is_in_sync_as}
 use Rattle.md_kept_members.specs.View.{MemberView}
-use Rattle.md_kept_members.specs.States.{is_in_sync_as}
 use Rattle.md_state.specs.View.{ArrayView}
 
 -- this is member k

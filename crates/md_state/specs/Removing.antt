@@ -3,7 +3,7 @@
 use Rattle.std.specs.Prelude.{◌≡◌, ℕ, true, false, cond, not, slice_get, Some}
 use Rattle.std.specs.List.{remove}
 use Rattle.md_kept_members.specs.View.{MemberView}
-use Rattle.md_kept_members.specs.States.{is_active, is_spare}
+use Rattle.md_assembly.specs.States.{is_active, is_spare}
 use Rattle.md_state.specs.declared.step_fault.RemoveFault.{RemoveFault}
 use Rattle.md_state.specs.declared.step_fault.RemoveFault.TheVariants.{Halted, StillActive, EventsFull}
 use Rattle.md_state.specs.FailingMembers.{IsRunningWith}

@@ -4,7 +4,6 @@ ghost use Rattle.md_state.specs.Checking.{IsActive, IsServing, RefusesInactive, 
 
 use crate::array::Array;
 use crate::step_fault::StoreFault;
-use md_kept_members::{is_in_sync, is_recorded};
 
 impl Array {
     /// Whether the mirror runs and the superblock of member k is kept up to date.
@@ -15,7 +14,7 @@ impl Array {
         if self.halted {
             return Err(StoreFault::Halted);
         }
-        if is_recorded(self.members[k].state) {
+        if self.members[k].state.is_recorded() {
             Ok(())
         } else {
             Err(StoreFault::NotActive)
@@ -30,7 +29,7 @@ impl Array {
         if self.halted {
             return Err(StoreFault::Halted);
         }
-        if is_in_sync(self.members[k].state) {
+        if self.members[k].state.is_in_sync() {
             Ok(())
         } else {
             Err(StoreFault::NotActive)

@@ -5,7 +5,7 @@ ghost use Rattle.md_state.specs.View.{Disk};
 
 use crate::array::Array;
 use crate::step_fault::FailFault;
-use md_kept_members::{has_other_in_sync, is_active};
+use md_kept_members::has_other_in_sync;
 
 impl Array {
     /// What `Mirror::fail` does, whatever its devices are: it uses none.
@@ -30,7 +30,7 @@ impl Array {
         if self.halted {
             return Err(FailFault::Halted);
         }
-        if !is_active(self.members[k].state) {
+        if !self.members[k].state.is_active() {
             return Err(FailFault::NotActive);
         }
         if !has_other_in_sync(&self.members, k) {

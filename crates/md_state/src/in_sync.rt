@@ -7,7 +7,6 @@ ghost use Rattle.md_state.specs.Requests.{lacks};
 ghost use Rattle.md_state.specs.WritingMember.{HasMarksFrom};
 
 use crate::array::Array;
-use md_kept_members::is_in_sync;
 use md_requests::Pending;
 
 impl Array {
@@ -17,7 +16,7 @@ impl Array {
     {
         self.members
             .iter()
-            .position(|member| is_in_sync(member.state) && member.due)
+            .position(|member| member.state.is_in_sync() && member.due)
     }
 
     /// The first member in sync that lacks the request's bytes.
@@ -25,7 +24,7 @@ impl Array {
         ensures { result ≡ position (lacks pending.now) self.now.members }
     {
         self.members.iter().position(|member| {
-            is_in_sync(member.state) && !pending.has_written(member.superblock.dev_number)
+            member.state.is_in_sync() && !pending.has_written(member.superblock.dev_number)
         })
     }
 
@@ -38,7 +37,7 @@ impl Array {
     {
         for k in 0..self.members.len() {
             let member = &self.members[k];
-            if is_in_sync(member.state) && !member.stored.is_range_marked(first, end) {
+            if member.state.is_in_sync() && !member.stored.is_range_marked(first, end) {
                 return Some(k);
             }
         }

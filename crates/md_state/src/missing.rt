@@ -7,7 +7,6 @@ ghost use Rattle.md_state.specs.Missing.{AreMissing};
 
 use crate::array::Array;
 use md_bitmap::Marks;
-use md_kept_members::is_in_sync;
 use std::alloc::{AllocError, Global};
 
 impl Array {
@@ -20,7 +19,7 @@ impl Array {
         if member.re_added {
             return copied(alloc, &self.marks);
         }
-        if is_in_sync(member.state) {
+        if member.state.is_in_sync() {
             return Marks::none(alloc, self.marks.chunks());
         }
         Marks::all(alloc, self.marks.chunks())

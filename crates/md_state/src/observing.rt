@@ -4,7 +4,7 @@ ghost use Rattle.std.specs.Int.{bit_at, div_ceil};
 ghost use Rattle.md_state.specs.Members.{IsPermitted, is_degraded, is_filled};
 
 use crate::array::Array;
-use md_kept_members::{is_in_sync_as, permitted_roles};
+use md_kept_members::permitted_roles;
 
 impl Array {
     /// Whether some role has no member in sync.
@@ -29,6 +29,6 @@ impl Array {
     {
         self.members
             .iter()
-            .any(|member| is_in_sync_as(member.state, role))
+            .any(|member| member.state.is_in_sync_as(role))
     }
 }

@@ -5,7 +5,6 @@ ghost use Rattle.md_state.specs.ReAdding.{IsOfArray, IsReAddable, LeftInTime, Le
 use crate::array::Array;
 use crate::re_add_fault::ReAddFault;
 use md_bitmap::BitmapHeader;
-use md_kept_members::takes_role;
 use md_members::MemberInfo;
 use md_super::{FEATURE_RECOVERY_OFFSET, Superblock};
 
@@ -74,6 +73,6 @@ impl Array {
     {
         self.members
             .iter()
-            .any(|member| takes_role(member.state, u32::from(role)))
+            .any(|member| member.state.takes_role(u32::from(role)))
     }
 }

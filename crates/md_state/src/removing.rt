@@ -1,7 +1,7 @@
 // Removing a member.
 ghost use Rattle.std.specs.Prelude.{◌≡◌, ◌<◌, List, MatchResult, cond, length, nat_lt, set, true};
 ghost use Rattle.md_kept_members.specs.View.{MemberView};
-ghost use Rattle.md_kept_members.specs.States.{is_spare};
+ghost use Rattle.md_assembly.specs.States.{is_spare};
 ghost use Rattle.md_state.specs.Members.{IsMember, faulty_role};
 ghost use Rattle.md_state.specs.Removing.{Leaves, MayLeave, RefusesRemove, before_leaving, without_spare};
 ghost use Rattle.md_state.specs.View.{Disk};
@@ -9,7 +9,6 @@ ghost use Rattle.md_state.specs.Rising.{HasSpentEvents};
 
 use crate::array::Array;
 use crate::step_fault::RemoveFault;
-use md_kept_members::{is_active, is_spare};
 use md_super::FAULTY;
 
 impl Array {
@@ -37,10 +36,10 @@ impl Array {
             return Err(RemoveFault::Halted);
         }
         let state = self.members[k].state;
-        if is_active(state) {
+        if state.is_active() {
             return Err(RemoveFault::StillActive);
         }
-        if is_spare(state) && self.shared.events == u64::MAX {
+        if state.is_spare() && self.shared.events == u64::MAX {
             return Err(RemoveFault::EventsFull);
         }
         Ok(())
@@ -52,7 +51,7 @@ impl Array {
         requires unspent { (m : MemberView) → IsMember self.old k m → is_spare m.state ≡ true → HasSpentEvents self.old → ⊥ }
         ensures { (m : MemberView) → IsMember self.old k m → self.new ≡ before_leaving self.old m }
     {
-        if is_spare(self.members[k].state) {
+        if self.members[k].state.is_spare() {
             self.drop_spare_entry(k);
         }
     }

@@ -10,7 +10,7 @@ ghost use Rattle.md_state.specs.WritingMember.{MayWrite, RefusesWriteMember};
 
 use crate::array::Array;
 use crate::step_fault::WriteMemberFault;
-use md_kept_members::{chunks_of, is_in_sync};
+use md_kept_members::chunks_of;
 use md_requests::{Pending, note_written};
 
 impl Array {
@@ -26,7 +26,7 @@ impl Array {
             return Err(WriteMemberFault::Halted);
         }
         let member = &self.members[k];
-        if !is_in_sync(member.state) {
+        if !member.state.is_in_sync() {
             return Err(WriteMemberFault::NotActive);
         }
         let (first, end) = chunks_of(self.chunks, pending.sector(), pending.sectors());

@@ -19,7 +19,7 @@ use Rattle.md_assembly.specs.declared.state.MemberState.TheVariants.{InSync, Rec
 use Rattle.md_writes.specs.Writes.{Write}
 use Rattle.md_requests.specs.Pending.{PendingView}
 use Rattle.md_kept_members.specs.View.{MemberView}
-use Rattle.md_kept_members.specs.States.{is_active, is_in_sync_as, is_recorded}
+use Rattle.md_assembly.specs.States.{is_active, is_in_sync_as, is_recorded}
 use Rattle.md_kept_members.specs.Members.{made_due}
 use Rattle.md_state.specs.declared.step_fault.FailFault.{FailFault}
 use Rattle.md_state.specs.declared.step_fault.FailFault.TheVariants as fail

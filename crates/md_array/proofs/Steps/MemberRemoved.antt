@@ -11,10 +11,9 @@ use Rattle.md_model.specs.Membership.{MayRemove, skip}
 use Rattle.md_model.proofs.Between.{between_step, in_flight_step}
 use Rattle.md_assembly.specs.declared.state.MemberState.{MemberState}
 use Rattle.md_assembly.specs.declared.state.MemberState.TheVariants.{InSync, Recovering, Stale, Spare, Faulty}
-use Rattle.md_assembly.specs.States.{is_in_sync, takes_role}
+use Rattle.md_assembly.specs.States.{is_active, is_in_sync, is_spare, takes_role}
 use Rattle.md_requests.specs.Pending.{PendingView}
 use Rattle.md_kept_members.specs.View.{MemberView}
-use Rattle.md_kept_members.specs.States.{is_active, is_spare}
 use Rattle.md_kept_members.specs.Members.{made_due}
 use Rattle.md_state.specs.declared.step_fault.RemoveFault.{RemoveFault}
 use Rattle.md_state.specs.declared.step_fault.RemoveFault.TheVariants as fault

@@ -20,7 +20,7 @@ use Rattle.md_members.specs.Areas.{BitmapIsPlaced, IsPlaced, LogIsPlaced, bitmap
 use Rattle.md_members.specs.Members.{HasBitmap, sectors_of}
 use Rattle.md_assembly.specs.declared.state.MemberState.{MemberState}
 use Rattle.md_assembly.specs.declared.state.MemberState.TheVariants.{InSync, Recovering, Stale, Spare, Faulty}
-use Rattle.md_assembly.specs.States.{is_in_sync, role_in, takes_role}
+use Rattle.md_assembly.specs.States.{is_active, is_in_sync, role_in, takes_role}
 use Rattle.md_model.specs.States as model
 use Rattle.md_model.specs.Devices.{Super}
 use Rattle.md_model.specs.Worlds.{Request, World}
@@ -30,7 +30,6 @@ use Rattle.md_kept_members.specs.OwnFields.{kept_superblock}
 use Rattle.md_kept_members.specs.TakingBack.{IsTakenBack, own_role, recovering}
 use Rattle.md_kept_members.specs.View.{MemberView}
 use Rattle.md_kept_members.specs.Members.{made_due}
-use Rattle.md_kept_members.specs.States.{is_active}
 use Rattle.md_state.specs.declared.re_add_fault.ReAddFault.{ReAddFault}
 use Rattle.md_state.specs.declared.re_add_fault.ReAddFault.TheVariants as fault
 use Rattle.md_state.specs.Joining.{joined, joined_shared}

@@ -16,7 +16,7 @@ use Rattle.md_model.specs.Runs.{failed_after}
 use Rattle.md_model.proofs.Between.{between_step, in_flight_step}
 use Rattle.md_writes.specs.Writes.{Write}
 use Rattle.md_kept_members.specs.View.{MemberView}
-use Rattle.md_kept_members.specs.States.{is_in_sync_as, is_recorded}
+use Rattle.md_assembly.specs.States.{is_in_sync_as, is_recorded}
 use Rattle.md_kept_members.specs.Members.{made_due}
 use Rattle.md_state.specs.Members.{IsMember, is_degraded}
 use Rattle.md_state.specs.View.{ArrayView, Disk, MirrorView}

@@ -11,10 +11,9 @@ use Rattle.md_members.specs.Areas.{BitmapIsPlaced, IsPlaced, bitmap_sectors}
 use Rattle.md_members.specs.Reading.{BitmapStartsAt, chunks_of}
 use Rattle.md_members.specs.Members as members
 use Rattle.md_members.specs.Members.{IsAccepted, sectors_of}
-use Rattle.md_assembly.specs.States.{state_of}
+use Rattle.md_assembly.specs.States.{is_recorded, state_of}
 use Rattle.md_model.specs.Devices.{is_accepted}
 use Rattle.md_kept_members.specs.View.{MemberView}
-use Rattle.md_kept_members.specs.States.{is_recorded}
 use Rattle.md_kept_members.specs.Kept.{IsKept}
 use Rattle.md_state.specs.View.{ArrayView}
 use Rattle.md_array.specs.ReadAsKept.{HasOwnSuper, HasWidth, chunk_size_on}

@@ -12,9 +12,8 @@ use Rattle.md_model.proofs.Cases.{by_test, not_below-nat_lt}
 use Rattle.md_bitmap.specs.Marks.{is_set}
 use Rattle.md_assembly.specs.declared.state.MemberState.{MemberState}
 use Rattle.md_assembly.specs.declared.state.MemberState.TheVariants.{InSync, Recovering, Stale, Spare, Faulty}
-use Rattle.md_assembly.specs.States.{has_recovery_offset, is_in_sync, role_in, takes_role}
+use Rattle.md_assembly.specs.States.{has_recovery_offset, is_in_sync, is_in_sync_as, role_in, takes_role}
 use Rattle.md_kept_members.specs.View.{MemberView}
-use Rattle.md_kept_members.specs.States.{is_in_sync_as}
 use Rattle.md_kept_members.specs.Members.{made_due}
 use Rattle.md_state.specs.Members.{IsMember, is_degraded, is_filled, faulty_role}
 use Rattle.md_state.specs.Rising.{has_number, is_absent, roles_at_rise, risen}

@@ -6,7 +6,7 @@ use Rattle.md_badblocks.specs.Runs.{IsBad}
 use Rattle.md_bitmap.specs.Marks.{is_set}
 use Rattle.md_device.specs.Splice.{SameOutside, part}
 use Rattle.md_device.proofs.Splices.{part-spliced}
-use Rattle.md_assembly.specs.States.{is_in_sync, takes_role}
+use Rattle.md_assembly.specs.States.{is_in_sync, is_in_sync_as, takes_role}
 use Rattle.md_assembly.specs.declared.state.MemberState.{MemberState}
 use Rattle.md_assembly.specs.declared.state.MemberState.TheVariants.{Faulty, InSync, Recovering, Spare, Stale}
 use Rattle.md_model.specs.Sectors.{put}
@@ -18,7 +18,6 @@ use Rattle.md_model.proofs.Between.{between_step, in_flight_step}
 use Rattle.md_model.proofs.Cases.{below-nat_lt, both, by_test, not_below}
 use Rattle.md_model.proofs.Puts.{by_same, put-hit, put-miss, put-self}
 use Rattle.md_kept_members.specs.View.{MemberView}
-use Rattle.md_kept_members.specs.States.{is_in_sync_as}
 use Rattle.md_state.specs.View.{ArrayView, Disk, MirrorView}
 use Rattle.md_state.specs.CopyingData.{CopiesSector, Lists, MayCopy, MayCopyChunk, run_write}
 use Rattle.md_state.specs.Members.{IsInSync, IsMember}

@@ -4,10 +4,9 @@ use Rattle.std.proofs.lemmas.Bool.Decides.{nat_tests}
 use Rattle.md_super.specs.declared.superblock.Superblock.{Superblock}
 use Rattle.md_assembly.specs.declared.state.MemberState.{MemberState}
 use Rattle.md_assembly.specs.declared.state.MemberState.TheVariants.{InSync, Recovering, Stale, Spare, Faulty}
-use Rattle.md_assembly.specs.States.{state_of, role_in, is_in_sync, takes_role, is_up_to_date, has_recovery_offset}
+use Rattle.md_assembly.specs.States.{has_recovery_offset, is_in_sync, is_recorded, is_up_to_date, role_in, state_of, takes_role}
 use Rattle.md_model.specs.States as model
 use Rattle.md_model.specs.Assembly as model_assembly
-use Rattle.md_kept_members.specs.States.{is_recorded}
 use Rattle.md_state.specs.View.{ArrayView}
 use Rattle.md_array.specs.Worlds.{kind_of, geometry_of, super_of}
 

@@ -11,9 +11,8 @@ use Rattle.md_model.specs.Membership.{skip}
 use Rattle.md_model.proofs.Membership.{skip-injective, skip-onto}
 use Rattle.md_assembly.specs.declared.state.MemberState.{MemberState}
 use Rattle.md_assembly.specs.declared.state.MemberState.TheVariants.{InSync, Recovering, Stale, Spare, Faulty}
-use Rattle.md_assembly.specs.States.{has_recovery_offset, is_in_sync}
+use Rattle.md_assembly.specs.States.{has_recovery_offset, is_in_sync, is_in_sync_as}
 use Rattle.md_kept_members.specs.View.{MemberView}
-use Rattle.md_kept_members.specs.States.{is_in_sync_as}
 use Rattle.md_state.specs.InMemory.{HasChunks, HasRoles}
 use Rattle.md_state.specs.Members.{IsMember, is_degraded, is_filled}
 use Rattle.md_state.specs.View.{ArrayView, Disk}

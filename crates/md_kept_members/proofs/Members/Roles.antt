@@ -10,7 +10,7 @@ use Rattle.md_badblocks.specs.Runs.{IsBad, RisesFrom}
 use Rattle.md_bitmap.specs.declared.chunks.Chunks.{Chunks}
 use Rattle.md_bitmap.specs.Chunks.{InChunk}
 use Rattle.md_kept_members.specs.View.{MemberView}
-use Rattle.md_kept_members.specs.States.{is_in_sync_as}
+use Rattle.md_assembly.specs.States.{is_in_sync_as}
 use Rattle.md_kept_members.specs.Permitting.{IsPermittedIn, ListsAny, MayRead}
 use Rattle.md_kept_members.proofs.Members.Indices.{cases_more}
 

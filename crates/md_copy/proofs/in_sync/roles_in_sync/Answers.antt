@@ -2,7 +2,7 @@ use Rattle.std.proofs.Common.{◌≡◌, ◌↔◌, true, sym, subst, arith}
 use Rattle.std.specs.Int.{bit_at}
 use Rattle.md_assembly.specs.declared.state.MemberState.{MemberState}
 use Rattle.md_kept_members.specs.View.{MemberView}
-use Rattle.md_kept_members.specs.States.{is_in_sync_as}
+use Rattle.md_assembly.specs.States.{is_in_sync_as}
 use Rattle.md_kept_members.proofs.Members.Indices.{listed_at}
 use Rattle.md_copy.proofs.Observed.{field_of}
 use Rattle.md_copy.proofs.Served.{served_all, served_more}

@@ -1,7 +1,7 @@
 use Rattle.std.proofs.Common.{◌≡◌, ◌↔◌, true, subst}
 use Rattle.std.specs.Int.{bit_at}
 use Rattle.md_kept_members.specs.View.{MemberView}
-use Rattle.md_kept_members.specs.States.{is_in_sync_as}
+use Rattle.md_assembly.specs.States.{is_in_sync_as}
 use Rattle.md_kept_members.proofs.Members.Roles.{listed_role, unlisted_role}
 use Rattle.md_kept_members.proofs.permitting.role_to_read.Goals as goal
 

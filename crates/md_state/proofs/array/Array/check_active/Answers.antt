@@ -1,6 +1,6 @@
 use Rattle.std.proofs.Common.{◌∙◌, ap, sym}
 use Rattle.md_kept_members.specs.View.{MemberView}
-use Rattle.md_kept_members.specs.States.{is_recorded}
+use Rattle.md_assembly.specs.States.{is_recorded}
 use Rattle.md_state.specs.View.{ArrayView}
 use Rattle.md_state.proofs.Members.At.{member_read}
 use Rattle.md_state.proofs.array.Array.check_active.Goals as goal

@@ -1,6 +1,6 @@
 use Rattle.std.proofs.Common.{◌≡◌, ◌∙◌, ℕ, ◌<◌, Bool, true, false, List, get_or, length, refl, sym, ap, subst}
 use Rattle.md_kept_members.specs.View.{MemberView}
-use Rattle.md_kept_members.specs.States.{is_active}
+use Rattle.md_assembly.specs.States.{is_active}
 use Rattle.md_kept_members.specs.Members.{HasOtherInSync, IsLastInSync}
 use Rattle.md_state.specs.View.{ArrayView}
 use Rattle.md_state.specs.FailingMembers.{IsNotActive, IsRunningWith}

@@ -1,6 +1,6 @@
 use Rattle.std.proofs.Common.{◌≡◌, ◌∙◌, true≢false, refl, sym, ap}
 use Rattle.md_kept_members.specs.View.{MemberView}
-use Rattle.md_kept_members.specs.States.{is_active, is_spare}
+use Rattle.md_assembly.specs.States.{is_active, is_spare}
 use Rattle.md_state.specs.View.{ArrayView}
 use Rattle.md_state.proofs.Members.At.{member_read, read_member}
 use Rattle.md_state.proofs.array.Array.check_remove.Goals as goal
