@@ -33,8 +33,6 @@ pub mod MarksFailed
 pub mod MemberFailed
 -- A member that is removed leaves the model's world with its device.
 pub mod MemberRemoved
--- A device that left comes in again: the mirror stays consistent, and requests in flight stay its own.
-pub mod MemberTakenBack
 -- A write goes to one device of a mirror, and its member is changed in memory: what stays of the mirror, and its world.
 pub mod OneMember
 -- One write to the device of a member.

@@ -12,7 +12,6 @@ mod mirror;
 mod missing;
 mod noting_resynced;
 mod opening;
-mod re_adding;
 mod reading;
 mod reading_data;
 mod recording;
