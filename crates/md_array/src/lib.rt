@@ -26,7 +26,7 @@ mod writing_member;
 pub use fault::OpenFault;
 pub use md_requests::Pending;
 pub use md_state::{
-    BeginFault, CleanFault, ClearFault, CopyFault, FailFault, FinishFault, RemoveFault, StoreFault,
-    WriteMemberFault,
+    BeginFault, CleanFault, ClearFault, CopyFault, FailFault, FinishFault, ReAddFault, RemoveFault,
+    StoreFault, WriteMemberFault,
 };
 pub use mirror::Mirror;
