@@ -2,6 +2,8 @@
 
 -- What a call says where it is known whether it failed.
 pub mod Answered
+-- A list with one more element at its end.
+pub mod Appended
 -- Devices that do what they answer do so after a call.
 pub mod Honesty
 -- Lists by their indices.

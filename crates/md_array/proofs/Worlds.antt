@@ -12,6 +12,8 @@ pub mod EntryDropped
 pub mod Failed
 -- The members in sync of an array are those of its world.
 pub mod InSync
+-- A device comes in as the last member of an array whose count rose: the array stays consistent.
+pub mod Joined
 -- What a device's log lists, by the superblock that stands there, and by the one that is kept.
 pub mod Listed
 -- A member of an array that was opened, by its device before and after.

@@ -26,3 +26,5 @@ pub mod InTurn
 pub mod CopyEvents
 -- Members that are failed by a call, or leave, as events of the model.
 pub mod MemberEvents
+-- A device that left is taken back: it is read as a member, and then its superblock is written.
+pub mod ReAdding

@@ -12,6 +12,7 @@ mod mirror;
 mod missing;
 mod noting_resynced;
 mod opening;
+mod re_adding;
 mod reading;
 mod reading_data;
 mod recording;
@@ -25,7 +26,7 @@ mod writing_member;
 pub use fault::OpenFault;
 pub use md_requests::Pending;
 pub use md_state::{
-    BeginFault, CleanFault, ClearFault, CopyFault, FailFault, FinishFault, RemoveFault, StoreFault,
-    WriteMemberFault,
+    BeginFault, CleanFault, ClearFault, CopyFault, FailFault, FinishFault, ReAddFault, RemoveFault,
+    StoreFault, WriteMemberFault,
 };
 pub use mirror::Mirror;

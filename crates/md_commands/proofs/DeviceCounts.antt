@@ -2,6 +2,7 @@
 use Rattle.std.proofs.Common.{◌≡◌, ◌∙◌, ◌⊎◌, inl, inr, ⊎_elim, ℕ, ◌+◌, Bool, true, false, List, [], ◌∷◌, ◌++◌, length, Option, Some, None, Result, Ok, Err, MatchResult, refl, sym, ap}
 use Rattle.std.proofs.lemmas.List.Edits.{length-remove}
 use Rattle.std.proofs.lemmas.Option.{none-some, slice_get_within}
+use Rattle.md_model.specs.Devices.{Stored, Super}
 use Rattle.md_model.specs.Events.{Event}
 use Rattle.md_model.specs.Worlds.{Request}
 use Rattle.md_state.specs.declared.step_fault.BeginFault.{BeginFault}
@@ -51,9 +52,10 @@ refused : (old new : MirrorView) (Reason : Type 0) → Refuses old new Reason �
 refused old new Reason r = same old new r.unchanged
 
 -- ---- events
--- no member leaves by one of this kind
-abbrev KeepsMembers : (Event → Type 0) → Type 0
-KeepsMembers IsOf = (k : ℕ) → IsOf (Event.Remove k) → ⊥
+-- no member leaves by one of this kind, or comes back
+record KeepsMembers (IsOf : Event → Type 0) : Type 0 where
+  none_leaves : (k : ℕ) → IsOf (Event.Remove k) → ⊥
+  none_returns : (own : Super) (device left : Stored) → IsOf (Event.ReAdd own device left) → ⊥
 
 did : (IsOf : Event → Type 0) → KeepsMembers IsOf → (e : Event) (old new : MirrorView) (before after : Requests) → IsOf e → Did old before e new after → AsMany old new
 did IsOf keeps (Event.Begin n p) old new before after of h = ap length h.5.disks
@@ -71,7 +73,8 @@ did IsOf keeps (Event.Copy from k s) old new before after of h = h.1.disks.tried
 did IsOf keeps Event.Resynced old new before after of h = ap length h.1.marks.disks
 did IsOf keeps Event.Unresynced old new before after of h = ap length h.1.disks
 did IsOf keeps Event.MakeClean old new before after of h = ap length h.1.disks
-did IsOf keeps (Event.Remove k) old new before after of h = absurd (keeps k of)
+did IsOf keeps (Event.Remove k) old new before after of h = absurd (keeps.none_leaves k of)
+did IsOf keeps (Event.ReAdd own device left) old new before after of h = absurd (keeps.none_returns own device left of)
 did IsOf keeps e old new before after of h = absurd h
 
 halts : (e : Event) (old new : MirrorView) (before : Requests) → HaltsAt old before e new → AsMany old new
@@ -109,7 +112,10 @@ with_end : (IsOf : Event → Type 0) (es : List Event) (e : Event) → AllOf IsO
 with_end IsOf es e all at = all_on (IsOrEnds IsOf) es (e ∷ []) (or_ends IsOf es all) (inr at, tt)
 
 keeps_or_ends : (IsOf : Event → Type 0) → KeepsMembers IsOf → KeepsMembers (IsOrEnds IsOf)
-keeps_or_ends IsOf keeps k = ⊎_elim (λ (of : IsOf (Event.Remove k)). keeps k of) (λ (no : ⊥). no)
+keeps_or_ends IsOf keeps = record {
+  none_leaves = λ k. ⊎_elim (λ (of : IsOf (Event.Remove k)). keeps.none_leaves k of) (λ (no : ⊥). no);
+  none_returns = λ own device left. ⊎_elim (λ (of : IsOf (Event.ReAdd own device left)). keeps.none_returns own device left of) (λ (no : ⊥). no);
+}
 
 -- no request of the model
 nothing : Requests
@@ -123,25 +129,25 @@ led_by : (IsOf : Event → Type 0) → KeepsMembers IsOf → (old new : MirrorVi
 led_by IsOf keeps old new by = led IsOf keeps by.events None old new nothing nothing by.steps (by.leads None nothing (none_in_flight old.array))
 
 gone_on : (old new : MirrorView) → GoesOn old new → AsMany old new
-gone_on old new goes = led_reading IsOfResync (λ k of. of) goes.events None old new nothing nothing goes.steps (goes.leads None nothing (none_in_flight old.array))
+gone_on old new goes = led_reading IsOfResync (record { none_leaves = λ k of. of; none_returns = λ own device left of. of }) goes.events None old new nothing nothing goes.steps (goes.leads None nothing (none_in_flight old.array))
 
 gone_unresynced : (old new : MirrorView) → GoesUnresynced old new → AsMany old new
 gone_unresynced old new goes =
-    led_reading (IsOrEnds IsOfResync) (keeps_or_ends IsOfResync (λ k of. of)) (goes.events ++ Event.Unresynced ∷ []) None old new nothing nothing
+    led_reading (IsOrEnds IsOfResync) (keeps_or_ends IsOfResync (record { none_leaves = λ k of. of; none_returns = λ own device left of. of })) (goes.events ++ Event.Unresynced ∷ []) None old new nothing nothing
     (with_end IsOfResync goes.events Event.Unresynced goes.steps tt) (goes.leads None nothing (none_in_flight old.array))
 
 -- ---- the calls
 stopped : (old new : MirrorView) → Stops old new → AsMany old new
-stopped old new s = led_by IsStopping (λ k of. of) old new s.goes
+stopped old new s = led_by IsStopping (record { none_leaves = λ k of. of; none_returns = λ own device left of. of }) old new s.goes
 
 not_stopped : (fault : StopFault) (old new : MirrorView) → RefusesStop old new fault → AsMany old new
 not_stopped stop.Halted old new h =
     ⊎_elim (λ r. refused old new _ r)
-    (λ r. halts r.halts.failing r.halts.mid new nothing (r.halts.halts nothing) ∙ led_by IsStopping (λ k of. of) old r.halts.mid r.goes)
+    (λ r. halts r.halts.failing r.halts.mid new nothing (r.halts.halts nothing) ∙ led_by IsStopping (record { none_leaves = λ k of. of; none_returns = λ own device left of. of }) old r.halts.mid r.goes)
     h
 not_stopped (stop.InFlight n) old new h = refused old new _ h
 not_stopped stop.EventsFull old new h = refused old new _ h
-not_stopped (stop.MemberFailed k) old new h = led_by IsStopping (λ k of. of) old new h.goes
+not_stopped (stop.MemberFailed k) old new h = led_by IsStopping (record { none_leaves = λ k of. of; none_returns = λ own device left of. of }) old new h.goes
 
 resynced : (old new : MirrorView) → Resyncs old new → AsMany old new
 resynced old new r = gone_on old new r.goes
@@ -157,7 +163,7 @@ not_resynced (resync.MemberFailed k) old new h = gone_unresynced old new h.stops
 wrote : (sector : ℕ) (bytes : List ℕ) (old new : MirrorView) → Writes sector bytes old new → AsMany old new
 wrote sector bytes old new w =
     let Of = IsOfRequest old.array.chunks w.request in
-    led (IsOrEnds Of) (keeps_or_ends Of (λ k of. of)) (events_of w.request w.events) None old new nothing nothing
+    led (IsOrEnds Of) (keeps_or_ends Of (record { none_leaves = λ k of. of; none_returns = λ own device left of. of })) (events_of w.request w.events) None old new nothing nothing
     (inr tt, with_end Of w.events (Event.Finish w.request.ticket.number) w.steps tt) (w.happens None nothing (none_in_flight old.array)).done
 
 not_written : (fault : BeginFault) (sector : ℕ) (bytes : List ℕ) (old new : MirrorView) → RefusesWrite sector bytes old new fault → AsMany old new
@@ -166,7 +172,7 @@ not_written begin.Halted sector bytes old new h =
     (λ r.
     let Of = IsOfRequest old.array.chunks r.request in
     halts r.failing r.mid new (among r.last nothing) (r.halts nothing)
-    ∙ led (IsOrEnds Of) (keeps_or_ends Of (λ k of. of)) (Event.Begin r.request.ticket.number (request_of r.request) ∷ r.events) None old r.mid
+    ∙ led (IsOrEnds Of) (keeps_or_ends Of (record { none_leaves = λ k of. of; none_returns = λ own device left of. of })) (Event.Begin r.request.ticket.number (request_of r.request) ∷ r.events) None old r.mid
     nothing (among r.last nothing) (inr tt, or_ends Of r.events r.steps) (r.happens None nothing (none_in_flight old.array)))
     h
 not_written begin.OutOfRange sector bytes old new h = refused old new _ h

@@ -71,7 +71,7 @@ pub record IsLeftStoring (t : Moment) (left : List Disk) : Type 0 where
 
 -- What a stop leaves at t, or within a call from t. A call that is refused, and one that only changes memory (`begin`, `finish`,
 -- `clear_idle`, `make_clean`, `note_resynced`, `fail`), leave what was there (`stops_at_steps`); so does `remove`, and after it the
--- device that it handed back is none of these.
+-- device that it handed back is none of these; and so does `re_add`, and until it is done the device that it takes back is none.
 abbrev pub IsLeft : Moment → List Disk → Type 0
 IsLeft t left =
     (contents_of left ≡ contents_of t.mirror.disks)

@@ -1,5 +1,5 @@
 -- What a stop within a call leaves of a mirror's devices.
-use Rattle.std.specs.Prelude.{◌≡◌, ◌≢◌, ◌⊎◌, ℕ, List, [], ◌∷◌, drop, length, map, slice_get, Some}
+use Rattle.std.specs.Prelude.{◌≡◌, ◌≢◌, ◌⊎◌, ℕ, true, List, [], ◌∷◌, ◌++◌, drop, length, map, slice_get, Some}
 use Rattle.std.specs.List.{insert}
 use Rattle.md_device.specs.Device.{held, written}
 use Rattle.md_writes.specs.Writes.{IsAnyIn, IsCutShort, Write}
@@ -9,6 +9,8 @@ use Rattle.md_state.specs.DiskWrites.{IsFailed, IsTried, IsWritten}
 use Rattle.md_state.specs.Removing.{Removes}
 use Rattle.md_state.specs.Trying.{FailsWriting}
 use Rattle.md_array.specs.Events.{WritesOnce}
+use Rattle.md_array.specs.ReAdding.{ReAdds}
+use Rattle.md_array.specs.Recording.{super_write}
 use Rattle.md_array.specs.Worlds.{AreHonest}
 
 -- a stop since the device was d, and until it was e, might have left this
@@ -36,6 +38,14 @@ abbrev pub StopsAtRemoval : Type 0
 StopsAtRemoval =
     (k : ℕ) (disk : Disk) (old new : MirrorView) (left : List (List ℕ)) → Removes k disk old new → MayAllBeLeft old.disks (insert new.disks k disk) left
     → left ≡ map (λ d. d.content) old.disks
+
+-- A stop at any moment of `re_add` leaves each device of the array as it was, and the one that is taken back, which stands behind
+-- them, with each sector of its superblock as it was or as written: one that reads it leaves it as it was.
+abbrev pub StopsAtReAdd : Type 0
+StopsAtReAdd =
+    (k : ℕ) (device : Disk) (old new : MirrorView) (left : List (List ℕ)) → AreHonest old.disks → device.honest ≡ true → (r : ReAdds k device old new)
+    → MayAllBeLeft (old.disks ++ device ∷ []) new.disks left
+    → IsLeftBut (length old.disks) (λ was c. IsCutShort was (super_write new.array r.recorded.takes.member ∷ []) c) (old.disks ++ device ∷ []) left
 
 -- A stop at any moment of a step that writes to device k leaves every other as it was, and k with each sector of the write as it
 -- was or as written;
@@ -81,7 +91,8 @@ StopsUndivided =
 
 -- What a stop leaves at a moment of the call of an event: what was there before it or what is after it, or its one write cut short.
 -- Of a copy nothing is said here, as one write does many (`StoppedCopies`); nor of a member that leaves, whose device is no more
--- among these (`StopsAtRemoval`), or comes in, which no call does yet.
+-- among these (`StopsAtRemoval`), or is new, which no call does yet. Of one that is taken back the devices that were there are
+-- left as they were; what is left of its own, `StopsAtReAdd` says.
 abbrev pub IsLeftBy : Event → List Disk → List Disk → List (List ℕ) → Type 0
 IsLeftBy (Event.Record k) before after left = (w : Write) × IsWritten k w before after × IsLeftBut k (λ old c. IsCutShort old (w ∷ []) c) before left
 IsLeftBy (Event.WriteMember n k) before after left = (w : Write) × IsWritten k w before after × IsLeftBut k (λ old c. IsCutShort old (w ∷ []) c) before left
@@ -95,7 +106,7 @@ IsLeftBy Event.Resynced before after left = left ≡ map (λ d. d.content) befor
 IsLeftBy Event.Unresynced before after left = left ≡ map (λ d. d.content) before
 IsLeftBy (Event.Remove k) before after left = Unit {0}
 IsLeftBy (Event.Add number new) before after left = Unit {0}
-IsLeftBy (Event.ReAdd own device new) before after left = Unit {0}
+IsLeftBy (Event.ReAdd own device new) before after left = left ≡ map (λ d. d.content) before
 IsLeftBy Event.MakeClean before after left = left ≡ map (λ d. d.content) before
 IsLeftBy (Event.Begin n p) before after left = left ≡ map (λ d. d.content) before
 IsLeftBy (Event.Finish n) before after left = left ≡ map (λ d. d.content) before

@@ -1,5 +1,5 @@
 -- What is done by a call that is a list of events.
-use Rattle.std.specs.Prelude.{◌≡◌, ℕ, List, [], ◌∷◌, ◌++◌, Option}
+use Rattle.std.specs.Prelude.{◌≡◌, ℕ, true, List, [], ◌∷◌, ◌++◌, Option}
 use Rattle.md_model.specs.Events.{Event}
 use Rattle.md_state.specs.FailingMembers.{FailsMember}
 use Rattle.md_state.specs.Removing.{Removes}
@@ -7,6 +7,7 @@ use Rattle.md_state.specs.Requests.{AreInFlight}
 use Rattle.md_state.specs.View.{Disk, MirrorView}
 use Rattle.md_array.specs.Consistency.{IsConsistent}
 use Rattle.md_array.specs.InTurn.{AllLeftWhole, Leads, Requests}
+use Rattle.md_array.specs.ReAdding.{ReAdds, re_add_event}
 use Rattle.md_array.specs.Worlds.{AreHonest}
 use Rattle.md_laws.specs.Runs.{MirrorRun, Moment}
 
@@ -32,3 +33,10 @@ abbrev pub RemoveIsACall : Type 0
 RemoveIsACall =
     (k : ℕ) (disk : Disk) (old new : MirrorView) → IsConsistent old → Removes k disk old new
     → (previous : Option Event) (requests : Requests) → AreInFlight old.array requests → Leads previous old requests (Event.Remove k ∷ []) new requests
+
+-- So is `re_add`, where the device that it takes back does what it answers.
+abbrev pub ReAddIsACall : Type 0
+ReAddIsACall =
+    (k : ℕ) (device : Disk) (old new : MirrorView) → IsConsistent old → device.honest ≡ true → (r : ReAdds k device old new)
+    → (previous : Option Event) (requests : Requests) → AreInFlight old.array requests
+    → Leads previous old requests (re_add_event k device old new r ∷ []) new requests

@@ -2,7 +2,7 @@
 
 ghost use Rattle.md_laws.specs.StoppedCopies.{StopsAtCopies};
 ghost use Rattle.md_laws.specs.ReadInTurn.{ReadingCallsAreRuns};
-ghost use Rattle.md_laws.specs.WholeCalls.{CallsAreRuns, FailIsACall, RemoveIsACall, RunsGoOn};
+ghost use Rattle.md_laws.specs.WholeCalls.{CallsAreRuns, FailIsACall, ReAddIsACall, RemoveIsACall, RunsGoOn};
 
 /// A call that is a list of events (`Leads`) is a run of the mirror, from any moment of its life on, and
 /// goes on with the run before it. So `every_run` speaks of it. It is asked that devices do what they
@@ -18,6 +18,12 @@ pub fn every_call()
 pub fn leaving_calls()
     ensures fail { FailIsACall }
     ensures remove { RemoveIsACall }
+{}
+
+/// A device that is taken back is in the list too: each `re_add` that answers `Ok` is a list of one event, where that
+/// device does what it answers.
+pub fn joining_calls()
+    ensures re_add { ReAddIsACall }
 {}
 
 /// So is a call that reads devices before its events and after the last (`LeadsReading`), and writes no

@@ -5,9 +5,10 @@ use Rattle.md_state.specs.View.{MirrorView}
 use Rattle.md_array.specs.InTurn.{AllLeftWhole, InTurn, Requests}
 use Rattle.md_array.specs.Worlds.{AreHonest}
 use Rattle.md_laws.specs.Runs.{MirrorRun, Moment, then_as}
-use Rattle.md_laws.specs.WholeCalls.{CallsAreRuns, FailIsACall, RemoveIsACall, RunsGoOn}
+use Rattle.md_laws.specs.WholeCalls.{CallsAreRuns, FailIsACall, ReAddIsACall, RemoveIsACall, RunsGoOn}
 use Rattle.md_array.proofs.Steps.MemberFailed.{fail_happens}
 use Rattle.md_array.proofs.Steps.MemberRemoved.{remove_happens}
+use Rattle.md_array.proofs.Steps.TakenBackEvent.{re_add_happens}
 use Rattle.md_laws.proofs.Runs.MirrorRuns.{rests_run}
 use Rattle.md_laws.proofs.Runs.Rests.{at_once, at_rest}
 
@@ -35,3 +36,7 @@ fail_is_a_call k old new sound fails previous requests listed =
 pub remove_is_a_call : RemoveIsACall
 remove_is_a_call k disk old new sound leaves previous requests listed =
     (new, requests, tt, (refl, (disk, leaves)), λ honest whole. remove_happens k disk old new sound leaves honest requests listed, (refl, refl))
+
+pub re_add_is_a_call : ReAddIsACall
+re_add_is_a_call k device old new sound own r previous requests listed =
+    (new, requests, tt, (refl, record { index = k; device = device; re_adds = r; event = refl }), λ honest whole. re_add_happens k device old new sound r own honest requests listed, (refl, refl))

@@ -15,6 +15,7 @@ use Rattle.md_state.specs.DiskWrites.{IsFailed, IsTried, IsWritten}
 use Rattle.md_state.specs.View.{Disk}
 use Rattle.md_array.specs.Worlds.{AreHonest}
 use Rattle.md_laws.specs.StopsWithin.{IsLeftBut, MayAllBeLeft, StopsAsFailed, StopsAsTried, StopsAtEvents, StopsUndivided}
+use Rattle.md_array.proofs.General.Appended.{got_earlier}
 use Rattle.md_array.proofs.General.Indices.{got_in_map, got_within}
 use Rattle.md_array.proofs.Steps.WrittenParts.{whole, with_part}
 use Rattle.md_laws.proofs.Stops.AtSteps.{same_lists, stops_at_failure, stops_at_sector, stops_at_write, stops_in_memory}
@@ -215,7 +216,14 @@ stops_at_events Event.Resynced before after left honest writes may = in_memory b
 stops_at_events Event.Unresynced before after left honest writes may = in_memory before after left writes may
 stops_at_events (Event.Remove k) before after left honest writes may = tt
 stops_at_events (Event.Add number new) before after left honest writes may = tt
-stops_at_events (Event.ReAdd own device new) before after left honest writes may = tt
+stops_at_events (Event.ReAdd own device new) before after left honest writes may =
+    stops_in_memory before left (record {
+      as_many = may.as_many;
+      each = λ k d e c at there is.
+          let low = slice_get_within before k d at in
+          let kept : slice_get after k ≡ Some e = writes.written.tried.others k (λ last. absurd (omega arith)) ∙ got_earlier before writes.was e k there in
+          may.each k d e c at kept is;
+    })
 stops_at_events Event.MakeClean before after left honest writes may = in_memory before after left writes may
 stops_at_events (Event.Begin n p) before after left honest writes may = in_memory before after left writes may
 stops_at_events (Event.Finish n) before after left honest writes may = in_memory before after left writes may

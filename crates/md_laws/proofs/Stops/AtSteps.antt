@@ -1,5 +1,5 @@
 -- What a stop within a step leaves.
-use Rattle.std.proofs.Common.{◌≡◌, ◌∙◌, ⊎_elim, inr, ℕ, zero, suc, ◌<◌, List, [], ◌∷◌, drop, length, get_or, Some, sym, ap, refl, subst, arith}
+use Rattle.std.proofs.Common.{◌≡◌, ◌∙◌, ⊎_elim, inr, ℕ, zero, suc, ◌<◌, List, [], ◌∷◌, ◌++◌, drop, length, get_or, Some, sym, ap, refl, subst, arith}
 use Rattle.std.specs.Prelude.{map, option_map, slice_get}
 use Rattle.std.specs.List.{insert, remove}
 use Rattle.std.proofs.lemmas.List.{drop_at, length-drop, length-map}
@@ -9,9 +9,11 @@ use Rattle.md_device.proofs.Leaving.{mixed_none, mixed_one}
 use Rattle.md_writes.specs.Writes.{IsAnyIn, IsCutShort, Write}
 use Rattle.md_writes.proofs.Runs.{cut_one}
 use Rattle.md_state.specs.View.{Disk}
-use Rattle.md_state.specs.DiskWrites.{IsTried}
-use Rattle.md_laws.specs.StopsWithin.{IsLeftBut, MayAllBeLeft, MayBeLeft, StopsAtFailure, StopsAtRemoval, StopsAtSector, StopsAtWrite, StopsInMemory}
+use Rattle.md_state.specs.DiskWrites.{IsTried, IsWritten}
+use Rattle.md_array.specs.Recording.{super_write}
+use Rattle.md_laws.specs.StopsWithin.{IsLeftBut, MayAllBeLeft, MayBeLeft, StopsAtFailure, StopsAtReAdd, StopsAtRemoval, StopsAtSector, StopsAtWrite, StopsInMemory}
 use Rattle.md_array.proofs.General.Indices.{got_within}
+use Rattle.md_array.proofs.Steps.WrittenLast.{honest_last, written_last}
 
 -- what is listed since, has what is said of all that is new
 pub new_has : (past now : List (List ℕ)) (P : List ℕ → Type 0) → LeavesMore past now P → (i : ℕ) (c : List ℕ) → slice_get (drop (length past) now) i ≡ Some c → P c
@@ -57,6 +59,14 @@ stops_at_failure k w before after left honest failed may =
     left_but k w before after left (IsAnyIn w) failed.tried may
     (λ d e c was is. ⊎_elim (λ same. rw same (record { size = refl; before = refl; after = refl }))
     (λ new. new_has d.stops e.stops (IsAnyIn w d.content) (failed.within d e was is (honest k d was)) new.0 c new.1))
+
+pub stops_at_re_add : StopsAtReAdd
+stops_at_re_add k device old new left honest own r may =
+    let w : Write = super_write new.array r.recorded.takes.member in
+    let written : IsWritten (length old.disks) w (old.disks ++ device ∷ []) new.disks =
+    subst (λ (disks : List Disk). IsWritten (length old.disks) w (old.disks ++ device ∷ []) disks) (sym r.recorded.disks)
+    (written_last old.disks device r.after_reading r.recorded.now w r.only_read r.recorded.written) in
+    stops_at_write (length old.disks) w (old.disks ++ device ∷ []) new.disks left (honest_last old.disks device honest own) written may
 
 -- lists with the same elements at each place
 pub same_lists : {X : Type 0} (xs ys : List X) → length ys ≡ length xs → ((k : ℕ) (x y : X) → slice_get xs k ≡ Some x → slice_get ys k ≡ Some y → y ≡ x) → ys ≡ xs
