@@ -19,6 +19,8 @@ pub mod CountedAtBegin
 pub mod DataFailed
 -- A member gets a request's bytes: no more than those sectors of its data changes, and that is the model's event.
 pub mod DataWritten
+-- The device of a member that is taken back: nothing but its superblock changes there, and an opening would read what is kept of it.
+pub mod DeviceTakenBack
 -- A request that is finished leaves the list of those in flight, and nothing else changes: that is the model's event.
 pub mod Finished
 -- The requests in flight, by the mirror's list of them.
@@ -53,11 +55,15 @@ pub mod StoresKeep
 pub mod SuperFailed
 -- A member's superblock that is stored is the model's event, and the mirror stays consistent.
 pub mod SuperRecorded
+-- A device that left comes in again: that is the model's event.
+pub mod TakenBackEvent
 -- Lists of events of a call, joined and carried along.
 pub mod Turns
 -- What `write_member` and `finish` keep, and which events they are, whatever they answer.
 pub mod WriteKeeps
 -- A request's bytes go to a member.
 pub mod WriteToMember
+-- A device that is read, written once, and then stands behind the others.
+pub mod WrittenLast
 -- Sectors of a write to the data, of which some are written.
 pub mod WrittenParts

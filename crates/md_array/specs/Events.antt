@@ -1,6 +1,7 @@
 -- The steps as events of the model: what each makes of the world, where devices do what they answer.
-use Rattle.std.specs.Prelude.{◌≡◌, ◌⊎◌, ⊤, ℕ, List, length, None, Option, Result, MatchResult}
+use Rattle.std.specs.Prelude.{◌≡◌, ◌⊎◌, ⊤, ℕ, true, List, [], ◌∷◌, ◌++◌, length, None, Option, Some, Result, MatchResult}
 use Rattle.md_model.specs.Sectors.{put}
+use Rattle.md_model.specs.Devices.{Super}
 use Rattle.md_model.specs.Worlds.{Request}
 use Rattle.md_model.specs.Content.{Content, Becomes, HoldsBetween, HoldsInFlight}
 use Rattle.md_model.specs.Events.{Event, Step}
@@ -22,8 +23,16 @@ use Rattle.md_array.specs.ReadAsKept.{AreReadAsKept}
 use Rattle.md_array.specs.Recording.{super_write}
 use Rattle.md_array.specs.Worlds.{AreHonest, world_of, geometry_of, super_in, block_on}
 
+-- A device that had this superblock is written once, and stands behind the others then, none of which is used.
+pub record WritesLast (own : Super) (before after : List Disk) : Type 0 where
+  pub was : Disk
+  pub super : super_in (block_on was.content) ≡ Some own
+  pub honest : was.honest ≡ true
+  pub write : Write
+  pub written : IsWritten (length before) write (before ++ was ∷ []) after
+
 -- The devices before and after an event: one is written at most, and once. The sectors of one write of a resync are an event each.
--- Of members that come and go no call is made yet.
+-- Of a member that leaves nothing is said here, and of a new one that comes in no call is made yet.
 abbrev pub WritesOnce : Event → List Disk → List Disk → Type 0
 WritesOnce (Event.Record k) before after = (w : Write) × IsWritten k w before after
 WritesOnce (Event.StoreMarks k b) before after = (w : Write) × (length w.bytes ≡ 512) × IsWritten k w before after
@@ -37,7 +46,7 @@ WritesOnce Event.Resynced before after = after ≡ before
 WritesOnce Event.Unresynced before after = after ≡ before
 WritesOnce (Event.Remove k) before after = Unit {0}
 WritesOnce (Event.Add number left) before after = Unit {0}
-WritesOnce (Event.ReAdd own device left) before after = Unit {0}
+WritesOnce (Event.ReAdd own device left) before after = WritesLast own before after
 WritesOnce Event.MakeClean before after = after ≡ before
 WritesOnce (Event.Begin n p) before after = after ≡ before
 WritesOnce (Event.Finish n) before after = after ≡ before

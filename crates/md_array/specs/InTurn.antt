@@ -21,6 +21,7 @@ use Rattle.md_state.specs.Requests.{request_of}
 use Rattle.md_state.specs.CopyingData.{CopiesSector, FailsToCopy, HaltsCopying}
 use Rattle.md_array.specs.Recording.{FailsToRecord, HaltsRecording, Records, super_write}
 use Rattle.md_array.specs.NotingResynced.{BecomesResynced, NotesResynced}
+use Rattle.md_array.specs.ReAdding.{ReAdds, re_add_event}
 use Rattle.md_array.specs.Events.{Does, IsOldNewOrNone}
 use Rattle.md_array.specs.Worlds.{AreHonest}
 
@@ -74,8 +75,15 @@ pub record IsPut (n : ℕ) (r : Option Request) (before after : Requests) : Type
   pub at : after n ≡ r
   pub others : (m : ℕ) → m ≢ n → after m ≡ before m
 
+-- this device was taken back, by this event
+pub record DidReAdd (e : Event) (old new : MirrorView) : Type 0 where
+  pub index : ℕ
+  pub device : Disk
+  pub re_adds : ReAdds index device old new
+  pub event : e ≡ re_add_event index device old new re_adds
+
 -- What the step's own contract says of it, whatever its device is, and what requests are in flight after it. No call does the other
--- events yet: those of a device that comes in.
+-- event yet: that of a new device that comes in.
 abbrev pub Did : MirrorView → Requests → Event → MirrorView → Requests → Type 0
 Did old before (Event.Begin n r) new after =
     (sector : ℕ) × (bytes : List ℕ) × (p : PendingView) × IsUnder n p after × IsPut n (Some r) before after × Begins sector bytes old new p
@@ -88,6 +96,7 @@ Did old before (Event.ClearIdle c) new after = (after ≡ before) × Clears c ol
 Did old before Event.MakeClean new after = (after ≡ before) × MakesClean old new
 Did old before (Event.Fail k) new after = (after ≡ before) × FailsMember k old new
 Did old before (Event.Remove k) new after = (after ≡ before) × ((disk : Disk) × Removes k disk old new)
+Did old before (Event.ReAdd own device left) new after = (after ≡ before) × DidReAdd (Event.ReAdd own device left) old new
 Did old before (Event.RecordFails k) new after = (after ≡ before) × FailsToRecord k old new
 Did old before (Event.StoreMarksFails k b) new after = (after ≡ before) × FailsToStoreMarks k b old new
 Did old before (Event.WriteMemberFails n k) new after =

@@ -20,7 +20,7 @@ use Rattle.md_state.specs.Trying.{Refuses}
 use Rattle.md_state.specs.View.{Disk, MirrorView}
 use Rattle.md_array.specs.Events.{Happens}
 use Rattle.md_array.specs.Recording.{IsReadable, super_write, write_of}
-use Rattle.md_array.specs.Worlds.{block_on, stored_of, super_in}
+use Rattle.md_array.specs.Worlds.{block_on, stored_of, super_in, super_of}
 
 -- nothing was written on a device, but some of its reads may have failed
 abbrev pub IsOnlyRead : Disk → Disk → Type 0
@@ -103,6 +103,12 @@ RefusesReAdd device given old new NoRole = RefusesInfo device given old new NoRo
 RefusesReAdd device given old new EventsFull = RefusesInfo device given old new EventsFull
 RefusesReAdd device given old new WriteFault = FailsToReAdd device given old new
 RefusesReAdd device given old new NoMemory = LacksMemory device given old new
+
+-- the event of the model: what the device had, and has, is by the fields that are kept of it
+abbrev pub re_add_event : (k : ℕ) (device : Disk) (old new : MirrorView) → ReAdds k device old new → Event
+re_add_event k device old new r =
+    let m : MemberView = r.recorded.takes.member in
+    Event.ReAdd (super_of r.info.superblock) (stored_of new.array m device.content) (stored_of new.array m r.recorded.now.content)
 
 -- By the event the device comes in as it was read, with its superblock written and nothing else changed. What is said of its bytes is
 -- said of one that does what it answers.

@@ -63,10 +63,14 @@ impl<D: Device + Drop> Mirror<D> {
     {
         let number = info.superblock.dev_number;
         let role = info.superblock.role_of(number);
+        let full = !self.array.is_degraded();
         let Ok(shared) = self.array.shared_with(alloc, number, role) else {
             return Err((device, ReAddFault::NoMemory));
         };
-        if self.array.members.reserve(1).is_err() || self.devices.reserve(1).is_err() {
+        if self.array.members.reserve(1).is_err() {
+            return Err((device, ReAddFault::NoMemory));
+        }
+        if self.devices.reserve(1).is_err() {
             return Err((device, ReAddFault::NoMemory));
         }
         let member = taken_back(info);
@@ -74,7 +78,6 @@ impl<D: Device + Drop> Mirror<D> {
         if store_superblock(&mut device, &shared, &member).is_err() {
             return Err((device, ReAddFault::WriteFault));
         }
-        let full = !self.array.is_degraded();
         self.array.members.push_reserved(member);
         self.array.note_joined(shared, full);
         self.devices.push_reserved(device);

@@ -163,10 +163,10 @@ module _ (k : ℕ) (device : Disk) (old new : MirrorView) (c : IsConsistent old)
   abbrev role : ℕ
   role = own_role info.superblock
 
-  after : MirrorView
+  pub after : MirrorView
   after = record { disks = old.disks ++ r.recorded.now ∷ []; array = joined a m role }
 
-  is_after : new ≡ after
+  pub is_after : new ≡ after
   unfolding after
   is_after = same_mirror new (old.disks ++ r.recorded.now ∷ []) (joined a m role) r.recorded.disks r.recorded.takes.array
 
@@ -175,17 +175,17 @@ module _ (k : ℕ) (device : Disk) (old new : MirrorView) (c : IsConsistent old)
       let outside = r.recorded.written.tried.outside r.after_reading r.recorded.now refl refl in
       outside.size ∙ ap length r.only_read.0.0
 
-  small : m.superblock.dev_number < 1920
+  pub small : m.superblock.dev_number < 1920
   small =
       let low = may.fits.role.has_role in
       let few = a.shared.in_profile.few_disks in
       rw (number_there a info m taken may device.content device.honest r.read)
       (small_number a.shared.raid_disks device.content device.honest info few r.read low)
 
-  room : length a.members < 64
+  pub room : length a.members < 64
   room = elim (cases_lt (length a.members) 64) [ inl low ↦ low | inr full ↦ absurd (may.room full) ]
 
-  absent : has_number a m.superblock.dev_number ≡ false
+  pub absent : has_number a m.superblock.dev_number ≡ false
   absent = ap (has_number a) (number_there a info m taken may device.content device.honest r.read) ∙ may.fits.role.absent
 
   pub taken_back_is_consistent : IsConsistent new
@@ -257,53 +257,3 @@ module _ {D : Type 0} (of : D → Disk) (device : Disk) (old new : MirrorView) (
       → (p : PendingView) → IsPending old.array p → IsPending new.array p
   re_add_keeps_pending (Ok k) r = taken_back_keeps_pending k device old new c r
   re_add_keeps_pending (Err e) r = λ p. subst (λ (v : MirrorView). IsPending v.array p) (sym (re_add_unchanged device (of e.0) old new e.1 r))
-
--- ---- the event, where devices do what they answer
-takes_own : (s : MemberState) → is_active s ≡ true → (role : ℕ) × (takes_role role s ≡ true)
-takes_own (InSync role) e = (role, eq-eqb role role refl)
-takes_own (Recovering role) e = (role, eq-eqb role role refl)
-takes_own (Stale role) e = absurd cc
-takes_own Spare e = absurd cc
-takes_own Faulty e = absurd cc
-
-module _ (k : ℕ) (device : Disk) (old new : MirrorView) (c : IsConsistent old) (r : ReAdds k device old new) (honest : device.honest ≡ true) where
-  abbrev b : ArrayView
-  b = joined old.array r.recorded.takes.member (own_role r.info.superblock)
-
-  abbrev full : Bool
-  full = not (is_degraded old.array)
-
-  abbrev own : Super
-  own = super_of r.info.superblock
-
-  its_read : members.IsMember device.content true r.info
-  its_read = subst (λ h. members.IsMember device.content h r.info) honest r.read
-
-  was : super_in (block_on device.content) ≡ Some own
-  was = device_super device.content r.info.superblock its_read.superblock
-
-  module _ (requests : ℕ → Option Request) where
-    abbrev w : World
-    w = world_of old requests
-
-    -- an active member has a role, and not this one
-    role_free : (j : ℕ) → model.is_active (w.state j) ≡ true → w.role (w.number j) ≢ own.role own.number
-    role_free j active same = by_member old.array j
-        (λ x is.
-        let takes = takes_own x.state (sym (same_active x.state) ∙ sym (ap model.is_active (at_is old.array j model.State.Faulty (λ y. kind_of y.state) x is)) ∙ active) in
-        let has = c.roles.shared j takes.0 x is takes.1 in
-        let here : takes.0 ≡ own.role own.number = sym has ∙ sym (ap (role_in old.array.shared) (at_is old.array j 0 (λ y. y.superblock.dev_number) x is)) ∙ same in
-        true≢false (sym (any_at (λ (y : MemberView). takes_role (own_role r.info.superblock) y.state) old.array.members j x is (subst (λ n. takes_role n x.state ≡ true) here takes.1)) ∙ r.recorded.takes.may.free))
-        (λ past. true≢false (sym active ∙ ap model.is_active (at_past old.array j model.State.Faulty (λ y. kind_of y.state) past)))
-
-    may_there : membership.MayReAdd (geometry_of old.array) w own
-    may_there = record {
-      room = room k device old new c r;
-      absent = r.recorded.takes.may.fits.role.absent;
-      small = subst (λ n. n < 1920) (number_there old.array r.info r.recorded.takes.member r.recorded.takes.taken r.recorded.takes.may device.content device.honest r.read) (small k device old new c r);
-      whole = r.recorded.takes.may.fits.role.whole;
-      late = r.recorded.takes.may.fits.in_time.late;
-      no_newer = r.recorded.takes.may.fits.in_time.no_newer;
-      has_role = r.recorded.takes.may.fits.role.has_role;
-      free = role_free;
-    }

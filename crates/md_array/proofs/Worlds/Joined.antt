@@ -16,22 +16,28 @@ use Rattle.md_model.specs.Membership as membership
 use Rattle.md_model.proofs.Puts.{put-hit, put-miss}
 use Rattle.md_bitmap.specs.Marks.{is_set}
 use Rattle.md_assembly.specs.declared.state.MemberState.TheVariants.{Recovering}
-use Rattle.md_assembly.specs.States.{has_recovery_offset, is_in_sync, role_in, takes_role}
+use Rattle.md_assembly.specs.States.{has_recovery_offset, is_in_sync, is_in_sync_as, is_recorded, role_in, takes_role}
 use Rattle.md_kept_members.specs.View.{MemberView}
 use Rattle.md_kept_members.specs.Members.{made_due}
 use Rattle.md_kept_members.proofs.Members.Indices.{listed_push}
 use Rattle.md_state.specs.InMemory.{HasChunks, HasRoles}
 use Rattle.md_state.specs.Joining.{entries_with, joined, joined_roles, role_after}
-use Rattle.md_state.specs.Members.{IsMember, is_degraded}
+use Rattle.md_state.specs.Members.{IsMember, is_degraded, is_filled}
 use Rattle.md_state.specs.ReAdding.{is_taken}
 use Rattle.md_state.specs.Rising.{has_number, is_absent, risen, roles_at_rise}
 use Rattle.md_state.specs.View.{ArrayView, Disk}
 use Rattle.md_array.specs.Consistency.{IsConsistent}
 use Rattle.md_array.specs.Fits.{Fits, FitsMember}
+use Rattle.md_array.specs.ReadAsKept.{AreReadAsKept, IsReadAsKept}
 use Rattle.md_array.specs.Worlds.{geometry_of, kind_of, stored_of, stored_on, world_on}
 use Rattle.md_array.proofs.General.Appended.{got_appended, got_earlier, shown_appended}
 use Rattle.md_array.proofs.General.Indices.{any_at, at_map}
-use Rattle.md_array.proofs.Worlds.Risen.{risen_is_consistent, risen_role, world_risen}
+use Rattle.md_array.proofs.Worlds.ReadAsKept.{IsSameArray, kept_in}
+use Rattle.md_array.proofs.Worlds.Risen.{risen_is_consistent, risen_role, same_filled, world_risen}
+
+or_false : (t : Bool) → (t || false) ≡ t
+or_false true = refl
+or_false false = refl
 
 module _ (a : ArrayView) (m : MemberView) (role : ℕ) (small : m.superblock.dev_number < 1920) where
   abbrev full : Bool
@@ -53,7 +59,7 @@ module _ (a : ArrayView) (m : MemberView) (role : ℕ) (small : m.superblock.dev
   count_roles : length b.shared.roles ≡ entries_with a number
   count_roles = length-map-range_with_len (role_after a number role) 0 (entries_with a number)
 
-  role_joined : (d : ℕ) → role_in b.shared d ≡ put number role (role_in up.shared) d
+  pub role_joined : (d : ℕ) → role_in b.shared d ≡ put number role (role_in up.shared) d
   role_joined d =
       let enough = entries_are in
       elim (cases_lt d (entries_with a number)) [
@@ -170,8 +176,45 @@ module _ (a : ArrayView) (m : MemberView) (role : ℕ) (small : m.superblock.dev
               ];
             }
 
+    -- no role is filled by it
+    pub degraded_joined : is_degraded b ≡ is_degraded a
+    degraded_joined = ap (λ (f : ℕ → Bool). list_any (λ wanted. not (f wanted)) (range_with_len 0 a.shared.raid_disks)) (λ i wanted. filled wanted i)
+      where
+        not_as : (wanted : ℕ) → (list_any (λ (x : MemberView). is_in_sync_as wanted x.state) (m ∷ [])) ≡ false
+        not_as wanted = ap (λ s. is_in_sync_as wanted s || false) state
+
+        filled : (wanted : ℕ) → is_filled b wanted ≡ is_filled a wanted
+        filled wanted =
+            list_any-append (λ (x : MemberView). is_in_sync_as wanted x.state) up.members (m ∷ [])
+            ∙ ap (λ t. is_filled up wanted || t) (not_as wanted)
+            ∙ or_false (is_filled up wanted)
+            ∙ same_filled a full wanted
+
+  -- ---- what an opening would read
+  same_fields : IsSameArray a b
+  same_fields = record { set_uuid = refl; size = refl; raid_disks = refl; sectors = refl; events = omega arith }
+
+  pub read_joined : (disks : List Disk) (d : Disk) (failed_at : ℕ) → length disks ≡ length a.members → IsReadAsKept b m failed_at d.content
+      → AreReadAsKept (record { disks = disks; array = a }) failed_at → AreReadAsKept (record { disks = disks ++ d ∷ []; array = b }) failed_at
+  read_joined disks d failed_at many last are j e x there is =
+      let same = length-map a.members made_due in
+      elim (was j x is) [
+        | inl old ↦ elim (listed_push disks d e j there) [
+          | inl here ↦
+              let y = at_map made_due a.members j x old in
+              kept_in a b y.0 x failed_at e.content same_fields
+              (record { superblock = ap (λ (z : MemberView). z.superblock) y.2; recorded = ap (λ (z : MemberView). is_recorded z.state) y.2 })
+              (are j e y.0 here y.1)
+          | inr end ↦ let low = slice_get_within up.members j x old in let at = end.0 in absurd (omega arith)
+        ]
+        | inr new ↦ elim (listed_push disks d e j there) [
+          | inl here ↦ let low = slice_get_within disks j e here in let at = new.0 in absurd (omega arith)
+          | inr end ↦ subst (λ (n : MemberView). IsReadAsKept b n failed_at e.content) new.1 (subst (λ (z : Disk). IsReadAsKept b m failed_at z.content) end.1 last)
+        ]
+      ]
+
   -- ---- the world
-  newcomer : List ℕ → membership.Newcomer
+  abbrev pub newcomer : List ℕ → membership.Newcomer
   newcomer content = record { number = number; role = role; state = kind_of m.state; re_added = m.re_added; recovering = has_recovery_offset m.superblock; device = stored_of b m content }
 
   stored_joined : (o : Option MemberView) (d : Option Disk) → stored_on b o d ≡ stored_on up o d

@@ -130,7 +130,7 @@ own_in a b m n content same like has =
       no_newer = let low = was.no_newer in omega arith;
     })
 
-kept_in : (a b : ArrayView) (m n : MemberView) (failed_at : ℕ) (content : List ℕ) → IsSameArray a b → IsSameMember m n → IsReadAsKept a m failed_at content → IsReadAsKept b n failed_at content
+pub kept_in : (a b : ArrayView) (m n : MemberView) (failed_at : ℕ) (content : List ℕ) → IsSameArray a b → IsSameMember m n → IsReadAsKept a m failed_at content → IsReadAsKept b n failed_at content
 kept_in a b m n failed_at content same like was = record {
   super = own_in a b m n content same like.superblock was.super;
   header = elim was.header [
