@@ -26,6 +26,6 @@ pub use other_in_sync::has_other_in_sync;
 pub use permitting::permitted_roles;
 pub use remembering::{chunking_of, members_of};
 pub use resyncing::is_resynced;
-pub use spares::new_spare;
+pub use spares::kept_spare;
 pub use stored_marks::copy_block;
 pub use taking_back::taken_back;

@@ -1,6 +1,6 @@
 // What is kept in memory of a new device that comes in as a spare.
 ghost use Rattle.std.specs.Prelude.{◌≡◌};
-ghost use Rattle.md_kept_members.specs.Spares.{new_spare};
+ghost use Rattle.md_kept_members.specs.Spares.{kept_spare};
 
 use crate::member::Member;
 use md_assembly::MemberState;
@@ -10,13 +10,13 @@ use md_super::Superblock;
 use std::alloc::Global;
 
 /// What is kept of a device on which a spare was laid out with these. It takes no memory.
-pub fn new_spare(
+pub fn kept_spare(
     alloc: Global,
     superblock: Superblock,
     header: BitmapHeader,
     marks: Marks,
 ) -> Member
-    ensures { result ≡ new_spare superblock header marks }
+    ensures { result ≡ kept_spare superblock header marks }
 {
     Member {
         superblock,

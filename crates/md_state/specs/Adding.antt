@@ -7,7 +7,7 @@ use Rattle.md_create.specs.declared.params.NewMember.{NewMember}
 use Rattle.md_create.specs.Spares.{IsNewSpare}
 use Rattle.md_model.specs.Membership.{IsLeast}
 use Rattle.md_assembly.specs.States.{role_in}
-use Rattle.md_kept_members.specs.Spares.{IsOfFreshest, new_spare}
+use Rattle.md_kept_members.specs.Spares.{IsOfFreshest, kept_spare}
 use Rattle.md_state.specs.declared.add_fault.AddFault.{AddFault}
 use Rattle.md_state.specs.declared.add_fault.AddFault.TheVariants.{Halted, TooSmall, Full, EventsFull, WriteFault, NoMemory}
 use Rattle.md_state.specs.Joining.{IsFull, joined, joined_shared}
@@ -100,7 +100,7 @@ pub record IsSpareOf (a : ArrayView) (number sectors : ℕ) (m : NewMember) : Ty
 
 -- ---- the array with it
 abbrev pub added : ArrayView → NewMember → ArrayView
-added a m = joined a (new_spare m.superblock m.header m.marks) spare_role
+added a m = joined a (kept_spare m.superblock m.header m.marks) spare_role
 
 -- a device of so many sectors has come in
 pub record AddsSpare (sectors : ℕ) (old new : ArrayView) : Type 0 where
