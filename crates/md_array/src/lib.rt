@@ -27,7 +27,7 @@ mod writing_member;
 pub use fault::OpenFault;
 pub use md_requests::Pending;
 pub use md_state::{
-    AddFault, BeginFault, CleanFault, ClearFault, CopyFault, FailFault, FinishFault, RemoveFault, StoreFault,
-    WriteMemberFault,
+    AddFault, BeginFault, CleanFault, ClearFault, CopyFault, FailFault, FinishFault, ReAddFault,
+    RemoveFault, StoreFault, WriteMemberFault,
 };
 pub use mirror::Mirror;

@@ -1,30 +1,31 @@
 -- A device that left comes in again: the mirror stays consistent, and requests in flight stay its own.
-use Rattle.std.proofs.Common.{◌≡◌, ◌≢◌, eq-eqb, true≢false, ℕ, ◌+◌, ◌*◌, ◌/◌, ◌<◌, ◌≤◌, inl, inr, Bool, true, false, cond, not, ◌&&◌, ◌==◌, List, [], ◌∷◌, ◌++◌, length, map, Option, Some, None, Result, Ok, Err, refl, sym, ap, ◌∙◌, subst, arith}
+use Rattle.std.proofs.Common.{◌≡◌, ◌≢◌, eq-eqb, true≢false, ℕ, ◌+◌, ◌*◌, ◌/◌, ◌<◌, ◌≤◌, inl, inr, Bool, true, false, cond, not, ◌&&◌, ◌==◌, List, [], ◌∷◌, ◌++◌, length, map, count_by, Option, Some, None, Result, Ok, Err, refl, sym, ap, ◌∙◌, subst, arith}
 use Rattle.std.specs.Int.{div_ceil}
 use Rattle.std.specs.Prelude.{MatchResult}
 use Rattle.std.proofs.lemmas.Bool.{cases_lt}
-use Rattle.std.proofs.lemmas.List.{get_or_past}
+use Rattle.std.proofs.lemmas.List.{get_or_past, map-append}
 use Rattle.std.proofs.lemmas.List.Sums.{sum_by_push}
 use Rattle.std.proofs.lemmas.Nat.{and_or_apart}
 use Rattle.std.proofs.lemmas.Option.{none-some, same_Some}
+use Rattle.md_device.specs.declared.device.Device.{Ghosts}
+use Rattle.md_device.specs.Splice.{SameOutside}
 use Rattle.md_super.specs.declared.superblock.Superblock.{Superblock}
+use Rattle.md_super.specs.Merge.{merged}
 use Rattle.md_super.proofs.Order.{sound_without_fault}
 use Rattle.md_super.proofs.RoleLists.{length-roles_in}
 use Rattle.md_bitmap.specs.declared.header.BitmapHeader.{BitmapHeader}
 use Rattle.md_bitmap.specs.Marks.{Bitmap}
 use Rattle.md_bitmap.specs.Sound.{chunk_count}
 use Rattle.md_bitmap.proofs.Limits.{div_ceil-sectors}
+use Rattle.md_members.specs.declared.fault.MemberFault.{MemberFault}
+use Rattle.md_members.specs.declared.fault.MemberFault.TheVariants as member_fault
 use Rattle.md_members.specs.declared.info.MemberInfo.{MemberInfo}
 use Rattle.md_members.specs.Members as members
 use Rattle.md_members.specs.Areas.{BitmapIsPlaced, IsPlaced, LogIsPlaced, bitmap_sectors, has_bitmap}
 use Rattle.md_members.specs.Members.{HasBitmap, sectors_of}
 use Rattle.md_assembly.specs.declared.state.MemberState.{MemberState}
-use Rattle.md_assembly.specs.declared.state.MemberState.TheVariants.{InSync, Recovering, Stale, Spare, Faulty}
-use Rattle.md_assembly.specs.States.{is_active, is_in_sync, role_in, takes_role}
-use Rattle.md_model.specs.States as model
-use Rattle.md_model.specs.Devices.{Super}
-use Rattle.md_model.specs.Worlds.{Request, World}
-use Rattle.md_model.specs.Membership as membership
+use Rattle.md_assembly.specs.States.{is_in_sync}
+use Rattle.md_writes.specs.Writes.{DoesWrites, StopsInWrites}
 use Rattle.md_requests.specs.Pending.{PendingView, has_written}
 use Rattle.md_kept_members.specs.OwnFields.{kept_superblock}
 use Rattle.md_kept_members.specs.TakingBack.{IsTakenBack, own_role, recovering}
@@ -32,24 +33,22 @@ use Rattle.md_kept_members.specs.View.{MemberView}
 use Rattle.md_kept_members.specs.Members.{made_due}
 use Rattle.md_state.specs.declared.re_add_fault.ReAddFault.{ReAddFault}
 use Rattle.md_state.specs.declared.re_add_fault.ReAddFault.TheVariants as fault
+use Rattle.md_state.specs.DiskWrites.{IsFailed, IsWritten}
 use Rattle.md_state.specs.Joining.{joined, joined_shared}
 use Rattle.md_state.specs.Members.{is_degraded}
-use Rattle.md_state.specs.ReAdding.{MayReAdd}
+use Rattle.md_state.specs.ReAdding.{MayReAdd, RefusesToTakeBack}
 use Rattle.md_state.specs.Requests.{IsPending, lacks}
 use Rattle.md_state.specs.Rising.{has_number, risen}
-use Rattle.md_state.specs.View.{ArrayView, Disk, MirrorView}
+use Rattle.md_state.specs.View.{ArrayView, Disk, MirrorView, disk_of}
 use Rattle.md_array.specs.Consistency.{IsConsistent}
 use Rattle.md_array.specs.Fits.{FitsMember}
-use Rattle.md_array.specs.ReAdding.{IsOnlyRead, ReAdds, RecordsLast, RefusesReAdd, RefusesToRecordLast}
-use Rattle.md_array.specs.Worlds.{block_on, geometry_of, kind_of, super_in, super_of, world_of}
-use Rattle.md_array.proofs.General.Indices.{any_at}
+use Rattle.md_array.specs.Recording.{IsReadable, write_of}
+use Rattle.md_array.specs.ReAdding.{FailsToRecordLast, IsOnlyRead, ReAdds, RecordsLast, RefusesDevice, RefusesInfo, RefusesReAdd, RefusesToRecordLast, unread_as}
 use Rattle.md_array.proofs.Openings.OwnFields.{bitmap_same, placed_next}
 use Rattle.md_array.proofs.Steps.CountedAtBegin.{counted_keeps_pending}
 use Rattle.md_array.proofs.Steps.RemarkedWorlds.{same_mirror}
-use Rattle.md_array.proofs.Steps.MemberRemoved.{same_active}
+use Rattle.md_array.proofs.Steps.OneWrite.{is_failed, is_written}
 use Rattle.md_array.proofs.Worlds.Joined.{joined_is_consistent}
-use Rattle.md_array.proofs.Worlds.Shown.{at_is, at_past, by_member}
-use Rattle.md_array.proofs.Worlds.Supers.{device_super}
 
 -- ---- its superblock, as it is written
 module _ (v : Superblock) where
@@ -163,7 +162,7 @@ module _ (k : ℕ) (device : Disk) (old new : MirrorView) (c : IsConsistent old)
   abbrev role : ℕ
   role = own_role info.superblock
 
-  pub after : MirrorView
+  unfoldable pub after : MirrorView
   after = record { disks = old.disks ++ r.recorded.now ∷ []; array = joined a m role }
 
   pub is_after : new ≡ after
@@ -203,10 +202,11 @@ module _ (k : ℕ) (device : Disk) (old new : MirrorView) (c : IsConsistent old)
   pub taken_back_keeps_pending : (p : PendingView) → IsPending old.array p → IsPending new.array p
   taken_back_keeps_pending p is =
       let counted = counted_keeps_pending a true p true is in
-      let room = counted.room in
+      let most : length p.written + count_by (lacks p) (risen a true).members ≤ 64 = counted.room in
       let out : lacks p m ≡ false = ap (λ (s : MemberState). is_in_sync s && not (has_written p m.superblock.dev_number)) taken.state in
-      let more = sum_by_push (λ (x : MemberView). cond (lacks p x) 1 0) (risen a true).members m in
-      let none : cond (lacks p m) 1 0 ≡ 0 = ap (λ b. cond b 1 0) out in
+      let none : ◌≡◌ {A = ℕ} (cond (lacks p m) 1 0) 0 = ap (λ b. cond b 1 0) out in
+      let more : count_by (lacks p) (joined a m role).members ≡ count_by (lacks p) (risen a true).members + cond (lacks p m) 1 0 =
+      sum_by_push (λ (x : MemberView). cond (lacks p x) 1 0) (risen a true).members m in
       subst (λ (x : ArrayView). IsPending x p) (sym r.recorded.takes.array)
       (record { belongs = counted.belongs; extent = counted.extent; whole = counted.whole; room = omega arith })
 
@@ -221,6 +221,36 @@ re_add_unchanged device given old new fault.EventsFull r = r.unchanged
 re_add_unchanged device given old new fault.WriteFault r = r.fails.unchanged
 re_add_unchanged device given old new fault.NoMemory r = r.unchanged
 
+-- ---- it is refused
+-- it is not read as a member
+module _ (device given : Disk) (v : MirrorView) (running : v.array.halted ≡ false) (only_read : IsOnlyRead device given) where
+  unread : (f : MemberFault) → members.RefusesMember device.content device.honest (device.failures < given.failures) f → f ≢ member_fault.NoMemory → RefusesDevice device given v v f
+  unread f refused memory = record { running = running; unchanged = refl; only_read = only_read; refused = refused; memory = memory }
+
+  pub refused_device : (f : MemberFault) → members.RefusesMember device.content device.honest (device.failures < given.failures) f → RefusesReAdd device given v v (unread_as f)
+  refused_device member_fault.TooShort r = unread member_fault.TooShort r (λ same. cc)
+  refused_device member_fault.ReadFault r = unread member_fault.ReadFault r (λ same. cc)
+  refused_device (member_fault.Super f) r = unread (member_fault.Super f) r (λ same. cc)
+  refused_device member_fault.Region r = unread member_fault.Region r (λ same. cc)
+  refused_device (member_fault.Bitmap f) r = unread (member_fault.Bitmap f) r (λ same. cc)
+  refused_device (member_fault.Log f) r = unread (member_fault.Log f) r (λ same. cc)
+  refused_device member_fault.NoMemory r = record { running = running; unchanged = refl; only_read = only_read }
+
+  -- it is read as this, and may not be taken back
+  module _ (info : MemberInfo) (read : members.IsMember device.content device.honest info) where
+    refuses_info : (f : ReAddFault) → RefusesToTakeBack v.array info f → RefusesInfo device given v v f
+    refuses_info f refused = record { running = running; unchanged = refl; only_read = only_read; info = info; read = read; refused = refused }
+
+    pub refused_info : (f : ReAddFault) → RefusesToTakeBack v.array info f → RefusesReAdd device given v v f
+    refused_info fault.Halted r = absurd r
+    refused_info (fault.Member f) r = absurd r
+    refused_info fault.Full r = refuses_info fault.Full r
+    refused_info fault.NotReAddable r = refuses_info fault.NotReAddable r
+    refused_info fault.NoRole r = refuses_info fault.NoRole r
+    refused_info fault.EventsFull r = refuses_info fault.EventsFull r
+    refused_info fault.WriteFault r = absurd r
+    refused_info fault.NoMemory r = absurd r
+
 -- ---- what is done once it was read
 -- in memory, once its superblock is written
 pub joined_is : (a b : ArrayView) (m : MemberView) (v : Superblock) (full : Bool) (number role : ℕ) → v ≡ joined_shared a number role → number ≡ m.superblock.dev_number → full ≡ not (is_degraded a) → m.due ≡ false
@@ -230,6 +260,40 @@ joined_is a b m v full number role shared same told due is =
     ∙ ap (λ (x : Superblock). record a { shared = x; members = map made_due a.members ++ record m { due = false } ∷ []; events_cleared = cond full x.events a.events_cleared }) (shared ∙ ap (λ n. joined_shared a n role) same)
     ∙ ap (λ b. record a { shared = joined_shared a m.superblock.dev_number role; members = map made_due a.members ++ record m { due = false } ∷ []; events_cleared = cond b (a.shared.events + 1) a.events_cleared }) told
     ∙ (λ i. record (joined a m role) { members = map made_due a.members ++ record m { due = sym due i } ∷ [] })
+
+-- on its device, by the contract of the write
+module _ {D : Type 0} (g : Ghosts D) (was now : D) (a : ArrayView) (info : MemberInfo) (m : MemberView) (taken : IsTakenBack info m) (v : Superblock)
+    (shared : v ≡ joined_shared a info.superblock.dev_number (own_role info.superblock)) (outside : SameOutside (512 * 8) (length (write_of v m).bytes) (g.content was) (g.content now)) where
+  number_kept : m.superblock.dev_number ≡ info.superblock.dev_number
+  number_kept = ap (λ (x : Superblock). x.dev_number) taken.superblock
+
+  shared_kept : v ≡ joined_shared a m.superblock.dev_number (own_role info.superblock)
+  shared_kept = shared ∙ ap (λ n. joined_shared a n (own_role info.superblock)) (sym number_kept)
+
+  pub recorded_last : (devices devices_now : List D) (b : ArrayView) (k : ℕ) → MayReAdd a info → b ≡ joined a m (own_role info.superblock) → IsReadable (merged v m.superblock) → DoesWrites g (write_of v m ∷ []) was now
+      → k ≡ length a.members → devices_now ≡ devices ++ now ∷ []
+      → RecordsLast k (disk_of g was) info (record { disks = map (disk_of g) devices; array = a }) (record { disks = map (disk_of g) devices_now; array = b })
+  recorded_last devices devices_now b k may array readable does last items =
+      let same : v ≡ b.shared = shared_kept ∙ sym (ap (λ (x : ArrayView). x.shared) array) in
+      record {
+        last = last;
+        takes = record { may = may; member = m; taken = taken; array = array };
+        readable = subst (λ (x : Superblock). IsReadable (merged x m.superblock)) same readable;
+        now = disk_of g now;
+        written = subst (λ (x : Superblock). IsWritten 0 (write_of x m) (disk_of g was ∷ []) (disk_of g now ∷ [])) same
+            (is_written g (was ∷ []) 0 was refl now (write_of v m) (omega arith) outside does);
+        disks = ap (map (disk_of g)) items ∙ map-append (disk_of g) devices (now ∷ []);
+      }
+
+  pub not_recorded : (old new : MirrorView) → new ≡ old → old.array ≡ a → StopsInWrites g (write_of v m ∷ []) was now → FailsToRecordLast (disk_of g was) (disk_of g now) info old new
+  not_recorded old new unchanged array stops = record {
+    unchanged = unchanged;
+    member = m;
+    taken = taken;
+    failed = subst (λ (x : ArrayView). IsFailed 0 (write_of (joined_shared x m.superblock.dev_number (own_role info.superblock)) m) (disk_of g was ∷ []) (disk_of g now ∷ [])) (sym array)
+        (subst (λ (x : Superblock). IsFailed 0 (write_of x m) (disk_of g was ∷ []) (disk_of g now ∷ [])) shared_kept
+        (is_failed g (was ∷ []) 0 was refl now (write_of v m) (omega arith) outside stops));
+  }
 
 module _ {D : Type 0} (of : D → Disk) (device after : Disk) (old new : MirrorView) (info : MemberInfo) (running : old.array.halted ≡ false) (read : members.IsMember device.content device.honest info) (only_read : IsOnlyRead device after) (may : MayReAdd old.array info) where
   refused : (given : Disk) (f : ReAddFault) → RefusesToRecordLast after given info old new f → RefusesReAdd device given old new f

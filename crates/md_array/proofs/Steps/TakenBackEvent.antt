@@ -1,5 +1,5 @@
 -- A device that left comes in again: that is the model's event.
-use Rattle.std.proofs.Common.{◌≡◌, ◌≢◌, ◌↔◌, eq-eqb, true≢false, ℕ, ◌+◌, ◌*◌, ◌/◌, ◌<◌, inl, inr, Bool, true, false, not, ◌==◌, List, [], ◌∷◌, ◌++◌, length, map, slice_get, Option, Some, Result, Ok, Err, refl, sym, ap, ◌∙◌, subst, arith}
+use Rattle.std.proofs.Common.{◌≡◌, ◌≢◌, ◌↔◌, eq-eqb, true≢false, ℕ, ◌+◌, ◌*◌, ◌/◌, ◌<◌, Bool, true, not, ◌==◌, ◌&&◌, nat_lt, List, [], ◌∷◌, ◌++◌, length, map, slice_get, Option, Some, Result, Ok, Err, refl, sym, ap, ◌∙◌, subst, arith}
 use Rattle.std.specs.Prelude.{MatchResult}
 use Rattle.std.proofs.lemmas.List.{length-map}
 use Rattle.std.proofs.lemmas.Nat.{and_or_self}
@@ -7,6 +7,7 @@ use Rattle.md_device.specs.Splice.{SameOutside}
 use Rattle.md_device.proofs.Splices.{part-spliced}
 use Rattle.md_super.specs.declared.superblock.Superblock.{Superblock}
 use Rattle.md_super.specs.Merge.{merged}
+use Rattle.md_bitmap.specs.Marks.{is_set}
 use Rattle.md_members.specs.declared.info.MemberInfo.{MemberInfo}
 use Rattle.md_members.specs.Members as members
 use Rattle.md_assembly.specs.declared.state.MemberState.{MemberState}
@@ -189,7 +190,7 @@ module _ (k : ℕ) (device : Disk) (old new : MirrorView) (c : IsConsistent old)
       rest = stored_here ∙ (λ i. record (stored_of b m device.content) { super = Some (its_super i) });
     }
 
-    known : (n : ℕ) → _ ≡ (stored_of b m now.content).bits n
+    known : (n : ℕ) → (nat_lt n a.marks.chunks && is_set m.stored.bytes n) ≡ (stored_of b m now.content).bits n
     known = known_now device.content info m taken its_read b readable now.content parts outside on_device
 
     its_newcomer : newcomer a m role small_number now.content

@@ -1,9 +1,13 @@
-use Rattle.std.proofs.Common.{◌<◌, length, map, set, subst}
+use Rattle.std.proofs.Common.{◌≡◌, ◌*◌, ◌<◌, [], ◌∷◌, ap, length, map, set, subst}
 use Rattle.std.proofs.lemmas.Result.{err_from_is_err_and}
-use Rattle.md_state.specs.View.{MirrorView, disk_of}
+use Rattle.md_device.specs.Splice.{SameOutside}
+use Rattle.md_super.specs.declared.superblock.Superblock.{Superblock}
+use Rattle.md_super.specs.Merge.{merged}
+use Rattle.md_writes.specs.Writes.{MakesWrites}
+use Rattle.md_state.specs.View.{ArrayView, MirrorView, disk_of}
 use Rattle.md_state.specs.Checking.{IsActive}
 use Rattle.md_state.specs.Members.{IsMember}
-use Rattle.md_array.specs.Recording.{MayRecord, Records, RefusesRecord, super_write}
+use Rattle.md_array.specs.Recording.{IsReadable, MayRecord, Records, RefusesRecord, super_write, write_of}
 use Rattle.md_state.proofs.Members.At.{member_read}
 use Rattle.md_array.proofs.General.Answered.{err_of, ok_of}
 use Rattle.md_array.proofs.Steps.OneWrite.{fits_now, fits_there, is_failed, is_written, within_devices, within_members}
@@ -30,23 +34,29 @@ store_superblock-requires g c =
     (fits_there g.D.Device c.self.inside.devices.items c.args.k c.index_mut.result.now c.index_mut.ensures.value c.self.inside.array c.index-member.result.now (on_device g at)
     (fits_now disk c.self.inside.devices.items c.self.inside.array c.args.self.now c.args.k c.self.view_is c.requires.sound c.requires.within) (member g at)).long
 
+-- the fields that are written are the array's
+same_shared : (g : given.Over) (c : After-store_superblock g) → c.array.inside.shared ≡ c.self.inside.array.shared
+same_shared g c = ap (λ (a : ArrayView). a.shared) c.array.view_is
+
 may : (g : given.Over) (c : After-store_superblock g) → MayRecord c.args.k c.self.inside.array c.index-member.result.now
 may g c =
     let active : IsActive c.args.k c.self.inside.array = c.in_ok-check_active.ensures in
     let at : After-index_mut g = c.before in
-    record { running = active.running; at = member g at; active = active.active c.index-member.result.now (member g at); readable = c.store_superblock.ensures.readable }
+    record { running = active.running; at = member g at; active = active.active c.index-member.result.now (member g at); readable = subst (λ (v : Superblock). IsReadable (merged v c.index-member.result.now.superblock)) (same_shared g c) c.store_superblock.ensures.readable }
 
 pub returns : goal.returns
 returns g c =
     let disk = disk_of g.D.Device in
     let at = (goal.at.returns g c).After-index_mut in
     let m = c.index-member.result.now in
+    let outside = subst (λ (v : Superblock). SameOutside (512 * 8) (length (write_of v m).bytes) (g.D.Device.content c.index_mut.result.now) (g.D.Device.content c.store_superblock.new.device)) (same_shared g (goal.at.returns g c).After-store_superblock) c.store_superblock.ensures.outside in
+    let writes = subst (λ (v : Superblock). MakesWrites g.D.Device (write_of v m ∷ []) c.index_mut.result.now c.store_superblock.new.device c.store_superblock.result) (same_shared g (goal.at.returns g c).After-store_superblock) c.store_superblock.ensures.writes in
     let new : MirrorView = record { disks = map disk (set c.self.inside.devices.items c.args.k c.store_superblock.new.device); array = c.note_recorded.new.self } in
     let stored : Records c.args.k c.args.self.now new = subst (λ (old : MirrorView). Records c.args.k old new) c.self.view_is (record {
       member = m;
       may = may g (goal.at.returns g c).After-store_superblock;
       disks = is_written g.D.Device c.self.inside.devices.items c.args.k c.index_mut.result.now c.index_mut.ensures.value c.store_superblock.new.device
-          (super_write c.self.inside.array m) (on_device g at) c.store_superblock.ensures.outside (ok_of c.store_superblock.result _ _ c.if-is_err.ensures.value c.store_superblock.ensures.writes);
+          (super_write c.self.inside.array m) (on_device g at) outside (ok_of c.store_superblock.result _ _ c.if-is_err.ensures.value writes);
       array = c.note_recorded.ensures m (member g at);
     }) in
     record {
@@ -61,11 +71,13 @@ returns-then-is_err g c =
     let disk = disk_of g.D.Device in
     let at = (goal.at.returns-then-is_err g c).After-index_mut in
     let m = c.index-member.result.now in
+    let outside = subst (λ (v : Superblock). SameOutside (512 * 8) (length (write_of v m).bytes) (g.D.Device.content c.index_mut.result.now) (g.D.Device.content c.store_superblock.new.device)) (same_shared g (goal.at.returns-then-is_err g c).After-store_superblock) c.store_superblock.ensures.outside in
+    let writes = subst (λ (v : Superblock). MakesWrites g.D.Device (write_of v m ∷ []) c.index_mut.result.now c.store_superblock.new.device c.store_superblock.result) (same_shared g (goal.at.returns-then-is_err g c).After-store_superblock) c.store_superblock.ensures.writes in
     let new : MirrorView = record { disks = map disk (set c.self.inside.devices.items c.args.k c.store_superblock.new.device); array = c.store_failed.new.self } in
     let refused : RefusesRecord c.args.k c.args.self.now new c.store_failed.result = subst (λ (old : MirrorView). RefusesRecord c.args.k old new c.store_failed.result) c.self.view_is
     (record_failed c.args.k _ new m c.store_failed.result (may g (goal.at.returns-then-is_err g c).After-store_superblock)
     (is_failed g.D.Device c.self.inside.devices.items c.args.k c.index_mut.result.now c.index_mut.ensures.value c.store_superblock.new.device
-    (super_write c.self.inside.array m) (on_device g at) c.store_superblock.ensures.outside (err_of c.store_superblock.result _ _ c.if-is_err.ensures.value c.store_superblock.ensures.writes))
+    (super_write c.self.inside.array m) (on_device g at) outside (err_of c.store_superblock.result _ _ c.if-is_err.ensures.value writes))
     c.store_failed.ensures) in
     record {
       gives = refused;
