@@ -1,5 +1,5 @@
 -- The device of a member that is taken back: nothing but its superblock changes there, and an opening would read what is kept of it.
-use Rattle.std.proofs.Common.{◌≡◌, ℕ, ◌+◌, ◌*◌, ◌/◌, ◌<◌, Bool, true, not, ◌&&◌, ◌==◌, nat_lt, List, drop, inl, Option, Some, None, refl, sym, ap, ◌∙◌, subst}
+use Rattle.std.proofs.Common.{◌≡◌, ℕ, ◌+◌, ◌*◌, ◌/◌, ◌<◌, true, not, ◌&&◌, ◌==◌, nat_lt, List, drop, inl, Option, Some, None, refl, sym, ap, ◌∙◌, subst}
 use Rattle.std.proofs.lemmas.Nat.{and_or_apart}
 use Rattle.std.proofs.lemmas.Option.{same_Some}
 use Rattle.md_device.specs.Splice.{SameOutside}

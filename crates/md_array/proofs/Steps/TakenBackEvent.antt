@@ -5,7 +5,6 @@ use Rattle.std.proofs.lemmas.List.{length-map}
 use Rattle.std.proofs.lemmas.Nat.{and_or_self}
 use Rattle.md_device.specs.Splice.{SameOutside}
 use Rattle.md_device.proofs.Splices.{part-spliced}
-use Rattle.md_super.specs.declared.superblock.Superblock.{Superblock}
 use Rattle.md_super.specs.Merge.{merged}
 use Rattle.md_bitmap.specs.Marks.{is_set}
 use Rattle.md_members.specs.declared.info.MemberInfo.{MemberInfo}
@@ -15,7 +14,7 @@ use Rattle.md_assembly.specs.declared.state.MemberState.TheVariants.{InSync, Rec
 use Rattle.md_assembly.specs.States.{has_recovery_offset, is_active, role_in, takes_role}
 use Rattle.md_model.specs.Counts as counts
 use Rattle.md_model.specs.Counts.{IsFull, role_at_rise}
-use Rattle.md_model.specs.Devices.{Stored, Super}
+use Rattle.md_model.specs.Devices.{Super}
 use Rattle.md_model.specs.Events.{Event, Step}
 use Rattle.md_model.specs.Membership as membership
 use Rattle.md_model.specs.Sectors.{Geometry, put}
@@ -26,16 +25,14 @@ use Rattle.md_kept_members.specs.OwnFields.{kept_superblock}
 use Rattle.md_kept_members.specs.Members.{made_due}
 use Rattle.md_kept_members.specs.TakingBack.{IsTakenBack, own_role}
 use Rattle.md_kept_members.specs.View.{MemberView}
-use Rattle.md_kept_members.proofs.Members.Indices.{listed_push}
 use Rattle.md_state.specs.declared.re_add_fault.ReAddFault.{ReAddFault}
 use Rattle.md_state.specs.DiskWrites.{IsWritten}
 use Rattle.md_state.specs.Joining.{joined}
 use Rattle.md_state.specs.Members.{IsMember, is_degraded}
 use Rattle.md_state.specs.Requests.{AreInFlight}
-use Rattle.md_state.specs.Rising.{risen}
 use Rattle.md_state.specs.View.{ArrayView, Disk, MirrorView}
 use Rattle.md_array.specs.Consistency.{IsConsistent}
-use Rattle.md_array.specs.Events.{Does, Happens, WritesLast}
+use Rattle.md_array.specs.Events.{Does, Happens}
 use Rattle.md_array.specs.Fits.{FitsMember}
 use Rattle.md_array.specs.ReAdding.{ComesBack, ReAddHappens, ReAdds, RefusesReAdd, re_add_event}
 use Rattle.md_array.specs.ReadAsKept.{AreReadAsKept}

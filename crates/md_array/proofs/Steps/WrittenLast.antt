@@ -1,6 +1,5 @@
 -- A device that is read, written once, and then stands behind the others.
-use Rattle.std.proofs.Common.{◌≡◌, ◌≢◌, ◌∙◌, ℕ, ◌*◌, ◌≤◌, inl, inr, true, List, [], ◌∷◌, ◌++◌, Some, length, sym, ap, refl, subst, arith}
-use Rattle.std.specs.List.{slice_get}
+use Rattle.std.proofs.Common.{◌≡◌, ◌∙◌, ℕ, ◌*◌, inl, inr, true, List, [], ◌∷◌, ◌++◌, length, sym, ap, refl, subst, arith}
 use Rattle.std.proofs.lemmas.List.{length_push}
 use Rattle.std.proofs.lemmas.Option.{same_Some}
 use Rattle.md_device.specs.Device.{written}

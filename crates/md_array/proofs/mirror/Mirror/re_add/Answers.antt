@@ -1,7 +1,8 @@
-use Rattle.std.proofs.Common.{◌≡◌, ◌∙◌, ◌<◌, false, refl, sym, ap, subst}
+use Rattle.std.proofs.Common.{◌≡◌, ◌∙◌, false, refl, sym, ap, subst}
 use Rattle.std.proofs.lemmas.Option.{none-some}
 use Rattle.md_state.specs.ReAdding.{MayReAdd, RefusesToTakeBack}
-use Rattle.md_state.specs.View.{ArrayView, MirrorView, disk_of}
+use Rattle.md_state.specs.View.{MirrorView, disk_of}
+use Rattle.md_array.specs.declared.mirror.Mirror.TheInside.{Inside}
 use Rattle.md_array.specs.ReAdding.{IsOnlyRead, RefusesReAdd}
 use Rattle.md_array.proofs.Openings.Whole.{whole_by}
 use Rattle.md_array.proofs.Steps.MemberTakenBack.{once_read, re_add_is_consistent, re_add_keeps_pending, refused_device, refused_info}
@@ -13,8 +14,8 @@ use Rattle.md_array.proofs.mirror.Mirror.re_add.Goals.{After-read_member}
 running : (g : given.Over) (c : After-read_member g) → c.args.self.now.array.halted ≡ false
 running g c =
     sym (ap (λ (v : MirrorView). v.array.halted) c.self.view_is)
-    ∙ sym (ap (λ (a : ArrayView). a.halted) c.self-inside.view_is)
-    ∙ sym c.if-self.false
+    ∙ sym (ap (λ (x : Inside g.row.D.Denot). x.array.halted) c.self-inside.view_is)
+    ∙ c.if-self.false
 
 only_read : (g : given.Over) (c : After-read_member g) → IsOnlyRead (disk_of g.D.Device c.args.device) (disk_of g.D.Device c.read_member.new.device)
 only_read g c = ((c.read_member.ensures.kept, c.read_member.ensures.within), record { honest = c.read_member.ensures.honest; counted = c.read_member.ensures.counted })
