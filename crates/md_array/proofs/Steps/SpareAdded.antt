@@ -1,15 +1,21 @@
 -- A new device comes in as a spare: the mirror stays consistent, and requests in flight stay its own.
-use Rattle.std.proofs.Common.{◌≡◌, ℕ, ◌+◌, ◌/◌, ◌<◌, ◌≤◌, inl, inr, Bool, true, false, cond, not, ◌&&◌, ◌==◌, bit_and, List, [], ◌∷◌, ◌++◌, length, count_by, map, Result, Ok, Err, refl, sym, ap, ◌∙◌, subst, arith}
+use Rattle.std.proofs.Common.{◌≡◌, ℕ, ◌+◌, ◌*◌, ◌/◌, ◌<◌, ◌≤◌, inl, inr, Bool, true, false, cond, not, ◌&&◌, ◌==◌, bit_and, List, [], ◌∷◌, ◌++◌, length, count_by, map, Result, Ok, Err, refl, sym, ap, ◌∙◌, subst, arith}
 use Rattle.std.specs.Int.{div_ceil}
 use Rattle.std.specs.Prelude.{MatchResult}
 use Rattle.std.proofs.lemmas.Bool.{cases_lt}
+use Rattle.std.proofs.lemmas.List.{map-append}
 use Rattle.std.proofs.lemmas.List.Sums.{sum_by_push}
+use Rattle.md_device.specs.declared.device.Device.{Ghosts}
+use Rattle.md_device.specs.Stops.{LeavesMore}
 use Rattle.md_bitmap.specs.declared.header.BitmapHeader.{BitmapHeader}
 use Rattle.md_bitmap.specs.Sound.{IsSound, chunk_count}
 use Rattle.md_bitmap.proofs.Limits.{div_ceil-sectors}
 use Rattle.md_members.specs.Areas.{bitmap_sectors, has_bitmap}
 use Rattle.md_members.specs.Members.{sectors_of}
 use Rattle.md_create.specs.declared.params.NewMember.{NewMember}
+use Rattle.md_create.specs.Layout.{IsHalfLaidOut, IsLaidOut, KeepsOthers, writes_of}
+use Rattle.md_create.specs.ReadBack.{IsReadable}
+use Rattle.md_writes.specs.Writes.{DoesWrites, IsKept, StopsInWrites}
 use Rattle.md_create.proofs.Laid.{few_sectors}
 use Rattle.md_create.proofs.Taken.{new_placed}
 use Rattle.md_assembly.specs.States.{is_in_sync}
@@ -21,9 +27,9 @@ use Rattle.md_state.specs.Adding.{IsSpareOf, MayAdd, RefusesToAdd, added}
 use Rattle.md_state.specs.InMemory.{HasChunks}
 use Rattle.md_state.specs.Requests.{IsPending, lacks}
 use Rattle.md_state.specs.Rising.{has_number, risen}
-use Rattle.md_state.specs.View.{ArrayView, Disk, MirrorView}
+use Rattle.md_state.specs.View.{ArrayView, Disk, MirrorView, disk_of, of_disks}
 use Rattle.md_state.proofs.Members.Numbers.{number_is_small, number_is_unused}
-use Rattle.md_array.specs.Adding.{Adds, LaysOutLast, RefusesAdd, RefusesToLayOut, RefusesUnwritten, kept_of}
+use Rattle.md_array.specs.Adding.{Adds, FailsToLayOut, LaysOutLast, RefusesAdd, RefusesToLayOut, RefusesUnwritten, kept_of}
 use Rattle.md_array.specs.Consistency.{IsConsistent}
 use Rattle.md_array.specs.Fits.{FitsMember}
 use Rattle.md_array.proofs.Steps.CountedAtBegin.{counted_keeps_pending}
@@ -63,7 +69,7 @@ module _ (a : ArrayView) (number sectors : ℕ) (laid : NewMember) (may : MayAdd
   pub fits_there : (d : Disk) → sectors_of d.content ≡ sectors → FitsMember a (kept_of laid) d
   fits_there d long =
       let enough = may.long in
-      let data = spare.spare.superblock.data_size in
+      let its_sectors = spare.spare.superblock.data_size in
       record {
         long = omega arith;
         has = ap (λ n. not (bit_and n 1 == 0)) laid.new.places.feature_map;
@@ -166,3 +172,40 @@ module _ {D : Type 0} (of : D → Disk) (device : Disk) (old new : MirrorView) (
       → (p : PendingView) → IsPending old.array p → IsPending new.array p
   add_keeps_pending (Ok k) r = added_keeps_pending k device old new c r
   add_keeps_pending (Err e) r = λ p. subst (λ (v : MirrorView). IsPending v.array p) (sym (add_unchanged device (of e.0) old new e.1 r))
+
+-- ---- what is done once it has a number
+module _ {D : Type 0} (g : Ghosts D) (was now : D) where
+  seen : IsKept g was now → IsKept of_disks (disk_of g was) (disk_of g now)
+  seen kept = record { size = kept.size; honest_kept = kept.honest_kept; counted = kept.counted }
+
+  pub laid_last : (a b : ArrayView) (number k : ℕ) (laid : NewMember) (devices devices_now : List D) → IsSpareOf a number (sectors_of (g.content was)) laid → IsReadable laid.superblock
+      → DoesWrites g (writes_of laid) was now → KeepsOthers laid (g.content was) (g.content now) → (g.honest was ≡ true → IsLaidOut (g.content was) laid (g.content now))
+      → (g.honest was ≡ true → LeavesMore (g.stops was) (g.stops now) (IsHalfLaidOut (g.content was) laid)) → b ≡ added a laid → k ≡ length a.members → devices_now ≡ devices ++ now ∷ []
+      → LaysOutLast k (disk_of g was) number (record { disks = map (disk_of g) devices; array = a }) (record { disks = map (disk_of g) devices_now; array = b })
+  laid_last a b number k laid devices devices_now spare readable does outside done within array last items = record {
+    last = last;
+    laid = laid;
+    spare = spare;
+    readable = readable;
+    now = disk_of g now;
+    writes = record { kept = seen does.kept; unfailing = does.unfailing; all_done = does.all_done; within = does.within };
+    outside = outside;
+    laid_out = done;
+    within = within;
+    array = array;
+    disks = ap (map (disk_of g)) items ∙ map-append (disk_of g) devices (now ∷ []);
+  }
+
+  pub not_laid : (old new : MirrorView) (number : ℕ) (laid : NewMember) → new ≡ old → IsSpareOf old.array number (sectors_of (g.content was)) laid → StopsInWrites g (writes_of laid) was now
+      → KeepsOthers laid (g.content was) (g.content now) → FailsToLayOut (disk_of g was) (disk_of g now) number old new
+  not_laid old new number laid unchanged spare stops outside = record {
+    unchanged = unchanged;
+    laid = laid;
+    spare = spare;
+    writes = record { kept = seen stops.kept; failed = stops.failed; done = stops.done; tried = stops.tried; rest = stops.rest; order = stops.order; outside = stops.outside; within = stops.within };
+    outside = outside;
+  }
+
+-- the sectors of a device, as it tells them
+pub told : (sectors : ℕ) (content : List ℕ) → length content ≡ 512 * sectors → sectors ≡ sectors_of content
+told sectors content is = omega arith

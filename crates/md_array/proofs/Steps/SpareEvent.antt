@@ -4,6 +4,7 @@ use Rattle.std.specs.Prelude.{MatchResult}
 use Rattle.std.specs.Int.{div_ceil}
 use Rattle.std.proofs.lemmas.List.{length-map}
 use Rattle.md_bitmap.specs.Marks.{is_set}
+use Rattle.md_bitmap.specs.Sound.{chunk_count}
 use Rattle.md_create.specs.declared.params.NewMember.{NewMember}
 use Rattle.md_create.specs.Layout.{IsLaidOut, writes_of}
 use Rattle.md_members.specs.Members.{sectors_of}
@@ -35,6 +36,7 @@ use Rattle.md_array.proofs.Steps.SpareAdded.{added_is_consistent, after, as_long
 use Rattle.md_array.proofs.Steps.SpareLaidOut.{all_marked, known_there, none_listed, read_there, super_there}
 use Rattle.md_array.proofs.Steps.WrittenLast.{honest_last}
 use Rattle.md_array.proofs.Worlds.Joined.{newcomer, read_joined, role_joined, world_joined}
+use Rattle.md_array.proofs.Worlds.ReadMember.{chunk_within as sector_within}
 use Rattle.md_array.proofs.Worlds.Risen.{full_as_told, risen_role}
 use Rattle.md_array.proofs.Worlds.SpareJoined.{still_degraded}
 
@@ -135,8 +137,11 @@ module _ (k : ℕ) (device : Disk) (old new : MirrorView) (c : IsConsistent old)
         both : {x y : Bool} → x ≡ true → y ≡ true → (x && y) ≡ true
         both e f = rw (e, f) refl
 
+        counted : laid.marks.chunks ≡ chunk_count old.array.chunks.size laid.header.chunksize
+        counted = r.comes.spare.spare.marks.chunks_are ∙ ap (λ (n : ℕ). chunk_count n laid.header.chunksize) (sym c.chunks.size)
+
         chunk_within : (s : ℕ) → s < old.array.chunks.size → s / old.array.chunks.sectors < old.array.marks.chunks
-        chunk_within s low = ?
+        chunk_within s low = sector_within old.array.chunks.size old.array.chunks.sectors laid.header.chunksize old.array.marks.chunks s laid.header.sound.chunk_size (sym width) (sym count ∙ counted) low
 
     known : (n : ℕ) → (nat_lt n old.array.marks.chunks && is_set m.stored.bytes n) ≡ (stored_of b m now.content).bits n
     known = known_there old.array r.number sectors laid r.comes.spare r.comes.readable device.content now.content done long count
