@@ -3,6 +3,7 @@ use Rattle.std.proofs.lemmas.List.{length-map, length_push}
 use Rattle.md_kept_members.specs.Members.{made_due}
 use Rattle.md_kept_members.specs.View.{MemberView}
 use Rattle.md_state.specs.Adding.{IsSpareOf, added, spare_role}
+use Rattle.md_state.specs.Joining.{joined_shared}
 use Rattle.md_state.specs.View.{ArrayView, MirrorView, disk_of}
 use Rattle.md_array.specs.Adding.{LaysOutLast, kept_of}
 use Rattle.md_array.specs.Consistency.{IsConsistent}
@@ -39,7 +40,7 @@ returns-then-is_err-3 g c =
     ∙ ap (λ (x : Inside g.row.D.Denot). record { disks = map of x.devices.items; array = x.array }) c.self-inside.view_is
     ∙ c.self.view_is in
     let same = told c.sectors.result (g.D.Device.content c.args.device) c.sectors.ensures.size in
-    let spare = subst (λ (n : ℕ). IsSpareOf old.array c.args.number n c.in-Ok.spare) same (subst (λ (v : MirrorView). IsSpareOf v.array c.args.number c.sectors.result c.in-Ok.spare) c.self.view_is c.in-Ok.ensures.1) in
+    let spare = subst (λ (n : ℕ). IsSpareOf old.array c.args.number n c.in-Ok.spare) same c.in-Ok.ensures.1 in
     not_laid g.D.Device c.args.device c.lay_out.new.device old new c.args.number c.in-Ok.spare unchanged spare
     (err_of c.lay_out.result _ _ c.if-is_err-3.ensures.value c.lay_out.ensures.writes) c.lay_out.ensures.outside
 
@@ -56,7 +57,8 @@ returns g c =
     let as_many : length (map of devices) ≡ length before.members = sound.fits.as_many in
     let mapped = length-map devices of in
     let same = told c.sectors.result (g.D.Device.content c.args.device) c.sectors.ensures.size in
-    let spare = subst (λ (n : ℕ). IsSpareOf before c.args.number n laid) same c.in-Ok.ensures.1 in
+    let spare = subst (λ (n : ℕ). IsSpareOf before c.args.number n laid) same (subst (λ (v : MirrorView). IsSpareOf v.array c.args.number c.sectors.result laid) (sym c.self.view_is) c.in-Ok.ensures.1) in
+    let shared = subst (λ (v : MirrorView). c.in-Ok.shared ≡ joined_shared v.array c.args.number spare_role) (sym c.self.view_is) c.in-Ok.ensures.0 in
     let kept : c.kept_spare-member.result ≡ m = c.kept_spare-member.ensures in
     let pushed : c.push_reserved.new.self.items ≡ c.self-inside.inside.0.1.0.members.items ++ m ∷ [] =
     c.push_reserved.ensures.items ∙ ap (λ (xs : List MemberView). xs ++ c.kept_spare-member.result ∷ []) c.reserve.ensures.items ∙ ap (λ (x : MemberView). c.self-inside.inside.0.1.0.members.items ++ x ∷ []) kept in
@@ -64,7 +66,7 @@ returns g c =
     subst (λ (x : ArrayView). c.note_joined.new.self ≡ record x { shared = c.in-Ok.shared; members = map made_due x.members ++ record m { due = false } ∷ []; events_cleared = cond full c.in-Ok.shared.events x.events_cleared })
     (ap (λ (x : Inside g.row.D.Denot). x.array) c.self-inside.view_is) (c.note_joined.ensures c.self-inside.inside.0.1.0.members.items m pushed) in
     let array : c.note_joined.new.self ≡ added before laid =
-    joined_is before c.note_joined.new.self m c.in-Ok.shared full c.args.number spare_role c.in-Ok.ensures.0 (sym spare.spare.superblock.dev_number) (ap not c.is_degraded-full.ensures) refl joins in
+    joined_is before c.note_joined.new.self m c.in-Ok.shared full c.args.number spare_role shared (sym spare.spare.superblock.dev_number) (ap not c.is_degraded-full.ensures) refl joins in
     let items : c.push_reserved-2.new.self.items ≡ devices ++ c.lay_out.new.device ∷ [] =
     c.push_reserved-2.ensures.items ∙ ap (λ xs. xs ++ c.lay_out.new.device ∷ []) (c.reserve-2.ensures.items ∙ ap (λ (x : Inside g.row.D.Denot). x.devices.items) c.self-inside.view_is) in
     let count = ap length items ∙ length_push devices c.lay_out.new.device in
