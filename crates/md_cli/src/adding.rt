@@ -17,7 +17,7 @@ use md_commands::add_device;
 use md_device::{Access, Device};
 use md_examine::Sink;
 use md_images::{Images, image_list, put_back, take_images};
-use std::alloc::Global;
+use std::alloc::{AllocError, Global};
 use std::io::Write;
 
 // The devices and then one more, in a list that is empty and has room for all of them.
@@ -153,6 +153,19 @@ fn add_last_image<I: Images, S: Sink, E: Write>(
     result
 }
 
+// The names and then one more.
+fn with_name<'a>(
+    alloc: Global,
+    names: &[&'a str],
+    name: &'a str,
+) -> Result<Vec<&'a str>, AllocError>
+    ensures { IfOk result (λ all. map (λ s. s.now) all.items ≡ map (λ s. s.now) names.now ++ name.entry.now ∷ []) }
+{
+    let mut all = Vec::from_slice(alloc, names)?;
+    all.push(name)?;
+    Ok(all)
+}
+
 /// Adds the image under a name to the array that the images of the other names make, and puts all of them
 /// back. Among the images it counts after the others. Where opening the array stored marks, `err` is told
 /// on which images.
@@ -167,11 +180,8 @@ pub(crate) fn add_to_images<I: Images, S: Sink, E: Write>(
     ensures gives { UsesImages I.Dev.Device (AddsToDevices S.Sink) (images.new ≡ images.old) (I.known images.old) (λ n. allows Access.Change (I.changeable images.old n)) (I.device_at images.old) (I.device_at images.new) (image_list false (map (λ s. s.now) names.now ++ device.now ∷ [])) out.old out.new result }
     ensures flushed { IfOk result (λ _. S.is_flushed out.new) }
 {
-    let Ok(mut all) = Vec::from_slice(alloc, names) else {
+    let Ok(all) = with_name(alloc, names, device) else {
         return Err(CommandFault::NoMemory);
     };
-    if all.push(device).is_err() {
-        return Err(CommandFault::NoMemory);
-    }
     add_last_image(alloc, images, all.as_slice(), out, err)
 }

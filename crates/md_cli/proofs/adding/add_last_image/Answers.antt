@@ -1,8 +1,10 @@
-use Rattle.std.proofs.Common.{◌≡◌, ◌∙◌, false, List, Err, map, ap, subst, inr, refl, rules}
+use Rattle.std.proofs.Common.{◌≡◌, ◌∙◌, ◌<◌, false, List, Err, length, map, ap, subst, sym, inr, refl, rules}
+use Rattle.std.proofs.lemmas.List.{length-map}
 use Rattle.md_device.specs.declared.access.Access.TheVariants.{Change}
 use Rattle.md_cli.specs.Arrays.{of_images}
 use Rattle.md_images.specs.Images.{allows}
 use Rattle.md_images.specs.Taking.{RefusesImages, Word, image_list, word_of}
+use Rattle.md_cli.proofs.Added.{all_named}
 use Rattle.md_cli.proofs.adding.add_last_image.Goals as goal
 
 pub returns-in_err-devices-clause-gives : goal.returns-in_err-devices-clause-gives
@@ -19,3 +21,10 @@ returns-in_err-devices-clause-gives g c =
           words_are c.in_err-devices.ensures.gives;
       unwritten = refl;
     })
+
+pub add_last-devices-requires-clause-some : goal.add_last-devices-requires-clause-some
+add_last-devices-requires-clause-some g c =
+    let names = map (λ s. s.now) c.args.names.now in
+    let words_are : map word_of c.as_slice-words.result.now ≡ image_list false names = ap (map word_of) c.as_slice-words.ensures.value ∙ c.in-Ok.ensures in
+    let many = c.in_ok-devices.ensures.gives.many ∙ ap length words_are ∙ all_named names ∙ length-map c.args.names.now (λ s. s.now) in
+    subst (λ n. 0 < n) (sym many) c.requires.some
