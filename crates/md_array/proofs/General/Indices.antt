@@ -5,6 +5,7 @@ use Rattle.std.proofs.lemmas.Bool.{cases_lt}
 use Rattle.std.proofs.lemmas.List.Sums.{sum_by-cons}
 use Rattle.std.proofs.lemmas.Option.{same_Some, slice_get-get_or, slice_get-map, slice_get_cases, slice_get_within, none-some}
 use Rattle.std.proofs.lemmas.List.FromFn.{get_or-range_with_len, length-range_with_len}
+use Rattle.std.proofs.Math.Bool.{or-true}
 use Rattle.md_assembly.specs.Listed.{IsLeast}
 use Rattle.md_model.specs.Sectors.{put}
 use Rattle.md_model.proofs.Puts.{put-at}
@@ -34,11 +35,7 @@ got_same xs k x y e f = same_Some x y (sym e ∙ f)
 pub any_at : {X : Type 0} (p : X → Bool) (xs : List X) (k : ℕ) (x : X) → slice_get xs k ≡ Some x → p x ≡ true → list_any p xs ≡ true
 any_at p [] k x e t = absurd (none-some x e)
 any_at p (y ∷ xs) zero x e t = let same = same_Some y x e in rw (same, t) refl
-any_at p (y ∷ xs) (suc k) x e t = rw (any_at p xs k x e t) (or_true (p y))
-  where
-    or_true : (b : Bool) → (b || true) ≡ true
-    or_true true = refl
-    or_true false = refl
+any_at p (y ∷ xs) (suc k) x e t = rw (any_at p xs k x e t) (or-true (p y))
 
 pub at_any : {X : Type 0} (p : X → Bool) (xs : List X) → list_any p xs ≡ true → (k : ℕ) × (x : X) × (slice_get xs k ≡ Some x) × (p x ≡ true)
 at_any p [] e = absurd cc

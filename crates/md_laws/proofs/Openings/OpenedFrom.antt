@@ -1,6 +1,7 @@
 -- What the opening changed: all marks are stored where the bitmap was not accepted, and all else is as it was.
 use Rattle.std.proofs.Common.{◌≡◌, ℕ, ◌+◌, ◌<◌, ◌≤◌, ◌↔◌, inl, inr, true, cond, ◌&&◌, nat_lt, List, [], length, slice_get, Some, sym, ap, ◌∙◌, subst, arith, lt-ltb}
 use Rattle.std.proofs.lemmas.Option.{none-some, slice_get_past, slice_get_within}
+use Rattle.std.proofs.lemmas.Bool.{and_from}
 use Rattle.md_badblocks.specs.Runs.{IsBad}
 use Rattle.md_model.specs.Devices.{AgreeAt, Covered, Stored, Super, is_marked}
 use Rattle.md_model.specs.Openings as openings
@@ -17,7 +18,6 @@ use Rattle.md_array.proofs.Worlds.Device.{all_or_same, bad_is_listed, bits_new, 
 use Rattle.md_array.proofs.Worlds.ReadMember.{chunk_of_sector, super_old}
 use Rattle.md_array.proofs.General.Indices.{got_same}
 use Rattle.md_array.proofs.Worlds.Shown.{IsShown, by_member, in_sync_is, own_is, shown, stored_at, stored_is, super_at}
-use Rattle.md_array.proofs.General.Tests.{and_is}
 use Rattle.md_laws.proofs.Openings.Opened.{opened}
 
 -- devices with the same sector agree as these do
@@ -90,7 +90,7 @@ module _ (before : List Disk) (m : MirrorView) (honest : AreHonest before) (o : 
       ap (λ (d : Stored). d.bits c) (stored_after k x.0 x.1)
       ∙ elim (all_or_same a x.0 t.info t.old t.new t.opened) [
         | inl marked ↦
-            and_is (nat_lt c a.marks.chunks) _ (lt-ltb c a.marks.chunks below) (bits_new a x.0 t.info t.old t.new t.opened x.2 c below ∙ marked.all c below)
+            and_from (nat_lt c a.marks.chunks) _ (lt-ltb c a.marks.chunks below) (bits_new a x.0 t.info t.old t.new t.opened x.2 c below ∙ marked.all c below)
             ∙ sym (ap (λ b. cond b ((stored_of a x.0 t.old.content).bits c) true) marked.refused)
         | inr same ↦
             sym (accepted-bits (stored_of a x.0 t.new.content) c (is_accepted_new a x.0 t.info t.old t.new t.opened x.2))
