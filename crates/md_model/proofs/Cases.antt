@@ -10,11 +10,6 @@ by_test false is isnt = isnt refl
 pub never : {P : Type 0} (b : Bool) → b ≡ true → b ≡ false → P
 never b is isnt = absurd (true≢false (sym is ∙ isnt))
 
-pub both : (a b : Bool) → (a && b) ≡ true → (a ≡ true) × (b ≡ true)
-both true true e = (refl, refl)
-both true false e = absurd (true≢false (sym e))
-both false b e = absurd (true≢false (sym e))
-
 pub by_option : {A P : Type 0} (x : Option A) → (x ≡ None → P) → ((a : A) → x ≡ Some a → P) → P
 by_option None isnt is = isnt refl
 by_option (Some a) isnt is = is a refl

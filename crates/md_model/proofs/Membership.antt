@@ -2,7 +2,7 @@
 use Rattle.std.proofs.Common.{◌≡◌, ◌≢◌, ℕ, ◌<◌, ◌≤◌, ◌+◌, ◌-◌, Bool, true, false, cond, ◌&&◌, ◌||◌, inl, inr, refl, sym, ap, ◌∙◌, subst, eqb, eq-eqb, true≢false, arith}
 use Rattle.std.specs.Prelude.{Some, nat_lt, leb, not}
 use Rattle.std.proofs.lemmas.Bool.Decides.{nat_tests}
-use Rattle.std.proofs.lemmas.Bool.{or_right, or_left, ne_eqb}
+use Rattle.std.proofs.lemmas.Bool.{or_right, or_left, ne_eqb, and_from}
 use Rattle.md_model.specs.Sectors.{Geometry, chunk_of, put}
 use Rattle.md_model.specs.States.{State, is_in_sync, is_active, is_recovering, is_recorded}
 use Rattle.md_model.specs.States.State.{InSync, Recovering, Stale, Spare, Faulty}
@@ -120,10 +120,6 @@ tracked_joined g w n out t = tracked_joined_here w n out g t
 
 -- ---- the superblocks
 
-left_in : (a b : Bool) → a ≡ true → b ≡ false → (a && not b) ≡ true
-left_in true b e f = ap not f
-left_in false b e f = absurd (true≢false (sym e))
-
 skip-below : (k j members : ℕ) → j < members - 1 → skip k j < members
 skip-below k j members low = grind (arith, nat_tests)
 
@@ -155,8 +151,8 @@ module _ (g : Geometry) (few : g.raid_disks ≤ 32) (opened : Super) (failed_at 
     entries = r.entries;
     present = λ j low.
         let s = skip-below k j w.members low in
-        left_in (w.present (w.number (skip k j))) (eqb (w.number (skip k j)) (w.number k)) (r.present (skip k j) s)
-        (ne_eqb (w.number (skip k j)) (w.number k) (λ same. skip-apart k j (r.distinct (skip k j) k s there same)));
+        and_from (w.present (w.number (skip k j))) (not (eqb (w.number (skip k j)) (w.number k))) (r.present (skip k j) s)
+        (ap not (ne_eqb (w.number (skip k j)) (w.number k) (λ same. skip-apart k j (r.distinct (skip k j) k s there same))));
     slot = λ j own e. skip-within k j w.members there (r.slot (skip k j) own e);
     gone = gone;
     distinct = λ i j li lj same. skip-injective k i j (r.distinct (skip k i) (skip k j) (skip-below k i w.members li) (skip-below k j w.members lj) same);

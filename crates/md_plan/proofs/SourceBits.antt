@@ -15,11 +15,6 @@ pub bit_has : (m t : ℕ) → t < 32 → bit_at m t ≡ 1 → has m t ≡ true
 unfolding has
 bit_has m t lt it = and_from (nat_lt t 32) (eqb (bit_at m t) 1) (lt-ltb t 32 lt) (eq-eqb (bit_at m t) 1 it)
 
-pub same_tests : (a b : Bool) → (a ≡ true → b ≡ true) → (b ≡ true → a ≡ true) → a ≡ b
-same_tests true b h k = sym (h refl)
-same_tests false true h k = k refl
-same_tests false false h k = refl
-
 -- the lowest source of a mask that is not 0
 pub low_source : (n : ℕ) → (n ≡ 0 → ⊥) → n < 2 ^ 32 → has n (trailing_zeros w32 n) ≡ true
 low_source n some fits =

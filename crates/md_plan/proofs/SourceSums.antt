@@ -2,6 +2,7 @@
 use Rattle.std.proofs.Common.{◌≡◌, ◌∙◌, ℕ, ◌+◌, ◌-◌, ◌*◌, ◌/◌, ◌<◌, ◌≤◌, zero, suc, Bool, true, false, cond, not, ◌&&◌, eqb, List, [], ◌∷◌, length, get_or, refl, sym, ap, subst, arith, inl, inr, add-one, bit_and, min, mul-zero, mul-le-mul_right, suc-mul, ◌^◌}
 use Rattle.std.specs.Int.{bit_at}
 use Rattle.std.specs.List.{AllByRecursion}
+use Rattle.std.specs.Cmp.{both_ways as same_tests}
 use Rattle.std.proofs.lemmas.Bool.{cases_Bool, cases_eq, cases_lt, both_ways, eqb-true, eq-eqb, ne_eqb, and_from}
 use Rattle.std.proofs.lemmas.List.{get_or_default}
 use Rattle.std.proofs.lemmas.List.Elements.{recursion_from_All}
@@ -15,7 +16,7 @@ use Rattle.md_plan.specs.declared.cell.Cell.{Cell}
 use Rattle.md_plan.specs.Cells.{AreAllowed, AreLoads, CanMove, IsMovable, excess, load_of, count_with}
 use Rattle.md_plan.specs.Search.{IsReach, IsDeadEnd}
 use Rattle.md_plan.specs.Bounds.{is_within, sum_below, sum_sources}
-use Rattle.md_plan.proofs.SourceBits.{has_bit, bit_has, same_tests}
+use Rattle.md_plan.proofs.SourceBits.{has_bit, bit_has}
 use Rattle.md_plan.proofs.CellMoves.{share}
 
 -- counts

@@ -5,7 +5,7 @@ use Rattle.std.proofs.lemmas.Option.{slice_get_within}
 use Rattle.md_assembly.specs.States.{is_in_sync}
 use Rattle.md_device.specs.Device.{held}
 use Rattle.md_device.specs.Splice.{part}
-use Rattle.md_device.proofs.Splices.{part_after, part_before, part-spliced}
+use Rattle.md_device.proofs.Splices.{part_after, part_before, part-spliced, part_part}
 use Rattle.md_model.specs.Events.{Event}
 use Rattle.md_model.proofs.Puts.{by_same}
 use Rattle.md_writes.specs.Writes.{Write}
@@ -157,14 +157,6 @@ all_between from k s zero start end low high = tt
 all_between from k s (suc n) start end low high = ((low, omega arith), all_between from k (s + 1) n start end (omega arith) (omega arith))
 
 -- ---- parts of parts
-part_part : (xs : List ℕ) (at long inner n : ℕ) → inner + n ≤ long → part (part xs at long) inner n ≡ part xs (at + inner) n
-unfolding part
-part_part xs at long inner n inside =
-    let whole : inner + (long - inner) ≡ long = omega arith in
-    ap (λ (m : ℕ). take n (drop inner (take m (drop at xs)))) (sym whole)
-    ∙ ap (take n) (drop-take inner (long - inner) (drop at xs))
-    ∙ take-take n (long - inner) (drop inner (drop at xs)) (omega arith)
-    ∙ ap (take n) (drop-drop inner at xs)
 
 -- a sector of those bytes
 pub sector_held : (v : MirrorView) (k sector : ℕ) (bytes : List ℕ) → HoldsData v k sector bytes → (s : ℕ) → sector ≤ s → 512 * s + 512 ≤ 512 * sector + length bytes

@@ -1,11 +1,11 @@
 -- A request makes the count rise, or not: what it asks, and what stays the same.
 use Rattle.std.proofs.Common.{◌≡◌, ℕ, ◌<◌, ◌↔◌, inl, inr, Bool, true, false, cond, not, ◌||◌, ◌==◌, nat_lt, List, length, Option, refl, ap, ◌∙◌, arith}
 use Rattle.std.specs.List.{list_any, range_with_len}
-use Rattle.std.proofs.lemmas.Bool.{cases_lt, and_from, not-true}
+use Rattle.std.proofs.lemmas.Bool.{cases_lt, and_from, not-true, and_parts}
 use Rattle.std.proofs.Math.Bool.{or-true}
 use Rattle.md_model.specs.Worlds as worlds
 use Rattle.md_model.specs.Counts as counts
-use Rattle.md_model.proofs.Cases.{below-nat_lt, both, is_below, never}
+use Rattle.md_model.proofs.Cases.{below-nat_lt, is_below, never}
 use Rattle.md_bitmap.specs.Marks.{Bitmap}
 use Rattle.md_assembly.specs.States.{role_in}
 use Rattle.md_requests.specs.Pending.{PendingView}
@@ -64,7 +64,7 @@ module _ (disks : List Disk) (a : ArrayView) (requests : ℕ → Option worlds.R
   absent_there : list_any (is_absent a) (range_with_len 0 (length a.shared.roles)) ≡ true → counts.HasToRise (geometry_of a) w
   absent_there e =
       let x = at_any (is_absent a) (range_with_len 0 (length a.shared.roles)) e in
-      let parts = both (nat_lt (role_in a.shared x.1) a.shared.raid_disks) (not (has_number a x.1)) x.3 in
+      let parts = and_parts (nat_lt (role_in a.shared x.1) a.shared.raid_disks) (not (has_number a x.1)) x.3 in
       inr (x.1, is_below _ _ parts.0, not-true (has_number a x.1) parts.1)
 
   absent_here : (d : ℕ) → role_in a.shared d < a.shared.raid_disks → has_number a d ≡ false → list_any (is_absent a) (range_with_len 0 (length a.shared.roles)) ≡ true

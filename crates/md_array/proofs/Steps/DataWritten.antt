@@ -44,9 +44,6 @@ lacks_less true true c e = e
 lacks_less true false c e = refl
 lacks_less false b c e = e
 
-lacked : (a b : Bool) → a ≡ true → b ≡ false → (a && not b) ≡ true
-lacked a b e f = rw (e, f) refl
-
 had : (a b : Bool) → b ≡ true → (a && not b) ≡ false
 had true b e = ap not e
 had false b e = refl
@@ -145,7 +142,7 @@ module _ (k : ℕ) (old new : MirrorView) (p q : PendingView) (c : IsConsistent 
       (λ x e. lacks_less (is_in_sync x.state) (has_written p x.superblock.dev_number) (eqb x.superblock.dev_number number)
       (sym (ap (λ b. is_in_sync x.state && not b) (written_too p number x.superblock.dev_number)) ∙ e))
       t.may.intent.in_sync.member
-      (lacked (is_in_sync m.state) (has_written p number) t.may.intent.in_sync.in_sync t.may.unwritten)
+      (and_from (is_in_sync m.state) (not (has_written p number)) t.may.intent.in_sync.in_sync (ap not t.may.unwritten))
       (had (is_in_sync m.state) (has_written then number)
       (written_too p number number ∙ or_right (has_written p number) (eqb number number) (eq-eqb number number refl)))
 

@@ -5,7 +5,7 @@ use Rattle.std.proofs.lemmas.Option.{slice_get_within}
 use Rattle.std.proofs.lemmas.Bool.{and_from, ne_eqb}
 use Rattle.md_device.specs.Splice.{SameOutside}
 use Rattle.md_device.specs.Device.{written}
-use Rattle.md_device.proofs.Splices.{length-part, length-spliced, part-spliced}
+use Rattle.md_device.proofs.Splices.{length-part, length-spliced, part-spliced, slice_index-part}
 use Rattle.md_format.specs.Fields.{number_at}
 use Rattle.md_bitmap.specs.declared.header.BitmapHeader.{BitmapHeader}
 use Rattle.md_bitmap.specs.Header.{IsHeader, header_bytes}
@@ -45,7 +45,7 @@ use Rattle.md_array.proofs.Worlds.Member.{header_fits_there}
 use Rattle.md_array.proofs.Worlds.Outside.{sector_at_is, starts_at}
 use Rattle.md_array.proofs.Worlds.States.{same_in_sync}
 use Rattle.md_array.proofs.General.Tests.{and_same}
-use Rattle.md_array.proofs.Worlds.Writes.{is_set-same, slice_index-part}
+use Rattle.md_array.proofs.Worlds.Writes.{is_set-same}
 use Rattle.md_badblocks.specs.Runs.{IsBad}
 
 -- by whether two numbers are the same

@@ -1,6 +1,6 @@
 -- A sector is copied from a member in sync to another: no more than that sector of its data changes, and that is the model's event.
 use Rattle.std.proofs.Common.{◌≡◌, ◌≢◌, ℕ, ◌+◌, ◌*◌, ◌<◌, ◌≤◌, ◌↔◌, ◌⊎◌, inl, inr, true, false, cond, Bool, ◌&&◌, nat_lt, true≢false, List, [], slice_get, Option, Some, None, refl, sym, ap, ◌∙◌, subst, arith, eq-eqb}
-use Rattle.std.proofs.lemmas.Bool.{cases_lt, and_from}
+use Rattle.std.proofs.lemmas.Bool.{cases_lt, and_from, and_parts}
 use Rattle.std.proofs.lemmas.Option.{slice_get_within}
 use Rattle.md_badblocks.specs.Runs.{IsBad}
 use Rattle.md_bitmap.specs.Marks.{is_set}
@@ -15,7 +15,7 @@ use Rattle.md_model.specs.Events.{Event, Step}
 use Rattle.md_model.specs.Resyncing as model
 use Rattle.md_model.specs.Worlds.{Request, World}
 use Rattle.md_model.proofs.Between.{between_step, in_flight_step}
-use Rattle.md_model.proofs.Cases.{below-nat_lt, both, by_test, not_below}
+use Rattle.md_model.proofs.Cases.{below-nat_lt, by_test, not_below}
 use Rattle.md_model.proofs.Puts.{by_same, put-hit, put-miss, put-self}
 use Rattle.md_kept_members.specs.View.{MemberView}
 use Rattle.md_state.specs.View.{ArrayView, Disk, MirrorView}
@@ -94,7 +94,7 @@ module _ (v : MirrorView) (c : IsConsistent v) (honest : AreHonest v.disks) (req
         let known = has.known (m.superblock.data_offset + s) in
         let same : test ≡ (nat_lt s a.chunks.size && is_listed m.superblock d.0.content (m.superblock.data_offset + s)) =
         ap (λ (x : Stored). x.listed s) (stored_there v.disks a k m d.0 is.member d.1) in (
-          (λ e. known.0 (both _ _ (sym same ∙ e)).1),
+          (λ e. known.0 (and_parts _ _ (sym same ∙ e)).1),
           (λ lists. same ∙ and_from _ _ (below-nat_lt s a.chunks.size low) (known.1 lists)),
         )
 

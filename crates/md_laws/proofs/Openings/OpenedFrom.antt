@@ -8,6 +8,7 @@ use Rattle.md_model.specs.Openings as openings
 use Rattle.md_model.specs.Sectors.{chunk_of}
 use Rattle.md_model.specs.Worlds as worlds
 use Rattle.md_model.proofs.OpeningCovers.{accepted-bits}
+use Rattle.md_model.proofs.Tracked.{agree_as}
 use Rattle.md_kept_members.specs.View.{MemberView}
 use Rattle.md_state.specs.View.{Disk, ArrayView, MirrorView}
 use Rattle.md_state.specs.Members.{IsMember}
@@ -21,8 +22,6 @@ use Rattle.md_array.proofs.Worlds.Shown.{IsShown, by_member, in_sync_is, own_is,
 use Rattle.md_laws.proofs.Openings.Opened.{opened}
 
 -- devices with the same sector agree as these do
-agree_as : (d e x y : Stored) (s : ℕ) → x.content s ≡ d.content s → y.content s ≡ e.content s → x.listed s ≡ d.listed s → y.listed s ≡ e.listed s → AgreeAt d e s → AgreeAt x y s
-agree_as d e x y s c c' l l' h off off' = c ∙ h (sym l ∙ off) (sym l' ∙ off') ∙ sym c'
 
 module _ (before : List Disk) (m : MirrorView) (honest : AreHonest before) (o : IsOpenedFrom before m) where
   abbrev a : ArrayView

@@ -6,6 +6,7 @@ use Rattle.md_device.specs.Device.{held, written}
 use Rattle.md_device.specs.Splice.{SameOutside, part, spliced}
 use Rattle.md_device.specs.Stops.{IsMixed}
 use Rattle.md_device.proofs.Splices.{part_after, part_before, spliced_outside}
+use Rattle.md_device.proofs.Leaving.{three_same}
 use Rattle.md_model.specs.Events.{Event}
 use Rattle.md_model.proofs.Puts.{by_same}
 use Rattle.md_writes.specs.Writes.{IsCutShort}
@@ -25,7 +26,6 @@ use Rattle.md_array.proofs.Steps.OneWrite.{at_device, set_elsewhere}
 use Rattle.md_array.proofs.Worlds.PartsApart.{parts_of}
 use Rattle.md_array.proofs.Steps.RunsOfSectors.{first_half, half, second_half}
 use Rattle.md_array.proofs.Worlds.SectorCopied.{copied_is_consistent, copy_happens}
-use Rattle.md_array.proofs.Steps.WrittenParts.{with_part}
 use Rattle.md_array.proofs.General.Indices.{at_set_same, got_in_map, got_within}
 use Rattle.md_laws.proofs.Stops.AtSteps.{same_lists, stops_at_write}
 
@@ -57,13 +57,13 @@ module _ (at n : ℕ) (bytes old new : List ℕ) (same : SameOutside at (512 + n
   first_copied : part new at 512 ≡ take 512 bytes → 512 ≤ length bytes → half at 512 n old new same low ≡ spliced old at (take 512 bytes)
   unfolding spliced
   first_copied is long =
-      with_part at 512 old (half at 512 n old new same low) (first_half at 512 n old new same low) (take 512 bytes) (first_part ∙ is)
+      three_same at 512 old (half at 512 n old new same low) (first_half at 512 n old new same low) (take 512 bytes) (first_part ∙ is)
       ∙ ap (λ (x : ℕ). take at old ++ (take 512 bytes ++ drop (at + x) old)) (sym (length-take-le 512 bytes long))
 
   first_left : part new at 512 ≡ part old at 512 → half at 512 n old new same low ≡ old
   first_left is =
-      with_part at 512 old (half at 512 n old new same low) (first_half at 512 n old new same low) (part old at 512) (first_part ∙ is)
-      ∙ sym (with_part at 512 old old (record { size = refl; before = refl; after = refl }) (part old at 512) refl)
+      three_same at 512 old (half at 512 n old new same low) (first_half at 512 n old new same low) (part old at 512) (first_part ∙ is)
+      ∙ sym (three_same at 512 old old (record { size = refl; before = refl; after = refl }) (part old at 512) refl)
 
 -- a write that was cut short left each sector as it was or as written, and one that was done, too
 as_mixed : (k sector : ℕ) (bytes : List ℕ) (old new : MirrorView) → IsConsistent old → (t : CopiesTo k sector bytes old new) → (d : Disk) → slice_get old.disks k ≡ Some d → d.honest ≡ true
