@@ -57,5 +57,3 @@ pub mod Turns
 pub mod WriteKeeps
 -- A request's bytes go to a member.
 pub mod WriteToMember
--- Sectors of a write to the data, of which some are written.
-pub mod WrittenParts

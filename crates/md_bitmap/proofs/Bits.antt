@@ -1,5 +1,5 @@
 -- The bits of a list of bytes, one by one and in words of 64.
-use Rattle.std.proofs.Common.{◌≡◌, ℕ, zero, suc, ◌+◌, ◌-◌, ◌*◌, ◌/◌, ◌%◌, ◌^◌, ◌<◌, ◌≤◌, Bool, true, false, cond, eqb, ltb, not, ◌&&◌, ◌||◌, bit_and, bit_or, set, List, [], ◌∷◌, ◌++◌, length, drop, replicate, slice_index, count_by, refl, sym, ap, ◌∙◌, inl, inr, arith}
+use Rattle.std.proofs.Common.{◌≡◌, ℕ, zero, suc, ◌+◌, ◌-◌, ◌*◌, ◌/◌, ◌%◌, ◌^◌, ◌<◌, ◌≤◌, Bool, true, false, cond, eqb, ltb, not, ◌&&◌, ◌||◌, bit_and, bit_or, set, List, ◌++◌, length, drop, replicate, slice_index, count_by, refl, sym, ap, ◌∙◌, inl, inr, arith}
 use Rattle.std.proofs.Math.Nat.{mod-lt}
 use Rattle.std.proofs.lemmas.Nat.{mod-pow-add, ones-le, one_shl, ones_cat, pow_pos, shr-shr, shr_le}
 use Rattle.std.proofs.lemmas.Nat.Bits.{bit_at-lt, bit_at_cat_low, bit_at-trailing_zeros, bit_at-zero, bit_at_above, bit_at_ones, bit_at_ones_above, bit_at_cat_high, bit_at_clear_other, bit_at_clear_same, bit_at_set_other, bit_at_set_same}

@@ -1,5 +1,5 @@
 -- What stops leave within a call.
-use Rattle.std.proofs.Common.{ℕ, ◌*◌, List, [], length, Result, Ok, Err, sym, append-nil, arith}
+use Rattle.std.proofs.Common.{ℕ, ◌*◌, List, length, Result, Ok, Err}
 use Rattle.md_device.specs.Splice.{SameOutside}
 use Rattle.md_device.specs.Stops.{LeavesMore, WithinWrite, IsMixed}
 use Rattle.md_device.proofs.Leaving.{leaves_less}

@@ -1,10 +1,9 @@
 -- The devices for the roles below a number, and one more.
-use Rattle.std.proofs.Common.{◌≡◌, ℕ, ◌+◌, List, [], ◌∷◌, ◌++◌, Option, Some, None, sym, ◌∙◌, ap, refl, arith, map, append-nil, All}
+use Rattle.std.proofs.Common.{◌≡◌, ℕ, ◌+◌, List, [], ◌∷◌, ◌++◌, Option, Some, None, sym, ◌∙◌, ap, refl, map, append-nil, All}
 use Rattle.std.specs.List.{range_with_len, filter_map, cons_option}
 use Rattle.std.specs.Option.{option_map}
 use Rattle.std.proofs.lemmas.List.Elements.{filter_map-append, All-push}
 use Rattle.std.proofs.lemmas.List.{map_push}
-use Rattle.std.proofs.lemmas.List.FromFn.{map-range_with_len_more}
 use Rattle.md_create.specs.declared.params.CreateParams.{CreateParams}
 use Rattle.md_create.specs.declared.params.NewMember.{NewMember}
 use Rattle.md_create.specs.Values.{IsNewMember, device_for, device_of, numbered}

@@ -4,7 +4,7 @@ use Rattle.std.specs.Prelude.{pos, ◌+ℤ◌, not, bit_and, ◌==◌, ◌&&◌}
 use Rattle.std.proofs.Math.Bool.{Bool-set}
 use Rattle.std.proofs.Math.Bridge.{le_prop}
 use mathlib.Core.HLevel.{is_prop→PathP}
-use Rattle.std.proofs.lemmas.List.{get_or-drop, get_or-take, take_at}
+use Rattle.std.proofs.lemmas.List.{get_or-drop, take_at}
 use Rattle.md_device.specs.Splice.{part}
 use Rattle.md_device.specs.Device.{held}
 use Rattle.md_device.proofs.Splices.{slice_index-part}

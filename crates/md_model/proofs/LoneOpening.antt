@@ -1,7 +1,6 @@
 -- The mirror that is opened from member 1 alone is an opening.
 use Rattle.std.proofs.Common.{◌≡◌, ◌&&◌, ℕ, ◌<◌, ◌≤◌, true, false, cond, zero, suc, inl, refl, sym, ap, ◌∙◌, subst, true≢false, arith, [], eqb-true}
 use Rattle.std.specs.Prelude.{Some, None, nat_lt, eqb}
-use Rattle.std.proofs.lemmas.Bool.Decides.{nat_tests}
 use Rattle.md_model.specs.States.{State, is_recorded, is_active}
 use Rattle.md_model.specs.Devices.{Super, is_accepted}
 use Rattle.md_model.specs.Worlds.{IsInSync}

@@ -16,7 +16,7 @@ use Rattle.md_model.proofs.Table.{has_role}
 use Rattle.md_model.proofs.Tracked.{IsTracked}
 use Rattle.md_model.specs.Content.{HoldsInFlight}
 use Rattle.md_model.proofs.TrackedSteps.{in_flight_risen, tracked_risen}
-use Rattle.md_model.proofs.Recorded.{book_of, Has, In, IsRecorded, recorded_in_sync}
+use Rattle.md_model.proofs.Recorded.{book_of, Has, In, IsRecorded, recorded_in_sync, past_entry, other_entry}
 use Rattle.md_model.proofs.RecordedSteps.{recorded_risen}
 
 -- no two members move to one place, and none to the one that left
@@ -217,12 +217,6 @@ module _ (g : Geometry) (few : g.raid_disks ≤ 32) (opened : Super) (failed_at 
         current = r.current;
         some_in = r.some_in;
       }
-    where
-      past_entry : (d n entries x : ℕ) → entries ≤ d → cond (eqb d n && nat_lt d entries) 65534 x ≡ x
-      past_entry d n entries x h = grind (arith, nat_tests)
-
-      other_entry : (d n entries x : ℕ) → d ≢ n → cond (eqb d n && nat_lt d entries) 65534 x ≡ x
-      other_entry d n entries x h = grind (arith, nat_tests)
 
   pub recorded_removed : (w : World) (k : ℕ) (full : Bool) → MayRemove w k → ((d : ℕ) → stays_away d ≡ true → (removed g w k (is_spare (w.state k)) full).present d ≡ false) → Records w → Records (removed g w k (is_spare (w.state k)) full)
   recorded_removed w k full may = by (is_spare (w.state k))

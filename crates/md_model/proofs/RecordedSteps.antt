@@ -14,7 +14,7 @@ use Rattle.md_model.specs.Failures.{without, MayFail}
 use Rattle.md_model.proofs.Cases.{by_test, some-injective, is_below, below-nat_lt}
 use Rattle.md_model.proofs.Puts.{put-at, put-miss}
 use Rattle.md_model.proofs.Table.{has_role}
-use Rattle.md_model.proofs.Recorded.{book_of, Has, In, Trusts, IsRecorded, recorded_in_sync}
+use Rattle.md_model.proofs.Recorded.{book_of, Has, In, Trusts, IsRecorded, recorded_in_sync, past_entry, other_entry}
 
 -- the roles at a rise
 module _ (g : Geometry) (w : World) (d : ℕ) (few : g.raid_disks ≤ 32) where
@@ -208,9 +208,3 @@ module _ (g : Geometry) (few : g.raid_disks ≤ 32) (opened : Super) (failed_at 
     where
       past : (d n entries : ℕ) → d ≡ n → (eqb d n && nat_lt d entries) ≡ false → (entries ≤ d → ⊥) → ⊥
       past d n entries same off h = grind (arith, nat_tests)
-
-      past_entry : (d n entries r : ℕ) → entries ≤ d → cond (eqb d n && nat_lt d entries) 65534 r ≡ r
-      past_entry d n entries r h = grind (arith, nat_tests)
-
-      other_entry : (d n entries r : ℕ) → d ≢ n → cond (eqb d n && nat_lt d entries) 65534 r ≡ r
-      other_entry d n entries r h = grind (arith, nat_tests)

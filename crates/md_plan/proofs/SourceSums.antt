@@ -17,7 +17,7 @@ use Rattle.md_plan.specs.Cells.{AreAllowed, AreLoads, CanMove, IsMovable, excess
 use Rattle.md_plan.specs.Search.{IsReach, IsDeadEnd}
 use Rattle.md_plan.specs.Bounds.{is_within, sum_below, sum_sources}
 use Rattle.md_plan.proofs.SourceBits.{has_bit, bit_has}
-use Rattle.md_plan.proofs.CellMoves.{share}
+use Rattle.md_plan.proofs.CellMoves.{share, share_le}
 
 -- counts
 
@@ -285,10 +285,6 @@ ceil_enough s n some = omega arith
 
 pub ceil_needed : (s n : ℕ) → 0 < n → (s + n - 1) / n * n < s + n
 ceil_needed s n some = omega arith
-
-share_le : (b : Bool) (n : ℕ) → share b n ≤ share true n
-share_le true n = omega arith
-share_le false n = omega arith
 
 pub count_with_le : (q : ℕ → Bool) (cells : List Cell) → count_with q cells ≤ count_with (λ m. true) cells
 count_with_le q cells = sum_by-le-sum_by (λ (c : Cell). share (q c.mask) c.count) (λ (c : Cell). share true c.count) cells (λ c. share_le (q c.mask) c.count)

@@ -9,6 +9,7 @@ use Rattle.md_device.specs.Splice.{SameOutside, part, spliced}
 use Rattle.md_bitmap.specs.Marks.{is_set}
 use Rattle.md_bitmap.proofs.Limits.{div-lt-div_ceil}
 use Rattle.md_assembly.specs.States.{is_in_sync}
+use Rattle.md_assembly.proofs.Indices.{got_within}
 use Rattle.md_model.specs.Sectors.{put}
 use Rattle.md_model.specs.Devices.{Stored}
 use Rattle.md_model.specs.Events.{Event, Step}
@@ -32,7 +33,7 @@ use Rattle.md_array.proofs.Steps.OneMember.{ChangesMember, changed_is_consistent
 use Rattle.md_array.proofs.Worlds.PartsApart.{HasParts, block_beside_data, data_alone, data_elsewhere, log_beside_data, parts_of}
 use Rattle.md_array.proofs.Worlds.ReadAsKept.{changed_read, read_beside_data}
 use Rattle.md_array.proofs.Worlds.InSync.{in_sync_is, in_sync_there, number_at}
-use Rattle.md_array.proofs.General.Indices.{got_within, one_fewer, set_itself}
+use Rattle.md_array.proofs.General.Indices.{one_fewer, set_itself}
 use Rattle.md_badblocks.specs.Runs.{IsBad}
 
 -- ---- the numbers of those that have it

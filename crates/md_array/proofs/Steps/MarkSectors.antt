@@ -18,6 +18,7 @@ use Rattle.md_writes.specs.Writes.{Write}
 use Rattle.md_bitmap.proofs.Blocks.{length-bitmap_sector}
 use Rattle.md_model.specs.Sectors.{block_of, put}
 use Rattle.md_assembly.specs.States.{is_in_sync}
+use Rattle.md_assembly.proofs.Indices.{got_within}
 use Rattle.md_model.specs.States as model
 use Rattle.md_model.specs.Devices.{Stored}
 use Rattle.md_model.specs.Worlds.{Request, World}
@@ -40,7 +41,6 @@ use Rattle.md_array.proofs.Steps.OneMember.{ChangesMember, changed_in_flight, ch
 use Rattle.md_array.proofs.Worlds.PartsApart.{HasParts, bits_elsewhere, block_beside_marks, events_elsewhere, fits_elsewhere, header_elsewhere, log_beside_marks, marks_alone, parts_of}
 use Rattle.md_array.proofs.Worlds.ReadAsKept.{changed_read, stays}
 use Rattle.md_array.proofs.Worlds.Device.{fits_on}
-use Rattle.md_array.proofs.General.Indices.{got_within}
 use Rattle.md_array.proofs.Worlds.Member.{header_fits_there}
 use Rattle.md_array.proofs.Worlds.Outside.{sector_at_is, starts_at}
 use Rattle.md_array.proofs.Worlds.States.{same_in_sync}

@@ -1,5 +1,5 @@
 -- The device of a member that was read, beside what is kept of it.
-use Rattle.std.proofs.Common.{◌≡◌, ℕ, ◌+◌, ◌*◌, ◌/◌, ◌<◌, ◌≤◌, true, nat_lt, List, Some, refl, sym, ap, ◌∙◌, subst, arith, add-mul, lt_of_mul-lt-mul_right, ◌&&◌}
+use Rattle.std.proofs.Common.{◌≡◌, ℕ, ◌*◌, ◌/◌, ◌<◌, ◌≤◌, true, nat_lt, List, Some, refl, sym, ap, ◌∙◌, subst, arith, ◌&&◌}
 use Rattle.std.specs.Int.{div_ceil}
 use Rattle.std.proofs.lemmas.Grind.{div_ceil_times}
 use Rattle.md_super.specs.declared.superblock.Superblock.{Superblock}

@@ -26,7 +26,7 @@ use Rattle.md_array.proofs.Worlds.ReadAsKept.{same_array, same_member, unwritten
 use Rattle.md_array.proofs.Steps.RemarkedWorlds.{same_mirror}
 use Rattle.md_array.proofs.Worlds.SectorCopied.{none_there, unlisted_is}
 use Rattle.md_array.proofs.Worlds.InSync.{in_sync_is}
-use Rattle.md_array.proofs.General.Indices.{got_within}
+use Rattle.md_assembly.proofs.Indices.{got_within}
 
 module _ (is : Bool) (old new : MirrorView) (c : IsConsistent old) (t : NotesResynced is old new) where
   abbrev a : ArrayView

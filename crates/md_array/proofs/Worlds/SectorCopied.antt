@@ -9,6 +9,7 @@ use Rattle.md_device.proofs.Splices.{part-spliced}
 use Rattle.md_assembly.specs.States.{is_in_sync, is_in_sync_as, takes_role}
 use Rattle.md_assembly.specs.declared.state.MemberState.{MemberState}
 use Rattle.md_assembly.specs.declared.state.MemberState.TheVariants.{Faulty, InSync, Recovering, Spare, Stale}
+use Rattle.md_assembly.proofs.Indices.{got_within}
 use Rattle.md_model.specs.Sectors.{put}
 use Rattle.md_model.specs.Devices.{Stored}
 use Rattle.md_model.specs.Events.{Event, Step}
@@ -33,7 +34,7 @@ use Rattle.md_array.proofs.Steps.OneMember.{ChangesMember, changed_in_flight, ch
 use Rattle.md_array.proofs.Worlds.PartsApart.{HasParts, block_beside_data, data_alone, data_elsewhere, log_beside_data, parts_of}
 use Rattle.md_array.proofs.Worlds.ReadAsKept.{changed_read, read_beside_data}
 use Rattle.md_array.proofs.Worlds.InSync.{in_sync_is, in_sync_there, number_at}
-use Rattle.md_array.proofs.General.Indices.{got_within, set_itself}
+use Rattle.md_array.proofs.General.Indices.{set_itself}
 
 -- ---- states
 pub in_sync_as : (role : ℕ) (state : MemberState) → is_in_sync_as role state ≡ true → (is_in_sync state ≡ true) × (takes_role role state ≡ true)

@@ -33,7 +33,7 @@ use Rattle.md_laws.specs.Lives.{AreFoundAgain, IsAsLeft, IsFoundAgain, IsReadAsK
 use Rattle.md_laws.specs.Runs.{Moment}
 use Rattle.md_laws.specs.StopsWithin.{MayBeLeft}
 use Rattle.md_array.proofs.Worlds.PartsApart.{bitmap_alone}
-use Rattle.md_array.proofs.General.Indices.{got_in_map, got_within}
+use Rattle.md_array.proofs.General.Indices.{got_in_map}
 use Rattle.md_array.proofs.Worlds.Device.{IsOpenedMember, bits_new, chunk_size_new, fits_on}
 use Rattle.md_array.proofs.Worlds.Member.{by_need}
 use Rattle.md_array.proofs.Worlds.Outside.{starts_at}
@@ -43,6 +43,7 @@ use Rattle.md_laws.proofs.Openings.BitmapArea.{AllIn, IsNextAny, all_in, area_ke
 use Rattle.md_laws.proofs.Stops.AtSteps.{new_has}
 use Rattle.md_laws.proofs.Runs.Moments.{IsSoundAt, life_keeps, sound_when_opened}
 use Rattle.md_laws.proofs.Openings.Reopened.{again, bitmap_offset, same_count, same_stored}
+use Rattle.md_assembly.proofs.Indices.{got_within}
 
 above : (j k : ℕ) → j ≤ k → j ≢ k → j < k
 above j k low apart = elim (cases_lt j k) [

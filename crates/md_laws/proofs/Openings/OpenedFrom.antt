@@ -3,7 +3,7 @@ use Rattle.std.proofs.Common.{◌≡◌, ℕ, ◌+◌, ◌<◌, ◌≤◌, ◌�
 use Rattle.std.proofs.lemmas.Option.{none-some, slice_get_past, slice_get_within}
 use Rattle.std.proofs.lemmas.Bool.{and_from}
 use Rattle.md_badblocks.specs.Runs.{IsBad}
-use Rattle.md_model.specs.Devices.{AgreeAt, Covered, Stored, Super, is_marked}
+use Rattle.md_model.specs.Devices.{Covered, Stored, Super, is_marked}
 use Rattle.md_model.specs.Openings as openings
 use Rattle.md_model.specs.Sectors.{chunk_of}
 use Rattle.md_model.specs.Worlds as worlds
@@ -17,9 +17,9 @@ use Rattle.md_array.specs.ReadAsKept.{AreReadAsKept, IsReadAsKept}
 use Rattle.md_array.specs.Worlds.{AreHonest, geometry_of, is_listed, nothing_stored, stored_of, stored_on, super_of, world_of, world_on, none_in_flight}
 use Rattle.md_array.proofs.Worlds.Device.{all_or_same, bad_is_listed, bits_new, is_accepted_new, read_new, same_data, same_listed}
 use Rattle.md_array.proofs.Worlds.ReadMember.{chunk_of_sector, super_old}
-use Rattle.md_array.proofs.General.Indices.{got_same}
 use Rattle.md_array.proofs.Worlds.Shown.{IsShown, by_member, in_sync_is, own_is, shown, stored_at, stored_is, super_at}
 use Rattle.md_laws.proofs.Openings.Opened.{opened}
+use Rattle.md_assembly.proofs.Indices.{got_same}
 
 -- devices with the same sector agree as these do
 

@@ -16,8 +16,9 @@ use Rattle.md_state.specs.DiskWrites.{IsFailed, IsTried, IsWritten}
 use Rattle.md_state.specs.View.{Disk}
 use Rattle.md_array.specs.Worlds.{AreHonest}
 use Rattle.md_laws.specs.StopsWithin.{IsLeftBut, MayAllBeLeft, StopsAsFailed, StopsAsTried, StopsAtEvents, StopsUndivided}
-use Rattle.md_array.proofs.General.Indices.{got_in_map, got_within}
+use Rattle.md_array.proofs.General.Indices.{got_in_map}
 use Rattle.md_laws.proofs.Stops.AtSteps.{same_lists, stops_at_failure, stops_at_sector, stops_at_write, stops_in_memory}
+use Rattle.md_assembly.proofs.Indices.{got_within}
 
 -- devices with these contents in place of theirs
 abbrev with_contents : List Disk → List (List ℕ) → List Disk

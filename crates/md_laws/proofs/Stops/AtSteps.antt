@@ -11,7 +11,7 @@ use Rattle.md_writes.proofs.Runs.{cut_one}
 use Rattle.md_state.specs.View.{Disk}
 use Rattle.md_state.specs.DiskWrites.{IsTried}
 use Rattle.md_laws.specs.StopsWithin.{IsLeftBut, MayAllBeLeft, MayBeLeft, StopsAtFailure, StopsAtRemoval, StopsAtSector, StopsAtWrite, StopsInMemory}
-use Rattle.md_array.proofs.General.Indices.{got_within}
+use Rattle.md_assembly.proofs.Indices.{got_within}
 
 -- what is listed since, has what is said of all that is new
 pub new_has : (past now : List (List ℕ)) (P : List ℕ → Type 0) → LeavesMore past now P → (i : ℕ) (c : List ℕ) → slice_get (drop (length past) now) i ≡ Some c → P c

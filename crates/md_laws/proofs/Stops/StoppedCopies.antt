@@ -22,12 +22,13 @@ use Rattle.md_array.specs.InTurn.{Leads, Requests}
 use Rattle.md_laws.specs.StoppedCopies.{StopsAtCopies, copies_at}
 use Rattle.md_array.proofs.Steps.CopiedRun.{first_holds, first_may, others_hold, others_may}
 use Rattle.md_array.proofs.Steps.DataWritten.{part-spliced_within}
-use Rattle.md_array.proofs.Steps.OneWrite.{at_device, set_elsewhere}
+use Rattle.md_array.proofs.Steps.OneWrite.{at_device}
 use Rattle.md_array.proofs.Worlds.PartsApart.{parts_of}
 use Rattle.md_array.proofs.Steps.RunsOfSectors.{first_half, half, second_half}
 use Rattle.md_array.proofs.Worlds.SectorCopied.{copied_is_consistent, copy_happens}
-use Rattle.md_array.proofs.General.Indices.{at_set_same, got_in_map, got_within}
+use Rattle.md_array.proofs.General.Indices.{at_set_same, got_in_map, got_other}
 use Rattle.md_laws.proofs.Stops.AtSteps.{same_lists, stops_at_write}
+use Rattle.md_assembly.proofs.Indices.{got_within}
 
 -- some of these sectors were copied: the device then has these bytes, and the others are as they were
 record IsCopiedTo (from k : ℕ) (old : MirrorView) (bytes : List ℕ) : Type 0 where
@@ -195,7 +196,7 @@ module _ (n from k : ℕ) (go : Copied n from k) (s : ℕ) (bytes : List ℕ) (o
         disks = record {
           tried = record {
             as_many = length-set old.disks k now;
-            others = λ j apart. set_elsewhere old.disks k j now apart;
+            others = λ j apart. got_other old.disks k j now apart;
             stays = at_device old.disks k d now StaysHonest at (record { honest = refl; counted = omega arith });
             outside = at_device old.disks k d now (λ x y. SameOutside start (length (take 512 bytes)) x.content y.content) at
                 (subst (λ (x : ℕ). SameOutside start x d.content middle) (sym long_first) (first_half start 512 (512 * n) d.content left outside low));
@@ -205,14 +206,14 @@ module _ (n from k : ℕ) (go : Copied n from k) (s : ℕ) (bytes : List ℕ) (o
         array = refl;
       } in
       let rest = go (s + 1) (drop 512 bytes) mid now left (copied_is_consistent from k s old mid c copies) (others_may from k s n old.array may) long_rest
-      (others_hold old from s bytes holds mid refl (set_elsewhere old.disks k from now may.apart) (omega arith)) (at_set_same old.disks k now in_list) rest_same rest_each in
+      (others_hold old from s bytes holds mid refl (got_other old.disks k from now may.apart) (omega arith)) (at_set_same old.disks k now in_list) rest_same rest_each in
       record {
         sectors = s ∷ rest.sectors;
         mid = rest.mid;
         leads = λ previous requests in_flight.
             (mid, requests, tt, (refl, copies), (λ honest whole. copy_happens from k s old mid c copies honest requests in_flight), rest.leads (Some (Event.Copy from k s)) requests in_flight);
         as_many = rest.as_many ∙ length-set old.disks k now;
-        others = λ j apart. rest.others j apart ∙ set_elsewhere old.disks k j now apart;
+        others = λ j apart. rest.others j apart ∙ got_other old.disks k j now apart;
         disk = rest.disk;
         at = rest.at;
         is = rest.is;
