@@ -17,11 +17,8 @@ use Rattle.md_state.specs.DiskWrites.{IsWritten}
 use Rattle.md_state.specs.Trying.{Refuses, RefusesHalted, FailsWriting, HaltsWriting}
 
 -- the array's fields and the member's own, at sector 8
-abbrev pub write_of : Superblock → MemberView → Write
-write_of shared m = record { sector = 8; bytes = super_bytes (merged shared m.superblock) }
-
 abbrev pub super_write : ArrayView → MemberView → Write
-super_write a m = write_of a.shared m
+super_write a m = record { sector = 8; bytes = super_bytes (merged a.shared m.superblock) }
 
 -- a reader of the bytes that are written for a superblock finds its fields in them, and no fault
 pub record IsReadable (v : Superblock) : Type 0 where

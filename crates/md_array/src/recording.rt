@@ -8,13 +8,13 @@ ghost use Rattle.md_requests.specs.Pending.{PendingView};
 ghost use Rattle.md_state.specs.Requests.{IsPending};
 ghost use Rattle.md_array.specs.Consistency.{IsConsistent};
 ghost use Rattle.md_array.specs.Events.{RecordHappens};
-ghost use Rattle.md_array.specs.Recording.{IsReadable, Records, RefusesRecord, write_of};
+ghost use Rattle.md_array.specs.Recording.{IsReadable, Records, RefusesRecord, super_write};
 
 use crate::mirror::Mirror;
 use md_device::{Device, WriteFault};
 use md_kept_members::Member;
-use md_state::StoreFault;
-use md_super::{SUPER_SECTOR, Superblock, encode_member};
+use md_state::{Array, StoreFault};
+use md_super::{SUPER_SECTOR, encode_member};
 use md_writes::put;
 
 impl<D: Device + Drop> Mirror<D> {
@@ -34,7 +34,7 @@ impl<D: Device + Drop> Mirror<D> {
         self.array.check_active(k)?;
         let array = &self.array;
         let member = &array.members[k];
-        if store_superblock(&mut self.devices[k], &array.shared, member).is_err() {
+        if store_superblock(&mut self.devices[k], array, member).is_err() {
             return Err(self.array.store_failed(k));
         }
         self.array.note_recorded(k);
@@ -42,18 +42,18 @@ impl<D: Device + Drop> Mirror<D> {
     }
 }
 
-/// Writes a member's superblock on its device: these fields of the array, and its own.
-pub(crate) fn store_superblock<D: Device>(
+// Writes a member's superblock on its device.
+fn store_superblock<D: Device>(
     device: &mut D,
-    shared: &Superblock,
+    array: &Array,
     member: &Member,
 ) -> Result<(), WriteFault>
     requires { 16 ≤ sectors_of (D.content device.old) }
-    ensures writes { MakesWrites D.Device (write_of shared.now member.now ∷ []) device.old device.new result }
-    ensures outside { SameOutside (512 * 8) (length (write_of shared.now member.now).bytes) (D.content device.old) (D.content device.new) }
-    ensures readable { IsReadable (merged shared.now member.now.superblock) }
+    ensures writes { MakesWrites D.Device (super_write array.now member.now ∷ []) device.old device.new result }
+    ensures outside { SameOutside (512 * 8) (length (super_write array.now member.now).bytes) (D.content device.old) (D.content device.new) }
+    ensures readable { IsReadable (merged array.now.shared member.now.superblock) }
 {
     let mut block = [0; 4096];
-    encode_member(shared, &member.superblock, &mut block);
+    encode_member(&array.shared, &member.superblock, &mut block);
     put(device, SUPER_SECTOR, &block)
 }

@@ -9,9 +9,8 @@ ghost use Rattle.md_array.specs.Consistency.{IsConsistent};
 ghost use Rattle.md_array.specs.InTurn.{HasSector};
 
 use crate::mirror::Mirror;
-use md_bitmap::Marks;
+use md_bitmap::{CHUNKS_OF_HEADER, CHUNKS_OF_SECTOR, Marks};
 use md_device::Device;
-use md_kept_members::{CHUNKS_OF_HEADER, CHUNKS_OF_SECTOR};
 
 impl<D: Device + Drop> Mirror<D> {
     /// Whether the bits of this sector of the bitmap are stored on member k as the marks in memory are, as

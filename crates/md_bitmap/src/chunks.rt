@@ -1,5 +1,5 @@
 // The chunks of an array.
-ghost use Rattle.std.specs.Prelude.{◌≡◌, ◌+◌, ◌*◌, ◌/◌, ◌<◌, ◌≤◌, ◌↔◌, min, ℕ};
+ghost use Rattle.std.specs.Prelude.{◌≡◌, ◌+◌, ◌-◌, ◌*◌, ◌/◌, ◌<◌, ◌≤◌, ◌↔◌, min, ℕ};
 ghost use Rattle.std.specs.Int.{div_ceil};
 ghost use Rattle.md_bitmap.specs.Sound.{IsSound, chunk_count};
 ghost use Rattle.md_bitmap.specs.Chunks.{IsChunking, InChunk};
@@ -34,6 +34,27 @@ impl Chunks {
         ensures covers { (sector : ℕ) → sector < self.now.size → sector / self.now.sectors < result }
     {
         self.size.div_ceil(u64::from(self.sectors)) as u32
+    }
+
+    /// The chunk of a sector.
+    pub fn chunk_of(self, sector: u64) -> u32
+        requires { sector < self.size }
+        ensures is { result ≡ sector / self.sectors }
+        ensures within { result < div_ceil self.size self.sectors }
+    {
+        (sector / u64::from(self.sectors)) as u32
+    }
+
+    /// The first chunk of these sectors, and the one after the last.
+    pub fn chunks_of(self, sector: u64, sectors: u64) -> (u32, u32)
+        requires some { 0 < sectors }
+        requires inside { sector + sectors ≤ self.size }
+        ensures first { result.0 ≡ sector / self.sectors }
+        ensures end { result.1 ≡ ((sector + sectors) - 1) / self.sectors + 1 }
+        ensures within { result.1 ≤ div_ceil self.size self.sectors }
+    {
+        let last = sector + sectors - 1;
+        (self.chunk_of(sector), self.chunk_of(last) + 1)
     }
 
     /// Where a chunk starts, and how many sectors it has.

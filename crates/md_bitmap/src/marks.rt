@@ -14,6 +14,12 @@ use std::marker::Model;
 /// The bytes of a block of the bitmap.
 pub const BLOCK_BYTES: usize = 512;
 
+/// A sector of the bitmap has the bits of so many chunks. In the first, the header takes the room of some.
+pub const CHUNKS_OF_SECTOR: u32 = 4096;
+
+/// The bits of so many chunks are left to the first sector.
+pub const CHUNKS_OF_HEADER: u32 = 2048;
+
 /// How many sectors hold a bitmap's header and the bits of so many chunks.
 pub fn sectors_of_bitmap(chunks: u32) -> u32
     requires { chunks ≤ 1048576 }

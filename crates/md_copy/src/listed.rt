@@ -65,8 +65,8 @@ fn mark_run(marks: &mut Marks, chunks: Chunks, offset: u64, run: Run)
     let first = run.start.saturating_sub(offset);
     let end = run.end().saturating_sub(offset).min(chunks.size);
     if first < end {
-        let last = chunk_of(chunks, end - 1);
-        mark_chunks(marks, chunk_of(chunks, first), last + 1);
+        let last = chunks.chunk_of(end - 1);
+        mark_chunks(marks, chunks.chunk_of(first), last + 1);
     }
 }
 
@@ -79,13 +79,4 @@ fn mark_chunks(marks: &mut Marks, first: u32, end: u32)
     for chunk in first..end {
         marks.mark(chunk);
     }
-}
-
-// The chunk of a sector of the array.
-fn chunk_of(chunks: Chunks, sector: u64) -> u32
-    requires { sector < chunks.size }
-    ensures is { result ≡ sector / chunks.sectors }
-    ensures within { result < div_ceil chunks.size chunks.sectors }
-{
-    (sector / u64::from(chunks.sectors)) as u32
 }

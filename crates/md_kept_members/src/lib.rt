@@ -1,7 +1,6 @@
 //! What a mirror keeps in memory of each member, without its device, and what is found by going through a list of members.
 #![tactic(auto)]
 
-mod chunks;
 mod clearing;
 mod due;
 mod marking;
@@ -14,7 +13,6 @@ mod resyncing;
 mod stored_marks;
 mod taking_back;
 
-pub use chunks::{CHUNKS_OF_HEADER, CHUNKS_OF_SECTOR, chunks_of};
 pub use clearing::last_cleared;
 pub use due::make_due;
 pub use marking::{needs_marks, united_marks};

@@ -3,8 +3,7 @@ ghost use Rattle.std.specs.Prelude.{◌≡◌, ◌<◌, ◌≤◌, ◌==◌, ℕ
 ghost use Rattle.md_bitmap.specs.Marks.{is_set};
 ghost use Rattle.md_kept_members.specs.StoredMarks.{HasStored};
 
-use crate::chunks::{CHUNKS_OF_HEADER, CHUNKS_OF_SECTOR};
-use md_bitmap::Marks;
+use md_bitmap::{CHUNKS_OF_HEADER, CHUNKS_OF_SECTOR, Marks};
 
 /// Copies the marks of a sector's chunks.
 pub fn copy_block(marks: &Marks, stored: &mut Marks, block: u32)

@@ -15,7 +15,7 @@ use Rattle.md_array.specs.InTurn.{AllOf, InTurn, IsInOrder, Requests}
 use Rattle.md_array.proofs.Steps.Turns.{all_on, all_such, turn_on, turn_then}
 use Rattle.md_metadata.specs.declared.fault.PartFault.{PartFault}
 use Rattle.md_metadata.specs.declared.fault.PartFault.TheVariants.{Halted, MemberFailed}
-use Rattle.md_metadata.specs.Going.{GoesOn, HaltsAfter, IsFaulty, IsSameArray, LosesMember, StepsBy, alone, recorded_count}
+use Rattle.md_metadata.specs.Going.{GoesOn, HaltsAfter, IsFaulty, IsSameArray, LosesMember, StepsBy, only_others, recorded_count}
 use Rattle.md_metadata.specs.Storing.{AllStayReady, FailsAtLast, IsFailureOf, IsMarking, IsNoFailure, IsRecording, IsSector, IsStoring, IsUpToDate, LosesStoring, SectorFails, StaysReady, Stores, StoresAll, StoringFails}
 
 pub same_refl : (a : ArrayView) → IsSameArray a a
@@ -173,7 +173,7 @@ module _ (Of Such : Event → Type 0) (widen : (e : Event) → Of e → Such e) 
   module _ (old new : MirrorView) where
     pub stores_as : Stores Of old new → Stores Such old new
     unfolding goes_as
-    stores_as g = record { goes = goes_as alone alone old new g.goes; unfailing = g.unfailing; ready = g.ready }
+    stores_as g = record { goes = goes_as only_others only_others old new g.goes; unfailing = g.unfailing; ready = g.ready }
 
     pub all_as : (Done : MemberView → Type 0) → StoresAll Of Done old new → StoresAll Such Done old new
     all_as Done g = record { stores = stores_as g.stores; done = g.done }
@@ -182,7 +182,7 @@ module _ (Of Such : Event → Type 0) (widen : (e : Event) → Of e → Such e) 
     unfolding goes_as
     stops_as Halted h = record {
       mid = h.mid;
-      goes = goes_as alone alone old h.mid h.goes;
+      goes = goes_as only_others only_others old h.mid h.goes;
       failing = h.failing;
       of = widen h.failing h.of;
       halts = h.halts;
@@ -190,7 +190,7 @@ module _ (Of Such : Event → Type 0) (widen : (e : Event) → Of e → Such e) 
       pending = h.pending;
     }
     stops_as (MemberFailed k) h = record {
-      loses = record { goes = goes_as alone alone old new h.loses.goes; lost = h.loses.lost; halted = h.loses.halted };
+      loses = record { goes = goes_as only_others only_others old new h.loses.goes; lost = h.loses.lost; halted = h.loses.halted };
       was = h.was;
       last = h.last;
       faulty = h.faulty;
@@ -237,40 +237,40 @@ fails_after k es fs unfailing last = record {
 module _ (Of : Event → Type 0) where
   pub stores_nowhere : (m : MirrorView) → IsConsistent m → Stores Of m m
   unfolding goes_nowhere
-  stores_nowhere m sound = record { goes = goes_nowhere alone Of m sound; unfailing = tt; ready = ready_refl m.array }
+  stores_nowhere m sound = record { goes = goes_nowhere only_others Of m sound; unfailing = tt; ready = ready_refl m.array }
 
-  pub stores_step : (e : Event) (old new : MirrorView) → IsNoFailure e → StepsBy alone alone Of e old new → ((previous : Option Event) → IsInOrder previous old.array e)
+  pub stores_step : (e : Event) (old new : MirrorView) → IsNoFailure e → StepsBy only_others only_others Of e old new → ((previous : Option Event) → IsInOrder previous old.array e)
       → AllStayReady old.array new.array → Stores Of old new
   unfolding goes_step
-  stores_step e old new is s order ready = record { goes = goes_step alone alone Of e old new s order; unfailing = (is, tt); ready = ready }
+  stores_step e old new is s order ready = record { goes = goes_step only_others only_others Of e old new s order; unfailing = (is, tt); ready = ready }
 
   -- the write of it failed
-  pub step_loses : (k : ℕ) (e : Event) (old new : MirrorView) → IsFailureOf k e → StepsBy alone alone Of e old new → ((previous : Option Event) → IsInOrder previous old.array e)
+  pub step_loses : (k : ℕ) (e : Event) (old new : MirrorView) → IsFailureOf k e → StepsBy only_others only_others Of e old new → ((previous : Option Event) → IsInOrder previous old.array e)
       → recorded_count new.array < recorded_count old.array → new.array.halted ≡ old.array.halted → IsUpToDate old.array k → IsFaulty k new.array → LosesStoring Of k old new
   unfolding goes_step
   step_loses k e old new is s order lost halted was faulty = record {
-    loses = record { goes = goes_step alone alone Of e old new s order; lost = lost; halted = halted };
+    loses = record { goes = goes_step only_others only_others Of e old new s order; lost = lost; halted = halted };
     was = was;
     last = record { before = []; unfailing = tt; failing = e; of = is; list = refl };
     faulty = faulty;
   }
 
   module _ (old mid new : MirrorView) where
-    pub stores_two : (e f : Event) → IsNoFailure e → IsNoFailure f → StepsBy alone alone Of e old mid → ((previous : Option Event) → IsInOrder previous old.array e)
-        → StepsBy alone alone Of f mid new → IsInOrder (Some e) mid.array f → AllStayReady old.array new.array → Stores Of old new
+    pub stores_two : (e f : Event) → IsNoFailure e → IsNoFailure f → StepsBy only_others only_others Of e old mid → ((previous : Option Event) → IsInOrder previous old.array e)
+        → StepsBy only_others only_others Of f mid new → IsInOrder (Some e) mid.array f → AllStayReady old.array new.array → Stores Of old new
     unfolding goes_two
     stores_two e f first_is second_is s first t second ready = record {
-      goes = goes_two alone alone alone Of old mid new e f s first t second;
+      goes = goes_two only_others only_others only_others Of old mid new e f s first t second;
       unfailing = (first_is, (second_is, tt));
       ready = ready;
     }
 
-    pub two_lose : (k : ℕ) (e f : Event) → IsNoFailure e → IsFailureOf k f → StepsBy alone alone Of e old mid → ((previous : Option Event) → IsInOrder previous old.array e)
-        → StepsBy alone alone Of f mid new → IsInOrder (Some e) mid.array f → recorded_count new.array < recorded_count old.array → new.array.halted ≡ old.array.halted
+    pub two_lose : (k : ℕ) (e f : Event) → IsNoFailure e → IsFailureOf k f → StepsBy only_others only_others Of e old mid → ((previous : Option Event) → IsInOrder previous old.array e)
+        → StepsBy only_others only_others Of f mid new → IsInOrder (Some e) mid.array f → recorded_count new.array < recorded_count old.array → new.array.halted ≡ old.array.halted
         → IsUpToDate old.array k → IsFaulty k new.array → LosesStoring Of k old new
     unfolding goes_two
     two_lose k e f first_is second_is s first t second lost halted was faulty = record {
-      loses = record { goes = goes_two alone alone alone Of old mid new e f s first t second; lost = lost; halted = halted };
+      loses = record { goes = goes_two only_others only_others only_others Of old mid new e f s first t second; lost = lost; halted = halted };
       was = was;
       last = record { before = e ∷ []; unfailing = (first_is, tt); failing = f; of = second_is; list = refl };
       faulty = faulty;
@@ -279,7 +279,7 @@ module _ (Of : Event → Type 0) where
     pub stores_on : Stores Of old mid → Stores Of mid new → Stores Of old new
     unfolding goes_on
     stores_on g h = record {
-      goes = goes_on alone alone alone Of old mid new g.goes h.goes;
+      goes = goes_on only_others only_others only_others Of old mid new g.goes h.goes;
       unfailing = all_on IsNoFailure g.goes.events h.goes.events g.unfailing h.unfailing;
       ready = ready_on old.array mid.array new.array g.goes.array.marks g.ready h.ready;
     }
@@ -287,12 +287,12 @@ module _ (Of : Event → Type 0) where
     loses_then : (k : ℕ) → Stores Of old mid → LosesStoring Of k mid new → LosesStoring Of k old new
     unfolding goes_on loses_on
     loses_then k g h = record {
-      loses = loses_on alone alone alone Of old mid new g.goes g.ready.halted h.loses;
+      loses = loses_on only_others only_others only_others Of old mid new g.goes g.ready.halted h.loses;
       was = kept_before old.array mid.array k g.ready h.was;
       last = fails_after k g.goes.events h.loses.goes.events g.unfailing h.last;
       faulty = h.faulty;
     }
 
     pub stops_on : (fault : PartFault) → Stores Of old mid → StoringFails Of mid new fault → StoringFails Of old new fault
-    stops_on Halted g h = halts_on alone alone alone Of old mid new g.goes h
+    stops_on Halted g h = halts_on only_others only_others only_others Of old mid new g.goes h
     stops_on (MemberFailed k) g h = loses_then k g h

@@ -11,7 +11,7 @@ use Rattle.md_array.specs.Events.{Does}
 use Rattle.md_array.specs.InTurn.{Did, InTurn, IsInOrder, LeftWhole, Requests}
 use Rattle.md_array.specs.Worlds.{AreHonest}
 use Rattle.md_array.proofs.Steps.Turns.{all_on, all_such, turn_on, turn_then}
-use Rattle.md_metadata.specs.Going.{GoesOn, LeadsBy, alone}
+use Rattle.md_metadata.specs.Going.{GoesOn, LeadsBy, only_others}
 
 pub leads_nowhere : (IsOf : Event → Type 0) (m : MirrorView) → IsConsistent m → LeadsBy IsOf m m
 leads_nowhere IsOf m sound = record {
@@ -63,5 +63,5 @@ pub leads_as : (Of Such : Event → Type 0) → ((e : Event) → Of e → Such e
 leads_as Of Such f old new g =
     record { events = g.events; steps = all_such Of Such f g.events g.steps; leads = g.leads; requests = g.requests; sound = g.sound; pending = g.pending }
 
-pub goes_leads : (IsOf : Event → Type 0) (old new : MirrorView) → GoesOn alone alone IsOf old new → LeadsBy IsOf old new
+pub goes_leads : (IsOf : Event → Type 0) (old new : MirrorView) → GoesOn only_others only_others IsOf old new → LeadsBy IsOf old new
 goes_leads IsOf old new g = record { events = g.events; steps = g.steps; leads = g.leads; requests = g.array.requests; sound = g.sound; pending = g.pending }

@@ -27,7 +27,7 @@ use Rattle.md_array.proofs.General.Replaced.{of_set}
 use Rattle.md_array.proofs.General.Indices.{at_set_same}
 use Rattle.md_array.proofs.Worlds.States.{in_sync_recorded}
 use Rattle.md_metadata.specs.declared.fault.PartFault.TheVariants as part
-use Rattle.md_metadata.specs.Going.{HaltsAfter, IsFaulty, IsSameArray, LosesMember, StepsBy, alone, recorded_count}
+use Rattle.md_metadata.specs.Going.{HaltsAfter, IsFaulty, IsSameArray, LosesMember, StepsBy, only_others, recorded_count}
 use Rattle.md_metadata.specs.Storing.{AllStayReady, IsRecording, IsSector, RecordingFails, RecordsOn, SectorFails, StoresOn}
 use Rattle.md_metadata.proofs.Counts.{count_map, set_alike, set_fewer}
 use Rattle.md_metadata.proofs.Going.{goes_nowhere, goes_step, step_loses}
@@ -162,7 +162,7 @@ module _ (old new : MirrorView) (k block : ℕ) (sound : IsConsistent new) (pend
   sector_fails due j r happens =
       let f = r.1 in
       let used = sector_in_use f in
-      let step = failure_step alone alone (IsSector k block) (Event.StoreMarksFails k block) old new k f.fails.array used (refl, refl) (λ others. (refl, f))
+      let step = failure_step only_others only_others (IsSector k block) (Event.StoreMarksFails k block) old new k f.fails.array used (refl, refl) (λ others. (refl, f))
       (λ honest whole others in_flight. happens honest others in_flight) sound pending in (
         r.0,
         step_loses (IsSector k block) k (Event.StoreMarksFails k block) old new refl step (λ previous. due) (fewer_after old.array new.array k f.fails.array used)
@@ -170,11 +170,11 @@ module _ (old new : MirrorView) (k block : ℕ) (sound : IsConsistent new) (pend
             (faulty_after old.array new.array k f.fails.array used),
       )
 
-  pub sector_halts : old.array.halted ≡ false → IsConsistent old → RefusesMarkSector k block old new Halted → HaltsAfter alone alone (IsSector k block) old new
+  pub sector_halts : old.array.halted ≡ false → IsConsistent old → RefusesMarkSector k block old new Halted → HaltsAfter only_others only_others (IsSector k block) old new
   sector_halts run before (inl r) = never_halted old new run r
   sector_halts run before (inr h) = record {
     mid = old;
-    goes = goes_nowhere alone (IsSector k block) old before;
+    goes = goes_nowhere only_others (IsSector k block) old before;
     failing = Event.StoreMarksFails k block;
     of = (refl, refl);
     halts = λ others. h;
@@ -211,7 +211,7 @@ module _ (old new : MirrorView) (k : ℕ) (sound : IsConsistent new) (pending : 
       let f = r.1 in (
         r.0,
         record {
-          step = failure_step alone alone IsRecording (Event.RecordFails k) old new k f.fails.array (record_in_use f) tt (λ others. (refl, f))
+          step = failure_step only_others only_others IsRecording (Event.RecordFails k) old new k f.fails.array (record_in_use f) tt (λ others. (refl, f))
               (λ honest whole others in_flight. happens f.member f.may.at (whole f.member f.may.at) honest others in_flight) sound pending;
           lost = fewer_after old.array new.array k f.fails.array (record_in_use f);
           halted = halted_after old.array new.array k f.fails.array (record_in_use f);
@@ -220,11 +220,11 @@ module _ (old new : MirrorView) (k : ℕ) (sound : IsConsistent new) (pending : 
         },
       )
 
-  pub record_halts : old.array.halted ≡ false → IsConsistent old → RefusesRecord k old new Halted → HaltsAfter alone alone IsRecording old new
+  pub record_halts : old.array.halted ≡ false → IsConsistent old → RefusesRecord k old new Halted → HaltsAfter only_others only_others IsRecording old new
   record_halts run before (inl r) = never_halted old new run r
   record_halts run before (inr h) = record {
     mid = old;
-    goes = goes_nowhere alone IsRecording old before;
+    goes = goes_nowhere only_others IsRecording old before;
     failing = Event.RecordFails k;
     of = tt;
     halts = λ others. h;

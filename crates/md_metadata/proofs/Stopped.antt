@@ -21,7 +21,7 @@ use Rattle.md_array.specs.Consistency.{IsConsistent}
 use Rattle.md_array.specs.Events.{CleanHappens}
 use Rattle.md_metadata.specs.declared.fault.PartFault.{PartFault}
 use Rattle.md_metadata.specs.Clearing.{ClearsAll, IsClearing, MayClearAll}
-use Rattle.md_metadata.specs.Going.{GoesOn, HaltsAfter, LeadsBy, alone, recorded_count}
+use Rattle.md_metadata.specs.Going.{GoesOn, HaltsAfter, LeadsBy, only_others, recorded_count}
 use Rattle.md_metadata.specs.Storing.{HasAllMarks, IsMarking, IsRecording, IsStoring, LosesStoring, RecordsAll, StoresAll, StoringFails}
 use Rattle.md_metadata.specs.Stopping.{CleansIfActive, ClearsIfFull, FailsStop, HaltsStop, HasAllMarksIf, IsCleared, IsSettled, IsSettling, IsStopping, IsStoringIf, MayStop, Settles, Stops, StoresSettled, clears_marks, makes_clean}
 use Rattle.md_metadata.proofs.Counts.{count_map}
@@ -198,7 +198,7 @@ module _ (old b c : MirrorView) (x : ClearsIfFull old b) (y : CleansIfActive b c
   abbrev are_cleared : Bool
   are_cleared = clears_marks old.array
 
-  whole : (d : MirrorView) → GoesOn alone alone (IsStoringIf are_cleared) c d → LeadsBy IsStopping old d
+  whole : (d : MirrorView) → GoesOn only_others only_others (IsStoringIf are_cleared) c d → LeadsBy IsStopping old d
   whole d g = leads_then IsStopping old c d (leads_as IsSettling IsStopping settling_stops old c (leads_then IsSettling old b c x.goes y.goes))
       (leads_as (IsStoringIf are_cleared) IsStopping (storing_if_stops are_cleared) c d (goes_leads (IsStoringIf are_cleared) c d g))
 
@@ -228,7 +228,7 @@ module _ (old b c : MirrorView) (x : ClearsIfFull old b) (y : CleansIfActive b c
       resynced = l.loses.goes.array.resynced ∙ settled_resynced;
     }
 
-    pub stop_halts : HaltsAfter alone alone (IsStoringIf are_cleared) c d → HaltsStop old d
+    pub stop_halts : HaltsAfter only_others only_others (IsStoringIf are_cleared) c d → HaltsStop old d
     stop_halts h = record { may = may; settled = c; settles = settles; halts = h; goes = whole h.mid h.goes }
 
 -- ---- what is stored

@@ -15,7 +15,7 @@ use Rattle.md_array.proofs.General.Indices.{at_set_same}
 use Rattle.md_array.proofs.Worlds.States.{in_sync_recorded}
 use Rattle.md_metadata.specs.declared.fault.PartFault.{PartFault}
 use Rattle.md_metadata.specs.declared.fault.PartFault.TheVariants.{Halted, MemberFailed}
-use Rattle.md_metadata.specs.Going.{StepsBy, alone}
+use Rattle.md_metadata.specs.Going.{StepsBy, only_others}
 use Rattle.md_metadata.specs.Storing.{IsRecorded, IsRecording, IsSector, LosesStoring, RecordingFails, RecordsAll, RecordsAt, RecordsBelow, RecordsOn, StaysReady, StoresAt, StoresOn, StoringFails}
 use Rattle.md_metadata.proofs.Going.{first_records, goes_step, halts_on, kept_before, ready_on, same_state, step_as, step_loses, stores_nowhere, stores_on, stores_step, stores_two, two_lose, was_in_sync}
 use Rattle.md_metadata.proofs.Steps.{now_at}
@@ -53,8 +53,8 @@ module _ (k : ℕ) (old mid : MirrorView) (s : StoresOn k 0 old mid) where
   }
 
   module _ (new : MirrorView) (first : IsSectorDue old.array k 0) (second : IsRecordDue (Some (Event.StoreMarks k 0)) mid.array k) where
-    header : StepsBy alone alone IsRecording (Event.StoreMarks k 0) old mid
-    header = step_as (IsSector k 0) IsRecording (first_records k) alone alone (Event.StoreMarks k 0) old mid s.step
+    header : StepsBy only_others only_others IsRecording (Event.StoreMarks k 0) old mid
+    header = step_as (IsSector k 0) IsRecording (first_records k) only_others only_others (Event.StoreMarks k 0) old mid s.step
 
     recorded_after : RecordsOn k mid new → StoresAt IsRecording k IsNotDue old new
     recorded_after r = record {
@@ -67,7 +67,7 @@ module _ (k : ℕ) (old mid : MirrorView) (s : StoresOn k 0 old mid) where
     stops_after (MemberFailed j) (at, l) = subst (λ (i : ℕ). LosesStoring IsRecording i old new) (sym at)
         (two_lose IsRecording old mid new k (Event.StoreMarks k 0) (Event.RecordFails k) tt refl header (λ previous. first) l.step second
         (let x = s.step.array.fewer in let y = l.lost in omega arith) (l.halted ∙ s.ready.halted) (kept_before old.array mid.array k s.ready l.was) l.faulty)
-    stops_after Halted h = halts_on alone alone alone IsRecording old mid new (goes_step alone alone IsRecording (Event.StoreMarks k 0) old mid header (λ previous. first)) h
+    stops_after Halted h = halts_on only_others only_others only_others IsRecording old mid new (goes_step only_others only_others IsRecording (Event.StoreMarks k 0) old mid header (λ previous. first)) h
 
     pub recorded_or_stops : {T : Type 0} (result : Result T PartFault) → MatchResult result (λ _. RecordsOn k mid new) (RecordingFails k mid new)
         → MatchResult result (λ _. StoresAt IsRecording k IsNotDue old new) (StoringFails IsRecording old new)

@@ -13,7 +13,7 @@ use Rattle.md_state.specs.Members.{IsInSync, IsMember}
 use Rattle.md_array.specs.Consistency.{IsConsistent}
 use Rattle.md_array.specs.InTurn.{HasSector, IsSectorDue}
 use Rattle.md_metadata.specs.declared.fault.PartFault.{PartFault}
-use Rattle.md_metadata.specs.Going.{StepsBy, alone}
+use Rattle.md_metadata.specs.Going.{StepsBy, only_others}
 use Rattle.md_metadata.specs.Storing.{HasAllMarks, IsMarking, IsSector, SectorFails, StaysReady, Stores, StoresAt, StoresOn, StoringFails}
 use Rattle.md_metadata.proofs.Going.{sector_marks, sector_stops, step_as, stops_as, stores_nowhere, stores_on, stores_step, was_in_sync}
 use Rattle.md_metadata.proofs.Steps.{now_at}
@@ -36,8 +36,8 @@ hit true x y e = refl
 hit false x y e = absurd cc
 
 module _ (k block : ℕ) (old new : MirrorView) where
-  abbrev as_marking : StepsBy alone alone (IsSector k block) (Event.StoreMarks k block) old new → StepsBy alone alone IsMarking (Event.StoreMarks k block) old new
-  as_marking = step_as (IsSector k block) IsMarking (sector_marks k block) alone alone (Event.StoreMarks k block) old new
+  abbrev as_marking : StepsBy only_others only_others (IsSector k block) (Event.StoreMarks k block) old new → StepsBy only_others only_others IsMarking (Event.StoreMarks k block) old new
+  as_marking = step_as (IsSector k block) IsMarking (sector_marks k block) only_others only_others (Event.StoreMarks k block) old new
 
   sector_in : IsConsistent old → IsSectorDue old.array k block → StoresOn k block old new → StoresAt IsMarking k (HasSector old.array block) old new
   sector_in sound due s =

@@ -27,8 +27,8 @@ pub record IsSameArray (old new : ArrayView) : Type 0 where
   pub fewer : recorded_count new ≤ recorded_count old
 
 -- requests in flight, by those beside the call's own: the same where it has none
-abbrev pub alone : Requests → Requests
-alone others = others
+abbrev pub only_others : Requests → Requests
+only_others others = others
 
 -- One event, whatever came before it.
 pub record StepsBy (F G : Requests → Requests) (IsOf : Event → Type 0) (e : Event) (old new : MirrorView) : Type 0 where

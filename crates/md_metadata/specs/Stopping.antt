@@ -10,7 +10,7 @@ use Rattle.md_state.specs.Rising.{HasSpentEvents}
 use Rattle.md_state.specs.Trying.{Refuses, RefusesHalted}
 use Rattle.md_metadata.specs.declared.stop_fault.StopFault.{StopFault}
 use Rattle.md_metadata.specs.declared.stop_fault.StopFault.TheVariants.{Halted, InFlight, EventsFull, MemberFailed}
-use Rattle.md_metadata.specs.Going.{HaltsAfter, IsFaulty, LeadsBy, alone, recorded_count}
+use Rattle.md_metadata.specs.Going.{HaltsAfter, IsFaulty, LeadsBy, only_others, recorded_count}
 use Rattle.md_metadata.specs.Storing.{AllRecorded, HasAllMarks, IsRecording, IsStoring, LosesStoring, Stores}
 
 -- an event of a stop: marks and the clean state in memory, then what is stored
@@ -93,7 +93,7 @@ pub record HaltsStop (old new : MirrorView) : Type 0 where
   pub may : MayStop old.array
   pub settled : MirrorView
   pub settles : Settles old settled
-  pub halts : HaltsAfter alone alone (IsStoringIf (clears_marks old.array)) settled new
+  pub halts : HaltsAfter only_others only_others (IsStoringIf (clears_marks old.array)) settled new
   pub goes : LeadsBy IsStopping old halts.mid
 
 abbrev pub RefusesStop : MirrorView → MirrorView → StopFault → Type 0

@@ -11,7 +11,7 @@ use Rattle.md_state.specs.WritingMember.{IsNotDue}
 use Rattle.md_array.specs.InTurn.{AllOf}
 use Rattle.md_metadata.specs.declared.fault.PartFault.{PartFault}
 use Rattle.md_metadata.specs.declared.fault.PartFault.TheVariants.{Halted, MemberFailed}
-use Rattle.md_metadata.specs.Going.{GoesOn, HaltsAfter, IsFaulty, LosesMember, StepsBy, alone, recorded_count}
+use Rattle.md_metadata.specs.Going.{GoesOn, HaltsAfter, IsFaulty, LosesMember, StepsBy, only_others, recorded_count}
 
 -- ---- kinds of events, done or failed
 -- this sector of member k's bitmap is stored
@@ -91,20 +91,20 @@ pub record IsUpToDate (a : ArrayView) (k : ℕ) : Type 0 where
 
 -- by events of a kind something was stored, and nothing failed
 pub record Stores (Of : Event → Type 0) (old new : MirrorView) : Type 0 where
-  pub goes : GoesOn alone alone Of old new
+  pub goes : GoesOn only_others only_others Of old new
   pub unfailing : AllOf IsNoFailure goes.events
   pub ready : AllStayReady old.array new.array
 
 -- member k was kept up to date and failed, and that was the end
 pub record LosesStoring (Of : Event → Type 0) (k : ℕ) (old new : MirrorView) : Type 0 where
-  pub loses : LosesMember alone alone Of old new
+  pub loses : LosesMember only_others only_others Of old new
   pub was : IsUpToDate old.array k
   pub last : FailsAtLast k loses.goes.events
   pub faulty : IsFaulty k new.array
 
 -- why they do not come to their end
 abbrev pub StoringFails : (Event → Type 0) → MirrorView → MirrorView → PartFault → Type 0
-StoringFails Of old new Halted = HaltsAfter alone alone Of old new
+StoringFails Of old new Halted = HaltsAfter only_others only_others Of old new
 StoringFails Of old new (MemberFailed k) = LosesStoring Of k old new
 
 -- they came to their end: of member k it holds, if it is in sync
@@ -144,31 +144,31 @@ pub record RecordsAll (old new : MirrorView) : Type 0 where
 
 -- a sector of the bitmap is stored on member k
 pub record StoresOn (k block : ℕ) (old new : MirrorView) : Type 0 where
-  pub step : StepsBy alone alone (IsSector k block) (Event.StoreMarks k block) old new
+  pub step : StepsBy only_others only_others (IsSector k block) (Event.StoreMarks k block) old new
   pub ready : AllStayReady old.array new.array
   pub gives : StoresMarkSector k block old new
 
 -- or the write of it failed: that member is faulty, or the mirror is halted
 abbrev pub SectorFails : ℕ → ℕ → MirrorView → MirrorView → PartFault → Type 0
-SectorFails k block old new Halted = HaltsAfter alone alone (IsSector k block) old new
+SectorFails k block old new Halted = HaltsAfter only_others only_others (IsSector k block) old new
 SectorFails k block old new (MemberFailed j) = (j ≡ k) × LosesStoring (IsSector k block) k old new
 
 -- member k's superblock is stored
 pub record RecordsOn (k : ℕ) (old new : MirrorView) : Type 0 where
-  pub step : StepsBy alone alone IsRecording (Event.Record k) old new
+  pub step : StepsBy only_others only_others IsRecording (Event.Record k) old new
   pub ready : AllStayReady old.array new.array
   pub done : (m : MemberView) → IsMember new.array k m → IsNotDue m
 
 -- or the write of it failed
 pub record LosesRecording (k : ℕ) (old new : MirrorView) : Type 0 where
-  pub step : StepsBy alone alone IsRecording (Event.RecordFails k) old new
+  pub step : StepsBy only_others only_others IsRecording (Event.RecordFails k) old new
   pub lost : recorded_count new.array < recorded_count old.array
   pub halted : new.array.halted ≡ old.array.halted
   pub was : IsUpToDate old.array k
   pub faulty : IsFaulty k new.array
 
 abbrev pub RecordingFails : ℕ → MirrorView → MirrorView → PartFault → Type 0
-RecordingFails k old new Halted = HaltsAfter alone alone IsRecording old new
+RecordingFails k old new Halted = HaltsAfter only_others only_others IsRecording old new
 RecordingFails k old new (MemberFailed j) = (j ≡ k) × LosesRecording k old new
 
 -- the member has all marks stored as these are

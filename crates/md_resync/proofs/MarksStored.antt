@@ -25,7 +25,7 @@ use Rattle.md_array.specs.Worlds.{from_super, none_in_flight}
 use Rattle.md_array.proofs.Steps.Turns.{all_such}
 use Rattle.md_laws.proofs.Runs.ReadTurns.{unread}
 use Rattle.md_metadata.specs.Going as metadata
-use Rattle.md_metadata.specs.Going.{alone}
+use Rattle.md_metadata.specs.Going.{only_others}
 use Rattle.md_inflight.specs.Inflight.{InflightList}
 use Rattle.md_metadata.specs.Storing.{HasAllMarks, IsMarking, IsNoFailure, LosesStoring, StoresAll}
 use Rattle.md_state.specs.MakingClean.{IsIdle, first_number}
@@ -69,9 +69,9 @@ module _ (k block : ℕ) (old new : MirrorView) (c : IsConsistent old) (low : bl
       (subst (λ (x : ℕ). SameOutside (512 * r.write.sector) x d.content e.content) length_is (r.disks.tried.outside d e was is)) in
       let count = c.chunks.member_count k m r.may.in_sync.member in
       let low_of_member = subst (λ (x : ℕ). block < bitmap_sectors x) (sym count) low in
-      let alone = marks_alone old.array m d.content e.content (parts_of old c k d m was r.may.in_sync.member) block low_of_member outside in
+      let only_others = marks_alone old.array m d.content e.content (parts_of old c k d m was r.may.in_sync.member) block low_of_member outside in
       let within = below-nat_lt s old.array.chunks.size below in
-      sym (ap (λ b. cond b (sector_of m e s) []) within) ∙ ap (λ (x : Stored). x.content s) alone ∙ ap (λ b. cond b (sector_of m d s) []) within
+      sym (ap (λ b. cond b (sector_of m e s) []) within) ∙ ap (λ (x : Stored). x.content s) only_others ∙ ap (λ b. cond b (sector_of m d s) []) within
 
   -- a member in sync, and what it was
   record WasServed (s j : ℕ) (x : MemberView) (e : Disk) : Type 0 where
@@ -241,7 +241,7 @@ stores_marks old new idle sound s =
     unread g.events previous old requests (λ v x. (v ≡ new) × (x ≡ requests)) (g.leads previous requests in_flight) in
     record {
       advances = record {
-        goes = record { events = g.events; steps = all_such IsMarkStored IsOfResync (λ e is. (mark_is_calm e is).of) g.events steps; leads = leads; by_steps = marking_by_steps g.events old new g.steps g.leads; unread = λ alone. g.leads };
+        goes = record { events = g.events; steps = all_such IsMarkStored IsOfResync (λ e is. (mark_is_calm e is).of) g.events steps; leads = leads; by_steps = marking_by_steps g.events old new g.steps g.leads; unread = λ only_others. g.leads };
         unfailing = s.stores.unfailing;
         same = leaves.same;
         idle = subst IsIdle (sym ready.others) (record { running = idle.running; none = idle.none });
@@ -276,13 +276,13 @@ marking_of (Event.Remove k) is = absurd is
 marking_of (Event.Add d left) is = absurd is
 marking_of (Event.ReAdd own device left) is = absurd is
 
-marking_goes : (old new : MirrorView) → metadata.GoesOn alone alone IsMarking old new → GoesOn old new
+marking_goes : (old new : MirrorView) → metadata.GoesOn only_others only_others IsMarking old new → GoesOn old new
 marking_goes old new g = record {
   events = g.events;
   steps = all_such IsMarking IsOfResync marking_of g.events g.steps;
   leads = λ previous requests in_flight. unread g.events previous old requests (λ v x. (v ≡ new) × (x ≡ requests)) (g.leads previous requests in_flight);
   by_steps = marking_by_steps g.events old new g.steps g.leads;
-  unread = λ alone. g.leads;
+  unread = λ only_others. g.leads;
 }
 
 pub loses_marks : (k : ℕ) (old new : MirrorView) → IsIdle old.array → LosesStoring IsMarking k old new → FailsToWrite k old new
@@ -318,7 +318,7 @@ halted_at (Event.Remove k) old new is h = absurd is
 halted_at (Event.Add d left) old new is h = absurd is
 halted_at (Event.ReAdd own device left) old new is h = absurd is
 
-pub halts_marks : (old new : MirrorView) → IsIdle old.array → metadata.HaltsAfter alone alone IsMarking old new → HaltsIdle old new
+pub halts_marks : (old new : MirrorView) → IsIdle old.array → metadata.HaltsAfter only_others only_others IsMarking old new → HaltsIdle old new
 halts_marks old new idle h = record {
   halts = record { idle = idle; mid = h.mid; goes = marking_goes old h.mid h.goes; failing = h.failing; of = marking_of h.failing h.of; halts = h.halts };
   halted = halted_at h.failing h.mid new h.of (h.halts none_in_flight);

@@ -9,7 +9,6 @@ ghost use Rattle.md_state.specs.View.{Disk};
 use crate::array::Array;
 use crate::step_fault::BeginFault;
 use md_inflight::{PushFault, Ticket};
-use md_kept_members::chunks_of;
 use md_requests::{Extent, Pending, pending_of};
 use md_super::CLEAN_OFFSET;
 
@@ -109,7 +108,7 @@ impl Array {
         ensures marked { HasMarked self.old sector sectors self.new.marks }
         ensures others { self.new ≡ record self.old { marks = self.new.marks } }
     {
-        let (first, end) = chunks_of(self.chunks, sector, sectors);
+        let (first, end) = self.chunks.chunks_of(sector, sectors);
         self.marks.mark_range(first, end);
     }
 }

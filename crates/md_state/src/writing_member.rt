@@ -10,7 +10,6 @@ ghost use Rattle.md_state.specs.WritingMember.{MayWrite, RefusesWriteMember};
 
 use crate::array::Array;
 use crate::step_fault::WriteMemberFault;
-use md_kept_members::chunks_of;
 use md_requests::{Pending, note_written};
 
 impl Array {
@@ -29,7 +28,7 @@ impl Array {
         if !member.state.is_in_sync() {
             return Err(WriteMemberFault::NotActive);
         }
-        let (first, end) = chunks_of(self.chunks, pending.sector(), pending.sectors());
+        let (first, end) = self.chunks.chunks_of(pending.sector(), pending.sectors());
         if let Some(j) = self.first_unmarked(first, end) {
             return Err(WriteMemberFault::NotMarked(j));
         }

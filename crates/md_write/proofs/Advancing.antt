@@ -11,7 +11,7 @@ use Rattle.md_array.proofs.Steps.InFlight.{among_in_flight}
 use Rattle.md_array.proofs.Steps.Turns.{all_on, all_such, turn_on, turn_then}
 use Rattle.md_metadata.specs.declared.fault.PartFault.{PartFault}
 use Rattle.md_metadata.specs.declared.fault.PartFault.TheVariants.{Halted, MemberFailed}
-use Rattle.md_metadata.specs.Going.{GoesOn, StepsBy, alone}
+use Rattle.md_metadata.specs.Going.{GoesOn, StepsBy, only_others}
 use Rattle.md_metadata.specs.Storing.{StoringFails}
 use Rattle.md_metadata.proofs.Going.{fly_on, same_on, same_refl}
 use Rattle.md_write.specs.Progress.{Advances, HaltsOn, IsLater, IsOfRequest, LeavesAt, Part, WritingFails}
@@ -117,7 +117,7 @@ module _ (p q r : PendingView) (old mid new : MirrorView) (a b : Part) (g : Adva
 
 -- ---- marks and records are stored beside it
 module _ (Kind : Event → Type 0) (p : PendingView) (old new : MirrorView) (is : IsPending old.array p) (widen : (e : Event) → Kind e → IsOfRequest old.array.chunks p e) where
-  goes_beside : (mid : MirrorView) → GoesOn alone alone Kind old mid → GoesOn (among p) (among p) (IsOfRequest old.array.chunks p) old mid
+  goes_beside : (mid : MirrorView) → GoesOn only_others only_others Kind old mid → GoesOn (among p) (among p) (IsOfRequest old.array.chunks p) old mid
   goes_beside mid g = record {
     events = g.events;
     steps = all_such Kind (IsOfRequest old.array.chunks p) widen g.events g.steps;
@@ -128,7 +128,7 @@ module _ (Kind : Event → Type 0) (p : PendingView) (old new : MirrorView) (is 
   }
 
   module _ (from to : Part) (leave : (es : List Event) → AllOf Kind es → LeavesAt from to es) where
-    pub stored_beside : GoesOn alone alone Kind old new → Advances from to p p old new
+    pub stored_beside : GoesOn only_others only_others Kind old new → Advances from to p p old new
     unfolding goes_beside
     stored_beside g = record { goes = goes_beside new g; rounds = leave g.events g.steps; later = later_refl p }
 

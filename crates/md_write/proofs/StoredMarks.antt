@@ -13,7 +13,7 @@ use Rattle.md_state.specs.WritingMember.{HasMarksFrom}
 use Rattle.md_array.specs.Consistency.{IsConsistent}
 use Rattle.md_array.specs.InTurn.{IsSectorDue}
 use Rattle.md_metadata.specs.declared.fault.PartFault.{PartFault}
-use Rattle.md_metadata.specs.Going.{IsSameArray, alone}
+use Rattle.md_metadata.specs.Going.{IsSameArray, only_others}
 use Rattle.md_metadata.specs.Storing.{IsSector, SectorFails, StaysReady, Stores, StoresAt, StoresOn, StoringFails}
 use Rattle.md_metadata.proofs.Going.{sector_stops, step_as, stops_as, stores_nowhere, stores_on, stores_step, was_in_sync}
 use Rattle.md_metadata.proofs.Steps.{now_at}
@@ -81,7 +81,7 @@ module _ (k block first end : ℕ) (old new : MirrorView) (are : AreMarked old.a
       let r = s.gives in
       record {
         stores = stores_step (IsMarkingOf first end) (Event.StoreMarks k block) old new tt
-            (step_as (IsSector k block) (IsMarkingOf first end) (sector_marks k first end block bits) alone alone (Event.StoreMarks k block) old new s.step) (λ previous. due) s.ready;
+            (step_as (IsSector k block) (IsMarkingOf first end) (sector_marks k first end block bits) only_others only_others (Event.StoreMarks k block) old new s.step) (λ previous. due) s.ready;
         done = λ m in_sync c low high here.
             let it = now_at old.array new.array k r.member (record r.member { stored = r.stored }) r.may.in_sync.member refl r.array m in_sync.member in
             let within = are.within in

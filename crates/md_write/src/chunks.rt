@@ -2,7 +2,7 @@
 ghost use Rattle.std.specs.Prelude.{◌≡◌, ◌↔◌, ◌<◌, ◌≤◌, ◌^◌, ℕ};
 ghost use Rattle.md_model.specs.Sectors.{block_of};
 
-use md_kept_members::{CHUNKS_OF_HEADER, CHUNKS_OF_SECTOR};
+use md_bitmap::{CHUNKS_OF_HEADER, CHUNKS_OF_SECTOR};
 
 /// The sector of the bitmap that has the bit of a chunk.
 pub(crate) fn block_of(chunk: u32) -> u32

@@ -10,7 +10,6 @@ use crate::data::write_to_members;
 use crate::marks::store_marks;
 use md_array::{BeginFault, Mirror, Pending};
 use md_device::Device;
-use md_kept_members::chunks_of;
 use md_metadata::{PartFault, store_other_records, store_records};
 
 // Stores the marks of a request's chunks and what is due, and writes its bytes, until a member fails.
@@ -81,7 +80,7 @@ pub fn write<D: Device + Drop>(
         Err(fault) => return Err(fault),
     };
     let sectors = pending.sectors();
-    let (first, end) = chunks_of(mirror.chunks(), sector, sectors);
+    let (first, end) = mirror.chunks().chunks_of(sector, sectors);
     if let Err(fault) = write_all(mirror, &mut pending, first, end) {
         return Err(fault);
     }
