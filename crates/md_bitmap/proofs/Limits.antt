@@ -9,8 +9,6 @@ use Rattle.std.specs.Cmp.{both_ways}
 use Rattle.std.proofs.lemmas.Nat.{zero_from_ones}
 use Rattle.md_bitmap.specs.Sound.{IsChunkSize, chunk_count}
 
--- two tests that pass together are one
-
 few_from_size : (s c : ℕ) → 0 < c → s ≤ 1048576 * c / 512 → chunk_count s c ≤ 1048576
 few_from_size s c positive h =
     let bounds = div_ceil_times (s * 512) c positive in

@@ -299,11 +299,10 @@ chunks_all chunk old new covers g = record {
       (λ s low marked. g.agree s low marked (covers s low));
 }
 
--- after the chunks before it, one fails
-
 div_before : (width x y : ℕ) → 0 < width → x / width < y / width → x < y
 div_before width x y wide less = elim (cases_lt x y) [ inl low ↦ low | inr high ↦ let up = div_mono width y x wide high in absurd (omega arith) ]
 
+-- after the chunks before it, one fails
 pub chunks_fail : (chunk : ℕ) (old mid new : MirrorView) → IsConsistent old → CopiesBelow chunk old mid → (fault : ResyncFault) → CopyingFails (IsOfChunk mid.array chunk) mid new fault
     → CopyingFails (IsMarkedAt old.array) old new fault
 chunks_fail chunk old mid new sound g =

@@ -26,8 +26,6 @@ steps_apart [] more old before P t = (old, rests_same old, t)
 steps_apart (MirrorStep.Single e ∷ steps) more old before P t = (t.0, t.1, t.2, t.3, t.4, t.5, t.6, steps_apart steps more t.1 t.2 P t.7)
 steps_apart (MirrorStep.CopyRun r ∷ steps) more old before P t = (t.0, t.1, t.2, t.3, t.4, steps_apart steps more t.1 before P t.5)
 
--- nothing is asked of the device
-
 all_after : (Of : Event → Type 0) (es fs : List Event) → AllOf Of (es ++ fs) → AllOf Of fs
 all_after Of [] fs all = all
 all_after Of (e ∷ es) fs all = all_after Of es fs all.1

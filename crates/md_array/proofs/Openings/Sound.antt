@@ -32,8 +32,6 @@ same_bytes_unless_other xs ys h =
     let d = bytes_eq-Decides xs ys in
     by_test (bytes_eq xs ys) d.0 (λ other. absurd (h (λ e. true≢false (sym (d.1 e) ∙ other))))
 
--- two members in a relation, by their indices
-
 module _ (infos : List MemberInfo) (sound : NoFault infos) where
   no_stranger : (k : ℕ) → PairAt IsStranger infos 0 k → ⊥
   no_stranger k = none_by_least (PairAt IsStranger infos 0) (λ n least. sound (Stranger n) (omega arith) least) k

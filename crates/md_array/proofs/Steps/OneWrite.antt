@@ -19,8 +19,6 @@ use Rattle.md_array.proofs.Openings.DevicesInTurn.{disk_at}
 use Rattle.md_array.proofs.General.Indices.{at_set_same, got_other}
 use Rattle.md_assembly.proofs.Indices.{got_same}
 
--- an element besides the one that was replaced
-
 -- what holds of the device at k before and after
 pub at_device : (before : List Disk) (k : ℕ) (d e : Disk) (Related : Disk → Disk → Type 0) → slice_get before k ≡ Some d → Related d e → AtDevice k before (set before k e) Related
 at_device before k d e Related here related x y was is =

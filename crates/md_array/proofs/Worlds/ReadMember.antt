@@ -38,8 +38,6 @@ pub record IsReadMember (a : ArrayView) (m : MemberView) (info : MemberInfo) (co
   pub count : a.marks.chunks ≡ m.stored.chunks
   pub fresh : info.superblock.events ≤ a.shared.events
 
--- a quotient rounded up is no more than a number whose product is enough
-
 -- as many chunks by the array's sectors as the marks have
 chunks_past : (size width bytes count c : ℕ) → IsChunkSize bytes → width ≡ bytes / 512 → count ≡ chunk_count size bytes → size ≤ c * width → count ≤ c
 chunks_past size width bytes count c sound w n past =

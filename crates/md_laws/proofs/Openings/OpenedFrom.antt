@@ -21,8 +21,6 @@ use Rattle.md_array.proofs.Worlds.Shown.{IsShown, by_member, in_sync_is, own_is,
 use Rattle.md_laws.proofs.Openings.Opened.{opened}
 use Rattle.md_assembly.proofs.Indices.{got_same}
 
--- devices with the same sector agree as these do
-
 module _ (before : List Disk) (m : MirrorView) (honest : AreHonest before) (o : IsOpenedFrom before m) where
   abbrev a : ArrayView
   a = m.array
