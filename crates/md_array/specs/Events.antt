@@ -12,10 +12,10 @@ use Rattle.md_state.specs.declared.step_fault.StoreFault.{StoreFault}
 use Rattle.md_state.specs.declared.step_fault.StoreFault.TheVariants.{MemberFailed}
 use Rattle.md_state.specs.declared.step_fault.WriteMemberFault.{WriteMemberFault}
 use Rattle.md_state.specs.declared.step_fault.WriteMemberFault.TheVariants as write_fault
-use Rattle.md_state.specs.View.{Disk, MirrorView}
+use Rattle.md_state.specs.View.{Disk, MirrorView, of_disks}
 use Rattle.md_state.specs.Members.{IsMember}
 use Rattle.md_array.specs.Consistency.{IsConsistent}
-use Rattle.md_writes.specs.Writes.{Write}
+use Rattle.md_writes.specs.Writes.{DoesWrites, Write}
 use Rattle.md_state.specs.CopyingData.{IsDone}
 use Rattle.md_state.specs.DiskWrites.{AtDevice, IsFailed, IsWritten}
 use Rattle.md_state.specs.Requests.{AreInFlight, among, request_of}
@@ -31,8 +31,16 @@ pub record WritesLast (own : Super) (before after : List Disk) : Type 0 where
   pub write : Write
   pub written : IsWritten (length before) write (before ++ was ∷ []) after
 
--- The devices before and after an event: one is written at most, and once. The sectors of one write of a resync are an event each.
--- Of a member that leaves nothing is said here, and of a new one that comes in no call is made yet.
+-- A device was written, by several writes, and stands behind the others then, none of which is used.
+pub record ComesLast (before after : List Disk) : Type 0 where
+  pub was : Disk
+  pub now : Disk
+  pub writes : List Write
+  pub done : DoesWrites of_disks writes was now
+  pub disks : after ≡ before ++ now ∷ []
+
+-- The devices before and after an event: one is written at most, and once, but for a new one. The sectors of one write of a resync
+-- are an event each. Of a member that leaves nothing is said here.
 abbrev pub WritesOnce : Event → List Disk → List Disk → Type 0
 WritesOnce (Event.Record k) before after = (w : Write) × IsWritten k w before after
 WritesOnce (Event.StoreMarks k b) before after = (w : Write) × (length w.bytes ≡ 512) × IsWritten k w before after
@@ -45,7 +53,7 @@ WritesOnce (Event.Copy from k s) before after = (w : Write) × (length w.bytes �
 WritesOnce Event.Resynced before after = after ≡ before
 WritesOnce Event.Unresynced before after = after ≡ before
 WritesOnce (Event.Remove k) before after = Unit {0}
-WritesOnce (Event.Add number left) before after = Unit {0}
+WritesOnce (Event.Add number left) before after = ComesLast before after
 WritesOnce (Event.ReAdd own device left) before after = WritesLast own before after
 WritesOnce Event.MakeClean before after = after ≡ before
 WritesOnce (Event.Begin n p) before after = after ≡ before

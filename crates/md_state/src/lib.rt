@@ -1,6 +1,8 @@
 //! What a mirror keeps in memory of the array, without its devices, and what each step asks of it and changes in it.
 #![tactic(auto)]
 
+mod add_fault;
+mod adding;
 mod array;
 mod beginning;
 mod checking;
@@ -15,6 +17,7 @@ mod joining;
 mod making_clean;
 mod missing;
 mod noting_resynced;
+mod numbering;
 mod observing;
 mod re_add_fault;
 mod re_adding;
@@ -22,10 +25,12 @@ mod recording;
 mod remembering;
 mod removing;
 mod rising;
+mod spares;
 mod step_fault;
 mod storing_marks;
 mod writing_member;
 
+pub use add_fault::AddFault;
 pub use array::Array;
 pub use copy_fault::CopyFault;
 pub use re_add_fault::ReAddFault;

@@ -35,7 +35,7 @@ use Rattle.md_array.proofs.General.Indices.{any_at, at_map}
 use Rattle.md_array.proofs.Worlds.ReadAsKept.{IsSameArray, kept_in}
 use Rattle.md_array.proofs.Worlds.Risen.{risen_is_consistent, risen_role, same_filled, world_risen}
 
-or_false : (t : Bool) → (t || false) ≡ t
+pub or_false : (t : Bool) → (t || false) ≡ t
 or_false true = refl
 or_false false = refl
 

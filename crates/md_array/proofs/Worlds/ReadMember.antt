@@ -56,7 +56,7 @@ chunks_past size width bytes count c sound w n past =
     let fewer : div_ceil size width ≤ c = not_above size width (div_ceil size width) c bounds.1 past in
     omega arith
 
-chunk_within : (size width bytes count s : ℕ) → IsChunkSize bytes → width ≡ bytes / 512 → count ≡ chunk_count size bytes → s < size → s / width < count
+pub chunk_within : (size width bytes count s : ℕ) → IsChunkSize bytes → width ≡ bytes / 512 → count ≡ chunk_count size bytes → s < size → s / width < count
 chunk_within size width bytes count s sound w n below =
     let least = sound.least in
     let positive : 0 < width = omega arith in

@@ -50,14 +50,12 @@ pub is_set-same : (xs ys : List ℕ) (c : ℕ) → slice_index xs (c / 8) ≡ sl
 unfolding is_set
 is_set-same xs ys c e = ap (λ (b : ℕ). eqb (bit_at b (c % 8)) 1) e
 
-pub holds_written : (start : ℕ) (h : BitmapHeader) (m : Bitmap) (old new : List ℕ) → length (header_bytes h) ≡ 256 → IsHeader (header_bytes h) h
-    → 512 * (start + bitmap_sectors m.chunks) ≤ length old → new ≡ after old (bitmap_writes start h m (bitmap_sectors m.chunks)) → HoldsBitmap new start h m
-holds_written start h m old new long spelled fits done =
-    let n = bitmap_sectors m.chunks in
-    let w : AreStored start h m 0 n old new = subst (AreStored start h m 0 n old) (sym done) (stored_all start h m n old (omega arith) fits) in
-    let byte = byte_written start h m n old new w in
+-- of a device with room for it
+pub holds_stored : (start : ℕ) (h : BitmapHeader) (m : Bitmap) (old new : List ℕ) → length (header_bytes h) ≡ 256 → IsHeader (header_bytes h) h
+    → 512 * (start + bitmap_sectors m.chunks) ≤ length new → AreStored start h m 0 (bitmap_sectors m.chunks) old new → HoldsBitmap new start h m
+holds_stored start h m old new long spelled fits w =
+    let byte = byte_written start h m (bitmap_sectors m.chunks) old new w in
     let some = div_ceil_times (256 + div_ceil m.chunks 8) 512 (omega arith) in
-    let size = w.outside.size in
     let front : header_on new start ≡ header_bytes h = ext_get_or 0 (header_on new start) (header_bytes h)
     (length-part new (512 * start) 256 (omega (arith, some.0)) ∙ sym long)
     (λ i l. let low : i < 256 = omega (arith, length-part new (512 * start) 256 (omega (arith, some.0))) in
@@ -73,3 +71,11 @@ holds_written start h m old new long spelled fits done =
           ∙ ap (slice_index (header_bytes h ++ m.bytes)) behind
           ∙ get_or-append-add (header_bytes h) m.bytes (c / 8) 0);
     }
+
+pub holds_written : (start : ℕ) (h : BitmapHeader) (m : Bitmap) (old new : List ℕ) → length (header_bytes h) ≡ 256 → IsHeader (header_bytes h) h
+    → 512 * (start + bitmap_sectors m.chunks) ≤ length old → new ≡ after old (bitmap_writes start h m (bitmap_sectors m.chunks)) → HoldsBitmap new start h m
+holds_written start h m old new long spelled fits done =
+    let n = bitmap_sectors m.chunks in
+    let w : AreStored start h m 0 n old new = subst (AreStored start h m 0 n old) (sym done) (stored_all start h m n old (omega arith) fits) in
+    let size = w.outside.size in
+    holds_stored start h m old new long spelled (omega arith) w
