@@ -31,6 +31,12 @@ module _ {X : Type 0} where
     pub refused : RefusesOpen before after fault
     pub unused : new ≡ old
 
+  -- there is no memory for the list in which they come back
+  pub record RefusesList (before after : List Disk) (old new : X) (result : Result (Unit {0}) CommandFault) : Type 0 where
+    pub is : result ≡ Err NoMemory
+    pub devices : after ≡ before
+    pub unused : new ≡ old
+
 module _ {S : Type 0} (s : SinkGhosts S) where
   -- The devices are opened as a mirror, which is shown in a line. `before` and `after` are the devices as contracts see them.
   pub record ShowsMirror (before after : List Disk) (old new : S) (result : Result (Unit {0}) CommandFault) : Type 0 where

@@ -1,6 +1,7 @@
 //! The commands of the program, over images that are found by name.
 #![tactic(auto)]
 
+mod adding;
 mod advice;
 mod advising;
 mod arrays;
@@ -9,6 +10,7 @@ mod examining;
 mod fault;
 mod laying_out;
 mod looking;
+mod loss_notice;
 mod marks_notice;
 mod messages;
 mod option_fault;
