@@ -71,5 +71,3 @@ pub mod WriteKeeps
 pub mod WriteToMember
 -- A device that is read, written once, and then stands behind the others.
 pub mod WrittenLast
--- Sectors of a write to the data, of which some are written.
-pub mod WrittenParts

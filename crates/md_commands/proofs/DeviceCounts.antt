@@ -156,7 +156,7 @@ gone_unresynced old new goes =
     (with_end IsOfResync goes.events Event.Unresynced goes.steps tt) (goes.leads None nothing (none_in_flight old.array))
 
 -- ---- the calls
-stopped : (old new : MirrorView) → Stops old new → AsMany old new
+pub stopped : (old new : MirrorView) → Stops old new → AsMany old new
 stopped old new s = led_by IsStopping stopping_keeps old new s.goes
 
 not_stopped : (fault : StopFault) (old new : MirrorView) → RefusesStop old new fault → AsMany old new
@@ -218,7 +218,7 @@ stopped_after Through old new through s = stopped s.mid new s.stops ∙ through 
 fails_after : (Through : MirrorView → Type 0) (old new : MirrorView) (fault : StopFault) → ((mid : MirrorView) → Through mid → AsMany old mid) → FailsToStop Through new fault → AsMany old new
 fails_after Through old new fault through s = not_stopped fault s.mid new s.refused ∙ through s.mid s.through
 
-read_readied : (sector count : ℕ) (bytes : List ℕ) (old new : MirrorView) → ReadsWhenReady sector count bytes old new → AsMany old new
+pub read_readied : (sector count : ℕ) (bytes : List ℕ) (old new : MirrorView) → ReadsWhenReady sector count bytes old new → AsMany old new
 read_readied sector count bytes old new r = r.reads.reads.rests.disks.same.as_many ∙ readied old r.ready r.readied
 
 not_read_of : (fault : UnreadFault) (sector count : ℕ) (old new : MirrorView) → RefusesSectorsOf sector count old new fault → AsMany old new
@@ -265,14 +265,8 @@ module _ {S : Type 0} (s : SinkGhosts S) (old new : MirrorView) (before after : 
     writes_as_many fault h = absurd h
 
 -- where the command is done
-pub done_stop : (old new : MirrorView) → Stops old new → AsMany old new
-done_stop = stopped
-
 pub done_resync : (old new : MirrorView) → StopsAfter (Resyncs old) new → AsMany old new
 done_resync old new = stopped_after (Resyncs old) old new (resynced old)
-
-pub done_read : (sector count : ℕ) (bytes : List ℕ) (old new : MirrorView) → ReadsWhenReady sector count bytes old new → AsMany old new
-done_read = read_readied
 
 pub done_write : (sector : ℕ) (bytes : List ℕ) (old new : MirrorView) → StopsAfter (WritesReadied sector bytes old) new → AsMany old new
 done_write sector bytes old new = stopped_after (WritesReadied sector bytes old) old new (wrote_readied sector bytes old)

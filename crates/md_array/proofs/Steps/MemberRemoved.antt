@@ -35,6 +35,7 @@ use Rattle.md_array.proofs.Worlds.ReadAsKept.{IsSameArray, MembersAreOf, counted
 use Rattle.md_array.proofs.Worlds.Risen.{full_as_told, risen_is_consistent, same_degraded, world_risen}
 use Rattle.md_array.proofs.Worlds.Shown.{at_is}
 use Rattle.md_array.proofs.Worlds.TakenOut.{degraded_left, left_is_consistent, read_left, world_left}
+use Rattle.md_array.proofs.Worlds.States.{same_active}
 
 -- ---- states
 out_of_sync : (s : MemberState) → is_active s ≡ false → is_in_sync s ≡ false
@@ -50,13 +51,6 @@ without_role (Recovering own) e role = absurd cc
 without_role (Stale own) e role = refl
 without_role Spare e role = refl
 without_role Faulty e role = refl
-
-pub same_active : (s : MemberState) → model.is_active (kind_of s) ≡ is_active s
-same_active (InSync role) = refl
-same_active (Recovering role) = refl
-same_active (Stale role) = refl
-same_active Spare = refl
-same_active Faulty = refl
 
 same_spare : (s : MemberState) → membership.is_spare (kind_of s) ≡ is_spare s
 same_spare (InSync role) = refl

@@ -1,10 +1,9 @@
 -- What stands in a bitmap's area once its sectors are written.
-use Rattle.std.proofs.Common.{◌≡◌, ℕ, ◌+◌, ◌*◌, ◌/◌, ◌%◌, ◌<◌, ◌≤◌, List, ◌++◌, length, drop, slice_index, sym, ap, ◌∙◌, subst, eqb, arith, get_or-take, get_or-drop}
+use Rattle.std.proofs.Common.{◌≡◌, ℕ, ◌+◌, ◌*◌, ◌/◌, ◌%◌, ◌<◌, ◌≤◌, List, ◌++◌, length, drop, slice_index, sym, ap, ◌∙◌, subst, eqb, arith, get_or-drop}
 use Rattle.std.specs.Int.{div_ceil, bit_at}
 use Rattle.std.proofs.lemmas.Grind.{div_ceil_times}
 use Rattle.std.proofs.lemmas.List.{ext_get_or, get_or-append-add, get_or_append_left}
-use Rattle.md_device.specs.Splice.{part}
-use Rattle.md_device.proofs.Splices.{length-part}
+use Rattle.md_device.proofs.Splices.{length-part, slice_index-part}
 use Rattle.md_bitmap.specs.declared.header.BitmapHeader.{BitmapHeader}
 use Rattle.md_bitmap.specs.Header.{IsHeader, header_bytes}
 use Rattle.md_bitmap.specs.Marks.{Bitmap, is_set}
@@ -19,10 +18,6 @@ use Rattle.md_writes.specs.Writes.{after}
 pub record HoldsBitmap (content : List ℕ) (start : ℕ) (h : BitmapHeader) (m : Bitmap) : Type 0 where
   pub header : IsHeader (header_on content start) h
   pub bits : (c : ℕ) → c < m.chunks → is_set (drop (512 * start + 256) content) c ≡ is_set m.bytes c
-
-pub slice_index-part : (xs : List ℕ) (at n i : ℕ) → i < n → slice_index (part xs at n) i ≡ slice_index xs (at + i)
-unfolding part
-slice_index-part xs at n i h = get_or-take n (drop at xs) i 0 h ∙ get_or-drop at xs i 0
 
 -- each byte of the area
 byte_written : (start : ℕ) (h : BitmapHeader) (m : Bitmap) (n : ℕ) (old new : List ℕ) → AreStored start h m 0 n old new → (p : ℕ) → p < 512 * n → slice_index new (512 * start + p) ≡ slice_index (header_bytes h ++ m.bytes) p

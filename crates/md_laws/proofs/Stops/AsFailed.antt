@@ -6,6 +6,7 @@ use Rattle.std.proofs.lemmas.Option.{none-some, same_Some, slice_get_past, slice
 use Rattle.md_device.specs.Splice.{SameOutside, spliced}
 use Rattle.md_device.specs.Device.{held, written}
 use Rattle.md_device.specs.Stops.{IsMixed}
+use Rattle.md_device.proofs.Leaving.{three_same, in_three}
 use Rattle.md_writes.specs.Writes.{IsAnyIn, IsCutShort, Write}
 use Rattle.md_writes.proofs.Runs.{cut_one}
 use Rattle.md_model.specs.Events.{Event}
@@ -16,9 +17,9 @@ use Rattle.md_state.specs.View.{Disk}
 use Rattle.md_array.specs.Worlds.{AreHonest}
 use Rattle.md_laws.specs.StopsWithin.{IsLeftBut, MayAllBeLeft, StopsAsFailed, StopsAsTried, StopsAtEvents, StopsUndivided}
 use Rattle.md_array.proofs.General.Appended.{got_earlier}
-use Rattle.md_array.proofs.General.Indices.{got_in_map, got_within}
-use Rattle.md_array.proofs.Steps.WrittenParts.{whole, with_part}
+use Rattle.md_array.proofs.General.Indices.{got_in_map}
 use Rattle.md_laws.proofs.Stops.AtSteps.{same_lists, stops_at_failure, stops_at_sector, stops_at_write, stops_in_memory}
+use Rattle.md_assembly.proofs.Indices.{got_within}
 
 -- devices with these contents in place of theirs
 abbrev with_contents : List Disk → List (List ℕ) → List Disk
@@ -193,8 +194,8 @@ stops_undivided k w before after left honest writes may undivided =
       others = but.others;
       this = λ d c was is. ⊎_elim (λ done. inr done)
           (λ (mixed : IsMixed w.sector w.bytes d.content c). ⊎_elim
-          (λ (same : held c w.sector (length w.bytes) ≡ held d.content w.sector (length w.bytes)). inl (with_part (512 * w.sector) (length w.bytes) d.content c mixed.outside _ same ∙ sym (whole d.content (512 * w.sector) (length w.bytes))))
-          (λ (new : held c w.sector (length w.bytes) ≡ w.bytes). inr (with_part (512 * w.sector) (length w.bytes) d.content c mixed.outside w.bytes new))
+          (λ (same : held c w.sector (length w.bytes) ≡ held d.content w.sector (length w.bytes)). inl (three_same (512 * w.sector) (length w.bytes) d.content c mixed.outside _ same ∙ sym (in_three d.content (512 * w.sector) (length w.bytes))))
+          (λ (new : held c w.sector (length w.bytes) ≡ w.bytes). inr (three_same (512 * w.sector) (length w.bytes) d.content c mixed.outside w.bytes new))
           (undivided d c was is))
           (cut_one d.content c w (but.this d c was is));
     })

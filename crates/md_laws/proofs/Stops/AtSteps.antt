@@ -12,7 +12,7 @@ use Rattle.md_state.specs.View.{Disk}
 use Rattle.md_state.specs.DiskWrites.{IsTried, IsWritten}
 use Rattle.md_array.specs.Recording.{super_write}
 use Rattle.md_laws.specs.StopsWithin.{IsLeftBut, MayAllBeLeft, MayBeLeft, StopsAtFailure, StopsAtReAdd, StopsAtRemoval, StopsAtSector, StopsAtWrite, StopsInMemory}
-use Rattle.md_array.proofs.General.Indices.{got_within}
+use Rattle.md_assembly.proofs.Indices.{got_within}
 use Rattle.md_array.proofs.Steps.WrittenLast.{honest_last, written_last}
 
 -- what is listed since, has what is said of all that is new

@@ -42,7 +42,7 @@ use Rattle.md_array.proofs.Worlds.Listed.{IsLogKept, listed_same_bit}
 use Rattle.md_array.proofs.Worlds.PartsApart.{HasParts, data_alone, data_elsewhere, header_beside_super, log_beside_super, parts_of, super_alone}
 use Rattle.md_array.proofs.Worlds.ReadAsKept.{own_stays_as, own_written_as, read_beside_data}
 use Rattle.md_array.proofs.Steps.SuperRecorded.{lists_alike, record_happens}
-use Rattle.md_array.proofs.General.Indices.{at_set_same, got_in_map, got_other, got_same, got_within}
+use Rattle.md_array.proofs.General.Indices.{at_set_same, got_in_map, got_other}
 use Rattle.md_array.proofs.Worlds.Supers.{super_shown}
 use Rattle.md_laws.proofs.Stops.LeftContents.{got_like, read_changed, read_in, read_same}
 use Rattle.md_laws.proofs.Runs.Moments.{IsSoundAt}
@@ -50,6 +50,7 @@ use Rattle.md_laws.proofs.Stops.FirstSector.{ReadsAs, first_part, first_sector, 
 use Rattle.md_laws.proofs.Stops.AsFailed.{failed_as_tried, stops_as_tried, stops_at_events}
 use Rattle.md_laws.proofs.Stops.AtSteps.{stops_at_write}
 use Rattle.md_laws.proofs.Runs.Rests.{at_once, at_rest}
+use Rattle.md_assembly.proofs.Indices.{got_within, got_same}
 
 -- ---- one device, as a stop left it
 -- parts are on a device as long as another
