@@ -8,8 +8,8 @@ use Rattle.md_model.specs.Events.{Event}
 use Rattle.md_writes.specs.Writes.{DoesWrites, StopsInWrites}
 use Rattle.md_kept_members.specs.Spares.{kept_spare}
 use Rattle.md_kept_members.specs.View.{MemberView}
-use Rattle.md_state.specs.declared.add_fault.AddFault.{AddFault}
-use Rattle.md_state.specs.declared.add_fault.AddFault.TheVariants.{Halted, TooSmall, Full, EventsFull, WriteFault, NoMemory}
+use Rattle.md_faults.specs.declared.add_fault.AddFault.{AddFault}
+use Rattle.md_faults.specs.declared.add_fault.AddFault.TheVariants.{Halted, TooSmall, Full, EventsFull, WriteFault, NoMemory}
 use Rattle.md_state.specs.Adding.{IsSpareOf, MayAdd, RefusesToAdd, added}
 use Rattle.md_state.specs.DeviceChanges.{LeavesOn}
 use Rattle.md_state.specs.Members.{IsMember}

@@ -8,10 +8,10 @@ use Rattle.md_model.specs.Events.{Event, Step}
 use Rattle.md_model.specs.Runs.{failed_after}
 use Rattle.md_requests.specs.Pending.{PendingView}
 use Rattle.md_kept_members.specs.View.{MemberView}
-use Rattle.md_state.specs.declared.step_fault.StoreFault.{StoreFault}
-use Rattle.md_state.specs.declared.step_fault.StoreFault.TheVariants.{MemberFailed}
-use Rattle.md_state.specs.declared.step_fault.WriteMemberFault.{WriteMemberFault}
-use Rattle.md_state.specs.declared.step_fault.WriteMemberFault.TheVariants as write_fault
+use Rattle.md_faults.specs.declared.step_fault.StoreFault.{StoreFault}
+use Rattle.md_faults.specs.declared.step_fault.StoreFault.TheVariants.{MemberFailed}
+use Rattle.md_faults.specs.declared.step_fault.WriteMemberFault.{WriteMemberFault}
+use Rattle.md_faults.specs.declared.step_fault.WriteMemberFault.TheVariants as write_fault
 use Rattle.md_state.specs.View.{Disk, MirrorView, of_disks}
 use Rattle.md_state.specs.Members.{IsMember}
 use Rattle.md_array.specs.Consistency.{IsConsistent}

@@ -9,8 +9,8 @@ use Rattle.md_model.specs.Devices.{Super}
 use Rattle.md_model.specs.Events.{Event}
 use Rattle.md_kept_members.specs.TakingBack.{IsTakenBack, own_role}
 use Rattle.md_kept_members.specs.View.{MemberView}
-use Rattle.md_state.specs.declared.re_add_fault.ReAddFault.{ReAddFault}
-use Rattle.md_state.specs.declared.re_add_fault.ReAddFault.TheVariants.{Halted, Member, Full, NotReAddable, NoRole, EventsFull, WriteFault, NoMemory}
+use Rattle.md_faults.specs.declared.re_add_fault.ReAddFault.{ReAddFault}
+use Rattle.md_faults.specs.declared.re_add_fault.ReAddFault.TheVariants.{Halted, Member, Full, NotReAddable, NoRole, EventsFull, WriteFault, NoMemory}
 use Rattle.md_state.specs.DeviceChanges.{IsLeftAlone, StaysHonest}
 use Rattle.md_state.specs.DiskWrites.{IsFailed, IsWritten}
 use Rattle.md_state.specs.Joining.{joined_shared}

@@ -12,8 +12,8 @@ ghost use Rattle.md_array.specs.Consistency.{IsConsistent};
 use crate::mirror::Mirror;
 use md_create::{NewMember, lay_out};
 use md_device::Device;
+use md_faults::AddFault;
 use md_kept_members::kept_spare;
-use md_state::AddFault;
 use md_super::{SPARE, Superblock};
 use std::alloc::{AllocError, Global};
 

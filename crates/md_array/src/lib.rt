@@ -25,9 +25,9 @@ mod storing_marks;
 mod writing_member;
 
 pub use fault::OpenFault;
-pub use md_requests::Pending;
-pub use md_state::{
+pub use md_faults::{
     AddFault, BeginFault, CleanFault, ClearFault, CopyFault, FailFault, FinishFault, ReAddFault,
     RemoveFault, StoreFault, WriteMemberFault,
 };
+pub use md_requests::Pending;
 pub use mirror::Mirror;

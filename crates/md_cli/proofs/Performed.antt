@@ -12,8 +12,8 @@ use Rattle.md_examine.specs.declared.sink.Sink.{Ghosts as SinkGhosts}
 use Rattle.md_state.specs.View.{MirrorView}
 use Rattle.md_words.specs.declared.array_task.ArrayTask.{ArrayTask}
 use Rattle.md_words.specs.declared.array_task.ArrayTask.TheVariants as task
-use Rattle.md_cli.specs.declared.fault.CommandFault.{CommandFault}
-use Rattle.md_cli.specs.declared.fault.CommandFault.TheVariants as fault
+use Rattle.md_advice.specs.declared.fault.CommandFault.{CommandFault}
+use Rattle.md_advice.specs.declared.fault.CommandFault.TheVariants as fault
 use Rattle.md_cli.specs.Performing.{OfData, Performs, Streams}
 
 of_data : {X : Type 0} (P : DataFault → Type 0) (f : CommandFault) → OfData P f → ((d : DataFault) → P d → X) → X

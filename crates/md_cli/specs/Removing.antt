@@ -6,7 +6,7 @@ use Rattle.md_commands.specs.Removing.{HandsBack, RefusesToRemove, RemovesMember
 use Rattle.md_commands.specs.Stopping.{StopsArrayAfter}
 use Rattle.md_examine.specs.declared.sink.Sink.{Ghosts}
 use Rattle.md_state.specs.View.{Disk, MirrorView}
-use Rattle.md_cli.specs.declared.fault.CommandFault.{CommandFault}
+use Rattle.md_advice.specs.declared.fault.CommandFault.{CommandFault}
 use Rattle.md_cli.specs.Arrays.{RefusesList, RefusesMirror}
 use Rattle.md_cli.specs.Performing.{OfData}
 

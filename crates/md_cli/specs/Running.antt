@@ -5,9 +5,9 @@ use Rattle.clap.specs.Words.{Text}
 use Rattle.md_device.specs.declared.access.Access.{Access}
 use Rattle.md_device.specs.declared.access.Access.TheVariants.{Look, Change}
 use Rattle.md_create.specs.declared.params.CreateParams.{CreateParams}
-use Rattle.md_cli.specs.declared.fault.CommandFault.{CommandFault}
-use Rattle.md_cli.specs.declared.fault.CommandFault.TheVariants as fault
-use Rattle.md_cli.specs.declared.option_fault.OptionFault.{OptionFault}
+use Rattle.md_advice.specs.declared.fault.CommandFault.{CommandFault}
+use Rattle.md_advice.specs.declared.fault.CommandFault.TheVariants as fault
+use Rattle.md_advice.specs.declared.option_fault.OptionFault.{OptionFault}
 use Rattle.md_words.specs.declared.report.Report.{Report}
 use Rattle.md_words.specs.declared.array_task.ArrayTask.{ArrayTask}
 use Rattle.md_words.specs.Asked.{Ask, Options, examines, creates, performs, removes, adds}

@@ -10,8 +10,8 @@ ghost use Rattle.md_cli.specs.Performing.{OfData};
 ghost use Rattle.md_images.specs.Images.{allows};
 ghost use Rattle.md_images.specs.Taking.{image_list};
 
-use crate::fault::CommandFault;
 use crate::marks_notice::tell_stored_marks;
+use md_advice::CommandFault;
 use md_array::Mirror;
 use md_commands::add_device;
 use md_device::{Access, Device};

@@ -7,16 +7,14 @@ ghost use Rattle.md_cli.specs.Running.{Does, DoesCommand, IsIdle, MakesArray, Pe
 ghost use Rattle.md_words.specs.Words.{mdcli};
 
 use crate::adding::add_to_images;
-use crate::advising::advise;
 use crate::arrays::perform_on_images;
 use crate::creating::create_images;
 use crate::examining::examine_images;
-use crate::fault::CommandFault;
 use crate::looking::look_at_images;
-use crate::loss_notice::tell_lost_content;
 use crate::messages::Messages;
 use crate::planning::plan;
 use crate::removing::remove_from_images;
+use md_advice::{CommandFault, advise, tell_lost_content};
 use md_commands::Source;
 use md_examine::Sink;
 use md_images::Images;

@@ -8,14 +8,14 @@ use Rattle.md_model.specs.Devices.{Stored, Super}
 use Rattle.md_model.specs.Events.{Event}
 use Rattle.md_model.specs.Worlds.{Request}
 use Rattle.md_requests.specs.Pending.{PendingView}
-use Rattle.md_state.specs.declared.add_fault.AddFault.{AddFault}
-use Rattle.md_state.specs.declared.add_fault.AddFault.TheVariants as add
-use Rattle.md_state.specs.declared.step_fault.BeginFault.{BeginFault}
-use Rattle.md_state.specs.declared.step_fault.BeginFault.TheVariants as begin
-use Rattle.md_state.specs.declared.step_fault.FailFault.{FailFault}
-use Rattle.md_state.specs.declared.step_fault.FailFault.TheVariants as fail
-use Rattle.md_state.specs.declared.step_fault.RemoveFault.{RemoveFault}
-use Rattle.md_state.specs.declared.step_fault.RemoveFault.TheVariants as remove
+use Rattle.md_faults.specs.declared.add_fault.AddFault.{AddFault}
+use Rattle.md_faults.specs.declared.add_fault.AddFault.TheVariants as add
+use Rattle.md_faults.specs.declared.step_fault.BeginFault.{BeginFault}
+use Rattle.md_faults.specs.declared.step_fault.BeginFault.TheVariants as begin
+use Rattle.md_faults.specs.declared.step_fault.FailFault.{FailFault}
+use Rattle.md_faults.specs.declared.step_fault.FailFault.TheVariants as fail
+use Rattle.md_faults.specs.declared.step_fault.RemoveFault.{RemoveFault}
+use Rattle.md_faults.specs.declared.step_fault.RemoveFault.TheVariants as remove
 use Rattle.md_state.specs.FailingMembers.{FailsMember, RefusesFail}
 use Rattle.md_state.specs.Removing.{RefusesRemove, Removes}
 use Rattle.md_state.specs.Requests.{AreInFlight, among, request_of}
@@ -84,7 +84,6 @@ did IsOf keeps Event.MakeClean old new before after of h = ap length h.1.disks
 did IsOf keeps (Event.Remove k) old new before after of h = absurd (keeps.removes k of)
 did IsOf keeps (Event.Add d left) old new before after of h = absurd (keeps.adds d left of)
 did IsOf keeps (Event.ReAdd own device left) old new before after of h = absurd (keeps.re_adds own device left of)
-did IsOf keeps e old new before after of h = absurd h
 
 halts : (e : Event) (old new : MirrorView) (before : Requests) → HaltsAt old before e new → AsMany old new
 halts (Event.RecordFails k) old new before h = h.halts.disks.tried.as_many

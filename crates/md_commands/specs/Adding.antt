@@ -2,7 +2,7 @@
 use Rattle.std.specs.Prelude.{◌≡◌, ℕ, ◌+◌, List, length, Option, Some, None}
 use Rattle.md_examine.specs.declared.sink.Sink.{Ghosts}
 use Rattle.md_array.specs.Adding.{Adds, RefusesAdd}
-use Rattle.md_state.specs.declared.add_fault.AddFault.{AddFault}
+use Rattle.md_faults.specs.declared.add_fault.AddFault.{AddFault}
 use Rattle.md_state.specs.View.{Disk, MirrorView}
 use Rattle.md_commands.specs.declared.fault.DataFault.{DataFault}
 use Rattle.md_commands.specs.declared.fault.DataFault.TheVariants.{Add}

@@ -9,8 +9,8 @@ use Rattle.md_model.specs.Events.{Event}
 use Rattle.md_bitmap.specs.Marks.{is_set}
 use Rattle.md_requests.specs.declared.extent.Extent.{Extent}
 use Rattle.md_requests.specs.Pending.{PendingView}
-use Rattle.md_state.specs.declared.step_fault.ClearFault.{ClearFault}
-use Rattle.md_state.specs.declared.step_fault.ClearFault.TheVariants.{Halted, NotResynced, Degraded, Busy, NotMarked}
+use Rattle.md_faults.specs.declared.step_fault.ClearFault.{ClearFault}
+use Rattle.md_faults.specs.declared.step_fault.ClearFault.TheVariants.{Halted, NotResynced, Degraded, Busy, NotMarked}
 use Rattle.md_state.specs.View.{ArrayView, MirrorView}
 use Rattle.md_state.specs.ClearingMarks.{Clears, RefusesClear, first_touching}
 use Rattle.md_state.specs.MakingClean.{first_number}

@@ -10,7 +10,7 @@ use Rattle.md_assembly.specs.States.{is_in_sync, is_recorded}
 use Rattle.md_requests.specs.Pending.{PendingView}
 use Rattle.md_kept_members.specs.View.{MemberView}
 use Rattle.md_kept_members.specs.Members.{made_due}
-use Rattle.md_state.specs.declared.step_fault.StoreFault.TheVariants.{Halted, NotActive, MemberFailed}
+use Rattle.md_faults.specs.declared.step_fault.StoreFault.TheVariants.{Halted, NotActive, MemberFailed}
 use Rattle.md_state.specs.Members.{IsMember}
 use Rattle.md_state.specs.Rising.{Fails, made_faulty}
 use Rattle.md_state.specs.View.{ArrayView, MirrorView}

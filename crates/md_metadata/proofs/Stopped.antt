@@ -9,8 +9,8 @@ use Rattle.md_requests.specs.Pending.{PendingView}
 use Rattle.md_kept_members.specs.View.{MemberView}
 use Rattle.md_assembly.specs.States.{is_recorded}
 use Rattle.md_kept_members.specs.Members.{made_due}
-use Rattle.md_state.specs.declared.step_fault.CleanFault.{CleanFault}
-use Rattle.md_state.specs.declared.step_fault.CleanFault.TheVariants as clean
+use Rattle.md_faults.specs.declared.step_fault.CleanFault.{CleanFault}
+use Rattle.md_faults.specs.declared.step_fault.CleanFault.TheVariants as clean
 use Rattle.md_state.specs.View.{ArrayView, MirrorView}
 use Rattle.md_state.specs.Members.{clean_offset, is_degraded}
 use Rattle.md_state.specs.Rising.{HasSpentEvents}

@@ -12,7 +12,7 @@ use Rattle.md_writes.specs.Writes.{Write}
 use Rattle.md_kept_members.specs.View.{MemberView}
 use Rattle.md_state.specs.View.{ArrayView, Disk, MirrorView}
 use Rattle.md_state.specs.CopyingData.{CopiesTo, IsCopy, RefusesCopy, copies_of, run_write}
-use Rattle.md_state.specs.declared.copy_fault.CopyFault.TheVariants as copy_fault
+use Rattle.md_faults.specs.declared.copy_fault.CopyFault.TheVariants as copy_fault
 use Rattle.md_state.specs.MakingClean.{IsIdle}
 use Rattle.md_state.specs.DeviceChanges.{AreSame, StaysHonest}
 use Rattle.md_state.specs.DiskWrites.{IsTried}

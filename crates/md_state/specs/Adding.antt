@@ -8,8 +8,8 @@ use Rattle.md_create.specs.Spares.{IsNewSpare}
 use Rattle.md_model.specs.Membership.{IsLeast}
 use Rattle.md_assembly.specs.States.{role_in}
 use Rattle.md_kept_members.specs.Spares.{IsOfFreshest, kept_spare}
-use Rattle.md_state.specs.declared.add_fault.AddFault.{AddFault}
-use Rattle.md_state.specs.declared.add_fault.AddFault.TheVariants.{Halted, TooSmall, Full, EventsFull, WriteFault, NoMemory}
+use Rattle.md_faults.specs.declared.add_fault.AddFault.{AddFault}
+use Rattle.md_faults.specs.declared.add_fault.AddFault.TheVariants.{Halted, TooSmall, Full, EventsFull, WriteFault, NoMemory}
 use Rattle.md_state.specs.Joining.{IsFull, joined, joined_shared}
 use Rattle.md_state.specs.Members.{faulty_role, is_degraded}
 use Rattle.md_state.specs.Rising.{HasSpentEvents, has_number, is_absent}

@@ -2,10 +2,10 @@
 ghost use Rattle.std.specs.Prelude.{◌≡◌, ◌+◌, MatchResult, nat_le};
 ghost use Rattle.md_state.specs.Adding.{MayAdd, RefusesToAdd};
 
-use crate::add_fault::AddFault;
 use crate::array::Array;
 use crate::joining::MOST_MEMBERS;
 use md_create::DATA_SECTOR;
+use md_faults::AddFault;
 
 impl Array {
     /// The number that a new device of so many sectors gets, where it may come in. The fault is the first

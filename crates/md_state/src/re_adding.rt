@@ -4,8 +4,8 @@ ghost use Rattle.md_state.specs.ReAdding.{IsOfArray, IsReAddable, LeftInTime, Le
 
 use crate::array::Array;
 use crate::joining::MOST_MEMBERS;
-use crate::re_add_fault::ReAddFault;
 use md_bitmap::BitmapHeader;
+use md_faults::ReAddFault;
 use md_members::MemberInfo;
 use md_super::{FEATURE_RECOVERY_OFFSET, Superblock};
 

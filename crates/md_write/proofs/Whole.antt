@@ -15,8 +15,8 @@ use Rattle.md_bitmap.proofs.Limits.{div-lt-div_ceil}
 use Rattle.md_inflight.specs.Inflight.{InflightList, lookup, without}
 use Rattle.md_requests.specs.declared.extent.Extent.{Extent}
 use Rattle.md_requests.specs.Pending.{PendingView}
-use Rattle.md_state.specs.declared.step_fault.BeginFault.{BeginFault}
-use Rattle.md_state.specs.declared.step_fault.BeginFault.TheVariants as begin
+use Rattle.md_faults.specs.declared.step_fault.BeginFault.{BeginFault}
+use Rattle.md_faults.specs.declared.step_fault.BeginFault.TheVariants as begin
 use Rattle.md_state.specs.View.{ArrayView, MirrorView}
 use Rattle.md_state.specs.Beginning.{Begins, HasMarked, RefusesBegin, has_sector_of, has_to_rise}
 use Rattle.md_state.specs.Rising.{risen}

@@ -11,7 +11,7 @@ use Rattle.md_bitmap.specs.declared.chunks.Chunks.{Chunks}
 use Rattle.md_assembly.specs.States.{is_in_sync}
 use Rattle.md_requests.specs.Pending.{PendingView, has_written}
 use Rattle.md_kept_members.specs.View.{MemberView}
-use Rattle.md_state.specs.declared.step_fault.WriteMemberFault.TheVariants.{Halted, NotActive, NotMarked, NotRecorded, AlreadyWritten, MemberFailed}
+use Rattle.md_faults.specs.declared.step_fault.WriteMemberFault.TheVariants.{Halted, NotActive, NotMarked, NotRecorded, AlreadyWritten, MemberFailed}
 use Rattle.md_state.specs.View.{ArrayView, MirrorView}
 use Rattle.md_state.specs.Members.{AllInSync, IsInSync, IsMember}
 use Rattle.md_state.specs.Requests.{IsPending, among, request_of}

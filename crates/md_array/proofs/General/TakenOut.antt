@@ -65,7 +65,6 @@ module _ {X : Type 0} (number : X → ℕ) (xs : List X) (k : ℕ) (x : X) (at :
       (λ apart. any_left (λ y. eqb (number y) d) xs k x at (ne_eqb (number x) d (λ same. apart (sym same)))
       ∙ sym (ap (λ b. list_any (λ y. eqb (number y) d) xs && not b) (ne_eqb d (number x) apart) ∙ and_yes (list_any (λ y. eqb (number y) d) xs)))
     where
-
       and_yes : (b : Bool) → (b && true) ≡ b
       and_yes true = refl
       and_yes false = refl

@@ -21,8 +21,8 @@ use Rattle.md_requests.specs.Pending.{PendingView}
 use Rattle.md_kept_members.specs.View.{MemberView}
 use Rattle.md_assembly.specs.States.{is_active, is_in_sync_as, is_recorded}
 use Rattle.md_kept_members.specs.Members.{made_due}
-use Rattle.md_state.specs.declared.step_fault.FailFault.{FailFault}
-use Rattle.md_state.specs.declared.step_fault.FailFault.TheVariants as fail
+use Rattle.md_faults.specs.declared.step_fault.FailFault.{FailFault}
+use Rattle.md_faults.specs.declared.step_fault.FailFault.TheVariants as fail
 use Rattle.md_state.specs.DeviceChanges.{StaysHonest}
 use Rattle.md_state.specs.DiskWrites.{AtDevice, IsTried}
 use Rattle.md_state.specs.Members.{IsMember, is_degraded}

@@ -15,8 +15,8 @@ use Rattle.md_assembly.specs.States.{is_active, is_in_sync, is_spare, takes_role
 use Rattle.md_requests.specs.Pending.{PendingView}
 use Rattle.md_kept_members.specs.View.{MemberView}
 use Rattle.md_kept_members.specs.Members.{made_due}
-use Rattle.md_state.specs.declared.step_fault.RemoveFault.{RemoveFault}
-use Rattle.md_state.specs.declared.step_fault.RemoveFault.TheVariants as fault
+use Rattle.md_faults.specs.declared.step_fault.RemoveFault.{RemoveFault}
+use Rattle.md_faults.specs.declared.step_fault.RemoveFault.TheVariants as fault
 use Rattle.md_state.specs.Members.{IsMember, is_degraded}
 use Rattle.md_state.specs.Removing.{RefusesRemove, Removes, before_leaving, taken_out, without_spare}
 use Rattle.md_state.specs.View.{ArrayView, Disk, MirrorView}

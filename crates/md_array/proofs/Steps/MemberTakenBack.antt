@@ -31,8 +31,8 @@ use Rattle.md_kept_members.specs.OwnFields.{kept_superblock}
 use Rattle.md_kept_members.specs.TakingBack.{IsTakenBack, own_role, recovering}
 use Rattle.md_kept_members.specs.View.{MemberView}
 use Rattle.md_kept_members.specs.Members.{made_due}
-use Rattle.md_state.specs.declared.re_add_fault.ReAddFault.{ReAddFault}
-use Rattle.md_state.specs.declared.re_add_fault.ReAddFault.TheVariants as fault
+use Rattle.md_faults.specs.declared.re_add_fault.ReAddFault.{ReAddFault}
+use Rattle.md_faults.specs.declared.re_add_fault.ReAddFault.TheVariants as fault
 use Rattle.md_state.specs.DiskWrites.{IsFailed, IsWritten}
 use Rattle.md_state.specs.Joining.{joined, joined_shared}
 use Rattle.md_state.specs.Members.{is_degraded}

@@ -21,8 +21,8 @@ use Rattle.md_create.proofs.Taken.{new_placed}
 use Rattle.md_assembly.specs.States.{is_in_sync}
 use Rattle.md_requests.specs.Pending.{PendingView}
 use Rattle.md_kept_members.specs.View.{MemberView}
-use Rattle.md_state.specs.declared.add_fault.AddFault.{AddFault}
-use Rattle.md_state.specs.declared.add_fault.AddFault.TheVariants as fault
+use Rattle.md_faults.specs.declared.add_fault.AddFault.{AddFault}
+use Rattle.md_faults.specs.declared.add_fault.AddFault.TheVariants as fault
 use Rattle.md_state.specs.Adding.{IsSpareOf, MayAdd, RefusesToAdd, added}
 use Rattle.md_state.specs.InMemory.{HasChunks}
 use Rattle.md_state.specs.Requests.{IsPending, lacks}

@@ -20,7 +20,7 @@ use Rattle.md_model.specs.Worlds.{Request, World}
 use Rattle.md_model.proofs.Between.{between_step, in_flight_step}
 use Rattle.md_kept_members.specs.Members.{made_due}
 use Rattle.md_kept_members.specs.View.{MemberView}
-use Rattle.md_state.specs.declared.add_fault.AddFault.{AddFault}
+use Rattle.md_faults.specs.declared.add_fault.AddFault.{AddFault}
 use Rattle.md_state.specs.Adding.{IsFree, IsNumber, added, spare_role}
 use Rattle.md_state.specs.Joining.{joined_roles}
 use Rattle.md_state.specs.Members.{IsMember, is_degraded}

@@ -25,7 +25,7 @@ use Rattle.md_kept_members.specs.OwnFields.{kept_superblock}
 use Rattle.md_kept_members.specs.Members.{made_due}
 use Rattle.md_kept_members.specs.TakingBack.{IsTakenBack, own_role}
 use Rattle.md_kept_members.specs.View.{MemberView}
-use Rattle.md_state.specs.declared.re_add_fault.ReAddFault.{ReAddFault}
+use Rattle.md_faults.specs.declared.re_add_fault.ReAddFault.{ReAddFault}
 use Rattle.md_state.specs.DiskWrites.{IsWritten}
 use Rattle.md_state.specs.Joining.{joined}
 use Rattle.md_state.specs.Members.{IsMember, is_degraded}
@@ -41,7 +41,7 @@ use Rattle.md_array.specs.Worlds.{AreHonest, block_on, geometry_of, kind_of, sto
 use Rattle.md_array.proofs.General.Appended.{got_last}
 use Rattle.md_array.proofs.General.Indices.{any_at}
 use Rattle.md_array.proofs.Steps.DeviceTakenBack.{known_now, read_now, stored_now}
-use Rattle.md_array.proofs.Steps.MemberRemoved.{same_active}
+use Rattle.md_array.proofs.Worlds.States.{same_active}
 use Rattle.md_array.proofs.Steps.MemberTakenBack.{after, absent, count_kept, fits_taken, is_after, number_there, room, size_kept, small, taken_back_is_consistent, width_kept}
 use Rattle.md_array.proofs.Steps.WrittenLast.{honest_last, written_last}
 use Rattle.md_array.proofs.Worlds.Joined.{degraded_joined, newcomer, read_joined, role_joined, world_joined}

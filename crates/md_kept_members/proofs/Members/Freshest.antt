@@ -7,7 +7,8 @@ use Rattle.md_super.specs.declared.superblock.Superblock.{Superblock}
 use Rattle.md_assembly.specs.Assembled.{IsFreshest}
 use Rattle.md_kept_members.specs.Spares.{IsOfFreshest, superblocks}
 use Rattle.md_kept_members.specs.View.{MemberView}
-use Rattle.md_kept_members.proofs.Members.Indices.{cases_more, same_listed}
+use Rattle.md_assembly.proofs.Indices.{got_same}
+use Rattle.md_kept_members.proofs.Members.Indices.{cases_more}
 
 -- the freshest of the first n, which is among them or the first of all
 pub record IsFreshestBelow (all : List Superblock) (n best : ℕ) : Type 0 where
@@ -28,7 +29,7 @@ none_seen all v there = record {
 
 same_events : (all : List Superblock) (j n : ℕ) (w v : Superblock) → j ≡ n → slice_get all j ≡ Some w → slice_get all n ≡ Some v → w.events ≡ v.events
 same_events all j n w v at here there =
-    ap (λ (x : Superblock). x.events) (same_listed all n w v (subst (λ (k : ℕ). slice_get all k ≡ Some w) at here) there)
+    ap (λ (x : Superblock). x.events) (got_same all n w v (subst (λ (k : ℕ). slice_get all k ≡ Some w) at here) there)
 
 module _ (all : List Superblock) (n best : ℕ) (old new : Superblock) (f : IsFreshestBelow all n best) (at_best : slice_get all best ≡ Some old) (at_n : slice_get all n ≡ Some new) where
   was : f.superblock.events ≡ old.events
@@ -86,6 +87,6 @@ header_of_freshest members i m v there f = record {
   index = i;
   member = m;
   at = there;
-  freshest = subst (IsFreshest (superblocks members) i) (same_listed (superblocks members) i v m.superblock f.listed (block_of members i m there)) f;
+  freshest = subst (IsFreshest (superblocks members) i) (got_same (superblocks members) i v m.superblock f.listed (block_of members i m there)) f;
   header = refl;
 }

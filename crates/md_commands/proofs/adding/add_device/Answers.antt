@@ -12,6 +12,9 @@ pub returns-in-Ok-clause-device : goal.returns-in-Ok-clause-device
 returns-in-Ok-clause-device g c =
     joins g.S.Sink c.in-Ok.field-0 (disk_of g.D.Device c.args.device) c.args.mirror.now c.add.new.self c.stop_array-stopped.new.mirror c.args.out.now c.stop_array-stopped.new.out c.stop_array-stopped.result c.in-Ok.ensures.gives c.stop_array-stopped.ensures.gives
 
+pub returns-in-Ok-clause-pending : goal.returns-in-Ok-clause-pending
+returns-in-Ok-clause-pending g c p is = c.stop_array-stopped.ensures.pending p (c.in-Ok.ensures.pending p is)
+
 pub returns-in-Err-clause-gives : goal.returns-in-Err-clause-gives
 returns-in-Err-clause-gives g c =
     (record { back = disk_of g.D.Device c.in-Err.device; is = refl; refused = c.in-Err.ensures.gives }, refl)

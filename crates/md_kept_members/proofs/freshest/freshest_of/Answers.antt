@@ -4,14 +4,14 @@ use Rattle.std.proofs.lemmas.Option.{slice_get_read}
 use Rattle.md_kept_members.specs.Spares.{superblocks}
 use Rattle.md_kept_members.specs.View.{MemberView}
 use Rattle.md_kept_members.proofs.Members.Freshest.{better, block_of, freshest_of_all, no_better, none_seen}
-use Rattle.md_kept_members.proofs.Members.Indices.{listed_at}
+use Rattle.md_assembly.proofs.Indices.{got_within}
 use Rattle.md_kept_members.proofs.freshest.freshest_of.Goals as goal
 use Rattle.md_kept_members.proofs.freshest.freshest_of.Goals.{then-member-best, else-member-best}
 
 pub loop-i-init : goal.loop-i-init
 loop-i-init c =
     let members = c.args.members.now in
-    let there = listed_at members 0 c.requires.some in
+    let there = got_within members 0 c.requires.some in
     record { within = c.requires.some; best = none_seen (superblocks members) there.0.superblock (block_of members 0 there.0 there.1) }
 
 pub loop-i-preserved : goal.loop-i-preserved

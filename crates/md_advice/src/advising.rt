@@ -102,7 +102,7 @@ fn path_of<'a>(culprit: Culprit, names: &[&'a str], action: Action<'a>) -> Optio
 }
 
 /// Writes the image that a fault is about, and what to do, in one line.
-pub(crate) fn advise<'a, E: Write>(
+pub fn advise<'a, E: Write>(
     fault: &CommandFault,
     names: &[&'a str],
     action: Action<'a>,

@@ -15,7 +15,7 @@ fn has_added(outcome: &Result<(), CommandFault>) -> bool {
 }
 
 /// Says on `err` that what an image held is lost, where the command has added it to an array.
-pub(crate) fn tell_lost_content<E: Write>(
+pub fn tell_lost_content<E: Write>(
     outcome: &Result<(), CommandFault>,
     action: Action<'_>,
     err: &mut E,
