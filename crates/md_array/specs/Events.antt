@@ -1,5 +1,6 @@
 -- The steps as events of the model: what each makes of the world, where devices do what they answer.
-use Rattle.std.specs.Prelude.{◌≡◌, ◌⊎◌, ⊤, ℕ, true, List, [], ◌∷◌, ◌++◌, length, None, Option, Some, Result, MatchResult}
+use Rattle.std.specs.Prelude.{◌≡◌, ◌⊎◌, ⊤, ℕ, true, List, [], ◌∷◌, ◌++◌, length, slice_get, None, Option, Some, Result, MatchResult}
+use Rattle.std.specs.List.{remove}
 use Rattle.md_model.specs.Sectors.{put}
 use Rattle.md_model.specs.Devices.{Super}
 use Rattle.md_model.specs.Worlds.{Request}
@@ -31,16 +32,23 @@ pub record WritesLast (own : Super) (before after : List Disk) : Type 0 where
   pub write : Write
   pub written : IsWritten (length before) write (before ++ was ∷ []) after
 
+-- Device k is among these no more. None is used.
+pub record GoesAway (k : ℕ) (before after : List Disk) : Type 0 where
+  pub was : Disk
+  pub at : slice_get before k ≡ Some was
+  pub others : after ≡ remove before k
+
 -- A device was written, by several writes, and stands behind the others then, none of which is used.
 pub record ComesLast (before after : List Disk) : Type 0 where
   pub was : Disk
+  pub honest : was.honest ≡ true
   pub now : Disk
   pub writes : List Write
   pub done : DoesWrites of_disks writes was now
   pub disks : after ≡ before ++ now ∷ []
 
 -- The devices before and after an event: one is written at most, and once, but for a new one. The sectors of one write of a resync
--- are an event each. Of a member that leaves nothing is said here.
+-- are an event each.
 abbrev pub WritesOnce : Event → List Disk → List Disk → Type 0
 WritesOnce (Event.Record k) before after = (w : Write) × IsWritten k w before after
 WritesOnce (Event.StoreMarks k b) before after = (w : Write) × (length w.bytes ≡ 512) × IsWritten k w before after
@@ -52,7 +60,7 @@ WritesOnce (Event.CopyFails k c) before after = (w : Write) × IsFailed k w befo
 WritesOnce (Event.Copy from k s) before after = (w : Write) × (length w.bytes ≡ 512) × IsDone k w before after
 WritesOnce Event.Resynced before after = after ≡ before
 WritesOnce Event.Unresynced before after = after ≡ before
-WritesOnce (Event.Remove k) before after = Unit {0}
+WritesOnce (Event.Remove k) before after = GoesAway k before after
 WritesOnce (Event.Add number left) before after = ComesLast before after
 WritesOnce (Event.ReAdd own device left) before after = WritesLast own before after
 WritesOnce Event.MakeClean before after = after ≡ before

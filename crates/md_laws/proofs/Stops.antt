@@ -12,3 +12,5 @@ pub mod LeftAtStops
 pub mod LeftContents
 -- A stop within a copy of sectors leaves some of them copied: those are events, one after another.
 pub mod StoppedCopies
+-- What a stop within `add` leaves.
+pub mod WithinAdd

@@ -17,7 +17,7 @@ ghost use Rattle.md_laws.specs.LeftBehind.{LiesBehind};
 ghost use Rattle.md_laws.specs.Lives.{AtEachMoment, ContentGoesAlong, FindsInSync, FitsWhenThere, IsReadAsKeptInLives, KeepsContent, KeepsGeometry, StaysAsLeft};
 ghost use Rattle.md_laws.specs.Returning.{StartsAgain};
 ghost use Rattle.md_laws.specs.Runs.{HasContent};
-ghost use Rattle.md_laws.specs.StopsWithin.{StopsAsFailed, StopsAsTried, StopsAtEvents, StopsAtFailure, StopsAtReAdd, StopsAtRemoval, StopsAtSector, StopsAtWrite, StopsInMemory, StopsUndivided};
+ghost use Rattle.md_laws.specs.StopsWithin.{StopsAsFailed, StopsAsTried, StopsAtAdd, StopsAtEvents, StopsAtFailedAdd, StopsAtFailure, StopsAtReAdd, StopsAtRefusedAdd, StopsAtRemoval, StopsAtSector, StopsAtWrite, StopsInMemory, StopsUndivided};
 
 /// A mirror that was opened from devices that do what they answer is an opened world of the model, by
 /// the array's superblock: the opening stored all marks where the bitmap was not accepted, and nothing
@@ -117,12 +117,15 @@ pub fn half_opening()
     ensures as_left { StaysAsLeft }
 {}
 
-/// What a stop at any moment of a step leaves, where the step makes a write to one device, or none. Each event
-/// is of such a step (`Does`).
+/// What a stop at any moment of a step leaves, where the step makes a write to one device, or none, or lays a new one
+/// out. Each event is of such a step (`Does`).
 pub fn stops_at_steps()
     ensures memory { StopsInMemory }
     ensures removal { StopsAtRemoval }
     ensures re_add { StopsAtReAdd }
+    ensures add { StopsAtAdd }
+    ensures failed_add { StopsAtFailedAdd }
+    ensures refused_add { StopsAtRefusedAdd }
     ensures written { StopsAtWrite }
     ensures sector { StopsAtSector }
     ensures failed { StopsAtFailure }

@@ -213,7 +213,7 @@ module _ (k : ℕ) (disk : Disk) (old new : MirrorView) (c : IsConsistent old) (
   pub remove_happens : Happens old (Event.Remove k) new
   remove_happens honest requests listed = record {
     honest = honest_left honest;
-    writes = tt;
+    writes = record { was = disk; at = leaves.device; others = leaves.disks };
     in_flight = subst (λ (x : ArrayView). AreInFlight x requests) (sym leaves.array.array) (in_flight_if old k m at out requests spare listed);
     geometry = geometry_removed;
     step = step requests;

@@ -185,7 +185,7 @@ module _ (k : ℕ) (device : Disk) (old new : MirrorView) (c : IsConsistent old)
       let e : Event = Event.Add r.number (stored_of b m now.content) in
       record {
         honest = honest_now all;
-        writes = record { was = device; now = now; writes = writes_of laid; done = r.comes.writes; disks = r.comes.disks };
+        writes = record { was = device; honest = honest; now = now; writes = writes_of laid; done = r.comes.writes; disks = r.comes.disks };
         in_flight = subst (λ (x : ArrayView). AreInFlight x requests) (sym same_array) listed;
         geometry = ap geometry_of same_array;
         step = step requests;

@@ -1,5 +1,6 @@
 -- What a stop leaves within the write of an event: devices that the event might leave at its end, or that a torn write leaves.
-use Rattle.std.proofs.Common.{◌≡◌, ◌≢◌, ◌∙◌, ◌⊎◌, ⊎_elim, inl, inr, ℕ, zero, suc, ◌*◌, ◌<◌, List, [], ◌∷◌, length, map, slice_get, Some, sym, ap, refl, subst, arith}
+use Rattle.std.proofs.Common.{◌≡◌, ◌≢◌, ◌∙◌, ◌⊎◌, ⊎_elim, inl, inr, ℕ, zero, suc, ◌*◌, ◌<◌, List, [], ◌∷◌, ◌++◌, length, map, slice_get, Some, sym, ap, refl, subst, arith}
+use Rattle.std.specs.List.{insert}
 use Rattle.std.proofs.lemmas.Bool.{cases_lt}
 use Rattle.std.proofs.lemmas.List.{length-map}
 use Rattle.std.proofs.lemmas.Option.{none-some, same_Some, slice_get_past, slice_get_within}
@@ -16,9 +17,10 @@ use Rattle.md_state.specs.DiskWrites.{IsFailed, IsTried, IsWritten}
 use Rattle.md_state.specs.View.{Disk}
 use Rattle.md_array.specs.Worlds.{AreHonest}
 use Rattle.md_laws.specs.StopsWithin.{IsLeftBut, MayAllBeLeft, StopsAsFailed, StopsAsTried, StopsAtEvents, StopsUndivided}
-use Rattle.md_array.proofs.General.Appended.{got_earlier}
 use Rattle.md_array.proofs.General.Indices.{got_in_map}
-use Rattle.md_laws.proofs.Stops.AtSteps.{same_lists, stops_at_failure, stops_at_sector, stops_at_write, stops_in_memory}
+use Rattle.md_array.proofs.Steps.WrittenLast.{honest_last}
+use Rattle.md_laws.proofs.Stops.AtSteps.{put_back, same_lists, stops_at_failure, stops_at_sector, stops_at_write, stops_in_memory}
+use Rattle.md_laws.proofs.Stops.WithinAdd.{cut_none, left_of_new}
 use Rattle.md_assembly.proofs.Indices.{got_within}
 
 -- devices with these contents in place of theirs
@@ -215,16 +217,14 @@ stops_at_events (Event.CopyFails k c) before after left honest writes may = (wri
 stops_at_events (Event.Copy from k s) before after left honest writes may = tt
 stops_at_events Event.Resynced before after left honest writes may = in_memory before after left writes may
 stops_at_events Event.Unresynced before after left honest writes may = in_memory before after left writes may
-stops_at_events (Event.Remove k) before after left honest writes may = tt
-stops_at_events (Event.Add number new) before after left honest writes may = tt
+stops_at_events (Event.Remove k) before after left honest writes may =
+    stops_in_memory before left (subst (λ (x : List Disk). MayAllBeLeft before x left) (ap (λ (x : List Disk). insert x k writes.was) writes.others ∙ put_back before k writes.was writes.at) may)
+stops_at_events (Event.Add number new) before after left honest writes may =
+    left_of_new before writes.was writes.now left (λ was c. IsCutShort was writes.writes c) (subst (λ (x : List Disk). MayAllBeLeft (before ++ writes.was ∷ []) x left) writes.disks may)
+    (cut_none writes.was.content writes.writes)
+    (writes.done.within writes.honest)
 stops_at_events (Event.ReAdd own device new) before after left honest writes may =
-    stops_in_memory before left (record {
-      as_many = may.as_many;
-      each = λ k d e c at there is.
-          let low = slice_get_within before k d at in
-          let kept : slice_get after k ≡ Some e = writes.written.tried.others k (λ last. absurd (omega arith)) ∙ got_earlier before writes.was e k there in
-          may.each k d e c at kept is;
-    })
+    stops_at_write (length before) writes.write (before ++ writes.was ∷ []) after left (honest_last before writes.was honest writes.honest) writes.written may
 stops_at_events Event.MakeClean before after left honest writes may = in_memory before after left writes may
 stops_at_events (Event.Begin n p) before after left honest writes may = in_memory before after left writes may
 stops_at_events (Event.Finish n) before after left honest writes may = in_memory before after left writes may
