@@ -38,8 +38,6 @@ pub mod Risen
 pub mod SectorCopied
 -- What the world shows of a mirror that was opened, member by member.
 pub mod Shown
--- A device comes in as the last member of an array whose count rose, without a role: the array stays consistent.
-pub mod SpareJoined
 -- The states of assembly are those of the model.
 pub mod States
 -- A superblock that was read is the one that the world shows.

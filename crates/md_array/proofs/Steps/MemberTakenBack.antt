@@ -48,7 +48,7 @@ use Rattle.md_array.proofs.Openings.OwnFields.{bitmap_same, placed_next}
 use Rattle.md_array.proofs.Steps.CountedAtBegin.{counted_keeps_pending}
 use Rattle.md_array.proofs.Steps.RemarkedWorlds.{same_mirror}
 use Rattle.md_array.proofs.Steps.OneWrite.{is_failed, is_written}
-use Rattle.md_array.proofs.Worlds.Joined.{joined_is_consistent}
+use Rattle.md_array.proofs.Worlds.Joined.{joined_is_consistent, recovers_alone}
 
 -- ---- its superblock, as it is written
 module _ (v : Superblock) where
@@ -191,7 +191,7 @@ module _ (k : ℕ) (device : Disk) (old new : MirrorView) (c : IsConsistent old)
   unfolding after
   taken_back_is_consistent =
       subst IsConsistent (sym is_after)
-      (joined_is_consistent a m role small absent may.free may.fits.role.has_role room taken.state
+      (joined_is_consistent a m role small absent room (recovers_alone a m role taken.state may.free may.fits.role.has_role)
       (size_kept a info m taken may device.content device.honest r.read)
       (width_kept a info m taken may device.content device.honest r.read)
       (count_kept a info m taken may device.content device.honest r.read c.chunks.size c.chunks.count)

@@ -23,7 +23,7 @@ use Rattle.md_requests.specs.Pending.{PendingView}
 use Rattle.md_kept_members.specs.View.{MemberView}
 use Rattle.md_faults.specs.declared.add_fault.AddFault.{AddFault}
 use Rattle.md_faults.specs.declared.add_fault.AddFault.TheVariants as fault
-use Rattle.md_state.specs.Adding.{IsSpareOf, MayAdd, RefusesToAdd, added}
+use Rattle.md_state.specs.Adding.{IsSpareOf, MayAdd, RefusesToAdd, added, spare_role}
 use Rattle.md_state.specs.InMemory.{HasChunks}
 use Rattle.md_state.specs.Requests.{IsPending, lacks}
 use Rattle.md_state.specs.Rising.{has_number, risen}
@@ -34,7 +34,7 @@ use Rattle.md_array.specs.Consistency.{IsConsistent}
 use Rattle.md_array.specs.Fits.{FitsMember}
 use Rattle.md_array.proofs.Steps.CountedAtBegin.{counted_keeps_pending}
 use Rattle.md_array.proofs.Steps.RemarkedWorlds.{same_mirror}
-use Rattle.md_array.proofs.Worlds.SpareJoined.{spare_is_consistent}
+use Rattle.md_array.proofs.Worlds.Joined.{joined_is_consistent, spare_alone}
 
 -- ---- what it is laid out with
 module _ (a : ArrayView) (number sectors : ℕ) (laid : NewMember) (may : MayAdd a sectors number) (spare : IsSpareOf a number sectors laid) where
@@ -106,8 +106,8 @@ module _ (k : ℕ) (device : Disk) (old new : MirrorView) (c : IsConsistent old)
   unfolding after
   added_is_consistent =
       subst IsConsistent (sym is_after)
-      (spare_is_consistent a m (small a r.number sectors laid r.may r.comes.spare) refl
-      (absent a r.number sectors laid r.may r.comes.spare) (room a r.number sectors laid r.may r.comes.spare)
+      (joined_is_consistent a m spare_role (small a r.number sectors laid r.may r.comes.spare)
+      (absent a r.number sectors laid r.may r.comes.spare) (room a r.number sectors laid r.may r.comes.spare) (spare_alone a m spare_role refl)
       (size_there a r.number sectors laid r.may r.comes.spare)
       (width_there a r.number sectors laid r.may r.comes.spare c.chunks)
       (count_there a r.number sectors laid r.may r.comes.spare c.chunks)

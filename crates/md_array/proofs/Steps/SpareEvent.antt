@@ -35,10 +35,9 @@ use Rattle.md_array.proofs.General.Appended.{got_last}
 use Rattle.md_array.proofs.Steps.SpareAdded.{added_is_consistent, after, as_long, count_there, is_after, its_number, room, size_there, small, width_there}
 use Rattle.md_array.proofs.Steps.SpareLaidOut.{all_marked, known_there, none_listed, read_there, super_there}
 use Rattle.md_array.proofs.Steps.WrittenLast.{honest_last}
-use Rattle.md_array.proofs.Worlds.Joined.{newcomer, read_joined, role_joined, world_joined}
+use Rattle.md_array.proofs.Worlds.Joined.{degraded_joined, newcomer, read_joined, role_joined, spare_alone, world_joined}
 use Rattle.md_array.proofs.Worlds.ReadMember.{chunk_within as sector_within}
 use Rattle.md_array.proofs.Worlds.Risen.{full_as_told, risen_role}
-use Rattle.md_array.proofs.Worlds.SpareJoined.{still_degraded}
 
 -- ---- its number
 module _ (old : MirrorView) (requests : ℕ → Option Request) where
@@ -158,7 +157,7 @@ module _ (k : ℕ) (device : Disk) (old new : MirrorView) (c : IsConsistent old)
         ∙ ap (λ (n : membership.Newcomer). membership.joined (counts.risen (g old requests) (w old requests) full) n) its_newcomer
 
     still_full : is_degraded new.array ≡ is_degraded old.array
-    still_full = ap is_degraded same_array ∙ still_degraded old.array m low_number refl
+    still_full = ap is_degraded same_array ∙ degraded_joined old.array m spare_role low_number (spare_alone old.array m spare_role refl)
 
     full_after : (full ≡ true) ↔ IsFull (g old requests) (world_of new requests)
     full_after =
