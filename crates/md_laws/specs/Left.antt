@@ -1,7 +1,6 @@
 -- What a stop leaves of a mirror's devices: it comes between two calls or within one, of which its own contract says what may be
 -- left (`MayAllBeLeft`).
-use Rattle.std.specs.Prelude.{◌≡◌, ◌⊎◌, ℕ, ◌+◌, ◌*◌, ◌<◌, ◌≤◌, List, map, Option, slice_get, Some}
-use Rattle.md_format.specs.Fields.{number_at}
+use Rattle.std.specs.Prelude.{◌≡◌, ◌⊎◌, ℕ, ◌<◌, List, map, Option, slice_get, Some}
 use Rattle.md_members.specs.Areas.{bitmap_sectors}
 use Rattle.md_model.specs.Worlds.{Request}
 use Rattle.md_requests.specs.Pending.{PendingView}
@@ -16,6 +15,7 @@ use Rattle.md_array.specs.Events.{IsOldNewOrNone}
 use Rattle.md_array.specs.Recording.{FailsToRecord, HaltsRecording, Records, super_write}
 use Rattle.md_array.specs.Worlds.{block_on}
 use Rattle.md_laws.specs.Runs.{Moment}
+use Rattle.md_laws.specs.StopsReadAs.{EndsInFirstSector}
 use Rattle.md_laws.specs.StopsWithin.{MayAllBeLeft}
 
 -- Of devices that were left what stands on them counts, and no more.
@@ -45,10 +45,6 @@ pub record IsLeftRecording (t : Moment) (left : List Disk) : Type 0 where
   pub call : Records on t.mirror next ⊎ (FailsToRecord on t.mirror next ⊎ HaltsRecording on t.mirror next)
   pub within : IsLeftWithin t next left
   pub super : (m : MemberView) → IsMember t.mirror.array on m → AtDevice on t.mirror.disks left (IsOldNewOrNone (super_write t.mirror.array m).bytes)
-
--- a superblock of at most 128 roles ends within its first sector
-abbrev pub EndsInFirstSector : List ℕ → Type 0
-EndsInFirstSector block = 256 + 2 * number_at 4 220 block ≤ 512
 
 -- Within `record`, without that premise: the write is done, and both superblocks, the one that stands there and the one that is
 -- written, end within the first sector.

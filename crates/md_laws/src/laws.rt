@@ -17,6 +17,7 @@ ghost use Rattle.md_laws.specs.LeftBehind.{LiesBehind};
 ghost use Rattle.md_laws.specs.Lives.{AtEachMoment, ContentGoesAlong, FindsInSync, FitsWhenThere, IsReadAsKeptInLives, KeepsContent, KeepsGeometry, StaysAsLeft};
 ghost use Rattle.md_laws.specs.Returning.{StartsAgain};
 ghost use Rattle.md_laws.specs.Runs.{HasContent};
+ghost use Rattle.md_laws.specs.StopsReadAs.{ReadsAtAdd, ReadsAtReAdd};
 ghost use Rattle.md_laws.specs.StopsWithin.{StopsAsFailed, StopsAsTried, StopsAtAdd, StopsAtEvents, StopsAtFailedAdd, StopsAtFailure, StopsAtReAdd, StopsAtRefusedAdd, StopsAtRemoval, StopsAtSector, StopsAtWrite, StopsInMemory, StopsUndivided};
 
 /// A mirror that was opened from devices that do what they answer is an opened world of the model, by
@@ -118,12 +119,16 @@ pub fn half_opening()
 {}
 
 /// What a stop at any moment of a step leaves, where the step makes a write to one device, or none, or lays a new one
-/// out. Each event is of such a step (`Does`).
+/// out. Each event is of such a step (`Does`). Where the superblocks of a device that comes in or comes back end within
+/// their first sectors, it reads as before or as after, and a new one is left as after or without a superblock of this
+/// array.
 pub fn stops_at_steps()
     ensures memory { StopsInMemory }
     ensures removal { StopsAtRemoval }
     ensures re_add { StopsAtReAdd }
+    ensures re_add_read { ReadsAtReAdd }
     ensures add { StopsAtAdd }
+    ensures add_read { ReadsAtAdd }
     ensures failed_add { StopsAtFailedAdd }
     ensures refused_add { StopsAtRefusedAdd }
     ensures written { StopsAtWrite }

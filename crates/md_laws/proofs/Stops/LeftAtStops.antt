@@ -1,5 +1,5 @@
 -- What a stop leaves within a call is what one leaves between two calls, or in the midst of a write of data.
-use Rattle.std.proofs.Common.{◌≡◌, ◌≢◌, ℕ, ◌+◌, ◌*◌, ◌/◌, ◌<◌, ◌≤◌, ◌⊎◌, inl, inr, false, true≢false, List, [], ◌∷◌, length, set, slice_get, take, Option, Some, None, refl, sym, ap, ◌∙◌, subst, arith, length-set}
+use Rattle.std.proofs.Common.{◌≡◌, ◌≢◌, ℕ, ◌+◌, ◌*◌, ◌/◌, ◌<◌, ◌≤◌, ◌⊎◌, inl, inr, false, true≢false, List, [], ◌∷◌, length, set, slice_get, Option, Some, None, refl, sym, ap, ◌∙◌, subst, arith, length-set}
 use Rattle.std.proofs.lemmas.Option.{same_Some, slice_get_within}
 use Rattle.md_device.specs.Device.{written}
 use Rattle.md_device.specs.Splice.{SameOutside}
@@ -10,7 +10,6 @@ use Rattle.md_members.specs.Areas.{BitmapIsPlaced, IsPlaced, bitmap_sectors}
 use Rattle.md_members.specs.Members.{sectors_of}
 use Rattle.md_bitmap.proofs.Blocks.{length-bitmap_sector}
 use Rattle.md_writes.specs.Writes.{IsCutShort, Write}
-use Rattle.md_writes.proofs.Runs.{cut_one}
 use Rattle.md_model.specs.Content.{Content}
 use Rattle.md_model.specs.Devices.{Stored, Super}
 use Rattle.md_model.specs.Events.{Event}
@@ -34,6 +33,7 @@ use Rattle.md_array.specs.Worlds.{block_on, geometry_of, is_listed, stored_of, s
 use Rattle.md_laws.specs.StopsWithin.{MayAllBeLeft}
 use Rattle.md_laws.specs.Left.{IsLeft, IsLeftRecording, IsLeftRecordingShort, IsLeftWriting, contents_of}
 use Rattle.md_laws.specs.Runs.{MirrorRun, MirrorRunWith, Moment, history_of, then_as}
+use Rattle.md_laws.specs.StopsReadAs.{ReadsAs}
 use Rattle.md_array.proofs.Steps.DataWritten.{may_write}
 use Rattle.md_array.proofs.Steps.InFlight.{inside_of, not_touched, whole_of}
 use Rattle.md_array.proofs.Steps.MarkSectors.{read_marked, store_marks_happens}
@@ -46,7 +46,7 @@ use Rattle.md_array.proofs.General.Indices.{at_set_same, got_in_map, got_other}
 use Rattle.md_array.proofs.Worlds.Supers.{super_shown}
 use Rattle.md_laws.proofs.Stops.LeftContents.{got_like, read_changed, read_in, read_same}
 use Rattle.md_laws.proofs.Runs.Moments.{IsSoundAt}
-use Rattle.md_laws.proofs.Stops.FirstSector.{ReadsAs, first_part, first_sector, reads_first, reads_same}
+use Rattle.md_laws.proofs.Stops.FirstSector.{cut_reads, reads_same}
 use Rattle.md_laws.proofs.Stops.AsFailed.{failed_as_tried, stops_as_tried, stops_at_events}
 use Rattle.md_laws.proofs.Stops.AtSteps.{stops_at_write}
 use Rattle.md_laws.proofs.Runs.Rests.{at_once, at_rest}
@@ -493,14 +493,9 @@ module _ (t : Moment) (at : IsSoundAt t) where
       record_cut left (record { on = l.on; member = m; may = l.call.may; found = f.0; tried = f.1; same = f.2 }) (λ d e was is.
       let x = got_like left f.0 (sym f.2) l.on e is in
       let long = (at.sound.fits.each l.on d m was l.call.may.at).long in
-      let same = ap block_on (sym x.2) in
-      elim (cut_one d.content x.0.content w (but.this d x.0.content was (got_in_map (λ (y : Disk). y.content) left l.on x.0 x.1))) [
-        | inl done ↦ inr (inl (reads_same (block_on e.content) w.bytes (same ∙ ap block_on done ∙ part-spliced d.content (512 * 8) w.bytes 4096 (sym size) (omega arith))))
-        | inr mixed ↦
-            elim (mixed.each 0 (omega arith)) [
-              | inl old ↦ inl (reads_first (block_on e.content) (block_on d.content) (ap (take 512) same ∙ first_sector x.0.content ∙ old ∙ sym (first_sector d.content)) (l.old d was))
-              | inr new ↦ inr (inl (reads_first (block_on e.content) w.bytes (ap (take 512) same ∙ first_sector x.0.content ∙ new ∙ first_part w.bytes) l.new))
-            ]
+      elim (cut_reads d.content x.0.content w.bytes size (omega arith) (l.old d was) l.new (but.this d x.0.content was (got_in_map (λ (y : Disk). y.content) left l.on x.0 x.1))) [
+        | inl old ↦ inl (subst (λ (c : List ℕ). ReadsAs (block_on c) (block_on d.content)) x.2 old)
+        | inr new ↦ inr (inl (subst (λ (c : List ℕ). ReadsAs (block_on c) w.bytes) x.2 new))
       ])
 
   pub sorted : (left : List Disk) → IsLeft t left → IsSorted t left
