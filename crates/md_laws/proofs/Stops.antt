@@ -16,5 +16,7 @@ pub mod OverZeros
 pub mod ReadAs
 -- A stop within a copy of sectors leaves some of them copied: those are events, one after another.
 pub mod StoppedCopies
+-- A member that `re_add` has taken back, and what a stop within that call leaves of it.
+pub mod TakenBack
 -- What a stop within `add` leaves.
 pub mod WithinAdd

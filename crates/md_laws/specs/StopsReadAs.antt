@@ -35,7 +35,7 @@ ReadsAtReAdd =
     → IsLeftBut (length old.disks) (λ was c. ReadsAs (block_on c) (block_on was) ⊎ ReadsAs (block_on c) (block_on r.recorded.now.content)) (old.disks ++ device ∷ []) left
 
 -- One at any moment of `add` leaves all as it is after the call; or each device of the array as it was, and the new one, which
--- stands behind them, with its old superblock half wiped, or with zeros in place of one.
+-- stands behind them, with the wipe of its old superblock cut short, or with zeros in place of one.
 abbrev pub ReadsAtAdd : Type 0
 ReadsAtAdd =
     (k : ℕ) (device : Disk) (old new : MirrorView) (left : List (List ℕ)) → device.honest ≡ true → (r : Adds k device old new)

@@ -48,8 +48,9 @@ pub fn opening()
 /// and made its member faulty. A refused call is none. What a stop within a call leaves is what the call's
 /// own contract gives (`IsLeft`): of its write each sector as before or as written, or any bytes in its range
 /// where the write fails. A stop within `record` left the old superblock, the new one or none that can be
-/// decoded: a premise, unless the write is done and neither superblock has more than 128 roles. Nothing is said
-/// of a stop within a write of marks, or of a copy, that fails.
+/// decoded: a premise, unless the write is done and neither superblock has more than 128 roles. A device that comes in
+/// or comes back is one of those that were left where it is as after the call; of one that comes back it is enough that
+/// its superblock reads so. Nothing is said of a stop within a write of marks, or of a copy, that fails.
 ///
 /// An opening after a stop is of devices that were left, in any order, some of them missing (`IsReopened`). Beside
 /// them may be further ones, which the opening before left out (`IsFurther`): they are not found in sync. Its
@@ -119,9 +120,9 @@ pub fn half_opening()
 {}
 
 /// What a stop at any moment of a step leaves, where the step makes a write to one device, or none, or lays a new one
-/// out. Each event is of such a step (`Does`). Where the superblocks of a device that comes in or comes back end within
-/// their first sectors, it reads as before or as after, and a new one is left as after or without a superblock of this
-/// array.
+/// out. Each event is of such a step (`Does`). A superblock of at most 128 roles ends within its first sector, which is
+/// written whole or not at all. So that of a device that comes back then reads as before the call or as after it; and one
+/// that comes in is as after the call, or has the wipe of its old superblock cut short, or zeros in place of one.
 pub fn stops_at_steps()
     ensures memory { StopsInMemory }
     ensures removal { StopsAtRemoval }
