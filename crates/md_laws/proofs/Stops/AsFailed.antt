@@ -9,6 +9,7 @@ use Rattle.md_device.specs.Device.{held, written}
 use Rattle.md_device.specs.Stops.{IsMixed}
 use Rattle.md_device.proofs.Leaving.{three_same, in_three}
 use Rattle.md_writes.specs.Writes.{IsAnyIn, IsCutShort, Write}
+use Rattle.md_writes.proofs.Frames.{outside_none}
 use Rattle.md_writes.proofs.Runs.{cut_one}
 use Rattle.md_model.specs.Events.{Event}
 use Rattle.md_model.proofs.Puts.{by_same}
@@ -21,7 +22,7 @@ use Rattle.md_array.proofs.General.Indices.{got_in_map}
 use Rattle.md_array.proofs.Steps.WrittenLast.{honest_last}
 use Rattle.md_laws.proofs.Stops.AtSteps.{put_back, same_lists, stops_at_failure, stops_at_sector, stops_at_write, stops_in_memory}
 use Rattle.md_laws.proofs.Stops.WithinAdd.{cut_none, left_of_new}
-use Rattle.md_assembly.proofs.Indices.{got_within}
+use Rattle.md_assembly.proofs.Indices.{got_same, got_within}
 
 -- devices with these contents in place of theirs
 abbrev with_contents : List Disk → List (List ℕ) → List Disk
@@ -133,6 +134,22 @@ pub failed_as_tried : (k : ℕ) (w : Write) (before after : List Disk) (left : L
 failed_as_tried k w before after left honest failed may =
     let but = stops_at_failure k w before after left honest failed may in
     (with_contents after left, found_tried k w before after left (IsAnyIn w) failed.tried but (λ d c was any. any), contents_found k w before after left (IsAnyIn w) failed.tried but)
+
+-- a write that was not made
+untouched : (k : ℕ) (w : Write) (disks : List Disk) → IsTried k w disks disks
+untouched k w disks = record {
+  as_many = refl;
+  others = λ j apart. refl;
+  stays = λ d e was is. subst (StaysHonest d) (got_same disks k d e was is) (record { honest = refl; counted = omega arith });
+  outside = λ d e was is. subst (λ (x : Disk). SameOutside (512 * w.sector) (length w.bytes) d.content x.content) (got_same disks k d e was is) (outside_none (512 * w.sector) (length w.bytes) d.content);
+}
+
+-- devices that were left with any bytes in its range, as of a torn write
+pub left_as_tried : (k : ℕ) (w : Write) (disks : List Disk) (left : List (List ℕ)) → IsLeftBut k (IsAnyIn w) disks left
+    → (found : List Disk) × IsTried k w disks found × (map (λ d. d.content) found ≡ left)
+left_as_tried k w disks left but =
+    let none = untouched k w disks in
+    (with_contents disks left, found_tried k w disks disks left (IsAnyIn w) none but (λ d c was any. any), contents_found k w disks disks left (IsAnyIn w) none but)
 
 pub stops_as_tried : StopsAsTried
 stops_as_tried k w before after left honest writes may =

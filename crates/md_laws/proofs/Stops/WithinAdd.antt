@@ -1,14 +1,12 @@
 -- What a stop within `add` leaves.
-use Rattle.std.proofs.Common.{◌≡◌, ◌≢◌, ⊎_elim, inl, inr, ℕ, List, [], ◌∷◌, ◌++◌, length, map, slice_get, Some, refl, sym, ◌∙◌, subst, ap}
+use Rattle.std.proofs.Common.{◌≡◌, ⊎_elim, inl, ℕ, List, [], ◌∷◌, ◌++◌, length, map, refl, sym, ◌∙◌, subst}
 use Rattle.std.proofs.lemmas.Option.{same_Some}
 use Rattle.md_create.specs.Layout.{IsHalfLaidOut, wipe}
 use Rattle.md_device.specs.Stops.{LeavesMore}
 use Rattle.md_device.proofs.Leaving.{mixed_none}
-use Rattle.md_writes.specs.Writes.{IsAnyIn, IsCutShort, Write}
-use Rattle.md_faults.specs.declared.add_fault.AddFault.{AddFault}
+use Rattle.md_writes.specs.Writes.{IsCutShort, Write}
 use Rattle.md_faults.specs.declared.add_fault.AddFault.TheVariants.{Halted, TooSmall, Full, EventsFull, WriteFault, NoMemory}
 use Rattle.md_state.specs.View.{Disk, MirrorView}
-use Rattle.md_array.specs.Adding.{RefusesAdd}
 use Rattle.md_array.proofs.General.Appended.{got_beside, got_last}
 use Rattle.md_laws.specs.StopsWithin.{IsLeftBut, IsLeftFailing, MayAllBeLeft, StopsAtAdd, StopsAtFailedAdd, StopsAtRefusedAdd}
 use Rattle.md_laws.proofs.Stops.AtSteps.{new_has, none_new, stops_in_memory}
