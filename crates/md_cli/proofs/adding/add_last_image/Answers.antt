@@ -22,9 +22,9 @@ returns-in_err-devices-clause-gives g c =
       unwritten = refl;
     })
 
-pub add_last-devices-requires-clause-some : goal.add_last-devices-requires-clause-some
-add_last-devices-requires-clause-some g c =
+pub add_last-devices-requires : goal.add_last-devices-requires
+add_last-devices-requires g c =
     let names = map (λ s. s.now) c.args.names.now in
     let words_are : map word_of c.as_slice-words.result.now ≡ image_list false names = ap (map word_of) c.as_slice-words.ensures.value ∙ c.in-Ok.ensures in
     let many = c.in_ok-devices.ensures.gives.many ∙ ap length words_are ∙ all_named names ∙ length-map c.args.names.now (λ s. s.now) in
-    subst (λ n. 0 < n) (sym many) c.requires.some
+    record { some = subst (λ n. 0 < n) (sym many) c.requires.some }
