@@ -1,0 +1,9 @@
+//! Tests of the calls by which members fail, leave, come back and come in: in every order, and refused in each way.
+#![tactic(auto)]
+
+#[cfg(test)]
+mod calls;
+#[cfg(test)]
+mod changing;
+#[cfg(test)]
+mod checks;
