@@ -7,3 +7,5 @@ mod calls;
 mod changing;
 #[cfg(test)]
 mod checks;
+#[cfg(test)]
+mod expected;
