@@ -313,10 +313,8 @@ impl Expected {
     }
 
     fn has_absent(&self) -> bool {
-        self.roles
-            .iter()
-            .enumerate()
-            .any(|(number, role)| *role < DISKS && !has_number(&self.members, number))
+        self.roles.iter().enumerate().any(|(number, role)| *role < DISKS
+            && !has_number(&self.members, number))
     }
 
     // The least number that no member has, and whose entry is not that of a failed device.

@@ -8,4 +8,10 @@ mod changing;
 #[cfg(test)]
 mod checks;
 #[cfg(test)]
+mod every_order;
+#[cfg(test)]
 mod expected;
+#[cfg(test)]
+mod shown;
+#[cfg(test)]
+mod starts;
