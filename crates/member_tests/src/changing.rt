@@ -53,6 +53,14 @@ impl Changing {
         mirror.into_devices()
     }
 
+    // The device of the last member.
+    pub(crate) fn into_last(self) -> Option<Testing> {
+        let mut devices = self.into_devices();
+        let last = devices.pop();
+        drop(devices);
+        last
+    }
+
     // The device that left last, which is then here no more.
     pub(crate) fn take_left(&mut self) -> Option<Testing> {
         self.left.take()

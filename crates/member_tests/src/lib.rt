@@ -12,6 +12,18 @@ mod every_order;
 #[cfg(test)]
 mod expected;
 #[cfg(test)]
+mod full;
+#[cfg(test)]
+mod halted;
+#[cfg(test)]
+mod leaving;
+#[cfg(test)]
+mod new_devices;
+#[cfg(test)]
+mod returning_devices;
+#[cfg(test)]
 mod shown;
 #[cfg(test)]
 mod starts;
+#[cfg(test)]
+mod taken_back;
