@@ -1,4 +1,6 @@
 // An array that has as many members as it may have: two in sync, and spares.
+ghost use Rattle.std.specs.Prelude.{◌^◌, ◌≤◌};
+
 use crate::calls::{Answer, Call};
 use crate::changing::{Changing, LEAST_SECTORS, Testing};
 use crate::checks::same;
@@ -42,7 +44,9 @@ fn add_zeros(
     alloc: Global,
     changing: &mut Changing,
     sectors: u64,
-) -> Result<Result<usize, AddFault>, Fail> {
+) -> Result<Result<usize, AddFault>, Fail>
+    requires { sectors ≤ 2 ^ 54 }
+{
     let zeros = zeros(alloc, sectors)?;
     Ok(changing.add(alloc, sturdy(alloc, zeros)))
 }
