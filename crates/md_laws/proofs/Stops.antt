@@ -20,3 +20,5 @@ pub mod StoppedCopies
 pub mod TakenBack
 -- What a stop within `add` leaves.
 pub mod WithinAdd
+-- What a stop within a `re_add` leaves that is refused, or whose write fails.
+pub mod WithinReAdd

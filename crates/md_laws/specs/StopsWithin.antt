@@ -7,14 +7,18 @@ use Rattle.md_writes.specs.Writes.{IsAnyIn, IsCutShort, Write, after as content_
 use Rattle.md_model.specs.Events.{Event}
 use Rattle.md_faults.specs.declared.add_fault.AddFault.{AddFault}
 use Rattle.md_faults.specs.declared.add_fault.AddFault.TheVariants.{WriteFault}
+use Rattle.md_faults.specs.declared.re_add_fault.ReAddFault.{ReAddFault}
+use Rattle.md_faults.specs.declared.re_add_fault.ReAddFault.TheVariants as re_add_fault
+use Rattle.md_kept_members.specs.TakingBack.{own_role}
+use Rattle.md_state.specs.Joining.{joined_shared}
 use Rattle.md_state.specs.View.{Disk, MirrorView}
 use Rattle.md_state.specs.DiskWrites.{IsFailed, IsTried, IsWritten}
 use Rattle.md_state.specs.Removing.{Removes}
 use Rattle.md_state.specs.Trying.{FailsWriting}
 use Rattle.md_array.specs.Adding.{Adds, FailsToAdd, RefusesAdd}
 use Rattle.md_array.specs.Events.{ComesLast, WritesOnce}
-use Rattle.md_array.specs.ReAdding.{ReAdds}
-use Rattle.md_array.specs.Recording.{super_write}
+use Rattle.md_array.specs.ReAdding.{FailsToReAdd, ReAdds, RefusesReAdd}
+use Rattle.md_array.specs.Recording.{super_write, write_of}
 use Rattle.md_array.specs.Worlds.{AreHonest}
 
 -- a stop since the device was d, and until it was e, might have left this
@@ -50,6 +54,21 @@ StopsAtReAdd =
     (k : ℕ) (device : Disk) (old new : MirrorView) (left : List (List ℕ)) → AreHonest old.disks → device.honest ≡ true → (r : ReAdds k device old new)
     → MayAllBeLeft (old.disks ++ device ∷ []) new.disks left
     → IsLeftBut (length old.disks) (λ was c. IsCutShort was (super_write new.array r.recorded.takes.member ∷ []) c) (old.disks ++ device ∷ []) left
+
+-- Where that write fails, a stop leaves this device as it was, or with any bytes in the superblock's range;
+abbrev pub StopsAtFailedReAdd : Type 0
+StopsAtFailedReAdd =
+    (device given : Disk) (old new : MirrorView) (left : List (List ℕ)) → device.honest ≡ true → (f : FailsToReAdd device given old new)
+    → MayAllBeLeft (old.disks ++ device ∷ []) (new.disks ++ given ∷ []) left
+    → IsLeftBut (length old.disks) (IsAnyIn (write_of (joined_shared old.array f.fails.member.superblock.dev_number (own_role f.info.superblock)) f.fails.member))
+    (old.disks ++ device ∷ []) left
+
+-- where it is refused for any other reason, each device as it was.
+abbrev pub StopsAtRefusedReAdd : Type 0
+StopsAtRefusedReAdd =
+    (device given : Disk) (old new : MirrorView) (left : List (List ℕ)) (fault : ReAddFault) → fault ≢ re_add_fault.WriteFault → device.honest ≡ true
+    → RefusesReAdd device given old new fault → MayAllBeLeft (old.disks ++ device ∷ []) (new.disks ++ given ∷ []) left
+    → IsLeftBut (length old.disks) (λ was c. c ≡ was) (old.disks ++ device ∷ []) left
 
 -- A stop at any moment of `add` leaves each device of the array as it was, and the new one, which stands behind them, as it was, as
 -- laid out, or half laid out.

@@ -18,7 +18,7 @@ ghost use Rattle.md_laws.specs.Lives.{AtEachMoment, ContentGoesAlong, FindsInSyn
 ghost use Rattle.md_laws.specs.Returning.{StartsAgain};
 ghost use Rattle.md_laws.specs.Runs.{HasContent};
 ghost use Rattle.md_laws.specs.StopsReadAs.{ReadsAtAdd, ReadsAtReAdd};
-ghost use Rattle.md_laws.specs.StopsWithin.{StopsAsFailed, StopsAsTried, StopsAtAdd, StopsAtEvents, StopsAtFailedAdd, StopsAtFailure, StopsAtReAdd, StopsAtRefusedAdd, StopsAtRemoval, StopsAtSector, StopsAtWrite, StopsInMemory, StopsUndivided};
+ghost use Rattle.md_laws.specs.StopsWithin.{StopsAsFailed, StopsAsTried, StopsAtAdd, StopsAtEvents, StopsAtFailedAdd, StopsAtFailedReAdd, StopsAtFailure, StopsAtReAdd, StopsAtRefusedAdd, StopsAtRefusedReAdd, StopsAtRemoval, StopsAtSector, StopsAtWrite, StopsInMemory, StopsUndivided};
 
 /// A mirror that was opened from devices that do what they answer is an opened world of the model, by
 /// the array's superblock: the opening stored all marks where the bitmap was not accepted, and nothing
@@ -127,6 +127,8 @@ pub fn stops_at_steps()
     ensures memory { StopsInMemory }
     ensures removal { StopsAtRemoval }
     ensures re_add { StopsAtReAdd }
+    ensures failed_re_add { StopsAtFailedReAdd }
+    ensures refused_re_add { StopsAtRefusedReAdd }
     ensures re_add_read { ReadsAtReAdd }
     ensures add { StopsAtAdd }
     ensures add_read { ReadsAtAdd }
