@@ -1,5 +1,5 @@
 -- A new device comes in as a spare: the mirror stays consistent, and requests in flight stay its own.
-use Rattle.std.proofs.Common.{◌≡◌, ℕ, ◌+◌, ◌*◌, ◌/◌, ◌<◌, ◌≤◌, inl, inr, Bool, true, false, cond, not, ◌&&◌, ◌==◌, bit_and, List, [], ◌∷◌, ◌++◌, length, count_by, map, Result, Ok, Err, refl, sym, ap, ◌∙◌, subst, arith}
+use Rattle.std.proofs.Common.{◌≡◌, ℕ, ◌+◌, ◌*◌, ◌/◌, ◌<◌, ◌≤◌, inl, inr, true, false, cond, not, ◌==◌, bit_and, List, [], ◌∷◌, ◌++◌, length, count_by, map, Result, Ok, Err, refl, sym, ap, ◌∙◌, subst, arith}
 use Rattle.std.specs.Int.{div_ceil}
 use Rattle.std.specs.Prelude.{MatchResult}
 use Rattle.std.proofs.lemmas.Bool.{cases_lt}
@@ -10,7 +10,7 @@ use Rattle.md_device.specs.Stops.{LeavesMore}
 use Rattle.md_bitmap.specs.declared.header.BitmapHeader.{BitmapHeader}
 use Rattle.md_bitmap.specs.Sound.{IsSound, chunk_count}
 use Rattle.md_bitmap.proofs.Limits.{div_ceil-sectors}
-use Rattle.md_members.specs.Areas.{bitmap_sectors, has_bitmap}
+use Rattle.md_members.specs.Areas.{bitmap_sectors}
 use Rattle.md_members.specs.Members.{sectors_of}
 use Rattle.md_create.specs.declared.params.NewMember.{NewMember}
 use Rattle.md_create.specs.Layout.{IsHalfLaidOut, IsLaidOut, KeepsOthers, writes_of}
@@ -18,7 +18,6 @@ use Rattle.md_create.specs.ReadBack.{IsReadable}
 use Rattle.md_writes.specs.Writes.{DoesWrites, IsKept, StopsInWrites}
 use Rattle.md_create.proofs.Laid.{few_sectors}
 use Rattle.md_create.proofs.Taken.{new_placed}
-use Rattle.md_assembly.specs.States.{is_in_sync}
 use Rattle.md_requests.specs.Pending.{PendingView}
 use Rattle.md_kept_members.specs.View.{MemberView}
 use Rattle.md_faults.specs.declared.add_fault.AddFault.{AddFault}

@@ -1,7 +1,6 @@
 -- A new device comes in as a spare: that is the model's event.
-use Rattle.std.proofs.Common.{◌≡◌, ◌≢◌, ◌⊎◌, ◌↔◌, ℕ, ◌+◌, ◌*◌, ◌/◌, ◌<◌, ◌≤◌, inl, inr, Bool, true, false, not, ◌&&◌, ◌==◌, bit_and, nat_lt, List, [], ◌∷◌, ◌++◌, get_or, length, map, slice_get, Option, Some, Result, Ok, Err, refl, sym, ap, ◌∙◌, subst, arith, lt-ltb}
+use Rattle.std.proofs.Common.{◌≡◌, ◌↔◌, ℕ, ◌+◌, ◌/◌, ◌<◌, ◌≤◌, inl, inr, Bool, true, false, not, ◌&&◌, ◌==◌, bit_and, nat_lt, List, [], ◌∷◌, ◌++◌, get_or, length, map, slice_get, Option, Some, Result, Ok, Err, refl, sym, ap, ◌∙◌, subst, arith, lt-ltb}
 use Rattle.std.specs.Prelude.{MatchResult}
-use Rattle.std.specs.Int.{div_ceil}
 use Rattle.std.proofs.lemmas.List.{length-map}
 use Rattle.md_bitmap.specs.Marks.{is_set}
 use Rattle.md_bitmap.specs.Sound.{chunk_count}
@@ -11,7 +10,6 @@ use Rattle.md_members.specs.Members.{sectors_of}
 use Rattle.md_assembly.specs.States.{has_recovery_offset, role_in}
 use Rattle.md_model.specs.Counts as counts
 use Rattle.md_model.specs.Counts.{IsFull, role_at_rise}
-use Rattle.md_model.specs.Devices.{Stored}
 use Rattle.md_model.specs.Events.{Event, Step}
 use Rattle.md_model.specs.Membership as membership
 use Rattle.md_model.specs.Sectors.{Geometry, chunk_of, put}
@@ -30,9 +28,9 @@ use Rattle.md_array.specs.Adding.{AddHappens, Adds, ComesIn, RefusesAdd, add_eve
 use Rattle.md_array.specs.Consistency.{IsConsistent}
 use Rattle.md_array.specs.Events.{Does, Happens}
 use Rattle.md_array.specs.ReadAsKept.{AreReadAsKept}
-use Rattle.md_array.specs.Worlds.{AreHonest, geometry_of, is_listed, stored_of, super_of, world_of}
+use Rattle.md_array.specs.Worlds.{AreHonest, geometry_of, stored_of, super_of, world_of}
 use Rattle.md_array.proofs.General.Appended.{got_last}
-use Rattle.md_array.proofs.Steps.SpareAdded.{added_is_consistent, after, as_long, count_there, is_after, its_number, room, size_there, small, width_there}
+use Rattle.md_array.proofs.Steps.SpareAdded.{added_is_consistent, after, as_long, count_there, is_after, its_number, room, small, width_there}
 use Rattle.md_array.proofs.Steps.SpareLaidOut.{all_marked, known_there, none_listed, read_there, super_there}
 use Rattle.md_array.proofs.Steps.WrittenLast.{honest_last}
 use Rattle.md_array.proofs.Worlds.Joined.{degraded_joined, newcomer, read_joined, role_joined, spare_alone, world_joined}

@@ -1,6 +1,6 @@
 -- The device on which a spare was laid out: it has the superblock that the model says, all chunks are marked there, nothing is listed, and
 -- an opening would read what is kept of it.
-use Rattle.std.proofs.Common.{◌≡◌, ℕ, ◌+◌, ◌*◌, ◌/◌, ◌<◌, ◌≤◌, Bool, true, false, not, ◌&&◌, ◌==◌, bit_and, nat_lt, List, drop, length, pos, Some, inl, refl, sym, ap, ◌∙◌, subst, arith, lt-ltb}
+use Rattle.std.proofs.Common.{◌≡◌, ℕ, ◌+◌, ◌*◌, ◌/◌, ◌<◌, ◌≤◌, true, false, not, ◌&&◌, ◌==◌, bit_and, nat_lt, List, drop, length, Some, inl, sym, ap, ◌∙◌, subst, arith, lt-ltb}
 use Rattle.md_format.specs.Fields.{number_at}
 use Rattle.md_super.specs.declared.superblock.Superblock.{Superblock}
 use Rattle.md_super.specs.Encoding.{super_bytes}
@@ -8,9 +8,7 @@ use Rattle.md_super.specs.Faults.{NoFault}
 use Rattle.md_super.specs.Format.{IsSuper}
 use Rattle.md_super.specs.Log.{has_bad_block_log}
 use Rattle.md_super.proofs.Unique.{unique}
-use Rattle.md_bitmap.specs.Header.{IsHeader}
 use Rattle.md_bitmap.specs.Marks.{is_set}
-use Rattle.md_bitmap.specs.Sectors.{bitmap_sectors}
 use Rattle.md_bitmap.proofs.Encoded.{length-header_bytes, reads_back}
 use Rattle.md_create.specs.declared.params.NewMember.{NewMember}
 use Rattle.md_create.specs.Layout.{IsLaidOut}
@@ -20,7 +18,7 @@ use Rattle.md_writes.proofs.Frames.{outside_none}
 use Rattle.md_state.specs.Adding.{IsSpareOf, added}
 use Rattle.md_state.specs.View.{ArrayView}
 use Rattle.md_array.specs.Adding.{kept_of}
-use Rattle.md_array.specs.ReadAsKept.{HasOwnSuper, HasWidth, IsReadAsKept, chunk_size_on}
+use Rattle.md_array.specs.ReadAsKept.{HasOwnSuper, HasWidth, IsReadAsKept}
 use Rattle.md_array.specs.Worlds.{block_on, from_super, header_on, is_listed, is_logged, list_bit, stored_of, super_in, super_of}
 use Rattle.md_array.proofs.General.Tests.{and_same}
 use Rattle.md_array.proofs.Worlds.Listed.{same_log}

@@ -42,7 +42,7 @@ use Rattle.md_array.proofs.General.Appended.{got_last}
 use Rattle.md_array.proofs.General.Indices.{any_at}
 use Rattle.md_array.proofs.Steps.DeviceTakenBack.{known_now, read_now, stored_now}
 use Rattle.md_array.proofs.Worlds.States.{same_active}
-use Rattle.md_array.proofs.Steps.MemberTakenBack.{after, absent, count_kept, fits_taken, is_after, number_there, room, size_kept, small, taken_back_is_consistent, width_kept}
+use Rattle.md_array.proofs.Steps.MemberTakenBack.{after, count_kept, fits_taken, is_after, number_there, room, size_kept, small, taken_back_is_consistent, width_kept}
 use Rattle.md_array.proofs.Steps.WrittenLast.{honest_last, written_last}
 use Rattle.md_array.proofs.Worlds.Joined.{degraded_joined, newcomer, read_joined, recovers_alone, role_joined, world_joined}
 use Rattle.md_array.proofs.Worlds.PartsApart.{HasParts}

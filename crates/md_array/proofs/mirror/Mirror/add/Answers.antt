@@ -1,4 +1,4 @@
-use Rattle.std.proofs.Common.{ℕ, ap, subst}
+use Rattle.std.proofs.Common.{ℕ, subst}
 use Rattle.md_members.specs.Members.{sectors_of}
 use Rattle.md_state.specs.Adding.{MayAdd, RefusesToAdd}
 use Rattle.md_state.specs.View.{MirrorView, disk_of}
