@@ -1,5 +1,5 @@
 -- What a stop within a `re_add` leaves that is refused, or whose write fails.
-use Rattle.std.proofs.Common.{◌≡◌, ℕ, true, List, [], ◌∷◌, ◌++◌, length, refl, sym, ap, ◌∙◌, subst}
+use Rattle.std.proofs.Common.{◌≡◌, ℕ, true, List, [], ◌∷◌, ◌++◌, length, refl, sym, ◌∙◌, subst}
 use Rattle.md_device.specs.Stops.{LeavesMore}
 use Rattle.md_device.proofs.Leaving.{leaves_less, leaves_none, leaves_then}
 use Rattle.md_writes.specs.Writes.{IsAnyIn, Write}
