@@ -101,7 +101,10 @@ fn are_members_as_expected<D: Device + Drop>(mirror: &Mirror<D>, expected: &Expe
 // Whether a device has the bytes of `SECTOR` at sectors 8 and 9 of the array where it has to.
 fn has_data(device: &MemDevice, has: [bool; 2]) -> bool {
     let bytes = device.bytes();
-    for (start, has) in [(512 * (SMALL_DATA + 8), has[0]), (512 * (SMALL_DATA + 9), has[1])] {
+    for (start, has) in [
+        (512 * (SMALL_DATA + 8), has[0]),
+        (512 * (SMALL_DATA + 9), has[1]),
+    ] {
         let want = if has { 0xa5 } else { 0 };
         if bytes.get(start as usize) != Some(&want) {
             return false;
