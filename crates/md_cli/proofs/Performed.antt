@@ -1,5 +1,5 @@
 -- No task wins or loses a device.
-use Rattle.std.proofs.Common.{◌≡◌, ℕ, length, Result, Ok, Err, ap}
+use Rattle.std.proofs.Common.{length, Result, Ok, Err, ap}
 use Rattle.md_commands.proofs.DeviceCounts.{AsMany, done_fail, done_resync, done_write, fails_as_many, reads_as_many, resyncs_as_many, stops_as_many, writes_as_many, stopped, read_readied}
 use Rattle.md_commands.specs.declared.fault.DataFault.{DataFault}
 use Rattle.md_commands.specs.declared.source.Source.{Ghosts as SourceGhosts}

@@ -1,5 +1,5 @@
 -- What `create` does with the devices of the images.
-use Rattle.std.specs.Prelude.{◌≡◌, ◌⊎◌, ℕ, ◌/◌, ◌<◌, Bool, true, List, [], ◌∷◌, drop, length, Option, Some, None, Result, Err, slice_get, slice_index_or, if◌then◌else◌}
+use Rattle.std.specs.Prelude.{◌≡◌, ◌⊎◌, ℕ, ◌/◌, ◌<◌, true, List, [], ◌∷◌, drop, length, Option, Some, None, Result, Err, slice_get, slice_index_or, if◌then◌else◌}
 use Rattle.clap.specs.Words.{Text}
 use Rattle.md_create.specs.Geometry.{IsGeometry}
 use Rattle.md_create.specs.Values.{AreMembers}
