@@ -2,7 +2,7 @@
 # SPDX-License-Identifier: MIT OR Apache-2.0
 
 _mdcli_commands() {
-  printf '%s\n' examine examine-bitmap examine-badblocks assemble detail plan read write resync fail remove stop create help
+  printf '%s\n' examine examine-bitmap examine-badblocks assemble detail plan read write resync fail remove add stop create help
 }
 
 # The options of a command, beside --help. A value follows one that ends in =.
@@ -12,6 +12,7 @@ _mdcli_options() {
     assemble | detail) printf '%s\n' --readonly ;;
     plan) printf '%s\n' --member= --readonly ;;
     fail | remove) printf '%s\n' --member= ;;
+    add) printf '%s\n' --device= ;;
     read) printf '%s\n' --sector= --count= --readonly ;;
     write) printf '%s\n' --sector= ;;
   esac
@@ -30,6 +31,12 @@ _mdcli_offer() {
   while IFS= read -r word; do
     if [[ $word == "$1"* ]]; then COMPREPLY+=("$word"); fi
   done
+}
+
+# Offers the files whose names begin with the word.
+_mdcli_files() {
+  compopt -o filenames 2>/dev/null
+  _mdcli_offer '' < <(compgen -f -- "$1")
 }
 
 _mdcli() {
@@ -60,7 +67,11 @@ _mdcli() {
   if [ -z "$ended" ]; then
     while IFS= read -r option; do
       if [ "$option" = "$previous=" ]; then
-        _mdcli_offer "$current" < <(_mdcli_values "$previous")
+        if [ "$previous" = --device ]; then
+          _mdcli_files "$current"
+        else
+          _mdcli_offer "$current" < <(_mdcli_values "$previous")
+        fi
         return
       fi
     done < <(_mdcli_options "$command")
@@ -74,9 +85,8 @@ _mdcli() {
     fi
   fi
 
-  compopt -o filenames 2>/dev/null
   if [ "$command" = create ]; then _mdcli_offer "$current" <<<missing; fi
-  _mdcli_offer '' < <(compgen -f -- "$current")
+  _mdcli_files "$current"
 }
 
 complete -F _mdcli mdcli

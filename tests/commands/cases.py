@@ -4,6 +4,7 @@ A case is a name, its images by their names, and its steps in turn. A step's wor
 """
 
 import struct
+import uuid
 from pathlib import Path
 
 import members
@@ -11,12 +12,15 @@ import members
 TOP = Path(__file__).resolve().parent.parent.parent
 SECTOR = 512
 SUPER = 8 * SECTOR
+BITMAP = 16 * SECTOR
 LOG = 2032 * SECTOR
 SET = "00112233-4455-6677-8899-aabbccddeeff"
 # The example member, and what `examine` has to say of it.
 VAULT = (TOP / "examples" / "vault.img").read_bytes()
 REPORT = (TOP / "examples" / "vault.examine.txt").read_text()
 ZEROS = bytes(2112 * SECTOR)
+# A sector less than an array of 64 sectors takes of a new member.
+SHORT = bytes(2111 * SECTOR)
 
 
 class Step:
@@ -68,6 +72,22 @@ class Made:
         return []
 
 
+class Holds:
+    """An image holds what is made of another one, byte for byte."""
+
+    def __init__(self, name, first, make):
+        self.name, self.first, self.make = name, first, make
+
+    def play(self, folder, run):
+        wanted = self.make((folder / self.first).read_bytes())
+        found = (folder / self.name).read_bytes()
+        if found == wanted:
+            return []
+        if len(found) != len(wanted):
+            return ["%s has %d bytes, and %d were wanted" % (self.name, len(found), len(wanted))]
+        return ["%s has another byte at %d" % (self.name, next(at for at in range(len(found)) if found[at] != wanted[at]))]
+
+
 def changed(image, *fields):
     """The image with other values at these places."""
     image = bytearray(image)
@@ -90,6 +110,8 @@ PADDED = changed(VAULT, (SUPER + 4095, "B", 1))
 UNSUMMED = changed(VAULT, (SUPER + 216, "I", 0))
 # The bitmap is two events behind the superblock.
 OUT_OF_DATE = members.with_header(VAULT, events=8)
+# The event count can't rise any more.
+SPENT = members.with_header(members.with_superblock(VAULT, events=2**64 - 1), events=2**64 - 1)
 
 BITMAP_REPORT = """\
 Magic           : 6d746962
@@ -117,6 +139,34 @@ Marked Chunks   : 0 of 8
      1      1      1 in sync
 """
 
+DETAIL_WITH_A_SPARE = """\
+Array UUID      : 00112233-4455-6677-8899-aabbccddeeff
+Name            : md
+Raid Devices    : 3
+Array Size      : 64 sectors
+In Sync         : 2
+State           : clean, degraded
+Events          : 2
+Marked Chunks   : 0 of 8
+     0      0      0 in sync
+     1      1      1 in sync
+     2      3      - spare
+"""
+
+# One that failed came in again.
+DETAIL_OF_ONE = """\
+Array UUID      : 00112233-4455-6677-8899-aabbccddeeff
+Name            : md
+Raid Devices    : 2
+Array Size      : 64 sectors
+In Sync         : 1
+State           : clean, degraded
+Events          : 5
+Marked Chunks   : 0 of 8
+     0      0      0 in sync
+     1      2      - spare
+"""
+
 # Two sectors of data, and what two sectors of a new array hold.
 DATA = b"first sector".ljust(SECTOR, b".") + b"second sector".ljust(SECTOR, b".")
 BLANK = "\0" * (2 * SECTOR)
@@ -134,6 +184,7 @@ PLAN = (
 )
 
 TWO = {"a": ZEROS, "b": ZEROS}
+THREE = {"a": ZEROS, "b": ZEROS, "c": ZEROS}
 
 
 def create(level, devices, chunk, images, **answer):
@@ -144,6 +195,36 @@ def create(level, devices, chunk, images, **answer):
 def spare_beside(first):
     """The image of a member of the array of `first` whose number, 3, no role is for."""
     return members.with_superblock(first, dev_number=3)
+
+
+def added(number):
+    """What makes, of a member as `add` leaves it, the image of 2112 zero sectors that it has added under this number: that of
+    "A new member" in docs/FORMATS.md."""
+
+    def make(first):
+        image = bytearray(ZEROS)
+        image[SUPER : SUPER + 8 * SECTOR] = first[SUPER : SUPER + 8 * SECTOR]
+        image[BITMAP : BITMAP + members.HEADER_BYTES] = first[BITMAP : BITMAP + members.HEADER_BYTES]
+        image[BITMAP + members.HEADER_BYTES] = 0xFF
+        image[LOG : LOG + 8 * SECTOR] = b"\xff" * (8 * SECTOR)
+        return members.with_superblock(
+            members.with_header(bytes(image), state=0, sectors_reserved=2016),
+            feature_map=members.BITMAP_BIT,
+            bitmap_offset=8,
+            data_offset=2048,
+            data_size=64,
+            super_offset=8,
+            recovery_offset=0,
+            dev_number=number,
+            cnt_corrected_read=0,
+            device_uuid=uuid.uuid5(uuid.UUID(SET), str(number)).bytes,
+            devflags=0,
+            bblog_shift=0,
+            bblog_size=8,
+            bblog_offset=2024,
+        )
+
+    return make
 
 
 # Two members of three that agree, and a spare.
@@ -278,6 +359,51 @@ CASES = [
             Step("assemble a b", "in sync 2 of 3, events 2, marked 0\n"),
         ],
     ),
+    (
+        "a third member is added, leaves and comes in again",
+        THREE,
+        [
+            create("1", 3, 4, "--assume-clean a b missing", output="in sync 2 of 3, events 1, marked 0\n", changes="a b"),
+            Step("add --device c a b", "in sync 2 of 3, events 2, marked 0\n", changes="a b c"),
+            # Its number is not 2, whose entry is that of a missing member.
+            Holds("c", "a", added(3)),
+            Step("detail a b c", DETAIL_WITH_A_SPARE),
+            Step("plan --member 2 a b c", PLAN),
+            Step("remove --member 2 a b c", "in sync 2 of 3, events 3, marked 0\n", changes="a b"),
+            Step("add --device c b a", "in sync 2 of 3, events 4, marked 0\n", changes="a b c"),
+            Holds("c", "b", added(4)),
+            Step("assemble c a b", "in sync 2 of 3, events 4, marked 0\n"),
+        ],
+    ),
+    (
+        "one that failed is added as a spare, and its data stay",
+        TWO,
+        [
+            create("raid1", 2, 4, "--assume-clean a b", output=CLEAN, changes="a b"),
+            Step("write --sector 8 a b", WRITTEN, changes="a b", given=DATA[:SECTOR]),
+            Step("fail --member 1 a b", FAILED, changes="a"),
+            Step("remove --member 1 a b", FAILED),
+            Step("add --device b a", "in sync 1 of 2, events 5, marked 0\n", changes="a b"),
+            Holds("b", "a", lambda first: members.with_data(added(2)(first), 8, DATA[:SECTOR])),
+            Step("detail a b", DETAIL_OF_ONE),
+            Step("read --sector 8 --count 1 a b", DATA[:SECTOR].decode()),
+        ],
+    ),
+    (
+        "what is not added",
+        {"a": ZEROS, "b": ZEROS, "c": SHORT},
+        [
+            create("raid1", 2, 4, "--assume-clean a b", output=CLEAN, changes="a b"),
+            Step("add --device c a b", fault="TooSmall"),
+            Step("add --device a a b", fault="BadImage 2"),
+            Step("add --device d a b", fault="BadImage 2"),
+            Step("add --device c a d", fault="BadImage 1"),
+            Step("add --device c a c", fault="BadImage 2"),
+            Step("add --device c", fault="Assemble Empty"),
+            Step("add --device a c b", fault="Member 0 Super Magic"),
+        ],
+    ),
+    ("add, the event count can't rise", {"a": SPENT, "b": ZEROS}, [Step("add --device b a", fault="EventsFull")]),
     ("the plan of a third member", TWO, WITH_A_SPARE + [Step("plan --member 2 a b c", PLAN)]),
     (
         "no plan",

@@ -10,7 +10,7 @@ import support
 TABLES = support.TOP / "docs" / "FAULTS.md"
 CRATES = support.TOP / "crates"
 
-ADVICE = CRATES / "md_cli" / "src" / "advice.rt"
+ADVICE = CRATES / "md_advice" / "src" / "advice.rt"
 
 ENUM = re.compile(r"pub enum (\w+(?:Fault|Refusal)) \{\n(.*?)\n\}", re.S)
 VARIANT = re.compile(r'#\[error\("([^"]*)"\)\]\s*(\w+)(?:\(([^)]*)\))?')

@@ -13,14 +13,24 @@ MANY_AT = 4093
 MOST_CALLS = 1000
 
 
+def add_case(scratch, name, contents, summary):
+    """The last image is added to the array that the others make."""
+    joins = len(contents) - 1
+    case = Case("add, " + name, "add", contents, summary, images=list(range(joins)), joins=joins)
+    case.words = ["add", "--device", scratch.path(joins)]
+    return case
+
+
 class Case:
-    def __init__(self, name, command, contents, summary, images=None, first=0, given=b"", resyncs_first=False):
+    def __init__(self, name, command, contents, summary, images=None, first=0, given=b"", resyncs_first=False, joins=None):
         self.name = name
         self.command = command
         self.words = [command] + (["--sector", first] if command == "write" else [])
         self.contents = contents
         self.summary = summary
         self.images = list(range(len(contents))) if images is None else images
+        # The number of the image that is added, which is the last.
+        self.joins = joins
         self.first = first
         self.given = given
         self.resyncs_first = resyncs_first
@@ -137,4 +147,22 @@ def made_cases(scratch):
     def stop_of_one():
         return Case("stop, one member of one", "stop", unequal([0]), "in sync 1 of 1, events 2, marked 0\n")
 
-    return [make for name, make in locals().items() if name.startswith(("write_", "resync_", "stop_"))]
+    def add_to_two_of_three():
+        contents = clean([0, 1, None]) + [members.pattern(3, 2048 + SECTORS)]
+        return add_case(scratch, "two of three members", contents, "in sync 2 of 3, events 2, marked 0\n")
+
+    def add_to_an_active_array():
+        contents = cut_short(scratch, clean([0, 1]), active_without_marks) + [members.pattern(3, 2048 + SECTORS)]
+        return add_case(scratch, "active without marks", contents, "in sync 2 of 2, events 4, marked 0\n")
+
+    def add_one_that_left():
+        # Its superblock is of the same array, and its log is wiped with it.
+        contents = clean([0, 1])
+        scratch.put(contents)
+        for words, images in ((["fail", "--member", 1], [0, 1]), (["remove", "--member", 1], [0, 1])):
+            answer = scratch.run(words, images)
+            if answer.status != 0:
+                raise ValueError("%s: %s" % (words[0], answer.errors))
+        return add_case(scratch, "one that failed and left", scratch.take(2), "in sync 1 of 2, events 3, marked 0\n")
+
+    return [make for name, make in locals().items() if name.startswith(("write_", "resync_", "stop_", "add_"))]

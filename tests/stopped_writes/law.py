@@ -3,16 +3,21 @@
 import members
 from members import SECTOR
 
-# What a write to the array may change of a superblock, beside the roles.
+# What a write to the array may change of a superblock, beside the roles; and where a member joins, how many roles there are.
 CHANGING = ("events", "resync_offset", "sb_csum")
+CHANGING_AT_JOINING = ("max_dev",)
+# The superblock, the bitmap and the log of a new member stand in these sectors.
+NEW_FIRST, NEW_END = 8, 2040
 
 
 class Before:
     """The images as they were, and what a command may make of them: each sector of a member in sync stays, takes the
     bytes that are written, or, in a marked chunk, those of another member in sync."""
 
-    def __init__(self, contents, first=0, new=b""):
+    def __init__(self, contents, first=0, new=b"", joins=None):
         self.contents = contents
+        # The number of the image that joins. What it held is lost, and its data are not the array's.
+        self.joins = joins
         self.found = members.Found(contents)
         self.first = first
         self.new = new
@@ -46,8 +51,19 @@ def span_of(call):
     return range(call.place, call.place + call.size) if call else range(0)
 
 
+def against_joining(before, after):
+    """The reasons against the image that joins: but for where a new member is laid out it is as it was."""
+    old = before.contents[before.joins]
+    first, end = SECTOR * NEW_FIRST, SECTOR * NEW_END
+    if len(after) == len(old) and after[:first] == old[:first] and after[end:] == old[end:]:
+        return []
+    return ["image %d, which joins, was changed elsewhere" % before.joins]
+
+
 def against_image(before, index, after, junk=range(0)):
     """The reasons against one image: what may not change, apart from `junk`, is as it was."""
+    if index == before.joins:
+        return against_joining(before, after)
     old = before.found.members[index]
     if after == old.content:
         return []
@@ -68,10 +84,11 @@ def against_image(before, index, after, junk=range(0)):
             continue
         reasons.append("image %d was changed at sector %d of the device" % (index, at // SECTOR))
         break
-    return reasons + against_metadata(index, old, after, junk)
+    changing = CHANGING if before.joins is None else CHANGING + CHANGING_AT_JOINING
+    return reasons + against_metadata(index, old, after, junk, changing)
 
 
-def against_metadata(index, old, after, junk):
+def against_metadata(index, old, after, junk, changing):
     """The reasons against the superblock and the bitmap's header: only counts, state and roles may change."""
     if junk and junk[0] < SECTOR * old.superblock.data_offset:
         return []
@@ -81,7 +98,7 @@ def against_metadata(index, old, after, junk):
         return ["image %d: %s" % (index, error)]
     reasons = []
     for name in members.Superblock._fields:
-        if name not in CHANGING and getattr(new.superblock, name) != getattr(old.superblock, name):
+        if name not in changing and getattr(new.superblock, name) != getattr(old.superblock, name):
             reasons.append("image %d: %s of its superblock was changed" % (index, name))
     for number, (role, was) in enumerate(zip(new.roles, old.roles)):
         if role not in (was, members.FAULTY_ROLE):

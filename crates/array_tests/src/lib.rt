@@ -1,4 +1,5 @@
-//! Tests of what stands below the commands: superblocks, new members, assembly, opened mirrors, rebuilds.
+//! Tests of what stands below the commands: superblocks, new members, assembly, opened mirrors, members that change,
+//! rebuilds.
 #![tactic(auto)]
 
 #[cfg(test)]
@@ -7,6 +8,8 @@ mod assembly;
 mod checks;
 #[cfg(test)]
 mod collector_reports;
+#[cfg(test)]
+mod member_changes;
 #[cfg(test)]
 mod mirrors;
 #[cfg(test)]

@@ -41,7 +41,7 @@ pub(crate) fn member(
     Ok(device)
 }
 
-fn add(
+pub(crate) fn add(
     alloc: Global,
     devices: &mut Vec<MemDevice>,
     number: u32,

@@ -4,7 +4,9 @@
 mod images;
 mod metadata;
 mod opening;
+mod small_members;
 
 pub use images::{image, member_image, zeros};
 pub use metadata::{bitmap, put, sealed, vault};
 pub use opening::open;
+pub use small_members::{SMALL_DATA, copied, small_image, small_member, small_metadata};

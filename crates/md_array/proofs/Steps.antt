@@ -48,6 +48,12 @@ pub mod Refused
 pub mod RemarkedWorlds
 -- A list that changed in a range was changed in the range's first part, and then in the rest: so was one that was written.
 pub mod RunsOfSectors
+-- A new device comes in as a spare: the mirror stays consistent, and requests in flight stay its own.
+pub mod SpareAdded
+-- A new device comes in as a spare: that is the model's event.
+pub mod SpareEvent
+-- The device on which a spare was laid out: what stands there, and what an opening would read.
+pub mod SpareLaidOut
 -- A mirror stays consistent, and its requests its own, where storing something on a member is refused or fails; and where it
 -- fails, that is the model's event.
 pub mod StoresKeep
@@ -65,5 +71,3 @@ pub mod WriteKeeps
 pub mod WriteToMember
 -- A device that is read, written once, and then stands behind the others.
 pub mod WrittenLast
--- Sectors of a write to the data, of which some are written.
-pub mod WrittenParts

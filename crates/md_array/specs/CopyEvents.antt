@@ -1,8 +1,8 @@
 -- A copy of a run of sectors is the model's events, one a sector.
 use Rattle.std.specs.Prelude.{◌≡◌, ℕ, ◌*◌, ◌/◌, List, length, Option, ⊤, Result, MatchResult}
 use Rattle.md_model.specs.Events.{Event}
-use Rattle.md_state.specs.declared.copy_fault.CopyFault.{CopyFault}
-use Rattle.md_state.specs.declared.copy_fault.CopyFault.TheVariants.{Halted, MemberFailed}
+use Rattle.md_faults.specs.declared.copy_fault.CopyFault.{CopyFault}
+use Rattle.md_faults.specs.declared.copy_fault.CopyFault.TheVariants.{Halted, MemberFailed}
 use Rattle.md_state.specs.CopyingData.{copies_of}
 use Rattle.md_state.specs.Requests.{AreInFlight}
 use Rattle.md_state.specs.View.{MirrorView}

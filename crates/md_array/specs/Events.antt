@@ -1,5 +1,6 @@
 -- The steps as events of the model: what each makes of the world, where devices do what they answer.
-use Rattle.std.specs.Prelude.{◌≡◌, ◌⊎◌, ⊤, ℕ, true, List, [], ◌∷◌, ◌++◌, length, None, Option, Some, Result, MatchResult}
+use Rattle.std.specs.Prelude.{◌≡◌, ◌⊎◌, ⊤, ℕ, true, List, [], ◌∷◌, ◌++◌, length, slice_get, None, Option, Some, Result, MatchResult}
+use Rattle.std.specs.List.{remove}
 use Rattle.md_model.specs.Sectors.{put}
 use Rattle.md_model.specs.Devices.{Super}
 use Rattle.md_model.specs.Worlds.{Request}
@@ -8,14 +9,14 @@ use Rattle.md_model.specs.Events.{Event, Step}
 use Rattle.md_model.specs.Runs.{failed_after}
 use Rattle.md_requests.specs.Pending.{PendingView}
 use Rattle.md_kept_members.specs.View.{MemberView}
-use Rattle.md_state.specs.declared.step_fault.StoreFault.{StoreFault}
-use Rattle.md_state.specs.declared.step_fault.StoreFault.TheVariants.{MemberFailed}
-use Rattle.md_state.specs.declared.step_fault.WriteMemberFault.{WriteMemberFault}
-use Rattle.md_state.specs.declared.step_fault.WriteMemberFault.TheVariants as write_fault
-use Rattle.md_state.specs.View.{Disk, MirrorView}
+use Rattle.md_faults.specs.declared.step_fault.StoreFault.{StoreFault}
+use Rattle.md_faults.specs.declared.step_fault.StoreFault.TheVariants.{MemberFailed}
+use Rattle.md_faults.specs.declared.step_fault.WriteMemberFault.{WriteMemberFault}
+use Rattle.md_faults.specs.declared.step_fault.WriteMemberFault.TheVariants as write_fault
+use Rattle.md_state.specs.View.{Disk, MirrorView, of_disks}
 use Rattle.md_state.specs.Members.{IsMember}
 use Rattle.md_array.specs.Consistency.{IsConsistent}
-use Rattle.md_writes.specs.Writes.{Write}
+use Rattle.md_writes.specs.Writes.{DoesWrites, Write}
 use Rattle.md_state.specs.CopyingData.{IsDone}
 use Rattle.md_state.specs.DiskWrites.{AtDevice, IsFailed, IsWritten}
 use Rattle.md_state.specs.Requests.{AreInFlight, among, request_of}
@@ -31,8 +32,23 @@ pub record WritesLast (own : Super) (before after : List Disk) : Type 0 where
   pub write : Write
   pub written : IsWritten (length before) write (before ++ was ∷ []) after
 
--- The devices before and after an event: one is written at most, and once. The sectors of one write of a resync are an event each.
--- Of a member that leaves nothing is said here, and of a new one that comes in no call is made yet.
+-- Device k is among these no more. None is used.
+pub record GoesAway (k : ℕ) (before after : List Disk) : Type 0 where
+  pub was : Disk
+  pub at : slice_get before k ≡ Some was
+  pub others : after ≡ remove before k
+
+-- A device was written, by several writes, and stands behind the others then, none of which is used.
+pub record ComesLast (before after : List Disk) : Type 0 where
+  pub was : Disk
+  pub honest : was.honest ≡ true
+  pub now : Disk
+  pub writes : List Write
+  pub done : DoesWrites of_disks writes was now
+  pub disks : after ≡ before ++ now ∷ []
+
+-- The devices before and after an event: one is written at most, and once, but for a new one. The sectors of one write of a resync
+-- are an event each.
 abbrev pub WritesOnce : Event → List Disk → List Disk → Type 0
 WritesOnce (Event.Record k) before after = (w : Write) × IsWritten k w before after
 WritesOnce (Event.StoreMarks k b) before after = (w : Write) × (length w.bytes ≡ 512) × IsWritten k w before after
@@ -44,8 +60,8 @@ WritesOnce (Event.CopyFails k c) before after = (w : Write) × IsFailed k w befo
 WritesOnce (Event.Copy from k s) before after = (w : Write) × (length w.bytes ≡ 512) × IsDone k w before after
 WritesOnce Event.Resynced before after = after ≡ before
 WritesOnce Event.Unresynced before after = after ≡ before
-WritesOnce (Event.Remove k) before after = Unit {0}
-WritesOnce (Event.Add number left) before after = Unit {0}
+WritesOnce (Event.Remove k) before after = GoesAway k before after
+WritesOnce (Event.Add number left) before after = ComesLast before after
 WritesOnce (Event.ReAdd own device left) before after = WritesLast own before after
 WritesOnce Event.MakeClean before after = after ≡ before
 WritesOnce (Event.Begin n p) before after = after ≡ before

@@ -21,6 +21,7 @@ use Rattle.md_state.specs.Requests.{request_of}
 use Rattle.md_state.specs.CopyingData.{CopiesSector, FailsToCopy, HaltsCopying}
 use Rattle.md_array.specs.Recording.{FailsToRecord, HaltsRecording, Records, super_write}
 use Rattle.md_array.specs.NotingResynced.{BecomesResynced, NotesResynced}
+use Rattle.md_array.specs.Adding.{Adds, add_event}
 use Rattle.md_array.specs.ReAdding.{ReAdds, re_add_event}
 use Rattle.md_array.specs.Events.{Does, IsOldNewOrNone}
 use Rattle.md_array.specs.Worlds.{AreHonest}
@@ -82,8 +83,14 @@ pub record DidReAdd (e : Event) (old new : MirrorView) : Type 0 where
   pub re_adds : ReAdds index device old new
   pub event : e ≡ re_add_event index device old new re_adds
 
--- What the step's own contract says of it, whatever its device is, and what requests are in flight after it. No call does the other
--- event yet: that of a new device that comes in.
+-- this device was added, by this event
+pub record DidAdd (e : Event) (old new : MirrorView) : Type 0 where
+  pub index : ℕ
+  pub device : Disk
+  pub adds : Adds index device old new
+  pub event : e ≡ add_event index device old new adds
+
+-- What the step's own contract says of it, whatever its device is, and what requests are in flight after it.
 abbrev pub Did : MirrorView → Requests → Event → MirrorView → Requests → Type 0
 Did old before (Event.Begin n r) new after =
     (sector : ℕ) × (bytes : List ℕ) × (p : PendingView) × IsUnder n p after × IsPut n (Some r) before after × Begins sector bytes old new p
@@ -96,6 +103,7 @@ Did old before (Event.ClearIdle c) new after = (after ≡ before) × Clears c ol
 Did old before Event.MakeClean new after = (after ≡ before) × MakesClean old new
 Did old before (Event.Fail k) new after = (after ≡ before) × FailsMember k old new
 Did old before (Event.Remove k) new after = (after ≡ before) × ((disk : Disk) × Removes k disk old new)
+Did old before (Event.Add number left) new after = (after ≡ before) × DidAdd (Event.Add number left) old new
 Did old before (Event.ReAdd own device left) new after = (after ≡ before) × DidReAdd (Event.ReAdd own device left) old new
 Did old before (Event.RecordFails k) new after = (after ≡ before) × FailsToRecord k old new
 Did old before (Event.StoreMarksFails k b) new after = (after ≡ before) × FailsToStoreMarks k b old new
@@ -105,7 +113,6 @@ Did old before (Event.Copy from k s) new after = (after ≡ before) × CopiesSec
 Did old before (Event.CopyFails k c) new after = (after ≡ before) × FailsToCopy k c old new
 Did old before Event.Resynced new after = (after ≡ before) × BecomesResynced old new
 Did old before Event.Unresynced new after = (after ≡ before) × NotesResynced false old new
-Did old before e new after = ⊥
 
 -- From this mirror, with these requests in flight, the events were done one after another, the first of them after this one, and
 -- then it holds of where they lead. What each step did is said of any devices. It is an event of the model where they do what they

@@ -26,5 +26,7 @@ pub mod InTurn
 pub mod CopyEvents
 -- Members that are failed by a call, or leave, as events of the model.
 pub mod MemberEvents
+-- A new device comes in as a spare: it is laid out, and stands last.
+pub mod Adding
 -- A device that left is taken back: it is read as a member, and then its superblock is written.
 pub mod ReAdding

@@ -1,5 +1,5 @@
 -- A device that left is taken back: it is read as a member, and then its superblock is written.
-use Rattle.std.specs.Prelude.{◌≡◌, ◌≢◌, ℕ, ◌<◌, true, false, [], ◌∷◌, ◌++◌, length, slice_get, ⊤, Some, Result, MatchResult}
+use Rattle.std.specs.Prelude.{◌≡◌, ◌≢◌, ◌⊎◌, ℕ, ◌<◌, true, false, [], ◌∷◌, ◌++◌, length, slice_get, ⊤, Some, Result, MatchResult}
 use Rattle.md_members.specs.declared.fault.MemberFault.{MemberFault}
 use Rattle.md_members.specs.declared.fault.MemberFault.TheVariants as member_fault
 use Rattle.md_members.specs.declared.info.MemberInfo.{MemberInfo}
@@ -9,8 +9,8 @@ use Rattle.md_model.specs.Devices.{Super}
 use Rattle.md_model.specs.Events.{Event}
 use Rattle.md_kept_members.specs.TakingBack.{IsTakenBack, own_role}
 use Rattle.md_kept_members.specs.View.{MemberView}
-use Rattle.md_state.specs.declared.re_add_fault.ReAddFault.{ReAddFault}
-use Rattle.md_state.specs.declared.re_add_fault.ReAddFault.TheVariants.{Halted, Member, Full, NotReAddable, NoRole, EventsFull, WriteFault, NoMemory}
+use Rattle.md_faults.specs.declared.re_add_fault.ReAddFault.{ReAddFault}
+use Rattle.md_faults.specs.declared.re_add_fault.ReAddFault.TheVariants.{Halted, Member, Full, NotReAddable, NoRole, EventsFull, WriteFault, NoMemory}
 use Rattle.md_state.specs.DeviceChanges.{IsLeftAlone, StaysHonest}
 use Rattle.md_state.specs.DiskWrites.{IsFailed, IsWritten}
 use Rattle.md_state.specs.Joining.{joined_shared}
@@ -42,6 +42,7 @@ pub record ReAdds (k : ℕ) (device : Disk) (old new : MirrorView) : Type 0 wher
   pub read : members.IsMember device.content device.honest info
   pub after_reading : Disk
   pub only_read : IsOnlyRead device after_reading
+  pub unfailing : after_reading.failures ≡ device.failures  -- no read is tried again
   pub recorded : RecordsLast k after_reading info old new
 
 -- the write of its superblock fails, and the mirror is as before
@@ -63,6 +64,7 @@ pub record FailsToReAdd (device given : Disk) (old new : MirrorView) : Type 0 wh
   pub may : MayReAdd old.array info
   pub after_reading : Disk
   pub only_read : IsOnlyRead device after_reading
+  pub unfailing : after_reading.failures ≡ device.failures
   pub fails : FailsToRecordLast after_reading given info old new
 
 -- the answer where a device is not read as a member
@@ -75,6 +77,7 @@ pub record RefusesDevice (device given : Disk) (old new : MirrorView) (fault : M
   pub running : old.array.halted ≡ false
   pub unchanged : new ≡ old
   pub only_read : IsOnlyRead device given
+  pub unfailing : fault ≢ member_fault.ReadFault → given.failures ≡ device.failures
   pub refused : members.RefusesMember device.content device.honest (device.failures < given.failures) fault
   pub memory : fault ≢ member_fault.NoMemory
 
@@ -83,15 +86,22 @@ pub record RefusesInfo (device given : Disk) (old new : MirrorView) (fault : ReA
   pub running : old.array.halted ≡ false
   pub unchanged : new ≡ old
   pub only_read : IsOnlyRead device given
+  pub unfailing : given.failures ≡ device.failures
   pub info : MemberInfo
   pub read : members.IsMember device.content device.honest info
   pub refused : RefusesToTakeBack old.array info fault
 
--- Nothing is written. That memory was short is not said.
+-- it was read as one that may be taken back
+abbrev pub MayComeBack : Disk → MirrorView → Type 0
+MayComeBack device old = (info : MemberInfo) × members.IsMember device.content device.honest info × MayReAdd old.array info
+
+-- Nothing is written: there was no memory to read it, or it may come back. That memory was short is not said.
 pub record LacksMemory (device given : Disk) (old new : MirrorView) : Type 0 where
   pub running : old.array.halted ≡ false
   pub unchanged : new ≡ old
   pub only_read : IsOnlyRead device given
+  pub unfailing : given.failures ≡ device.failures
+  pub reason : members.RefusesMember device.content device.honest (device.failures < given.failures) member_fault.NoMemory ⊎ MayComeBack device old
 
 -- the device is handed back as given
 abbrev pub RefusesReAdd : Disk → Disk → MirrorView → MirrorView → ReAddFault → Type 0

@@ -8,8 +8,8 @@ use Rattle.md_super.specs.Merge.{merged}
 use Rattle.md_writes.specs.Writes.{Write}
 use Rattle.md_kept_members.specs.View.{MemberView}
 use Rattle.md_assembly.specs.States.{is_recorded}
-use Rattle.md_state.specs.declared.step_fault.StoreFault.{StoreFault}
-use Rattle.md_state.specs.declared.step_fault.StoreFault.TheVariants.{Halted, NotActive, MemberFailed}
+use Rattle.md_faults.specs.declared.step_fault.StoreFault.{StoreFault}
+use Rattle.md_faults.specs.declared.step_fault.StoreFault.TheVariants.{Halted, NotActive, MemberFailed}
 use Rattle.md_state.specs.Members.{IsMember}
 use Rattle.md_state.specs.View.{ArrayView, MirrorView}
 use Rattle.md_state.specs.OutOfSync.{IsInactive}

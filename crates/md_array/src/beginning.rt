@@ -8,8 +8,8 @@ ghost use Rattle.md_array.specs.Events.{BeginHappens};
 
 use crate::mirror::Mirror;
 use md_device::Device;
+use md_faults::BeginFault;
 use md_requests::Pending;
-use md_state::BeginFault;
 
 impl<D: Device + Drop> Mirror<D> {
     /// Begins a request to write `bytes` from this sector of the array on: enters it in the list of

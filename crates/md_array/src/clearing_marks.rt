@@ -9,7 +9,7 @@ ghost use Rattle.md_array.specs.Events.{ClearHappens};
 
 use crate::mirror::Mirror;
 use md_device::Device;
-use md_state::ClearFault;
+use md_faults::ClearFault;
 
 impl<D: Device + Drop> Mirror<D> {
     /// Takes a chunk's mark away, in memory alone: `store_marks` stores that later. The fault is the

@@ -9,7 +9,7 @@ ghost use Rattle.md_array.specs.CopyEvents.{CopyHappens};
 use crate::mirror::Mirror;
 use crate::writing_member::put_on;
 use md_device::Device;
-use md_state::CopyFault;
+use md_faults::CopyFault;
 
 impl<D: Device + Drop> Mirror<D> {
     /// Writes to member k what another member in sync holds from this sector of the array on, in one

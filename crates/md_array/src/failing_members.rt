@@ -8,7 +8,7 @@ ghost use Rattle.md_array.specs.MemberEvents.{FailHappens};
 
 use crate::mirror::Mirror;
 use md_device::Device;
-use md_state::FailFault;
+use md_faults::FailFault;
 
 impl<D: Device + Drop> Mirror<D> {
     /// Makes member k faulty, in memory alone: the event count rises, and `record` stores the

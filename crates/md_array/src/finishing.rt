@@ -8,8 +8,8 @@ ghost use Rattle.md_array.specs.Events.{FinishHappens};
 
 use crate::mirror::Mirror;
 use md_device::Device;
+use md_faults::FinishFault;
 use md_requests::Pending;
-use md_state::FinishFault;
 
 impl<D: Device + Drop> Mirror<D> {
     /// Takes a request that every member in sync has out of those in flight, or gives it back with the

@@ -1,6 +1,7 @@
 //! A mirror: the members of an array with their devices, and what is known of them.
 #![tactic(auto)]
 
+mod adding;
 mod beginning;
 mod clearing_marks;
 mod copying_data;
@@ -24,9 +25,9 @@ mod storing_marks;
 mod writing_member;
 
 pub use fault::OpenFault;
-pub use md_requests::Pending;
-pub use md_state::{
-    BeginFault, CleanFault, ClearFault, CopyFault, FailFault, FinishFault, ReAddFault, RemoveFault,
-    StoreFault, WriteMemberFault,
+pub use md_faults::{
+    AddFault, BeginFault, CleanFault, ClearFault, CopyFault, FailFault, FinishFault, ReAddFault,
+    RemoveFault, StoreFault, WriteMemberFault,
 };
+pub use md_requests::Pending;
 pub use mirror::Mirror;

@@ -8,7 +8,7 @@ ghost use Rattle.md_array.specs.Events.{CleanHappens};
 
 use crate::mirror::Mirror;
 use md_device::Device;
-use md_state::CleanFault;
+use md_faults::CleanFault;
 
 impl<D: Device + Drop> Mirror<D> {
     /// Makes an active array clean, in memory alone: the event count rises, and `record` stores each

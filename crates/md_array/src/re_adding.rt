@@ -12,9 +12,9 @@ ghost use Rattle.md_array.specs.ReAdding.{ReAddHappens, ReAdds, RecordsLast, Ref
 use crate::mirror::Mirror;
 use crate::recording::store_superblock;
 use md_device::Device;
+use md_faults::ReAddFault;
 use md_kept_members::taken_back;
 use md_members::{MemberFault, MemberInfo, read_member};
-use md_state::ReAddFault;
 use std::alloc::Global;
 
 impl<D: Device + Drop> Mirror<D> {

@@ -12,8 +12,8 @@ ghost use Rattle.md_array.specs.Recording.{IsReadable, Records, RefusesRecord, w
 
 use crate::mirror::Mirror;
 use md_device::{Device, WriteFault};
+use md_faults::StoreFault;
 use md_kept_members::Member;
-use md_state::StoreFault;
 use md_super::{SUPER_SECTOR, Superblock, encode_member};
 use md_writes::put;
 

@@ -9,7 +9,7 @@ ghost use Rattle.md_array.specs.MemberEvents.{RemoveHappens};
 
 use crate::mirror::Mirror;
 use md_device::Device;
-use md_state::RemoveFault;
+use md_faults::RemoveFault;
 
 impl<D: Device + Drop> Mirror<D> {
     /// Takes member k out of the array and hands its device back, unwritten. Later members move down by

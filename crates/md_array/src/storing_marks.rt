@@ -14,8 +14,9 @@ ghost use Rattle.md_array.specs.Events.{StoreMarksHappens};
 use crate::mirror::Mirror;
 use crate::storing::bitmap_start;
 use md_device::{Device, WriteFault};
+use md_faults::StoreFault;
 use md_kept_members::Member;
-use md_state::{Array, StoreFault};
+use md_state::Array;
 use md_writes::store_bitmap_sector;
 
 impl<D: Device + Drop> Mirror<D> {

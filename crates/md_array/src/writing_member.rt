@@ -10,8 +10,8 @@ ghost use Rattle.md_array.specs.Events.{WriteMemberHappens};
 
 use crate::mirror::Mirror;
 use md_device::{Device, WriteFault};
+use md_faults::WriteMemberFault;
 use md_requests::Pending;
-use md_state::WriteMemberFault;
 use md_writes::put;
 
 impl<D: Device + Drop> Mirror<D> {

@@ -9,7 +9,7 @@ use Rattle.md_members.specs.declared.info.MemberInfo.{MemberInfo}
 use Rattle.md_assembly.specs.declared.state.MemberState.{MemberState}
 use Rattle.md_assembly.specs.Assembled.{ByFreshest, IsFreshest, superblocks}
 use Rattle.md_assembly.specs.States.{states_by}
-use Rattle.md_assembly.proofs.Places.{listed_at}
+use Rattle.md_assembly.proofs.Indices.{got_same, got_within}
 
 -- the member at an index is the freshest of the first n
 pub record IsFreshestOf (members : List MemberInfo) (n best : ℕ) : Type 0 where
@@ -20,7 +20,7 @@ pub record IsFreshestOf (members : List MemberInfo) (n best : ℕ) : Type 0 wher
   pub first : (j : ℕ) (m : MemberInfo) → j < n → slice_get members j ≡ Some m → m.superblock.events ≡ member.superblock.events → best ≤ j
 
 pub none_seen : (members : List MemberInfo) → 0 < length members → IsFreshestOf members 0 0
-none_seen members some = let there = listed_at members 0 some in record {
+none_seen members some = let there = got_within members 0 some in record {
   member = there.0;
   listed = there.1;
   early = omega arith;
@@ -28,13 +28,10 @@ none_seen members some = let there = listed_at members 0 some in record {
   first = λ j m lt e same. omega arith;
 }
 
-same_listed : {A : Type 0} (xs : List A) (i : ℕ) (a b : A) → slice_get xs i ≡ Some a → slice_get xs i ≡ Some b → a ≡ b
-same_listed xs i a b p q = cc
-
 -- one more member, which has more events than the best so far
 pub better : (members : List MemberInfo) (n best : ℕ) (old new : MemberInfo) → IsFreshestOf members n best → slice_get members best ≡ Some old → slice_get members n ≡ Some new → old.superblock.events < new.superblock.events → IsFreshestOf members (n + 1) n
 better members n best old new f at_best at_n more =
-    let is_old : f.member ≡ old = same_listed members best f.member old f.listed at_best in
+    let is_old : f.member ≡ old = got_same members best f.member old f.listed at_best in
     let was : f.member.superblock.events ≡ old.superblock.events = ap (λ (m : MemberInfo). m.superblock.events) is_old in
     record {
       member = new;
@@ -43,7 +40,7 @@ better members n best old new f at_best at_n more =
       greatest = λ j m lt e. elim (cases_lt j n) [
         | inl less ↦ let below = f.greatest j m less e in omega arith
         | inr here ↦ let at : j ≡ n = omega arith in
-            let is_new : m ≡ new = same_listed members n m new (subst (λ (k : ℕ). slice_get members k ≡ Some m) at e) at_n in
+            let is_new : m ≡ new = got_same members n m new (subst (λ (k : ℕ). slice_get members k ≡ Some m) at e) at_n in
             let same : m.superblock.events ≡ new.superblock.events = ap (λ (x : MemberInfo). x.superblock.events) is_new in omega arith
       ];
       first = λ j m lt e same. elim (cases_lt j n) [
@@ -55,7 +52,7 @@ better members n best old new f at_best at_n more =
 -- one more member, which has not
 pub no_better : (members : List MemberInfo) (n best : ℕ) (old new : MemberInfo) → IsFreshestOf members n best → slice_get members best ≡ Some old → slice_get members n ≡ Some new → new.superblock.events ≤ old.superblock.events → IsFreshestOf members (n + 1) best
 no_better members n best old new f at_best at_n no_more =
-    let is_old : f.member ≡ old = same_listed members best f.member old f.listed at_best in
+    let is_old : f.member ≡ old = got_same members best f.member old f.listed at_best in
     let was : f.member.superblock.events ≡ old.superblock.events = ap (λ (m : MemberInfo). m.superblock.events) is_old in
     let early = f.early in
     record {
@@ -65,7 +62,7 @@ no_better members n best old new f at_best at_n no_more =
       greatest = λ j m lt e. elim (cases_lt j n) [
         | inl less ↦ f.greatest j m less e
         | inr here ↦ let at : j ≡ n = omega arith in
-            let is_new : m ≡ new = same_listed members n m new (subst (λ (k : ℕ). slice_get members k ≡ Some m) at e) at_n in
+            let is_new : m ≡ new = got_same members n m new (subst (λ (k : ℕ). slice_get members k ≡ Some m) at e) at_n in
             let same : m.superblock.events ≡ new.superblock.events = ap (λ (x : MemberInfo). x.superblock.events) is_new in omega arith
       ];
       first = λ j m lt e same. elim (cases_lt j n) [
@@ -114,7 +111,7 @@ one_freshest all i j v w f g =
     let not_after = f.first j w g.listed same in
     let not_before = g.first i v f.listed (sym same) in
     let at : j ≡ i = omega arith in
-    same_listed all i v w f.listed (subst (λ (k : ℕ). slice_get all k ≡ Some w) at g.listed)
+    got_same all i v w f.listed (subst (λ (k : ℕ). slice_get all k ≡ Some w) at g.listed)
 
 -- what holds by some freshest superblock holds by this one
 pub by_this : (Fact : List MemberState → Type 0) (all : List Superblock) (i : ℕ) (v : Superblock) → IsFreshest all i v → ByFreshest Fact all → Fact (states_by v all)
@@ -128,5 +125,5 @@ by_freshest Fact all i v f h = record { index = i; superblock = v; freshest = f;
 -- the freshest superblock is that of the member at its index
 pub freshest_at : (members : List MemberInfo) (i : ℕ) (m : MemberInfo) (v : Superblock) → slice_get members i ≡ Some m → IsFreshest (superblocks members) i v → IsFreshest (superblocks members) i m.superblock
 freshest_at members i m v listed f =
-    let same : v ≡ m.superblock = same_listed (superblocks members) i v m.superblock f.listed (block_of members i m listed) in
+    let same : v ≡ m.superblock = got_same (superblocks members) i v m.superblock f.listed (block_of members i m listed) in
     subst (λ (w : Superblock). IsFreshest (superblocks members) i w) same f

@@ -1,3 +1,4 @@
+pub mod Indices
 pub mod Freshness
 pub mod Order
 pub mod Places

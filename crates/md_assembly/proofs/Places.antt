@@ -40,12 +40,6 @@ same_member members i a b p q = cc
 pub read_at : (members : List MemberInfo) (i : ℕ) (m : MemberInfo) → i < length members → m ≡ get_or members i m → slice_get members i ≡ Some m
 read_at members i m within e = slice_get_read members (length members) i m refl within e
 
--- there is a member at each index below the length
-pub listed_at : (members : List MemberInfo) (i : ℕ) → i < length members → (m : MemberInfo) × (slice_get members i ≡ Some m)
-listed_at [] i lt = absurd (omega arith)
-listed_at (m ∷ rest) zero lt = (m, refl)
-listed_at (m ∷ rest) (suc i) lt = listed_at rest i (omega arith)
-
 pub at_within : (Fact : MemberInfo → Type 0) (members : List MemberInfo) (i : ℕ) → MemberAt Fact members i → i < length members
 at_within Fact members i p = slice_get_within members i p.member p.listed
 

@@ -1,6 +1,6 @@
 -- Which fault stands in bytes, and what they are where none does.
 use Rattle.std.proofs.Common.{◌≡◌, ℕ, ◌<◌, ◌≤◌, Bool, true, false, ◌&&◌, eqb, leb, List, Option, Some, None, refl, arith}
-use Rattle.std.proofs.lemmas.Bool.{eqb-true, eqb-false, leb-true, leb-false, le-leb}
+use Rattle.std.proofs.lemmas.Bool.{eqb-true, eqb-false, leb-true, leb-false, le-leb, and_parts, and_from}
 use Rattle.std.specs.Int.{is_power_of_two}
 use Rattle.md_format.specs.Fields.{number_at}
 use Rattle.md_format.specs.FirstFault.{IsFirst, check}
@@ -10,21 +10,14 @@ use Rattle.md_bitmap.specs.declared.fault.BitmapFault.{BitmapFault}
 use Rattle.md_bitmap.specs.declared.fault.BitmapFault.TheVariants.{Magic, Version, ChunkSize, TooManyChunks}
 use Rattle.md_bitmap.specs.Faults.{Stands, place, NoneStands, fault_of}
 
-both : (a b : Bool) → (a && b) ≡ true → (a ≡ true) × (b ≡ true)
-both true b e = (refl, e)
-both false b e = absurd cc
-
-pub both_hold : (a b : Bool) → a ≡ true → b ≡ true → (a && b) ≡ true
-both_hold a b x y = rw (x, y) refl
-
 pub chunk_size_passes : (n : ℕ) → (is_power_of_two n && leb 512 n) ≡ true → IsChunkSize n
 chunk_size_passes n e =
-    let p = both (is_power_of_two n) (leb 512 n) e in
+    let p = and_parts (is_power_of_two n) (leb 512 n) e in
     record { power = p.0; least = leb-true 512 n p.1 }
 
 chunk_size_fails : (n : ℕ) → (is_power_of_two n && leb 512 n) ≡ false → IsChunkSize n → ⊥
 chunk_size_fails n e size =
-    let t = both_hold (is_power_of_two n) (leb 512 n) size.power (le-leb 512 n size.least) in
+    let t = and_from (is_power_of_two n) (leb 512 n) size.power (le-leb 512 n size.least) in
     cc
 
 only_magic : (bytes : List ℕ) (f : BitmapFault) → place f ≡ 1 → Stands bytes f → Stands bytes Magic

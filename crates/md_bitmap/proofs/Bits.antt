@@ -1,5 +1,5 @@
 -- The bits of a list of bytes, one by one and in words of 64.
-use Rattle.std.proofs.Common.{◌≡◌, ℕ, zero, suc, ◌+◌, ◌-◌, ◌*◌, ◌/◌, ◌%◌, ◌^◌, ◌<◌, ◌≤◌, Bool, true, false, cond, eqb, ltb, not, ◌&&◌, ◌||◌, bit_and, bit_or, set, List, [], ◌∷◌, ◌++◌, length, drop, replicate, slice_index, count_by, refl, sym, ap, ◌∙◌, inl, inr, arith}
+use Rattle.std.proofs.Common.{◌≡◌, ℕ, zero, suc, ◌+◌, ◌-◌, ◌*◌, ◌/◌, ◌%◌, ◌^◌, ◌<◌, ◌≤◌, Bool, true, false, cond, eqb, ltb, not, ◌&&◌, ◌||◌, bit_and, bit_or, set, List, ◌++◌, length, drop, replicate, slice_index, count_by, refl, sym, ap, ◌∙◌, inl, inr, arith}
 use Rattle.std.proofs.Math.Nat.{mod-lt}
 use Rattle.std.proofs.lemmas.Nat.{mod-pow-add, ones-le, one_shl, ones_cat, pow_pos, shr-shr, shr_le}
 use Rattle.std.proofs.lemmas.Nat.Bits.{bit_at-lt, bit_at_cat_low, bit_at-trailing_zeros, bit_at-zero, bit_at_above, bit_at_ones, bit_at_ones_above, bit_at_cat_high, bit_at_clear_other, bit_at_clear_same, bit_at_set_other, bit_at_set_same}
@@ -12,6 +12,7 @@ use Rattle.std.specs.List.{range_with_len}
 use Rattle.byteorder.specs.Endian.{little_from}
 use Rattle.md_format.specs.Fields.{number_at}
 use Rattle.md_bitmap.proofs.Padded.{slice_index-padded, zero_at}
+use Rattle.md_bitmap.proofs.Numbers.{range_push}
 use Rattle.md_bitmap.specs.Marks.{IsNextSet, NoneSet, is_set, count_set, padded}
 
 -- ---- words
@@ -42,11 +43,6 @@ is_set-word xs fits k j h =
     rw (place, bit) (sym (ap (λ (b : ℕ). eqb b 1) (bit_at-little_from 8 (8 * k) j xs fits h)))
 
 -- ---- counting
-range_push : (a n : ℕ) → range_with_len a (suc n) ≡ range_with_len a n ++ (a + n) ∷ []
-range_push a zero = let e : a + 0 ≡ a = omega arith in rw e refl
-range_push a (suc n) =
-    let e : a + 1 + n ≡ a + suc n = omega arith in
-    ap (λ (xs : List ℕ). a ∷ xs) (rw e at (range_push (a + 1) n))
 
 pub count_set-suc : (xs : List ℕ) (n : ℕ) → count_set xs (suc n) ≡ count_set xs n + cond (is_set xs n) 1 0
 unfolding count_set

@@ -144,14 +144,12 @@ rest_bits others end k run is i here =
     ∙ ap (λ (t : Bool). nat_lt i end && t) (sym (is_set-bit others k i here))
 
 -- ---- testing a run
-one_of_bit : (x : ℕ) → eqb x 1 ≡ true → x ≡ 1
-one_of_bit x e = eqb-true x 1 e
 
 -- a byte that has its part of the run
 pub has_part : (xs : List ℕ) (from end k run : ℕ) → ((j : ℕ) → j < 8 → bit_at run j ≡ cond (in_run from end (8 * k + j)) 1 0) → bit_and (slice_index xs k) run ≡ run → (i : ℕ) → i / 8 ≡ k → from ≤ i → i < end → is_set xs i ≡ true
 has_part xs from end k run is whole i here low high =
     let b = slice_index xs k in
-    let there : bit_at run (i % 8) ≡ 1 = one_of_bit (bit_at run (i % 8)) (run_bits from end k run is i here ∙ run_inside from end i low high) in
+    let there : bit_at run (i % 8) ≡ 1 = eqb-true (bit_at run (i % 8)) 1 (run_bits from end k run is i here ∙ run_inside from end i low high) in
     let both : min (bit_at b (i % 8)) (bit_at run (i % 8)) ≡ bit_at run (i % 8) = sym (bit_at_and b run (i % 8)) ∙ ap (λ (x : ℕ). bit_at x (i % 8)) whole in
     let one : bit_at b (i % 8) ≡ 1 = omega (arith, there, both, bit_at-lt b (i % 8)) in
     is_set-bit xs k i here ∙ eq-eqb (bit_at b (i % 8)) 1 one
@@ -175,7 +173,7 @@ part_of_all xs from end k run small fits is all =
                 let place : (8 * k + j) / 8 ≡ k = omega arith in
                 let at : (8 * k + j) % 8 ≡ j = omega arith in
                 let set_there : eqb (bit_at b ((8 * k + j) % 8)) 1 ≡ true = sym (is_set-bit xs k (8 * k + j) place) ∙ all (8 * k + j) behind inside in
-                let one : bit_at b j ≡ 1 = one_of_bit (bit_at b j) (ap (λ (n : ℕ). eqb (bit_at b n) 1) (sym at) ∙ set_there) in
+                let one : bit_at b j ≡ 1 = eqb-true (bit_at b j) 1 (ap (λ (n : ℕ). eqb (bit_at b n) 1) (sym at) ∙ set_there) in
                 omega (arith, one, bit_at-lt run j)
             | inr past ↦
                 let none : bit_at run j ≡ 0 = is j h ∙ no_bit (in_run from end (8 * k + j)) 1 0 (run_behind from end (8 * k + j) past) in

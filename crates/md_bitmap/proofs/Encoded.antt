@@ -13,9 +13,6 @@ use Rattle.md_bitmap.specs.declared.header.BitmapHeader.{BitmapHeader}
 pub regroup_3 : (p a b c : List ℕ) → ((p ++ a) ++ b) ++ c ≡ p ++ ((a ++ b) ++ c)
 regroup_3 p a b c = simp append_assoc
 
-pub regroup_6 : (p a b c d e f : List ℕ) → p ++ a ++ b ++ c ++ d ++ e ++ f ≡ p ++ (a ++ b ++ c ++ d ++ e ++ f)
-regroup_6 p a b c d e f = simp append_assoc
-
 pub length-format_bytes : length format_bytes ≡ 8
 unfolding format_bytes
 length-format_bytes = refl

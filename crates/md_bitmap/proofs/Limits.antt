@@ -1,18 +1,13 @@
 -- How many chunks cover so many sectors.
-use Rattle.std.proofs.Common.{◌≡◌, ℕ, ◌%◌, ◌+◌, ◌*◌, ◌/◌, ◌<◌, ◌≤◌, Bool, true, false, leb, refl, sym, ap, ◌∙◌, ◌^◌, arith}
+use Rattle.std.proofs.Common.{◌≡◌, ℕ, ◌%◌, ◌+◌, ◌*◌, ◌/◌, ◌<◌, ◌≤◌, leb, sym, ap, ◌∙◌, ◌^◌, arith}
 use Rattle.std.proofs.Math.Nat.{add-mul, mul_assoc, div-lt_iff_lt-mul, lt_of_mul-lt-mul_right, mul-le-mul_right}
 use Rattle.std.proofs.lemmas.Bool.{eqb-true, leb-true, le-leb}
 use Rattle.std.proofs.lemmas.Grind.{div_ceil_times}
 use Rattle.std.specs.Int.{div_ceil}
 use Rattle.std.specs.Int.Count.{ones, ones_cat}
+use Rattle.std.specs.Cmp.{both_ways}
 use Rattle.std.proofs.lemmas.Nat.{zero_from_ones}
 use Rattle.md_bitmap.specs.Sound.{IsChunkSize, chunk_count}
-
--- two tests that pass together are one
-same_tests : (a b : Bool) → (a ≡ true → b ≡ true) → (b ≡ true → a ≡ true) → a ≡ b
-same_tests true b f g = sym (f refl)
-same_tests false true f g = g refl
-same_tests false false f g = refl
 
 few_from_size : (s c : ℕ) → 0 < c → s ≤ 1048576 * c / 512 → chunk_count s c ≤ 1048576
 few_from_size s c positive h =
@@ -31,7 +26,7 @@ size_from_few s c positive h =
 -- sectors that the most chunks cover
 pub leb-few_chunks : (s c : ℕ) → 0 < c → leb s (1048576 * c / 512) ≡ leb (chunk_count s c) 1048576
 leb-few_chunks s c positive =
-    same_tests (leb s (1048576 * c / 512)) (leb (chunk_count s c) 1048576)
+    both_ways (leb s (1048576 * c / 512)) (leb (chunk_count s c) 1048576)
     (λ e. le-leb (chunk_count s c) 1048576 (few_from_size s c positive (leb-true s (1048576 * c / 512) e)))
     (λ e. le-leb s (1048576 * c / 512) (size_from_few s c positive (leb-true (chunk_count s c) 1048576 e)))
 
@@ -53,7 +48,7 @@ chunk-mod-sector c size =
     zero_from_ones (c % 512) (omega arith)
 
 -- two quotients rounded up, by their bounds
-not_above : (s w p q : ℕ) → p * w < s + w → s ≤ q * w → p ≤ q
+pub not_above : (s w p q : ℕ) → p * w < s + w → s ≤ q * w → p ≤ q
 not_above s w p q below enough =
     let expand : (q + 1) * w ≡ q * w + 1 * w = add-mul q 1 w in
     let less : p * w < (q + 1) * w = omega arith in

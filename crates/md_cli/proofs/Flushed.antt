@@ -5,8 +5,8 @@ use Rattle.std.proofs.lemmas.List.{append-nil}
 use Rattle.md_examine.specs.declared.sink.Sink.{Ghosts}
 use Rattle.md_examine.specs.Sink.{Flushes, Puts}
 use Rattle.md_state.specs.View.{ArrayView}
-use Rattle.md_cli.specs.declared.fault.CommandFault.{CommandFault}
-use Rattle.md_cli.specs.declared.fault.CommandFault.TheVariants.{OutputFault}
+use Rattle.md_advice.specs.declared.fault.CommandFault.{CommandFault}
+use Rattle.md_advice.specs.declared.fault.CommandFault.TheVariants.{OutputFault}
 use Rattle.md_words.specs.declared.report.Report.{Report}
 use Rattle.md_cli.specs.Examining.{Examines, RefusesOrFails, ShownBy}
 use Rattle.md_cli.specs.RebuildPlans.{IsPlanText}

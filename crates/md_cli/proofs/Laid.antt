@@ -1,6 +1,6 @@
 -- Members that are laid out on their devices one by one.
 use Rattle.md_device.specs.declared.device.Device.{Ghosts}
-use Rattle.std.proofs.Common.{◌≡◌, ◌≢◌, ◌⊎◌, ◌∙◌, ◌+◌, ◌<◌, ◌≤◌, ℕ, zero, suc, Bool, List, [], ◌∷◌, length, map, set, Some, refl, sym, ap, subst, inl, inr, arith, length-set, option_map, Result, Ok, Err, MatchResult, is_err, true, false, true≢false}
+use Rattle.std.proofs.Common.{◌≡◌, ◌∙◌, ◌+◌, ◌<◌, ◌≤◌, ℕ, Bool, List, length, map, set, Some, refl, sym, ap, subst, inl, inr, arith, length-set, option_map, Result, Ok, Err, MatchResult, is_err, true, false, true≢false}
 use Rattle.std.specs.Prelude.{slice_get, slice_index_or}
 use Rattle.std.proofs.lemmas.Option.{same_Some, slice_get-get_or, slice_get-map, slice_get_within}
 use Rattle.std.proofs.lemmas.List.{map-set}
@@ -9,21 +9,8 @@ use Rattle.md_create.specs.Layout.{writes_of}
 use Rattle.md_create.specs.Writes.{DoesWrites, StopsInWrites}
 use Rattle.md_state.specs.View.{Disk, disk_of}
 use Rattle.md_cli.specs.Creating.{AreLaidOut, At, FailsToLayOut, LaysOut}
-
-get_set_same : {X : Type 0} (xs : List X) (i : ℕ) (x : X) → i < length xs → slice_get (set xs i x) i ≡ Some x
-get_set_same [] i x lt = absurd (omega (arith, lt))
-get_set_same (y ∷ xs) zero x lt = refl
-get_set_same (y ∷ xs) (suc i) x lt = get_set_same xs i x (omega (arith, lt))
-
-get_set_other : {X : Type 0} (xs : List X) (i k : ℕ) (x : X) → k ≢ i → slice_get (set xs i x) k ≡ slice_get xs k
-get_set_other [] i k x other = refl
-get_set_other (y ∷ xs) zero zero x other = absurd (other refl)
-get_set_other (y ∷ xs) zero (suc k) x other = refl
-get_set_other (y ∷ xs) (suc i) zero x other = refl
-get_set_other (y ∷ xs) (suc i) (suc k) x other = get_set_other xs i k x (λ e. other (ap (λ (n : ℕ). suc n) e))
-
-before_or_at : (k n : ℕ) → k < n + 1 → (k < n) ⊎ (k ≡ n)
-before_or_at k n lt = grind arith
+use Rattle.md_array.proofs.General.Indices.{got_other, at_set_same}
+use Rattle.md_kept_members.proofs.Members.Indices.{cases_more}
 
 -- the first n members are laid out, and the other devices are as before
 pub record IsLaidTo (before now : List Disk) (members : List NewMember) (n : ℕ) : Type 0 where
@@ -50,26 +37,26 @@ module _ (before now : List Disk) (members : List NewMember) (n : ℕ) (d e : Di
   was = sym (so.rest n (omega arith)) ∙ there
 
   is_now : slice_get (set now n e) n ≡ Some e
-  is_now = get_set_same now n e inside
+  is_now = at_set_same now n e inside
 
   earlier : (k : ℕ) → k < n → At LaysOut before (set now n e) members k
-  earlier k lt a b x ea eb ex = so.each k lt a b x ea (sym (get_set_other now n k e (λ same. omega (arith, same, lt))) ∙ eb) ex
+  earlier k lt a b x ea eb ex = so.each k lt a b x ea (sym (got_other now n k e (λ same. omega (arith, same, lt))) ∙ eb) ex
 
   pub one_laid : LaysOut d e m → IsLaidTo before (set now n e) members (n + 1)
   one_laid related = record {
     as_many = length-set now n e ∙ so.as_many;
-    each = λ k lt. elim (before_or_at k n lt) [
+    each = λ k lt. elim (cases_more k n lt) [
       | inl less ↦ earlier k less
       | inr is ↦ at_place LaysOut before (set now n e) members n k d e m is was is_now member related
     ];
-    rest = λ k le. get_set_other now n k e (λ same. omega (arith, same, le)) ∙ so.rest k (omega (arith, le));
+    rest = λ k le. got_other now n k e (λ same. omega (arith, same, le)) ∙ so.rest k (omega (arith, le));
   }
 
   pub laid_up_to : AreLaidOut before (set now n e) members n
   laid_up_to = record {
     as_many = length-set now n e ∙ so.as_many;
     each = earlier;
-    later = λ k lt. get_set_other now n k e (λ same. omega (arith, same, lt)) ∙ so.rest k (omega (arith, lt));
+    later = λ k lt. got_other now n k e (λ same. omega (arith, same, lt)) ∙ so.rest k (omega (arith, lt));
   }
 
   pub stopped_here : FailsToLayOut d e m → At FailsToLayOut before (set now n e) members n

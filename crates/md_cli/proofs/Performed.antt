@@ -1,6 +1,6 @@
 -- No task wins or loses a device.
-use Rattle.std.proofs.Common.{◌≡◌, ℕ, length, Result, Ok, Err, ap}
-use Rattle.md_commands.proofs.DeviceCounts.{AsMany, done_fail, done_read, done_resync, done_stop, done_write, fails_as_many, reads_as_many, resyncs_as_many, stops_as_many, writes_as_many}
+use Rattle.std.proofs.Common.{length, Result, Ok, Err, ap}
+use Rattle.md_commands.proofs.DeviceCounts.{AsMany, done_fail, done_resync, done_write, fails_as_many, reads_as_many, resyncs_as_many, stops_as_many, writes_as_many, stopped, read_readied}
 use Rattle.md_commands.specs.declared.fault.DataFault.{DataFault}
 use Rattle.md_commands.specs.declared.source.Source.{Ghosts as SourceGhosts}
 use Rattle.md_commands.specs.Failing.{RefusesToFail}
@@ -12,8 +12,8 @@ use Rattle.md_examine.specs.declared.sink.Sink.{Ghosts as SinkGhosts}
 use Rattle.md_state.specs.View.{MirrorView}
 use Rattle.md_words.specs.declared.array_task.ArrayTask.{ArrayTask}
 use Rattle.md_words.specs.declared.array_task.ArrayTask.TheVariants as task
-use Rattle.md_cli.specs.declared.fault.CommandFault.{CommandFault}
-use Rattle.md_cli.specs.declared.fault.CommandFault.TheVariants as fault
+use Rattle.md_advice.specs.declared.fault.CommandFault.{CommandFault}
+use Rattle.md_advice.specs.declared.fault.CommandFault.TheVariants as fault
 use Rattle.md_cli.specs.Performing.{OfData, Performs, Streams}
 
 of_data : {X : Type 0} (P : DataFault → Type 0) (f : CommandFault) → OfData P f → ((d : DataFault) → P d → X) → X
@@ -35,7 +35,7 @@ module _ {R S : Type 0} (r : SourceGhosts R) (s : SinkGhosts S) (opened left : M
   as_many task.Summary result h = ap (λ (v : MirrorView). length v.disks) h.0
   as_many task.Detail result h = ap (λ (v : MirrorView). length v.disks) h.0
   as_many (task.Plan k) result h = ap (λ (v : MirrorView). length v.disks) h.0
-  as_many (task.Read sector count) (Ok v) h = done_read sector count h.1.bytes opened left h.1.reads
+  as_many (task.Read sector count) (Ok v) h = read_readied sector count h.1.bytes opened left h.1.reads
   as_many (task.Read sector count) (Err f) h =
       of_data (RefusesToRead s sector count opened left old.output new.output) f h.1 (reads_as_many s opened left old.output new.output sector count)
   as_many (task.Write sector) (Ok v) h = done_write sector h.bytes opened left h.done
@@ -45,5 +45,5 @@ module _ {R S : Type 0} (r : SourceGhosts R) (s : SinkGhosts S) (opened left : M
   as_many task.Resync (Err f) h = of_data (RefusesToResync s opened left old.output new.output) f h.1 (resyncs_as_many s opened left old.output new.output)
   as_many (task.Fail k) (Ok v) h = done_fail s k opened left old.output new.output h.1
   as_many (task.Fail k) (Err f) h = of_data (RefusesToFail s k opened left old.output new.output) f h.1 (fails_as_many s k opened left old.output new.output)
-  as_many task.Stop (Ok v) h = done_stop opened left h.1.stops
+  as_many task.Stop (Ok v) h = stopped opened left h.1.stops
   as_many task.Stop (Err f) h = of_data (RefusesToStop s opened left old.output new.output) f h.1 (stops_as_many s opened left old.output new.output)

@@ -6,7 +6,7 @@ use Rattle.md_state.specs.View.{Disk}
 use Rattle.md_array.specs.Refusals.{RefusesOpen}
 use Rattle.md_array.specs.declared.fault.OpenFault.{OpenFault}
 use Rattle.md_array.specs.declared.fault.OpenFault.TheVariants as opening
-use Rattle.md_cli.specs.declared.fault.CommandFault.{CommandFault}
+use Rattle.md_advice.specs.declared.fault.CommandFault.{CommandFault}
 use Rattle.md_cli.specs.Arrays.{UsesImages, Work, disks}
 use Rattle.md_images.specs.Taking.{AreOut, ArePut, TakesImages, Word, names_of}
 

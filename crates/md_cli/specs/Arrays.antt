@@ -10,12 +10,12 @@ use Rattle.md_commands.specs.declared.source.Source.{Ghosts as SourceGhosts}
 use Rattle.md_examine.specs.declared.sink.Sink.{Ghosts as SinkGhosts}
 use Rattle.md_report.specs.SummaryReport.{summary_text}
 use Rattle.md_words.specs.declared.array_task.ArrayTask.{ArrayTask}
-use Rattle.md_cli.specs.declared.fault.CommandFault.{CommandFault}
-use Rattle.md_cli.specs.declared.fault.CommandFault.TheVariants.{BadImage, NoMemory, Open}
+use Rattle.md_advice.specs.Faults.{of_images}
+use Rattle.md_advice.specs.declared.fault.CommandFault.{CommandFault}
+use Rattle.md_advice.specs.declared.fault.CommandFault.TheVariants.{NoMemory, Open}
 use Rattle.md_cli.specs.Performing.{Performs, Streams}
 use Rattle.md_cli.specs.Reports.{ShowsText}
 use Rattle.md_images.specs.declared.fault.ImagesFault.{ImagesFault}
-use Rattle.md_images.specs.declared.fault.ImagesFault.TheVariants as images
 use Rattle.md_images.specs.Taking.{ArePut, AreUnder, IsDistinct, IsThere, RefusesImages, Word, names_of}
 
 -- a device that is only looked at, and over which what is written is kept in memory: no call on it has failed yet, and no
@@ -29,6 +29,12 @@ module _ {X : Type 0} where
     pub fault : OpenFault
     pub is : result ≡ Err (Open fault)
     pub refused : RefusesOpen before after fault
+    pub unused : new ≡ old
+
+  -- there is no memory for the list in which they come back
+  pub record RefusesList (before after : List Disk) (old new : X) (result : Result (Unit {0}) CommandFault) : Type 0 where
+    pub is : result ≡ Err NoMemory
+    pub devices : after ≡ before
     pub unused : new ≡ old
 
 module _ {S : Type 0} (s : SinkGhosts S) where
@@ -75,11 +81,6 @@ Work S = List Disk → List Disk → S → S → Result (Unit {0}) CommandFault 
 -- what is done with devices that are only looked at
 abbrev pub Look : Type 0 → Type 1
 Look S = List Disk → S → S → Result (Unit {0}) CommandFault → Type 0
-
--- what a command answers where devices are not taken out of their images
-abbrev pub of_images : ImagesFault → CommandFault
-of_images (images.BadImage index why) = BadImage index why
-of_images images.NoMemory = NoMemory
 
 module _ {D : Type 0} (g : Ghosts D) where
   abbrev pub disks : List D → List Disk

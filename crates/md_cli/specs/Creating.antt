@@ -1,5 +1,5 @@
 -- What `create` does with the devices of the images.
-use Rattle.std.specs.Prelude.{◌≡◌, ◌⊎◌, ℕ, ◌/◌, ◌<◌, Bool, true, List, [], ◌∷◌, drop, length, Option, Some, None, Result, Err, slice_get, slice_index_or, if◌then◌else◌}
+use Rattle.std.specs.Prelude.{◌≡◌, ◌⊎◌, ℕ, ◌/◌, ◌<◌, true, List, [], ◌∷◌, drop, length, Option, Some, None, Result, Err, slice_get, slice_index_or, if◌then◌else◌}
 use Rattle.clap.specs.Words.{Text}
 use Rattle.md_create.specs.Geometry.{IsGeometry}
 use Rattle.md_create.specs.Values.{AreMembers}
@@ -10,8 +10,8 @@ use Rattle.md_create.specs.declared.params.NewMember.{NewMember}
 use Rattle.md_create.specs.declared.fault.CreateFault.TheVariants.{BadGeometry, NoMemory}
 use Rattle.md_state.specs.View.{Disk, of_disks}
 use Rattle.md_examine.specs.declared.sink.Sink.{Ghosts}
-use Rattle.md_cli.specs.declared.fault.CommandFault.{CommandFault}
-use Rattle.md_cli.specs.declared.fault.CommandFault.TheVariants as fault
+use Rattle.md_advice.specs.declared.fault.CommandFault.{CommandFault}
+use Rattle.md_advice.specs.declared.fault.CommandFault.TheVariants as fault
 use Rattle.md_cli.specs.Arrays.{ShowsDevices}
 use Rattle.md_images.specs.Taking.{image_list, is_missing}
 

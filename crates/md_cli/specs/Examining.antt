@@ -14,9 +14,9 @@ use Rattle.md_examine.specs.BadblocksReport.{badblocks_report}
 use Rattle.md_words.specs.declared.report.Report.{Report}
 use Rattle.md_words.specs.declared.report.Report.TheVariants.{Superblock, Bitmap, BadBlocks}
 use Rattle.md_device.specs.declared.image_fault.ImageFault.{ImageFault}
-use Rattle.md_cli.specs.declared.fault.CommandFault.{CommandFault}
+use Rattle.md_advice.specs.declared.fault.CommandFault.{CommandFault}
 use Rattle.md_images.specs.declared.image_refusal.ImageRefusal.TheVariants.{Unopened}
-use Rattle.md_cli.specs.declared.fault.CommandFault.TheVariants.{BadImage, Member, NoBitmap, OutputFault}
+use Rattle.md_advice.specs.declared.fault.CommandFault.TheVariants.{BadImage, Member, NoBitmap, OutputFault}
 
 -- the text that a device of this content is shown by
 abbrev pub ShownBy : Report → List ℕ → Bool → List ℕ → Type 0

@@ -1,3 +1,4 @@
+pub mod Adding
 pub mod Arrays
 pub mod Creating
 pub mod Examining

@@ -16,8 +16,8 @@ use Rattle.md_state.specs.FailingMembers.{FailsMember}
 use Rattle.md_state.specs.View.{MirrorView}
 use Rattle.md_words.specs.declared.array_task.ArrayTask.{ArrayTask}
 use Rattle.md_words.specs.declared.array_task.ArrayTask.TheVariants.{Summary, Detail, Plan, Read, Write, Resync, Fail, Stop}
-use Rattle.md_cli.specs.declared.fault.CommandFault.{CommandFault}
-use Rattle.md_cli.specs.declared.fault.CommandFault.TheVariants.{Data}
+use Rattle.md_advice.specs.declared.fault.CommandFault.{CommandFault}
+use Rattle.md_advice.specs.declared.fault.CommandFault.TheVariants.{Data}
 use Rattle.md_cli.specs.Reports.{ShowsPlan, ShowsText}
 
 -- the input and the output of a run

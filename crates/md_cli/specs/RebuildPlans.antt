@@ -17,8 +17,8 @@ use Rattle.md_copy.specs.declared.fault.RebuildFault.{RebuildFault}
 use Rattle.md_copy.specs.declared.fault.RebuildFault.TheVariants.{NotSpare, NoMemory}
 use Rattle.md_commands.specs.declared.fault.DataFault.TheVariants.{BadMember}
 use Rattle.md_report.specs.PlanReport.{plan_text}
-use Rattle.md_cli.specs.declared.fault.CommandFault.{CommandFault}
-use Rattle.md_cli.specs.declared.fault.CommandFault.TheVariants.{Data, Rebuild}
+use Rattle.md_advice.specs.declared.fault.CommandFault.{CommandFault}
+use Rattle.md_advice.specs.declared.fault.CommandFault.TheVariants.{Data, Rebuild}
 
 -- A plan of the table of the chunks that the member lacks, in the fewest rounds, with a certificate for them. Whatever the
 -- checker may answer to it is `Yes`.

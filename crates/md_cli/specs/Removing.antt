@@ -1,14 +1,13 @@
 -- The command that removes a member.
-use Rattle.std.specs.Prelude.{◌≡◌, ◌⊎◌, ℕ, List, Option, Some, None, Result, Err, MatchResult}
+use Rattle.std.specs.Prelude.{◌≡◌, ◌⊎◌, ℕ, List, Option, Some, None, Result, MatchResult}
 use Rattle.std.specs.List.{insert}
 use Rattle.md_array.specs.Opening.{IsOpenedFrom}
 use Rattle.md_commands.specs.Removing.{HandsBack, RefusesToRemove, RemovesMember}
 use Rattle.md_commands.specs.Stopping.{StopsArrayAfter}
 use Rattle.md_examine.specs.declared.sink.Sink.{Ghosts}
 use Rattle.md_state.specs.View.{Disk, MirrorView}
-use Rattle.md_cli.specs.declared.fault.CommandFault.{CommandFault}
-use Rattle.md_cli.specs.declared.fault.CommandFault.TheVariants.{NoMemory}
-use Rattle.md_cli.specs.Arrays.{RefusesMirror}
+use Rattle.md_advice.specs.declared.fault.CommandFault.{CommandFault}
+use Rattle.md_cli.specs.Arrays.{RefusesList, RefusesMirror}
 use Rattle.md_cli.specs.Performing.{OfData}
 
 -- the devices, with that of a member that left at its old place
@@ -31,12 +30,6 @@ module _ {S : Type 0} (s : Ghosts S) where
     pub opened : MirrorView
     pub opens : IsOpenedFrom before opened
     pub removes : RemovesFrom k opened after old new result
-
-  -- there is no memory for the list in which they come back
-  pub record RefusesList (before after : List Disk) (old new : S) (result : Result (Unit {0}) CommandFault) : Type 0 where
-    pub is : result ≡ Err NoMemory
-    pub devices : after ≡ before
-    pub unused : new ≡ old
 
   abbrev pub RemovesFromDevices : ℕ → List Disk → List Disk → S → S → Result (Unit {0}) CommandFault → Type 0
   RemovesFromDevices k before after old new result =

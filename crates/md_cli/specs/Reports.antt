@@ -3,8 +3,8 @@ use Rattle.std.specs.Prelude.{◌≡◌, ◌⊎◌, ℕ, true, List, Result, Mat
 use Rattle.md_examine.specs.declared.sink.Sink.{Ghosts}
 use Rattle.md_examine.specs.Sink.{Puts}
 use Rattle.md_state.specs.View.{ArrayView}
-use Rattle.md_cli.specs.declared.fault.CommandFault.{CommandFault}
-use Rattle.md_cli.specs.declared.fault.CommandFault.TheVariants.{OutputFault}
+use Rattle.md_advice.specs.declared.fault.CommandFault.{CommandFault}
+use Rattle.md_advice.specs.declared.fault.CommandFault.TheVariants.{OutputFault}
 use Rattle.md_cli.specs.RebuildPlans.{IsPlanText, RefusesPlan}
 
 module _ {S : Type 0} (s : Ghosts S) where

@@ -1,18 +1,19 @@
 -- What one run gives.
 use Rattle.md_device.specs.declared.device.Device.{Ghosts as DeviceGhosts}
-use Rattle.std.specs.Prelude.{◌≡◌, ◌≢◌, ◌⊎◌, ℕ, Bool, true, false, List, [], ◌∷◌, length, Option, Some, None, Result, Ok, Err}
+use Rattle.std.specs.Prelude.{◌≡◌, ◌≢◌, ◌⊎◌, ℕ, Bool, true, false, List, [], ◌∷◌, ◌++◌, length, Option, Some, None, Result, Ok, Err}
 use Rattle.clap.specs.Words.{Text}
 use Rattle.md_device.specs.declared.access.Access.{Access}
 use Rattle.md_device.specs.declared.access.Access.TheVariants.{Look, Change}
 use Rattle.md_create.specs.declared.params.CreateParams.{CreateParams}
-use Rattle.md_cli.specs.declared.fault.CommandFault.{CommandFault}
-use Rattle.md_cli.specs.declared.fault.CommandFault.TheVariants as fault
-use Rattle.md_cli.specs.declared.option_fault.OptionFault.{OptionFault}
+use Rattle.md_advice.specs.declared.fault.CommandFault.{CommandFault}
+use Rattle.md_advice.specs.declared.fault.CommandFault.TheVariants as fault
+use Rattle.md_advice.specs.declared.option_fault.OptionFault.{OptionFault}
 use Rattle.md_words.specs.declared.report.Report.{Report}
 use Rattle.md_words.specs.declared.array_task.ArrayTask.{ArrayTask}
-use Rattle.md_words.specs.Asked.{Ask, Options, examines, creates, performs, removes}
+use Rattle.md_words.specs.Asked.{Ask, Options, examines, creates, performs, removes, adds}
 use Rattle.md_commands.specs.declared.source.Source.{Ghosts as SourceGhosts}
 use Rattle.md_examine.specs.declared.sink.Sink.{Ghosts as SinkGhosts}
+use Rattle.md_cli.specs.Adding.{AddsToDevices}
 use Rattle.md_cli.specs.Arrays.{KeepsImages, LooksAtDevices, OpensDevices, UsesImages, ViewsImages}
 use Rattle.md_cli.specs.Creating.{CreatesOn}
 use Rattle.md_cli.specs.Examining.{ExaminesOne}
@@ -62,6 +63,11 @@ module _ {I D S : Type 0} (g : DeviceGhosts D) (s : SinkGhosts S) (known : I →
   RemovesFromArray k words before after old new result =
       UsesImages g (RemovesFromDevices s k) (after ≡ before) (known before) (may changeable Change before) (device_at before) (device_at after) (image_list false words) old new result
 
+  -- the image under a name joins an array; among the images it counts after the others
+  abbrev pub AddsToArray : Text → List Text → I → I → S → S → Result (Unit {0}) CommandFault → Type 0
+  AddsToArray name words before after old new result =
+      UsesImages g (AddsToDevices s) (after ≡ before) (known before) (may changeable Change before) (device_at before) (device_at after) (image_list false (words ++ name ∷ [])) old new result
+
 module _ {I D R S : Type 0} (g : DeviceGhosts D) (r : SourceGhosts R) (s : SinkGhosts S) (known : I → Bool) (device_at : I → Text → Option D) (changeable asked : I → Text → Bool) where
   -- a task with an array, whose images may only be looked at or not: if so, each of them stays as it is
   abbrev pub PerformsOnArray : ArrayTask → Bool → List Text → I → I → Streams R S → Streams R S → Result (Unit {0}) CommandFault → Type 0
@@ -77,6 +83,8 @@ module _ {I D R S : Type 0} (g : DeviceGhosts D) (r : SourceGhosts R) (s : SinkG
   Does (performs task readonly) words before after old new result = PerformsOnArray task readonly words before after old new result
   Does (removes k) words before after old new result =
       (new.input ≡ old.input) × RemovesFromArray g s known device_at changeable k words before after old.output new.output result
+  Does (adds name) words before after old new result =
+      (new.input ≡ old.input) × AddsToArray g s known device_at changeable name words before after old.output new.output result
 
   -- the command's own answer, whose status this is
   pub record DoesCommand (ask : Ask) (words : List Text) (before after : I) (old new : Streams R S) (status : ℕ) : Type 0 where

@@ -6,9 +6,9 @@ ghost use Rattle.md_cli.specs.Performing.{access_of, streams};
 ghost use Rattle.md_images.specs.Images.{allows};
 ghost use Rattle.md_images.specs.Taking.{image_list};
 
-use crate::fault::CommandFault;
 use crate::marks_notice::tell_stored_marks;
 use crate::performing::{access_of, perform};
+use md_advice::CommandFault;
 use md_array::Mirror;
 use md_commands::Source;
 use md_device::Device;

@@ -6,10 +6,10 @@ ghost use Rattle.md_cli.specs.Creating.{CreatesOn};
 ghost use Rattle.md_images.specs.Images.{allows};
 ghost use Rattle.md_images.specs.Taking.{image_list, word_of};
 
-use crate::fault::CommandFault;
 use crate::laying_out::lay_out_each;
 use crate::showing::show_devices;
 use crate::sizing::sizes_of;
+use md_advice::CommandFault;
 use md_create::{CreateParams, create};
 use md_device::{Access, Device};
 use md_examine::Sink;

@@ -3,8 +3,8 @@ ghost use Rattle.std.specs.Prelude.{◌≡◌, ◌≢◌, ◌<◌, ℕ, Err, IfO
 ghost use Rattle.md_cli.specs.Examining.{Examines, ExaminesOne};
 ghost use Rattle.md_words.specs.declared.report.Report.TheVariants.{Superblock, Bitmap, BadBlocks};
 
-use crate::fault::CommandFault;
 use crate::output::pass_on;
+use md_advice::CommandFault;
 use md_device::{Access, Device};
 use md_examine::{Sink, examine, examine_badblocks, examine_bitmap};
 use md_images::{ImageRefusal, Images};

@@ -1,17 +1,14 @@
 //! The commands of the program, over images that are found by name.
 #![tactic(auto)]
 
-mod advice;
-mod advising;
+mod adding;
 mod arrays;
 mod creating;
 mod examining;
-mod fault;
 mod laying_out;
 mod looking;
 mod marks_notice;
 mod messages;
-mod option_fault;
 mod output;
 mod performing;
 mod planning;
@@ -21,7 +18,5 @@ mod running;
 mod showing;
 mod sizing;
 
-pub use fault::CommandFault;
 pub use messages::Messages;
-pub use option_fault::OptionFault;
 pub use running::run;

@@ -7,7 +7,7 @@ ghost use Rattle.md_images.specs.Images.{allows};
 ghost use Rattle.md_images.specs.Taking.{image_list};
 
 use crate::arrays::perform_on_devices;
-use crate::fault::CommandFault;
+use md_advice::CommandFault;
 use md_commands::Source;
 use md_device::Access;
 use md_examine::Sink;

@@ -2,7 +2,7 @@
 ghost use Rattle.std.specs.Prelude.{◌≡◌, true, MatchResult};
 ghost use Rattle.md_examine.specs.Sink.{Flushes};
 
-use crate::fault::CommandFault;
+use md_advice::CommandFault;
 use md_examine::Sink;
 
 /// Passes on what the output holds back of a report.

@@ -3,8 +3,8 @@ ghost use Rattle.std.specs.Prelude.{◌≡◌, IfOk};
 ghost use Rattle.md_array.specs.Consistency.{IsConsistent};
 ghost use Rattle.md_cli.specs.Performing.{Performs, access_of, streams};
 
-use crate::fault::CommandFault;
 use crate::showing::{show_detail, show_plan, show_summary};
+use md_advice::CommandFault;
 use md_array::Mirror;
 use md_commands::{Source, fail_member, read_array, resync_array, stop_array, write_array};
 use md_device::{Access, Device};

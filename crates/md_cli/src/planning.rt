@@ -4,7 +4,7 @@ ghost use Rattle.uuid.specs.Text.{parsed};
 ghost use Rattle.md_words.specs.Asked.{options_of};
 ghost use Rattle.md_cli.specs.Planning.{IsPlan, bytes_of, is_raid1, option_fault, sectors_of, set_name_of};
 
-use crate::option_fault::OptionFault;
+use md_advice::OptionFault;
 use md_create::CreateParams;
 use md_words::CreateOptions;
 use uuid::Uuid;

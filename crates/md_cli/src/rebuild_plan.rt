@@ -3,7 +3,7 @@ ghost use Rattle.std.specs.Prelude.{◌<◌, IfOk, MatchResult, length};
 ghost use Rattle.md_array.specs.Consistency.{IsConsistent};
 ghost use Rattle.md_cli.specs.RebuildPlans.{IsRebuildPlan, RefusesPlan, RefusesTarget};
 
-use crate::fault::CommandFault;
+use md_advice::CommandFault;
 use md_array::Mirror;
 use md_commands::DataFault;
 use md_copy::{RebuildFault, table};

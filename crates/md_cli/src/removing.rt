@@ -11,8 +11,8 @@ ghost use Rattle.md_cli.specs.Removing.{RemovesFrom, RemovesFromDevices};
 ghost use Rattle.md_images.specs.Images.{allows};
 ghost use Rattle.md_images.specs.Taking.{image_list};
 
-use crate::fault::CommandFault;
 use crate::marks_notice::tell_stored_marks;
+use md_advice::CommandFault;
 use md_array::Mirror;
 use md_commands::remove_member;
 use md_device::{Access, Device};

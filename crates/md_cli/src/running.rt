@@ -6,15 +6,15 @@ ghost use Rattle.md_cli.specs.Performing.{streams};
 ghost use Rattle.md_cli.specs.Running.{Does, DoesCommand, IsIdle, MakesArray, PerformsOnArray, status_of};
 ghost use Rattle.md_words.specs.Words.{mdcli};
 
-use crate::advising::advise;
+use crate::adding::add_to_images;
 use crate::arrays::perform_on_images;
 use crate::creating::create_images;
 use crate::examining::examine_images;
-use crate::fault::CommandFault;
 use crate::looking::look_at_images;
 use crate::messages::Messages;
 use crate::planning::plan;
 use crate::removing::remove_from_images;
+use md_advice::{CommandFault, advise, tell_lost_content};
 use md_commands::Source;
 use md_examine::Sink;
 use md_images::Images;
@@ -29,8 +29,8 @@ use std::io::Write;
 /// clause can tell whether memory was there.
 ///
 /// `input` is read by `write` alone. A refusal's line goes to `err`, as `mdcli: BadImage 0`; so does the
-/// line of advice after it, where that is asked for, a line for each image on which marks were stored, and
-/// the parser's text. No clause speaks of what is written to `err`, nor of whether that can be written.
+/// line of advice after it, where that is asked for, and the line that what an added image held is lost; a
+/// line for each image on which marks were stored; and the parser's text. No clause speaks of what is written to `err`, nor of whether that can be written.
 pub fn run<'a, I: Images, R: Source, S: Sink, E: Write>(
     alloc: Global,
     words: &'a [&'a str],
@@ -78,6 +78,7 @@ fn act<I: Images, R: Source, S: Sink, E: Write>(
             perform_on_array(alloc, task, readonly, images, names, input, out, err)
         }
         Action::Remove(member) => remove_from_images(alloc, member, images, names, out, err),
+        Action::Add(device) => add_to_images(alloc, device, images, names, out, err),
     }
 }
 
@@ -119,23 +120,26 @@ fn create_array<I: Images, S: Sink>(
 }
 
 // The status of a command that was done or refused. A refusal is said on `err`.
-fn answer<E: Write>(
+fn answer<'a, E: Write>(
     outcome: Result<(), CommandFault>,
-    action: Action<'_>,
-    names: &[&str],
+    action: Action<'a>,
+    names: &[&'a str],
     messages: Messages,
     err: &mut E,
 ) -> u8
     ensures { result ≡ status_of outcome }
 {
+    if let Err(fault) = &outcome {
+        let _ = writeln!(err, "mdcli: {fault}");
+        if messages == Messages::WithAdvice {
+            advise(fault, names, action, err);
+        }
+    }
+    if messages == Messages::WithAdvice {
+        tell_lost_content(&outcome, action, err);
+    }
     match outcome {
         Ok(()) => 0,
-        Err(fault) => {
-            let _ = writeln!(err, "mdcli: {fault}");
-            if messages == Messages::WithAdvice {
-                advise(&fault, names, action, err);
-            }
-            1
-        }
+        Err(_) => 1,
     }
 }

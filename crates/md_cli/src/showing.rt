@@ -7,9 +7,9 @@ ghost use Rattle.md_array.specs.Consistency.{IsConsistent};
 ghost use Rattle.md_cli.specs.Arrays.{ShowsDevices};
 ghost use Rattle.md_cli.specs.Reports.{ShowsPlan, ShowsText};
 
-use crate::fault::CommandFault;
 use crate::output::pass_on;
 use crate::rebuild_plan::plan_rebuild;
+use md_advice::CommandFault;
 use md_array::Mirror;
 use md_device::Device;
 use md_examine::Sink;

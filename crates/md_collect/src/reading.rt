@@ -37,7 +37,7 @@ pub fn read_chunk<D: Device>(
 
 /// The same, in the memory of a list that is no longer wanted. It takes no memory where that list
 /// has as many bytes as the chunk, or more.
-#[tactic(auto, unfolding(crate::specs::Places::chunk_on), using(crate::proofs::Stops::leaves_none))]
+#[tactic(auto, unfolding(crate::specs::Places::chunk_on), using(md_device::proofs::Leaving::leaves_none))]
 pub fn read_chunk_into<D: Device>(
     alloc: Global,
     spare: Vec<u8>,

@@ -1,21 +1,26 @@
--- No command wins a device, and only `remove` loses one.
+-- Only `add` wins a device, and only `remove` loses one.
 use Rattle.std.proofs.Common.{◌≡◌, ◌∙◌, ◌⊎◌, inl, inr, ⊎_elim, ℕ, ◌+◌, Bool, true, false, List, [], ◌∷◌, ◌++◌, length, Option, Some, None, Result, Ok, Err, MatchResult, refl, sym, ap}
+use Rattle.std.proofs.lemmas.List.{length-append}
 use Rattle.std.proofs.lemmas.List.Edits.{length-remove}
 use Rattle.std.proofs.lemmas.Option.{none-some, slice_get_within}
+use Rattle.md_bitmap.specs.declared.chunks.Chunks.{Chunks}
 use Rattle.md_model.specs.Devices.{Stored, Super}
 use Rattle.md_model.specs.Events.{Event}
-use Rattle.md_model.specs.Worlds.{Request}
-use Rattle.md_state.specs.declared.step_fault.BeginFault.{BeginFault}
-use Rattle.md_state.specs.declared.step_fault.BeginFault.TheVariants as begin
-use Rattle.md_state.specs.declared.step_fault.FailFault.{FailFault}
-use Rattle.md_state.specs.declared.step_fault.FailFault.TheVariants as fail
-use Rattle.md_state.specs.declared.step_fault.RemoveFault.{RemoveFault}
-use Rattle.md_state.specs.declared.step_fault.RemoveFault.TheVariants as remove
+use Rattle.md_requests.specs.Pending.{PendingView}
+use Rattle.md_faults.specs.declared.add_fault.AddFault.{AddFault}
+use Rattle.md_faults.specs.declared.add_fault.AddFault.TheVariants as add
+use Rattle.md_faults.specs.declared.step_fault.BeginFault.{BeginFault}
+use Rattle.md_faults.specs.declared.step_fault.BeginFault.TheVariants as begin
+use Rattle.md_faults.specs.declared.step_fault.FailFault.{FailFault}
+use Rattle.md_faults.specs.declared.step_fault.FailFault.TheVariants as fail
+use Rattle.md_faults.specs.declared.step_fault.RemoveFault.{RemoveFault}
+use Rattle.md_faults.specs.declared.step_fault.RemoveFault.TheVariants as remove
 use Rattle.md_state.specs.FailingMembers.{FailsMember, RefusesFail}
 use Rattle.md_state.specs.Removing.{RefusesRemove, Removes}
 use Rattle.md_state.specs.Requests.{AreInFlight, among, request_of}
 use Rattle.md_state.specs.Trying.{Refuses}
 use Rattle.md_state.specs.View.{ArrayView, Disk, MirrorView}
+use Rattle.md_array.specs.Adding.{Adds, RefusesAdd}
 use Rattle.md_array.specs.InTurn.{AllOf, Did, HaltsAt, Leads, Requests}
 use Rattle.md_array.proofs.Steps.Turns.{all_on, all_such}
 use Rattle.md_laws.specs.ReadInTurn.{LeadsReading}
@@ -34,6 +39,7 @@ use Rattle.md_examine.specs.declared.sink.Sink.{Ghosts as SinkGhosts}
 use Rattle.md_commands.specs.declared.fault.DataFault.{DataFault}
 use Rattle.md_commands.specs.declared.fault.DataFault.TheVariants.{BadLength, BadMember, Fail, InputFault, NoMemory, OutOfRange, OutputFault, Read, Remove, Resync, Stop, Write}
 use Rattle.md_commands.specs.declared.source.Source.{Ghosts as SourceGhosts}
+use Rattle.md_commands.specs.Adding.{KeepsDevice}
 use Rattle.md_commands.specs.Failing.{RefusesToFail}
 use Rattle.md_commands.specs.Reading.{ReadsWhenReady, RefusesSectorsOf, RefusesToRead}
 use Rattle.md_commands.specs.Removing.{HandsBack, RefusesRemoving}
@@ -52,10 +58,11 @@ refused : (old new : MirrorView) (Reason : Type 0) → Refuses old new Reason �
 refused old new Reason r = same old new r.unchanged
 
 -- ---- events
--- no member leaves by one of this kind, or comes back
+-- no member leaves or comes in by one of this kind
 record KeepsMembers (IsOf : Event → Type 0) : Type 0 where
-  none_leaves : (k : ℕ) → IsOf (Event.Remove k) → ⊥
-  none_returns : (own : Super) (device left : Stored) → IsOf (Event.ReAdd own device left) → ⊥
+  removes : (k : ℕ) → IsOf (Event.Remove k) → ⊥
+  adds : (d : ℕ) (left : Stored) → IsOf (Event.Add d left) → ⊥
+  re_adds : (own : Super) (device left : Stored) → IsOf (Event.ReAdd own device left) → ⊥
 
 did : (IsOf : Event → Type 0) → KeepsMembers IsOf → (e : Event) (old new : MirrorView) (before after : Requests) → IsOf e → Did old before e new after → AsMany old new
 did IsOf keeps (Event.Begin n p) old new before after of h = ap length h.5.disks
@@ -73,9 +80,9 @@ did IsOf keeps (Event.Copy from k s) old new before after of h = h.1.disks.tried
 did IsOf keeps Event.Resynced old new before after of h = ap length h.1.marks.disks
 did IsOf keeps Event.Unresynced old new before after of h = ap length h.1.disks
 did IsOf keeps Event.MakeClean old new before after of h = ap length h.1.disks
-did IsOf keeps (Event.Remove k) old new before after of h = absurd (keeps.none_leaves k of)
-did IsOf keeps (Event.ReAdd own device left) old new before after of h = absurd (keeps.none_returns own device left of)
-did IsOf keeps e old new before after of h = absurd h
+did IsOf keeps (Event.Remove k) old new before after of h = absurd (keeps.removes k of)
+did IsOf keeps (Event.Add d left) old new before after of h = absurd (keeps.adds d left of)
+did IsOf keeps (Event.ReAdd own device left) old new before after of h = absurd (keeps.re_adds own device left of)
 
 halts : (e : Event) (old new : MirrorView) (before : Requests) → HaltsAt old before e new → AsMany old new
 halts (Event.RecordFails k) old new before h = h.halts.disks.tried.as_many
@@ -113,9 +120,19 @@ with_end IsOf es e all at = all_on (IsOrEnds IsOf) es (e ∷ []) (or_ends IsOf e
 
 keeps_or_ends : (IsOf : Event → Type 0) → KeepsMembers IsOf → KeepsMembers (IsOrEnds IsOf)
 keeps_or_ends IsOf keeps = record {
-  none_leaves = λ k. ⊎_elim (λ (of : IsOf (Event.Remove k)). keeps.none_leaves k of) (λ (no : ⊥). no);
-  none_returns = λ own device left. ⊎_elim (λ (of : IsOf (Event.ReAdd own device left)). keeps.none_returns own device left of) (λ (no : ⊥). no);
+  removes = λ k. ⊎_elim (λ (of : IsOf (Event.Remove k)). keeps.removes k of) (λ (no : ⊥). no);
+  adds = λ d left. ⊎_elim (λ (of : IsOf (Event.Add d left)). keeps.adds d left of) (λ (no : ⊥). no);
+  re_adds = λ own device left. ⊎_elim (λ (of : IsOf (Event.ReAdd own device left)). keeps.re_adds own device left of) (λ (no : ⊥). no);
 }
+
+stopping_keeps : KeepsMembers IsStopping
+stopping_keeps = record { removes = λ k of. of; adds = λ d left of. of; re_adds = λ own device left of. of }
+
+resync_keeps : KeepsMembers IsOfResync
+resync_keeps = record { removes = λ k of. of; adds = λ d left of. of; re_adds = λ own device left of. of }
+
+request_keeps : (chunks : Chunks) (p : PendingView) → KeepsMembers (IsOfRequest chunks p)
+request_keeps chunks p = record { removes = λ k of. of; adds = λ d left of. of; re_adds = λ own device left of. of }
 
 -- no request of the model
 nothing : Requests
@@ -129,25 +146,25 @@ led_by : (IsOf : Event → Type 0) → KeepsMembers IsOf → (old new : MirrorVi
 led_by IsOf keeps old new by = led IsOf keeps by.events None old new nothing nothing by.steps (by.leads None nothing (none_in_flight old.array))
 
 gone_on : (old new : MirrorView) → GoesOn old new → AsMany old new
-gone_on old new goes = led_reading IsOfResync (record { none_leaves = λ k of. of; none_returns = λ own device left of. of }) goes.events None old new nothing nothing goes.steps (goes.leads None nothing (none_in_flight old.array))
+gone_on old new goes = led_reading IsOfResync resync_keeps goes.events None old new nothing nothing goes.steps (goes.leads None nothing (none_in_flight old.array))
 
 gone_unresynced : (old new : MirrorView) → GoesUnresynced old new → AsMany old new
 gone_unresynced old new goes =
-    led_reading (IsOrEnds IsOfResync) (keeps_or_ends IsOfResync (record { none_leaves = λ k of. of; none_returns = λ own device left of. of })) (goes.events ++ Event.Unresynced ∷ []) None old new nothing nothing
+    led_reading (IsOrEnds IsOfResync) (keeps_or_ends IsOfResync resync_keeps) (goes.events ++ Event.Unresynced ∷ []) None old new nothing nothing
     (with_end IsOfResync goes.events Event.Unresynced goes.steps tt) (goes.leads None nothing (none_in_flight old.array))
 
 -- ---- the calls
-stopped : (old new : MirrorView) → Stops old new → AsMany old new
-stopped old new s = led_by IsStopping (record { none_leaves = λ k of. of; none_returns = λ own device left of. of }) old new s.goes
+pub stopped : (old new : MirrorView) → Stops old new → AsMany old new
+stopped old new s = led_by IsStopping stopping_keeps old new s.goes
 
 not_stopped : (fault : StopFault) (old new : MirrorView) → RefusesStop old new fault → AsMany old new
 not_stopped stop.Halted old new h =
     ⊎_elim (λ r. refused old new _ r)
-    (λ r. halts r.halts.failing r.halts.mid new nothing (r.halts.halts nothing) ∙ led_by IsStopping (record { none_leaves = λ k of. of; none_returns = λ own device left of. of }) old r.halts.mid r.goes)
+    (λ r. halts r.halts.failing r.halts.mid new nothing (r.halts.halts nothing) ∙ led_by IsStopping stopping_keeps old r.halts.mid r.goes)
     h
 not_stopped (stop.InFlight n) old new h = refused old new _ h
 not_stopped stop.EventsFull old new h = refused old new _ h
-not_stopped (stop.MemberFailed k) old new h = led_by IsStopping (record { none_leaves = λ k of. of; none_returns = λ own device left of. of }) old new h.goes
+not_stopped (stop.MemberFailed k) old new h = led_by IsStopping stopping_keeps old new h.goes
 
 resynced : (old new : MirrorView) → Resyncs old new → AsMany old new
 resynced old new r = gone_on old new r.goes
@@ -163,7 +180,7 @@ not_resynced (resync.MemberFailed k) old new h = gone_unresynced old new h.stops
 wrote : (sector : ℕ) (bytes : List ℕ) (old new : MirrorView) → Writes sector bytes old new → AsMany old new
 wrote sector bytes old new w =
     let Of = IsOfRequest old.array.chunks w.request in
-    led (IsOrEnds Of) (keeps_or_ends Of (record { none_leaves = λ k of. of; none_returns = λ own device left of. of })) (events_of w.request w.events) None old new nothing nothing
+    led (IsOrEnds Of) (keeps_or_ends Of (request_keeps old.array.chunks w.request)) (events_of w.request w.events) None old new nothing nothing
     (inr tt, with_end Of w.events (Event.Finish w.request.ticket.number) w.steps tt) (w.happens None nothing (none_in_flight old.array)).done
 
 not_written : (fault : BeginFault) (sector : ℕ) (bytes : List ℕ) (old new : MirrorView) → RefusesWrite sector bytes old new fault → AsMany old new
@@ -172,7 +189,7 @@ not_written begin.Halted sector bytes old new h =
     (λ r.
     let Of = IsOfRequest old.array.chunks r.request in
     halts r.failing r.mid new (among r.last nothing) (r.halts nothing)
-    ∙ led (IsOrEnds Of) (keeps_or_ends Of (record { none_leaves = λ k of. of; none_returns = λ own device left of. of })) (Event.Begin r.request.ticket.number (request_of r.request) ∷ r.events) None old r.mid
+    ∙ led (IsOrEnds Of) (keeps_or_ends Of (request_keeps old.array.chunks r.request)) (Event.Begin r.request.ticket.number (request_of r.request) ∷ r.events) None old r.mid
     nothing (among r.last nothing) (inr tt, or_ends Of r.events r.steps) (r.happens None nothing (none_in_flight old.array)))
     h
 not_written begin.OutOfRange sector bytes old new h = refused old new _ h
@@ -199,7 +216,7 @@ stopped_after Through old new through s = stopped s.mid new s.stops ∙ through 
 fails_after : (Through : MirrorView → Type 0) (old new : MirrorView) (fault : StopFault) → ((mid : MirrorView) → Through mid → AsMany old mid) → FailsToStop Through new fault → AsMany old new
 fails_after Through old new fault through s = not_stopped fault s.mid new s.refused ∙ through s.mid s.through
 
-read_readied : (sector count : ℕ) (bytes : List ℕ) (old new : MirrorView) → ReadsWhenReady sector count bytes old new → AsMany old new
+pub read_readied : (sector count : ℕ) (bytes : List ℕ) (old new : MirrorView) → ReadsWhenReady sector count bytes old new → AsMany old new
 read_readied sector count bytes old new r = r.reads.reads.rests.disks.same.as_many ∙ readied old r.ready r.readied
 
 not_read_of : (fault : UnreadFault) (sector count : ℕ) (old new : MirrorView) → RefusesSectorsOf sector count old new fault → AsMany old new
@@ -246,14 +263,8 @@ module _ {S : Type 0} (s : SinkGhosts S) (old new : MirrorView) (before after : 
     writes_as_many fault h = absurd h
 
 -- where the command is done
-pub done_stop : (old new : MirrorView) → Stops old new → AsMany old new
-done_stop = stopped
-
 pub done_resync : (old new : MirrorView) → StopsAfter (Resyncs old) new → AsMany old new
 done_resync old new = stopped_after (Resyncs old) old new (resynced old)
-
-pub done_read : (sector count : ℕ) (bytes : List ℕ) (old new : MirrorView) → ReadsWhenReady sector count bytes old new → AsMany old new
-done_read = read_readied
 
 pub done_write : (sector : ℕ) (bytes : List ℕ) (old new : MirrorView) → StopsAfter (WritesReadied sector bytes old) new → AsMany old new
 done_write sector bytes old new = stopped_after (WritesReadied sector bytes old) old new (wrote_readied sector bytes old)
@@ -303,3 +314,22 @@ leaves s k d old mid new before after result r h = (
   r.device,
   ap (λ (n : ℕ). n + 1) (as_many_stopped s mid new before after result h ∙ ap length r.disks) ∙ length-remove old.disks k (slice_get_within old.disks k d r.device),
 )
+
+-- ---- a device is added
+added : (k : ℕ) (device : Disk) (old new : MirrorView) → Adds k device old new → length new.disks ≡ length old.disks + 1
+added k device old new a = ap length a.comes.disks ∙ length-append old.disks (a.comes.now ∷ [])
+
+not_added : (fault : AddFault) (device given : Disk) (old new : MirrorView) → RefusesAdd device given old new fault → AsMany old new
+not_added add.Halted device given old new h = same old new h.unchanged
+not_added add.TooSmall device given old new h = same old new h.unchanged
+not_added add.Full device given old new h = same old new h.unchanged
+not_added add.EventsFull device given old new h = same old new h.unchanged
+not_added add.WriteFault device given old new h = same old new h.fails.unchanged
+not_added add.NoMemory device given old new h = same old new h.unchanged
+
+pub joins : {S : Type 0} (s : SinkGhosts S) (k : ℕ) (device : Disk) (old mid new : MirrorView) (before after : S) (result : Result (Unit {0}) DataFault)
+    → Adds k device old mid → MatchResult result (λ _. StopsArray s mid new before after) (RefusesToStop s mid new before after) → KeepsDevice old.disks new.disks None
+joins s k device old mid new before after result a h = as_many_stopped s mid new before after result h ∙ added k device old mid a
+
+pub comes_back : (fault : AddFault) (device given : Disk) (old new : MirrorView) → RefusesAdd device given old new fault → KeepsDevice old.disks new.disks (Some given)
+comes_back = not_added

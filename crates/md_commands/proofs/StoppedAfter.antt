@@ -1,11 +1,12 @@
--- The ends of the commands that change a member, and then stop the array.
+-- The ends of the commands by which members change, and which then stop the array.
 use Rattle.std.proofs.Common.{ℕ, refl}
-use Rattle.std.specs.Prelude.{MatchResult, Result, Ok, Err}
+use Rattle.std.specs.Prelude.{MatchResult, Option, Result, Ok, Err}
 use Rattle.md_examine.specs.declared.sink.Sink.{Ghosts}
 use Rattle.md_state.specs.FailingMembers.{FailsMember}
-use Rattle.md_state.specs.View.{MirrorView}
+use Rattle.md_state.specs.View.{Disk, MirrorView}
 use Rattle.md_commands.specs.declared.fault.DataFault.{DataFault}
-use Rattle.md_commands.specs.declared.fault.DataFault.TheVariants.{BadMember, Fail, Remove}
+use Rattle.md_commands.specs.declared.fault.DataFault.TheVariants.{Add, BadMember, Fail, Remove}
+use Rattle.md_commands.specs.Adding.{AddsDevice, RefusesToAdd}
 use Rattle.md_commands.specs.Failing.{RefusesFailing, RefusesToFail}
 use Rattle.md_commands.specs.Removing.{RefusesRemoving, RefusesToRemove, RemovesMember}
 use Rattle.md_commands.specs.Stopping.{RefusesToStop, StopsArray, StopsArrayAfter}
@@ -24,6 +25,14 @@ module _ {S : Type 0} (s : Ghosts S) (k : ℕ) (old mid new : MirrorView) (befor
   removed_or_not leaves (Err BadMember) h = absurd h
   removed_or_not leaves (Err (Remove fault)) h = absurd h
   removed_or_not leaves (Err fault) h = record { mid = mid; through = leaves; refused = h }
+
+-- the device joined
+module _ {S : Type 0} (s : Ghosts S) (device : Disk) (given : Option Disk) (old mid new : MirrorView) (before after : S) where
+  pub added_or_not : AddsDevice device old mid → (result : Result (Unit {0}) DataFault) → MatchResult result (λ _. StopsArray s mid new before after) (RefusesToStop s mid new before after)
+      → MatchResult result (λ _. StopsArrayAfter s (AddsDevice device old) new before after) (RefusesToAdd s device given old new before after)
+  added_or_not joins (Ok x) h = record { mid = mid; through = joins; stops = h }
+  added_or_not joins (Err (Add fault)) h = absurd h
+  added_or_not joins (Err fault) h = record { mid = mid; through = joins; refused = h }
 
 -- the member is not changed
 module _ {S : Type 0} (s : Ghosts S) (k : ℕ) (old new : MirrorView) (before : S) where

@@ -1,3 +1,4 @@
+pub mod Adding
 pub mod Failing
 pub mod Input
 pub mod Output

@@ -1,8 +1,8 @@
 -- The command that writes to an array.
 use Rattle.std.specs.Prelude.{◌≡◌, ◌⊎◌, ℕ, true, false, List}
 use Rattle.md_examine.specs.declared.sink.Sink.{Ghosts as SinkGhosts}
-use Rattle.md_state.specs.declared.step_fault.BeginFault.{BeginFault}
-use Rattle.md_state.specs.declared.step_fault.BeginFault.TheVariants.{Halted}
+use Rattle.md_faults.specs.declared.step_fault.BeginFault.{BeginFault}
+use Rattle.md_faults.specs.declared.step_fault.BeginFault.TheVariants.{Halted}
 use Rattle.md_state.specs.Trying.{RefusesHalted}
 use Rattle.md_state.specs.View.{MirrorView}
 use Rattle.md_write.specs.Writing.{RefusesWrite, Writes}

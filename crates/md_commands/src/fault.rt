@@ -1,6 +1,6 @@
 // Why a command on an opened array is refused.
 use crate::source::SourceFault;
-use md_array::{BeginFault, FailFault, RemoveFault};
+use md_array::{AddFault, BeginFault, FailFault, RemoveFault};
 use md_examine::SinkFault;
 use md_metadata::StopFault;
 use md_read::UnreadFault;
@@ -33,6 +33,9 @@ pub enum DataFault {
     /// The member is not removed.
     #[error("{0}")]
     Remove(RemoveFault),
+    /// The device is not added.
+    #[error("{0}")]
+    Add(AddFault),
     /// The array is not resynchronised.
     #[error("{0}")]
     Resync(ResyncFault),

@@ -1,7 +1,8 @@
-//! What commands do with an opened array: stop it, read it, write to it, resynchronise it, fail or remove a
-//! member. Images, names and words are no matter of this crate: it has a mirror, an input and an output.
+//! What commands do with an opened array: stop it, read it, write to it, resynchronise it, fail, remove or add
+//! a member. Images, names and words are no matter of this crate: it has a mirror, an input and an output.
 #![tactic(auto)]
 
+mod adding;
 mod buffer;
 mod failing;
 mod fault;
@@ -15,6 +16,7 @@ mod source;
 mod stopping;
 mod writing;
 
+pub use adding::add_device;
 pub use failing::fail_member;
 pub use fault::DataFault;
 pub use reading::read_array;

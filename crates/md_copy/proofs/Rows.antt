@@ -1,5 +1,5 @@
 -- The rows of a table, chunk by chunk.
-use Rattle.std.proofs.Common.{◌≡◌, ◌∙◌, ℕ, ◌+◌, zero, suc, Bool, true, false, cond, List, [], ◌∷◌, ◌++◌, append-nil, sym, ap, arith}
+use Rattle.std.proofs.Common.{◌≡◌, ◌∙◌, ℕ, ◌+◌, Bool, true, false, cond, List, [], ◌∷◌, ◌++◌, append-nil, sym, ap}
 use Rattle.std.specs.List.{filter, range_with_len}
 use Rattle.std.proofs.lemmas.List.{map-append}
 use Rattle.std.proofs.lemmas.List.Elements.{filter-append}
@@ -8,23 +8,14 @@ use Rattle.md_cert.specs.Tables.{chunks_of}
 use Rattle.md_kept_members.specs.View.{MemberView}
 use Rattle.md_state.specs.View.{ArrayView}
 use Rattle.md_copy.specs.Sources.{is_missing}
-
-range_more : (a n : ℕ) → range_with_len a (suc n) ≡ range_with_len a n ++ (a + n) ∷ []
-range_more a zero = ap (λ (k : ℕ). k ∷ []) (let e : a ≡ a + 0 = omega arith in e)
-range_more a (suc n) = ap (λ (xs : List ℕ). a ∷ xs) (range_more (a + 1) n ∙ ap (λ (k : ℕ). range_with_len (a + 1) n ++ k ∷ []) (let e : a + 1 + n ≡ a + suc n = omega arith in e))
-
-range_next : (n : ℕ) → range_with_len 0 (n + 1) ≡ range_with_len 0 n ++ n ∷ []
-range_next n =
-    ap (range_with_len 0) (let e : n + 1 ≡ suc n = omega arith in e)
-    ∙ range_more 0 n
-    ∙ ap (λ (k : ℕ). range_with_len 0 n ++ k ∷ []) (let e : 0 + n ≡ n = omega arith in e)
+use Rattle.md_bitmap.proofs.Numbers.{range_more}
 
 -- the chunks below n that the member lacks
 abbrev pub missing_below : ArrayView → MemberView → ℕ → List ℕ
 missing_below a m n = filter (is_missing a m) (range_with_len 0 n)
 
 missing_more : (a : ArrayView) (m : MemberView) (n : ℕ) → missing_below a m (n + 1) ≡ missing_below a m n ++ cond (is_missing a m n) (n ∷ []) []
-missing_more a m n = ap (filter (is_missing a m)) (range_next n) ∙ filter-append (is_missing a m) (range_with_len 0 n) (n ∷ [])
+missing_more a m n = ap (filter (is_missing a m)) (range_more n) ∙ filter-append (is_missing a m) (range_with_len 0 n) (n ∷ [])
 
 pub rows_more : (a : ArrayView) (m : MemberView) (rows : List Row) (row : Row) → chunks_of rows ≡ missing_below a m row.chunk → is_missing a m row.chunk ≡ true → chunks_of (rows ++ row ∷ []) ≡ missing_below a m (row.chunk + 1)
 rows_more a m rows row before lacks =

@@ -1,21 +1,13 @@
 -- The devices for the roles below a number, and one more.
-use Rattle.std.proofs.Common.{◌≡◌, ℕ, ◌+◌, List, [], ◌∷◌, ◌++◌, Option, Some, None, sym, ◌∙◌, ap, refl, arith, map, append-nil, All}
+use Rattle.std.proofs.Common.{◌≡◌, ℕ, ◌+◌, List, [], ◌∷◌, ◌++◌, Option, Some, None, sym, ◌∙◌, ap, refl, map, append-nil, All}
 use Rattle.std.specs.List.{range_with_len, filter_map, cons_option}
 use Rattle.std.specs.Option.{option_map}
 use Rattle.std.proofs.lemmas.List.Elements.{filter_map-append, All-push}
 use Rattle.std.proofs.lemmas.List.{map_push}
-use Rattle.std.proofs.lemmas.List.FromFn.{map-range_with_len_more}
 use Rattle.md_create.specs.declared.params.CreateParams.{CreateParams}
 use Rattle.md_create.specs.declared.params.NewMember.{NewMember}
 use Rattle.md_create.specs.Values.{IsNewMember, device_for, device_of, numbered}
-
-map_same : {X : Type 0} (xs : List X) → map (λ x. x) xs ≡ xs
-map_same [] = refl
-map_same (x ∷ xs) = ap (λ ys. x ∷ ys) (map_same xs)
-
-pub range_more : (k : ℕ) → range_with_len 0 (k + 1) ≡ range_with_len 0 k ++ k ∷ []
-range_more k =
-    sym (map_same (range_with_len 0 (k + 1))) ∙ map-range_with_len_more (λ x. x) 0 k k (omega arith) ∙ ap (λ xs. xs ++ k ∷ []) (map_same (range_with_len 0 k))
+use Rattle.md_bitmap.proofs.Numbers.{range_more}
 
 filter_map_more : {Y : Type 0} (f : ℕ → Option Y) (k : ℕ) → filter_map f (range_with_len 0 (k + 1)) ≡ filter_map f (range_with_len 0 k) ++ cons_option (f k) []
 filter_map_more f k = ap (filter_map f) (range_more k) ∙ filter_map-append f (range_with_len 0 k) (k ∷ [])

@@ -4,9 +4,10 @@ use Rattle.std.specs.Prelude.{pos, ◌+ℤ◌, not, bit_and, ◌==◌, ◌&&◌}
 use Rattle.std.proofs.Math.Bool.{Bool-set}
 use Rattle.std.proofs.Math.Bridge.{le_prop}
 use mathlib.Core.HLevel.{is_prop→PathP}
-use Rattle.std.proofs.lemmas.List.{get_or-drop, get_or-take, take_at}
+use Rattle.std.proofs.lemmas.List.{get_or-drop, take_at}
 use Rattle.md_device.specs.Splice.{part}
 use Rattle.md_device.specs.Device.{held}
+use Rattle.md_device.proofs.Splices.{slice_index-part}
 use Rattle.md_format.specs.Fields.{bytes_at}
 use Rattle.md_super.specs.declared.superblock.Superblock.{Superblock}
 use Rattle.md_super.specs.Log.{has_bad_block_log}
@@ -54,10 +55,6 @@ one_header bytes v w a b = λ i. record {
 same_bit : (xs ys : List ℕ) (i j : ℕ) → i % 8 ≡ j % 8 → slice_index xs (i / 8) ≡ slice_index ys (j / 8) → is_set xs i ≡ is_set ys j
 unfolding is_set
 same_bit xs ys i j place byte = rw (place, byte) refl
-
-slice_index-part : (xs : List ℕ) (at n i : ℕ) → i < n → slice_index (part xs at n) i ≡ slice_index xs (at + i)
-unfolding part
-slice_index-part xs at n i below = get_or-take n (drop at xs) i 0 below ∙ get_or-drop at xs i 0
 
 -- the sector that has a chunk's bit
 sector_has : (chunks c : ℕ) → c < chunks → (c + 2048) / 4096 < bitmap_sectors chunks

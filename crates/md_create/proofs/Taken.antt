@@ -21,6 +21,7 @@ use Rattle.md_members.specs.Members.{RefusesMember, RefusesRest, by_place, by_bi
 use Rattle.md_members.specs.Reading.{ReadsSuper, RefusesBitmap, RefusesSuper, chunks_of}
 use Rattle.md_create.specs.declared.params.NewMember.{NewMember}
 use Rattle.md_create.specs.Layout.{IsLaidOut}
+use Rattle.md_create.specs.Places.{HasNewPlaces}
 use Rattle.md_create.specs.ReadBack.{sealed}
 use Rattle.md_create.proofs.Laid.{few_sectors}
 use Rattle.md_create.proofs.Read.{chunks_read, front_read, header_read, no_log, super_read}
@@ -37,36 +38,51 @@ apart_behind a n b m behind = inr (omega (arith, ints))
 apart_as : (a b c d : Area) → a ≡ c → b ≡ d → AreApart c d → AreApart a b
 apart_as a b c d e f h = subst (λ (x : Area). AreApart x b) (sym e) (subst (λ (y : Area). AreApart c y) (sym f) h)
 
-module _ (member : NewMember) where
-  log_is : log_area (sealed member.superblock) ≡ record { start = pos 2032; sectors = 8 }
-  log_is = rw (member.new.places.bblog_offset, member.new.places.bblog_size) refl
+-- a superblock that names the places of a new member
+module _ (v : Superblock) (p : HasNewPlaces v) where
+  log_is : log_area v ≡ record { start = pos 2032; sectors = 8 }
+  log_is = rw (p.bblog_offset, p.bblog_size) refl
 
-  data_is : data_area (sealed member.superblock) ≡ record { start = pos 2048; sectors = member.superblock.data_size }
-  data_is = rw member.new.places.data_offset refl
+  data_is : data_area v ≡ record { start = pos 2048; sectors = v.data_size }
+  data_is = rw p.data_offset refl
 
-  bitmap_is : (width : ℕ) → bitmap_area (sealed member.superblock) width ≡ record { start = pos 16; sectors = width }
-  bitmap_is width = rw member.new.places.bitmap_offset refl
+  bitmap_is : (width : ℕ) → bitmap_area v width ≡ record { start = pos 16; sectors = width }
+  bitmap_is width = rw p.bitmap_offset refl
 
   -- its parts fit a device of its size, where the bitmap has room
-  placed : (sectors width : ℕ) → width ≤ 2016 → 2048 + member.superblock.data_size ≤ sectors → IsPlaced sectors (sealed member.superblock) width
-  placed sectors width few room = record {
-    some_size = member.new.places.some_size;
-    data_holds = member.new.places.data_holds;
-    data_within = omega (arith, member.new.places.data_offset);
-    data_apart = apart_as super_area (data_area (sealed member.superblock)) _ _ refl data_is (apart 8 8 2048 member.superblock.data_size (omega arith));
+  pub new_placed : (sectors width : ℕ) → width ≤ 2016 → 2048 + v.data_size ≤ sectors → IsPlaced sectors v width
+  new_placed sectors width few room = record {
+    some_size = p.some_size;
+    data_holds = p.data_holds;
+    data_within = omega (arith, p.data_offset);
+    data_apart = apart_as super_area (data_area v) _ _ refl data_is (apart 8 8 2048 v.data_size (omega arith));
     log = λ _. record {
-      short = omega (arith, member.new.places.bblog_size);
+      short = omega (arith, p.bblog_size);
       within = rw log_is (within sectors 2032 8 (omega arith));
-      from_super = apart_as super_area (log_area (sealed member.superblock)) _ _ refl log_is (apart 8 8 2032 8 (omega arith));
-      from_data = apart_as (data_area (sealed member.superblock)) (log_area (sealed member.superblock)) _ _ data_is log_is (apart_behind 2048 member.superblock.data_size 2032 8 (omega arith));
+      from_super = apart_as super_area (log_area v) _ _ refl log_is (apart 8 8 2032 8 (omega arith));
+      from_data = apart_as (data_area v) (log_area v) _ _ data_is log_is (apart_behind 2048 v.data_size 2032 8 (omega arith));
     };
     bitmap = λ _. record {
       within = rw (bitmap_is width) (within sectors 16 width (omega arith));
-      from_super = apart_as super_area (bitmap_area (sealed member.superblock) width) _ _ refl (bitmap_is width) (apart 8 8 16 width (omega arith));
-      from_data = apart_as (data_area (sealed member.superblock)) (bitmap_area (sealed member.superblock) width) _ _ data_is (bitmap_is width) (apart_behind 2048 member.superblock.data_size 16 width (omega arith));
-      from_log = λ _. apart_as (log_area (sealed member.superblock)) (bitmap_area (sealed member.superblock) width) _ _ log_is (bitmap_is width) (apart_behind 2032 8 16 width (omega arith));
+      from_super = apart_as super_area (bitmap_area v width) _ _ refl (bitmap_is width) (apart 8 8 16 width (omega arith));
+      from_data = apart_as (data_area v) (bitmap_area v width) _ _ data_is (bitmap_is width) (apart_behind 2048 v.data_size 16 width (omega arith));
+      from_log = λ _. apart_as (log_area v) (bitmap_area v width) _ _ log_is (bitmap_is width) (apart_behind 2032 8 16 width (omega arith));
     };
   }
+
+sealed_places : (member : NewMember) → HasNewPlaces (sealed member.superblock)
+sealed_places member =
+    let p = member.new.places in
+    record {
+      feature_map = p.feature_map;
+      bitmap_offset = p.bitmap_offset;
+      bblog_offset = p.bblog_offset;
+      bblog_shift = p.bblog_shift;
+      bblog_size = p.bblog_size;
+      data_offset = p.data_offset;
+      some_size = p.some_size;
+      data_holds = p.data_holds;
+    }
 
 -- each fault but NoMemory comes before it
 early : (f : SuperFault) → f ≢ super_fault.NoMemory → place f < 9
@@ -103,7 +119,7 @@ module _ (member : NewMember) (old new : List ℕ) (spelled : IsSuper (super_byt
 
   module _ (v : Superblock) (read : ReadsSuper new true v) where
     placed_in : (width : ℕ) → width ≤ 2016 → IsPlaced (sectors_in new) v width
-    placed_in width few = rw (super_read member old new spelled header_is long laid v read) (placed member (sectors_in new) width few (omega arith))
+    placed_in width few = rw (super_read member old new spelled header_is long laid v read) (new_placed (sealed member.superblock) (sealed_places member) (sectors_in new) width few (omega arith))
 
     bitmap_refused : (fault : MemberFault) → RefusesBitmap new true ⊥ (sectors_in new) v fault → fault ≡ NoMemory
     bitmap_refused ReadFault refused = absurd (refused refl)

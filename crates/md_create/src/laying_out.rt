@@ -3,6 +3,7 @@ ghost use Rattle.std.specs.Prelude.{◌≡◌, ◌≤◌, ◌*◌, length, true,
 ghost use Rattle.md_device.specs.Stops.{LeavesMore};
 ghost use Rattle.md_writes.specs.Writes.{MakesWrites};
 ghost use Rattle.md_create.specs.Layout.{IsHalfLaidOut, IsLaidOut, KeepsOthers, writes_of};
+ghost use Rattle.md_create.specs.ReadBack.{IsReadable};
 
 use crate::params::NewMember;
 use crate::places::{BITMAP_SECTOR, LOG_SECTOR};
@@ -18,6 +19,7 @@ pub fn lay_out<D: Device>(device: &mut D, member: &NewMember) -> Result<(), Writ
     ensures writes { MakesWrites D.Device (writes_of member.now) device.old device.new result }
     ensures outside { KeepsOthers member.now (D.content device.old) (D.content device.new) }
     ensures stops { OnOk result (D.honest device.old ≡ true → LeavesMore (D.stops device.old) (D.stops device.new) (IsHalfLaidOut (D.content device.old) member.now)) }
+    ensures readable { OnOk result (IsReadable member.now.superblock) }
     ensures laid_out { OnOk result (D.honest device.old ≡ true → IsLaidOut (D.content device.old) member.now (D.content device.new)) }
 {
     put(device, SUPER_SECTOR, &[0; 4096])?;

@@ -32,11 +32,11 @@ pub mixed_none : (sector : ℕ) (bytes old : List ℕ) → IsMixed sector bytes 
 mixed_none sector bytes old = record { outside = record { size = refl; before = refl; after = refl }; each = λ i within. inl refl }
 
 -- a content by its part before, in and after a range
-in_three : (xs : List ℕ) (at n : ℕ) → xs ≡ take at xs ++ (part xs at n ++ drop (at + n) xs)
+pub in_three : (xs : List ℕ) (at n : ℕ) → xs ≡ take at xs ++ (part xs at n ++ drop (at + n) xs)
 unfolding part
 in_three xs at n = sym (take-append-drop at xs) ∙ ap (λ ys. take at xs ++ ys) (sym (take-append-drop n (drop at xs)) ∙ ap (λ zs. take n (drop at xs) ++ zs) (drop-drop n at xs))
 
-three_same : (at n : ℕ) (xs ys : List ℕ) → SameOutside at n xs ys → (middle : List ℕ) → part ys at n ≡ middle → ys ≡ take at xs ++ (middle ++ drop (at + n) xs)
+pub three_same : (at n : ℕ) (xs ys : List ℕ) → SameOutside at n xs ys → (middle : List ℕ) → part ys at n ≡ middle → ys ≡ take at xs ++ (middle ++ drop (at + n) xs)
 three_same at n xs ys same middle is = in_three ys at n ∙ rw (same.before, same.after, is) refl
 
 -- a write of one sector is done or is not

@@ -1,6 +1,6 @@
 -- Lemmas on a list with a part of it replaced.
-use Rattle.std.proofs.Common.{◌≡◌, ℕ, ◌+◌, ◌-◌, ◌≤◌, List, ◌++◌, length, take, drop, refl, ap, sym, ◌∙◌, arith, length-append, length-drop, drop-drop}
-use Rattle.std.proofs.lemmas.List.{length-take, drop-take, take-take, take_at, drop_at, length-take-le}
+use Rattle.std.proofs.Common.{◌≡◌, ℕ, ◌+◌, ◌-◌, ◌<◌, ◌≤◌, List, ◌++◌, length, take, drop, slice_index, refl, ap, sym, ◌∙◌, arith, length-append, length-drop, drop-drop}
+use Rattle.std.proofs.lemmas.List.{length-take, drop-take, take-take, take_at, drop_at, length-take-le, get_or-take, get_or-drop}
 use Rattle.std.proofs.lemmas.Slice.{take-put_mid_below, drop-put_mid}
 use borrow.Rule.Slice.PartMut.{put_mid}
 use Rattle.md_device.specs.Splice.{spliced, part, SameOutside}
@@ -77,3 +77,17 @@ pub ruleset outsides = (outside_more, length-take)
 
 -- the lemmas for a caller that writes and then reads, to pass to `using`
 pub ruleset splices = (length-spliced, length-part, part-spliced, part-spliced_before, part-spliced_after, part_before, part_after, spliced_outside)
+
+-- ---- what stands in a part
+pub slice_index-part : (xs : List ℕ) (at n i : ℕ) → i < n → slice_index (part xs at n) i ≡ slice_index xs (at + i)
+unfolding part
+slice_index-part xs at n i h = get_or-take n (drop at xs) i 0 h ∙ get_or-drop at xs i 0
+
+pub part_part : (xs : List ℕ) (at long inner n : ℕ) → inner + n ≤ long → part (part xs at long) inner n ≡ part xs (at + inner) n
+unfolding part
+part_part xs at long inner n inside =
+    let whole : inner + (long - inner) ≡ long = omega arith in
+    ap (λ (m : ℕ). take n (drop inner (take m (drop at xs)))) (sym whole)
+    ∙ ap (take n) (drop-take inner (long - inner) (drop at xs))
+    ∙ take-take n (long - inner) (drop inner (drop at xs)) (omega arith)
+    ∙ ap (take n) (drop-drop inner at xs)

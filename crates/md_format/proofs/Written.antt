@@ -1,5 +1,5 @@
 -- What is read at a place of fields that were written one after the other.
-use Rattle.std.proofs.Common.{◌≡◌, ℕ, zero, suc, ◌+◌, ◌^◌, ◌<◌, ◌≤◌, List, [], ◌∷◌, ◌++◌, length, take, drop, slice_index, refl, ap, ◌∙◌, arith}
+use Rattle.std.proofs.Common.{◌≡◌, ℕ, zero, suc, ◌+◌, ◌^◌, ◌<◌, ◌≤◌, List, [], ◌∷◌, ◌++◌, length, take, drop, slice_index, refl, ap, ◌∙◌, arith, append_assoc}
 use Rattle.std.proofs.Math.Seq.{drop-append-add, take-append_seam}
 use Rattle.std.proofs.lemmas.List.{drop-append-le, get_or_append_left, length-drop, take-append-le}
 use Rattle.byteorder.specs.Endian.{little_bytes, little_from}
@@ -49,3 +49,7 @@ bytes_at-within n i front rest h =
 pub bytes_at-field : (n : ℕ) (field rest : List ℕ) → length field ≡ n → bytes_at n 0 (field ++ rest) ≡ field
 unfolding bytes_at
 bytes_at-field n field rest e = rw (← e) (take-append_seam field rest)
+
+-- fields after a front, one by one and as a group
+pub regroup_6 : (p a b c d e f : List ℕ) → p ++ a ++ b ++ c ++ d ++ e ++ f ≡ p ++ (a ++ b ++ c ++ d ++ e ++ f)
+regroup_6 p a b c d e f = simp append_assoc

@@ -172,7 +172,3 @@ on_ok (Err e) p = tt
 pub same_or : (a b : Bool) → b ≡ false → (a || b) ≡ a
 same_or true b e = refl
 same_or false b e = e
-
-pub then_or : (a b : Bool) → b ≡ true → (a || b) ≡ true
-then_or true b e = refl
-then_or false b e = e

@@ -2,6 +2,8 @@
 
 -- At most one element of a list passes a test where it counts at most one.
 pub mod Counting
+-- The freshest superblock of a list, found one by one.
+pub mod Freshest
 -- Elements of lists by their indices.
 pub mod Indices
 -- A function is applied to the elements of a list in turn.

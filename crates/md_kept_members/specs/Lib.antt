@@ -16,3 +16,5 @@ pub mod Remembering
 pub mod StoredMarks
 -- What is kept in memory of a device that left, and is taken back.
 pub mod TakingBack
+-- What is kept in memory of a new device that comes in as a spare, and which member's bitmap it goes by.
+pub mod Spares

@@ -3,6 +3,7 @@
 
 mod clearing;
 mod due;
+mod freshest;
 mod marking;
 mod member;
 mod other_in_sync;
@@ -10,16 +11,19 @@ mod own_fields;
 mod permitting;
 mod remembering;
 mod resyncing;
+mod spares;
 mod stored_marks;
 mod taking_back;
 
 pub use clearing::last_cleared;
 pub use due::make_due;
+pub use freshest::freshest_header;
 pub use marking::{needs_marks, united_marks};
 pub use member::Member;
 pub use other_in_sync::has_other_in_sync;
 pub use permitting::permitted_roles;
 pub use remembering::{chunking_of, members_of};
 pub use resyncing::is_resynced;
+pub use spares::kept_spare;
 pub use stored_marks::copy_block;
 pub use taking_back::taken_back;

@@ -10,5 +10,15 @@ pub mod FirstSector
 pub mod LeftAtStops
 -- What is read of devices goes by what stands on them.
 pub mod LeftContents
+-- A superblock that ends within its first sector is written over zeros: the write is done or is not.
+pub mod OverZeros
+-- What a stop leaves of a device that comes in or comes back is read by its first sector.
+pub mod ReadAs
 -- A stop within a copy of sectors leaves some of them copied: those are events, one after another.
 pub mod StoppedCopies
+-- A member that `re_add` has taken back, and what a stop within that call leaves of it.
+pub mod TakenBack
+-- What a stop within `add` leaves.
+pub mod WithinAdd
+-- What a stop within a `re_add` leaves that is refused, or whose write fails.
+pub mod WithinReAdd

@@ -1,7 +1,6 @@
 -- What a stop leaves of a mirror's devices: it comes between two calls or within one, of which its own contract says what may be
 -- left (`MayAllBeLeft`).
-use Rattle.std.specs.Prelude.{◌≡◌, ◌⊎◌, ℕ, ◌+◌, ◌*◌, ◌<◌, ◌≤◌, List, map, Option, slice_get, Some}
-use Rattle.md_format.specs.Fields.{number_at}
+use Rattle.std.specs.Prelude.{◌≡◌, ◌⊎◌, ℕ, ◌<◌, true, List, [], ◌∷◌, ◌++◌, length, map, Option, slice_get, Some}
 use Rattle.md_members.specs.Areas.{bitmap_sectors}
 use Rattle.md_model.specs.Worlds.{Request}
 use Rattle.md_requests.specs.Pending.{PendingView}
@@ -13,9 +12,11 @@ use Rattle.md_state.specs.Requests.{IsPending, among}
 use Rattle.md_state.specs.StoringMarks.{StoresMarkSector}
 use Rattle.md_state.specs.WritingMember.{FailsToWrite, HaltsWritingTo, WritesTo}
 use Rattle.md_array.specs.Events.{IsOldNewOrNone}
+use Rattle.md_array.specs.ReAdding.{ReAdds}
 use Rattle.md_array.specs.Recording.{FailsToRecord, HaltsRecording, Records, super_write}
 use Rattle.md_array.specs.Worlds.{block_on}
 use Rattle.md_laws.specs.Runs.{Moment}
+use Rattle.md_laws.specs.StopsReadAs.{EndsInFirstSector, ReadsAs}
 use Rattle.md_laws.specs.StopsWithin.{MayAllBeLeft}
 
 -- Of devices that were left what stands on them counts, and no more.
@@ -46,10 +47,6 @@ pub record IsLeftRecording (t : Moment) (left : List Disk) : Type 0 where
   pub within : IsLeftWithin t next left
   pub super : (m : MemberView) → IsMember t.mirror.array on m → AtDevice on t.mirror.disks left (IsOldNewOrNone (super_write t.mirror.array m).bytes)
 
--- a superblock of at most 128 roles ends within its first sector
-abbrev pub EndsInFirstSector : List ℕ → Type 0
-EndsInFirstSector block = 256 + 2 * number_at 4 220 block ≤ 512
-
 -- Within `record`, without that premise: the write is done, and both superblocks, the one that stands there and the one that is
 -- written, end within the first sector.
 pub record IsLeftRecordingShort (t : Moment) (left : List Disk) : Type 0 where
@@ -69,10 +66,22 @@ pub record IsLeftStoring (t : Moment) (left : List Disk) : Type 0 where
   pub call : StoresMarkSector on block t.mirror next
   pub within : IsLeftWithin t next left
 
+-- Within the `re_add` after which t is, where the superblock of the device that it takes back reads as after the call.
+pub record IsLeftTakingBack (t : Moment) (left : List Disk) : Type 0 where
+  pub on : ℕ
+  pub device : Disk
+  pub before : MirrorView
+  pub call : ReAdds on device before t.mirror
+  pub honest : device.honest ≡ true
+  pub within : MayAllBeLeft (before.disks ++ device ∷ []) t.mirror.disks (contents_of left)
+  pub reads : AtDevice (length before.disks) t.mirror.disks left (λ now e. ReadsAs (block_on e.content) (block_on now.content))
+
 -- What a stop leaves at t, or within a call from t. A call that is refused, and one that only changes memory (`begin`, `finish`,
 -- `clear_idle`, `make_clean`, `note_resynced`, `fail`), leave what was there (`stops_at_steps`); so does `remove`, and after it the
--- device that it handed back is none of these; and so does `re_add`, and until it is done the device that it takes back is none.
+-- device that it handed back is none of these. So do `re_add` and `add`, and until they are done the device that comes in or comes
+-- back is none of these. A stop within them that leaves it as it is after the call is one at the moment after the event, and so is
+-- one that leaves a device that comes back with a superblock that reads as after it.
 abbrev pub IsLeft : Moment → List Disk → Type 0
 IsLeft t left =
     (contents_of left ≡ contents_of t.mirror.disks)
-    ⊎ (IsLeftStoring t left ⊎ (IsLeftWriting t left ⊎ (IsLeftRecording t left ⊎ IsLeftRecordingShort t left)))
+    ⊎ (IsLeftStoring t left ⊎ (IsLeftWriting t left ⊎ (IsLeftRecording t left ⊎ (IsLeftRecordingShort t left ⊎ IsLeftTakingBack t left))))

@@ -19,6 +19,8 @@ pub mod Returning
 pub mod Left
 -- What a stop within a call leaves of a mirror's devices.
 pub mod StopsWithin
+-- What it leaves of a device that comes in or comes back, where the superblocks end within their first sectors.
+pub mod StopsReadAs
 -- What a stop leaves within the copy of a run of sectors.
 pub mod StoppedCopies
 -- A life of a mirror of one member: what the laws on lives ask can be met.

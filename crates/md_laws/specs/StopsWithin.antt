@@ -2,15 +2,23 @@
 use Rattle.std.specs.Prelude.{◌≡◌, ◌≢◌, ◌⊎◌, ℕ, true, List, [], ◌∷◌, ◌++◌, drop, length, map, slice_get, Some}
 use Rattle.std.specs.List.{insert}
 use Rattle.md_device.specs.Device.{held, written}
-use Rattle.md_writes.specs.Writes.{IsAnyIn, IsCutShort, Write}
+use Rattle.md_create.specs.Layout.{IsHalfLaidOut}
+use Rattle.md_writes.specs.Writes.{IsAnyIn, IsCutShort, Write, after as content_after}
 use Rattle.md_model.specs.Events.{Event}
+use Rattle.md_faults.specs.declared.add_fault.AddFault.{AddFault}
+use Rattle.md_faults.specs.declared.add_fault.AddFault.TheVariants.{WriteFault}
+use Rattle.md_faults.specs.declared.re_add_fault.ReAddFault.{ReAddFault}
+use Rattle.md_faults.specs.declared.re_add_fault.ReAddFault.TheVariants as re_add_fault
+use Rattle.md_kept_members.specs.TakingBack.{own_role}
+use Rattle.md_state.specs.Joining.{joined_shared}
 use Rattle.md_state.specs.View.{Disk, MirrorView}
 use Rattle.md_state.specs.DiskWrites.{IsFailed, IsTried, IsWritten}
 use Rattle.md_state.specs.Removing.{Removes}
 use Rattle.md_state.specs.Trying.{FailsWriting}
-use Rattle.md_array.specs.Events.{WritesOnce}
-use Rattle.md_array.specs.ReAdding.{ReAdds}
-use Rattle.md_array.specs.Recording.{super_write}
+use Rattle.md_array.specs.Adding.{Adds, FailsToAdd, RefusesAdd}
+use Rattle.md_array.specs.Events.{ComesLast, WritesOnce}
+use Rattle.md_array.specs.ReAdding.{FailsToReAdd, ReAdds, RefusesReAdd}
+use Rattle.md_array.specs.Recording.{super_write, write_of}
 use Rattle.md_array.specs.Worlds.{AreHonest}
 
 -- a stop since the device was d, and until it was e, might have left this
@@ -46,6 +54,46 @@ StopsAtReAdd =
     (k : ℕ) (device : Disk) (old new : MirrorView) (left : List (List ℕ)) → AreHonest old.disks → device.honest ≡ true → (r : ReAdds k device old new)
     → MayAllBeLeft (old.disks ++ device ∷ []) new.disks left
     → IsLeftBut (length old.disks) (λ was c. IsCutShort was (super_write new.array r.recorded.takes.member ∷ []) c) (old.disks ++ device ∷ []) left
+
+-- Where that write fails, a stop leaves this device as it was, or with any bytes in the superblock's range;
+abbrev pub StopsAtFailedReAdd : Type 0
+StopsAtFailedReAdd =
+    (device given : Disk) (old new : MirrorView) (left : List (List ℕ)) → device.honest ≡ true → (f : FailsToReAdd device given old new)
+    → MayAllBeLeft (old.disks ++ device ∷ []) (new.disks ++ given ∷ []) left
+    → IsLeftBut (length old.disks) (IsAnyIn (write_of (joined_shared old.array f.fails.member.superblock.dev_number (own_role f.info.superblock)) f.fails.member))
+    (old.disks ++ device ∷ []) left
+
+-- where it is refused for any other reason, each device as it was.
+abbrev pub StopsAtRefusedReAdd : Type 0
+StopsAtRefusedReAdd =
+    (device given : Disk) (old new : MirrorView) (left : List (List ℕ)) (fault : ReAddFault) → fault ≢ re_add_fault.WriteFault → device.honest ≡ true
+    → RefusesReAdd device given old new fault → MayAllBeLeft (old.disks ++ device ∷ []) (new.disks ++ given ∷ []) left
+    → IsLeftBut (length old.disks) (λ was c. c ≡ was) (old.disks ++ device ∷ []) left
+
+-- A stop at any moment of `add` leaves each device of the array as it was, and the new one, which stands behind them, as it was, as
+-- laid out, or half laid out.
+abbrev pub StopsAtAdd : Type 0
+StopsAtAdd =
+    (k : ℕ) (device : Disk) (old new : MirrorView) (left : List (List ℕ)) → device.honest ≡ true → (r : Adds k device old new)
+    → MayAllBeLeft (old.disks ++ device ∷ []) new.disks left
+    → IsLeftBut (length old.disks) (λ was c. IsHalfLaidOut was r.comes.laid c) (old.disks ++ device ∷ []) left
+
+-- the first of these writes were done, and the next of them was cut short; or all of them were done, and then one failed
+abbrev pub IsLeftFailing : List Write → Write → List ℕ → List ℕ → Type 0
+IsLeftFailing done failed old left = IsCutShort old done left ⊎ IsAnyIn failed (content_after old done) left
+
+-- Where one of the writes that lay it out fails, a stop leaves what those before it leave, or any bytes in its range.
+abbrev pub StopsAtFailedAdd : Type 0
+StopsAtFailedAdd =
+    (device given : Disk) (old new : MirrorView) (left : List (List ℕ)) → device.honest ≡ true → (f : FailsToAdd device given old new)
+    → MayAllBeLeft (old.disks ++ device ∷ []) (new.disks ++ given ∷ []) left
+    → IsLeftBut (length old.disks) (IsLeftFailing f.fails.writes.done f.fails.writes.tried) (old.disks ++ device ∷ []) left
+
+-- Where it is refused for any other reason, each device is left as it was.
+abbrev pub StopsAtRefusedAdd : Type 0
+StopsAtRefusedAdd =
+    (device given : Disk) (old new : MirrorView) (left : List (List ℕ)) (fault : AddFault) → fault ≢ WriteFault → RefusesAdd device given old new fault
+    → MayAllBeLeft (old.disks ++ device ∷ []) (new.disks ++ given ∷ []) left → left ≡ map (λ d. d.content) (old.disks ++ device ∷ [])
 
 -- A stop at any moment of a step that writes to device k leaves every other as it was, and k with each sector of the write as it
 -- was or as written;
@@ -89,31 +137,42 @@ StopsUndivided =
     → (held c w.sector (length w.bytes) ≡ held d.content w.sector (length w.bytes)) ⊎ (held c w.sector (length w.bytes) ≡ w.bytes))
     → (left ≡ map (λ d. d.content) before) ⊎ (left ≡ map (λ d. d.content) after)
 
+-- What a stop might have left of the devices of an event. One that leaves is not used: it stands where it stood. One that comes in or
+-- comes back stands behind the others, before the event too.
+abbrev pub MayBeLeftBy : (e : Event) (before after : List Disk) → WritesOnce e before after → List (List ℕ) → Type 0
+MayBeLeftBy (Event.Remove k) before after w left = MayAllBeLeft before (insert after k w.was) left
+MayBeLeftBy (Event.Add number new) before after w left = MayAllBeLeft (before ++ w.was ∷ []) after left
+MayBeLeftBy (Event.ReAdd own device new) before after w left = MayAllBeLeft (before ++ w.was ∷ []) after left
+MayBeLeftBy e before after w left = MayAllBeLeft before after left
+
+-- The new device is left with some first of its writes done and the next one cut short.
+abbrev pub IsLeftJoining : (before after : List Disk) → ComesLast before after → List (List ℕ) → Type 0
+IsLeftJoining before after w left = IsLeftBut (length before) (λ was c. IsCutShort was w.writes c) (before ++ w.was ∷ []) left
+
 -- What a stop leaves at a moment of the call of an event: what was there before it or what is after it, or its one write cut short.
--- Of a copy nothing is said here, as one write does many (`StoppedCopies`); nor of a member that leaves, whose device is no more
--- among these (`StopsAtRemoval`), or is new, which no call does yet. Of one that is taken back the devices that were there are
--- left as they were; what is left of its own, `StopsAtReAdd` says.
-abbrev pub IsLeftBy : Event → List Disk → List Disk → List (List ℕ) → Type 0
-IsLeftBy (Event.Record k) before after left = (w : Write) × IsWritten k w before after × IsLeftBut k (λ old c. IsCutShort old (w ∷ []) c) before left
-IsLeftBy (Event.WriteMember n k) before after left = (w : Write) × IsWritten k w before after × IsLeftBut k (λ old c. IsCutShort old (w ∷ []) c) before left
-IsLeftBy (Event.StoreMarks k b) before after left = (left ≡ map (λ d. d.content) before) ⊎ (left ≡ map (λ d. d.content) after)
-IsLeftBy (Event.RecordFails k) before after left = (w : Write) × IsFailed k w before after × IsLeftBut k (IsAnyIn w) before left
-IsLeftBy (Event.StoreMarksFails k b) before after left = (w : Write) × IsFailed k w before after × IsLeftBut k (IsAnyIn w) before left
-IsLeftBy (Event.WriteMemberFails n k) before after left = (w : Write) × IsFailed k w before after × IsLeftBut k (IsAnyIn w) before left
-IsLeftBy (Event.CopyFails k c) before after left = (w : Write) × IsFailed k w before after × IsLeftBut k (IsAnyIn w) before left
-IsLeftBy (Event.Copy from k s) before after left = Unit {0}
-IsLeftBy Event.Resynced before after left = left ≡ map (λ d. d.content) before
-IsLeftBy Event.Unresynced before after left = left ≡ map (λ d. d.content) before
-IsLeftBy (Event.Remove k) before after left = Unit {0}
-IsLeftBy (Event.Add number new) before after left = Unit {0}
-IsLeftBy (Event.ReAdd own device new) before after left = left ≡ map (λ d. d.content) before
-IsLeftBy Event.MakeClean before after left = left ≡ map (λ d. d.content) before
-IsLeftBy (Event.Begin n p) before after left = left ≡ map (λ d. d.content) before
-IsLeftBy (Event.Finish n) before after left = left ≡ map (λ d. d.content) before
-IsLeftBy (Event.ClearIdle c) before after left = left ≡ map (λ d. d.content) before
-IsLeftBy (Event.Fail k) before after left = left ≡ map (λ d. d.content) before
+-- Of a copy nothing is said here, as one write does many (`StoppedCopies`). Of a new device several writes are made.
+abbrev pub IsLeftBy : (e : Event) (before after : List Disk) → WritesOnce e before after → List (List ℕ) → Type 0
+IsLeftBy (Event.Record k) before after once left = (w : Write) × IsWritten k w before after × IsLeftBut k (λ old c. IsCutShort old (w ∷ []) c) before left
+IsLeftBy (Event.WriteMember n k) before after once left = (w : Write) × IsWritten k w before after × IsLeftBut k (λ old c. IsCutShort old (w ∷ []) c) before left
+IsLeftBy (Event.StoreMarks k b) before after w left = (left ≡ map (λ d. d.content) before) ⊎ (left ≡ map (λ d. d.content) after)
+IsLeftBy (Event.RecordFails k) before after once left = (w : Write) × IsFailed k w before after × IsLeftBut k (IsAnyIn w) before left
+IsLeftBy (Event.StoreMarksFails k b) before after once left = (w : Write) × IsFailed k w before after × IsLeftBut k (IsAnyIn w) before left
+IsLeftBy (Event.WriteMemberFails n k) before after once left = (w : Write) × IsFailed k w before after × IsLeftBut k (IsAnyIn w) before left
+IsLeftBy (Event.CopyFails k c) before after once left = (w : Write) × IsFailed k w before after × IsLeftBut k (IsAnyIn w) before left
+IsLeftBy (Event.Copy from k s) before after w left = Unit {0}
+IsLeftBy Event.Resynced before after w left = left ≡ map (λ d. d.content) before
+IsLeftBy Event.Unresynced before after w left = left ≡ map (λ d. d.content) before
+IsLeftBy (Event.Remove k) before after w left = left ≡ map (λ d. d.content) before
+IsLeftBy (Event.Add number new) before after w left = IsLeftJoining before after w left
+IsLeftBy (Event.ReAdd own device new) before after w left =
+    IsLeftBut (length before) (λ was c. IsCutShort was (w.write ∷ []) c) (before ++ w.was ∷ []) left
+IsLeftBy Event.MakeClean before after w left = left ≡ map (λ d. d.content) before
+IsLeftBy (Event.Begin n p) before after w left = left ≡ map (λ d. d.content) before
+IsLeftBy (Event.Finish n) before after w left = left ≡ map (λ d. d.content) before
+IsLeftBy (Event.ClearIdle c) before after w left = left ≡ map (λ d. d.content) before
+IsLeftBy (Event.Fail k) before after w left = left ≡ map (λ d. d.content) before
 
 abbrev pub StopsAtEvents : Type 0
 StopsAtEvents =
-    (e : Event) (before after : List Disk) (left : List (List ℕ)) → AreHonest before → WritesOnce e before after → MayAllBeLeft before after left
-    → IsLeftBy e before after left
+    (e : Event) (before after : List Disk) (left : List (List ℕ)) → AreHonest before → (w : WritesOnce e before after) → MayBeLeftBy e before after w left
+    → IsLeftBy e before after w left

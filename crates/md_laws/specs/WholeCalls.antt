@@ -5,6 +5,7 @@ use Rattle.md_state.specs.FailingMembers.{FailsMember}
 use Rattle.md_state.specs.Removing.{Removes}
 use Rattle.md_state.specs.Requests.{AreInFlight}
 use Rattle.md_state.specs.View.{Disk, MirrorView}
+use Rattle.md_array.specs.Adding.{Adds, add_event}
 use Rattle.md_array.specs.Consistency.{IsConsistent}
 use Rattle.md_array.specs.InTurn.{AllLeftWhole, Leads, Requests}
 use Rattle.md_array.specs.ReAdding.{ReAdds, re_add_event}
@@ -34,7 +35,14 @@ RemoveIsACall =
     (k : ℕ) (disk : Disk) (old new : MirrorView) → IsConsistent old → Removes k disk old new
     → (previous : Option Event) (requests : Requests) → AreInFlight old.array requests → Leads previous old requests (Event.Remove k ∷ []) new requests
 
--- So is `re_add`, where the device that it takes back does what it answers.
+-- So is `add`, where the new device does what it answers,
+abbrev pub AddIsACall : Type 0
+AddIsACall =
+    (k : ℕ) (device : Disk) (old new : MirrorView) → IsConsistent old → device.honest ≡ true → (r : Adds k device old new)
+    → (previous : Option Event) (requests : Requests) → AreInFlight old.array requests
+    → Leads previous old requests (add_event k device old new r ∷ []) new requests
+
+-- and `re_add`, where the device that it takes back does what it answers.
 abbrev pub ReAddIsACall : Type 0
 ReAddIsACall =
     (k : ℕ) (device : Disk) (old new : MirrorView) → IsConsistent old → device.honest ≡ true → (r : ReAdds k device old new)

@@ -17,7 +17,8 @@ ghost use Rattle.md_laws.specs.LeftBehind.{LiesBehind};
 ghost use Rattle.md_laws.specs.Lives.{AtEachMoment, ContentGoesAlong, FindsInSync, FitsWhenThere, IsReadAsKeptInLives, KeepsContent, KeepsGeometry, StaysAsLeft};
 ghost use Rattle.md_laws.specs.Returning.{StartsAgain};
 ghost use Rattle.md_laws.specs.Runs.{HasContent};
-ghost use Rattle.md_laws.specs.StopsWithin.{StopsAsFailed, StopsAsTried, StopsAtEvents, StopsAtFailure, StopsAtReAdd, StopsAtRemoval, StopsAtSector, StopsAtWrite, StopsInMemory, StopsUndivided};
+ghost use Rattle.md_laws.specs.StopsReadAs.{ReadsAtAdd, ReadsAtReAdd};
+ghost use Rattle.md_laws.specs.StopsWithin.{StopsAsFailed, StopsAsTried, StopsAtAdd, StopsAtEvents, StopsAtFailedAdd, StopsAtFailedReAdd, StopsAtFailure, StopsAtReAdd, StopsAtRefusedAdd, StopsAtRefusedReAdd, StopsAtRemoval, StopsAtSector, StopsAtWrite, StopsInMemory, StopsUndivided};
 
 /// A mirror that was opened from devices that do what they answer is an opened world of the model, by
 /// the array's superblock: the opening stored all marks where the bitmap was not accepted, and nothing
@@ -47,8 +48,9 @@ pub fn opening()
 /// and made its member faulty. A refused call is none. What a stop within a call leaves is what the call's
 /// own contract gives (`IsLeft`): of its write each sector as before or as written, or any bytes in its range
 /// where the write fails. A stop within `record` left the old superblock, the new one or none that can be
-/// decoded: a premise, unless the write is done and neither superblock has more than 128 roles. Nothing is said
-/// of a stop within a write of marks, or of a copy, that fails.
+/// decoded: a premise, unless the write is done and neither superblock has more than 128 roles. A device that comes in
+/// or comes back is one of those that were left where it is as after the call; of one that comes back it is enough that
+/// its superblock reads so. Nothing is said of a stop within a write of marks, or of a copy, that fails.
 ///
 /// An opening after a stop is of devices that were left, in any order, some of them missing (`IsReopened`). Beside
 /// them may be further ones, which the opening before left out (`IsFurther`): they are not found in sync. Its
@@ -117,12 +119,21 @@ pub fn half_opening()
     ensures as_left { StaysAsLeft }
 {}
 
-/// What a stop at any moment of a step leaves, where the step makes a write to one device, or none. Each event
-/// is of such a step (`Does`).
+/// What a stop at any moment of a step leaves, where the step makes a write to one device, or none, or lays a new one
+/// out. Each event is of such a step (`Does`). A superblock of at most 128 roles ends within its first sector, which is
+/// written whole or not at all. So that of a device that comes back then reads as before the call or as after it; and one
+/// that comes in is as after the call, or has the wipe of its old superblock cut short, or zeros in place of one.
 pub fn stops_at_steps()
     ensures memory { StopsInMemory }
     ensures removal { StopsAtRemoval }
     ensures re_add { StopsAtReAdd }
+    ensures failed_re_add { StopsAtFailedReAdd }
+    ensures refused_re_add { StopsAtRefusedReAdd }
+    ensures re_add_read { ReadsAtReAdd }
+    ensures add { StopsAtAdd }
+    ensures add_read { ReadsAtAdd }
+    ensures failed_add { StopsAtFailedAdd }
+    ensures refused_add { StopsAtRefusedAdd }
     ensures written { StopsAtWrite }
     ensures sector { StopsAtSector }
     ensures failed { StopsAtFailure }

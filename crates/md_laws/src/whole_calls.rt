@@ -2,7 +2,7 @@
 
 ghost use Rattle.md_laws.specs.StoppedCopies.{StopsAtCopies};
 ghost use Rattle.md_laws.specs.ReadInTurn.{ReadingCallsAreRuns};
-ghost use Rattle.md_laws.specs.WholeCalls.{CallsAreRuns, FailIsACall, ReAddIsACall, RemoveIsACall, RunsGoOn};
+ghost use Rattle.md_laws.specs.WholeCalls.{AddIsACall, CallsAreRuns, FailIsACall, ReAddIsACall, RemoveIsACall, RunsGoOn};
 
 /// A call that is a list of events (`Leads`) is a run of the mirror, from any moment of its life on, and
 /// goes on with the run before it. So `every_run` speaks of it. It is asked that devices do what they
@@ -20,9 +20,10 @@ pub fn leaving_calls()
     ensures remove { RemoveIsACall }
 {}
 
-/// A device that is taken back is in the list too: each `re_add` that answers `Ok` is a list of one event, where that
-/// device does what it answers.
+/// A device that comes in or is taken back is in the list too: each `add` and each `re_add` that answers `Ok` is a list of
+/// one event, where that device does what it answers.
 pub fn joining_calls()
+    ensures add { AddIsACall }
     ensures re_add { ReAddIsACall }
 {}
 

@@ -4,12 +4,13 @@ use Rattle.std.specs.Prelude.{MatchResult, Result, Ok, Err}
 use Rattle.std.proofs.lemmas.Bool.{cases_lt}
 use Rattle.std.proofs.lemmas.Bool.Decides.{eqb_tells, nat_tests}
 use Rattle.std.proofs.lemmas.Option.{none-some}
+use Rattle.std.proofs.Math.Bool.{and-false}
 use Rattle.md_model.specs.Events.{Event}
 use Rattle.md_bitmap.specs.Marks.{is_set}
 use Rattle.md_requests.specs.declared.extent.Extent.{Extent}
 use Rattle.md_requests.specs.Pending.{PendingView}
-use Rattle.md_state.specs.declared.step_fault.ClearFault.{ClearFault}
-use Rattle.md_state.specs.declared.step_fault.ClearFault.TheVariants.{Halted, NotResynced, Degraded, Busy, NotMarked}
+use Rattle.md_faults.specs.declared.step_fault.ClearFault.{ClearFault}
+use Rattle.md_faults.specs.declared.step_fault.ClearFault.TheVariants.{Halted, NotResynced, Degraded, Busy, NotMarked}
 use Rattle.md_state.specs.View.{ArrayView, MirrorView}
 use Rattle.md_state.specs.ClearingMarks.{Clears, RefusesClear, first_touching}
 use Rattle.md_state.specs.MakingClean.{first_number}
@@ -100,13 +101,9 @@ to_all n old new sound past g = record {
   marks_alone = g.marks_alone;
   none = λ c. g.bits c ∙ elim (cases_lt c n) [
     | inl low ↦ before n c (is_set old.array.marks.bytes c) low
-    | inr high ↦ ap (λ b. nat_le n c && b) (sound.chunks.none_past c (omega arith)) ∙ none_of (nat_le n c)
+    | inr high ↦ ap (λ b. nat_le n c && b) (sound.chunks.none_past c (omega arith)) ∙ and-false (nat_le n c)
   ];
 }
   where
     before : (n c : ℕ) (x : Bool) → c < n → (nat_le n c && x) ≡ false
     before n c x low = grind (arith, nat_tests)
-
-    none_of : (b : Bool) → (b && false) ≡ false
-    none_of true = refl
-    none_of false = refl

@@ -6,13 +6,11 @@ use Rattle.std.proofs.lemmas.Option.{same_Some, slice_get-map, slice_get_within}
 use Rattle.md_model.specs.Events.{Event}
 use Rattle.md_model.specs.Sectors.{block_of}
 use Rattle.md_bitmap.specs.Marks.{is_set}
-use Rattle.md_assembly.specs.declared.state.MemberState.{MemberState}
-use Rattle.md_assembly.specs.declared.state.MemberState.TheVariants.{InSync, Recovering, Stale, Spare, Faulty}
 use Rattle.md_assembly.specs.States.{is_in_sync, is_recorded}
 use Rattle.md_requests.specs.Pending.{PendingView}
 use Rattle.md_kept_members.specs.View.{MemberView}
 use Rattle.md_kept_members.specs.Members.{made_due}
-use Rattle.md_state.specs.declared.step_fault.StoreFault.TheVariants.{Halted, NotActive, MemberFailed}
+use Rattle.md_faults.specs.declared.step_fault.StoreFault.TheVariants.{Halted, NotActive, MemberFailed}
 use Rattle.md_state.specs.Members.{IsMember}
 use Rattle.md_state.specs.Rising.{Fails, made_faulty}
 use Rattle.md_state.specs.View.{ArrayView, MirrorView}
@@ -27,6 +25,7 @@ use Rattle.md_array.specs.Recording.{FailsToRecord, Records, RefusesRecord}
 use Rattle.md_array.specs.Worlds.{AreHonest}
 use Rattle.md_array.proofs.General.Replaced.{of_set}
 use Rattle.md_array.proofs.General.Indices.{at_set_same}
+use Rattle.md_array.proofs.Worlds.States.{in_sync_recorded}
 use Rattle.md_metadata.specs.declared.fault.PartFault.TheVariants as part
 use Rattle.md_metadata.specs.Going.{HaltsAfter, IsFaulty, IsSameArray, LosesMember, StepsBy, only_others, recorded_count}
 use Rattle.md_metadata.specs.Storing.{AllStayReady, IsRecording, IsSector, RecordingFails, RecordsOn, SectorFails, StoresOn}
@@ -110,13 +109,6 @@ module _ (a b : ArrayView) (k : ℕ) (f : Fails k a b) (in_use : is_recorded f.m
         faulty = refl;
       }
 
-pub recorded_in_sync : (s : MemberState) → is_in_sync s ≡ true → is_recorded s ≡ true
-recorded_in_sync (InSync role) e = refl
-recorded_in_sync (Recovering role) e = absurd cc
-recorded_in_sync (Stale role) e = absurd cc
-recorded_in_sync Spare e = absurd cc
-recorded_in_sync Faulty e = absurd cc
-
 pub in_use_there : (a : ArrayView) (k : ℕ) (m n : MemberView) → IsMember a k n → IsMember a k m → is_recorded m.state ≡ true → is_recorded n.state ≡ true
 in_use_there a k m n at_n at_m e = ap (λ (x : MemberView). is_recorded x.state) (same_Some n m (sym at_n ∙ at_m)) ∙ e
 
@@ -163,7 +155,7 @@ module _ (old new : MirrorView) (k block : ℕ) (sound : IsConsistent new) (pend
       }
 
   sector_in_use : (f : FailsToStoreMarks k block old new) → is_recorded f.fails.array.member.state ≡ true
-  sector_in_use f = in_use_there old.array k f.member f.fails.array.member f.fails.array.at f.may.in_sync.member (recorded_in_sync f.member.state f.may.in_sync.in_sync)
+  sector_in_use f = in_use_there old.array k f.member f.fails.array.member f.fails.array.at f.may.in_sync.member (in_sync_recorded f.member.state f.may.in_sync.in_sync)
 
   pub sector_fails : IsSectorDue old.array k block → (j : ℕ) → RefusesMarkSector k block old new (MemberFailed j) → Happens old (Event.StoreMarksFails k block) new
       → SectorFails k block old new (part.MemberFailed j)

@@ -2,14 +2,15 @@
 use Rattle.std.proofs.Common.{◌≡◌, ◌≢◌, ℕ, Bool, true, false, cond, not, ◌&&◌, ◌==◌, refl, sym, ap, ◌∙◌, subst, arith, inl, inr}
 use Rattle.std.specs.Prelude.{Result, Ok, Err, MatchResult}
 use Rattle.std.proofs.lemmas.Bool.Decides.{eqb_tells}
+use Rattle.std.proofs.lemmas.Bool.{and_parts, not-true}
 use Rattle.md_model.specs.Events.{Event}
 use Rattle.md_bitmap.specs.Marks.{Bitmap, is_set}
 use Rattle.md_requests.specs.Pending.{PendingView}
 use Rattle.md_kept_members.specs.View.{MemberView}
 use Rattle.md_assembly.specs.States.{is_recorded}
 use Rattle.md_kept_members.specs.Members.{made_due}
-use Rattle.md_state.specs.declared.step_fault.CleanFault.{CleanFault}
-use Rattle.md_state.specs.declared.step_fault.CleanFault.TheVariants as clean
+use Rattle.md_faults.specs.declared.step_fault.CleanFault.{CleanFault}
+use Rattle.md_faults.specs.declared.step_fault.CleanFault.TheVariants as clean
 use Rattle.md_state.specs.View.{ArrayView, MirrorView}
 use Rattle.md_state.specs.Members.{clean_offset, is_degraded}
 use Rattle.md_state.specs.Rising.{HasSpentEvents}
@@ -30,20 +31,13 @@ use Rattle.md_metadata.proofs.StoredMembers.{IsLasting, last_on}
 use Rattle.md_metadata.proofs.StoredSectors.{all_marks_last}
 
 -- ---- what is looked at first
-both_true : (a b : Bool) → (a && b) ≡ true → (a ≡ true) × (b ≡ true)
-both_true true b e = (refl, e)
-both_true false b e = absurd cc
 
 not_same : (x y : ℕ) → not (x == y) ≡ true → x ≢ y
 not_same x y e same = elim (eqb_tells x y) [ inl alike ↦ let t = alike.0 in absurd cc | inr apart ↦ apart.1 same ]
 
-flipped : (b : Bool) → not b ≡ true → b ≡ false
-flipped true e = absurd cc
-flipped false e = refl
-
 pub cannot_rise : (a : ArrayView) → IsIdle a → makes_clean a ≡ true → HasSpentEvents a → CannotRise a
 cannot_rise a idle makes spent =
-    let both = both_true a.resynced _ makes in
+    let both = and_parts a.resynced _ makes in
     record { idle = idle; resynced = both.0; active = not_same a.shared.resync_offset clean_offset both.1; spent = spent }
 
 -- ---- in memory
@@ -58,8 +52,8 @@ settling_stops e is = absurd is
 
 pub may_clear : (a : ArrayView) → IsIdle a → clears_marks a ≡ true → MayClearAll a
 may_clear a idle clears =
-    let both = both_true a.resynced _ clears in
-    record { idle = idle; resynced = both.0; full = flipped (is_degraded a) both.1 }
+    let both = and_parts a.resynced _ clears in
+    record { idle = idle; resynced = both.0; full = not-true (is_degraded a) both.1 }
 
 module _ (old new : MirrorView) where
   pub cleared_all : clears_marks old.array ≡ true → ClearsAll old new → ClearsIfFull old new
@@ -80,10 +74,10 @@ cleared_none m sound keeps = record {
 
 module _ (old new : MirrorView) (idle : IsIdle old.array) (makes : makes_clean old.array ≡ true) (unspent : HasSpentEvents old.array → ⊥) where
   resynced : old.array.resynced ≡ true
-  resynced = (both_true old.array.resynced _ makes).0
+  resynced = (and_parts old.array.resynced _ makes).0
 
   active : old.array.shared.resync_offset ≢ clean_offset
-  active = not_same old.array.shared.resync_offset clean_offset (both_true old.array.resynced _ makes).1
+  active = not_same old.array.shared.resync_offset clean_offset (and_parts old.array.resynced _ makes).1
 
   clean_refused : {P : Type 0} (fault : CleanFault) → RefusesClean old new fault → P
   clean_refused clean.Halted r = absurd (let yes = r.reason in let out = idle.running in cc)

@@ -1,13 +1,12 @@
 -- What is stored on the members, one after another.
-use Rattle.std.proofs.Common.{◌≡◌, ℕ, ◌+◌, ◌≤◌, length, slice_get, Some, sym, ap, ◌∙◌, subst, arith}
-use Rattle.std.proofs.lemmas.Option.{same_Some, slice_get_within}
-use Rattle.std.specs.Prelude.{option_map}
+use Rattle.std.proofs.Common.{◌≡◌, ℕ, ◌+◌, ◌≤◌, length, subst, arith}
+use Rattle.std.proofs.lemmas.Option.{slice_get_within}
 use Rattle.md_model.specs.Events.{Event}
 use Rattle.md_model.proofs.Puts.{by_same}
 use Rattle.md_bitmap.specs.Marks.{Bitmap}
 use Rattle.md_kept_members.specs.View.{MemberView}
 use Rattle.md_state.specs.View.{ArrayView, MirrorView}
-use Rattle.md_state.specs.Members.{IsInSync, IsMember}
+use Rattle.md_state.specs.Members.{IsInSync}
 use Rattle.md_state.specs.WritingMember.{IsNotDue}
 use Rattle.md_array.specs.Consistency.{IsConsistent}
 use Rattle.md_metadata.specs.Storing.{StaysReady, Stores, StoresAll, StoresAt, StoresBelow}
@@ -51,7 +50,3 @@ module _ (Of : Event → Type 0) (Done : MemberView → Type 0) where
   last_on old mid new lasting same all h k m in_sync =
       let s : StaysReady mid.array new.array k m = h.ready.each k m in_sync.member in
       lasting.lasts mid.array new.array k m same s (all k s.before (was_in_sync mid.array new.array k m s in_sync))
-
--- what the observers tell of a member
-pub told : {X : Type 0} (f : MemberView → X) (a : ArrayView) (k : ℕ) (m : MemberView) (x : X) → option_map f (slice_get a.members k) ≡ Some x → IsMember a k m → f m ≡ x
-told f a k m x e at = same_Some (f m) x (sym (ap (option_map f) at) ∙ e)

@@ -12,12 +12,13 @@ use Rattle.md_state.specs.WritingMember.{IsNotDue}
 use Rattle.md_array.specs.Consistency.{IsConsistent}
 use Rattle.md_array.specs.InTurn.{IsRecordDue, IsSectorDue}
 use Rattle.md_array.proofs.General.Indices.{at_set_same}
+use Rattle.md_array.proofs.Worlds.States.{in_sync_recorded}
 use Rattle.md_metadata.specs.declared.fault.PartFault.{PartFault}
 use Rattle.md_metadata.specs.declared.fault.PartFault.TheVariants.{Halted, MemberFailed}
 use Rattle.md_metadata.specs.Going.{StepsBy, only_others}
 use Rattle.md_metadata.specs.Storing.{IsRecorded, IsRecording, IsSector, LosesStoring, RecordingFails, RecordsAll, RecordsAt, RecordsBelow, RecordsOn, StaysReady, StoresAt, StoresOn, StoringFails}
 use Rattle.md_metadata.proofs.Going.{first_records, goes_step, halts_on, kept_before, ready_on, same_state, step_as, step_loses, stores_nowhere, stores_on, stores_step, stores_two, two_lose, was_in_sync}
-use Rattle.md_metadata.proofs.Steps.{now_at, recorded_in_sync}
+use Rattle.md_metadata.proofs.Steps.{now_at}
 
 -- the first sector comes before a record that is due
 pub header_due : (a : ArrayView) (k : ℕ) → ((m : MemberView) → IsMember a k m → m.due ≡ true) → IsSectorDue a k 0
@@ -39,7 +40,7 @@ module _ (k : ℕ) (old mid : MirrorView) (s : StoresOn k 0 old mid) where
   }
 
   pub still_recorded : (m : MemberView) → IsMember mid.array k m → is_recorded m.state ≡ true
-  still_recorded m at = recorded_in_sync m.state (ap (λ (x : MemberView). is_in_sync x.state) (is_now m at) ∙ s.gives.may.in_sync.in_sync)
+  still_recorded m at = in_sync_recorded m.state (ap (λ (x : MemberView). is_in_sync x.state) (is_now m at) ∙ s.gives.may.in_sync.in_sync)
 
   pub in_sync_due : ((m : MemberView) → IsMember old.array k m → m.due ≡ true) → ((j : ℕ) (m : MemberView) → j < k → IsInSync old.array j m → IsNotDue m)
       → IsRecordDue (Some (Event.StoreMarks k 0)) mid.array k

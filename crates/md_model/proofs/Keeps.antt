@@ -1,6 +1,7 @@
 -- Every event keeps the invariant.
 use Rattle.std.proofs.Common.{◌≡◌, ℕ, ◌<◌, ◌+◌, ◌↔◌, Bool, true, false, cond, ◌&&◌, ◌||◌, ◌⊎◌, inr, ⊎_elim, refl, sym, ap, ◌∙◌, subst, eqb, eq-eqb, true≢false, arith, List, [], ◌∷◌}
 use Rattle.std.specs.Prelude.{Some, None, nat_lt, not}
+use Rattle.std.proofs.lemmas.Bool.{or_right, not-true, and_parts}
 use Rattle.md_model.specs.Sectors.{Geometry, chunk_of, put}
 use Rattle.md_model.specs.States.{State, is_recorded, is_in_sync}
 use Rattle.md_model.specs.Devices.{Super, Stored, AgreeAt}
@@ -15,7 +16,7 @@ use Rattle.md_model.proofs.Membership.{former_joins, number_absent, recorded_joi
 use Rattle.md_model.specs.Events.{Event, Fails, Happens, Step}
 use Rattle.md_model.specs.Openings.{IsWithinLimits}
 use Rattle.md_model.specs.Runs.{History, away_after, failed_after, tried_after, then_in, Run}
-use Rattle.md_model.proofs.Cases.{both, by_test, none_some, is_below, not_below}
+use Rattle.md_model.proofs.Cases.{by_test, none_some, is_below, not_below}
 use Rattle.md_model.proofs.Puts.{put-at, put-same, put-hit, put-twice}
 use Rattle.md_model.proofs.Tracked.{IsTracked, tracked_fewer}
 use Rattle.md_model.proofs.TrackedSteps.{fewer_recorded, fewer_failed, tracked_risen, tracked_entered, tracked_finished, tracked_unmarked, tracked_marks_stored, tracked_written, other_flights}
@@ -40,14 +41,6 @@ pub record IsKept (g : Geometry) (opened : Super) (h : History) : Type 0 where
 pub begin_after : (g : Geometry) (w : World) (n : ℕ) (p : Request) (rises full : Bool) → MayBegin g w n p → MayBegin g (risen_if g w rises full) n p
 begin_after g w n p true full m = record { resynced = m.resynced; new = m.new; apart = m.apart; some = m.some; inside = m.inside; unwritten = m.unwritten }
 begin_after g w n p false full m = m
-
-or_last : (a b : Bool) → b ≡ true → (a || b) ≡ true
-or_last true b e = refl
-or_last false b e = e
-
-pub not_true : (b : Bool) → not b ≡ true → b ≡ false
-not_true true e = absurd (true≢false (sym e))
-not_true false e = refl
 
 module _ (g : Geometry) (small : IsWithinLimits g) where
   fails_tracked : (w : World) (k : ℕ) (left : Stored) (w' : World) → Fails g w k left w' → IsTracked g w → IsTracked g w'
@@ -276,12 +269,12 @@ module _ (g : Geometry) (small : IsWithinLimits g) (opened : Super) (away : ℕ 
   alone_step w (Event.Add d left) w' gone then t s = subst (IsAlone g away) (sym s.4) (λ n p e _ off low. put-at d 65535 (role_at_rise g w) e (λ x. x < g.raid_disks → ⊥)
       (λ _ l. let few = small.few in omega arith) (λ _ l. absent_none g w e small.few (gone e off) l) low)
   alone_step w (Event.ReAdd own device left) w' gone then t s = subst (IsAlone g away) (sym s.4) (λ n p e _ off low. put-at own.number (own.role own.number) (role_at_rise g w) e (λ x. x < g.raid_disks → ⊥)
-      (λ same l. true≢false (sym (ap (λ (v : World). v.present e) s.4 ∙ or_last (w.present e) (eqb e own.number) (eq-eqb e own.number same)) ∙ then e off)) (λ _ l. absent_none g w e small.few (gone e off) l) low)
+      (λ same l. true≢false (sym (ap (λ (v : World). v.present e) s.4 ∙ or_right (w.present e) (eqb e own.number) (eq-eqb e own.number same)) ∙ then e off)) (λ _ l. absent_none g w e small.few (gone e off) l) low)
 
 -- what stays away was away
 still_away : (e : Event) (before : ℕ → Bool) (d : ℕ) → away_after e before d ≡ true → before d ≡ true
-still_away (Event.Add number left) before d x = (both (before d) (not (eqb d number)) x).0
-still_away (Event.ReAdd own device left) before d x = (both (before d) (not (eqb d own.number)) x).0
+still_away (Event.Add number left) before d x = (and_parts (before d) (not (eqb d number)) x).0
+still_away (Event.ReAdd own device left) before d x = (and_parts (before d) (not (eqb d own.number)) x).0
 still_away (Event.Remove k) before d x = x
 still_away (Event.Begin n p) before d x = x
 still_away (Event.Record k) before d x = x
@@ -335,11 +328,11 @@ gone_step g w Event.Unresynced w' before gone s d x = ap (λ (v : World). v.pres
 gone_step g w Event.MakeClean w' before gone s d x = ap (λ (v : World). v.present d) s.3 ∙ gone d x
 gone_step g w (Event.Remove k) w' before gone s d x = ap (λ (v : World). v.present d) s.3 ∙ removed_present g w k (is_spare (w.state k)) s.0 d ∙ never_both (w.present d) (not (eqb d (w.number k))) (gone d x)
 gone_step g w (Event.Add number left) w' before gone s d x =
-    let parts = both (before d) (not (eqb d number)) x in
-    ap (λ (v : World). v.present d) s.4 ∙ neither (w.present d) (eqb d number) (gone d parts.0) (not_true (eqb d number) parts.1)
+    let parts = and_parts (before d) (not (eqb d number)) x in
+    ap (λ (v : World). v.present d) s.4 ∙ neither (w.present d) (eqb d number) (gone d parts.0) (not-true (eqb d number) parts.1)
 gone_step g w (Event.ReAdd own device left) w' before gone s d x =
-    let parts = both (before d) (not (eqb d own.number)) x in
-    ap (λ (v : World). v.present d) s.4 ∙ neither (w.present d) (eqb d own.number) (gone d parts.0) (not_true (eqb d own.number) parts.1)
+    let parts = and_parts (before d) (not (eqb d own.number)) x in
+    ap (λ (v : World). v.present d) s.4 ∙ neither (w.present d) (eqb d own.number) (gone d parts.0) (not-true (eqb d own.number) parts.1)
 
 -- fewer devices stay away
 narrower : (g : Geometry) (opened : Super) (failed_at : ℕ) (tried : Bool) (away less : ℕ → Bool) (b : Book) → ((d : ℕ) → less d ≡ true → away d ≡ true)

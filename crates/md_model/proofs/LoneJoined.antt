@@ -1,7 +1,7 @@
 -- The lone member's device is opened with the other one beside it, which was out.
 use Rattle.std.proofs.Common.{◌≡◌, ◌⊎◌, ◌&&◌, ℕ, ◌<◌, ◌≤◌, true, false, zero, suc, inl, inr, refl, sym, ◌∙◌, subst, true≢false, arith, []}
 use Rattle.std.specs.Prelude.{Some, None, nat_lt}
-use Rattle.md_model.specs.States.{State, is_active, is_in_sync, is_recorded}
+use Rattle.md_model.specs.States.{State, is_in_sync, is_recorded}
 use Rattle.md_model.specs.Devices.{Super, is_accepted, is_marked}
 use Rattle.md_model.specs.Worlds.{IsInSync}
 use Rattle.md_model.specs.Assembly.{state_by}
@@ -14,7 +14,7 @@ use Rattle.md_model.specs.SmallArray.{small_device, small_geometry, small_super}
 use Rattle.md_model.specs.LoneMember.{IsTakenIn, joined_number, joined_stored, later_super, lone_at, lone_joined, lone_stored, lone_state}
 use Rattle.md_model.proofs.Cases.{below-nat_lt, is_below, some-injective}
 use Rattle.md_model.proofs.TwoDevices.{IsEmpty, both_empty, filled, of_two, vacant}
-use Rattle.md_model.proofs.LoneOpening.{later_starts}
+use Rattle.md_model.proofs.LoneOpening.{later_starts, active_one}
 use Rattle.md_model.proofs.SmallRun.{as_it_was}
 
 -- a fact of the two superblocks
@@ -30,10 +30,6 @@ empty = both_empty (lone_stored later_super 0) (small_device (Some (small_super 
 first_only : (P : ℕ → Type 0) → P 0 → (k : ℕ) → IsInSync lone_joined k → P k
 first_only P a zero on = a
 first_only P a (suc k) on = absurd (true≢false (sym on))
-
-active_only : (P : ℕ → Type 0) → P 0 → (k : ℕ) → is_active (lone_state k) ≡ true → P k
-active_only P a zero e = a
-active_only P a (suc k) e = absurd (true≢false (sym e))
 
 nobody : (k : ℕ) → 2 ≤ k → lone_state k ≡ State.Faulty
 nobody zero past = absurd (omega arith)
@@ -68,7 +64,7 @@ states = record {
   by_table = of_both (λ k own. lone_state k ≡ state_by small_geometry later_super own) refl refl;
   past = nobody;
   some = (0, refl);
-  one_each = λ j k a b _. active_only (λ i. i ≡ k) (active_only (λ i. 0 ≡ i) refl k b) j a;
+  one_each = λ j k a b _. active_one (λ i. i ≡ k) (active_one (λ i. 0 ≡ i) refl k b) j a;
   due = of_both (λ k own. false ≡ (is_recorded (lone_state k) && nat_lt own.events 11)) refl refl;
   re_added = λ _. refl;
   recovering = of_both (λ _ own. false ≡ own.recovering) refl refl;

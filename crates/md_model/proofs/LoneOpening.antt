@@ -1,7 +1,6 @@
 -- The mirror that is opened from member 1 alone is an opening.
-use Rattle.std.proofs.Common.{◌≡◌, ◌&&◌, ℕ, ◌<◌, ◌≤◌, true, false, cond, zero, suc, inl, refl, sym, ap, ◌∙◌, subst, true≢false, arith, []}
+use Rattle.std.proofs.Common.{◌≡◌, ◌&&◌, ℕ, ◌<◌, ◌≤◌, true, false, cond, zero, suc, inl, refl, sym, ap, ◌∙◌, subst, true≢false, arith, [], eqb-true}
 use Rattle.std.specs.Prelude.{Some, None, nat_lt, eqb}
-use Rattle.std.proofs.lemmas.Bool.Decides.{nat_tests}
 use Rattle.md_model.specs.States.{State, is_recorded, is_active}
 use Rattle.md_model.specs.Devices.{Super, is_accepted}
 use Rattle.md_model.specs.Worlds.{IsInSync}
@@ -18,16 +17,13 @@ pub in_one : (P : ℕ → Type 0) → P 0 → (k : ℕ) → IsInSync lone_world 
 in_one P a zero on = a
 in_one P a (suc k) on = absurd (true≢false (sym on))
 
-active_one : (P : ℕ → Type 0) → P 0 → (k : ℕ) → is_active (lone_state k) ≡ true → P k
+pub active_one : (P : ℕ → Type 0) → P 0 → (k : ℕ) → is_active (lone_state k) ≡ true → P k
 active_one P a zero e = a
 active_one P a (suc k) e = absurd (true≢false (sym e))
 
 nobody : (k : ℕ) → 1 ≤ k → lone_state k ≡ State.Faulty
 nobody zero h = absurd (omega arith)
 nobody (suc k) h = refl
-
-is_one : (d : ℕ) → eqb d 1 ≡ true → d ≡ 1
-is_one d e = grind (arith, nat_tests)
 
 -- by its superblock, which calls it in sync
 module _ (own : Super) (number : own.number ≡ 1) (state : state_by small_geometry own own ≡ State.InSync) (entries : (d : ℕ) → 2 ≤ d → own.role d ≡ 65535)
@@ -62,7 +58,7 @@ module _ (own : Super) (number : own.number ≡ 1) (state : state_by small_geome
     vacant = vacant;
     number = of_one (λ _ it. it.number ≡ 1) number;
     distinct = λ j k low low_too _. omega arith;
-    present = λ d. ((λ e. (0, omega arith, sym (is_one d e))), (λ x. subst (λ n. eqb n 1 ≡ true) x.2 refl));
+    present = λ d. ((λ e. (0, omega arith, sym (eqb-true d 1 e))), (λ x. subst (λ n. eqb n 1 ≡ true) x.2 refl));
   }
 
   states : HasStates small_geometry own (lone_at own)

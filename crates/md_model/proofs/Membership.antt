@@ -2,6 +2,7 @@
 use Rattle.std.proofs.Common.{◌≡◌, ◌≢◌, ℕ, ◌<◌, ◌≤◌, ◌+◌, ◌-◌, Bool, true, false, cond, ◌&&◌, ◌||◌, inl, inr, refl, sym, ap, ◌∙◌, subst, eqb, eq-eqb, true≢false, arith}
 use Rattle.std.specs.Prelude.{Some, nat_lt, leb, not}
 use Rattle.std.proofs.lemmas.Bool.Decides.{nat_tests}
+use Rattle.std.proofs.lemmas.Bool.{or_right, or_left, ne_eqb, and_from}
 use Rattle.md_model.specs.Sectors.{Geometry, chunk_of, put}
 use Rattle.md_model.specs.States.{State, is_in_sync, is_active, is_recovering, is_recorded}
 use Rattle.md_model.specs.States.State.{InSync, Recovering, Stale, Spare, Faulty}
@@ -15,7 +16,7 @@ use Rattle.md_model.proofs.Table.{has_role}
 use Rattle.md_model.proofs.Tracked.{IsTracked}
 use Rattle.md_model.specs.Content.{HoldsInFlight}
 use Rattle.md_model.proofs.TrackedSteps.{in_flight_risen, tracked_risen}
-use Rattle.md_model.proofs.Recorded.{book_of, Has, In, IsRecorded, recorded_in_sync}
+use Rattle.md_model.proofs.Recorded.{book_of, Has, In, IsRecorded, recorded_in_sync, past_entry, other_entry}
 use Rattle.md_model.proofs.RecordedSteps.{recorded_risen}
 
 -- no two members move to one place, and none to the one that left
@@ -118,20 +119,6 @@ pub tracked_joined : (g : Geometry) (w : World) (n : Newcomer) → is_in_sync n.
 tracked_joined g w n out t = tracked_joined_here w n out g t
 
 -- ---- the superblocks
-or_last : (a b : Bool) → b ≡ true → (a || b) ≡ true
-or_last true b e = refl
-or_last false b e = e
-
-or_first : (a b : Bool) → a ≡ true → (a || b) ≡ true
-or_first true b e = refl
-or_first false b e = absurd (true≢false (sym e))
-
-left_in : (a b : Bool) → a ≡ true → b ≡ false → (a && not b) ≡ true
-left_in true b e f = ap not f
-left_in false b e f = absurd (true≢false (sym e))
-
-not_equal : (x y : ℕ) → x ≢ y → eqb x y ≡ false
-not_equal x y apart = grind (arith, nat_tests)
 
 skip-below : (k j members : ℕ) → j < members - 1 → skip k j < members
 skip-below k j members low = grind (arith, nat_tests)
@@ -164,8 +151,8 @@ module _ (g : Geometry) (few : g.raid_disks ≤ 32) (opened : Super) (failed_at 
     entries = r.entries;
     present = λ j low.
         let s = skip-below k j w.members low in
-        left_in (w.present (w.number (skip k j))) (eqb (w.number (skip k j)) (w.number k)) (r.present (skip k j) s)
-        (not_equal (w.number (skip k j)) (w.number k) (λ same. skip-apart k j (r.distinct (skip k j) k s there same)));
+        and_from (w.present (w.number (skip k j))) (not (eqb (w.number (skip k j)) (w.number k))) (r.present (skip k j) s)
+        (ap not (ne_eqb (w.number (skip k j)) (w.number k) (λ same. skip-apart k j (r.distinct (skip k j) k s there same))));
     slot = λ j own e. skip-within k j w.members there (r.slot (skip k j) own e);
     gone = gone;
     distinct = λ i j li lj same. skip-injective k i j (r.distinct (skip k i) (skip k j) (skip-below k i w.members li) (skip-below k j w.members lj) same);
@@ -230,12 +217,6 @@ module _ (g : Geometry) (few : g.raid_disks ≤ 32) (opened : Super) (failed_at 
         current = r.current;
         some_in = r.some_in;
       }
-    where
-      past_entry : (d n entries x : ℕ) → entries ≤ d → cond (eqb d n && nat_lt d entries) 65534 x ≡ x
-      past_entry d n entries x h = grind (arith, nat_tests)
-
-      other_entry : (d n entries x : ℕ) → d ≢ n → cond (eqb d n && nat_lt d entries) 65534 x ≡ x
-      other_entry d n entries x h = grind (arith, nat_tests)
 
   pub recorded_removed : (w : World) (k : ℕ) (full : Bool) → MayRemove w k → ((d : ℕ) → stays_away d ≡ true → (removed g w k (is_spare (w.state k)) full).present d ≡ false) → Records w → Records (removed g w k (is_spare (w.state k)) full)
   recorded_removed w k full may = by (is_spare (w.state k))
@@ -337,7 +318,7 @@ module _ (g : Geometry) (few : g.raid_disks ≤ 32) (opened : Super) (failed_at 
       let o = old_in j a in
       subst (λ d. v.role d < g.raid_disks) (sym (number_there j o.0)) (subst (λ y. y < g.raid_disks) (sym (role_there j (low_of j o.1))) (r.in_memory j o.1)) in
       let out_memory : (d : ℕ) → stays_away d ≡ true → opened.events < w.events → v.role d < g.raid_disks → ⊥ = λ d off h low.
-      r.out_memory d off h (subst (λ y. y < g.raid_disks) (put-miss n.number n.role w.role d (λ same. true≢false (sym (or_last (w.present d) (eqb d n.number) (eq-eqb d n.number same)) ∙ gone d off))) low) in
+      r.out_memory d off h (subst (λ y. y < g.raid_disks) (put-miss n.number n.role w.role d (λ same. true≢false (sym (or_right (w.present d) (eqb d n.number) (eq-eqb d n.number same)) ∙ gone d off))) low) in
       record {
         number = λ j own e. by_joined j own e (λ same is. sym (ap (λ (s : Super). s.number) is) ∙ sym (number_here j same)) (λ apart x. r.number j own x ∙ sym (number_there j apart));
         below = λ j own e. by_joined j own e (λ _ is. let x : w.events ≡ own.events = ap (λ (s : Super). s.events) is in omega arith) (λ _ x. r.below j own x);
@@ -350,8 +331,8 @@ module _ (g : Geometry) (few : g.raid_disks ≤ 32) (opened : Super) (failed_at 
             (λ same. put-at n.number n.role w.role d (λ x. x ≡ 65535) (λ _. joins.past (high w.entries n.number d same h)) (λ apart. absurd (apart same)))
             (λ apart. put-miss n.number n.role w.role d apart ∙ r.entries d (past w.entries n.number d h));
         present = λ j low. by_same j w.members
-            (λ same. or_last (w.present (v.number j)) (eqb (v.number j) n.number) (eq-eqb (v.number j) n.number (number_here j same)))
-            (λ apart. or_first (w.present (v.number j)) (eqb (v.number j) n.number) (ap w.present (number_there j apart) ∙ r.present j (omega arith)));
+            (λ same. or_right (w.present (v.number j)) (eqb (v.number j) n.number) (eq-eqb (v.number j) n.number (number_here j same)))
+            (λ apart. or_left (w.present (v.number j)) (eqb (v.number j) n.number) (ap w.present (number_there j apart) ∙ r.present j (omega arith)));
         slot = slot;
         gone = gone;
         distinct = λ i j li lj same. by_same i w.members

@@ -1,6 +1,7 @@
 -- The invariant holds at an opening.
 use Rattle.std.proofs.Common.{◌≡◌, ℕ, ◌<◌, ◌≤◌, Bool, true, false, ◌&&◌, ⊎_elim, refl, sym, ap, ◌∙◌, subst, true≢false, arith}
 use Rattle.std.specs.Prelude.{Some, nat_lt}
+use Rattle.std.proofs.lemmas.Bool.{not-true}
 use Rattle.md_model.specs.Sectors.{Geometry, chunk_of}
 use Rattle.md_model.specs.States.{State, is_in_sync, is_recovering, is_recorded}
 use Rattle.md_model.specs.States.State.{Faulty}
@@ -11,7 +12,7 @@ use Rattle.md_model.specs.Runs.{opening, IsStart}
 use Rattle.md_model.specs.Content.{HoldsInFlight}
 use Rattle.md_model.proofs.Cases.{by_test, never, none_some, is_below, not_below}
 use Rattle.md_model.proofs.Table.{SaysInSync, has_role, found_says, stale_says, recovering_says, role_says}
-use Rattle.md_model.proofs.Keeps.{IsKept, not_true}
+use Rattle.md_model.proofs.Keeps.{IsKept}
 use Rattle.md_model.proofs.OpeningCovers.{accepted-bits}
 use Rattle.md_model.proofs.OpeningCovers as covers
 
@@ -94,7 +95,7 @@ module _ (g : Geometry) (first : Super) (w : World) (start : IsStart g first w) 
       entries = o.entries;
       present = λ k low. (o.members.present (w.number k)).1 (k, low, refl);
       slot = slot_of;
-      gone = λ d off. not_true (w.present d) off;
+      gone = λ d off. not-true (w.present d) off;
       distinct = o.members.distinct;
       by_memory = λ k low. let x = o.members.filled k low in trusts first.events w.role (λ d. ap (λ (r : ℕ → ℕ). r d) o.role) k x.0 x.1 (o.freshest.greatest k x.0 x.1);
       by_opening = λ _. trusts first.events first.role (λ _. refl);

@@ -1,6 +1,7 @@
 -- A content that the members in sync hold, wherever they agree.
 use Rattle.std.proofs.Common.{◌≡◌, ℕ, ◌<◌, Bool, true, false, cond, ◌&&◌, ⊎_elim, zero, suc, refl, sym, ap, ◌∙◌, subst, true≢false, arith, List, []}
 use Rattle.std.specs.Prelude.{not, nat_lt}
+use Rattle.std.proofs.lemmas.Bool.{and_parts}
 use Rattle.md_model.specs.Sectors.{Geometry, chunk_of}
 use Rattle.md_model.specs.States.{is_in_sync}
 use Rattle.md_model.specs.Devices.{Super, Stored, AgreeAt}
@@ -9,7 +10,7 @@ use Rattle.md_model.specs.Openings.{IsOpened}
 use Rattle.md_model.specs.Runs.{History, IsStart}
 use Rattle.md_model.specs.Lives.{Reopens}
 use Rattle.md_model.specs.Content.{Content, Holds, HoldsUnmarked, BecomesAtOpening}
-use Rattle.md_model.proofs.Cases.{by_test, never, both, is_below, not_below}
+use Rattle.md_model.proofs.Cases.{by_test, never, is_below, not_below}
 use Rattle.md_model.proofs.Puts.{by_same}
 use Rattle.md_model.proofs.Keeps.{IsKept}
 use Rattle.md_model.proofs.OpeningCovers.{accepted-bits, slot_of}
@@ -32,7 +33,7 @@ module _ (w : World) (else_ : List ℕ) (s : ℕ) where
   pub picked-all : (P : List ℕ → Type 0) (n : ℕ) → P else_ → ((k : ℕ) → IsInSync w k → (w.stored k).listed s ≡ false → P ((w.stored k).content s)) → P (picked w else_ s n)
   picked-all P zero base all = base
   picked-all P (suc n) base all = by_test (tells w s n)
-      (λ at. subst P (sym (ap (λ b. cond b ((w.stored n).content s) (picked w else_ s n)) at)) (let x = both _ _ at in all n x.0 (unlisted n x.1)))
+      (λ at. subst P (sym (ap (λ b. cond b ((w.stored n).content s) (picked w else_ s n)) at)) (let x = and_parts _ _ at in all n x.0 (unlisted n x.1)))
       (λ off. subst P (sym (ap (λ b. cond b ((w.stored n).content s) (picked w else_ s n)) off)) (picked-all P n base all))
 
   -- where they agree, each has it
@@ -41,7 +42,7 @@ module _ (w : World) (else_ : List ℕ) (s : ℕ) where
       → picked w else_ s n ≡ (w.stored k).content s
   picked-one zero k low on clear agree = absurd (omega arith)
   picked-one (suc n) k low on clear agree = by_test (tells w s n)
-      (λ at. ap (λ b. cond b ((w.stored n).content s) (picked w else_ s n)) at ∙ (let x = both _ _ at in agree n x.0 (unlisted n x.1)))
+      (λ at. ap (λ b. cond b ((w.stored n).content s) (picked w else_ s n)) at ∙ (let x = and_parts _ _ at in agree n x.0 (unlisted n x.1)))
       (λ off. ap (λ b. cond b ((w.stored n).content s) (picked w else_ s n)) off ∙ by_same k n
       (λ same. absurd (true≢false (sym (tells_at k on clear) ∙ ap (tells w s) same ∙ off)))
       (λ apart. picked-one n k (omega arith) on clear agree))

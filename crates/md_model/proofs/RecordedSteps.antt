@@ -2,6 +2,7 @@
 use Rattle.std.proofs.Common.{◌≡◌, ◌≢◌, ℕ, ◌<◌, ◌≤◌, Bool, true, false, cond, ◌&&◌, ◌||◌, refl, sym, ap, ◌∙◌, subst, eqb, true≢false, arith}
 use Rattle.std.specs.Prelude.{Some, nat_lt, not}
 use Rattle.std.proofs.lemmas.Bool.Decides.{nat_tests}
+use Rattle.std.proofs.lemmas.Bool.{and_parts}
 use Rattle.md_model.specs.Sectors.{Geometry}
 use Rattle.md_model.specs.States.{State, is_in_sync, is_recovering, is_recorded}
 use Rattle.md_model.specs.States.State.{Stale, Faulty}
@@ -10,10 +11,10 @@ use Rattle.md_model.specs.Worlds.{World}
 use Rattle.md_model.specs.Counts.{role_at_rise, risen}
 use Rattle.md_model.specs.Steps.{with_device, super_for, recorded, recorded_device}
 use Rattle.md_model.specs.Failures.{without, MayFail}
-use Rattle.md_model.proofs.Cases.{by_test, both, some-injective, is_below, below-nat_lt}
+use Rattle.md_model.proofs.Cases.{by_test, some-injective, is_below, below-nat_lt}
 use Rattle.md_model.proofs.Puts.{put-at, put-miss}
 use Rattle.md_model.proofs.Table.{has_role}
-use Rattle.md_model.proofs.Recorded.{book_of, Has, In, Trusts, IsRecorded, recorded_in_sync}
+use Rattle.md_model.proofs.Recorded.{book_of, Has, In, Trusts, IsRecorded, recorded_in_sync, past_entry, other_entry}
 
 -- the roles at a rise
 module _ (g : Geometry) (w : World) (d : ℕ) (few : g.raid_disks ≤ 32) where
@@ -29,7 +30,7 @@ module _ (g : Geometry) (w : World) (d : ℕ) (few : g.raid_disks ≤ 32) where
       (λ e. subst P (sym (ap (λ b. cond b 65534 (w.role d)) e)) (kept e))
 
   pub present_keeps : w.present d ≡ true → at_rise ≡ w.role d
-  present_keeps here = by_loss (λ r. r ≡ w.role d) (λ e. absurd (true≢false (sym (both _ _ e).1 ∙ ap not here))) (λ _. refl)
+  present_keeps here = by_loss (λ r. r ≡ w.role d) (λ e. absurd (true≢false (sym (and_parts _ _ e).1 ∙ ap not here))) (λ _. refl)
 
   -- a role that is still taken was taken before, and is of a device that is there
   taken_was : at_rise < g.raid_disks → w.role d < g.raid_disks
@@ -40,7 +41,7 @@ module _ (g : Geometry) (w : World) (d : ℕ) (few : g.raid_disks ≤ 32) where
       (λ e low. true≢false (sym (ap (λ b. b && not (w.present d)) (below-nat_lt (w.role d) g.raid_disks low) ∙ ap not off) ∙ e))
 
   past_none : w.role d ≡ 65535 → at_rise ≡ 65535
-  past_none is = by_loss (λ r. r ≡ 65535) (λ e. let low : w.role d < g.raid_disks = is_below (w.role d) g.raid_disks (both _ _ e).0 in omega arith) (λ _. is)
+  past_none is = by_loss (λ r. r ≡ 65535) (λ e. let low : w.role d < g.raid_disks = is_below (w.role d) g.raid_disks (and_parts _ _ e).0 in omega arith) (λ _. is)
 
 -- after a record each superblock is the new one, or was there
 by_record : {P : Type 0} (w : World) (k : ℕ) (listed : ℕ → Bool) (j : ℕ) (own : Super) → ((recorded w k listed).stored j).super ≡ Some own
@@ -207,9 +208,3 @@ module _ (g : Geometry) (few : g.raid_disks ≤ 32) (opened : Super) (failed_at 
     where
       past : (d n entries : ℕ) → d ≡ n → (eqb d n && nat_lt d entries) ≡ false → (entries ≤ d → ⊥) → ⊥
       past d n entries same off h = grind (arith, nat_tests)
-
-      past_entry : (d n entries r : ℕ) → entries ≤ d → cond (eqb d n && nat_lt d entries) 65534 r ≡ r
-      past_entry d n entries r h = grind (arith, nat_tests)
-
-      other_entry : (d n entries r : ℕ) → d ≢ n → cond (eqb d n && nat_lt d entries) 65534 r ≡ r
-      other_entry d n entries r h = grind (arith, nat_tests)

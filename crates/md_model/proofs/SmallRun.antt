@@ -1,6 +1,7 @@
 -- The guards can hold: the mirror of two members goes through every event, and is opened again.
 use Rattle.std.proofs.Common.{◌≡◌, ◌≢◌, ℕ, ◌≤◌, Bool, true, false, zero, suc, inl, inr, refl, sym, ap, ◌∙◌, subst, Option, true≢false, arith, leb, List, [], ◌∷◌, ◌++◌}
 use Rattle.std.specs.Prelude.{Some, None, nat_lt}
+use Rattle.std.proofs.lemmas.Bool.{and_parts}
 use Rattle.md_model.specs.Sectors.{Geometry, chunk_of, put}
 use Rattle.md_model.specs.States.{State, is_in_sync, is_recorded}
 use Rattle.md_model.specs.States.State.{Faulty}
@@ -16,7 +17,7 @@ use Rattle.md_model.specs.Stops.{IsLeft}
 use Rattle.md_model.specs.Lives.{Reopens}
 use Rattle.md_model.specs.SmallArray.{small_geometry, small_super, small_stored, small_state, small_world}
 use Rattle.md_model.specs.SmallRun.{one_sector, beginning, data_written, chunk_resynced, data_fails, CanRun}
-use Rattle.md_model.proofs.Cases.{none_some, both, is_below, is_at_most}
+use Rattle.md_model.proofs.Cases.{none_some, is_below, is_at_most}
 use Rattle.md_model.proofs.Puts.{by_same, put-at, put-miss}
 use Rattle.md_model.proofs.SmallOpening.{in_both, in_sync_active, small_opened}
 
@@ -31,7 +32,7 @@ in_two P a b k on = in_both P a b k (in_sync_active k on)
 
 pub only_eight : (P : ℕ → Type 0) → P 8 → (s : ℕ) → touches one_sector s ≡ true → P s
 only_eight P at s e =
-    let x = both (leb 8 s) (nat_lt s 9) e in
+    let x = and_parts (leb 8 s) (nat_lt s 9) e in
     let low = is_at_most 8 s x.0 in
     let high = is_below s 9 x.1 in
     let same : s ≡ 8 = omega arith in

@@ -1,7 +1,7 @@
 -- The steps keep it.
-use Rattle.std.proofs.Common.{◌≡◌, ◌≢◌, ℕ, ◌<◌, ◌≤◌, ◌+◌, ◌-◌, ◌/◌, leb, ◌&&◌, Bool, true, false, cond, ◌||◌, ◌⊎◌, inl, inr, ⊎_elim, refl, sym, ap, ◌∙◌, subst, eqb, true≢false, arith}
+use Rattle.std.proofs.Common.{◌≡◌, ◌≢◌, ℕ, ◌<◌, ◌≤◌, ◌+◌, ◌-◌, ◌/◌, leb, Bool, true, false, cond, ◌||◌, ◌⊎◌, inl, inr, ⊎_elim, refl, sym, ap, ◌∙◌, subst, eqb, true≢false, arith}
 use Rattle.std.specs.Prelude.{Some, None, nat_lt}
-use Rattle.std.proofs.lemmas.Bool.{leb-true, le-leb}
+use Rattle.std.proofs.lemmas.Bool.{leb-true, le-leb, or_right, or_left, and_from, and_parts}
 use Rattle.std.proofs.Math.Nat.{div-mul-le_self}
 use Rattle.std.proofs.lemmas.Nat.{le-div}
 use Rattle.md_model.specs.Sectors.{Geometry, chunk_of, block_of, put}
@@ -13,7 +13,7 @@ use Rattle.md_model.specs.Counts.{risen}
 use Rattle.md_model.specs.Steps.{with_device, touches_chunk, entered, KeepsList, recorded, recorded_device, bits_after, marked_device, marks_stored, written_device, member_written, finished, unmarked, MayBegin, MayWrite, MayFinish, MayClear}
 use Rattle.md_model.specs.Failures.{failed}
 use Rattle.md_model.specs.Content.{HoldsInFlight}
-use Rattle.md_model.proofs.Cases.{by_test, never, both, some-injective, none_some, is_below}
+use Rattle.md_model.proofs.Cases.{by_test, never, some-injective, none_some, is_below}
 use Rattle.md_model.proofs.Puts.{by_same, put-at, put-same, put-hit, put-miss}
 use Rattle.md_model.proofs.Tracked.{IsTracked, IsFewer, agree_as}
 
@@ -73,32 +73,19 @@ module _ (g : Geometry) (wide : 0 < g.width) (p : Request) (s : ℕ) (at : touch
   in_order a b le = le-div (a / g.width) b g.width wide (let h = div-mul-le_self a g.width in omega arith)
 
   from : p.start ≤ s
-  from = leb-true p.start s (both (leb p.start s) (nat_lt s (p.start + p.sectors)) at).0
+  from = leb-true p.start s (and_parts (leb p.start s) (nat_lt s (p.start + p.sectors)) at).0
 
   to : s ≤ (p.start + p.sectors) - 1
-  to = let h : s < p.start + p.sectors = is_below s (p.start + p.sectors) (both (leb p.start s) (nat_lt s (p.start + p.sectors)) at).1 in omega arith
-
-  both_on : (a b : Bool) → a ≡ true → b ≡ true → (a && b) ≡ true
-  both_on true true x y = refl
-  both_on true false x y = y
-  both_on false b x y = x
+  to = let h : s < p.start + p.sectors = is_below s (p.start + p.sectors) (and_parts (leb p.start s) (nat_lt s (p.start + p.sectors)) at).1 in omega arith
 
   pub touched : touches_chunk g p (chunk_of g s) ≡ true
-  touched = both_on _ _
+  touched = and_from _ _
       (le-leb (p.start / g.width) (s / g.width) (in_order p.start s from))
       (le-leb (s / g.width) (((p.start + p.sectors) - 1) / g.width) (in_order s ((p.start + p.sectors) - 1) to))
 
 pub left_off : (a b : Bool) → (a || b) ≡ false → a ≡ false
 left_off true b e = absurd (true≢false e)
 left_off false b e = refl
-
-on_left : (a b : Bool) → a ≡ true → (a || b) ≡ true
-on_left true b e = refl
-on_left false b e = absurd (true≢false (sym e))
-
-on_right : (a b : Bool) → b ≡ true → (a || b) ≡ true
-on_right true b e = refl
-on_right false b e = e
 
 -- after a request was put, or taken out, each one is that or an old one
 pub flights : (w : World) (n : ℕ) (p : Request) (m : ℕ) (q : Request) → put n (Some p) w.request m ≡ Some q → ((m ≡ n) × (p ≡ q)) ⊎ ((m ≢ n) × IsInFlight w m q)
@@ -150,8 +137,8 @@ module _ (g : Geometry) (w : World) (n : ℕ) (p : Request) where
         quiet = λ r j k s a b q. t.quiet r j k s a b (λ m o e. q m o (put-miss n (Some p) w.request m (λ same. none_some o (sym may.new ∙ sym (ap w.request same) ∙ e)) ∙ e));
         resynced = λ m q e. may.resynced;
         marked = λ m q s e at. ⊎_elim
-            (λ (x : (m ≡ n) × (p ≡ q)). on_right (w.marks (chunk_of g s)) (touches_chunk g p (chunk_of g s)) (touched g wide p s (as_p q s x.1 at)))
-            (λ (x : (m ≢ n) × IsInFlight w m q). on_left (w.marks (chunk_of g s)) (touches_chunk g p (chunk_of g s)) (t.marked m q s x.1 at))
+            (λ (x : (m ≡ n) × (p ≡ q)). or_right (w.marks (chunk_of g s)) (touches_chunk g p (chunk_of g s)) (touched g wide p s (as_p q s x.1 at)))
+            (λ (x : (m ≢ n) × IsInFlight w m q). or_left (w.marks (chunk_of g s)) (touches_chunk g p (chunk_of g s)) (t.marked m q s x.1 at))
             (flights w n p m q e);
         noted = λ m q k s e a done at. ⊎_elim
             (λ (x : (m ≡ n) × (p ≡ q)). not_yet may q k x.1 done)
@@ -298,7 +285,7 @@ module _ (g : Geometry) (w : World) (n : ℕ) (p : Request) (k : ℕ) (may : May
             (λ apart. t.written n p j s may.in_flight a
             (sym (put-miss (w.number k) true p.written (w.number j) (λ twin. apart (t.distinct j k a may.in_sync twin))) ∙ done_now) at_p ∙ to_q))
             (λ (x : (m ≢ n) × IsInFlight w m q).
-            content_written j s (by_test (touches p s) (λ both. absurd (x.0 (t.apart m n q p s x.1 may.in_flight at both))) (λ off. off))
+            content_written j s (by_test (touches p s) (λ there. absurd (x.0 (t.apart m n q p s x.1 may.in_flight at there))) (λ off. off))
             ∙ t.written m q j s x.1 a done at)
             (flights w n request_now m q e);
         apart = λ m i q o s e e' at at'. let x = before m q e in let y = before i o e' in t.apart m i x.0 y.0 s x.1 y.1 (x.2 s ∙ at) (y.2 s ∙ at');

@@ -1,5 +1,5 @@
 -- Classes given to sources, and what the sources hold then.
-use Rattle.std.proofs.Common.{◌≡◌, ◌∙◌, ℕ, ◌+◌, ◌<◌, ◌≤◌, Bool, true, false, eqb, List, length, get_or, set, take, refl, sym, ap, arith, inl, inr, get_or-set_same, get_or-set_other}
+use Rattle.std.proofs.Common.{◌≡◌, ◌∙◌, ℕ, ◌+◌, ◌<◌, ◌≤◌, true, eqb, List, length, get_or, set, take, refl, sym, ap, arith, inl, inr, get_or-set_same, get_or-set_other}
 use Rattle.std.specs.List.{list_all}
 use Rattle.std.proofs.lemmas.Bool.{cases_eq}
 use Rattle.std.proofs.lemmas.List.{length-set}
@@ -10,7 +10,7 @@ use Rattle.md_plan.specs.declared.cell.Cell.{Cell}
 use Rattle.md_plan.specs.Cells.{AreAllowed, load_of, count_with}
 use Rattle.md_plan.specs.Classes.{IsPlaced}
 use Rattle.md_plan.proofs.Zeros.{zeros}
-use Rattle.md_plan.proofs.CellMoves.{share, share_of, share_none}
+use Rattle.md_plan.proofs.CellMoves.{share, share_of, share_none, share_le}
 
 pub placed_none : (cells : List Cell) → AreAllowed cells → IsPlaced cells cells
 placed_none cells allowed = record { counts = λ q. refl; allowed = allowed; long = refl }
@@ -59,13 +59,9 @@ loads_more cells loads at d new within lt e before =
           ];
     }
 
-share_under : (b : Bool) (n : ℕ) → share b n ≤ share true n
-share_under true n = omega arith
-share_under false n = omega arith
-
 -- a load does not grow past the number of all chunks
 pub loads_fit : (cells : List Cell) (loads : List ℕ) (at : ℕ) (d : Cell) (source : ℕ) → at < length cells → source < 32 → AreLoadsBelow cells loads at → get_or loads source 0 + (get_or cells at d).count ≤ count_with (λ m. true) cells
 loads_fit cells loads at d source within lt before =
     let b = before.each source lt in
-    let le = sum_by_more_le_part (λ (x : Cell). share (eqb x.source source) x.count) (λ (x : Cell). share true x.count) cells at d within (λ x. share_under (eqb x.source source) x.count) in
+    let le = sum_by_more_le_part (λ (x : Cell). share (eqb x.source source) x.count) (λ (x : Cell). share true x.count) cells at d within (λ x. share_le (eqb x.source source) x.count) in
     omega (arith, b, le)

@@ -19,6 +19,10 @@ share_of s c e = ap (λ b. share b c.count) (eq-eqb c.source s e)
 pub share_none : (s : ℕ) (c : Cell) → (c.source ≡ s → ⊥) → share (eqb c.source s) c.count ≡ 0
 share_none s c e = ap (λ b. share b c.count) (ne_eqb c.source s e)
 
+pub share_le : (b : Bool) (n : ℕ) → share b n ≤ share true n
+share_le true n = omega arith
+share_le false n = omega arith
+
 share_add : (b : Bool) (n m k : ℕ) → n ≡ m + k → share b n ≡ share b m + share b k
 share_add true n m k e = e
 share_add false n m k e = refl

@@ -1,6 +1,6 @@
 -- The search for alternating paths.
-use Rattle.std.proofs.Common.{◌≡◌, ◌≢◌, ◌∙◌, ℕ, ◌+◌, ◌*◌, ◌^◌, ◌%◌, ◌<◌, ◌≤◌, zero, suc, Bool, true, false, not, ◌||◌, List, length, get_or, set, refl, sym, ap, subst, arith, inl, inr, bit_or, get_or-set_same, get_or-set_other}
-use Rattle.std.proofs.lemmas.Bool.{cases_Bool, cases_eq, cases_lt, both_ways, or_cases}
+use Rattle.std.proofs.Common.{◌≡◌, ◌≢◌, ◌∙◌, ℕ, ◌+◌, ◌*◌, ◌^◌, ◌%◌, ◌<◌, ◌≤◌, zero, suc, Bool, true, false, not, ◌||◌, List, length, get_or, set, sym, ap, subst, arith, inl, inr, bit_or, get_or-set_same, get_or-set_other}
+use Rattle.std.proofs.lemmas.Bool.{cases_Bool, cases_eq, cases_lt, both_ways, or_cases, or_right}
 use Rattle.std.proofs.lemmas.List.{get_or_default}
 use Rattle.md_cert.specs.Sources.{has, count_below}
 use Rattle.md_cert.proofs.Bits.{has_below, has_or, has_zero, has_set_same, has_set_other}
@@ -32,10 +32,6 @@ reach_empty cells reach i d within none before = record {
     | inr other ↦ before.complete k e s t (omega arith) lt m
   ];
 }
-
-or_right : (x y : Bool) → y ≡ true → (x || y) ≡ true
-or_right true y e = refl
-or_right false y e = e
 
 pub reach_more : (cells : List Cell) (reach : List ℕ) (i : ℕ) (d : Cell) (new : List ℕ) → i < length cells → 0 < (get_or cells i d).count → (get_or cells i d).source < 32 → length reach ≡ 32
     → new ≡ set reach (get_or cells i d).source (bit_or (get_or reach (get_or cells i d).source 0) (get_or cells i d).mask) → ReachBelow cells reach i → ReachBelow cells new (i + 1)
@@ -126,10 +122,6 @@ below_less p q (suc n) t h lt yes_t not_t =
                 ]
           ]
     ]
-
-not_of : (b : Bool) → not b ≡ true → b ≡ false
-not_of true e = sym e
-not_of false e = refl
 
 -- one source more is seen
 pub unseen_less : (sources new t : ℕ) → t < 32 → has sources t ≡ false → new ≡ bit_or sources (1 * 2 ^ t % 2 ^ 32) → unseen new < unseen sources

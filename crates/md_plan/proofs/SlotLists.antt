@@ -21,7 +21,7 @@ use Rattle.md_plan.specs.Classes.{count_rows}
 use Rattle.md_plan.specs.Slots.{IsReordered, SomeChunk, TakesOne, IsLeft, IsSlotting}
 use Rattle.md_plan.proofs.RowCounts.{passes, passes_none, passes_some}
 use Rattle.md_plan.proofs.Zeros.{zeros}
-use Rattle.md_plan.proofs.CellMoves.{share}
+use Rattle.md_plan.proofs.CellMoves.{share, share_le}
 
 share_some : (b : Bool) (n : ℕ) → 0 < share b n → (b ≡ true) × (0 < n)
 share_some true n lt = (refl, lt)
@@ -93,12 +93,8 @@ left_more rows i d first cells new used new_used source within some lt left take
           ];
     }
 
-share_top : (b : Bool) (n : ℕ) → share b n ≤ share true n
-share_top true n = omega arith
-share_top false n = omega arith
-
 pub held_le : (s : ℕ) (cells : List Cell) → load_of s cells ≤ count_with (λ m. true) cells
-held_le s cells = sum_by-le-sum_by (λ (c : Cell). share (eqb c.source s) c.count) (λ (c : Cell). share true c.count) cells (λ c. share_top (eqb c.source s) c.count)
+held_le s cells = sum_by-le-sum_by (λ (c : Cell). share (eqb c.source s) c.count) (λ (c : Cell). share true c.count) cells (λ c. share_le (eqb c.source s) c.count)
 
 -- the rounds used are no more than the chunks of the source
 pub used_fits : (rows : List Row) (i : ℕ) (first cells new : List Cell) (used : List ℕ) (mask source : ℕ) → source < 32 → IsLeft rows i first cells used → TakesOne cells new mask source → get_or used source 0 + 1 ≤ count_with (λ m. true) first

@@ -1,5 +1,5 @@
 -- Masks and their bits.
-use Rattle.std.proofs.Common.{◌≡◌, ◌∙◌, ℕ, ◌<◌, ◌^◌, ◌-◌, bit_and, min, Bool, true, false, eqb, nat_lt, refl, sym, arith, w32}
+use Rattle.std.proofs.Common.{◌≡◌, ◌∙◌, ℕ, ◌<◌, ◌^◌, ◌-◌, bit_and, min, true, eqb, nat_lt, sym, arith, w32}
 use Rattle.std.specs.Int.{bit_at, trailing_zeros}
 use Rattle.std.proofs.lemmas.Bool.{eqb-true, eq-eqb, and_parts, and_from, lt-ltb}
 use Rattle.std.proofs.lemmas.Nat.Bits.{bit_at-trailing_zeros, bit_at_and, bit_at-lt}
@@ -14,11 +14,6 @@ has_bit m t it = eqb-true (bit_at m t) 1 (and_parts (nat_lt t 32) (eqb (bit_at m
 pub bit_has : (m t : ℕ) → t < 32 → bit_at m t ≡ 1 → has m t ≡ true
 unfolding has
 bit_has m t lt it = and_from (nat_lt t 32) (eqb (bit_at m t) 1) (lt-ltb t 32 lt) (eq-eqb (bit_at m t) 1 it)
-
-pub same_tests : (a b : Bool) → (a ≡ true → b ≡ true) → (b ≡ true → a ≡ true) → a ≡ b
-same_tests true b h k = sym (h refl)
-same_tests false true h k = k refl
-same_tests false false h k = refl
 
 -- the lowest source of a mask that is not 0
 pub low_source : (n : ℕ) → (n ≡ 0 → ⊥) → n < 2 ^ 32 → has n (trailing_zeros w32 n) ≡ true

@@ -2,6 +2,7 @@
 use Rattle.std.proofs.Common.{◌≡◌, ◌∙◌, ℕ, ◌+◌, ◌-◌, ◌*◌, ◌/◌, ◌<◌, ◌≤◌, zero, suc, Bool, true, false, cond, not, ◌&&◌, eqb, List, [], ◌∷◌, length, get_or, refl, sym, ap, subst, arith, inl, inr, add-one, bit_and, min, mul-zero, mul-le-mul_right, suc-mul, ◌^◌}
 use Rattle.std.specs.Int.{bit_at}
 use Rattle.std.specs.List.{AllByRecursion}
+use Rattle.std.specs.Cmp.{both_ways as same_tests}
 use Rattle.std.proofs.lemmas.Bool.{cases_Bool, cases_eq, cases_lt, both_ways, eqb-true, eq-eqb, ne_eqb, and_from}
 use Rattle.std.proofs.lemmas.List.{get_or_default}
 use Rattle.std.proofs.lemmas.List.Elements.{recursion_from_All}
@@ -15,8 +16,8 @@ use Rattle.md_plan.specs.declared.cell.Cell.{Cell}
 use Rattle.md_plan.specs.Cells.{AreAllowed, AreLoads, CanMove, IsMovable, excess, load_of, count_with}
 use Rattle.md_plan.specs.Search.{IsReach, IsDeadEnd}
 use Rattle.md_plan.specs.Bounds.{is_within, sum_below, sum_sources}
-use Rattle.md_plan.proofs.SourceBits.{has_bit, bit_has, same_tests}
-use Rattle.md_plan.proofs.CellMoves.{share}
+use Rattle.md_plan.proofs.SourceBits.{has_bit, bit_has}
+use Rattle.md_plan.proofs.CellMoves.{share, share_le}
 
 -- counts
 
@@ -284,10 +285,6 @@ ceil_enough s n some = omega arith
 
 pub ceil_needed : (s n : ℕ) → 0 < n → (s + n - 1) / n * n < s + n
 ceil_needed s n some = omega arith
-
-share_le : (b : Bool) (n : ℕ) → share b n ≤ share true n
-share_le true n = omega arith
-share_le false n = omega arith
 
 pub count_with_le : (q : ℕ → Bool) (cells : List Cell) → count_with q cells ≤ count_with (λ m. true) cells
 count_with_le q cells = sum_by-le-sum_by (λ (c : Cell). share (q c.mask) c.count) (λ (c : Cell). share true c.count) cells (λ c. share_le (q c.mask) c.count)

@@ -6,10 +6,11 @@ use Rattle.std.proofs.lemmas.Bool.Decides.{nat_tests}
 use Rattle.md_badblocks.specs.declared.run.Run.{Run}
 use Rattle.md_badblocks.specs.Runs.{IsBad, RisesFrom}
 use Rattle.md_kept_members.specs.View.{MemberView}
+use Rattle.md_kept_members.proofs.Members.Roles.{bad_below}
 use Rattle.md_state.specs.CopyingData.{Lists}
 use Rattle.md_array.proofs.General.Tests.{one_is}
 use Rattle.md_read.specs.Reading.{has_all}
-use Rattle.md_read.proofs.InRoles.{ListsAll, ListsSome, bad_below}
+use Rattle.md_read.proofs.InRoles.{ListsAll, ListsSome}
 
 abbrev pub AllBad : ℕ → ℕ → List Run → Type 0
 AllBad start len runs = (x : ℕ) → start ≤ x → x < start + len → IsBad runs x

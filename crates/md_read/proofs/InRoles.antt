@@ -1,15 +1,15 @@
 -- What is known of the members, and of one role.
-use Rattle.std.proofs.Common.{◌≡◌, ◌↔◌, ℕ, ◌+◌, ◌-◌, ◌/◌, ◌^◌, ◌<◌, ◌≤◌, Bool, true, false, List, [], ◌∷◌, length, slice_get, Some, sym, ap, ◌∙◌, subst, arith, inl, inr}
+use Rattle.std.proofs.Common.{◌≡◌, ◌↔◌, ℕ, ◌+◌, ◌-◌, ◌/◌, ◌^◌, ◌<◌, ◌≤◌, Bool, true, false, List, length, slice_get, Some, sym, ap, ◌∙◌, subst, arith, inl, inr}
 use Rattle.std.specs.Prelude.{option_map}
 use Rattle.std.proofs.lemmas.Option.{same_Some, slice_get_within}
-use Rattle.md_badblocks.specs.declared.run.Run.{Run}
 use Rattle.md_badblocks.specs.Runs.{IsBad, RisesFrom}
 use Rattle.md_model.proofs.Puts.{by_same}
 use Rattle.md_assembly.specs.declared.state.MemberState.{MemberState}
-use Rattle.md_array.proofs.General.Indices.{got_within}
 use Rattle.md_array.proofs.Worlds.SectorCopied.{in_sync_as}
 use Rattle.md_kept_members.specs.View.{MemberView}
+use Rattle.md_kept_members.proofs.Members.Roles.{bad_below, none_bad}
 use Rattle.md_assembly.specs.States.{is_in_sync_as}
+use Rattle.md_assembly.proofs.Indices.{got_within}
 use Rattle.md_state.specs.CopyingData.{Lists}
 use Rattle.md_state.specs.DiskWrites.{AtDevice}
 use Rattle.md_array.specs.Consistency.{IsConsistent}
@@ -18,30 +18,18 @@ use Rattle.md_state.specs.Members.{IsMember}
 use Rattle.md_state.specs.ReadingData.{FailsToRead, ReadsData}
 use Rattle.md_state.specs.View.{ArrayView, MirrorView}
 use Rattle.md_state.specs.Rests.{Rests}
+use Rattle.md_state.proofs.Members.At.{told}
 use Rattle.md_read.specs.declared.roles.Answer.{Answer}
 use Rattle.md_read.specs.declared.roles.Answer.TheVariants as answer
 use Rattle.md_read.specs.Reading.{GivesIn, HasRole, IsInRole, NotGivenIn, TriesRole}
 
-pub told : {X : Type 0} (f : MemberView → X) (a : ArrayView) (k : ℕ) (m : MemberView) (x : X) → option_map f (slice_get a.members k) ≡ Some x → IsMember a k m → f m ≡ x
-told f a k m x e at = same_Some (f m) x (sym (ap (option_map f) at) ∙ e)
-
 -- ---- what is listed
-pub bad_below : (low sector : ℕ) (runs : List Run) → RisesFrom low runs → IsBad runs sector → sector < 2 ^ 54
-bad_below low sector [] rises bad = absurd bad
-bad_below low sector (run ∷ rest) rises bad = elim bad [
-  | inl here ↦ let before = here.1 in let top = rises.2 in omega arith
-  | inr later ↦ bad_below (run.start + run.len + 1) sector rest rises.3 later
-]
 
 abbrev pub ListsSome : MemberView → ℕ → ℕ → Type 0
 ListsSome m sector sectors = (s : ℕ) × Lists m s × (sector ≤ s) × (s < sector + sectors)
 
 abbrev pub ListsAll : MemberView → ℕ → ℕ → Type 0
 ListsAll m sector sectors = (s : ℕ) → sector ≤ s → s < sector + sectors → Lists m s
-
-none_bad : (runs : List Run) (sector : ℕ) → length runs ≡ 0 → IsBad runs sector → ⊥
-none_bad [] sector none bad = bad
-none_bad (run ∷ rest) sector none bad = absurd (omega arith)
 
 pub empty_lists : (m : MemberView) (sector sectors : ℕ) → length m.bad ≡ 0 → (false ≡ true) ↔ ListsSome m sector sectors
 empty_lists m sector sectors none = (λ e. absurd cc, λ l. absurd (none_bad m.bad (m.superblock.data_offset + l.0) none l.1))

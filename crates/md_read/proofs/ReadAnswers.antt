@@ -11,13 +11,13 @@ use Rattle.md_state.specs.Members.{IsInSync}
 use Rattle.md_state.specs.Rests.{Rests}
 use Rattle.md_state.specs.View.{ArrayView, MirrorView}
 use Rattle.md_array.specs.Consistency.{IsConsistent}
-use Rattle.md_array.proofs.General.Indices.{got_within}
 use Rattle.md_array.proofs.Steps.OneMember.{stored_there}
 use Rattle.md_array.proofs.Worlds.InSync.{in_sync_there}
 use Rattle.md_array.proofs.Worlds.SectorCopied.{in_sync_as, unlisted_there}
 use Rattle.md_read.specs.declared.fault.UnreadFault.{UnreadFault}
 use Rattle.md_read.specs.declared.fault.UnreadFault.TheVariants.{Halted, NotResynced, OutOfRange, Unreadable}
 use Rattle.md_read.specs.Reading.{AreOfContent, GivesAll, IsGivenUpTo, MayReadAt, Reads, RefusesRead}
+use Rattle.md_assembly.proofs.Indices.{got_within}
 
 pub read_rests : {T : Type 0} (old new : MirrorView) (sector : ℕ) (bytes : List ℕ) (r : Result T UnreadFault) → MatchResult r (λ _. GivesAll sector bytes old new) (λ fault. IsGivenUpTo sector bytes fault old new) → Rests old new
 read_rests old new sector bytes (Ok x) gives = gives.rests

@@ -6,9 +6,9 @@ use Rattle.md_model.proofs.Puts.{by_same}
 use Rattle.md_state.specs.ReadingData.{HoldsData}
 use Rattle.md_state.specs.Rests.{Rests}
 use Rattle.md_state.specs.View.{ArrayView, MirrorView}
-use Rattle.md_array.proofs.General.Indices.{got_within}
 use Rattle.md_laws.proofs.Runs.Rests.{rests_same, rests_then}
 use Rattle.md_read.specs.Reading.{GivesIn, GivesRun, IsGiven, IsInRole, NotGivenIn}
+use Rattle.md_assembly.proofs.Indices.{got_within}
 
 module _ (old mid new : MirrorView) (first : Rests old mid) (second : Rests mid new) where
   pub not_given_later : (role s : ℕ) → NotGivenIn role s old mid → NotGivenIn role s old new

@@ -1,9 +1,9 @@
 -- A run of sectors that was given is so in each of them.
 use Rattle.std.proofs.Common.{◌≡◌, ℕ, ◌+◌, ◌*◌, ◌-◌, ◌/◌, ◌%◌, ◌<◌, ◌≤◌, List, ◌++◌, length, take, drop, refl, sym, ap, ◌∙◌, arith, length-append, length-drop, drop-drop}
-use Rattle.std.proofs.lemmas.List.{drop-append-le, drop-take, drop_at, length-take-le, take-append-le, take-take}
+use Rattle.std.proofs.lemmas.List.{drop-append-le, drop-take, drop_at, length-take-le, take-append-le}
 use Rattle.std.proofs.lemmas.Slice.{take-put_mid_below}
 use borrow.Rule.Slice.PartMut.{put_mid}
-use Rattle.md_device.proofs.Splices.{length-part}
+use Rattle.md_device.proofs.Splices.{length-part, part_part}
 use Rattle.md_device.specs.Device.{held}
 use Rattle.md_device.specs.Splice.{part}
 use Rattle.md_state.specs.View.{MirrorView}
@@ -19,15 +19,6 @@ part_front xs ys at n inside =
 part_end : (xs ys : List ℕ) (at n : ℕ) → part (xs ++ ys) (length xs + at) n ≡ part ys at n
 unfolding part
 part_end xs ys at n = ap (take n) (sym (drop-drop at (length xs) (xs ++ ys)) ∙ ap (drop at) (drop_at xs ys (length xs) refl))
-
-part_part : (xs : List ℕ) (at long inner n : ℕ) → inner + n ≤ long → part (part xs at long) inner n ≡ part xs (at + inner) n
-unfolding part
-part_part xs at long inner n inside =
-    let whole : inner + (long - inner) ≡ long = omega arith in
-    ap (λ (m : ℕ). take n (drop inner (take m (drop at xs)))) (sym whole)
-    ∙ ap (take n) (drop-take inner (long - inner) (drop at xs))
-    ∙ take-take n (long - inner) (drop inner (drop at xs)) (omega arith)
-    ∙ ap (take n) (drop-drop inner at xs)
 
 pub held_front : (xs ys : List ℕ) (i : ℕ) → i < length xs / 512 → held (xs ++ ys) i 512 ≡ held xs i 512
 held_front xs ys i low = part_front xs ys (512 * i) 512 (omega arith)

@@ -2,6 +2,7 @@
 use Rattle.std.proofs.Common.{◌≡◌, ℕ, ◌<◌, Bool, true, false, List, [], ◌∷◌, ◌++◌, length, slice_get, Option, None, refl, sym, ap, ◌∙◌, subst, arith, inr}
 use Rattle.std.proofs.lemmas.Option.{none-some, slice_get_within}
 use Rattle.md_assembly.specs.States.{is_in_sync, is_recorded}
+use Rattle.md_assembly.proofs.Indices.{got_within}
 use Rattle.md_bitmap.specs.Marks.{Bitmap}
 use Rattle.md_model.specs.Events.{Event}
 use Rattle.md_requests.specs.Pending.{PendingView, extent_of}
@@ -16,9 +17,9 @@ use Rattle.md_array.specs.Consistency.{IsConsistent}
 use Rattle.md_array.specs.InTurn.{InTurn, Leads, Requests}
 use Rattle.md_array.specs.NotingResynced.{AllAgreeAt, IsServed}
 use Rattle.md_array.proofs.Steps.MadeClean.{none_listed}
-use Rattle.md_array.proofs.General.Indices.{got_within}
 use Rattle.md_array.proofs.Steps.Turns.{all_on, turn_on, turn_then}
 use Rattle.md_array.proofs.Worlds.SectorCopied.{none_there}
+use Rattle.md_array.proofs.Openings.Opened.{same_through}
 use Rattle.md_laws.specs.ReadInTurn.{ReadInTurn}
 use Rattle.md_laws.proofs.Runs.ReadTurns.{read_on, read_then, unread}
 use Rattle.md_laws.proofs.Runs.Rests.{rests_same}
@@ -27,7 +28,6 @@ use Rattle.md_metadata.proofs.Going.{fails_after}
 use Rattle.md_resync.specs.declared.fault.ResyncFault.{ResyncFault}
 use Rattle.md_resync.specs.declared.fault.ResyncFault.TheVariants.{Halted, InFlight, MemberFailed, NoMemory, ReadFault}
 use Rattle.md_resync.specs.Resyncing.{Advances, ComesTo, EndsUnresynced, FailsToAgree, FailsToWrite, GivesUp, GoesOn, GoesUnresynced, HaltsResync, HasSameMembers, IdleFails, IsOfResync, LeavesMarks, LosesMember, ReadingFails, RefusesResync, Unresyncs}
-use Rattle.md_resync.proofs.CopiedRuns.{same_then}
 use Rattle.md_resync.proofs.StepsOn.{by_none, by_on, by_singles}
 
 -- ---- nothing is in flight, before or after
@@ -121,7 +121,7 @@ unfolding goes_on
 advances_on old mid new idle same g h = record {
   goes = goes_on old mid new idle same g.goes h.goes;
   unfailing = all_on IsNoFailure g.goes.events h.goes.events g.unfailing h.unfailing;
-  same = same_then old.disks mid.disks new.disks g.same h.same;
+  same = same_through old.disks mid.disks new.disks g.same h.same;
   idle = h.idle;
   sound = h.sound;
 }

@@ -17,7 +17,6 @@ use Rattle.md_array.specs.InTurn.{AllOf, LeftWhole, Requests}
 use Rattle.md_array.specs.NotingResynced.{AllAgreeWhereMarked, sector_of}
 use Rattle.md_array.specs.Worlds.{AreHonest, geometry_of, world_of}
 use Rattle.md_array.proofs.General.Honesty.{same_honest}
-use Rattle.md_array.proofs.General.Indices.{got_same}
 use Rattle.md_array.proofs.General.Resting.{geometry_rests, world_rests}
 use Rattle.md_laws.specs.ReadInTurn.{LeadsReading}
 use Rattle.md_array.proofs.Steps.Turns.{all_such}
@@ -26,6 +25,7 @@ use Rattle.md_resync.specs.Copying.{Copies, CopiesMarked, CopyingGoesOn, IsCopyi
 use Rattle.md_resync.specs.Resyncing.{Advances, Agrees, GoesOn, IsFirstInSync, IsOfResync, KeepsContent, NoneInSync}
 use Rattle.md_resync.proofs.Advancing.{goes_none}
 use Rattle.md_resync.proofs.CopiedRuns.{copies_none, copies_unfailing}
+use Rattle.md_assembly.proofs.Indices.{got_same}
 
 -- ---- who is in sync
 pub alone_if_none : (a : ArrayView) → NoneInSync 0 (length a.members) a → IsAlone a

@@ -9,10 +9,10 @@ use Rattle.md_assembly.specs.declared.state.MemberState.TheVariants.{Faulty, InS
 use Rattle.md_model.proofs.Cases.{by_test, is_above}
 use Rattle.md_kept_members.specs.View.{MemberView}
 use Rattle.md_assembly.specs.States.{is_in_sync_as}
+use Rattle.md_assembly.proofs.Indices.{got_within}
 use Rattle.md_state.specs.CopyingData.{IsSource}
 use Rattle.md_state.specs.View.{ArrayView}
 use Rattle.md_state.specs.Members.{IsMember}
-use Rattle.md_array.proofs.General.Indices.{got_within}
 use Rattle.md_resync.specs.Sources.{BestBelow, IsBest, IsFree, NoneFree, lower_of}
 
 -- what is told of member k

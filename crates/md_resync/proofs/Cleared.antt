@@ -11,7 +11,6 @@ use Rattle.md_state.specs.View.{ArrayView, Disk, MirrorView}
 use Rattle.md_state.specs.MakingClean.{IsIdle}
 use Rattle.md_state.specs.Members.{AllInSync, is_degraded}
 use Rattle.md_array.specs.Consistency.{IsConsistent}
-use Rattle.md_array.proofs.General.Indices.{got_same}
 use Rattle.md_array.proofs.Steps.Turns.{all_such}
 use Rattle.md_laws.proofs.Runs.ReadTurns.{unread}
 use Rattle.md_metadata.specs.Clearing.{ClearsAll, IsClearing, ChangesMarksAlone}
@@ -22,6 +21,7 @@ use Rattle.md_resync.proofs.Agreeing.{IsCalm, calm_content, clearing_is_calm}
 use Rattle.md_array.proofs.General.Honesty.{same_honest}
 use Rattle.md_resync.specs.Steps.{IsNoCopy}
 use Rattle.md_resync.proofs.StepsOn.{by_singles}
+use Rattle.md_assembly.proofs.Indices.{got_same}
 
 pub same_disks : (before after : List Disk) → after ≡ before → AreSame before after
 same_disks before after same = subst (AreSame before) (sym same) (record { as_many = refl; honest = λ k d e was is. let it = got_same before k e d is was in subst (λ (x : Disk). StaysHonest d x) (sym it) (record { honest = refl; counted = omega arith }) })

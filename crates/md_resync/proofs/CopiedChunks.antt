@@ -1,6 +1,6 @@
 -- Runs of sectors are copied one after another, until members in sync agree in all marked chunks.
 use Rattle.std.proofs.Common.{◌≡◌, ℕ, ◌+◌, ◌-◌, ◌*◌, ◌/◌, ◌<◌, ◌≤◌, ◌↔◌, inl, inr, true, List, length, sym, ap, ◌∙◌, subst, arith}
-use Rattle.std.proofs.Math.Nat.{div-lt_iff_lt-mul, div-mul-le_self, le-div_iff_mul-le}
+use Rattle.std.proofs.Math.Nat.{div-lt_iff_lt-mul, le-div_iff_mul-le}
 use Rattle.std.proofs.lemmas.Bool.{cases_lt}
 use Rattle.std.proofs.lemmas.Option.{slice_get_within}
 use Rattle.md_bitmap.specs.declared.chunks.Chunks.{Chunks}
@@ -10,6 +10,7 @@ use Rattle.md_state.specs.View.{ArrayView, MirrorView}
 use Rattle.md_state.specs.CopyingData.{IsSource, MayCopyChunk}
 use Rattle.md_state.specs.Members.{IsInSync}
 use Rattle.md_state.specs.ReadingData.{FailsToRead, HoldsData, ReadsData}
+use Rattle.md_state.proofs.Changes.RequestChunks.{div_mono}
 use Rattle.md_array.specs.Consistency.{IsConsistent}
 use Rattle.md_array.specs.NotingResynced.{AllAgreeAt}
 use Rattle.md_array.proofs.Worlds.SectorCopied.{has_role}
@@ -298,13 +299,10 @@ chunks_all chunk old new covers g = record {
       (λ s low marked. g.agree s low marked (covers s low));
 }
 
--- after the chunks before it, one fails
-div_mono : (width x y : ℕ) → 0 < width → x ≤ y → x / width ≤ y / width
-div_mono width x y wide up = let down = div-mul-le_self x width in (le-div_iff_mul-le {k = width} {x = x / width} {y = y} wide).1 (omega arith)
-
 div_before : (width x y : ℕ) → 0 < width → x / width < y / width → x < y
 div_before width x y wide less = elim (cases_lt x y) [ inl low ↦ low | inr high ↦ let up = div_mono width y x wide high in absurd (omega arith) ]
 
+-- after the chunks before it, one fails
 pub chunks_fail : (chunk : ℕ) (old mid new : MirrorView) → IsConsistent old → CopiesBelow chunk old mid → (fault : ResyncFault) → CopyingFails (IsOfChunk mid.array chunk) mid new fault
     → CopyingFails (IsMarkedAt old.array) old new fault
 chunks_fail chunk old mid new sound g =

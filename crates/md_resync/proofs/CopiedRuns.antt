@@ -1,18 +1,18 @@
 -- A run of sectors goes to the members in sync: what each holds after that, and where members agree.
-use Rattle.std.proofs.Common.{◌≡◌, ◌≢◌, ℕ, zero, suc, ◌+◌, ◌-◌, ◌*◌, ◌/◌, ◌≤◌, inl, inr, true, List, [], ◌∷◌, ◌++◌, length, take, drop, slice_get, Option, Some, refl, sym, ap, ◌∙◌, subst, arith, drop-drop}
-use Rattle.std.proofs.lemmas.List.{drop-take, take-take}
+use Rattle.std.proofs.Common.{◌≡◌, ◌≢◌, ℕ, zero, suc, ◌+◌, ◌-◌, ◌*◌, ◌/◌, ◌≤◌, inl, inr, true, List, [], ◌∷◌, ◌++◌, length, slice_get, Option, Some, refl, sym, ap, ◌∙◌, subst, arith}
 use Rattle.std.proofs.lemmas.Option.{slice_get_within}
 use Rattle.md_assembly.specs.States.{is_in_sync}
+use Rattle.md_assembly.proofs.Indices.{got_within, got_same}
 use Rattle.md_device.specs.Device.{held}
 use Rattle.md_device.specs.Splice.{part}
-use Rattle.md_device.proofs.Splices.{part_after, part_before, part-spliced}
+use Rattle.md_device.proofs.Splices.{part_after, part_before, part-spliced, part_part}
 use Rattle.md_model.specs.Events.{Event}
 use Rattle.md_model.proofs.Puts.{by_same}
 use Rattle.md_writes.specs.Writes.{Write}
 use Rattle.md_kept_members.specs.View.{MemberView}
 use Rattle.md_state.specs.View.{ArrayView, Disk, MirrorView}
 use Rattle.md_state.specs.CopyingData.{CopiesTo, IsCopy, RefusesCopy, copies_of, run_write}
-use Rattle.md_state.specs.declared.copy_fault.CopyFault.TheVariants as copy_fault
+use Rattle.md_faults.specs.declared.copy_fault.CopyFault.TheVariants as copy_fault
 use Rattle.md_state.specs.MakingClean.{IsIdle}
 use Rattle.md_state.specs.DeviceChanges.{AreSame, StaysHonest}
 use Rattle.md_state.specs.DiskWrites.{IsTried}
@@ -25,32 +25,22 @@ use Rattle.md_array.specs.CopyEvents.{CopiesInTurn}
 use Rattle.md_array.specs.Events.{Happens}
 use Rattle.md_array.specs.InTurn.{AllOf, Leads, Requests}
 use Rattle.md_array.specs.NotingResynced.{AllAgreeAt, IsServed, sector_of}
-use Rattle.md_array.proofs.General.Indices.{got_same, got_within}
 use Rattle.md_array.proofs.General.Resting.{rests_sound}
 use Rattle.md_array.proofs.Steps.CopyWrites.{copied_run_is_consistent, run_fits}
 use Rattle.md_array.proofs.Steps.Turns.{all_on, all_such}
+use Rattle.md_array.proofs.Worlds.States.{in_sync_recorded}
+use Rattle.md_array.proofs.Openings.Opened.{same_through}
 use Rattle.md_laws.specs.ReadInTurn.{ReadInTurn}
 use Rattle.md_laws.proofs.Runs.ReadTurns.{read_on, read_then, unread}
 use Rattle.md_laws.proofs.Runs.Rests.{rests_same}
 use Rattle.md_metadata.specs.Going.{IsFaulty}
 use Rattle.md_metadata.specs.Storing.{IsNoFailure, IsUpToDate}
 use Rattle.md_metadata.proofs.Going.{fails_after}
-use Rattle.md_metadata.proofs.Steps.{faulty_after, recorded_in_sync}
+use Rattle.md_metadata.proofs.Steps.{faulty_after}
 use Rattle.md_resync.specs.Copying.{Copies, CopyingGoesOn, GivesTo, HaltsCopying, IsAmong, IsBeside, IsBetween, IsCopyIn, IsCopying, IsRun, LosesCopying}
 use Rattle.md_resync.proofs.StepsOn.{by_none, by_on, by_run, by_singles}
 
 -- ---- devices, each as honest as it was
-pub same_then : (before mid after : List Disk) → AreSame before mid → AreSame mid after → AreSame before after
-same_then before mid after first second = record {
-  as_many = second.as_many ∙ first.as_many;
-  honest = λ k d e was is.
-      let low = slice_get_within before k d was in
-      let many = first.as_many in
-      let x = got_within mid k (omega arith) in
-      let f = first.honest k d x.0 was x.1 in
-      let s = second.honest k x.0 e x.1 is in
-      record { honest = s.honest ∙ f.honest; counted = let low = f.counted in let high = s.counted in omega arith };
-}
 
 pub tried_same : (k : ℕ) (w : Write) (before after : List Disk) → IsTried k w before after → AreSame before after
 tried_same k w before after tried = record {
@@ -97,7 +87,7 @@ goes_then Of old mid new g h = record {
       (h.leads last requests there)))
       (g.goes.leads previous requests in_flight));
   by_steps = by_on g.goes.events h.events old mid new (λ requests in_flight. subst (λ (a : ArrayView). AreInFlight a requests) (sym g.array) in_flight) g.goes.by_steps h.by_steps;
-  same = same_then old.disks mid.disks new.disks g.goes.same h.same;
+  same = same_through old.disks mid.disks new.disks g.goes.same h.same;
   sound = h.sound;
 }
 
@@ -157,14 +147,6 @@ all_between from k s zero start end low high = tt
 all_between from k s (suc n) start end low high = ((low, omega arith), all_between from k (s + 1) n start end (omega arith) (omega arith))
 
 -- ---- parts of parts
-part_part : (xs : List ℕ) (at long inner n : ℕ) → inner + n ≤ long → part (part xs at long) inner n ≡ part xs (at + inner) n
-unfolding part
-part_part xs at long inner n inside =
-    let whole : inner + (long - inner) ≡ long = omega arith in
-    ap (λ (m : ℕ). take n (drop inner (take m (drop at xs)))) (sym whole)
-    ∙ ap (take n) (drop-take inner (long - inner) (drop at xs))
-    ∙ take-take n (long - inner) (drop inner (drop at xs)) (omega arith)
-    ∙ ap (take n) (drop-drop inner at xs)
 
 -- a sector of those bytes
 pub sector_held : (v : MirrorView) (k sector : ℕ) (bytes : List ℕ) → HoldsData v k sector bytes → (s : ℕ) → sector ≤ s → 512 * s + 512 ≤ 512 * sector + length bytes
@@ -290,7 +272,7 @@ module _ (k chunk : ℕ) (old new : MirrorView) where
       let idle = f.copy.may.may.idle in
       let on = f.copy.may.in_sync in
       let same = got_same old.array.members k f.copy.may.target f.fails.array.member on.member f.fails.array.at in
-      let in_use = recorded_in_sync f.fails.array.member.state (subst (λ (m : MemberView). is_in_sync m.state ≡ true) same on.in_sync) in
+      let in_use = in_sync_recorded f.fails.array.member.state (subst (λ (m : MemberView). is_in_sync m.state ≡ true) same on.in_sync) in
       let failing : List Event = Event.CopyFails k chunk ∷ [] in
       let leads : (previous : Option Event) (requests : Requests) → AreInFlight old.array requests → Leads previous old requests failing new requests =
       λ previous requests in_flight. (new, requests, tt, (refl, f), (λ honest whole. happens honest requests in_flight), (refl, refl)) in

@@ -30,17 +30,19 @@ use Rattle.md_inflight.specs.Inflight.{InflightList}
 use Rattle.md_metadata.specs.Storing.{HasAllMarks, IsMarking, IsNoFailure, LosesStoring, StoresAll}
 use Rattle.md_state.specs.MakingClean.{IsIdle, first_number}
 use Rattle.md_state.specs.Requests.{AreInFlight}
-use Rattle.md_array.proofs.General.Indices.{at_set_same, got_other, got_same, got_within}
+use Rattle.md_array.proofs.General.Indices.{at_set_same, got_other}
 use Rattle.md_array.proofs.Steps.MarkSectors.{marks_stored_is_consistent}
 use Rattle.md_array.proofs.Worlds.Outside.{starts_at}
 use Rattle.md_array.proofs.Worlds.PartsApart.{marks_alone, parts_of}
+use Rattle.md_array.proofs.Openings.Opened.{same_through}
 use Rattle.md_resync.specs.Resyncing.{FailsToWrite, GoesOn, HaltsIdle, HasSameMembers, IsOfResync, StoresMarks}
 use Rattle.md_resync.proofs.Agreeing.{IsCalm, calm_content}
 use Rattle.md_resync.proofs.Cleared.{same_disks, same_members}
-use Rattle.md_resync.proofs.CopiedRuns.{same_then, tried_same}
+use Rattle.md_resync.proofs.CopiedRuns.{tried_same}
 use Rattle.md_resync.specs.Steps.{GoesBySteps, IsNoCopy}
 use Rattle.md_resync.proofs.Resynced.{members_on}
 use Rattle.md_resync.proofs.StepsOn.{by_singles}
+use Rattle.md_assembly.proofs.Indices.{got_within, got_same}
 
 module _ (k block : ℕ) (old new : MirrorView) (c : IsConsistent old) (low : block < bitmap_sectors old.array.marks.chunks) (r : StoresMarkSector k block old new) where
   abbrev m : MemberView
@@ -159,7 +161,7 @@ leaves_step : (k block : ℕ) (old mid new : MirrorView) (c : IsConsistent old) 
 leaves_step k block old mid new c low r rest =
     let size : mid.array.chunks.size ≡ old.array.chunks.size = ap (λ (a : ArrayView). a.chunks.size) r.array in
     record {
-      same = same_then old.disks mid.disks new.disks (tried_same k r.write old.disks mid.disks r.disks.tried) rest.same;
+      same = same_through old.disks mid.disks new.disks (tried_same k r.write old.disks mid.disks r.disks.tried) rest.same;
       members = members_on old.array mid.array new.array (mark_members k block old mid c low r) rest.members;
       size = rest.size ∙ size;
       agree = λ s below agree. rest.agree s (subst (λ (x : ℕ). s < x) (sym size) below) (mark_agrees k block old mid c low r s below agree);

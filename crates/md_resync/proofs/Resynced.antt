@@ -6,6 +6,7 @@ use Rattle.std.proofs.lemmas.Option.{slice_get_within}
 use Rattle.md_bitmap.specs.declared.chunks.Chunks.{Chunks}
 use Rattle.md_bitmap.specs.Marks.{Bitmap, is_set}
 use Rattle.md_assembly.specs.States.{is_in_sync, is_in_sync_as}
+use Rattle.md_assembly.proofs.Indices.{got_within}
 use Rattle.md_model.specs.Content.{HoldsBetween}
 use Rattle.md_model.specs.Events.{Event}
 use Rattle.md_model.specs.Sectors.{Geometry}
@@ -20,10 +21,10 @@ use Rattle.md_array.specs.InTurn.{AllOf}
 use Rattle.md_array.specs.NotingResynced.{AllAgreeAt, BecomesResynced}
 use Rattle.md_array.specs.Worlds.{geometry_of, world_of}
 use Rattle.md_array.proofs.General.Honesty.{same_honest}
-use Rattle.md_array.proofs.General.Indices.{got_within}
 use Rattle.md_array.proofs.General.Resting.{rests_sound}
 use Rattle.md_array.proofs.Steps.Turns.{all_on, all_such}
 use Rattle.md_array.proofs.Worlds.SectorCopied.{in_sync_as}
+use Rattle.md_array.proofs.Openings.Opened.{same_through}
 use Rattle.md_laws.proofs.Runs.ReadTurns.{unread}
 use Rattle.md_metadata.specs.Clearing.{ClearsAll}
 use Rattle.md_metadata.specs.Storing.{HasAllMarks, IsMarking}
@@ -34,7 +35,7 @@ use Rattle.md_resync.specs.Resyncing.{Advances, Agrees, ClearsStored, ComesTo, F
 use Rattle.md_resync.proofs.Advancing.{advances_on, agree_same, alone_still, fails_on, goes_on, none_flies}
 use Rattle.md_resync.proofs.Agreeing.{copies_advance, copying_goes, copying_is_calm}
 use Rattle.md_resync.proofs.Cleared.{cleared_stored, clearing_advances, content_on, same_but_marks, same_disks}
-use Rattle.md_resync.proofs.CopiedRuns.{copies_read, copies_then, same_then}
+use Rattle.md_resync.proofs.CopiedRuns.{copies_read, copies_then}
 use Rattle.md_resync.proofs.Settled.{settles}
 use Rattle.md_resync.proofs.StepsOn.{by_singles}
 
@@ -124,7 +125,7 @@ module _ (old a b c : MirrorView) (idle : IsIdle old.array) (s : StoresMarks old
     content : SettlesContent old d
     content honest requests in_flight held holds =
         let first = (content_on old a b idle s.advances.same (ap geometry_of s.array) s.content g.content) honest requests in_flight held holds in
-        let same_b = same_then old.disks a.disks b.disks s.advances.same g.advances.same in
+        let same_b = same_through old.disks a.disks b.disks s.advances.same g.advances.same in
         let honest_b = same_honest old.disks b.disks same_b honest in
         let honest_c = same_honest b.disks c.disks (same_disks b.disks c.disks r.marks.disks) honest_b in
         let geometry_b : geometry_of b.array ≡ geometry_of old.array = ap geometry_of array_b in

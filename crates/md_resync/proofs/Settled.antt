@@ -1,6 +1,7 @@
 -- Where it is kept that the array is resynced, its content becomes what the members in sync hold.
-use Rattle.std.proofs.Common.{◌≡◌, ℕ, ◌/◌, ◌<◌, Bool, true, false, ◌&&◌, nat_lt, inl, inr, refl, sym, ap, ◌∙◌, subst}
+use Rattle.std.proofs.Common.{◌≡◌, ℕ, ◌/◌, ◌<◌, true, false, ◌&&◌, nat_lt, inl, inr, refl, sym, ap, ◌∙◌, subst}
 use Rattle.std.proofs.lemmas.Option.{slice_get_within}
+use Rattle.std.proofs.Math.Bool.{and-false}
 use Rattle.md_model.specs.Content.{Content, HoldsAtRest, HoldsBetween, HoldsInFlight}
 use Rattle.md_model.specs.Events.{Event, Step}
 use Rattle.md_model.specs.Sectors.{Geometry, chunk_of}
@@ -47,10 +48,6 @@ module _ (g : Geometry) (w w' : World) (step : Step g w Event.Resynced w') (writ
     same = λ r s low. as_before s (λ k on clear. t.at_rest k s low on clear (quiet s) (inl r));
   }
 
-none_of : (x : Bool) → (x && false) ≡ false
-none_of true = refl
-none_of false = refl
-
 pub settles : (old new : MirrorView) → Happens old Event.Resynced new → SettlesContent old new
 settles old new happens honest requests in_flight a holds =
     let does = happens honest requests in_flight in
@@ -59,6 +56,6 @@ settles old new happens honest requests in_flight a holds =
     let is = settles_world (geometry_of old.array) w (world_of new requests) does.step does.written slot a holds in (
       settled (geometry_of old.array) w (world_of new requests) does.step does.written slot a holds,
       is.holds,
-      λ s low off. is.unmarked s low (ap (λ x. nat_lt (s / old.array.chunks.sectors) old.array.marks.chunks && x) off ∙ none_of (nat_lt (s / old.array.chunks.sectors) old.array.marks.chunks)),
+      λ s low off. is.unmarked s low (ap (λ x. nat_lt (s / old.array.chunks.sectors) old.array.marks.chunks && x) off ∙ and-false (nat_lt (s / old.array.chunks.sectors) old.array.marks.chunks)),
       is.same,
     )

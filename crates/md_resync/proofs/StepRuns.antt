@@ -4,7 +4,7 @@ use Rattle.md_model.specs.Events.{Event}
 use Rattle.md_state.specs.CopyingData.{copies_of, run_write}
 use Rattle.md_state.specs.View.{MirrorView}
 use Rattle.md_array.specs.Consistency.{IsConsistent}
-use Rattle.md_array.specs.InTurn.{AllOf, LeftWhole, Requests}
+use Rattle.md_array.specs.InTurn.{AllOf, Requests}
 use Rattle.md_array.specs.Worlds.{AreHonest}
 use Rattle.md_array.proofs.General.Honesty.{same_honest}
 use Rattle.md_array.proofs.General.Resting.{rests_sound}
@@ -13,7 +13,7 @@ use Rattle.md_array.proofs.Steps.Turns.{turn_then}
 use Rattle.md_laws.specs.ReadInTurn.{IsNoFailedRecord}
 use Rattle.md_laws.specs.Runs.{MirrorRun, Moment, then_as}
 use Rattle.md_laws.proofs.Runs.CallRuns.{run_on}
-use Rattle.md_laws.proofs.Runs.ReadTurns.{read_first, read_run, unread}
+use Rattle.md_laws.proofs.Runs.ReadTurns.{read_first, read_run, unread, left_whole}
 use Rattle.md_laws.proofs.Runs.Rests.{rests_same}
 use Rattle.md_resync.specs.StepRuns.{StepsAreRuns}
 use Rattle.md_resync.specs.Steps.{MirrorStep, StepsInTurn, copies_in, events_of}
@@ -25,11 +25,6 @@ steps_apart : (steps more : List MirrorStep) (old : MirrorView) (before : Reques
 steps_apart [] more old before P t = (old, rests_same old, t)
 steps_apart (MirrorStep.Single e ∷ steps) more old before P t = (t.0, t.1, t.2, t.3, t.4, t.5, t.6, steps_apart steps more t.1 t.2 P t.7)
 steps_apart (MirrorStep.CopyRun r ∷ steps) more old before P t = (t.0, t.1, t.2, t.3, t.4, steps_apart steps more t.1 before P t.5)
-
--- nothing is asked of the device
-left_whole : (e : Event) (old new : MirrorView) → IsNoFailedRecord e → LeftWhole old e new
-left_whole (Event.RecordFails k) old new is = absurd is
-left_whole e old new is = tt
 
 all_after : (Of : Event → Type 0) (es fs : List Event) → AllOf Of (es ++ fs) → AllOf Of fs
 all_after Of [] fs all = all

@@ -2,8 +2,8 @@
 use Rattle.std.specs.Prelude.{◌≡◌, ℕ, ◌+◌, ◌-◌, ◌*◌, true, false, not, ◌&&◌, ◌==◌, min, Option, Some, None}
 use Rattle.md_inflight.specs.Inflight.{first_meeting}
 use Rattle.md_bitmap.specs.Marks.{Bitmap, is_set}
-use Rattle.md_state.specs.declared.step_fault.ClearFault.{ClearFault}
-use Rattle.md_state.specs.declared.step_fault.ClearFault.TheVariants.{Halted, NotResynced, Degraded, Busy, NotMarked}
+use Rattle.md_faults.specs.declared.step_fault.ClearFault.{ClearFault}
+use Rattle.md_faults.specs.declared.step_fault.ClearFault.TheVariants.{Halted, NotResynced, Degraded, Busy, NotMarked}
 use Rattle.md_state.specs.View.{ArrayView, MirrorView}
 use Rattle.md_state.specs.Members.{is_degraded}
 use Rattle.md_state.specs.Trying.{Refuses, RefusesHalted}

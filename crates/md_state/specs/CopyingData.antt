@@ -8,8 +8,8 @@ use Rattle.md_model.specs.Events.{Event}
 use Rattle.md_writes.specs.Writes.{Write}
 use Rattle.md_kept_members.specs.View.{MemberView}
 use Rattle.md_assembly.specs.States.{is_in_sync_as}
-use Rattle.md_state.specs.declared.copy_fault.CopyFault.{CopyFault}
-use Rattle.md_state.specs.declared.copy_fault.CopyFault.TheVariants.{Halted, MemberFailed}
+use Rattle.md_faults.specs.declared.copy_fault.CopyFault.{CopyFault}
+use Rattle.md_faults.specs.declared.copy_fault.CopyFault.TheVariants.{Halted, MemberFailed}
 use Rattle.md_state.specs.DiskWrites.{AtDevice, IsTried, IsWritten}
 use Rattle.md_state.specs.MakingClean.{IsIdle}
 use Rattle.md_state.specs.Members.{AllInSync, IsInSync, IsMember}

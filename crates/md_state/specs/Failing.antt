@@ -1,10 +1,10 @@
 -- What a call answers where a write to a member failed.
 use Rattle.std.specs.Prelude.{◌≡◌, ℕ}
 use Rattle.md_kept_members.specs.Members.{HasOtherInSync}
-use Rattle.md_state.specs.declared.step_fault.StoreFault.{StoreFault}
-use Rattle.md_state.specs.declared.step_fault.StoreFault.TheVariants as store
-use Rattle.md_state.specs.declared.step_fault.WriteMemberFault.{WriteMemberFault}
-use Rattle.md_state.specs.declared.step_fault.WriteMemberFault.TheVariants as write
+use Rattle.md_faults.specs.declared.step_fault.StoreFault.{StoreFault}
+use Rattle.md_faults.specs.declared.step_fault.StoreFault.TheVariants as store
+use Rattle.md_faults.specs.declared.step_fault.WriteMemberFault.{WriteMemberFault}
+use Rattle.md_faults.specs.declared.step_fault.WriteMemberFault.TheVariants as write
 use Rattle.md_state.specs.View.{ArrayView}
 use Rattle.md_state.specs.Rising.{Fails, Halts, HasSpentEvents}
 

@@ -4,8 +4,8 @@ use Rattle.std.specs.Prelude.{◌≡◌, ℕ, true, false}
 use Rattle.md_kept_members.specs.View.{MemberView}
 use Rattle.md_assembly.specs.States.{is_active}
 use Rattle.md_kept_members.specs.Members.{HasOtherInSync, IsLastInSync}
-use Rattle.md_state.specs.declared.step_fault.FailFault.{FailFault}
-use Rattle.md_state.specs.declared.step_fault.FailFault.TheVariants.{Halted, NotActive, LastMember, EventsFull}
+use Rattle.md_faults.specs.declared.step_fault.FailFault.{FailFault}
+use Rattle.md_faults.specs.declared.step_fault.FailFault.TheVariants.{Halted, NotActive, LastMember, EventsFull}
 use Rattle.md_state.specs.Failing.{MayFail}
 use Rattle.md_state.specs.Members.{IsMember}
 use Rattle.md_state.specs.Rising.{Fails, HasSpentEvents}

@@ -3,8 +3,8 @@ use Rattle.std.specs.Prelude.{◌≡◌, ℕ, true, false}
 use Rattle.md_inflight.specs.Inflight as inflight
 use Rattle.md_requests.specs.Pending.{PendingView, has_written}
 use Rattle.md_kept_members.specs.View.{MemberView}
-use Rattle.md_state.specs.declared.step_fault.FinishFault.{FinishFault}
-use Rattle.md_state.specs.declared.step_fault.FinishFault.TheVariants.{Halted, Unwritten, MustRecord}
+use Rattle.md_faults.specs.declared.step_fault.FinishFault.{FinishFault}
+use Rattle.md_faults.specs.declared.step_fault.FinishFault.TheVariants.{Halted, Unwritten, MustRecord}
 use Rattle.md_state.specs.View.{ArrayView, MirrorView}
 use Rattle.md_state.specs.Trying.{Refuses, RefusesHalted}
 use Rattle.md_state.specs.Members.{AllInSync, IsFirstInSyncWithout}

@@ -53,3 +53,5 @@ pub mod CopyingData
 pub mod Joining
 -- A device that left is taken back in its former role.
 pub mod ReAdding
+-- A new device comes in as a spare.
+pub mod Adding

@@ -1,7 +1,7 @@
 -- An active array becomes clean, as at a stop.
 use Rattle.std.specs.Prelude.{◌≡◌, ◌≢◌, ℕ, true, false, not, option_map, slice_get, Option, Some, None}
-use Rattle.md_state.specs.declared.step_fault.CleanFault.{CleanFault}
-use Rattle.md_state.specs.declared.step_fault.CleanFault.TheVariants.{Halted, InFlight, NotResynced, AlreadyClean, EventsFull}
+use Rattle.md_faults.specs.declared.step_fault.CleanFault.{CleanFault}
+use Rattle.md_faults.specs.declared.step_fault.CleanFault.TheVariants.{Halted, InFlight, NotResynced, AlreadyClean, EventsFull}
 use Rattle.md_state.specs.View.{ArrayView, MirrorView}
 use Rattle.md_state.specs.Members.{clean_offset, is_degraded}
 use Rattle.md_state.specs.Rising.{risen, HasSpentEvents}

@@ -8,8 +8,8 @@ use Rattle.md_members.specs.declared.info.MemberInfo.{MemberInfo}
 use Rattle.md_assembly.specs.States.{has_recovery_offset, takes_role}
 use Rattle.md_kept_members.specs.TakingBack.{IsTakenBack, own_role}
 use Rattle.md_kept_members.specs.View.{MemberView}
-use Rattle.md_state.specs.declared.re_add_fault.ReAddFault.{ReAddFault}
-use Rattle.md_state.specs.declared.re_add_fault.ReAddFault.TheVariants.{Halted, Member, Full, NotReAddable, NoRole, EventsFull, WriteFault, NoMemory}
+use Rattle.md_faults.specs.declared.re_add_fault.ReAddFault.{ReAddFault}
+use Rattle.md_faults.specs.declared.re_add_fault.ReAddFault.TheVariants.{Halted, Member, Full, NotReAddable, NoRole, EventsFull, WriteFault, NoMemory}
 use Rattle.md_state.specs.Joining.{IsFull, joined}
 use Rattle.md_state.specs.Rising.{HasSpentEvents, has_number}
 use Rattle.md_state.specs.View.{ArrayView}

@@ -4,8 +4,8 @@ use Rattle.std.specs.Prelude.{◌≡◌, ℕ, true, false, cond, not, slice_get,
 use Rattle.std.specs.List.{remove}
 use Rattle.md_kept_members.specs.View.{MemberView}
 use Rattle.md_assembly.specs.States.{is_active, is_spare}
-use Rattle.md_state.specs.declared.step_fault.RemoveFault.{RemoveFault}
-use Rattle.md_state.specs.declared.step_fault.RemoveFault.TheVariants.{Halted, StillActive, EventsFull}
+use Rattle.md_faults.specs.declared.step_fault.RemoveFault.{RemoveFault}
+use Rattle.md_faults.specs.declared.step_fault.RemoveFault.TheVariants.{Halted, StillActive, EventsFull}
 use Rattle.md_state.specs.FailingMembers.{IsRunningWith}
 use Rattle.md_state.specs.Members.{IsMember, is_degraded}
 use Rattle.md_state.specs.Rising.{HasSpentEvents, risen, roles_without}

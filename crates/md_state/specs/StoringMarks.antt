@@ -7,8 +7,8 @@ use Rattle.md_writes.specs.Bitmaps.{bitmap_write}
 use Rattle.md_writes.specs.Writes.{Write}
 use Rattle.md_kept_members.specs.View.{MemberView}
 use Rattle.md_kept_members.specs.StoredMarks.{HasStored}
-use Rattle.md_state.specs.declared.step_fault.StoreFault.{StoreFault}
-use Rattle.md_state.specs.declared.step_fault.StoreFault.TheVariants.{Halted, NotActive, MemberFailed}
+use Rattle.md_faults.specs.declared.step_fault.StoreFault.{StoreFault}
+use Rattle.md_faults.specs.declared.step_fault.StoreFault.TheVariants.{Halted, NotActive, MemberFailed}
 use Rattle.md_state.specs.View.{ArrayView, MirrorView}
 use Rattle.md_state.specs.Members.{IsInSync}
 use Rattle.md_state.specs.Headers.{IsHeaderFor}

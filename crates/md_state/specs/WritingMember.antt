@@ -4,8 +4,8 @@ use Rattle.md_bitmap.specs.Marks.{is_set}
 use Rattle.md_writes.specs.Writes.{Write}
 use Rattle.md_requests.specs.Pending.{PendingView, has_written, request_sectors}
 use Rattle.md_kept_members.specs.View.{MemberView}
-use Rattle.md_state.specs.declared.step_fault.WriteMemberFault.{WriteMemberFault}
-use Rattle.md_state.specs.declared.step_fault.WriteMemberFault.TheVariants.{Halted, NotActive, NotMarked, NotRecorded, AlreadyWritten, MemberFailed}
+use Rattle.md_faults.specs.declared.step_fault.WriteMemberFault.{WriteMemberFault}
+use Rattle.md_faults.specs.declared.step_fault.WriteMemberFault.TheVariants.{Halted, NotActive, NotMarked, NotRecorded, AlreadyWritten, MemberFailed}
 use Rattle.md_state.specs.View.{ArrayView, MirrorView}
 use Rattle.md_state.specs.Members.{IsInSync, AllInSync, IsFirstInSyncWithout}
 use Rattle.md_state.specs.DiskWrites.{IsWritten}

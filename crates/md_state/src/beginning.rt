@@ -7,7 +7,7 @@ ghost use Rattle.md_state.specs.Rising.{HasSpentEvents};
 ghost use Rattle.md_state.specs.View.{Disk};
 
 use crate::array::Array;
-use crate::step_fault::BeginFault;
+use md_faults::BeginFault;
 use md_inflight::{PushFault, Ticket};
 use md_requests::{Extent, Pending, pending_of};
 use md_super::CLEAN_OFFSET;

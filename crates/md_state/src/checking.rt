@@ -3,7 +3,7 @@ ghost use Rattle.std.specs.Prelude.{◌<◌, MatchResult, length};
 ghost use Rattle.md_state.specs.Checking.{IsActive, IsServing, RefusesInactive, RefusesOutOfSync};
 
 use crate::array::Array;
-use crate::step_fault::StoreFault;
+use md_faults::StoreFault;
 
 impl Array {
     /// Whether the mirror runs and the superblock of member k is kept up to date.

@@ -5,7 +5,7 @@ ghost use Rattle.md_state.specs.ClearingMarks.{Clears, MayClear, RefusesClear};
 ghost use Rattle.md_state.specs.View.{Disk};
 
 use crate::array::Array;
-use crate::step_fault::ClearFault;
+use md_faults::ClearFault;
 
 impl Array {
     /// What `Mirror::clear_idle` does, whatever its devices are: it uses none.

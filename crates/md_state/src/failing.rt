@@ -7,9 +7,8 @@ ghost use Rattle.md_state.specs.Members.{IsMember, is_degraded};
 ghost use Rattle.md_state.specs.Rising.{CannotFail, Fails, Halts, HasSpentEvents, failed, without};
 
 use crate::array::Array;
-use crate::copy_fault::CopyFault;
-use crate::step_fault::{StoreFault, WriteMemberFault};
 use md_assembly::MemberState;
+use md_faults::{CopyFault, StoreFault, WriteMemberFault};
 use md_kept_members::has_other_in_sync;
 use md_super::FAULTY;
 

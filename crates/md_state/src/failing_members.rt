@@ -4,7 +4,7 @@ ghost use Rattle.md_state.specs.FailingMembers.{FailsMember, MayBeFailed, Refuse
 ghost use Rattle.md_state.specs.View.{Disk};
 
 use crate::array::Array;
-use crate::step_fault::FailFault;
+use md_faults::FailFault;
 use md_kept_members::has_other_in_sync;
 
 impl Array {

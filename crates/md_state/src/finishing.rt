@@ -5,7 +5,7 @@ ghost use Rattle.md_state.specs.Finishing.{Finishes, MayFinish, RefusesFinish};
 ghost use Rattle.md_state.specs.View.{Disk};
 
 use crate::array::Array;
-use crate::step_fault::FinishFault;
+use md_faults::FinishFault;
 use md_requests::{Pending, ticket_of};
 
 impl Array {

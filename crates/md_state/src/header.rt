@@ -30,8 +30,8 @@ impl Array {
     }
 }
 
-// A header as it is: what it holds fits its fields.
-fn fitting(header: BitmapHeader) -> BitmapHeader
+/// A header as it is: what it holds fits its fields.
+pub(crate) fn fitting(header: BitmapHeader) -> BitmapHeader
     ensures same { result ≡ header }
     ensures uuid { length header.uuid ≡ 16 }
     ensures name { length header.cluster_name ≡ 64 }

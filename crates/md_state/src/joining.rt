@@ -7,8 +7,11 @@ ghost use Rattle.md_state.specs.Rising.{HasSpentEvents};
 
 use crate::array::Array;
 use md_kept_members::make_due;
-use md_super::{FAULTY, MAX_ROLES, Roles, Superblock};
+use md_super::{MAX_ROLES, Roles, Superblock};
 use std::alloc::{AllocError, Global};
+
+/// The members that an array may have.
+pub(crate) const MOST_MEMBERS: usize = 64;
 
 impl Array {
     /// The array's fields as they are once the device with this number has come in with this role. Nothing
@@ -86,9 +89,6 @@ impl Array {
         if d == number {
             return role;
         }
-        if self.is_absent(d) {
-            return FAULTY;
-        }
-        self.shared.role_of(d)
+        self.role_at_rise(d)
     }
 }

@@ -1,11 +1,11 @@
 //! What a mirror keeps in memory of the array, without its devices, and what each step asks of it and changes in it.
 #![tactic(auto)]
 
+mod adding;
 mod array;
 mod beginning;
 mod checking;
 mod clearing_marks;
-mod copy_fault;
 mod failing;
 mod failing_members;
 mod finishing;
@@ -15,21 +15,15 @@ mod joining;
 mod making_clean;
 mod missing;
 mod noting_resynced;
+mod numbering;
 mod observing;
-mod re_add_fault;
 mod re_adding;
 mod recording;
 mod remembering;
 mod removing;
 mod rising;
-mod step_fault;
+mod spares;
 mod storing_marks;
 mod writing_member;
 
 pub use array::Array;
-pub use copy_fault::CopyFault;
-pub use re_add_fault::ReAddFault;
-pub use step_fault::{
-    BeginFault, CleanFault, ClearFault, FailFault, FinishFault, RemoveFault, StoreFault,
-    WriteMemberFault,
-};

@@ -4,7 +4,7 @@ ghost use Rattle.md_state.specs.MakingClean.{MakesClean, MayMakeClean, RefusesCl
 ghost use Rattle.md_state.specs.View.{Disk};
 
 use crate::array::Array;
-use crate::step_fault::CleanFault;
+use md_faults::CleanFault;
 use md_super::CLEAN_OFFSET;
 
 impl Array {

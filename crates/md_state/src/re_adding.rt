@@ -3,13 +3,11 @@ ghost use Rattle.std.specs.Prelude.{◌≡◌, ◌↔◌, IsTrue, MatchResult};
 ghost use Rattle.md_state.specs.ReAdding.{IsOfArray, IsReAddable, LeftInTime, LeftItsRole, MayReAdd, RefusesToTakeBack, is_taken};
 
 use crate::array::Array;
-use crate::re_add_fault::ReAddFault;
+use crate::joining::MOST_MEMBERS;
 use md_bitmap::BitmapHeader;
+use md_faults::ReAddFault;
 use md_members::MemberInfo;
 use md_super::{FEATURE_RECOVERY_OFFSET, Superblock};
-
-/// The members that an array may have.
-const MOST_MEMBERS: usize = 64;
 
 impl Array {
     /// Whether a device that was read as this may be taken back.

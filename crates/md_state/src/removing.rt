@@ -8,7 +8,7 @@ ghost use Rattle.md_state.specs.View.{Disk};
 ghost use Rattle.md_state.specs.Rising.{HasSpentEvents};
 
 use crate::array::Array;
-use crate::step_fault::RemoveFault;
+use md_faults::RemoveFault;
 use md_super::FAULTY;
 
 impl Array {

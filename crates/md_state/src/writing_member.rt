@@ -9,7 +9,7 @@ ghost use Rattle.md_state.specs.View.{Disk};
 ghost use Rattle.md_state.specs.WritingMember.{MayWrite, RefusesWriteMember};
 
 use crate::array::Array;
-use crate::step_fault::WriteMemberFault;
+use md_faults::WriteMemberFault;
 use md_requests::{Pending, note_written};
 
 impl Array {

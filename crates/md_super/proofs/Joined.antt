@@ -3,6 +3,7 @@ use Rattle.std.proofs.Common.{◌≡◌, ℕ, ℤ, List, ◌++◌, ap, ◌∙◌
 use Rattle.std.proofs.lemmas.Int.{to_z-of_z}
 use Rattle.std.specs.Int.{w32, cast_signed, cast_unsigned}
 use Rattle.byteorder.specs.Endian.{little_bytes}
+use Rattle.md_format.proofs.Written.{regroup_6}
 
 -- one more field
 pub joined : {s t front : List ℕ} (field : List ℕ) → s ≡ front → t ≡ s ++ field → t ≡ front ++ field
@@ -13,9 +14,6 @@ regroup_3 p a b c = simp append_assoc
 
 regroup_4 : (p a b c d : List ℕ) → p ++ a ++ b ++ c ++ d ≡ p ++ (a ++ b ++ c ++ d)
 regroup_4 p a b c d = simp append_assoc
-
-regroup_6 : (p a b c d e f : List ℕ) → p ++ a ++ b ++ c ++ d ++ e ++ f ≡ p ++ (a ++ b ++ c ++ d ++ e ++ f)
-regroup_6 p a b c d e f = simp append_assoc
 
 -- a group of fields after a front
 pub group_3 : {s t u : List ℕ} (p a b c : List ℕ) → s ≡ p ++ a → t ≡ s ++ b → u ≡ t ++ c → u ≡ p ++ (a ++ b ++ c)

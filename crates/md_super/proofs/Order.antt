@@ -1,6 +1,6 @@
 -- The tests of `decode` decide its faults, in their order.
 use Rattle.std.proofs.Common.{◌≡◌, ◌≢◌, ℕ, ◌<◌, ◌≤◌, Bool, true, false, ◌&&◌, nat_lt, nat_le, eqb, List, Option, Some, None, refl, ◌⊎◌, inl, inr, arith}
-use Rattle.std.proofs.lemmas.Bool.{eqb-true, eqb-false, cases_lt, leb-true, leb-false, ltb-true, ltb-false}
+use Rattle.std.proofs.lemmas.Bool.{eqb-true, eqb-false, cases_lt, leb-true, leb-false, ltb-true, ltb-false, and_parts}
 use Rattle.md_format.specs.Fields.{number_at}
 use Rattle.md_format.specs.FirstFault.{check}
 use Rattle.md_format.proofs.Order.{Decides, AllDecide, decide_none, decide_more, fault_found, none_found, same_unless_other}
@@ -66,10 +66,6 @@ one_fails : (a b : Bool) → (a && b) ≡ false → (a ≡ false) ⊎ (b ≡ fal
 one_fails true b e = inr e
 one_fails false b e = inl refl
 
-both_pass : (a b : Bool) → (a && b) ≡ true → (a ≡ true) × (b ≡ true)
-both_pass true b e = (refl, e)
-both_pass false b e = absurd cc
-
 raid_disks_decides : (bytes : List ℕ) → Decides (Stands bytes) place 8 (check (nat_lt 0 (number_at 4 92 bytes) && nat_le (number_at 4 92 bytes) 32) RaidDisks)
 raid_disks_decides bytes = let disks = number_at 4 92 bytes in record {
   placed = refl;
@@ -78,7 +74,7 @@ raid_disks_decides bytes = let disks = number_at 4 92 bytes in record {
     | inr many ↦ inr (leb-false disks 32 many)
   ];
   complete = λ f at passes s.
-      let both = both_pass (nat_lt 0 disks) (nat_le disks 32) passes in
+      let both = and_parts (nat_lt 0 disks) (nat_le disks 32) passes in
       let some = ltb-true 0 disks both.0 in
       let few = leb-true disks 32 both.1 in
       elim (only_raid_disks bytes f at s) [ inl none ↦ omega arith | inr many ↦ omega arith ];

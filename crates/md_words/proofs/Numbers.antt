@@ -4,20 +4,17 @@ use Rattle.std.specs.List.{list_all}
 use Rattle.std.specs.Result.{result_unwrap_or}
 use Rattle.std.specs.Char.{digit_value}
 use Rattle.std.specs.Str.Parse.{AllDigits, IsNumeral, ParsesUnsigned, digits_value, without_leading_plus}
+use Rattle.std.proofs.lemmas.Bool.{and_parts}
 use Rattle.md_words.specs.Asked.{is_number, number_of}
 
 digits_pass : (ds : List ℕ) → AllDigits 10 ds → list_all (λ d. nat_lt (digit_value d) 10) ds ≡ true
 digits_pass [] h = refl
 digits_pass (d ∷ ds) h = rw (lt-ltb (digit_value d) 10 h.0) (digits_pass ds h.1)
 
-both : (a b : Bool) → (a && b) ≡ true → (a ≡ true) × (b ≡ true)
-both true b e = (refl, e)
-both false b e = absurd (true≢false (sym e))
-
 digits_from : (ds : List ℕ) → list_all (λ d. nat_lt (digit_value d) 10) ds ≡ true → AllDigits 10 ds
 digits_from [] e = tt
 digits_from (d ∷ ds) e =
-    let parts = both _ _ e in
+    let parts = and_parts _ _ e in
     (ltb-true _ _ parts.0, digits_from ds parts.1)
 
 passes : (most : ℕ) (ds : List ℕ) → IsNumeral 10 ds → digits_value 10 ds < most → (is_number ds && nat_lt (digits_value 10 ds) most) ≡ true
@@ -39,6 +36,6 @@ number_read bits text (Ok n) h =
 number_read bits text (Err e) h =
     let ds = without_leading_plus text in
     refused (is_number ds && nat_lt (digits_value 10 ds) (2 ^ bits)) (digits_value 10 ds) (λ t.
-    let outer = both (is_number ds) _ t in
-    let inner = both (nat_lt 0 (length ds)) _ outer.0 in
+    let outer = and_parts (is_number ds) _ t in
+    let inner = and_parts (nat_lt 0 (length ds)) _ outer.0 in
     h ((ltb-true _ _ inner.0, digits_from ds inner.1), ltb-true _ _ outer.1))

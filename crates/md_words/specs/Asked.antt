@@ -31,6 +31,7 @@ pub data Ask : Type 0 where
   creates : Options → Ask
   performs : ArrayTask → Bool → Ask  -- whether no image may be changed
   removes : ℕ → Ask  -- the member with this index leaves the array
+  adds : Text → Ask  -- the image under this name joins it
 
 -- whether the text is a number: one decimal digit or more, and nothing else
 abbrev pub is_number : Text → Bool
@@ -99,6 +100,7 @@ abbrev pub asks_of : Text → List Row → Ask
 asks_of name rows =
     if bytes_eq name (codes "create") then creates (options_in rows)
     else if bytes_eq name (codes "remove") then removes (number_in 32 (codes "member") rows)
+    else if bytes_eq name (codes "add") then adds (text_in (codes "device") rows)
     else asks_by name (is_readonly rows) (task_of name rows) (change_of name rows)
 
 abbrev pub asks_in : Option (Text × List Row) → Ask
@@ -135,3 +137,4 @@ ask_of (action.Examine report) = examines report
 ask_of (action.Create options) = creates (options_of options)
 ask_of (action.Perform task readonly) = performs task readonly
 ask_of (action.Remove k) = removes k
+ask_of (action.Add device) = adds device.now

@@ -51,6 +51,14 @@ plan_app = with_images (with_member (new_app (codes "plan")))
 abbrev pub member_app : Text → App
 member_app name = with_rule (with_member (new_app name)) image_rule
 
+-- an option that is the image of a device which is to join the array
+abbrev pub with_device : App → App
+with_device a = with_rule a (required (value_rule (codes "device")))
+
+-- a command by which a device joins an array
+abbrev pub device_app : Text → App
+device_app name = with_rule (with_device (new_app name)) image_rule
+
 -- an option that is a sector of the array
 abbrev pub with_sector : App → App
 with_sector a = with_rule a (required (u64_rule (codes "sector")))
@@ -88,7 +96,7 @@ with_version a = record a { top = record a.top { has_version = true } }
 abbrev pub required_command : App → App
 required_command a = record a { top = record a.top { subcommand_required = true } }
 
--- the commands on one image, those that make an array or show it, those on its data, and those on one of its members
+-- the commands on one image, those that make an array or show it, those on its data, and those by which its members change
 abbrev pub with_examine_commands : App → App
 with_examine_commands a =
     with_subcommand
@@ -110,7 +118,10 @@ with_data_commands a =
     (bare_app (codes "stop")).top
 
 abbrev pub with_member_commands : App → App
-with_member_commands a = with_subcommand (with_subcommand a (member_app (codes "fail")).top) (member_app (codes "remove")).top
+with_member_commands a =
+    with_subcommand
+    (with_subcommand (with_subcommand a (member_app (codes "fail")).top) (member_app (codes "remove")).top)
+    (device_app (codes "add")).top
 
 -- the whole command line
 unfoldable pub mdcli : App

@@ -2,7 +2,7 @@
 ghost use Rattle.std.specs.Prelude.{◌≡◌, IfOk, false};
 ghost use Rattle.clap.specs.Words.{app_of, rule_of};
 ghost use Rattle.clap.specs.declared.builder.command.Command.TheViews.{out-Command as fields_of};
-ghost use Rattle.md_words.specs.Words.{create_app, array_app, bare_app, flag_rule, image_rule, mdcli, member_app, plan_app, read_app, required, u32_rule, u64_rule, with_images, with_member, with_optional, with_required, with_sector, value_rule, with_array_commands, with_data_commands, with_examine_commands, with_member_commands, write_app};
+ghost use Rattle.md_words.specs.Words.{create_app, array_app, bare_app, device_app, flag_rule, image_rule, mdcli, member_app, plan_app, read_app, required, u32_rule, u64_rule, with_images, with_member, with_optional, with_required, with_sector, value_rule, with_array_commands, with_data_commands, with_device, with_examine_commands, with_member_commands, write_app};
 
 use crate::help;
 use clap::builder::ValueParserFactory;
@@ -143,6 +143,37 @@ fn member_command<'a>(
         .about(about)
         .after_help(after_help);
     with_member(alloc, command)?.arg(image_arg(alloc))
+}
+
+// The image of a device that is to join the array.
+fn with_device<'a>(alloc: Global, command: Command<'a>) -> Result<Command<'a>, AllocError>
+    ensures app { IfOk result (λ c. app_of c ≡ with_device (app_of command.entry)) }
+    ensures local { IfOk result (λ c. (fields_of command.entry).has_globals ≡ false → (fields_of c).has_globals ≡ false) }
+{
+    let device = value_arg(
+        alloc,
+        "device",
+        "NEW",
+        "The image that joins the array: a file or a block device, none of those listed",
+    )
+    .required(true);
+    command.arg(device)
+}
+
+// A command by which a device joins an array.
+fn device_command<'a>(
+    alloc: Global,
+    name: &'a str,
+    about: &'a str,
+    after_help: &'a str,
+) -> Result<Command<'a>, AllocError>
+    ensures app { IfOk result (λ c. app_of c ≡ device_app name.entry.now) }
+    ensures local { IfOk result (λ c. (fields_of c).has_globals ≡ false) }
+{
+    let command = Command::new(alloc, name)
+        .about(about)
+        .after_help(after_help);
+    with_device(alloc, command)?.arg(image_arg(alloc))
 }
 
 // The sector of the array at which a command begins.
@@ -303,7 +334,7 @@ fn data_commands<'a>(alloc: Global, program: Command<'a>) -> Result<Command<'a>,
         .subcommand(stop)
 }
 
-// The commands on one member of an array.
+// The commands by which the members of an array change.
 fn member_commands<'a>(alloc: Global, program: Command<'a>) -> Result<Command<'a>, AllocError>
     ensures { IfOk result (λ c. app_of c ≡ with_member_commands (app_of program.entry)) }
 {
@@ -319,7 +350,16 @@ fn member_commands<'a>(alloc: Global, program: Command<'a>) -> Result<Command<'a
         "Takes a member that is not in use out of the array, and stops it",
         help::REMOVE,
     )?;
-    program.subcommand(fail)?.subcommand(remove)
+    let add = device_command(
+        alloc,
+        "add",
+        "Adds an image to the array as a spare, and stops it; what the image held is lost",
+        help::ADD,
+    )?;
+    program
+        .subcommand(fail)?
+        .subcommand(remove)?
+        .subcommand(add)
 }
 
 // The commands on one image.

@@ -135,6 +135,9 @@ fn action_of<'a>(name: &str, found: &ArgMatches<'a>) -> Action<'a>
     if name == "remove" {
         return Action::Remove(member_of(found));
     }
+    if name == "add" {
+        return Action::Add(text_of(found, "device"));
+    }
     if let Some(task) = task_of(name, found) {
         return Action::Perform(task, is_readonly(found));
     }

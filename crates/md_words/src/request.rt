@@ -12,6 +12,9 @@ pub enum Action<'a> {
     Perform(ArrayTask, bool),
     /// The member with this index leaves the array that the images make, which is stopped then.
     Remove(u32),
+    /// The image under this name, which is none of those listed, joins the array that the images make, which
+    /// is stopped then.
+    Add(&'a str),
 }
 
 /// An action, and the image words.

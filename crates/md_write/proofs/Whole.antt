@@ -15,13 +15,14 @@ use Rattle.md_bitmap.proofs.Limits.{div-lt-div_ceil}
 use Rattle.md_inflight.specs.Inflight.{InflightList, lookup, without}
 use Rattle.md_requests.specs.declared.extent.Extent.{Extent}
 use Rattle.md_requests.specs.Pending.{PendingView}
-use Rattle.md_state.specs.declared.step_fault.BeginFault.{BeginFault}
-use Rattle.md_state.specs.declared.step_fault.BeginFault.TheVariants as begin
+use Rattle.md_faults.specs.declared.step_fault.BeginFault.{BeginFault}
+use Rattle.md_faults.specs.declared.step_fault.BeginFault.TheVariants as begin
 use Rattle.md_state.specs.View.{ArrayView, MirrorView}
 use Rattle.md_state.specs.Beginning.{Begins, HasMarked, RefusesBegin, has_sector_of, has_to_rise}
 use Rattle.md_state.specs.Rising.{risen}
 use Rattle.md_state.specs.Finishing.{Finishes}
 use Rattle.md_state.specs.Requests.{AreInFlight, among, request_of}
+use Rattle.md_state.proofs.Changes.RequestChunks.{div_mono}
 use Rattle.md_array.specs.Consistency.{IsConsistent}
 use Rattle.md_array.specs.Events.{BeginHappens, Does, FinishHappens}
 use Rattle.md_array.specs.InTurn.{AllLeftWhole, AllOf, InTurn, IsPut, Requests}
@@ -31,7 +32,7 @@ use Rattle.md_array.proofs.Steps.Turns.{turn_on, turn_then, turn_through}
 use Rattle.md_array.proofs.Worlds.InSync.{in_sync_is, number_at}
 use Rattle.md_write.specs.Progress.{AreChunksOf, HaltsOn, IsEventOf, IsOfRequest, IsReadyToFinish, Part, end_chunk, first_chunk}
 use Rattle.md_write.specs.Writing.{HaltsWrite, HasReceived, IsWritten, RefusesWrite, Writes, events_of}
-use Rattle.md_write.proofs.WrittenData.{div_mono, put_under, under}
+use Rattle.md_write.proofs.WrittenData.{put_under, under}
 use Rattle.md_write.proofs.WrittenData as written
 use Rattle.md_write.proofs.Entries.{without_last}
 use Rattle.md_write.proofs.InRounds.{left_at}

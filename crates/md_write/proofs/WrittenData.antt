@@ -1,6 +1,5 @@
 -- A request's bytes are written to the members.
-use Rattle.std.proofs.Common.{◌≡◌, ◌≢◌, ℕ, ◌+◌, ◌-◌, ◌/◌, ◌<◌, ◌≤◌, Bool, true, false, ◌||◌, eqb, List, [], ◌∷◌, ◌++◌, length, Some, refl, sym, ap, ◌∙◌, subst, arith, inl, inr, eq-eqb}
-use Rattle.std.proofs.Math.Nat.{div-mul-le_self, le-div_iff_mul-le}
+use Rattle.std.proofs.Common.{◌≡◌, ◌≢◌, ℕ, ◌+◌, ◌-◌, ◌/◌, ◌≤◌, Bool, true, false, ◌||◌, eqb, List, [], ◌∷◌, ◌++◌, length, Some, refl, sym, ap, ◌∙◌, subst, arith, inl, inr, eq-eqb}
 use Rattle.std.specs.List.{list_any}
 use Rattle.std.specs.Prelude.{Result, Ok, Err, MatchResult}
 use Rattle.std.proofs.lemmas.Bool.{or_right}
@@ -12,28 +11,27 @@ use Rattle.md_bitmap.specs.declared.chunks.Chunks.{Chunks}
 use Rattle.md_assembly.specs.States.{is_in_sync}
 use Rattle.md_requests.specs.Pending.{PendingView, has_written}
 use Rattle.md_kept_members.specs.View.{MemberView}
-use Rattle.md_state.specs.declared.step_fault.WriteMemberFault.TheVariants.{Halted, NotActive, NotMarked, NotRecorded, AlreadyWritten, MemberFailed}
+use Rattle.md_faults.specs.declared.step_fault.WriteMemberFault.TheVariants.{Halted, NotActive, NotMarked, NotRecorded, AlreadyWritten, MemberFailed}
 use Rattle.md_state.specs.View.{ArrayView, MirrorView}
 use Rattle.md_state.specs.Members.{AllInSync, IsInSync, IsMember}
 use Rattle.md_state.specs.Requests.{IsPending, among, request_of}
 use Rattle.md_state.specs.Finishing.{HasBytesOf}
 use Rattle.md_state.specs.WritingMember.{HasMarksFrom, HasMarksOf, IsNotDue, RefusesWriteMember, WritesTo}
+use Rattle.md_state.proofs.Changes.RequestChunks.{div_mono}
 use Rattle.md_array.specs.Consistency.{IsConsistent}
 use Rattle.md_array.specs.Events.{HappensAmong}
 use Rattle.md_array.specs.InTurn.{IsPut, IsUnder, Requests}
+use Rattle.md_array.proofs.Worlds.States.{in_sync_recorded}
 use Rattle.md_metadata.specs.declared.fault.PartFault.{PartFault}
 use Rattle.md_metadata.specs.Going.{IsSameArray}
 use Rattle.md_metadata.specs.Storing.{AllRecorded, IsRecording, RecordsAll, Stores, StoresAll, StoringFails}
 use Rattle.md_metadata.proofs.Going.{same_refl, stores_as, stores_on}
 use Rattle.md_metadata.proofs.StoredMembers.{last_on, records_last}
-use Rattle.md_metadata.proofs.Steps.{failure_step, fewer_after, halted_after, in_use_there, never_halted, recorded_in_sync}
+use Rattle.md_metadata.proofs.Steps.{failure_step, fewer_after, halted_after, in_use_there, never_halted}
 use Rattle.md_write.specs.Progress.{Advances, AreChunksOf, HaltsOn, IsLater, IsMarkingOf, IsOfRequest, IsReadyToFinish, LosesOn, Part, WritingFails, WritesAt, WritesBelow, WritesOn, WritesToAll, end_chunk, first_chunk}
 use Rattle.md_write.proofs.InRounds.{first_records_leave, marks_leave, other_records_leave}
 use Rattle.md_write.proofs.Advancing.{advances_on, later_refl, stays, steps_once, stops_later, stored_beside, storing_stops}
 use Rattle.md_write.proofs.StoredMarks.{marked_still, marks_last}
-
-pub div_mono : (w a b : ℕ) → 0 < w → a ≤ b → a / w ≤ b / w
-div_mono w a b wide le = let down = div-mul-le_self a w in (le-div_iff_mul-le {k = w} {x = a / w} {y = b} wide).1 (omega arith)
 
 or_more : (a b c : Bool) → (b ≡ true → c ≡ true) → (a || b) ≡ true → (a || c) ≡ true
 or_more true b c f e = refl
@@ -106,7 +104,7 @@ module _ (old new : MirrorView) (k : ℕ) (p q : PendingView) (before : IsConsis
     pub data_fails : (j : ℕ) → RefusesWriteMember k old new p q (MemberFailed j) → HappensAmong old p (Event.WriteMemberFails n k) new q → LosesOn Part.Bytes p q old new
     data_fails j r happens =
         let f = r.1 in
-        let used = in_use_there old.array k f.member f.fails.array.member f.fails.array.at f.may.intent.in_sync.member (recorded_in_sync f.member.state f.may.intent.in_sync.in_sync) in
+        let used = in_use_there old.array k f.member f.fails.array.member f.fails.array.at f.may.intent.in_sync.member (in_sync_recorded f.member.state f.may.intent.in_sync.in_sync) in
         let number : q.ticket.number ≡ n = ap (λ (x : PendingView). x.ticket.number) f.pending in
         record {
           advances = steps_once Part.Bytes Part.Marks p q (Event.WriteMemberFails n k) old new

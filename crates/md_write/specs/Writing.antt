@@ -4,8 +4,8 @@ use Rattle.md_model.specs.Content.{Content, HoldsBetween, with_request}
 use Rattle.md_model.specs.Worlds.{Request, touches, IsInSync}
 use Rattle.md_model.specs.Events.{Event}
 use Rattle.md_requests.specs.Pending.{PendingView}
-use Rattle.md_state.specs.declared.step_fault.BeginFault.{BeginFault}
-use Rattle.md_state.specs.declared.step_fault.BeginFault.TheVariants.{Halted}
+use Rattle.md_faults.specs.declared.step_fault.BeginFault.{BeginFault}
+use Rattle.md_faults.specs.declared.step_fault.BeginFault.TheVariants.{Halted}
 use Rattle.md_state.specs.View.{MirrorView}
 use Rattle.md_state.specs.Beginning.{Begins, HasMarked, RefusesBegin}
 use Rattle.md_state.specs.Requests.{AreInFlight, among, request_of}

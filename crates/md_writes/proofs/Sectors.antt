@@ -1,22 +1,14 @@
 -- The writes of a bitmap.
-use Rattle.std.proofs.Common.{◌≡◌, ℕ, ◌+◌, ◌*◌, ◌≤◌, List, [], ◌∷◌, ◌++◌, length, take, drop, map, replicate, reverse, refl, ap, sym, ◌∙◌, arith}
+use Rattle.std.proofs.Common.{◌≡◌, ℕ, ◌+◌, ◌*◌, ◌≤◌, List, [], ◌∷◌, ◌++◌, length, take, drop, map, replicate, reverse, refl, ap, sym, ◌∙◌}
 use Rattle.std.specs.List.{range_with_len}
 use Rattle.std.proofs.lemmas.List.{length-take-le, reverse-append, take-replicate}
-use Rattle.std.proofs.lemmas.List.FromFn.{map-range_with_len_more}
 use Rattle.md_bitmap.specs.declared.header.BitmapHeader.{BitmapHeader}
 use Rattle.md_bitmap.specs.Marks.{Bitmap, padded}
 use Rattle.md_bitmap.specs.Sectors.{bitmap_bytes, bitmap_sector}
 use Rattle.md_bitmap.proofs.Padded.{length-padded}
+use Rattle.md_bitmap.proofs.Numbers.{range_more}
 use Rattle.md_writes.specs.Writes.{Write}
 use Rattle.md_writes.specs.Bitmaps.{bitmap_run, bitmap_runs, bitmap_write, run_sectors, sectors_write}
-
-map_same : {X : Type 0} (xs : List X) → map (λ x. x) xs ≡ xs
-map_same [] = refl
-map_same (x ∷ xs) = ap (λ ys. x ∷ ys) (map_same xs)
-
-range_more : (k : ℕ) → range_with_len 0 (k + 1) ≡ range_with_len 0 k ++ k ∷ []
-range_more k =
-    sym (map_same (range_with_len 0 (k + 1))) ∙ map-range_with_len_more (λ x. x) 0 k k (omega arith) ∙ ap (λ xs. xs ++ k ∷ []) (map_same (range_with_len 0 k))
 
 -- the writes of one run more, which is number k
 pub runs_from : (start : ℕ) (h : BitmapHeader) (m : Bitmap) (n runs k : ℕ) → runs ≡ k + 1 → bitmap_runs start h m n runs ≡ (bitmap_run start h m n k ∷ []) ++ bitmap_runs start h m n k

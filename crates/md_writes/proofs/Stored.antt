@@ -1,12 +1,12 @@
 -- What stands on a device once the writes of a bitmap are done, and what a stop leaves within them.
-use Rattle.std.proofs.Common.{◌≡◌, ◌⊎◌, ℕ, zero, suc, ◌+◌, ◌-◌, ◌*◌, ◌<◌, ◌≤◌, min, inl, inr, List, [], ◌∷◌, ◌++◌, length, slice_index, drop, refl, ap, sym, ◌∙◌, subst, arith, get_or-take, get_or-drop, drop-drop}
+use Rattle.std.proofs.Common.{◌≡◌, ◌⊎◌, ℕ, zero, suc, ◌+◌, ◌-◌, ◌*◌, ◌<◌, ◌≤◌, min, inl, inr, List, [], ◌∷◌, ◌++◌, length, slice_index, drop, refl, ap, sym, ◌∙◌, subst, arith, get_or-drop, drop-drop}
 use Rattle.std.proofs.lemmas.Bool.{cases_lt}
 use Rattle.std.proofs.lemmas.List.{append-nil, ext_get_or}
 use Rattle.md_device.specs.Splice.{SameOutside, part}
 use Rattle.md_device.specs.Device.{written}
 use Rattle.md_device.specs.Stops.{IsMixed}
 use Rattle.md_device.proofs.Leaving.{mixed_one}
-use Rattle.md_device.proofs.Splices.{length-part, part_after, part-spliced, spliced_outside}
+use Rattle.md_device.proofs.Splices.{length-part, part_after, part-spliced, spliced_outside, slice_index-part}
 use Rattle.md_bitmap.specs.declared.header.BitmapHeader.{BitmapHeader}
 use Rattle.md_bitmap.specs.Marks.{Bitmap, padded}
 use Rattle.md_bitmap.specs.Sectors.{bitmap_bytes, bitmap_sector}
@@ -19,9 +19,6 @@ use Rattle.md_writes.proofs.Runs.{after-append, cut_last}
 use Rattle.md_writes.proofs.Sectors.{length-bitmap_run, runs_from}
 
 -- ---- parts of parts
-slice_index-part : (xs : List ℕ) (at n i : ℕ) → i < n → slice_index (part xs at n) i ≡ slice_index xs (at + i)
-unfolding part
-slice_index-part xs at n i h = get_or-take n (drop at xs) i 0 h ∙ get_or-drop at xs i 0
 
 pub part-part : (xs : List ℕ) (at size p n : ℕ) → at + size ≤ length xs → p + n ≤ size → part xs (at + p) n ≡ part (part xs at size) p n
 part-part xs at size p n fits inside =

@@ -5,7 +5,7 @@ use crate::expected_steps::Expected;
 use crate::members_in_step::add;
 use crate::run::Run;
 use crate::steps::Step;
-use example_members::{bitmap, put, sealed, vault, zeros};
+use example_members::{SMALL_DATA, copied, small_member};
 use md_array::Mirror;
 use md_device::{Device, FaultDevice, MemDevice};
 use std::alloc::Global;
@@ -13,11 +13,6 @@ use std::process::Abort;
 use std::test::Fail;
 
 const SECTOR: [u8; 512] = [0xa5; 512];
-
-// The small device: its data area starts here, and it has no log.
-const DATA: u64 = 24;
-
-const SECTORS: u64 = 88;
 
 const STEPS: [Step; 10] = [
     Step::Begin(8),
@@ -58,28 +53,6 @@ const NEVER: u64 = u64::MAX;
 
 // How many writes a device takes before all of them fail.
 const LIMITS: [u64; 5] = [0, 1, 2, 3, NEVER];
-
-// A member of the vault's array on a small device, with no marks.
-fn small_member(alloc: Global, number: u32) -> Result<MemDevice, Fail> {
-    let mut superblock = vault();
-    put(&mut superblock, 128, &DATA.to_le_bytes());
-    put(&mut superblock, 160, &number.to_le_bytes());
-    put(&mut superblock, 186, &[0; 6]);
-    let mut marks = bitmap();
-    put(&mut marks, 256, &[0]);
-    let mut device = zeros(alloc, SECTORS)?;
-    device.write(8, &sealed(superblock, 2))?;
-    device.write(16, &marks)?;
-    Ok(device)
-}
-
-fn copied(alloc: Global, device: &MemDevice) -> Result<MemDevice, Fail> {
-    let bytes = device.bytes().to_vec(alloc)?;
-    if bytes.len() % 512 != 0 {
-        return Err(Fail::new("a part of a sector"));
-    }
-    Ok(MemDevice::from_bytes(bytes))
-}
 
 fn add_copy(
     alloc: Global,
@@ -128,7 +101,10 @@ fn are_members_as_expected<D: Device + Drop>(mirror: &Mirror<D>, expected: &Expe
 // Whether a device has the bytes of `SECTOR` at sectors 8 and 9 of the array where it has to.
 fn has_data(device: &MemDevice, has: [bool; 2]) -> bool {
     let bytes = device.bytes();
-    for (start, has) in [(512 * (DATA + 8), has[0]), (512 * (DATA + 9), has[1])] {
+    for (start, has) in [
+        (512 * (SMALL_DATA + 8), has[0]),
+        (512 * (SMALL_DATA + 9), has[1]),
+    ] {
         let want = if has { 0xa5 } else { 0 };
         if bytes.get(start as usize) != Some(&want) {
             return false;

@@ -8,7 +8,7 @@ use Rattle.md_state.specs.DiskWrites.{IsTried}
 use Rattle.md_state.specs.View.{Disk, MirrorView}
 use Rattle.md_array.specs.Opening.{IsOpenedFrom}
 use Rattle.md_array.specs.Worlds.{AreHonest}
-use Rattle.md_array.proofs.General.Indices.{got_within}
+use Rattle.md_assembly.proofs.Indices.{got_within}
 
 pub same_honest : (before after : List Disk) → AreSame before after → AreHonest before → AreHonest after
 same_honest before after same honest j e at =

@@ -13,7 +13,7 @@ use Rattle.md_state.specs.Rests.{Rests}
 use Rattle.md_array.specs.Consistency.{IsConsistent}
 use Rattle.md_array.proofs.Steps.CopyWrites.{own_of}
 use Rattle.md_array.proofs.Worlds.PartsApart.{parts_of}
-use Rattle.md_array.proofs.General.Indices.{got_within}
+use Rattle.md_assembly.proofs.Indices.{got_within}
 
 -- what is said of each answer, in one
 pub both_answers : {T E : Type 0} (r : Result T E) (P Q R S : Type 0) → (P → R) → (Q → S) → OnOk r P → OnErr r Q → MatchResult r (λ _. R) (λ _. S)

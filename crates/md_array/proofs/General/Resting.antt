@@ -9,8 +9,8 @@ use Rattle.md_array.specs.Consistency.{HasPlaces, HasSuper, IsConsistent}
 use Rattle.md_array.specs.ReadAsKept.{AreReadAsKept, IsReadAsKept}
 use Rattle.md_array.specs.Worlds.{block_on, geometry_of, is_listed, is_listed_next, stored_of, stored_on, super_in, world_of, world_on}
 use Rattle.md_array.proofs.Steps.OneMember.{fits_like, like_itself}
-use Rattle.md_array.proofs.General.Indices.{got_within}
 use Rattle.md_badblocks.specs.Runs.{IsBad}
+use Rattle.md_assembly.proofs.Indices.{got_within}
 
 -- a device with the same bytes has the same superblock
 super_as : (m : MemberView) (d e : Disk) → e.content ≡ d.content → HasSuper m d → HasSuper m e

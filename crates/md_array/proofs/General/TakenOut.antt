@@ -4,6 +4,7 @@ use Rattle.std.specs.List.{list_any, remove}
 use Rattle.std.proofs.lemmas.Bool.Decides.{nat_tests}
 use Rattle.std.proofs.lemmas.List.Sums.{sum_by-cons}
 use Rattle.std.proofs.lemmas.Option.{same_Some}
+use Rattle.std.proofs.Math.Bool.{and-false}
 use Rattle.md_model.specs.Membership.{skip}
 use Rattle.md_model.proofs.Membership.{skip-apart}
 use Rattle.md_model.proofs.Puts.{by_same}
@@ -60,14 +61,10 @@ module _ {X : Type 0} (number : X → ℕ) (xs : List X) (k : ℕ) (x : X) (at :
 
   pub number_left : (d : ℕ) → list_any (λ y. eqb (number y) d) (remove xs k) ≡ (list_any (λ y. eqb (number y) d) xs && not (eqb d (number x)))
   number_left d = by_same d (number x)
-      (λ same. gone d (sym same) ∙ sym (ap (λ b. list_any (λ y. eqb (number y) d) xs && not b) (eq-eqb d (number x) same) ∙ and_no (list_any (λ y. eqb (number y) d) xs)))
+      (λ same. gone d (sym same) ∙ sym (ap (λ b. list_any (λ y. eqb (number y) d) xs && not b) (eq-eqb d (number x) same) ∙ and-false (list_any (λ y. eqb (number y) d) xs)))
       (λ apart. any_left (λ y. eqb (number y) d) xs k x at (ne_eqb (number x) d (λ same. apart (sym same)))
       ∙ sym (ap (λ b. list_any (λ y. eqb (number y) d) xs && not b) (ne_eqb d (number x) apart) ∙ and_yes (list_any (λ y. eqb (number y) d) xs)))
     where
-      and_no : (b : Bool) → (b && false) ≡ false
-      and_no true = refl
-      and_no false = refl
-
       and_yes : (b : Bool) → (b && true) ≡ b
       and_yes true = refl
       and_yes false = refl

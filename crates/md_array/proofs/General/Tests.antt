@@ -1,9 +1,6 @@
 -- Tests that come out one way.
 use Rattle.std.proofs.Common.{◌≡◌, ◌⊎◌, inl, inr, Bool, true, false, ◌&&◌, ◌||◌, refl}
 
-pub and_is : (a b : Bool) → a ≡ true → b ≡ true → (a && b) ≡ true
-and_is a b x y = rw (x, y) refl
-
 pub and_same : (a x y : Bool) → (a ≡ true → x ≡ y) → (a && x) ≡ (a && y)
 and_same true x y h = h refl
 and_same false x y h = refl

@@ -11,6 +11,7 @@ use Rattle.md_members.specs.declared.info.MemberInfo.{MemberInfo}
 use Rattle.md_assembly.specs.declared.state.MemberState.{MemberState}
 use Rattle.md_assembly.specs.declared.fault.AssembleFault.TheVariants.{TooMany}
 use Rattle.md_assembly.specs.States.{is_in_sync, role_in, state_of, takes_role}
+use Rattle.md_assembly.proofs.Indices.{got_within, got_same}
 use Rattle.md_inflight.specs.Inflight.{InflightList, lookup}
 use Rattle.md_model.proofs.Cases.{by_test, none_some}
 use Rattle.md_requests.specs.declared.extent.Extent.{Extent}
@@ -27,7 +28,6 @@ use Rattle.md_array.specs.Worlds.{block_on, is_listed, is_listed_next, super_in,
 use Rattle.md_array.proofs.Openings.Fitting as fitting
 use Rattle.md_array.proofs.Steps.OneMember.{fits_like, like_itself}
 use Rattle.md_array.proofs.Worlds.Device.{bad_is_listed, listed_next_new, places_new, super_new}
-use Rattle.md_array.proofs.General.Indices.{got_same, got_within}
 use Rattle.md_array.proofs.Worlds.Member.{by_need}
 use Rattle.md_array.proofs.Worlds.Shown.{shown_honest}
 use Rattle.md_array.proofs.Openings.Sound.{kept_at, numbers_distinct, roles_distinct, size_shared, some_in_sync}

@@ -13,13 +13,13 @@ use Rattle.md_members.specs.Members.{HasBitmap, sectors_of}
 use Rattle.md_members.specs.Reading.{ReadsBitmap, ReadsHeader, front_of}
 use Rattle.md_kept_members.specs.View.{MemberView}
 use Rattle.md_kept_members.specs.OwnFields.{kept_superblock}
-use Rattle.md_kept_members.proofs.Members.Indices.{listed_at}
 use Rattle.md_state.specs.View.{Disk, ArrayView}
 use Rattle.md_array.specs.Opening.{IsArrayOf}
 use Rattle.md_array.specs.Fits.{Fits, FitsMember}
 use Rattle.md_state.proofs.Kept.Geometry.{alike, states_as_many}
 use Rattle.md_array.proofs.Openings.OwnFields.{bitmap_same, placed_next}
 use Rattle.md_array.proofs.Openings.Whole.{are_whole}
+use Rattle.md_assembly.proofs.Indices.{got_within}
 
 -- the bitmap that was read with a header
 record ReadsWith (content : List ℕ) (honest : Bool) (v : Superblock) (h : BitmapHeader) : Type 0 where
@@ -64,8 +64,8 @@ fits disks a of = record {
       let within = slice_get_within a.members k m at_member in
       let as_many = of.remembered.as_many in
       let states = states_as_many of.infos of.assembly of.assembled in
-      let info = listed_at of.infos k (omega arith) in
-      let state = listed_at of.assembly.states.items k (omega arith) in
+      let info = got_within of.infos k (omega arith) in
+      let state = got_within of.assembly.states.items k (omega arith) in
       let kept = of.remembered.each k info.0 state.0 m info.1 state.1 at_member in
       let member = of.read.each k d info.0 at_disk info.1 in
       let whole = are_whole disks of.infos of.read of.sound in

@@ -4,7 +4,6 @@ use Rattle.std.specs.Prelude.{slice_get, Some}
 use Rattle.std.proofs.lemmas.Option.{slice_get_within}
 use Rattle.md_kept_members.specs.View.{MemberView}
 use Rattle.md_kept_members.specs.Members.{NeedsMarks}
-use Rattle.md_kept_members.proofs.Members.Indices.{same_listed}
 use Rattle.md_state.specs.Members.{IsMember}
 use Rattle.md_state.specs.View.{Disk, ArrayView}
 use Rattle.md_device.proofs.Leaving.{leaves_none}
@@ -12,6 +11,7 @@ use Rattle.md_state.specs.DeviceChanges.{AreSame, EachPair, IsLeftAlone, StaysHo
 use Rattle.md_array.specs.Storing.{AreMarked, FailsToStore, IsMarked, IsMarkedBy, StopsAtMember}
 use Rattle.md_array.proofs.Openings.DevicesInTurn.{each_after, none_touched, still_same}
 use Rattle.md_array.proofs.General.Indices.{at_set_same, got_other}
+use Rattle.md_assembly.proofs.Indices.{got_same}
 
 pub left_alone : (d : Disk) → IsLeftAlone d d
 left_alone d = (refl, λ _. leaves_none d.stops (λ left. left ≡ d.content))
@@ -35,8 +35,8 @@ module _ (a : ArrayView) (before now : List Disk) (k : ℕ) (d e : Disk) (to : A
     same = still_same before now k d e here to.same stays;
     earlier = each_after (λ j x y. j < k → IsMarked a j x y) (λ j x y. j < k + 1 → IsMarked a j x y) before now k d e here to.earlier
         (λ j x y other is below. is (omega arith))
-        (λ x was is below n at_n. let same_disk : x ≡ d = same_listed before k x d was (to.rest k d (omega arith) here) in
-        let same_member : n ≡ m = same_listed a.members k n m at_n at in
+        (λ x was is below n at_n. let same_disk : x ≡ d = got_same before k x d was (to.rest k d (omega arith) here) in
+        let same_member : n ≡ m = got_same a.members k n m at_n at in
         rw (same_disk, same_member) marked);
     rest = λ j x from at_j. to.rest j x (omega arith) (sym (got_other now k j e (λ same. absurd (omega arith))) ∙ at_j);
   }
@@ -48,12 +48,12 @@ module _ (a : ArrayView) (before now : List Disk) (k : ℕ) (d e : Disk) (to : A
     at = at;
     needs = needs;
     failed = λ x y was is.
-        let same_before : x ≡ d = same_listed before k x d was (to.rest k d (omega arith) here) in
-        let same_after : y ≡ e = same_listed (set now k e) k y e is (at_set_same now k e (slice_get_within now k d here)) in
+        let same_before : x ≡ d = got_same before k x d was (to.rest k d (omega arith) here) in
+        let same_after : y ≡ e = got_same (set now k e) k y e is (at_set_same now k e (slice_get_within now k d here)) in
         rw (same_before, same_after) fails;
     earlier = each_after (λ j x y. j < k → IsMarked a j x y) (λ j x y. j < k → IsMarked a j x y) before now k d e here to.earlier (λ j x y other is. is) (λ x was is below. absurd (omega arith));
     later = λ j x y was is behind.
-        let kept : x ≡ y = same_listed before j x y was (to.rest j y (omega arith) (sym (got_other now k j e (λ same. absurd (omega arith))) ∙ is)) in
+        let kept : x ≡ y = got_same before j x y was (to.rest j y (omega arith) (sym (got_other now k j e (λ same. absurd (omega arith))) ∙ is)) in
         subst (IsLeftAlone x) kept (left_alone x);
   }
 

@@ -30,7 +30,7 @@ each_through P Q R before mid end count first second both = λ k d e was is.
     let there = same_place mid before k d (sym count) was d in
     both k d (get_or mid k d) e (first k d (get_or mid k d) was there) (second k (get_or mid k d) e there is)
 
-same_through : (before mid end : List Disk) → AreSame before mid → AreSame mid end → AreSame before end
+pub same_through : (before mid end : List Disk) → AreSame before mid → AreSame mid end → AreSame before end
 same_through before mid end first second = record {
   as_many = second.as_many ∙ first.as_many;
   honest = each_through (λ _. StaysHonest) (λ _. StaysHonest) (λ _. StaysHonest) before mid end first.as_many first.honest second.honest

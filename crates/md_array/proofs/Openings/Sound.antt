@@ -16,12 +16,15 @@ use Rattle.md_assembly.specs.Assembled.{ByFreshest, IsAssembled, IsFreshest, sup
 use Rattle.md_assembly.specs.Faults.{NoFault, IsStranger, HasOtherGeometry, HasSameNumber, RepeatsNumber, IsDoubleRole}
 use Rattle.md_assembly.specs.Listed.{PairAt}
 use Rattle.md_assembly.specs.States.{state_of, states_by, is_in_sync, takes_role}
+use Rattle.md_assembly.proofs.Indices.{got_within, got_same}
+use Rattle.md_assembly.proofs.Places.{pair_at}
 use Rattle.md_kept_members.specs.View.{MemberView}
 use Rattle.md_kept_members.specs.Kept.{IsKept}
 use Rattle.md_state.specs.View.{ArrayView}
 use Rattle.md_state.specs.Remembered.{IsRemembered}
 use Rattle.md_state.specs.Members.{IsMember}
-use Rattle.md_array.proofs.General.Indices.{none_without_least, got_in_map, got_within, got_same, at_any, two_counted}
+use Rattle.md_state.proofs.Kept.Geometry.{none_by_least}
+use Rattle.md_array.proofs.General.Indices.{got_in_map, at_any, two_counted}
 use Rattle.md_model.proofs.Cases.{by_test}
 
 pub same_bytes_unless_other : (xs ys : List ℕ) → (xs ≢ ys → ⊥) → xs ≡ ys
@@ -29,24 +32,20 @@ same_bytes_unless_other xs ys h =
     let d = bytes_eq-Decides xs ys in
     by_test (bytes_eq xs ys) d.0 (λ other. absurd (h (λ e. true≢false (sym (d.1 e) ∙ other))))
 
--- two members in a relation, by their indices
-pair_at : (Related : MemberInfo → MemberInfo → Type 0) (infos : List MemberInfo) (i j : ℕ) (x y : MemberInfo) → slice_get infos i ≡ Some x → slice_get infos j ≡ Some y → Related x y → PairAt Related infos i j
-pair_at Related infos i j x y e f r = record { member = x; listed = e; holds = record { member = y; listed = f; holds = r } }
-
 module _ (infos : List MemberInfo) (sound : NoFault infos) where
   no_stranger : (k : ℕ) → PairAt IsStranger infos 0 k → ⊥
-  no_stranger k = none_without_least (PairAt IsStranger infos 0) (λ n least. sound (Stranger n) (omega arith) least) k
+  no_stranger k = none_by_least (PairAt IsStranger infos 0) (λ n least. sound (Stranger n) (omega arith) least) k
 
   no_other_geometry : (k : ℕ) → PairAt HasOtherGeometry infos 0 k → ⊥
-  no_other_geometry k = none_without_least (PairAt HasOtherGeometry infos 0) (λ n least. sound (Geometry n) (omega arith) least) k
+  no_other_geometry k = none_by_least (PairAt HasOtherGeometry infos 0) (λ n least. sound (Geometry n) (omega arith) least) k
 
   no_double_number : (k : ℕ) → RepeatsNumber infos k → ⊥
   no_double_number k =
-      none_without_least (RepeatsNumber infos)
+      none_by_least (RepeatsNumber infos)
       (λ n least. let p = least.holds in sound (DoubleNumber p.0 n) (omega arith) (p.1, p.2, least)) k
 
   no_double_role : (role : ℕ) → IsDoubleRole infos role → ⊥
-  no_double_role role = none_without_least (IsDoubleRole infos) (λ n least. sound (DoubleRole n) (omega arith) least) role
+  no_double_role role = none_by_least (IsDoubleRole infos) (λ n least. sound (DoubleRole n) (omega arith) least) role
 
   -- all have the uuid, the size and the raid disks of the first
   same_uuid : (k : ℕ) (first info : MemberInfo) → slice_get infos 0 ≡ Some first → slice_get infos k ≡ Some info → info.superblock.set_uuid ≡ first.superblock.set_uuid

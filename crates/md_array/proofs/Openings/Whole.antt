@@ -6,8 +6,8 @@ use Rattle.md_bitmap.specs.Marks.{Bitmap}
 use Rattle.md_members.specs.declared.info.MemberInfo.{MemberInfo}
 use Rattle.md_members.specs.Members.{HasBitmap}
 use Rattle.md_assembly.specs.Faults.{NoFault}
+use Rattle.md_assembly.proofs.Indices.{got_within}
 use Rattle.md_kept_members.specs.Remembering.{AreWhole, IsWhole}
-use Rattle.md_kept_members.proofs.Members.Indices.{listed_at}
 use Rattle.md_state.specs.View.{Disk}
 use Rattle.md_array.specs.Reading.{AreRead}
 use Rattle.md_state.proofs.Kept.Geometry.{has_bitmap}
@@ -28,6 +28,6 @@ pub are_whole : (disks : List Disk) (infos : List MemberInfo) → AreRead disks 
 are_whole disks infos read sound k info listed =
     let within = slice_get_within infos k info listed in
     let as_many = read.as_many in
-    let disk = listed_at disks k (omega arith) in
+    let disk = got_within disks k (omega arith) in
     let member = read.each k disk.0 info disk.1 listed in
     whole_by disk.0.content disk.0.honest info info.header info.marks refl refl member.bitmap (has_bitmap infos k info sound listed)

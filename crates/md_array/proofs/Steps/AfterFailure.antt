@@ -3,6 +3,7 @@ use Rattle.std.proofs.Common.{◌≡◌, ◌≢◌, ℕ, ◌/◌, ◌≤◌, Boo
 use Rattle.std.proofs.lemmas.Option.{slice_get_within}
 use Rattle.md_model.proofs.Puts.{by_same}
 use Rattle.md_assembly.specs.States.{is_in_sync, takes_role}
+use Rattle.md_assembly.proofs.Indices.{got_within}
 use Rattle.md_writes.specs.Writes.{Write}
 use Rattle.md_requests.specs.Pending.{PendingView}
 use Rattle.md_kept_members.specs.View.{MemberView}
@@ -18,7 +19,7 @@ use Rattle.md_array.specs.Fits.{Fits, FitsMember}
 use Rattle.md_array.specs.Consistency.{HaveSupers, IsConsistent}
 use Rattle.md_array.proofs.Steps.OneMember.{fits_like, like_itself}
 use Rattle.md_array.proofs.General.Replaced.{count_lower, of_set}
-use Rattle.md_array.proofs.General.Indices.{count_map, got_in_map, got_other, got_within}
+use Rattle.md_array.proofs.General.Indices.{count_map, got_in_map, got_other}
 use Rattle.md_array.proofs.Worlds.Risen.{risen_is_consistent}
 use Rattle.md_array.proofs.Worlds.Without.{role_kept}
 

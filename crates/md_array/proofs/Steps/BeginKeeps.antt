@@ -2,10 +2,10 @@
 use Rattle.std.proofs.Common.{◌≡◌, ◌%◌, ◌/◌, ℕ, List, length, sym, subst}
 use Rattle.std.specs.Prelude.{IfOk, MatchResult, Result, Ok, Err}
 use Rattle.md_requests.specs.Pending.{PendingView}
-use Rattle.md_state.specs.declared.step_fault.BeginFault.{BeginFault}
-use Rattle.md_state.specs.declared.step_fault.BeginFault.TheVariants.{Halted, OutOfRange, Overlaps, NotResynced, EventsFull, NumbersSpent, NoMemory}
-use Rattle.md_state.specs.declared.step_fault.ClearFault.{ClearFault}
-use Rattle.md_state.specs.declared.step_fault.ClearFault.TheVariants as clear
+use Rattle.md_faults.specs.declared.step_fault.BeginFault.{BeginFault}
+use Rattle.md_faults.specs.declared.step_fault.BeginFault.TheVariants.{Halted, OutOfRange, Overlaps, NotResynced, EventsFull, NumbersSpent, NoMemory}
+use Rattle.md_faults.specs.declared.step_fault.ClearFault.{ClearFault}
+use Rattle.md_faults.specs.declared.step_fault.ClearFault.TheVariants as clear
 use Rattle.md_state.specs.View.{MirrorView}
 use Rattle.md_state.specs.Beginning.{Begins, RefusesBegin}
 use Rattle.md_state.specs.ClearingMarks.{Clears, RefusesClear}

@@ -2,6 +2,7 @@
 use Rattle.std.proofs.Common.{slice_get, ◌≡◌, ℕ, ◌+◌, ◌-◌, ◌/◌, ◌%◌, ◌<◌, ◌≤◌, ◌↔◌, inl, inr, Bool, true, false, cond, not, ◌&&◌, ◌||◌, ◌==◌, eqb, nat_le, nat_lt, List, [], length, Option, Some, None, IsSome, refl, sym, ap, ◌∙◌, subst, arith, lt-ltb, eqb-true}
 use Rattle.std.proofs.lemmas.Option.{none-some, same_Some}
 use Rattle.std.proofs.lemmas.List.Sums.{count_by-le-length}
+use Rattle.std.proofs.lemmas.Bool.{and_parts}
 use Rattle.md_model.specs.Sectors.{put}
 use Rattle.md_model.specs.Worlds as worlds
 use Rattle.md_model.specs.Worlds.{touches}
@@ -9,7 +10,7 @@ use Rattle.md_model.specs.Counts as counts
 use Rattle.md_model.specs.Events.{Event, Step}
 use Rattle.md_model.specs.Steps.{begun, entered, touches_chunk, MayBegin}
 use Rattle.md_model.proofs.Between.{between_step, in_flight_step}
-use Rattle.md_model.proofs.Cases.{both, by_option, by_test, is_at_most}
+use Rattle.md_model.proofs.Cases.{by_option, by_test, is_at_most}
 use Rattle.md_inflight.specs.Inflight.{InflightList, lookup}
 use Rattle.md_bitmap.specs.Marks.{Bitmap, is_set}
 use Rattle.md_bitmap.proofs.Limits.{div-lt-div_ceil}
@@ -55,7 +56,7 @@ module _ (disks : List Disk) (b : ArrayView) (c : IsConsistent (record { disks =
   touched_within : (chunk : ℕ) → has_sector_of b sector sectors chunk ≡ true → chunk < b.marks.chunks
   touched_within chunk e =
       let width = b.chunks.sectors in
-      let parts = both (nat_le (sector / width) chunk) (nat_le chunk (((sector + sectors) - 1) / width)) e in
+      let parts = and_parts (nat_le (sector / width) chunk) (nat_le chunk (((sector + sectors) - 1) / width)) e in
       let low = is_at_most chunk (((sector + sectors) - 1) / width) parts.1 in
       let some = range.some in
       let inside = range.inside in

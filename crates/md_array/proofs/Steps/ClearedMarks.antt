@@ -1,7 +1,8 @@
 -- A mark goes from memory, as the model has it.
 use Rattle.std.proofs.Common.{slice_get, ◌≡◌, ℕ, ◌+◌, ◌-◌, ◌*◌, ◌/◌, ◌<◌, ◌≤◌, inl, inr, Bool, true, false, cond, not, ◌&&◌, ◌==◌, nat_lt, true≢false, Option, Some, min, refl, sym, ap, ◌∙◌, subst, arith, lt-ltb}
 use Rattle.std.proofs.Math.Nat.{add-mul, div-mul-le_self, lt-div-mul-add}
-use Rattle.std.proofs.lemmas.Bool.{cases_lt}
+use Rattle.std.proofs.Math.Bool.{and-false}
+use Rattle.std.proofs.lemmas.Bool.{cases_lt, and_from}
 use Rattle.md_model.specs.Worlds as worlds
 use Rattle.md_model.specs.Events.{Event, Step}
 use Rattle.md_model.specs.Steps as steps
@@ -18,7 +19,6 @@ use Rattle.md_array.proofs.Worlds.ReadAsKept.{same_array, same_member, unwritten
 use Rattle.md_array.proofs.Steps.InFlight.{is_touched, none_touches}
 use Rattle.md_array.proofs.Steps.RemarkedWorlds.{remarked, remarked_is_consistent, same_mirror, world_remarked}
 use Rattle.md_array.proofs.Worlds.Risen.{full_when_not_degraded}
-use Rattle.md_array.proofs.General.Tests.{and_is}
 
 -- the sectors of a chunk, by a division
 module _ (c w s : ℕ) (wide : 0 < w) (in_chunk : s / w ≡ c) where
@@ -44,11 +44,7 @@ module _ (chunk : ℕ) (old new : MirrorView) (c : IsConsistent old) (clears : C
 
   none_past : (d : ℕ) → new.array.marks.chunks ≤ d → is_set new.array.marks.bytes d ≡ false
   none_past d past =
-      clears.left.bits d ∙ ap (λ b. not (d == chunk) && b) (c.chunks.none_past d (let same = clears.left.chunks in omega arith)) ∙ and_no (not (d == chunk))
-    where
-      and_no : (b : Bool) → (b && false) ≡ false
-      and_no true = refl
-      and_no false = refl
+      clears.left.bits d ∙ ap (λ b. not (d == chunk) && b) (c.chunks.none_past d (let same = clears.left.chunks in omega arith)) ∙ and-false (not (d == chunk))
 
   pub cleared_is_consistent : IsConsistent new
   unfolding after
@@ -82,7 +78,7 @@ module _ (chunk : ℕ) (old new : MirrorView) (c : IsConsistent old) (clears : C
       resynced = clears.may.ready.resynced;
       full = (full_when_not_degraded old.disks a requests c.roles).0 clears.may.ready.full;
       idle = idle;
-      marked = and_is (nat_lt chunk a.marks.chunks) (is_set a.marks.bytes chunk) (lt-ltb chunk a.marks.chunks in_range) clears.may.marked;
+      marked = and_from (nat_lt chunk a.marks.chunks) (is_set a.marks.bytes chunk) (lt-ltb chunk a.marks.chunks in_range) clears.may.marked;
     }
 
     unmarked_at : (m x y : Bool) → (m && (not x && y)) ≡ cond x false (m && y)

@@ -14,11 +14,12 @@ use Rattle.md_state.specs.ReadingData.{HoldsData}
 use Rattle.md_state.specs.Requests.{AreInFlight}
 use Rattle.md_array.specs.Consistency.{IsConsistent}
 use Rattle.md_array.specs.InTurn.{Leads, Requests}
-use Rattle.md_array.proofs.Steps.OneWrite.{at_device, set_elsewhere}
+use Rattle.md_array.proofs.Steps.OneWrite.{at_device}
 use Rattle.md_array.proofs.Worlds.PartsApart.{parts_of}
 use Rattle.md_array.proofs.Steps.RunsOfSectors.{first_half, first_written, half, second_half, second_written}
 use Rattle.md_array.proofs.Worlds.SectorCopied.{copied_is_consistent, copy_happens}
-use Rattle.md_array.proofs.General.Indices.{at_set_same, got_same, got_within}
+use Rattle.md_array.proofs.General.Indices.{at_set_same, got_other}
+use Rattle.md_assembly.proofs.Indices.{got_within, got_same}
 
 -- ---- what is asked of a run, of its first sector and of the others
 abbrev pub first_may : (from k s n : ℕ) (a : ArrayView) → MayCopy from k s (suc n) a → MayCopy from k s 1 a
@@ -123,7 +124,7 @@ module _ (from k s n : ℕ) (bytes : List ℕ) (old : MirrorView) (after : List 
   first_done = record {
     tried = record {
       as_many = length-set old.disks k middle;
-      others = λ j apart. set_elsewhere old.disks k j middle apart;
+      others = λ j apart. got_other old.disks k j middle apart;
       stays = at_device old.disks k d middle StaysHonest before_is (record { honest = refl; counted = omega arith });
       outside = at_device old.disks k d middle (λ x y. SameOutside at (length (take 512 bytes)) x.content y.content) before_is
           (subst (λ (x : ℕ). SameOutside at x d.content middle.content) (sym long_first) (first_half at 512 (512 * suc n) d.content e.content outside enough));
@@ -143,7 +144,7 @@ module _ (from k s n : ℕ) (bytes : List ℕ) (old : MirrorView) (after : List 
   others_done = record {
     tried = record {
       as_many = done.tried.as_many ∙ sym (length-set old.disks k middle);
-      others = λ j apart. done.tried.others j apart ∙ sym (set_elsewhere old.disks k j middle apart);
+      others = λ j apart. done.tried.others j apart ∙ sym (got_other old.disks k j middle apart);
       stays = λ x y was is. there x y was is StaysHonest (let stays = done.tried.stays d e before_is after_is in record { honest = stays.honest; counted = stays.counted });
       outside = λ x y was is. there x y was is (λ z w. SameOutside (512 * (m.superblock.data_offset + (s + 1))) (length (drop 512 bytes)) z.content w.content)
           (subst (λ (start : ℕ). SameOutside start (length (drop 512 bytes)) middle.content e.content) (sym next)
@@ -184,7 +185,7 @@ split from k s n bytes old after c may long holds done =
         disks = first_done from k s n bytes old after c may long d.0 e.0 d.1 e.1 done;
         array = refl;
       };
-      holds = others_hold old from s bytes holds v refl (set_elsewhere old.disks k from _ may.apart) (omega arith);
+      holds = others_hold old from s bytes holds v refl (got_other old.disks k from _ may.apart) (omega arith);
       left = others_done from k s n bytes old after c may long d.0 e.0 d.1 e.1 done;
     }
 

@@ -7,7 +7,7 @@ use Rattle.md_super.specs.declared.superblock.Superblock.{Superblock}
 use Rattle.md_requests.specs.Pending.{PendingView}
 use Rattle.md_kept_members.specs.View.{MemberView}
 use Rattle.md_state.specs.View.{ArrayView, Disk, MirrorView}
-use Rattle.md_state.specs.declared.copy_fault.CopyFault.{CopyFault}
+use Rattle.md_faults.specs.declared.copy_fault.CopyFault.{CopyFault}
 use Rattle.md_state.specs.CopyingData.{AnswersCopy, CopiesTo, IsCopy, IsDone, MayCopy, RefusesCopy, copies_of, run_write}
 use Rattle.md_state.specs.DiskWrites.{IsFailed, IsWritten}
 use Rattle.md_state.specs.Requests.{AreInFlight, IsPending}

@@ -1,10 +1,11 @@
 -- A request makes the count rise, or not: what it asks, and what stays the same.
 use Rattle.std.proofs.Common.{◌≡◌, ℕ, ◌<◌, ◌↔◌, inl, inr, Bool, true, false, cond, not, ◌||◌, ◌==◌, nat_lt, List, length, Option, refl, ap, ◌∙◌, arith}
 use Rattle.std.specs.List.{list_any, range_with_len}
-use Rattle.std.proofs.lemmas.Bool.{cases_lt}
+use Rattle.std.proofs.lemmas.Bool.{cases_lt, and_from, not-true, and_parts}
+use Rattle.std.proofs.Math.Bool.{or-true}
 use Rattle.md_model.specs.Worlds as worlds
 use Rattle.md_model.specs.Counts as counts
-use Rattle.md_model.proofs.Cases.{below-nat_lt, both, is_below, never}
+use Rattle.md_model.proofs.Cases.{below-nat_lt, is_below, never}
 use Rattle.md_bitmap.specs.Marks.{Bitmap}
 use Rattle.md_assembly.specs.States.{role_in}
 use Rattle.md_requests.specs.Pending.{PendingView}
@@ -18,7 +19,7 @@ use Rattle.md_array.specs.Consistency.{IsConsistent}
 use Rattle.md_array.specs.Worlds.{geometry_of, world_on}
 use Rattle.md_array.proofs.General.Indices.{any_at, at_any, count_map, got_in_range}
 use Rattle.md_array.proofs.Worlds.Risen.{past_is_high, risen_is_consistent, world_risen}
-use Rattle.md_array.proofs.General.Tests.{and_is, one_is}
+use Rattle.md_array.proofs.General.Tests.{one_is}
 
 module _ (a : ArrayView) (full : Bool) where
   abbrev pub counted_if : Bool → ArrayView
@@ -63,18 +64,14 @@ module _ (disks : List Disk) (a : ArrayView) (requests : ℕ → Option worlds.R
   absent_there : list_any (is_absent a) (range_with_len 0 (length a.shared.roles)) ≡ true → counts.HasToRise (geometry_of a) w
   absent_there e =
       let x = at_any (is_absent a) (range_with_len 0 (length a.shared.roles)) e in
-      let parts = both (nat_lt (role_in a.shared x.1) a.shared.raid_disks) (not (has_number a x.1)) x.3 in
-      inr (x.1, is_below _ _ parts.0, flipped (has_number a x.1) parts.1)
-    where
-      flipped : (b : Bool) → not b ≡ true → b ≡ false
-      flipped true e = absurd cc
-      flipped false e = refl
+      let parts = and_parts (nat_lt (role_in a.shared x.1) a.shared.raid_disks) (not (has_number a x.1)) x.3 in
+      inr (x.1, is_below _ _ parts.0, not-true (has_number a x.1) parts.1)
 
   absent_here : (d : ℕ) → role_in a.shared d < a.shared.raid_disks → has_number a d ≡ false → list_any (is_absent a) (range_with_len 0 (length a.shared.roles)) ≡ true
   absent_here d low away =
       let test = below-nat_lt (role_in a.shared d) a.shared.raid_disks low in
       elim (cases_lt d (length a.shared.roles)) [
-        | inl within ↦ any_at (is_absent a) (range_with_len 0 (length a.shared.roles)) d d (got_in_range (length a.shared.roles) d within) (and_is _ _ test (ap not away))
+        | inl within ↦ any_at (is_absent a) (range_with_len 0 (length a.shared.roles)) d d (got_in_range (length a.shared.roles) d within) (and_from _ _ test (ap not away))
         | inr past ↦ never _ test (past_is_high a d past)
       ]
 
@@ -83,10 +80,6 @@ module _ (disks : List Disk) (a : ArrayView) (requests : ℕ → Option worlds.R
     (λ e. elim (one_is (a.shared.resync_offset == clean_offset) _ e) [ inl clean ↦ inl clean | inr absent ↦ absent_there absent ]),
     (λ h. elim h [
       | inl clean ↦ ap (λ b. b || list_any (is_absent a) (range_with_len 0 (length a.shared.roles))) clean
-      | inr x ↦ ap (λ b. a.shared.resync_offset == clean_offset || b) (absent_here x.0 x.1 x.2) ∙ or_true (a.shared.resync_offset == clean_offset)
+      | inr x ↦ ap (λ b. a.shared.resync_offset == clean_offset || b) (absent_here x.0 x.1 x.2) ∙ or-true (a.shared.resync_offset == clean_offset)
     ]),
   )
-    where
-      or_true : (b : Bool) → (b || true) ≡ true
-      or_true true = refl
-      or_true false = refl

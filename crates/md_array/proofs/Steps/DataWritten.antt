@@ -3,11 +3,13 @@ use Rattle.std.proofs.Common.{◌≡◌, ℕ, ◌+◌, ◌-◌, ◌*◌, ◌/◌
 use Rattle.std.proofs.lemmas.List.{drop-take, drop_at, length-append, length-take-le, take-take, take_at}
 use Rattle.std.proofs.lemmas.List.Folds.{list_any-append}
 use Rattle.std.proofs.lemmas.Option.{slice_get_within}
+use Rattle.std.proofs.lemmas.Bool.{or_right, and_from}
 use Rattle.std.proofs.Math.Bool.{or-false}
 use Rattle.md_device.specs.Splice.{SameOutside, part, spliced}
 use Rattle.md_bitmap.specs.Marks.{is_set}
 use Rattle.md_bitmap.proofs.Limits.{div-lt-div_ceil}
 use Rattle.md_assembly.specs.States.{is_in_sync}
+use Rattle.md_assembly.proofs.Indices.{got_within}
 use Rattle.md_model.specs.Sectors.{put}
 use Rattle.md_model.specs.Devices.{Stored}
 use Rattle.md_model.specs.Events.{Event, Step}
@@ -31,25 +33,17 @@ use Rattle.md_array.proofs.Steps.OneMember.{ChangesMember, changed_is_consistent
 use Rattle.md_array.proofs.Worlds.PartsApart.{HasParts, block_beside_data, data_alone, data_elsewhere, log_beside_data, parts_of}
 use Rattle.md_array.proofs.Worlds.ReadAsKept.{changed_read, read_beside_data}
 use Rattle.md_array.proofs.Worlds.InSync.{in_sync_is, in_sync_there, number_at}
-use Rattle.md_array.proofs.General.Indices.{got_within, one_fewer, set_itself}
-use Rattle.md_array.proofs.General.Tests.{and_is}
+use Rattle.md_array.proofs.General.Indices.{one_fewer, set_itself}
 use Rattle.md_badblocks.specs.Runs.{IsBad}
 
 -- ---- the numbers of those that have it
 written_too : (p : PendingView) (number d : ℕ) → has_written (record p { written = p.written ++ number ∷ [] }) d ≡ (has_written p d || eqb d number)
 written_too p number d = list_any-append (eqb d) p.written (number ∷ []) ∙ ap (λ b. has_written p d || b) (or-false (eqb d number))
 
-or_true : (a b : Bool) → b ≡ true → (a || b) ≡ true
-or_true true b e = refl
-or_true false b e = e
-
 lacks_less : (a b c : Bool) → (a && not (b || c)) ≡ true → (a && not b) ≡ true
 lacks_less true true c e = e
 lacks_less true false c e = refl
 lacks_less false b c e = e
-
-lacked : (a b : Bool) → a ≡ true → b ≡ false → (a && not b) ≡ true
-lacked a b e f = rw (e, f) refl
 
 had : (a b : Bool) → b ≡ true → (a && not b) ≡ false
 had true b e = ap not e
@@ -77,7 +71,7 @@ module _ (k : ℕ) (v : MirrorView) (p : PendingView) (c : IsConsistent v) (pend
         let to = there.1 in
         let in_array = inside_of v p c pending in
         member_there v.array j x.0 false (λ y. nat_lt (s / v.array.chunks.sectors) v.array.marks.chunks && is_set y.stored.bytes (s / v.array.chunks.sectors)) x.1.member
-        ∙ and_is (nat_lt (s / v.array.chunks.sectors) v.array.marks.chunks) (is_set x.0.stored.bytes (s / v.array.chunks.sectors))
+        ∙ and_from (nat_lt (s / v.array.chunks.sectors) v.array.marks.chunks) (is_set x.0.stored.bytes (s / v.array.chunks.sectors))
         (below-nat_lt (s / v.array.chunks.sectors) v.array.marks.chunks
         (subst (λ (y : ℕ). s / v.array.chunks.sectors < y) (sym c.chunks.count) (div-lt-div_ceil v.array.chunks.size v.array.chunks.sectors s c.chunks.wide (omega arith))))
         (may.intent.marked j x.0 x.1 s there.0 there.1);
@@ -149,9 +143,9 @@ module _ (k : ℕ) (old new : MirrorView) (p q : PendingView) (c : IsConsistent 
       (λ x e. lacks_less (is_in_sync x.state) (has_written p x.superblock.dev_number) (eqb x.superblock.dev_number number)
       (sym (ap (λ b. is_in_sync x.state && not b) (written_too p number x.superblock.dev_number)) ∙ e))
       t.may.intent.in_sync.member
-      (lacked (is_in_sync m.state) (has_written p number) t.may.intent.in_sync.in_sync t.may.unwritten)
+      (and_from (is_in_sync m.state) (not (has_written p number)) t.may.intent.in_sync.in_sync (ap not t.may.unwritten))
       (had (is_in_sync m.state) (has_written then number)
-      (written_too p number number ∙ or_true (has_written p number) (eqb number number) (eq-eqb number number refl)))
+      (written_too p number number ∙ or_right (has_written p number) (eqb number number) (eq-eqb number number refl)))
 
   then_is_pending : IsPending a then
   then_is_pending =
@@ -212,7 +206,7 @@ module _ (k : ℕ) (old new : MirrorView) (p q : PendingView) (c : IsConsistent 
         has_number x =
             written_too p number x
             ∙ by_test (eqb x number)
-            (λ same. or_true (has_written p x) (eqb x number) same ∙ sym (ap (λ b. cond b true (has_written p x)) same))
+            (λ same. or_right (has_written p x) (eqb x number) same ∙ sym (ap (λ b. cond b true (has_written p x)) same))
             (λ apart. ap (λ b. has_written p x || b) apart ∙ or-false (has_written p x) ∙ sym (ap (λ b. cond b true (has_written p x)) apart))
             ∙ ap (λ (y : ℕ). put y true (has_written p) x) (sym (number_at old.disks a (among p others) k m t.may.intent.in_sync.member))
 

@@ -3,8 +3,9 @@ use Rattle.std.proofs.Common.{◌≡◌, ℕ, ◌+◌, ◌*◌, ◌<◌, ◌≤�
 use Rattle.std.specs.Prelude.{leb}
 use Rattle.std.specs.List.{find}
 use Rattle.std.proofs.lemmas.Option.{none-some, same_Some}
+use Rattle.std.proofs.lemmas.Bool.{and_parts}
 use Rattle.md_model.specs.Worlds.{Request, touches}
-use Rattle.md_model.proofs.Cases.{both, by_test, is_above, is_at_most, is_below, not_below}
+use Rattle.md_model.proofs.Cases.{by_test, is_above, is_at_most, is_below, not_below}
 use Rattle.md_model.proofs.Puts.{by_same, put-hit, put-miss}
 use Rattle.md_inflight.specs.Inflight.{lookup}
 use Rattle.md_inflight.specs.Spans.{meets}
@@ -69,7 +70,7 @@ none_in_common a n b m s apart from below from' below' =
 
 pub is_touched : (p : Request) (s : ℕ) → touches p s ≡ true → (p.start ≤ s) × (s < p.start + p.sectors)
 is_touched p s e =
-    let parts = both _ _ e in
+    let parts = and_parts _ _ e in
     (is_at_most p.start s parts.0, is_below s (p.start + p.sectors) parts.1)
 
 pub not_touched : (p : Request) (s : ℕ) → touches p s ≡ false → (s < p.start) ⊎ (p.start + p.sectors ≤ s)

@@ -12,8 +12,8 @@ use Rattle.md_model.proofs.Between.{between_step, in_flight_step}
 use Rattle.md_model.proofs.Cases.{by_option}
 use Rattle.md_requests.specs.declared.extent.Extent.{Extent}
 use Rattle.md_requests.specs.Pending.{PendingView}
-use Rattle.md_state.specs.declared.step_fault.CleanFault.{CleanFault}
-use Rattle.md_state.specs.declared.step_fault.CleanFault.TheVariants as clean
+use Rattle.md_faults.specs.declared.step_fault.CleanFault.{CleanFault}
+use Rattle.md_faults.specs.declared.step_fault.CleanFault.TheVariants as clean
 use Rattle.md_state.specs.View.{ArrayView, MirrorView}
 use Rattle.md_state.specs.Members.{clean_offset, is_degraded}
 use Rattle.md_state.specs.Rising.{risen}

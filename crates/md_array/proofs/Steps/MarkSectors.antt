@@ -1,10 +1,11 @@
 -- A sector of a member's bitmap that is stored is the model's event, and the mirror stays consistent.
-use Rattle.std.proofs.Common.{◌≡◌, ◌≢◌, ℕ, ◌+◌, ◌-◌, ◌*◌, ◌/◌, ◌<◌, ◌≤◌, Bool, true, false, cond, ◌&&◌, eqb, nat_lt, List, ◌++◌, length, drop, slice_get, slice_index, Option, Some, refl, sym, ap, ◌∙◌, subst, arith, eq-eqb, eqb-true, get_or-drop, ◌↔◌}
+use Rattle.std.proofs.Common.{◌≡◌, ◌≢◌, ℕ, ◌+◌, ◌-◌, ◌*◌, ◌/◌, ◌<◌, ◌≤◌, Bool, true, false, cond, ◌&&◌, eqb, nat_lt, List, ◌++◌, length, drop, slice_get, slice_index, Option, Some, refl, sym, ap, ◌∙◌, subst, arith, eq-eqb, get_or-drop, ◌↔◌}
 use Rattle.std.proofs.lemmas.List.{ext_get_or, get_or-append-add, get_or_append_left}
 use Rattle.std.proofs.lemmas.Option.{slice_get_within}
+use Rattle.std.proofs.lemmas.Bool.{and_from, ne_eqb}
 use Rattle.md_device.specs.Splice.{SameOutside}
 use Rattle.md_device.specs.Device.{written}
-use Rattle.md_device.proofs.Splices.{length-part, length-spliced, part-spliced}
+use Rattle.md_device.proofs.Splices.{length-part, length-spliced, part-spliced, slice_index-part}
 use Rattle.md_format.specs.Fields.{number_at}
 use Rattle.md_bitmap.specs.declared.header.BitmapHeader.{BitmapHeader}
 use Rattle.md_bitmap.specs.Header.{IsHeader, header_bytes}
@@ -17,13 +18,13 @@ use Rattle.md_writes.specs.Writes.{Write}
 use Rattle.md_bitmap.proofs.Blocks.{length-bitmap_sector}
 use Rattle.md_model.specs.Sectors.{block_of, put}
 use Rattle.md_assembly.specs.States.{is_in_sync}
+use Rattle.md_assembly.proofs.Indices.{got_within}
 use Rattle.md_model.specs.States as model
 use Rattle.md_model.specs.Devices.{Stored}
 use Rattle.md_model.specs.Worlds.{Request, World}
 use Rattle.md_model.specs.Steps.{bits_after, marked_device, marks_stored}
 use Rattle.md_model.specs.Events.{Event, Step}
 use Rattle.md_model.proofs.Between.{between_step, in_flight_step}
-use Rattle.md_model.proofs.Cases.{by_test}
 use Rattle.md_model.proofs.Puts.{by_same, put-at, put-self}
 use Rattle.md_requests.specs.Pending.{PendingView}
 use Rattle.md_kept_members.specs.View.{MemberView}
@@ -40,20 +41,16 @@ use Rattle.md_array.proofs.Steps.OneMember.{ChangesMember, changed_in_flight, ch
 use Rattle.md_array.proofs.Worlds.PartsApart.{HasParts, bits_elsewhere, block_beside_marks, events_elsewhere, fits_elsewhere, header_elsewhere, log_beside_marks, marks_alone, parts_of}
 use Rattle.md_array.proofs.Worlds.ReadAsKept.{changed_read, stays}
 use Rattle.md_array.proofs.Worlds.Device.{fits_on}
-use Rattle.md_array.proofs.General.Indices.{got_within}
 use Rattle.md_array.proofs.Worlds.Member.{header_fits_there}
 use Rattle.md_array.proofs.Worlds.Outside.{sector_at_is, starts_at}
 use Rattle.md_array.proofs.Worlds.States.{same_in_sync}
-use Rattle.md_array.proofs.General.Tests.{and_is, and_same}
-use Rattle.md_array.proofs.Worlds.Writes.{is_set-same, slice_index-part}
+use Rattle.md_array.proofs.General.Tests.{and_same}
+use Rattle.md_array.proofs.Worlds.Writes.{is_set-same}
 use Rattle.md_badblocks.specs.Runs.{IsBad}
 
 -- by whether two numbers are the same
 by_equal : {A : Type 0} (x y : ℕ) (p q z : A) → (x ≡ y → z ≡ p) → (x ≢ y → z ≡ q) → z ≡ cond (eqb x y) p q
 by_equal x y p q z = put-at y p (λ _. q) x (λ r. z ≡ r)
-
-not_equal : (x y : ℕ) → x ≢ y → eqb x y ≡ false
-not_equal x y apart = by_test (eqb x y) (λ e. absurd (apart (eqb-true x y e))) (λ e. e)
 
 -- ---- what stands in a sector of a bitmap that was written
 module _ (start : ℕ) (h : BitmapHeader) (m : Bitmap) (block : ℕ) (old new : List ℕ) (fits : 512 * (start + block) + 512 ≤ length old)
@@ -232,9 +229,9 @@ module _ (k block : ℕ) (old new : MirrorView) (is : IsConsistent old) (low : b
         let kept = is_set m.stored.bytes c in
         by_equal (block_of c) block (w.marks c) (w.known k c) (nat_lt c a.marks.chunks && is_set r.stored.bytes c)
         (λ here. and_same (nat_lt c a.marks.chunks) (is_set r.stored.bytes c) marked
-        (λ below. r.has_stored.bits c ∙ ap (λ b. cond b marked kept) (and_is _ _ (eq-eqb (block_of c) block here) (ap (nat_lt c) count ∙ below))))
+        (λ below. r.has_stored.bits c ∙ ap (λ b. cond b marked kept) (and_from _ _ (eq-eqb (block_of c) block here) (ap (nat_lt c) count ∙ below))))
         (λ other. and_same (nat_lt c a.marks.chunks) (is_set r.stored.bytes c) kept
-        (λ _. r.has_stored.bits c ∙ ap (λ b. cond (b && nat_lt c m.stored.chunks) marked kept) (not_equal (block_of c) block other))
+        (λ _. r.has_stored.bits c ∙ ap (λ b. cond (b && nat_lt c m.stored.chunks) marked kept) (ne_eqb (block_of c) block other))
         ∙ sym (member_there a k m false (λ x. nat_lt c a.marks.chunks && is_set x.stored.bytes c) r.may.in_sync.member))
 
     world_marked : world_of new requests ≡ marks_stored w k block

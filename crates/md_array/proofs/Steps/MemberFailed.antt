@@ -21,8 +21,8 @@ use Rattle.md_requests.specs.Pending.{PendingView}
 use Rattle.md_kept_members.specs.View.{MemberView}
 use Rattle.md_assembly.specs.States.{is_active, is_in_sync_as, is_recorded}
 use Rattle.md_kept_members.specs.Members.{made_due}
-use Rattle.md_state.specs.declared.step_fault.FailFault.{FailFault}
-use Rattle.md_state.specs.declared.step_fault.FailFault.TheVariants as fail
+use Rattle.md_faults.specs.declared.step_fault.FailFault.{FailFault}
+use Rattle.md_faults.specs.declared.step_fault.FailFault.TheVariants as fail
 use Rattle.md_state.specs.DeviceChanges.{StaysHonest}
 use Rattle.md_state.specs.DiskWrites.{AtDevice, IsTried}
 use Rattle.md_state.specs.Members.{IsMember, is_degraded}
@@ -42,7 +42,7 @@ use Rattle.md_array.proofs.Worlds.InSync.{in_sync_there}
 use Rattle.md_array.proofs.Worlds.ReadAsKept.{failed_read}
 use Rattle.md_array.proofs.Worlds.Risen.{full_as_told, risen_is_consistent, same_degraded, world_risen}
 use Rattle.md_array.proofs.Worlds.Shown.{at_is}
-use Rattle.md_array.proofs.Worlds.States.{same_recorded}
+use Rattle.md_array.proofs.Worlds.States.{same_recorded, same_active}
 use Rattle.md_array.proofs.Worlds.Without.{world_without}
 
 -- ---- a write of nothing, which leaves each device as it was
@@ -67,13 +67,6 @@ active_recorded (Recovering role) e = refl
 active_recorded (Stale role) e = absurd cc
 active_recorded Spare e = absurd cc
 active_recorded Faulty e = absurd cc
-
-same_active : (s : MemberState) → model.is_active (kind_of s) ≡ is_active s
-same_active (InSync role) = refl
-same_active (Recovering role) = refl
-same_active (Stale role) = refl
-same_active Spare = refl
-same_active Faulty = refl
 
 module _ (k : ℕ) (old new : MirrorView) (c : IsConsistent old) (fails : FailsMember k old new) where
   abbrev a : ArrayView

@@ -15,8 +15,8 @@ use Rattle.md_assembly.specs.States.{is_active, is_in_sync, is_spare, takes_role
 use Rattle.md_requests.specs.Pending.{PendingView}
 use Rattle.md_kept_members.specs.View.{MemberView}
 use Rattle.md_kept_members.specs.Members.{made_due}
-use Rattle.md_state.specs.declared.step_fault.RemoveFault.{RemoveFault}
-use Rattle.md_state.specs.declared.step_fault.RemoveFault.TheVariants as fault
+use Rattle.md_faults.specs.declared.step_fault.RemoveFault.{RemoveFault}
+use Rattle.md_faults.specs.declared.step_fault.RemoveFault.TheVariants as fault
 use Rattle.md_state.specs.Members.{IsMember, is_degraded}
 use Rattle.md_state.specs.Removing.{RefusesRemove, Removes, before_leaving, taken_out, without_spare}
 use Rattle.md_state.specs.View.{ArrayView, Disk, MirrorView}
@@ -35,6 +35,7 @@ use Rattle.md_array.proofs.Worlds.ReadAsKept.{IsSameArray, MembersAreOf, counted
 use Rattle.md_array.proofs.Worlds.Risen.{full_as_told, risen_is_consistent, same_degraded, world_risen}
 use Rattle.md_array.proofs.Worlds.Shown.{at_is}
 use Rattle.md_array.proofs.Worlds.TakenOut.{degraded_left, left_is_consistent, read_left, world_left}
+use Rattle.md_array.proofs.Worlds.States.{same_active}
 
 -- ---- states
 out_of_sync : (s : MemberState) → is_active s ≡ false → is_in_sync s ≡ false
@@ -50,13 +51,6 @@ without_role (Recovering own) e role = absurd cc
 without_role (Stale own) e role = refl
 without_role Spare e role = refl
 without_role Faulty e role = refl
-
-pub same_active : (s : MemberState) → model.is_active (kind_of s) ≡ is_active s
-same_active (InSync role) = refl
-same_active (Recovering role) = refl
-same_active (Stale role) = refl
-same_active Spare = refl
-same_active Faulty = refl
 
 same_spare : (s : MemberState) → membership.is_spare (kind_of s) ≡ is_spare s
 same_spare (InSync role) = refl
@@ -219,7 +213,7 @@ module _ (k : ℕ) (disk : Disk) (old new : MirrorView) (c : IsConsistent old) (
   pub remove_happens : Happens old (Event.Remove k) new
   remove_happens honest requests listed = record {
     honest = honest_left honest;
-    writes = tt;
+    writes = record { was = disk; at = leaves.device; others = leaves.disks };
     in_flight = subst (λ (x : ArrayView). AreInFlight x requests) (sym leaves.array.array) (in_flight_if old k m at out requests spare listed);
     geometry = geometry_removed;
     step = step requests;

@@ -17,6 +17,7 @@ use Rattle.md_bitmap.specs.declared.header.BitmapHeader.{BitmapHeader}
 use Rattle.md_bitmap.specs.Marks.{Bitmap}
 use Rattle.md_bitmap.specs.Sound.{chunk_count}
 use Rattle.md_bitmap.proofs.Limits.{div_ceil-sectors}
+use Rattle.md_members.specs.Reading.{UnlessReadFault}
 use Rattle.md_members.specs.declared.fault.MemberFault.{MemberFault}
 use Rattle.md_members.specs.declared.fault.MemberFault.TheVariants as member_fault
 use Rattle.md_members.specs.declared.info.MemberInfo.{MemberInfo}
@@ -31,8 +32,8 @@ use Rattle.md_kept_members.specs.OwnFields.{kept_superblock}
 use Rattle.md_kept_members.specs.TakingBack.{IsTakenBack, own_role, recovering}
 use Rattle.md_kept_members.specs.View.{MemberView}
 use Rattle.md_kept_members.specs.Members.{made_due}
-use Rattle.md_state.specs.declared.re_add_fault.ReAddFault.{ReAddFault}
-use Rattle.md_state.specs.declared.re_add_fault.ReAddFault.TheVariants as fault
+use Rattle.md_faults.specs.declared.re_add_fault.ReAddFault.{ReAddFault}
+use Rattle.md_faults.specs.declared.re_add_fault.ReAddFault.TheVariants as fault
 use Rattle.md_state.specs.DiskWrites.{IsFailed, IsWritten}
 use Rattle.md_state.specs.Joining.{joined, joined_shared}
 use Rattle.md_state.specs.Members.{is_degraded}
@@ -48,7 +49,7 @@ use Rattle.md_array.proofs.Openings.OwnFields.{bitmap_same, placed_next}
 use Rattle.md_array.proofs.Steps.CountedAtBegin.{counted_keeps_pending}
 use Rattle.md_array.proofs.Steps.RemarkedWorlds.{same_mirror}
 use Rattle.md_array.proofs.Steps.OneWrite.{is_failed, is_written}
-use Rattle.md_array.proofs.Worlds.Joined.{joined_is_consistent}
+use Rattle.md_array.proofs.Worlds.Joined.{joined_is_consistent, recovers_alone}
 
 -- ---- its superblock, as it is written
 module _ (v : Superblock) where
@@ -191,7 +192,7 @@ module _ (k : ℕ) (device : Disk) (old new : MirrorView) (c : IsConsistent old)
   unfolding after
   taken_back_is_consistent =
       subst IsConsistent (sym is_after)
-      (joined_is_consistent a m role small absent may.free may.fits.role.has_role room taken.state
+      (joined_is_consistent a m role small absent room (recovers_alone a m role taken.state may.free may.fits.role.has_role)
       (size_kept a info m taken may device.content device.honest r.read)
       (width_kept a info m taken may device.content device.honest r.read)
       (count_kept a info m taken may device.content device.honest r.read c.chunks.size c.chunks.count)
@@ -224,22 +225,24 @@ re_add_unchanged device given old new fault.NoMemory r = r.unchanged
 -- ---- it is refused
 -- it is not read as a member
 module _ (device given : Disk) (v : MirrorView) (running : v.array.halted ≡ false) (only_read : IsOnlyRead device given) where
-  unread : (f : MemberFault) → members.RefusesMember device.content device.honest (device.failures < given.failures) f → f ≢ member_fault.NoMemory → RefusesDevice device given v v f
-  unread f refused memory = record { running = running; unchanged = refl; only_read = only_read; refused = refused; memory = memory }
+  unread : (f : MemberFault) → members.RefusesMember device.content device.honest (device.failures < given.failures) f → (f ≢ member_fault.ReadFault → given.failures ≡ device.failures)
+      → f ≢ member_fault.NoMemory → RefusesDevice device given v v f
+  unread f refused unfailing memory = record { running = running; unchanged = refl; only_read = only_read; unfailing = unfailing; refused = refused; memory = memory }
 
-  pub refused_device : (f : MemberFault) → members.RefusesMember device.content device.honest (device.failures < given.failures) f → RefusesReAdd device given v v (unread_as f)
-  refused_device member_fault.TooShort r = unread member_fault.TooShort r (λ same. cc)
-  refused_device member_fault.ReadFault r = unread member_fault.ReadFault r (λ same. cc)
-  refused_device (member_fault.Super f) r = unread (member_fault.Super f) r (λ same. cc)
-  refused_device member_fault.Region r = unread member_fault.Region r (λ same. cc)
-  refused_device (member_fault.Bitmap f) r = unread (member_fault.Bitmap f) r (λ same. cc)
-  refused_device (member_fault.Log f) r = unread (member_fault.Log f) r (λ same. cc)
-  refused_device member_fault.NoMemory r = record { running = running; unchanged = refl; only_read = only_read }
+  pub refused_device : (f : MemberFault) → members.RefusesMember device.content device.honest (device.failures < given.failures) f
+      → UnlessReadFault {T = MemberInfo} (Err f) (given.failures ≡ device.failures) → RefusesReAdd device given v v (unread_as f)
+  refused_device member_fault.TooShort r same = unread member_fault.TooShort r (λ _. same) (λ is. cc)
+  refused_device member_fault.ReadFault r _ = unread member_fault.ReadFault r (λ other. absurd (other refl)) (λ is. cc)
+  refused_device (member_fault.Super f) r same = unread (member_fault.Super f) r (λ _. same) (λ is. cc)
+  refused_device member_fault.Region r same = unread member_fault.Region r (λ _. same) (λ is. cc)
+  refused_device (member_fault.Bitmap f) r same = unread (member_fault.Bitmap f) r (λ _. same) (λ is. cc)
+  refused_device (member_fault.Log f) r same = unread (member_fault.Log f) r (λ _. same) (λ is. cc)
+  refused_device member_fault.NoMemory r same = record { running = running; unchanged = refl; only_read = only_read; unfailing = same; reason = inl r }
 
   -- it is read as this, and may not be taken back
-  module _ (info : MemberInfo) (read : members.IsMember device.content device.honest info) where
+  module _ (unfailing : given.failures ≡ device.failures) (info : MemberInfo) (read : members.IsMember device.content device.honest info) where
     refuses_info : (f : ReAddFault) → RefusesToTakeBack v.array info f → RefusesInfo device given v v f
-    refuses_info f refused = record { running = running; unchanged = refl; only_read = only_read; info = info; read = read; refused = refused }
+    refuses_info f refused = record { running = running; unchanged = refl; only_read = only_read; unfailing = unfailing; info = info; read = read; refused = refused }
 
     pub refused_info : (f : ReAddFault) → RefusesToTakeBack v.array info f → RefusesReAdd device given v v f
     refused_info fault.Halted r = absurd r
@@ -295,7 +298,7 @@ module _ {D : Type 0} (g : Ghosts D) (was now : D) (a : ArrayView) (info : Membe
         (is_failed g (was ∷ []) 0 was refl now (write_of v m) (omega arith) outside stops));
   }
 
-module _ {D : Type 0} (of : D → Disk) (device after : Disk) (old new : MirrorView) (info : MemberInfo) (running : old.array.halted ≡ false) (read : members.IsMember device.content device.honest info) (only_read : IsOnlyRead device after) (may : MayReAdd old.array info) where
+module _ {D : Type 0} (of : D → Disk) (device after : Disk) (old new : MirrorView) (info : MemberInfo) (running : old.array.halted ≡ false) (read : members.IsMember device.content device.honest info) (only_read : IsOnlyRead device after) (unfailing : after.failures ≡ device.failures) (may : MayReAdd old.array info) where
   refused : (given : Disk) (f : ReAddFault) → RefusesToRecordLast after given info old new f → RefusesReAdd device given old new f
   refused given fault.Halted r = absurd r
   refused given (fault.Member f) r = absurd r
@@ -303,12 +306,18 @@ module _ {D : Type 0} (of : D → Disk) (device after : Disk) (old new : MirrorV
   refused given fault.NotReAddable r = absurd r
   refused given fault.NoRole r = absurd r
   refused given fault.EventsFull r = absurd r
-  refused given fault.WriteFault r = record { running = running; info = info; read = read; may = may; after_reading = after; only_read = only_read; fails = r }
-  refused given fault.NoMemory r = record { running = running; unchanged = r.0; only_read = subst (IsOnlyRead device) (sym r.1) only_read }
+  refused given fault.WriteFault r = record { running = running; info = info; read = read; may = may; after_reading = after; only_read = only_read; unfailing = unfailing; fails = r }
+  refused given fault.NoMemory r = record {
+    running = running;
+    unchanged = r.0;
+    only_read = subst (IsOnlyRead device) (sym r.1) only_read;
+    unfailing = ap (λ (d : Disk). d.failures) r.1 ∙ unfailing;
+    reason = inr (info, read, may);
+  }
 
   pub once_read : (result : Result ℕ (D × ReAddFault)) → MatchResult result (λ k. RecordsLast k after info old new) (λ e. RefusesToRecordLast after (of e.0) info old new e.1)
       → MatchResult result (λ k. ReAdds k device old new) (λ e. RefusesReAdd device (of e.0) old new e.1)
-  once_read (Ok k) r = record { running = running; info = info; read = read; after_reading = after; only_read = only_read; recorded = r }
+  once_read (Ok k) r = record { running = running; info = info; read = read; after_reading = after; only_read = only_read; unfailing = unfailing; recorded = r }
   once_read (Err e) r = refused (of e.0) e.1 r
 
 -- whatever it answers

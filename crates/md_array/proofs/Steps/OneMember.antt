@@ -11,6 +11,7 @@ use Rattle.md_bitmap.specs.Sound.{IsSound}
 use Rattle.md_members.specs.Areas.{IsPlaced, bitmap_sectors, has_bitmap}
 use Rattle.md_members.specs.Members.{sectors_of}
 use Rattle.md_assembly.specs.States.{has_recovery_offset, is_in_sync, role_in, takes_role}
+use Rattle.md_assembly.proofs.Indices.{got_within}
 use Rattle.md_model.specs.Sectors.{put}
 use Rattle.md_model.specs.States as model
 use Rattle.md_model.specs.Worlds.{Request, World}
@@ -26,7 +27,7 @@ use Rattle.md_state.specs.Requests.{AreInFlight, IsPending, lacks}
 use Rattle.md_array.specs.Fits.{Fits, FitsMember}
 use Rattle.md_array.specs.Consistency.{HasSuper, HaveSupers, IsConsistent}
 use Rattle.md_array.specs.Worlds.{at_member, kind_of, stored_of, stored_on, world_on, world_of}
-use Rattle.md_array.proofs.General.Indices.{any_kept, at_set_same, counted_kept, got_other, got_put, got_within}
+use Rattle.md_array.proofs.General.Indices.{any_kept, at_set_same, counted_kept, got_other, got_put}
 
 -- two members have the same superblock and header, as many chunks, and one state
 pub record IsLike (m n : MemberView) : Type 0 where

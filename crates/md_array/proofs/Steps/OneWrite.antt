@@ -1,5 +1,5 @@
 -- One write to the device of a member.
-use Rattle.std.proofs.Common.{◌≡◌, ◌≢◌, ◌∙◌, ℕ, zero, suc, ◌*◌, ◌<◌, true, List, [], ◌∷◌, Some, length, get_or, map, set, ap, sym, refl, subst, arith, length-set}
+use Rattle.std.proofs.Common.{◌≡◌, ◌∙◌, ℕ, ◌*◌, ◌<◌, true, List, [], ◌∷◌, Some, length, get_or, map, set, ap, sym, subst, arith, length-set}
 use Rattle.std.specs.List.{slice_get}
 use Rattle.std.proofs.lemmas.List.{map-set, length-map}
 use Rattle.std.proofs.lemmas.Option.{slice_get_within}
@@ -9,7 +9,6 @@ use Rattle.md_device.specs.declared.device.Device.{Ghosts}
 use Rattle.md_writes.specs.Writes.{DoesWrites, IsAnyIn, IsCutShort, StopsInWrites, Write}
 use Rattle.md_writes.proofs.Runs.{stops_in_one}
 use Rattle.md_kept_members.specs.View.{MemberView}
-use Rattle.md_kept_members.proofs.Members.Indices.{same_listed}
 use Rattle.md_state.specs.View.{ArrayView, Disk, MirrorView, disk_of}
 use Rattle.md_state.specs.Members.{IsMember}
 use Rattle.md_state.specs.DeviceChanges.{LeavesOn, StaysHonest}
@@ -17,27 +16,20 @@ use Rattle.md_state.specs.DiskWrites.{AtDevice, IsFailed, IsTried, IsWritten}
 use Rattle.md_array.specs.Consistency.{IsConsistent}
 use Rattle.md_array.specs.Fits.{Fits, FitsMember}
 use Rattle.md_array.proofs.Openings.DevicesInTurn.{disk_at}
-use Rattle.md_array.proofs.General.Indices.{at_set_same}
-
--- an element besides the one that was replaced
-pub set_elsewhere : {A : Type 0} (xs : List A) (k j : ℕ) (y : A) → j ≢ k → slice_get (set xs k y) j ≡ slice_get xs j
-set_elsewhere [] k j y other = refl
-set_elsewhere (x ∷ xs) zero zero y other = absurd (other refl)
-set_elsewhere (x ∷ xs) zero (suc j) y other = refl
-set_elsewhere (x ∷ xs) (suc k) zero y other = refl
-set_elsewhere (x ∷ xs) (suc k) (suc j) y other = set_elsewhere xs k j y (λ same. other (ap suc same))
+use Rattle.md_array.proofs.General.Indices.{at_set_same, got_other}
+use Rattle.md_assembly.proofs.Indices.{got_same}
 
 -- what holds of the device at k before and after
 pub at_device : (before : List Disk) (k : ℕ) (d e : Disk) (Related : Disk → Disk → Type 0) → slice_get before k ≡ Some d → Related d e → AtDevice k before (set before k e) Related
 at_device before k d e Related here related x y was is =
-    let first : x ≡ d = same_listed before k x d was here in
-    let second : y ≡ e = same_listed (set before k e) k y e is (at_set_same before k e (slice_get_within before k d here)) in
+    let first : x ≡ d = got_same before k x d was here in
+    let second : y ≡ e = got_same (set before k e) k y e is (at_set_same before k e (slice_get_within before k d here)) in
     rw (first, second) related
 
 tried : (before : List Disk) (k : ℕ) (d e : Disk) (w : Write) → slice_get before k ≡ Some d → StaysHonest d e → SameOutside (512 * w.sector) (length w.bytes) d.content e.content → IsTried k w before (set before k e)
 tried before k d e w here stays outside = record {
   as_many = length-set before k e;
-  others = λ j other. set_elsewhere before k j e other;
+  others = λ j other. got_other before k j e other;
   stays = at_device before k d e StaysHonest here stays;
   outside = at_device before k d e (λ a b. SameOutside (512 * w.sector) (length w.bytes) a.content b.content) here outside;
 }

@@ -2,8 +2,8 @@
 use Rattle.std.proofs.Common.{ℕ, refl, inl, inr}
 use Rattle.md_writes.specs.Writes.{Write}
 use Rattle.md_kept_members.specs.View.{MemberView}
-use Rattle.md_state.specs.declared.step_fault.StoreFault.{StoreFault}
-use Rattle.md_state.specs.declared.step_fault.StoreFault.TheVariants.{Halted, NotActive, MemberFailed}
+use Rattle.md_faults.specs.declared.step_fault.StoreFault.{StoreFault}
+use Rattle.md_faults.specs.declared.step_fault.StoreFault.TheVariants.{Halted, NotActive, MemberFailed}
 use Rattle.md_state.specs.View.{MirrorView}
 use Rattle.md_state.specs.Checking.{RefusesInactive, RefusesOutOfSync}
 use Rattle.md_state.specs.DiskWrites.{IsFailed}

@@ -3,8 +3,8 @@ use Rattle.std.proofs.Common.{◌≡◌, ℕ, ◌+◌, ◌≤◌, List, ◌++◌
 use Rattle.std.proofs.lemmas.List.{drop_at, length-append, length-drop, length-take-le, take-take, take_all, take_at}
 use Rattle.md_device.specs.Splice.{SameOutside, part, spliced}
 use Rattle.md_device.proofs.Splices.{part_before}
+use Rattle.md_device.proofs.Leaving.{three_same}
 use Rattle.md_array.proofs.Steps.DataWritten.{part-spliced_within}
-use Rattle.md_array.proofs.Steps.WrittenParts.{with_part}
 
 module _ (at a b : ℕ) (old new : List ℕ) (same : SameOutside at (a + b) old new) (low : at + a ≤ length old) where
   -- the first part is new, and the rest is old
@@ -56,7 +56,7 @@ module _ (at a b : ℕ) (old new : List ℕ) (same : SameOutside at (a + b) old 
     unfolding spliced part
     first_written =
         let given : part half at a ≡ take a bytes = sym (part_before second_half at a (omega arith)) ∙ ap (λ (n : ℕ). part new n a) (sym no_more) ∙ new_part 0 a (omega arith) ∙ from_start in
-        with_part at a old half first_half (take a bytes) given ∙ ap (λ (n : ℕ). take at old ++ (take a bytes ++ drop (at + n) old)) (sym long_first)
+        three_same at a old half first_half (take a bytes) given ∙ ap (λ (n : ℕ). take at old ++ (take a bytes ++ drop (at + n) old)) (sym long_first)
       where
         no_more : at + 0 ≡ at
         no_more = omega arith
@@ -67,7 +67,7 @@ module _ (at a b : ℕ) (old new : List ℕ) (same : SameOutside at (a + b) old 
     pub second_written : new ≡ spliced half (at + a) (drop a bytes)
     unfolding spliced part
     second_written =
-        with_part (at + a) b half new second_half (drop a bytes) (new_part a b (omega arith) ∙ to_end)
+        three_same (at + a) b half new second_half (drop a bytes) (new_part a b (omega arith) ∙ to_end)
         ∙ ap (λ (n : ℕ). take (at + a) half ++ (drop a bytes ++ drop ((at + a) + n) half)) (sym long_second)
       where
         to_end : part bytes a b ≡ drop a bytes

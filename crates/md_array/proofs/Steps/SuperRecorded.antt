@@ -10,6 +10,7 @@ use Rattle.md_super.specs.Format.{IsSuper}
 use Rattle.md_super.specs.Merge.{merged}
 use Rattle.md_bitmap.specs.Marks.{is_set}
 use Rattle.md_assembly.specs.States.{has_recovery_offset, is_in_sync}
+use Rattle.md_assembly.proofs.Indices.{got_within}
 use Rattle.md_model.specs.Sectors.{put}
 use Rattle.md_model.specs.States as model
 use Rattle.md_model.specs.Devices.{Stored}
@@ -33,7 +34,6 @@ use Rattle.md_array.proofs.Steps.OneMember.{ChangesMember, changed_in_flight, ch
 use Rattle.md_array.proofs.Worlds.PartsApart.{header_beside_super, log_beside_super, parts_of, super_alone}
 use Rattle.md_array.proofs.Worlds.ReadAsKept.{changed_read, own_written}
 use Rattle.md_array.proofs.Worlds.InSync.{in_sync_of}
-use Rattle.md_array.proofs.General.Indices.{got_within}
 use Rattle.md_array.proofs.Worlds.States.{same_recorded}
 use Rattle.md_array.proofs.Worlds.Supers.{super_shown}
 use Rattle.md_badblocks.specs.Runs.{IsBad}

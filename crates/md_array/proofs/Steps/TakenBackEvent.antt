@@ -25,7 +25,7 @@ use Rattle.md_kept_members.specs.OwnFields.{kept_superblock}
 use Rattle.md_kept_members.specs.Members.{made_due}
 use Rattle.md_kept_members.specs.TakingBack.{IsTakenBack, own_role}
 use Rattle.md_kept_members.specs.View.{MemberView}
-use Rattle.md_state.specs.declared.re_add_fault.ReAddFault.{ReAddFault}
+use Rattle.md_faults.specs.declared.re_add_fault.ReAddFault.{ReAddFault}
 use Rattle.md_state.specs.DiskWrites.{IsWritten}
 use Rattle.md_state.specs.Joining.{joined}
 use Rattle.md_state.specs.Members.{IsMember, is_degraded}
@@ -41,10 +41,10 @@ use Rattle.md_array.specs.Worlds.{AreHonest, block_on, geometry_of, kind_of, sto
 use Rattle.md_array.proofs.General.Appended.{got_last}
 use Rattle.md_array.proofs.General.Indices.{any_at}
 use Rattle.md_array.proofs.Steps.DeviceTakenBack.{known_now, read_now, stored_now}
-use Rattle.md_array.proofs.Steps.MemberRemoved.{same_active}
-use Rattle.md_array.proofs.Steps.MemberTakenBack.{after, absent, count_kept, fits_taken, is_after, number_there, room, size_kept, small, taken_back_is_consistent, width_kept}
+use Rattle.md_array.proofs.Worlds.States.{same_active}
+use Rattle.md_array.proofs.Steps.MemberTakenBack.{after, count_kept, fits_taken, is_after, number_there, room, size_kept, small, taken_back_is_consistent, width_kept}
 use Rattle.md_array.proofs.Steps.WrittenLast.{honest_last, written_last}
-use Rattle.md_array.proofs.Worlds.Joined.{degraded_joined, newcomer, read_joined, role_joined, world_joined}
+use Rattle.md_array.proofs.Worlds.Joined.{degraded_joined, newcomer, read_joined, recovers_alone, role_joined, world_joined}
 use Rattle.md_array.proofs.Worlds.PartsApart.{HasParts}
 use Rattle.md_array.proofs.Worlds.Risen.{full_as_told, risen_role}
 use Rattle.md_array.proofs.Worlds.Shown.{at_is, at_past, by_member}
@@ -211,7 +211,7 @@ module _ (k : ℕ) (device : Disk) (old new : MirrorView) (c : IsConsistent old)
     still_full : is_degraded new.array ≡ is_degraded a
     still_full =
         ap is_degraded same_array
-        ∙ degraded_joined a m role small_number (absent k device old new c r) r.recorded.takes.may.free r.recorded.takes.may.fits.role.has_role (room k device old new c r) taken.state
+        ∙ degraded_joined a m role small_number (recovers_alone a m role taken.state r.recorded.takes.may.free r.recorded.takes.may.fits.role.has_role)
 
     full_after : (full ≡ true) ↔ IsFull g (world_of new requests)
     full_after =

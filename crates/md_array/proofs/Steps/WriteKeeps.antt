@@ -2,10 +2,10 @@
 use Rattle.std.proofs.Common.{◌≡◌, ◌≢◌, ℕ, inl, inr, sym, subst}
 use Rattle.std.specs.Prelude.{IfErr, MatchResult, OnOk, Result, Ok, Err}
 use Rattle.md_requests.specs.Pending.{PendingView}
-use Rattle.md_state.specs.declared.step_fault.FinishFault.{FinishFault}
-use Rattle.md_state.specs.declared.step_fault.FinishFault.TheVariants as finish
-use Rattle.md_state.specs.declared.step_fault.WriteMemberFault.{WriteMemberFault}
-use Rattle.md_state.specs.declared.step_fault.WriteMemberFault.TheVariants.{Halted, NotActive, NotMarked, NotRecorded, AlreadyWritten, MemberFailed}
+use Rattle.md_faults.specs.declared.step_fault.FinishFault.{FinishFault}
+use Rattle.md_faults.specs.declared.step_fault.FinishFault.TheVariants as finish
+use Rattle.md_faults.specs.declared.step_fault.WriteMemberFault.{WriteMemberFault}
+use Rattle.md_faults.specs.declared.step_fault.WriteMemberFault.TheVariants.{Halted, NotActive, NotMarked, NotRecorded, AlreadyWritten, MemberFailed}
 use Rattle.md_model.specs.Events.{Event}
 use Rattle.md_state.specs.View.{MirrorView}
 use Rattle.md_state.specs.Finishing.{Finishes, RefusesFinish}

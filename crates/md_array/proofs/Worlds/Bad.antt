@@ -1,5 +1,7 @@
 -- The bad set that is kept of a member is what its log lists.
 use Rattle.std.proofs.Common.{◌≡◌, ℕ, ◌+◌, ◌*◌, ◌^◌, ◌⊎◌, ◌↔◌, inl, inr, Bool, true, false, true≢false, ◌&&◌, ◌||◌, nat_lt, nat_le, List, [], ◌∷◌, if◌then◌else◌, refl, sym, ap, ◌∙◌, subst, leb-true, le-leb, ltb-true, lt-ltb}
+use Rattle.std.proofs.lemmas.Bool.{and_from, and_parts}
+use Rattle.std.proofs.Math.Bool.{or-true}
 use Rattle.md_device.specs.Splice.{part}
 use Rattle.md_super.specs.declared.superblock.Superblock.{Superblock}
 use Rattle.md_super.specs.Log.{has_bad_block_log}
@@ -11,15 +13,14 @@ use Rattle.md_members.specs.Members.{HasBadSet, reads_log}
 use Rattle.md_members.specs.Reading.{ReadsLog}
 use Rattle.md_kept_members.specs.OwnFields.{kept_shift, stored_next}
 use Rattle.md_array.specs.Worlds.{from_super, is_listed_next, is_logged, lies_in, sector_at}
-use Rattle.md_model.proofs.Cases.{both, by_test, never}
+use Rattle.md_model.proofs.Cases.{by_test, never}
 use Rattle.md_array.proofs.Openings.OwnFields.{none_listed, some_listed}
-use Rattle.md_array.proofs.General.Tests.{and_is}
 
 in_run : (run : Run) (sector : ℕ) → (nat_le run.start sector && nat_lt sector (run.start + run.len)) ≡ true ↔ LiesIn sector run
 in_run run sector = (
-  (λ e. let p = both (nat_le run.start sector) (nat_lt sector (run.start + run.len)) e in
+  (λ e. let p = and_parts (nat_le run.start sector) (nat_lt sector (run.start + run.len)) e in
       (leb-true run.start sector p.0, ltb-true sector (run.start + run.len) p.1)),
-  (λ h. and_is (nat_le run.start sector) (nat_lt sector (run.start + run.len)) (le-leb run.start sector h.0) (lt-ltb sector (run.start + run.len) h.1)),
+  (λ h. and_from (nat_le run.start sector) (nat_lt sector (run.start + run.len)) (le-leb run.start sector h.0) (lt-ltb sector (run.start + run.len) h.1)),
 )
 
 -- the test of a sector, and the set that runs stand for
@@ -34,11 +35,7 @@ bad_from_test (run ∷ runs) sector e = one_of (nat_le run.start sector && nat_l
 test_from_bad : (runs : List Run) (sector : ℕ) → IsBad runs sector → lies_in runs sector ≡ true
 test_from_bad [] sector h = absurd h
 test_from_bad (run ∷ runs) sector (inl here) = ap (λ b. b || lies_in runs sector) ((in_run run sector).1 here)
-test_from_bad (run ∷ runs) sector (inr later) = rw (test_from_bad runs sector later) (or_true (nat_le run.start sector && nat_lt sector (run.start + run.len)))
-  where
-    or_true : (b : Bool) → (b || true) ≡ true
-    or_true true = refl
-    or_true false = refl
+test_from_bad (run ∷ runs) sector (inr later) = rw (test_from_bad runs sector later) (or-true (nat_le run.start sector && nat_lt sector (run.start + run.len)))
 
 logged_is : (content : List ℕ) (v : Superblock) (bad : List Run) (sector : ℕ) → ReadsLog content true v bad
     → is_logged content (from_super v.bblog_offset) v.bblog_size v.bblog_shift sector ≡ true ↔ IsBad bad sector
@@ -49,8 +46,8 @@ logged_is content v bad sector r =
     let named = r.set.named sector in
     let runs = named_runs v.bblog_shift r.area in
     subst (λ bytes. (nat_lt sector (2 ^ 54) && lies_in (named_runs v.bblog_shift bytes) sector) ≡ true ↔ IsBad bad sector) (sym area) (
-      (λ e. let p = both (nat_lt sector (2 ^ 54)) (lies_in runs sector) e in named.1 (bad_from_test runs sector p.1, ltb-true sector (2 ^ 54) p.0)),
-      (λ h. let p = named.0 h in and_is (nat_lt sector (2 ^ 54)) (lies_in runs sector) (lt-ltb sector (2 ^ 54) p.1) (test_from_bad runs sector p.0)),
+      (λ e. let p = and_parts (nat_lt sector (2 ^ 54)) (lies_in runs sector) e in named.1 (bad_from_test runs sector p.1, ltb-true sector (2 ^ 54) p.0)),
+      (λ h. let p = named.0 h in and_from (nat_lt sector (2 ^ 54)) (lies_in runs sector) (lt-ltb sector (2 ^ 54) p.1) (test_from_bad runs sector p.0)),
     )
 
 -- the log of a member whose list was read, by the superblock that was read
@@ -58,11 +55,11 @@ pub listed_as_read : (content : List ℕ) (v : Superblock) (bad : List Run) (sec
 unfolding is_listed_next
 listed_as_read content v bad sector (inl log) =
     let logged = logged_is content v bad sector log.1 in (
-      (λ e. logged.0 (both (reads_log v) _ e).1),
-      (λ h. and_is (reads_log v) _ log.0 (logged.1 h)),
+      (λ e. logged.0 (and_parts (reads_log v) _ e).1),
+      (λ h. and_from (reads_log v) _ log.0 (logged.1 h)),
     )
 listed_as_read content v bad sector (inr none) = (
-  (λ e. never (reads_log v) (both (reads_log v) _ e).0 none.0),
+  (λ e. never (reads_log v) (and_parts (reads_log v) _ e).0 none.0),
   (λ h. absurd (subst (λ (runs : List Run). IsBad runs sector) none.1 h)),
 )
 
@@ -70,17 +67,17 @@ listed_as_read content v bad sector (inr none) = (
 pub listed_is_bad : (content : List ℕ) (v : Superblock) (bad : List Run) (sector : ℕ) → HasBadSet content true v bad → is_listed_next (stored_next bad v) content sector ≡ true ↔ IsBad bad sector
 unfolding is_listed_next
 listed_is_bad content v [] sector set = (
-  (λ e. absurd (true≢false (sym (both (has_bad_blocks (stored_next [] v)) (has_bad_block_log v) (both (reads_log (stored_next [] v)) _ e).0).0 ∙ none_listed v))),
+  (λ e. absurd (true≢false (sym (and_parts (has_bad_blocks (stored_next [] v)) (has_bad_block_log v) (and_parts (reads_log (stored_next [] v)) _ e).0).0 ∙ none_listed v))),
   (λ h. absurd h),
 )
 listed_is_bad content v (run ∷ runs) sector (inl log) =
-    let there = (both (has_bad_blocks v) (has_bad_block_log v) log.0).1 in
-    let read = and_is (has_bad_blocks (stored_next (run ∷ runs) v)) (has_bad_block_log v) (some_listed run runs v) there in
+    let there = (and_parts (has_bad_blocks v) (has_bad_block_log v) log.0).1 in
+    let read = and_from (has_bad_blocks (stored_next (run ∷ runs) v)) (has_bad_block_log v) (some_listed run runs v) there in
     let shift : kept_shift v ≡ v.bblog_shift = ap (λ b. if b then v.bblog_shift else 0) log.0 in
     let same = ap (λ (n : ℕ). is_logged content (from_super v.bblog_offset) v.bblog_size n sector) shift in
     let logged = logged_is content v (run ∷ runs) sector log.1 in (
-      (λ e. logged.0 (sym same ∙ (both (reads_log (stored_next (run ∷ runs) v)) _ e).1)),
-      (λ h. and_is (reads_log (stored_next (run ∷ runs) v)) _ read (same ∙ logged.1 h)),
+      (λ e. logged.0 (sym same ∙ (and_parts (reads_log (stored_next (run ∷ runs) v)) _ e).1)),
+      (λ h. and_from (reads_log (stored_next (run ∷ runs) v)) _ read (same ∙ logged.1 h)),
     )
 listed_is_bad content v (run ∷ runs) sector (inr none) = let empty = none.1 in absurd cc
 

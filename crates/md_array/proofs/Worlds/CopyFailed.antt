@@ -10,8 +10,8 @@ use Rattle.md_model.specs.Worlds.{Request}
 use Rattle.md_writes.specs.Writes.{Write}
 use Rattle.md_requests.specs.Pending.{PendingView}
 use Rattle.md_kept_members.specs.View.{MemberView}
-use Rattle.md_state.specs.declared.copy_fault.CopyFault.{CopyFault}
-use Rattle.md_state.specs.declared.copy_fault.CopyFault.TheVariants.{Halted, MemberFailed}
+use Rattle.md_faults.specs.declared.copy_fault.CopyFault.{CopyFault}
+use Rattle.md_faults.specs.declared.copy_fault.CopyFault.TheVariants.{Halted, MemberFailed}
 use Rattle.md_state.specs.View.{ArrayView, Disk, MirrorView}
 use Rattle.md_state.specs.CopyingData.{AnswersCopy, FailsToCopy, IsCopy, RefusesCopy, run_write}
 use Rattle.md_state.specs.DiskWrites.{IsFailed}

@@ -17,6 +17,7 @@ use Rattle.md_model.proofs.Between.{between_step, in_flight_step}
 use Rattle.md_writes.specs.Writes.{Write}
 use Rattle.md_kept_members.specs.View.{MemberView}
 use Rattle.md_assembly.specs.States.{is_in_sync_as, is_recorded}
+use Rattle.md_assembly.proofs.Indices.{got_within}
 use Rattle.md_kept_members.specs.Members.{made_due}
 use Rattle.md_state.specs.Members.{IsMember, is_degraded}
 use Rattle.md_state.specs.View.{ArrayView, Disk, MirrorView}
@@ -33,7 +34,7 @@ use Rattle.md_array.proofs.Steps.AfterFailure.{failed_is_consistent}
 use Rattle.md_array.proofs.Steps.OneMember.{member_there}
 use Rattle.md_array.proofs.Worlds.ReadAsKept.{failed_read}
 use Rattle.md_array.proofs.Worlds.InSync.{in_sync_there}
-use Rattle.md_array.proofs.General.Indices.{got_in_map, got_within}
+use Rattle.md_array.proofs.General.Indices.{got_in_map}
 use Rattle.md_array.proofs.Worlds.Risen.{full_as_told, same_degraded, world_risen}
 use Rattle.md_array.proofs.Worlds.States.{same_recorded}
 use Rattle.md_array.proofs.Worlds.Without.{world_with_device, world_without}

@@ -1,5 +1,5 @@
--- A device comes in as the last member of an array whose count rose, recovering in a role that no other has: the array stays consistent,
--- and the world gets the member.
+-- A device comes in as the last member of an array whose count rose, without a role or recovering in one that no other has: the array
+-- stays consistent, and the world gets the member.
 use Rattle.std.proofs.Common.{◌≡◌, ◌≢◌, ◌⊎◌, ℕ, ◌+◌, ◌/◌, ◌<◌, inl, inr, Bool, true, false, cond, not, ◌&&◌, ◌||◌, eqb, leb, nat_lt, max, true≢false, List, [], ◌∷◌, ◌++◌, length, slice_get, Option, Some, None, refl, sym, ap, ◌∙◌, subst, arith, eq-eqb, eqb-true}
 use Rattle.std.specs.List.{list_any, range_with_len}
 use Rattle.std.proofs.lemmas.Bool.{cases_lt}
@@ -15,7 +15,7 @@ use Rattle.md_model.specs.Counts as counts
 use Rattle.md_model.specs.Membership as membership
 use Rattle.md_model.proofs.Puts.{put-hit, put-miss}
 use Rattle.md_bitmap.specs.Marks.{is_set}
-use Rattle.md_assembly.specs.declared.state.MemberState.TheVariants.{Recovering}
+use Rattle.md_assembly.specs.declared.state.MemberState.TheVariants.{Recovering, Spare}
 use Rattle.md_assembly.specs.States.{has_recovery_offset, is_in_sync, is_in_sync_as, is_recorded, role_in, takes_role}
 use Rattle.md_kept_members.specs.View.{MemberView}
 use Rattle.md_kept_members.specs.Members.{made_due}
@@ -35,9 +35,35 @@ use Rattle.md_array.proofs.General.Indices.{any_at, at_map}
 use Rattle.md_array.proofs.Worlds.ReadAsKept.{IsSameArray, kept_in}
 use Rattle.md_array.proofs.Worlds.Risen.{risen_is_consistent, risen_role, same_filled, world_risen}
 
-or_false : (t : Bool) → (t || false) ≡ t
+pub or_false : (t : Bool) → (t || false) ≡ t
 or_false true = refl
 or_false false = refl
+
+-- It is not in sync, and a role that it takes is this one, which is the array's and no other member's.
+pub record TakesAlone (a : ArrayView) (m : MemberView) (role : ℕ) : Type 0 where
+  pub out : is_in_sync m.state ≡ false
+  pub unfilled : (wanted : ℕ) → is_in_sync_as wanted m.state ≡ false
+  pub own : (wanted : ℕ) → takes_role wanted m.state ≡ true → role ≡ wanted
+  pub free : (wanted : ℕ) → takes_role wanted m.state ≡ true → is_taken a role ≡ false
+  pub below : (wanted : ℕ) → takes_role wanted m.state ≡ true → role < a.shared.raid_disks
+
+pub recovers_alone : (a : ArrayView) (m : MemberView) (role : ℕ) → m.state ≡ Recovering role → is_taken a role ≡ false → role < a.shared.raid_disks → TakesAlone a m role
+recovers_alone a m role state free below = record {
+  out = ap is_in_sync state;
+  unfilled = λ wanted. ap (is_in_sync_as wanted) state;
+  own = λ wanted takes. eqb-true role wanted (sym (ap (takes_role wanted) state) ∙ takes);
+  free = λ wanted takes. free;
+  below = λ wanted takes. below;
+}
+
+pub spare_alone : (a : ArrayView) (m : MemberView) (role : ℕ) → m.state ≡ Spare → TakesAlone a m role
+spare_alone a m role state = record {
+  out = ap is_in_sync state;
+  unfilled = λ wanted. ap (is_in_sync_as wanted) state;
+  own = λ wanted takes. absurd (true≢false (sym takes ∙ ap (takes_role wanted) state));
+  free = λ wanted takes. absurd (true≢false (sym takes ∙ ap (takes_role wanted) state));
+  below = λ wanted takes. absurd (true≢false (sym takes ∙ ap (takes_role wanted) state));
+}
 
 module _ (a : ArrayView) (m : MemberView) (role : ℕ) (small : m.superblock.dev_number < 1920) where
   abbrev full : Bool
@@ -76,22 +102,28 @@ module _ (a : ArrayView) (m : MemberView) (role : ℕ) (small : m.superblock.dev
   was : (j : ℕ) (x : MemberView) → IsMember b j x → (IsMember up j x) ⊎ ((j ≡ length up.members) × (m ≡ x))
   was j x is = listed_push up.members m x j is
 
-  module _ (none : has_number a number ≡ false) (free : is_taken a role ≡ false) (below : role < a.shared.raid_disks) (room : length a.members < 64) (state : m.state ≡ Recovering role) where
+  module _ (none : has_number a number ≡ false) (room : length a.members < 64) (alone : TakesAlone a m role) where
     other_number : (j : ℕ) (x : MemberView) → IsMember up j x → x.superblock.dev_number ≢ number
     other_number j x is same =
         let y = at_map made_due a.members j x is in
         true≢false (sym (any_at (λ (n : MemberView). eqb n.superblock.dev_number number) a.members j y.0 y.1 (eq-eqb y.0.superblock.dev_number number (sym (ap (λ (n : MemberView). n.superblock.dev_number) y.2) ∙ same))) ∙ none)
 
-    other_role : (j : ℕ) (x : MemberView) → IsMember up j x → takes_role role x.state ≡ true → ⊥
-    other_role j x is takes =
-        let y = at_map made_due a.members j x is in
-        true≢false (sym (any_at (λ (n : MemberView). takes_role role n.state) a.members j y.0 y.1 (sym (ap (λ (n : MemberView). takes_role role n.state) y.2) ∙ takes)) ∙ free)
+    takes_too : (wanted : ℕ) (x : MemberView) → m ≡ x → takes_role wanted x.state ≡ true → takes_role wanted m.state ≡ true
+    takes_too wanted x is takes = ap (λ (n : MemberView). takes_role wanted n.state) is ∙ takes
 
     its_role : (wanted : ℕ) (x : MemberView) → m ≡ x → takes_role wanted x.state ≡ true → role ≡ wanted
-    its_role wanted x is takes = eqb-true role wanted (sym (ap (takes_role wanted) (sym (ap (λ (n : MemberView). n.state) is) ∙ state)) ∙ takes)
+    its_role wanted x is takes = alone.own wanted (takes_too wanted x is takes)
+
+    -- x is the new one
+    other_role : (wanted j : ℕ) (x y : MemberView) → m ≡ x → takes_role wanted x.state ≡ true → IsMember up j y → takes_role wanted y.state ≡ true → ⊥
+    other_role wanted j x y new takes is too =
+        let z = at_map made_due a.members j y is in
+        let same = its_role wanted x new takes in
+        let taken : takes_role role z.0.state ≡ true = ap (λ (n : ℕ). takes_role n z.0.state) same ∙ sym (ap (λ (n : MemberView). takes_role wanted n.state) z.2) ∙ too in
+        true≢false (sym (any_at (λ (n : MemberView). takes_role role n.state) a.members j z.0 z.1 taken) ∙ alone.free wanted (takes_too wanted x new takes))
 
     out : (x : MemberView) → m ≡ x → is_in_sync x.state ≡ false
-    out x is = ap is_in_sync (sym (ap (λ (n : MemberView). n.state) is) ∙ state)
+    out x is = ap (λ (n : MemberView). is_in_sync n.state) (sym is) ∙ alone.out
 
     roles_joined : HasRoles up → HasRoles b
     roles_joined r = record {
@@ -112,15 +144,15 @@ module _ (a : ArrayView) (m : MemberView) (role : ℕ) (small : m.superblock.dev
       ];
       below = λ j wanted x is takes. elim (was j x is) [
         | inl old ↦ r.below j wanted x old takes
-        | inr new ↦ subst (λ n. n < a.shared.raid_disks) (its_role wanted x new.1 takes) below
+        | inr new ↦ subst (λ n. n < a.shared.raid_disks) (its_role wanted x new.1 takes) (alone.below wanted (takes_too wanted x new.1 takes))
       ];
       one_each = λ i j wanted x y p q e f. elim (was i x p) [
         | inl old ↦ elim (was j y q) [
           | inl too ↦ r.one_each i j wanted x y old too e f
-          | inr new ↦ absurd (other_role i x old (subst (λ n. takes_role n x.state ≡ true) (sym (its_role wanted y new.1 f)) e))
+          | inr new ↦ absurd (other_role wanted i y x new.1 f old e)
         ]
         | inr new ↦ elim (was j y q) [
-          | inl old ↦ absurd (other_role j y old (subst (λ n. takes_role n y.state ≡ true) (sym (its_role wanted x new.1 e)) f))
+          | inl old ↦ absurd (other_role wanted j x y new.1 e old f)
           | inr too ↦ new.0 ∙ sym too.0
         ]
       ];
@@ -176,19 +208,19 @@ module _ (a : ArrayView) (m : MemberView) (role : ℕ) (small : m.superblock.dev
               ];
             }
 
-    -- no role is filled by it
-    pub degraded_joined : is_degraded b ≡ is_degraded a
-    degraded_joined = ap (λ (f : ℕ → Bool). list_any (λ wanted. not (f wanted)) (range_with_len 0 a.shared.raid_disks)) (λ i wanted. filled wanted i)
-      where
-        not_as : (wanted : ℕ) → (list_any (λ (x : MemberView). is_in_sync_as wanted x.state) (m ∷ [])) ≡ false
-        not_as wanted = ap (λ s. is_in_sync_as wanted s || false) state
+  -- no role is filled by it
+  pub degraded_joined : TakesAlone a m role → is_degraded b ≡ is_degraded a
+  degraded_joined alone = ap (λ (f : ℕ → Bool). list_any (λ wanted. not (f wanted)) (range_with_len 0 a.shared.raid_disks)) (λ i wanted. filled wanted i)
+    where
+      not_as : (wanted : ℕ) → list_any (λ (x : MemberView). is_in_sync_as wanted x.state) (m ∷ []) ≡ false
+      not_as wanted = ap (λ t. t || false) (alone.unfilled wanted)
 
-        filled : (wanted : ℕ) → is_filled b wanted ≡ is_filled a wanted
-        filled wanted =
-            list_any-append (λ (x : MemberView). is_in_sync_as wanted x.state) up.members (m ∷ [])
-            ∙ ap (λ t. is_filled up wanted || t) (not_as wanted)
-            ∙ or_false (is_filled up wanted)
-            ∙ same_filled a full wanted
+      filled : (wanted : ℕ) → is_filled b wanted ≡ is_filled a wanted
+      filled wanted =
+          list_any-append (λ (x : MemberView). is_in_sync_as wanted x.state) up.members (m ∷ [])
+          ∙ ap (λ t. is_filled up wanted || t) (not_as wanted)
+          ∙ or_false (is_filled up wanted)
+          ∙ same_filled a full wanted
 
   -- ---- what an opening would read
   same_fields : IsSameArray a b

@@ -1,6 +1,7 @@
 -- What a device's log lists, by the superblock that stands there, and by the one that is kept.
 use Rattle.std.proofs.Common.{◌≡◌, ℕ, ◌*◌, ◌^◌, true, not, ◌&&◌, ◌==◌, bit_and, if◌then◌else◌, nat_lt, List, Option, Some, None, pos, refl, sym, ap, ◌∙◌}
 use Rattle.std.specs.Ordering.{int_eq}
+use Rattle.std.proofs.lemmas.Bool.{and_parts}
 use Rattle.md_device.specs.Splice.{part}
 use Rattle.md_format.specs.Fields.{number_at}
 use Rattle.md_super.specs.declared.superblock.Superblock.{Superblock}
@@ -12,7 +13,6 @@ use Rattle.md_badblocks.specs.Log.{named_runs}
 use Rattle.md_members.specs.Areas.{has_bad_blocks}
 use Rattle.md_members.specs.Members.{reads_log}
 use Rattle.md_model.specs.Devices.{Super}
-use Rattle.md_model.proofs.Cases.{both}
 use Rattle.md_kept_members.specs.OwnFields.{kept_shift, stored_next}
 use Rattle.md_array.specs.Worlds.{block_on, from_super, is_listed, is_listed_next, is_logged, lies_in, list_bit, reads_log_on, super_in}
 use Rattle.md_array.proofs.Worlds.Supers.{super_shown}
@@ -72,14 +72,14 @@ module _ (v : Superblock) (old new : List ℕ) (kept : IsLogKept v old new) (sec
 
   pub next_kept : is_listed_next v new sector ≡ is_listed_next v old sector
   unfolding is_listed_next
-  next_kept = and_same (reads_log v) _ _ (λ on. logged_kept (both (has_bad_blocks v) (has_bad_block_log v) on).1)
+  next_kept = and_same (reads_log v) _ _ (λ on. logged_kept (and_parts (has_bad_blocks v) (has_bad_block_log v) on).1)
 
   -- and the superblock stays
   pub listed_kept : block_on new ≡ block_on old → is_listed v new sector ≡ is_listed v old sector
   unfolding is_listed
   listed_kept block =
       ap (λ (b : List ℕ). (list_bit v b (super_in b) && has_bad_block_log v) && is_logged new (from_super v.bblog_offset) v.bblog_size v.bblog_shift sector) block
-      ∙ and_same (reads_log_on v old) _ _ (λ on. logged_kept (both (list_bit v (block_on old) (super_in (block_on old))) (has_bad_block_log v) on).1)
+      ∙ and_same (reads_log_on v old) _ _ (λ on. logged_kept (and_parts (list_bit v (block_on old) (super_in (block_on old))) (has_bad_block_log v) on).1)
 
   -- and the superblock is read as before
   pub listed_same_bit : super_in (block_on new) ≡ super_in (block_on old) → number_at 4 8 (block_on new) ≡ number_at 4 8 (block_on old) → is_listed v new sector ≡ is_listed v old sector
@@ -87,7 +87,7 @@ module _ (v : Superblock) (old new : List ℕ) (kept : IsLogKept v old new) (sec
   listed_same_bit decoded map =
       ap (λ b. (b && has_bad_block_log v) && is_logged new (from_super v.bblog_offset) v.bblog_size v.bblog_shift sector)
       (ap (list_bit v (block_on new)) decoded ∙ same_map v (block_on new) (block_on old) (super_in (block_on old)) map)
-      ∙ and_same (reads_log_on v old) _ _ (λ on. logged_kept (both (list_bit v (block_on old) (super_in (block_on old))) (has_bad_block_log v) on).1)
+      ∙ and_same (reads_log_on v old) _ _ (λ on. logged_kept (and_parts (list_bit v (block_on old) (super_in (block_on old))) (has_bad_block_log v) on).1)
 
   -- or the same one is read there
   pub listed_read_both : (w : Superblock) → IsSuper (block_on old) w → NoFault (block_on old) → IsSuper (block_on new) w → NoFault (block_on new) → is_listed v new sector ≡ is_listed v old sector

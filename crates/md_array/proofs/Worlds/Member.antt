@@ -2,6 +2,7 @@
 use Rattle.std.proofs.Common.{◌≡◌, ℕ, ◌+◌, ◌⊎◌, inl, inr, Bool, true, false, true≢false, ◌&&◌, ◌||◌, eqb, List, Option, Some, refl, sym, ◌∙◌, arith, eq-eqb, eqb-true, bytes_eq}
 use Rattle.std.proofs.lemmas.Bool.Decides.{nat_tests}
 use Rattle.std.proofs.lemmas.Slice.Eq.{bytes_eq-Decides}
+use Rattle.std.proofs.lemmas.Bool.{and_parts}
 use Rattle.md_super.specs.declared.superblock.Superblock.{Superblock}
 use Rattle.md_bitmap.specs.declared.header.BitmapHeader.{BitmapHeader}
 use Rattle.md_bitmap.specs.Header.{IsHeader}
@@ -12,7 +13,7 @@ use Rattle.md_kept_members.specs.View.{MemberView}
 use Rattle.md_kept_members.specs.Members.{NeedsMarks}
 use Rattle.md_state.specs.View.{ArrayView}
 use Rattle.md_array.specs.Worlds.{block_on, from_super, header_fits, header_on, stored_of, super_in, super_of}
-use Rattle.md_model.proofs.Cases.{both, by_test}
+use Rattle.md_model.proofs.Cases.{by_test}
 
 -- ---- tests of numbers and bytes
 by_bytes : {P : Type 0} (xs ys : List ℕ) → (xs ≡ ys → P) → ((xs ≡ ys → ⊥) → P) → P
@@ -93,7 +94,7 @@ all_three_hold false b c e = absurd cc
 accepts_says : (super : Option Super) (own : Super) (events : ℕ) (fits : Bool) → super ≡ Some own → accepts super events fits ≡ true → (fits ≡ true) × ((events ≡ own.events) ⊎ (events ≡ own.events + 1))
 accepts_says super own events fits is e =
     let t : (fits && (eqb events own.events || eqb events (own.events + 1))) ≡ true = rw is at e in
-    let parts : (fits ≡ true) × ((eqb events own.events || eqb events (own.events + 1)) ≡ true) = both _ _ t in
+    let parts : (fits ≡ true) × ((eqb events own.events || eqb events (own.events + 1)) ≡ true) = and_parts _ _ t in
     (parts.0, one_of (eqb events own.events) (eqb events (own.events + 1)) (eqb-true events own.events) (eqb-true events (own.events + 1)) parts.1)
   where
     one_of : {P Q : Type 0} (a b : Bool) → (a ≡ true → P) → (b ≡ true → Q) → (a || b) ≡ true → P ⊎ Q

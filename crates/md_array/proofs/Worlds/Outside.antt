@@ -2,14 +2,14 @@
 use Rattle.std.proofs.Common.{◌≡◌, ℕ, ◌+◌, ◌*◌, ◌/◌, ◌<◌, ◌≤◌, ◌⊎◌, inl, inr, List, drop, slice_index, ℤ, pos, negsuc, ◌+ℤ◌, ◌≤ℤ◌, refl, sym, ap, ◌∙◌, arith, get_or-drop}
 use Rattle.std.proofs.lemmas.Int.{ints}
 use Rattle.md_device.specs.Splice.{part, SameOutside}
-use Rattle.md_device.proofs.Splices.{part_before, part_after}
+use Rattle.md_device.proofs.Splices.{part_before, part_after, slice_index-part}
 use Rattle.md_super.specs.declared.superblock.Superblock.{Superblock}
 use Rattle.md_bitmap.specs.Marks.{is_set}
 use Rattle.md_members.specs.declared.area.Area.{Area}
 use Rattle.md_members.specs.Areas.{AreApart, end_of, super_area, data_area, log_area}
 use Rattle.md_members.specs.Reading.{BitmapStartsAt}
 use Rattle.md_array.specs.Worlds.{block_on, from_super, header_on, sector_at}
-use Rattle.md_array.proofs.Worlds.Writes.{is_set-same, slice_index-part}
+use Rattle.md_array.proofs.Worlds.Writes.{is_set-same}
 
 pub sector_at_is : (z : ℤ) → pos 0 ≤ℤ z → z ≡ pos (sector_at z)
 sector_at_is (pos n) h = refl

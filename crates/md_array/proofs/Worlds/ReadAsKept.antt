@@ -13,6 +13,7 @@ use Rattle.md_bitmap.specs.declared.chunks.Chunks.{Chunks}
 use Rattle.md_writes.specs.Writes.{Write}
 use Rattle.md_kept_members.specs.View.{MemberView}
 use Rattle.md_assembly.specs.States.{is_recorded}
+use Rattle.md_assembly.proofs.Indices.{got_within}
 use Rattle.md_kept_members.specs.Members.{made_due}
 use Rattle.md_state.specs.Members.{IsMember}
 use Rattle.md_state.specs.Rising.{failed, made_faulty, risen}
@@ -25,7 +26,7 @@ use Rattle.md_array.proofs.Worlds.Listed.{IsLogKept, listed_read_both, same_log}
 use Rattle.md_array.proofs.Steps.OneMember.{ChangesMember}
 use Rattle.md_array.proofs.Worlds.PartsApart.{HasParts, block_beside_data, header_beside_data, log_beside_data}
 use Rattle.md_array.proofs.General.Replaced.{of_set}
-use Rattle.md_array.proofs.General.Indices.{at_map, got_within}
+use Rattle.md_array.proofs.General.Indices.{at_map}
 
 -- ---- one device
 log_kept_as : (v own : Superblock) (old new : List ℕ) → v.bblog_size ≡ own.bblog_size → v.bblog_offset ≡ own.bblog_offset → IsLogKept own old new → IsLogKept v old new

@@ -1,11 +1,11 @@
 -- The device of a member that was read, beside what is kept of it.
-use Rattle.std.proofs.Common.{◌≡◌, ℕ, ◌+◌, ◌*◌, ◌/◌, ◌<◌, ◌≤◌, true, nat_lt, List, Some, refl, sym, ap, ◌∙◌, subst, arith, add-mul, lt_of_mul-lt-mul_right, ◌&&◌}
+use Rattle.std.proofs.Common.{◌≡◌, ℕ, ◌*◌, ◌/◌, ◌<◌, ◌≤◌, true, nat_lt, List, Some, refl, sym, ap, ◌∙◌, subst, arith, ◌&&◌}
 use Rattle.std.specs.Int.{div_ceil}
 use Rattle.std.proofs.lemmas.Grind.{div_ceil_times}
 use Rattle.md_super.specs.declared.superblock.Superblock.{Superblock}
 use Rattle.md_super.specs.Faults.{NoFault}
 use Rattle.md_bitmap.specs.Sound.{IsChunkSize, chunk_count}
-use Rattle.md_bitmap.proofs.Limits.{div-lt-div_ceil, div_ceil-sectors}
+use Rattle.md_bitmap.proofs.Limits.{div-lt-div_ceil, div_ceil-sectors, not_above}
 use Rattle.md_members.specs.declared.info.MemberInfo.{MemberInfo}
 use Rattle.md_members.specs.Areas.{BitmapIsPlaced, IsPlaced, bitmap_sectors}
 use Rattle.md_members.specs.Reading.{BitmapStartsAt, chunks_of}
@@ -38,14 +38,6 @@ pub record IsReadMember (a : ArrayView) (m : MemberView) (info : MemberInfo) (co
   pub count : a.marks.chunks ≡ m.stored.chunks
   pub fresh : info.superblock.events ≤ a.shared.events
 
--- a quotient rounded up is no more than a number whose product is enough
-not_above : (s w p q : ℕ) → p * w < s + w → s ≤ q * w → p ≤ q
-not_above s w p q below enough =
-    let expand : (q + 1) * w ≡ q * w + 1 * w = add-mul q 1 w in
-    let less : p * w < (q + 1) * w = omega arith in
-    let h : p < q + 1 = lt_of_mul-lt-mul_right w less in
-    omega arith
-
 -- as many chunks by the array's sectors as the marks have
 chunks_past : (size width bytes count c : ℕ) → IsChunkSize bytes → width ≡ bytes / 512 → count ≡ chunk_count size bytes → size ≤ c * width → count ≤ c
 chunks_past size width bytes count c sound w n past =
@@ -56,7 +48,7 @@ chunks_past size width bytes count c sound w n past =
     let fewer : div_ceil size width ≤ c = not_above size width (div_ceil size width) c bounds.1 past in
     omega arith
 
-chunk_within : (size width bytes count s : ℕ) → IsChunkSize bytes → width ≡ bytes / 512 → count ≡ chunk_count size bytes → s < size → s / width < count
+pub chunk_within : (size width bytes count s : ℕ) → IsChunkSize bytes → width ≡ bytes / 512 → count ≡ chunk_count size bytes → s < size → s / width < count
 chunk_within size width bytes count s sound w n below =
     let least = sound.least in
     let positive : 0 < width = omega arith in

@@ -1,6 +1,7 @@
 -- It is kept whether the array is resynced: that is the model's event.
 use Rattle.std.proofs.Common.{◌≡◌, ℕ, Bool, true, false, cond, nat_lt, List, [], slice_get, Option, refl, sym, ap, ◌∙◌, subst, arith}
 use Rattle.std.proofs.lemmas.Option.{slice_get_within}
+use Rattle.std.proofs.lemmas.Bool.{and_parts}
 use Rattle.md_model.specs.Devices.{Stored}
 use Rattle.md_model.specs.Events.{Event, Step}
 use Rattle.md_model.specs.Resyncing as model
@@ -8,7 +9,7 @@ use Rattle.md_model.specs.Runs.{failed_after}
 use Rattle.md_model.specs.Worlds as worlds
 use Rattle.md_model.specs.Worlds.{Request, World}
 use Rattle.md_model.proofs.Between.{between_step, in_flight_step}
-use Rattle.md_model.proofs.Cases.{both, by_test, is_below}
+use Rattle.md_model.proofs.Cases.{by_test, is_below}
 use Rattle.md_requests.specs.Pending.{PendingView}
 use Rattle.md_kept_members.specs.View.{MemberView}
 use Rattle.md_state.specs.View.{ArrayView, Disk, MirrorView}
@@ -25,7 +26,7 @@ use Rattle.md_array.proofs.Worlds.ReadAsKept.{same_array, same_member, unwritten
 use Rattle.md_array.proofs.Steps.RemarkedWorlds.{same_mirror}
 use Rattle.md_array.proofs.Worlds.SectorCopied.{none_there, unlisted_is}
 use Rattle.md_array.proofs.Worlds.InSync.{in_sync_is}
-use Rattle.md_array.proofs.General.Indices.{got_within}
+use Rattle.md_assembly.proofs.Indices.{got_within}
 
 module _ (is : Bool) (old new : MirrorView) (c : IsConsistent old) (t : NotesResynced is old new) where
   abbrev a : ArrayView
@@ -137,7 +138,7 @@ module _ (old : MirrorView) (c : IsConsistent old) (running : old.array.halted �
         (λ low.
         let below = is_below s old.array.chunks.size low in
         ap (λ (bytes : List ℕ). cond (nat_lt s old.array.chunks.size) bytes [])
-        (agree s below (both _ _ marked).1 j k x.member y.member x.disk y.disk x.served y.served
+        (agree s below (and_parts _ _ marked).1 j k x.member y.member x.disk y.disk x.served y.served
         (unlisted_is old c honest requests in_flight running j s x.member x.served.in_sync below free_j)
         (unlisted_is old c honest requests in_flight running k s y.member y.served.in_sync below free_k)))
         (λ past. ap (λ b. cond b (sector_of x.member x.disk s) []) past ∙ sym (ap (λ b. cond b (sector_of y.member y.disk s) []) past))

@@ -1,10 +1,11 @@
 -- The count of an array rises as that of its world does, and the array stays consistent; and when it is not degraded its world is full.
 use Rattle.std.proofs.Common.{◌≡◌, ℕ, ◌+◌, ◌-◌, ◌^◌, ◌/◌, ◌<◌, ◌≤◌, ◌↔◌, inl, inr, Bool, true, false, cond, not, ◌&&◌, ◌||◌, ◌==◌, eqb, nat_lt, true≢false, List, length, slice_get, Option, Some, None, option_map, unwrap_or, refl, sym, ap, ◌∙◌, subst, arith, eq-eqb}
 use Rattle.std.specs.List.{list_any, range_with_len}
-use Rattle.std.proofs.lemmas.Bool.{cases_lt}
+use Rattle.std.proofs.lemmas.Bool.{cases_lt, not-true}
 use Rattle.std.proofs.lemmas.List.{length-map, get_or_past}
 use Rattle.std.proofs.lemmas.Option.{slice_get-map}
 use Rattle.std.proofs.lemmas.List.FromFn.{get_or-map-range_with_len, length-map-range_with_len}
+use Rattle.std.proofs.Math.Bool.{and-false}
 use Rattle.md_model.specs.States as model
 use Rattle.md_model.specs.Worlds as worlds
 use Rattle.md_model.specs.Counts as counts
@@ -91,11 +92,7 @@ module _ (a : ArrayView) (full : Bool) where
   present_role k m is =
       let d = m.superblock.dev_number in
       let there : has_number a d ≡ true = any_at (λ (n : MemberView). eqb n.superblock.dev_number d) a.members k m is (eq-eqb d d refl) in
-      risen_role d ∙ ap (λ b. cond b faulty_role (role_in a.shared d)) (ap (λ b. nat_lt (role_in a.shared d) a.shared.raid_disks && not b) there ∙ and_no (nat_lt (role_in a.shared d) a.shared.raid_disks))
-    where
-      and_no : (b : Bool) → (b && false) ≡ false
-      and_no true = refl
-      and_no false = refl
+      risen_role d ∙ ap (λ b. cond b faulty_role (role_in a.shared d)) (ap (λ b. nat_lt (role_in a.shared d) a.shared.raid_disks && not b) there ∙ and-false (nat_lt (role_in a.shared d) a.shared.raid_disks))
 
   roles_risen : HasRoles a → HasRoles (risen a full)
   roles_risen r = record {
@@ -233,10 +230,6 @@ module _ (disks : List Disk) (a : ArrayView) (requests : ℕ → Option worlds.R
   -- as the model has it of a rise
   pub full_as_told : (not (is_degraded a) ≡ true) ↔ counts.IsFull (geometry_of a) w
   full_as_told = (
-    (λ e. full_when_not_degraded.0 (flipped (is_degraded a) e)),
+    (λ e. full_when_not_degraded.0 (not-true (is_degraded a) e)),
     (λ full. ap not (full_when_not_degraded.1 full)),
   )
-    where
-      flipped : (b : Bool) → not b ≡ true → b ≡ false
-      flipped true e = absurd cc
-      flipped false e = refl

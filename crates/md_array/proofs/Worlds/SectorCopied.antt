@@ -1,6 +1,6 @@
 -- A sector is copied from a member in sync to another: no more than that sector of its data changes, and that is the model's event.
 use Rattle.std.proofs.Common.{◌≡◌, ◌≢◌, ℕ, ◌+◌, ◌*◌, ◌<◌, ◌≤◌, ◌↔◌, ◌⊎◌, inl, inr, true, false, cond, Bool, ◌&&◌, nat_lt, true≢false, List, [], slice_get, Option, Some, None, refl, sym, ap, ◌∙◌, subst, arith, eq-eqb}
-use Rattle.std.proofs.lemmas.Bool.{cases_lt}
+use Rattle.std.proofs.lemmas.Bool.{cases_lt, and_from, and_parts}
 use Rattle.std.proofs.lemmas.Option.{slice_get_within}
 use Rattle.md_badblocks.specs.Runs.{IsBad}
 use Rattle.md_bitmap.specs.Marks.{is_set}
@@ -9,13 +9,14 @@ use Rattle.md_device.proofs.Splices.{part-spliced}
 use Rattle.md_assembly.specs.States.{is_in_sync, is_in_sync_as, takes_role}
 use Rattle.md_assembly.specs.declared.state.MemberState.{MemberState}
 use Rattle.md_assembly.specs.declared.state.MemberState.TheVariants.{Faulty, InSync, Recovering, Spare, Stale}
+use Rattle.md_assembly.proofs.Indices.{got_within}
 use Rattle.md_model.specs.Sectors.{put}
 use Rattle.md_model.specs.Devices.{Stored}
 use Rattle.md_model.specs.Events.{Event, Step}
 use Rattle.md_model.specs.Resyncing as model
 use Rattle.md_model.specs.Worlds.{Request, World}
 use Rattle.md_model.proofs.Between.{between_step, in_flight_step}
-use Rattle.md_model.proofs.Cases.{below-nat_lt, both, by_test, not_below}
+use Rattle.md_model.proofs.Cases.{below-nat_lt, by_test, not_below}
 use Rattle.md_model.proofs.Puts.{by_same, put-hit, put-miss, put-self}
 use Rattle.md_kept_members.specs.View.{MemberView}
 use Rattle.md_state.specs.View.{ArrayView, Disk, MirrorView}
@@ -33,8 +34,7 @@ use Rattle.md_array.proofs.Steps.OneMember.{ChangesMember, changed_in_flight, ch
 use Rattle.md_array.proofs.Worlds.PartsApart.{HasParts, block_beside_data, data_alone, data_elsewhere, log_beside_data, parts_of}
 use Rattle.md_array.proofs.Worlds.ReadAsKept.{changed_read, read_beside_data}
 use Rattle.md_array.proofs.Worlds.InSync.{in_sync_is, in_sync_there, number_at}
-use Rattle.md_array.proofs.General.Indices.{got_within, set_itself}
-use Rattle.md_array.proofs.General.Tests.{and_is}
+use Rattle.md_array.proofs.General.Indices.{set_itself}
 
 -- ---- states
 pub in_sync_as : (role : ℕ) (state : MemberState) → is_in_sync_as role state ≡ true → (is_in_sync state ≡ true) × (takes_role role state ≡ true)
@@ -74,11 +74,11 @@ module _ (v : MirrorView) (c : IsConsistent v) (honest : AreHonest v.disks) (req
   pub may_copy_chunk : (chunk : ℕ) → MayCopyChunk chunk a → model.MayCopyChunk world chunk
   may_copy_chunk chunk may = record {
     idle = none_there a requests in_flight may.idle.none;
-    marked = and_is (nat_lt chunk a.marks.chunks) (is_set a.marks.bytes chunk) (marked_there chunk may.marked) may.marked;
+    marked = and_from (nat_lt chunk a.marks.chunks) (is_set a.marks.bytes chunk) (marked_there chunk may.marked) may.marked;
     stored = λ i on.
         let x = in_sync_is v.disks a requests i on in
         member_there a i x.0 false (λ y. nat_lt chunk a.marks.chunks && is_set y.stored.bytes chunk) x.1.member
-        ∙ and_is (nat_lt chunk a.marks.chunks) (is_set x.0.stored.bytes chunk) (marked_there chunk may.marked) (may.stored i x.0 x.1);
+        ∙ and_from (nat_lt chunk a.marks.chunks) (is_set x.0.stored.bytes chunk) (marked_there chunk may.marked) (may.stored i x.0 x.1);
   }
 
   -- the log of a member in sync lists a sector of the array where its bad set has it
@@ -95,8 +95,8 @@ module _ (v : MirrorView) (c : IsConsistent v) (honest : AreHonest v.disks) (req
         let known = has.known (m.superblock.data_offset + s) in
         let same : test ≡ (nat_lt s a.chunks.size && is_listed m.superblock d.0.content (m.superblock.data_offset + s)) =
         ap (λ (x : Stored). x.listed s) (stored_there v.disks a k m d.0 is.member d.1) in (
-          (λ e. known.0 (both _ _ (sym same ∙ e)).1),
-          (λ lists. same ∙ and_is _ _ (below-nat_lt s a.chunks.size low) (known.1 lists)),
+          (λ e. known.0 (and_parts _ _ (sym same ∙ e)).1),
+          (λ lists. same ∙ and_from _ _ (below-nat_lt s a.chunks.size low) (known.1 lists)),
         )
 
     pub unlisted_there : (Lists m s → ⊥) → test ≡ false

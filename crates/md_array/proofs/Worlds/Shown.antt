@@ -4,6 +4,7 @@ use Rattle.std.proofs.lemmas.Option.{none-some, same_Some, slice_get_cases, slic
 use Rattle.md_members.specs.declared.info.MemberInfo.{MemberInfo}
 use Rattle.md_members.specs.Members as members
 use Rattle.md_assembly.specs.States.{is_in_sync}
+use Rattle.md_assembly.proofs.Indices.{got_within}
 use Rattle.md_model.specs.States as model
 use Rattle.md_model.specs.Devices.{Stored, Super}
 use Rattle.md_model.specs.Worlds as worlds
@@ -14,7 +15,6 @@ use Rattle.md_state.specs.Members.{IsMember}
 use Rattle.md_array.specs.Opening.{IsArrayOf, IsOpenedFrom}
 use Rattle.md_array.specs.Worlds.{AreHonest, at_member, none_in_flight, nothing_stored, stored_of, stored_on, super_of, kind_of, world_of}
 use Rattle.md_array.proofs.Worlds.Device.{IsOpenedMember, super_new}
-use Rattle.md_array.proofs.General.Indices.{got_within}
 use Rattle.md_array.proofs.Worlds.ReadMember.{IsReadMember}
 use Rattle.md_array.proofs.Openings.Sound.{disks_shared, kept_at, not_fresher, size_shared, uuid_shared}
 use Rattle.md_array.proofs.Worlds.States.{same_in_sync}

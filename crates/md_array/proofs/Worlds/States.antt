@@ -4,7 +4,7 @@ use Rattle.std.proofs.lemmas.Bool.Decides.{nat_tests}
 use Rattle.md_super.specs.declared.superblock.Superblock.{Superblock}
 use Rattle.md_assembly.specs.declared.state.MemberState.{MemberState}
 use Rattle.md_assembly.specs.declared.state.MemberState.TheVariants.{InSync, Recovering, Stale, Spare, Faulty}
-use Rattle.md_assembly.specs.States.{has_recovery_offset, is_in_sync, is_recorded, is_up_to_date, role_in, state_of, takes_role}
+use Rattle.md_assembly.specs.States.{has_recovery_offset, is_in_sync, is_recorded, is_up_to_date, role_in, state_of, takes_role, is_active}
 use Rattle.md_model.specs.States as model
 use Rattle.md_model.specs.Assembly as model_assembly
 use Rattle.md_state.specs.View.{ArrayView}
@@ -23,6 +23,13 @@ same_recorded (Recovering role) = refl
 same_recorded (Stale role) = refl
 same_recorded Spare = refl
 same_recorded Faulty = refl
+
+pub same_active : (s : MemberState) → model.is_active (kind_of s) ≡ is_active s
+same_active (InSync role) = refl
+same_active (Recovering role) = refl
+same_active (Stale role) = refl
+same_active Spare = refl
+same_active Faulty = refl
 
 -- a member in sync is kept up to date
 pub in_sync_recorded : (s : MemberState) → is_in_sync s ≡ true → is_recorded s ≡ true

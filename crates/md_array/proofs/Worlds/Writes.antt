@@ -1,10 +1,9 @@
 -- What stands in a bitmap's area once its sectors are written.
-use Rattle.std.proofs.Common.{◌≡◌, ℕ, ◌+◌, ◌*◌, ◌/◌, ◌%◌, ◌<◌, ◌≤◌, List, ◌++◌, length, drop, slice_index, sym, ap, ◌∙◌, subst, eqb, arith, get_or-take, get_or-drop}
+use Rattle.std.proofs.Common.{◌≡◌, ℕ, ◌+◌, ◌*◌, ◌/◌, ◌%◌, ◌<◌, ◌≤◌, List, ◌++◌, length, drop, slice_index, sym, ap, ◌∙◌, subst, eqb, arith, get_or-drop}
 use Rattle.std.specs.Int.{div_ceil, bit_at}
 use Rattle.std.proofs.lemmas.Grind.{div_ceil_times}
 use Rattle.std.proofs.lemmas.List.{ext_get_or, get_or-append-add, get_or_append_left}
-use Rattle.md_device.specs.Splice.{part}
-use Rattle.md_device.proofs.Splices.{length-part}
+use Rattle.md_device.proofs.Splices.{length-part, slice_index-part}
 use Rattle.md_bitmap.specs.declared.header.BitmapHeader.{BitmapHeader}
 use Rattle.md_bitmap.specs.Header.{IsHeader, header_bytes}
 use Rattle.md_bitmap.specs.Marks.{Bitmap, is_set}
@@ -19,10 +18,6 @@ use Rattle.md_writes.specs.Writes.{after}
 pub record HoldsBitmap (content : List ℕ) (start : ℕ) (h : BitmapHeader) (m : Bitmap) : Type 0 where
   pub header : IsHeader (header_on content start) h
   pub bits : (c : ℕ) → c < m.chunks → is_set (drop (512 * start + 256) content) c ≡ is_set m.bytes c
-
-pub slice_index-part : (xs : List ℕ) (at n i : ℕ) → i < n → slice_index (part xs at n) i ≡ slice_index xs (at + i)
-unfolding part
-slice_index-part xs at n i h = get_or-take n (drop at xs) i 0 h ∙ get_or-drop at xs i 0
 
 -- each byte of the area
 byte_written : (start : ℕ) (h : BitmapHeader) (m : Bitmap) (n : ℕ) (old new : List ℕ) → AreStored start h m 0 n old new → (p : ℕ) → p < 512 * n → slice_index new (512 * start + p) ≡ slice_index (header_bytes h ++ m.bytes) p
@@ -50,14 +45,12 @@ pub is_set-same : (xs ys : List ℕ) (c : ℕ) → slice_index xs (c / 8) ≡ sl
 unfolding is_set
 is_set-same xs ys c e = ap (λ (b : ℕ). eqb (bit_at b (c % 8)) 1) e
 
-pub holds_written : (start : ℕ) (h : BitmapHeader) (m : Bitmap) (old new : List ℕ) → length (header_bytes h) ≡ 256 → IsHeader (header_bytes h) h
-    → 512 * (start + bitmap_sectors m.chunks) ≤ length old → new ≡ after old (bitmap_writes start h m (bitmap_sectors m.chunks)) → HoldsBitmap new start h m
-holds_written start h m old new long spelled fits done =
-    let n = bitmap_sectors m.chunks in
-    let w : AreStored start h m 0 n old new = subst (AreStored start h m 0 n old) (sym done) (stored_all start h m n old (omega arith) fits) in
-    let byte = byte_written start h m n old new w in
+-- of a device with room for it
+pub holds_stored : (start : ℕ) (h : BitmapHeader) (m : Bitmap) (old new : List ℕ) → length (header_bytes h) ≡ 256 → IsHeader (header_bytes h) h
+    → 512 * (start + bitmap_sectors m.chunks) ≤ length new → AreStored start h m 0 (bitmap_sectors m.chunks) old new → HoldsBitmap new start h m
+holds_stored start h m old new long spelled fits w =
+    let byte = byte_written start h m (bitmap_sectors m.chunks) old new w in
     let some = div_ceil_times (256 + div_ceil m.chunks 8) 512 (omega arith) in
-    let size = w.outside.size in
     let front : header_on new start ≡ header_bytes h = ext_get_or 0 (header_on new start) (header_bytes h)
     (length-part new (512 * start) 256 (omega (arith, some.0)) ∙ sym long)
     (λ i l. let low : i < 256 = omega (arith, length-part new (512 * start) 256 (omega (arith, some.0))) in
@@ -73,3 +66,11 @@ holds_written start h m old new long spelled fits done =
           ∙ ap (slice_index (header_bytes h ++ m.bytes)) behind
           ∙ get_or-append-add (header_bytes h) m.bytes (c / 8) 0);
     }
+
+pub holds_written : (start : ℕ) (h : BitmapHeader) (m : Bitmap) (old new : List ℕ) → length (header_bytes h) ≡ 256 → IsHeader (header_bytes h) h
+    → 512 * (start + bitmap_sectors m.chunks) ≤ length old → new ≡ after old (bitmap_writes start h m (bitmap_sectors m.chunks)) → HoldsBitmap new start h m
+holds_written start h m old new long spelled fits done =
+    let n = bitmap_sectors m.chunks in
+    let w : AreStored start h m 0 n old new = subst (AreStored start h m 0 n old) (sym done) (stored_all start h m n old (omega arith) fits) in
+    let size = w.outside.size in
+    holds_stored start h m old new long spelled (omega arith) w

@@ -2,14 +2,6 @@
 use Rattle.std.proofs.Common.{◌≡◌, ◌⊎◌, ℕ, ◌+◌, ◌<◌, zero, suc, List, [], ◌∷◌, ◌++◌, length, Some, refl, arith, inl, inr}
 use Rattle.std.specs.List.{slice_get}
 
-pub listed_at : {A : Type 0} (xs : List A) (k : ℕ) → k < length xs → (x : A) × (slice_get xs k ≡ Some x)
-listed_at [] k lt = absurd (omega arith)
-listed_at (x ∷ rest) zero lt = (x, refl)
-listed_at (x ∷ rest) (suc k) lt = listed_at rest k (omega arith)
-
-pub same_listed : {A : Type 0} (xs : List A) (k : ℕ) (a b : A) → slice_get xs k ≡ Some a → slice_get xs k ≡ Some b → a ≡ b
-same_listed xs k a b p q = cc
-
 -- an element of a list with one more at its end is one of the list, or that one
 pub listed_push : {A : Type 0} (xs : List A) (x y : A) (k : ℕ) → slice_get (xs ++ x ∷ []) k ≡ Some y → (slice_get xs k ≡ Some y) ⊎ ((k ≡ length xs) × (x ≡ y))
 listed_push [] x y zero e = let same : x ≡ y = cc in inr (refl, same)

@@ -14,14 +14,14 @@ use Rattle.md_assembly.specs.States.{is_in_sync_as}
 use Rattle.md_kept_members.specs.Permitting.{IsPermittedIn, ListsAny, MayRead}
 use Rattle.md_kept_members.proofs.Members.Indices.{cases_more}
 
-bad_below : (low sector : ℕ) (runs : List Run) → RisesFrom low runs → IsBad runs sector → sector < 2 ^ 54
+pub bad_below : (low sector : ℕ) (runs : List Run) → RisesFrom low runs → IsBad runs sector → sector < 2 ^ 54
 bad_below low sector [] rises bad = absurd bad
 bad_below low sector (run ∷ rest) rises bad = elim bad [
   | inl here ↦ let before = here.1 in let top = rises.2 in omega arith
   | inr later ↦ bad_below (run.start + run.len + 1) sector rest rises.3 later
 ]
 
-none_bad : (runs : List Run) (sector : ℕ) → length runs ≡ 0 → IsBad runs sector → ⊥
+pub none_bad : (runs : List Run) (sector : ℕ) → length runs ≡ 0 → IsBad runs sector → ⊥
 none_bad [] sector none bad = bad
 none_bad (run ∷ rest) sector none bad = absurd (omega arith)
 

@@ -1,6 +1,6 @@
 -- An interrupted open leaves the devices of a mirror as they were left.
 use Rattle.std.proofs.Common.{◌≡◌, ◌≢◌, ◌⊎◌, ℕ, ◌+◌, ◌*◌, ◌/◌, ◌<◌, ◌≤◌, inl, inr, Bool, true, false, true≢false, cond, nat_lt, List, [], ◌∷◌, ◌++◌, length, drop, slice_get, Some, refl, sym, ap, ◌∙◌, subst, arith, lt-ltb}
-use Rattle.std.proofs.lemmas.Bool.{cases_lt}
+use Rattle.std.proofs.lemmas.Bool.{cases_lt, and_from}
 use Rattle.std.proofs.lemmas.List.{append_assoc, append-nil}
 use Rattle.std.proofs.lemmas.Option.{same_Some, slice_get_within}
 use Rattle.md_device.specs.Splice.{SameOutside}
@@ -33,17 +33,17 @@ use Rattle.md_laws.specs.Lives.{AreFoundAgain, IsAsLeft, IsFoundAgain, IsReadAsK
 use Rattle.md_laws.specs.Runs.{Moment}
 use Rattle.md_laws.specs.StopsWithin.{MayBeLeft}
 use Rattle.md_array.proofs.Worlds.PartsApart.{bitmap_alone}
-use Rattle.md_array.proofs.General.Indices.{got_in_map, got_within}
+use Rattle.md_array.proofs.General.Indices.{got_in_map}
 use Rattle.md_array.proofs.Worlds.Device.{IsOpenedMember, bits_new, chunk_size_new, fits_on}
 use Rattle.md_array.proofs.Worlds.Member.{by_need}
 use Rattle.md_array.proofs.Worlds.Outside.{starts_at}
 use Rattle.md_array.proofs.Worlds.ReadMember as read
 use Rattle.md_array.proofs.Worlds.ReadMember.{IsReadMember}
-use Rattle.md_array.proofs.General.Tests.{and_is}
 use Rattle.md_laws.proofs.Openings.BitmapArea.{AllIn, IsNextAny, all_in, area_kept, next_any}
 use Rattle.md_laws.proofs.Stops.AtSteps.{new_has}
 use Rattle.md_laws.proofs.Runs.Moments.{IsSoundAt, life_keeps, sound_when_opened}
 use Rattle.md_laws.proofs.Openings.Reopened.{again, bitmap_offset, same_count, same_stored}
+use Rattle.md_assembly.proofs.Indices.{got_within}
 
 above : (j k : ℕ) → j ≤ k → j ≢ k → j < k
 above j k low apart = elim (cases_lt j k) [
@@ -193,7 +193,7 @@ module _ (t : Moment) (at_t : IsSoundAt t) (before : List Disk) (is : ArrayView)
       stored_bit : (c : ℕ) → c < was.marks.chunks → (stored_of was m new.content).bits c ≡ true
       stored_bit c low =
           let low_is : c < is.marks.chunks = subst (λ (x : ℕ). c < x) (sym count) low in
-          and_is (nat_lt c was.marks.chunks) _ (lt-ltb c was.marks.chunks low)
+          and_from (nat_lt c was.marks.chunks) _ (lt-ltb c was.marks.chunks low)
           ((λ i. is_set (drop (512 * from_super (sym at i) + 256) new.content) c)
           ∙ bits_new is n info f.disk_now new (opened_member stores) need.in_sync c low_is
           ∙ seen.kept.all_marks need c

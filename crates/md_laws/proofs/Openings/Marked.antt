@@ -1,5 +1,6 @@
 -- The marks of the world are those that its members in sync store.
 use Rattle.std.proofs.Common.{◌≡◌, ℕ, ◌⊎◌, ◌↔◌, inl, inr, true, false, true≢false, ◌&&◌, nat_lt, List, sym, ap, ◌∙◌, arith, ltb-true, lt-ltb}
+use Rattle.std.proofs.lemmas.Bool.{and_from, and_parts}
 use Rattle.md_bitmap.specs.Marks.{is_set}
 use Rattle.md_assembly.specs.States.{is_in_sync}
 use Rattle.md_model.specs.Devices.{Stored, Super, is_accepted}
@@ -12,8 +13,7 @@ use Rattle.md_array.specs.Opening.{IsOpenedFrom}
 use Rattle.md_array.specs.Worlds.{AreHonest, super_of, world_of, none_in_flight}
 use Rattle.md_array.proofs.Worlds.Device.{bits_new, is_accepted_new}
 use Rattle.md_array.proofs.Worlds.Shown.{IsShown, at_is, in_sync_is, in_sync_there, shown, stored_at}
-use Rattle.md_model.proofs.Cases.{both}
-use Rattle.md_array.proofs.General.Tests.{and_is, and_same, true_unless_false}
+use Rattle.md_array.proofs.General.Tests.{and_same, true_unless_false}
 
 module _ (before : List Disk) (m : MirrorView) (honest : AreHonest before) (o : IsOpenedFrom before m) where
   abbrev a : ArrayView
@@ -55,17 +55,17 @@ module _ (before : List Disk) (m : MirrorView) (honest : AreHonest before) (o : 
 
   union : (c : ℕ) → (w.marks c ≡ true) ↔ ((k : ℕ) × (worlds.IsInSync w k) × ((w.stored k).bits c ≡ true))
   union c = (
-    (λ e. let p = both (nat_lt c a.marks.chunks) (is_set a.marks.bytes c) e in
+    (λ e. let p = and_parts (nat_lt c a.marks.chunks) (is_set a.marks.bytes c) e in
         let x = (o.array.remembered.marks c).0 p.1 in (
           x.0,
           in_sync_there before m honest o x.0 x.1 x.2.member x.2.in_sync,
-          bits_of x.0 x.1 x.2.member x.2.in_sync c ∙ and_is (nat_lt c a.marks.chunks) (is_set x.1.stored.bytes c) p.0 x.3.1,
+          bits_of x.0 x.1 x.2.member x.2.in_sync c ∙ and_from (nat_lt c a.marks.chunks) (is_set x.1.stored.bytes c) p.0 x.3.1,
         )),
     (λ x. let y = in_sync_is before m honest o x.0 x.1 in
-        let p = both (nat_lt c a.marks.chunks) (is_set y.0.stored.bytes c) (sym (bits_of x.0 y.0 y.1 y.2 c) ∙ x.2) in
+        let p = and_parts (nat_lt c a.marks.chunks) (is_set y.0.stored.bytes c) (sym (bits_of x.0 y.0 y.1 y.2 c) ∙ x.2) in
         let count = o.array.remembered.mark_count x.0 y.0 y.1 in
         let low = ltb-true c a.marks.chunks p.0 in
-        and_is (nat_lt c a.marks.chunks) (is_set a.marks.bytes c) p.0
+        and_from (nat_lt c a.marks.chunks) (is_set a.marks.bytes c) p.0
         ((o.array.remembered.marks c).1 (x.0, y.0, record { member = y.1; in_sync = y.2 }, (omega arith, p.1)))),
   )
 
@@ -80,10 +80,10 @@ module _ (before : List Disk) (m : MirrorView) (honest : AreHonest before) (o : 
       alone j k (in_sync_there before m honest o j p x.member x.in_sync) (in_sync_there before m honest o k q y.member y.in_sync)
 
   none_marked : ((c : ℕ) → is_set a.marks.bytes c ≡ false) → (c : ℕ) → w.marks c ≡ false
-  none_marked none c = true_unless_false _ (λ e. true≢false (sym (both (nat_lt c a.marks.chunks) (is_set a.marks.bytes c) e).1 ∙ none c))
+  none_marked none c = true_unless_false _ (λ e. true≢false (sym (and_parts (nat_lt c a.marks.chunks) (is_set a.marks.bytes c) e).1 ∙ none c))
 
   none_set : ((c : ℕ) → w.marks c ≡ false) → (c : ℕ) → is_set a.marks.bytes c ≡ false
-  none_set none c = true_unless_false _ (λ e. true≢false (sym (and_is (nat_lt c a.marks.chunks) (is_set a.marks.bytes c) (marked_low c e) e) ∙ none c))
+  none_set none c = true_unless_false _ (λ e. true≢false (sym (and_from (nat_lt c a.marks.chunks) (is_set a.marks.bytes c) (marked_low c e) e) ∙ none c))
 
   resynced : (w.resynced ≡ true) ↔ (((c : ℕ) → w.marks c ≡ false) ⊎ ((j k : ℕ) → worlds.IsInSync w j → worlds.IsInSync w k → j ≡ k))
   resynced = (

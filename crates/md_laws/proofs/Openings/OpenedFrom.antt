@@ -1,12 +1,14 @@
 -- What the opening changed: all marks are stored where the bitmap was not accepted, and all else is as it was.
 use Rattle.std.proofs.Common.{◌≡◌, ℕ, ◌+◌, ◌<◌, ◌≤◌, ◌↔◌, inl, inr, true, cond, ◌&&◌, nat_lt, List, [], length, slice_get, Some, sym, ap, ◌∙◌, subst, arith, lt-ltb}
 use Rattle.std.proofs.lemmas.Option.{none-some, slice_get_past, slice_get_within}
+use Rattle.std.proofs.lemmas.Bool.{and_from}
 use Rattle.md_badblocks.specs.Runs.{IsBad}
-use Rattle.md_model.specs.Devices.{AgreeAt, Covered, Stored, Super, is_marked}
+use Rattle.md_model.specs.Devices.{Covered, Stored, Super, is_marked}
 use Rattle.md_model.specs.Openings as openings
 use Rattle.md_model.specs.Sectors.{chunk_of}
 use Rattle.md_model.specs.Worlds as worlds
 use Rattle.md_model.proofs.OpeningCovers.{accepted-bits}
+use Rattle.md_model.proofs.Tracked.{agree_as}
 use Rattle.md_kept_members.specs.View.{MemberView}
 use Rattle.md_state.specs.View.{Disk, ArrayView, MirrorView}
 use Rattle.md_state.specs.Members.{IsMember}
@@ -15,14 +17,9 @@ use Rattle.md_array.specs.ReadAsKept.{AreReadAsKept, IsReadAsKept}
 use Rattle.md_array.specs.Worlds.{AreHonest, geometry_of, is_listed, nothing_stored, stored_of, stored_on, super_of, world_of, world_on, none_in_flight}
 use Rattle.md_array.proofs.Worlds.Device.{all_or_same, bad_is_listed, bits_new, is_accepted_new, read_new, same_data, same_listed}
 use Rattle.md_array.proofs.Worlds.ReadMember.{chunk_of_sector, super_old}
-use Rattle.md_array.proofs.General.Indices.{got_same}
 use Rattle.md_array.proofs.Worlds.Shown.{IsShown, by_member, in_sync_is, own_is, shown, stored_at, stored_is, super_at}
-use Rattle.md_array.proofs.General.Tests.{and_is}
 use Rattle.md_laws.proofs.Openings.Opened.{opened}
-
--- devices with the same sector agree as these do
-agree_as : (d e x y : Stored) (s : ℕ) → x.content s ≡ d.content s → y.content s ≡ e.content s → x.listed s ≡ d.listed s → y.listed s ≡ e.listed s → AgreeAt d e s → AgreeAt x y s
-agree_as d e x y s c c' l l' h off off' = c ∙ h (sym l ∙ off) (sym l' ∙ off') ∙ sym c'
+use Rattle.md_assembly.proofs.Indices.{got_same}
 
 module _ (before : List Disk) (m : MirrorView) (honest : AreHonest before) (o : IsOpenedFrom before m) where
   abbrev a : ArrayView
@@ -90,7 +87,7 @@ module _ (before : List Disk) (m : MirrorView) (honest : AreHonest before) (o : 
       ap (λ (d : Stored). d.bits c) (stored_after k x.0 x.1)
       ∙ elim (all_or_same a x.0 t.info t.old t.new t.opened) [
         | inl marked ↦
-            and_is (nat_lt c a.marks.chunks) _ (lt-ltb c a.marks.chunks below) (bits_new a x.0 t.info t.old t.new t.opened x.2 c below ∙ marked.all c below)
+            and_from (nat_lt c a.marks.chunks) _ (lt-ltb c a.marks.chunks below) (bits_new a x.0 t.info t.old t.new t.opened x.2 c below ∙ marked.all c below)
             ∙ sym (ap (λ b. cond b ((stored_of a x.0 t.old.content).bits c) true) marked.refused)
         | inr same ↦
             sym (accepted-bits (stored_of a x.0 t.new.content) c (is_accepted_new a x.0 t.info t.old t.new t.opened x.2))

@@ -15,9 +15,10 @@ use Rattle.md_array.specs.Opening.{IsOpenedFrom}
 use Rattle.md_array.specs.Worlds.{AreHonest, super_of, world_of, none_in_flight}
 use Rattle.md_array.proofs.Openings.OwnFields.{super_same}
 use Rattle.md_array.proofs.Worlds.ReadMember.{not_fresher_own}
-use Rattle.md_array.proofs.General.Indices.{any_at, at_any, got_within, got_same}
+use Rattle.md_array.proofs.General.Indices.{any_at, at_any}
 use Rattle.md_array.proofs.Worlds.Shown.{IsShown, number_at_member, own_is, shown, stored_past, super_at}
 use Rattle.md_array.proofs.Openings.Sound.{freshest_at, numbers_distinct}
+use Rattle.md_assembly.proofs.Indices.{got_within, got_same}
 
 module _ (before : List Disk) (m : MirrorView) (honest : AreHonest before) (o : IsOpenedFrom before m) where
   abbrev a : ArrayView

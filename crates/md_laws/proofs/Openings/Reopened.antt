@@ -26,12 +26,12 @@ use Rattle.md_array.proofs.Steps.OneMember.{stored_there}
 use Rattle.md_array.proofs.Worlds.PartsApart.{HasParts, bitmap_alone, block_beside_bitmap, log_beside_bitmap}
 use Rattle.md_array.proofs.Worlds.ReadAsKept.{stays}
 use Rattle.md_array.proofs.Worlds.ReadMember.{IsReadMember, count_is, sound_size, width_old}
-use Rattle.md_array.proofs.General.Indices.{got_same, got_within}
 use Rattle.md_array.proofs.Worlds.Shown.{read_at}
 use Rattle.md_array.proofs.Worlds.Supers.{block_spells}
 use Rattle.md_laws.proofs.Stops.LeftAtStops.{parts_on, sorted}
 use Rattle.md_laws.proofs.Stops.LeftContents.{read_in}
 use Rattle.md_laws.proofs.Runs.Moments.{IsSoundAt}
+use Rattle.md_assembly.proofs.Indices.{got_within, got_same}
 
 -- the superblock of a device that was read
 super_on : (content : List ℕ) (v : Superblock) → ReadsSuper content true v → IsSuperOn content v

@@ -5,9 +5,10 @@ use Rattle.md_state.specs.View.{MirrorView}
 use Rattle.md_array.specs.InTurn.{AllLeftWhole, InTurn, Requests}
 use Rattle.md_array.specs.Worlds.{AreHonest}
 use Rattle.md_laws.specs.Runs.{MirrorRun, Moment, then_as}
-use Rattle.md_laws.specs.WholeCalls.{CallsAreRuns, FailIsACall, ReAddIsACall, RemoveIsACall, RunsGoOn}
+use Rattle.md_laws.specs.WholeCalls.{AddIsACall, CallsAreRuns, FailIsACall, ReAddIsACall, RemoveIsACall, RunsGoOn}
 use Rattle.md_array.proofs.Steps.MemberFailed.{fail_happens}
 use Rattle.md_array.proofs.Steps.MemberRemoved.{remove_happens}
+use Rattle.md_array.proofs.Steps.SpareEvent.{add_happens}
 use Rattle.md_array.proofs.Steps.TakenBackEvent.{re_add_happens}
 use Rattle.md_laws.proofs.Runs.MirrorRuns.{rests_run}
 use Rattle.md_laws.proofs.Runs.Rests.{at_once, at_rest}
@@ -40,3 +41,7 @@ remove_is_a_call k disk old new sound leaves previous requests listed =
 pub re_add_is_a_call : ReAddIsACall
 re_add_is_a_call k device old new sound own r previous requests listed =
     (new, requests, tt, (refl, record { index = k; device = device; re_adds = r; event = refl }), λ honest whole. re_add_happens k device old new sound r own honest requests listed, (refl, refl))
+
+pub add_is_a_call : AddIsACall
+add_is_a_call k device old new sound own r previous requests listed =
+    (new, requests, tt, (refl, record { index = k; device = device; adds = r; event = refl }), λ honest whole. add_happens k device old new sound r own honest requests listed, (refl, refl))

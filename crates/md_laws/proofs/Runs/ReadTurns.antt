@@ -35,7 +35,7 @@ unread [] previous old before P t = (old, rests_same old, t)
 unread (e ∷ es) previous old before P t = (old, t.0, t.1, rests_same old, t.2, t.3, t.4, unread es (Some e) t.0 t.1 P t.5)
 
 -- nothing is asked of the device
-left_whole : (e : Event) (old new : MirrorView) → IsNoFailedRecord e → LeftWhole old e new
+pub left_whole : (e : Event) (old new : MirrorView) → IsNoFailedRecord e → LeftWhole old e new
 left_whole (Event.Begin n p) old new is = tt
 left_whole (Event.Record k) old new is = tt
 left_whole (Event.StoreMarks k b) old new is = tt

@@ -15,8 +15,8 @@ use Rattle.md_array.specs.ReadAsKept.{AreReadAsKept}
 use Rattle.md_array.specs.Worlds.{geometry_of, world_of}
 use Rattle.md_laws.specs.Runs.{HasRested, Moment, RestsThenDoes, history_of}
 use Rattle.md_array.proofs.Openings.DevicesInTurn.{none_touched}
-use Rattle.md_array.proofs.General.Indices.{got_within}
 use Rattle.md_array.proofs.General.Resting.{geometry_rests, rests_read, rests_sound, world_rests}
+use Rattle.md_assembly.proofs.Indices.{got_within}
 
 pub rests_same : (m : MirrorView) → Rests m m
 rests_same m = record { array = refl; disks = none_touched m.disks }

@@ -17,9 +17,9 @@ use Rattle.md_laws.specs.Lives.{IsFoundAgain, IsReopened}
 use Rattle.md_laws.specs.Runs.{IsStart, Moment, opened_as}
 use Rattle.md_laws.specs.SmallLife.{HasSmallLife, RunsTwice}
 use Rattle.md_array.proofs.Worlds.InSync.{in_sync_is}
-use Rattle.md_array.proofs.General.Indices.{got_within}
 use Rattle.md_laws.proofs.Runs.Moments.{run_keeps, sound_when_opened}
 use Rattle.md_laws.proofs.Runs.Rests.{at_once, at_rest, rests_same}
+use Rattle.md_assembly.proofs.Indices.{got_within}
 
 pub runs_twice : (m began new : MirrorView) (p : PendingView) → BeginHappens m began p → Happens began (Event.Record 0) new → AreHonest m.disks → RunsTwice m new
 runs_twice m began new p begins records honest =

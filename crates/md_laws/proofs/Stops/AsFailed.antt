@@ -1,12 +1,15 @@
 -- What a stop leaves within the write of an event: devices that the event might leave at its end, or that a torn write leaves.
-use Rattle.std.proofs.Common.{◌≡◌, ◌≢◌, ◌∙◌, ◌⊎◌, ⊎_elim, inl, inr, ℕ, zero, suc, ◌*◌, ◌<◌, List, [], ◌∷◌, length, map, slice_get, Some, sym, ap, refl, subst, arith}
+use Rattle.std.proofs.Common.{◌≡◌, ◌≢◌, ◌∙◌, ◌⊎◌, ⊎_elim, inl, inr, ℕ, zero, suc, ◌*◌, ◌<◌, List, [], ◌∷◌, ◌++◌, length, map, slice_get, Some, sym, ap, refl, subst, arith}
+use Rattle.std.specs.List.{insert}
 use Rattle.std.proofs.lemmas.Bool.{cases_lt}
 use Rattle.std.proofs.lemmas.List.{length-map}
 use Rattle.std.proofs.lemmas.Option.{none-some, same_Some, slice_get_past, slice_get_within}
 use Rattle.md_device.specs.Splice.{SameOutside, spliced}
 use Rattle.md_device.specs.Device.{held, written}
 use Rattle.md_device.specs.Stops.{IsMixed}
+use Rattle.md_device.proofs.Leaving.{three_same, in_three}
 use Rattle.md_writes.specs.Writes.{IsAnyIn, IsCutShort, Write}
+use Rattle.md_writes.proofs.Frames.{outside_none}
 use Rattle.md_writes.proofs.Runs.{cut_one}
 use Rattle.md_model.specs.Events.{Event}
 use Rattle.md_model.proofs.Puts.{by_same}
@@ -15,10 +18,11 @@ use Rattle.md_state.specs.DiskWrites.{IsFailed, IsTried, IsWritten}
 use Rattle.md_state.specs.View.{Disk}
 use Rattle.md_array.specs.Worlds.{AreHonest}
 use Rattle.md_laws.specs.StopsWithin.{IsLeftBut, MayAllBeLeft, StopsAsFailed, StopsAsTried, StopsAtEvents, StopsUndivided}
-use Rattle.md_array.proofs.General.Appended.{got_earlier}
-use Rattle.md_array.proofs.General.Indices.{got_in_map, got_within}
-use Rattle.md_array.proofs.Steps.WrittenParts.{whole, with_part}
-use Rattle.md_laws.proofs.Stops.AtSteps.{same_lists, stops_at_failure, stops_at_sector, stops_at_write, stops_in_memory}
+use Rattle.md_array.proofs.General.Indices.{got_in_map}
+use Rattle.md_array.proofs.Steps.WrittenLast.{honest_last}
+use Rattle.md_laws.proofs.Stops.AtSteps.{put_back, same_lists, stops_at_failure, stops_at_sector, stops_at_write, stops_in_memory}
+use Rattle.md_laws.proofs.Stops.WithinAdd.{cut_none, left_of_new}
+use Rattle.md_assembly.proofs.Indices.{got_same, got_within}
 
 -- devices with these contents in place of theirs
 abbrev with_contents : List Disk → List (List ℕ) → List Disk
@@ -131,6 +135,22 @@ failed_as_tried k w before after left honest failed may =
     let but = stops_at_failure k w before after left honest failed may in
     (with_contents after left, found_tried k w before after left (IsAnyIn w) failed.tried but (λ d c was any. any), contents_found k w before after left (IsAnyIn w) failed.tried but)
 
+-- a write that was not made
+untouched : (k : ℕ) (w : Write) (disks : List Disk) → IsTried k w disks disks
+untouched k w disks = record {
+  as_many = refl;
+  others = λ j apart. refl;
+  stays = λ d e was is. subst (StaysHonest d) (got_same disks k d e was is) (record { honest = refl; counted = omega arith });
+  outside = λ d e was is. subst (λ (x : Disk). SameOutside (512 * w.sector) (length w.bytes) d.content x.content) (got_same disks k d e was is) (outside_none (512 * w.sector) (length w.bytes) d.content);
+}
+
+-- devices that were left with any bytes in its range, as of a torn write
+pub left_as_tried : (k : ℕ) (w : Write) (disks : List Disk) (left : List (List ℕ)) → IsLeftBut k (IsAnyIn w) disks left
+    → (found : List Disk) × IsTried k w disks found × (map (λ d. d.content) found ≡ left)
+left_as_tried k w disks left but =
+    let none = untouched k w disks in
+    (with_contents disks left, found_tried k w disks disks left (IsAnyIn w) none but (λ d c was any. any), contents_found k w disks disks left (IsAnyIn w) none but)
+
 pub stops_as_tried : StopsAsTried
 stops_as_tried k w before after left honest writes may =
     let cut : List ℕ → List ℕ → Type 0 = λ was c. IsCutShort was (w ∷ []) c in
@@ -193,8 +213,8 @@ stops_undivided k w before after left honest writes may undivided =
       others = but.others;
       this = λ d c was is. ⊎_elim (λ done. inr done)
           (λ (mixed : IsMixed w.sector w.bytes d.content c). ⊎_elim
-          (λ (same : held c w.sector (length w.bytes) ≡ held d.content w.sector (length w.bytes)). inl (with_part (512 * w.sector) (length w.bytes) d.content c mixed.outside _ same ∙ sym (whole d.content (512 * w.sector) (length w.bytes))))
-          (λ (new : held c w.sector (length w.bytes) ≡ w.bytes). inr (with_part (512 * w.sector) (length w.bytes) d.content c mixed.outside w.bytes new))
+          (λ (same : held c w.sector (length w.bytes) ≡ held d.content w.sector (length w.bytes)). inl (three_same (512 * w.sector) (length w.bytes) d.content c mixed.outside _ same ∙ sym (in_three d.content (512 * w.sector) (length w.bytes))))
+          (λ (new : held c w.sector (length w.bytes) ≡ w.bytes). inr (three_same (512 * w.sector) (length w.bytes) d.content c mixed.outside w.bytes new))
           (undivided d c was is))
           (cut_one d.content c w (but.this d c was is));
     })
@@ -214,16 +234,14 @@ stops_at_events (Event.CopyFails k c) before after left honest writes may = (wri
 stops_at_events (Event.Copy from k s) before after left honest writes may = tt
 stops_at_events Event.Resynced before after left honest writes may = in_memory before after left writes may
 stops_at_events Event.Unresynced before after left honest writes may = in_memory before after left writes may
-stops_at_events (Event.Remove k) before after left honest writes may = tt
-stops_at_events (Event.Add number new) before after left honest writes may = tt
+stops_at_events (Event.Remove k) before after left honest writes may =
+    stops_in_memory before left (subst (λ (x : List Disk). MayAllBeLeft before x left) (ap (λ (x : List Disk). insert x k writes.was) writes.others ∙ put_back before k writes.was writes.at) may)
+stops_at_events (Event.Add number new) before after left honest writes may =
+    left_of_new before writes.was writes.now left (λ was c. IsCutShort was writes.writes c) (subst (λ (x : List Disk). MayAllBeLeft (before ++ writes.was ∷ []) x left) writes.disks may)
+    (cut_none writes.was.content writes.writes)
+    (writes.done.within writes.honest)
 stops_at_events (Event.ReAdd own device new) before after left honest writes may =
-    stops_in_memory before left (record {
-      as_many = may.as_many;
-      each = λ k d e c at there is.
-          let low = slice_get_within before k d at in
-          let kept : slice_get after k ≡ Some e = writes.written.tried.others k (λ last. absurd (omega arith)) ∙ got_earlier before writes.was e k there in
-          may.each k d e c at kept is;
-    })
+    stops_at_write (length before) writes.write (before ++ writes.was ∷ []) after left (honest_last before writes.was honest writes.honest) writes.written may
 stops_at_events Event.MakeClean before after left honest writes may = in_memory before after left writes may
 stops_at_events (Event.Begin n p) before after left honest writes may = in_memory before after left writes may
 stops_at_events (Event.Finish n) before after left honest writes may = in_memory before after left writes may

@@ -12,7 +12,7 @@ use Rattle.md_state.specs.View.{Disk}
 use Rattle.md_state.specs.DiskWrites.{IsTried, IsWritten}
 use Rattle.md_array.specs.Recording.{super_write}
 use Rattle.md_laws.specs.StopsWithin.{IsLeftBut, MayAllBeLeft, MayBeLeft, StopsAtFailure, StopsAtReAdd, StopsAtRemoval, StopsAtSector, StopsAtWrite, StopsInMemory}
-use Rattle.md_array.proofs.General.Indices.{got_within}
+use Rattle.md_assembly.proofs.Indices.{got_within}
 use Rattle.md_array.proofs.Steps.WrittenLast.{honest_last, written_last}
 
 -- what is listed since, has what is said of all that is new
@@ -23,7 +23,7 @@ new_has past now P leaves i c is =
     subst P (get_or_from_slice_get leaves.more i c c at) (leaves.each i c (slice_get_within leaves.more i c at))
 
 -- of a device that was not used, nothing is
-none_new : (past : List (List ℕ)) (i : ℕ) (c : List ℕ) → slice_get (drop (length past) past) i ≡ Some c → ⊥
+pub none_new : (past : List (List ℕ)) (i : ℕ) (c : List ℕ) → slice_get (drop (length past) past) i ≡ Some c → ⊥
 none_new past i c is =
     let within = slice_get_within (drop (length past) past) i c is in
     omega (arith, within, length-drop (length past) past)
@@ -89,7 +89,7 @@ stops_in_memory disks left may =
     ⊎_elim (λ (same : c ≡ d.0.content). same ∙ sym value) (λ (new : (i : ℕ) × (slice_get (drop (length d.0.stops) d.0.stops) i ≡ Some c)). absurd (none_new d.0.stops new.0 c new.1)) (may.each k d.0 d.0 c d.1 d.1 is))
 
 -- a list's element, taken out and put back
-put_back : {X : Type 0} (xs : List X) (k : ℕ) (x : X) → slice_get xs k ≡ Some x → insert (remove xs k) k x ≡ xs
+pub put_back : {X : Type 0} (xs : List X) (k : ℕ) (x : X) → slice_get xs k ≡ Some x → insert (remove xs k) k x ≡ xs
 put_back [] k x at = absurd (none-some x (sym (slice_get_past [] k (omega arith)) ∙ at))
 put_back (y ∷ xs) zero x at = ap (λ z. z ∷ xs) (sym (same_Some y x at))
 put_back (y ∷ xs) (suc k) x at = ap (λ zs. y ∷ zs) (put_back xs k x at)

@@ -1,13 +1,16 @@
 -- A superblock that ends within its first sector is read by that sector.
-use Rattle.std.proofs.Common.{◌≡◌, ℕ, zero, suc, ◌+◌, ◌-◌, ◌*◌, ◌%◌, ◌<◌, ◌≤◌, ◌⊎◌, ◌==◌, ◌&&◌, cond, not, bit_and, nat_le, nat_lt, slice_index_or, List, [], ◌∷◌, take, drop, map, sum, Some, None, refl, sym, ap, ap₂, ◌∙◌, subst, arith, take-take}
+use Rattle.std.proofs.Common.{◌≡◌, ℕ, zero, suc, ◌+◌, ◌-◌, ◌*◌, ◌%◌, ◌<◌, ◌≤◌, ◌⊎◌, inl, inr, ◌==◌, ◌&&◌, cond, not, bit_and, nat_le, nat_lt, slice_index_or, List, [], ◌∷◌, length, take, drop, map, sum, Some, None, refl, sym, ap, ap₂, ◌∙◌, subst, arith, take-take}
 use Rattle.std.specs.Int.{w32, cast_signed}
 use Rattle.std.specs.List.{range_with_len}
 use Rattle.std.proofs.lemmas.List.{drop-take}
 use Rattle.md_device.specs.Splice.{part}
+use Rattle.md_device.proofs.Splices.{part-spliced}
 use Rattle.md_format.specs.Fields.{bytes_at, number_at}
 use Rattle.md_format.specs.FirstFault.{check, first_fault}
 use Rattle.md_format.proofs.Places.{little_from-part}
 use Rattle.md_model.proofs.Cases.{by_option}
+use Rattle.md_writes.specs.Writes.{IsCutShort}
+use Rattle.md_writes.proofs.Runs.{cut_one}
 use Rattle.md_super.specs.declared.fault.SuperFault.{SuperFault}
 use Rattle.md_super.specs.declared.fault.SuperFault.TheVariants.{Magic, Major, MaxDev, Checksum, SuperOffset, Feature, Level, RaidDisks, NoMemory}
 use Rattle.md_super.specs.declared.superblock.Superblock.{Superblock}
@@ -16,22 +19,16 @@ use Rattle.md_super.specs.Faults.{NoFault, Stands, fault_of}
 use Rattle.md_super.specs.Format.{IsSuper, roles_in}
 use Rattle.md_super.specs.Profile.{unsupported_features}
 use Rattle.md_array.specs.Worlds.{block_on, super_fields, super_in}
-use Rattle.md_laws.specs.Left.{EndsInFirstSector}
-
--- what is read in the one is read in the other
-pub record ReadsAs (one other : List ℕ) : Type 0 where
-  pub decoded : super_in one ≡ super_in other
-  pub map : number_at 4 8 one ≡ number_at 4 8 other
-  pub read : (v : Superblock) → IsSuper one v → NoFault one → IsSuper other v × NoFault other
+use Rattle.md_laws.specs.StopsReadAs.{EndsInFirstSector, ReadsAs}
 
 pub reads_same : (one other : List ℕ) → one ≡ other → ReadsAs one other
 reads_same one other same = record { decoded = ap super_in same; map = ap (number_at 4 8) same; read = λ v is sound. (subst (λ (b : List ℕ). IsSuper b v) same is, subst NoFault same sound) }
 
-pub first_part : (bytes : List ℕ) → part bytes (512 * 0) 512 ≡ take 512 bytes
+first_part : (bytes : List ℕ) → part bytes (512 * 0) 512 ≡ take 512 bytes
 unfolding part
 first_part bytes = refl
 
-pub first_sector : (content : List ℕ) → take 512 (block_on content) ≡ part content (512 * 8) 512
+first_sector : (content : List ℕ) → take 512 (block_on content) ≡ part content (512 * 8) 512
 unfolding part
 first_sector content = take-take 512 4096 (drop 4096 content) (omega arith)
 
@@ -173,5 +170,17 @@ module _ (one other : List ℕ) (same : take 512 one ≡ take 512 other) where
       roles = f.roles ∙ roles;
     }
 
-    pub reads_first : ReadsAs one other
+    reads_first : ReadsAs one other
     reads_first = record { decoded = decoded; map = number 4 8 (omega arith); read = λ v is sound. (spelled v is, λ f low found. sound f low (stands f found)) }
+
+-- where the write of one is cut short, it reads as before or as written
+pub cut_reads : (was left bytes : List ℕ) → length bytes ≡ 4096 → 512 * 8 + 4096 ≤ length was → EndsInFirstSector (block_on was) → EndsInFirstSector bytes
+    → IsCutShort was (record { sector = 8; bytes = bytes } ∷ []) left → ReadsAs (block_on left) (block_on was) ⊎ ReadsAs (block_on left) bytes
+cut_reads was left bytes size room old_ends new_ends cut =
+    elim (cut_one was left (record { sector = 8; bytes = bytes }) cut) [
+      | inl done ↦ inr (reads_same (block_on left) bytes (ap block_on done ∙ part-spliced was (512 * 8) bytes 4096 (sym size) (omega arith)))
+      | inr mixed ↦ elim (mixed.each 0 (omega arith)) [
+        | inl old ↦ inl (reads_first (block_on left) (block_on was) (first_sector left ∙ old ∙ sym (first_sector was)) old_ends)
+        | inr new ↦ inr (reads_first (block_on left) bytes (first_sector left ∙ new ∙ first_part bytes) new_ends)
+      ]
+    ]

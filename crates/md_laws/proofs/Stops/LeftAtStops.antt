@@ -1,5 +1,6 @@
 -- What a stop leaves within a call is what one leaves between two calls, or in the midst of a write of data.
-use Rattle.std.proofs.Common.{◌≡◌, ◌≢◌, ℕ, ◌+◌, ◌*◌, ◌/◌, ◌<◌, ◌≤◌, ◌⊎◌, inl, inr, false, true≢false, List, [], ◌∷◌, length, set, slice_get, take, Option, Some, None, refl, sym, ap, ◌∙◌, subst, arith, length-set}
+use Rattle.std.proofs.Common.{◌≡◌, ◌≢◌, ℕ, ◌+◌, ◌*◌, ◌/◌, ◌<◌, ◌≤◌, ◌⊎◌, inl, inr, false, true≢false, List, [], ◌∷◌, length, set, slice_get, Option, Some, None, refl, sym, ap, ◌∙◌, subst, arith, length-set}
+use Rattle.std.proofs.lemmas.List.{length_push}
 use Rattle.std.proofs.lemmas.Option.{same_Some, slice_get_within}
 use Rattle.md_device.specs.Device.{written}
 use Rattle.md_device.specs.Splice.{SameOutside}
@@ -10,7 +11,6 @@ use Rattle.md_members.specs.Areas.{BitmapIsPlaced, IsPlaced, bitmap_sectors}
 use Rattle.md_members.specs.Members.{sectors_of}
 use Rattle.md_bitmap.proofs.Blocks.{length-bitmap_sector}
 use Rattle.md_writes.specs.Writes.{IsCutShort, Write}
-use Rattle.md_writes.proofs.Runs.{cut_one}
 use Rattle.md_model.specs.Content.{Content}
 use Rattle.md_model.specs.Devices.{Stored, Super}
 use Rattle.md_model.specs.Events.{Event}
@@ -32,8 +32,9 @@ use Rattle.md_array.specs.ReadAsKept.{HasOwnSuper, IsReadAsKept}
 use Rattle.md_array.specs.Recording.{MayRecord, Records, super_write}
 use Rattle.md_array.specs.Worlds.{block_on, geometry_of, is_listed, stored_of, stored_on, super_in, super_of, world_of}
 use Rattle.md_laws.specs.StopsWithin.{MayAllBeLeft}
-use Rattle.md_laws.specs.Left.{IsLeft, IsLeftRecording, IsLeftRecordingShort, IsLeftWriting, contents_of}
+use Rattle.md_laws.specs.Left.{IsLeft, IsLeftRecording, IsLeftRecordingShort, IsLeftTakingBack, IsLeftWriting, contents_of}
 use Rattle.md_laws.specs.Runs.{MirrorRun, MirrorRunWith, Moment, history_of, then_as}
+use Rattle.md_laws.specs.StopsReadAs.{ReadsAs}
 use Rattle.md_array.proofs.Steps.DataWritten.{may_write}
 use Rattle.md_array.proofs.Steps.InFlight.{inside_of, not_touched, whole_of}
 use Rattle.md_array.proofs.Steps.MarkSectors.{read_marked, store_marks_happens}
@@ -42,14 +43,16 @@ use Rattle.md_array.proofs.Worlds.Listed.{IsLogKept, listed_same_bit}
 use Rattle.md_array.proofs.Worlds.PartsApart.{HasParts, data_alone, data_elsewhere, header_beside_super, log_beside_super, parts_of, super_alone}
 use Rattle.md_array.proofs.Worlds.ReadAsKept.{own_stays_as, own_written_as, read_beside_data}
 use Rattle.md_array.proofs.Steps.SuperRecorded.{lists_alike, record_happens}
-use Rattle.md_array.proofs.General.Indices.{at_set_same, got_in_map, got_other, got_same, got_within}
+use Rattle.md_array.proofs.General.Indices.{at_set_same, got_in_map, got_other}
 use Rattle.md_array.proofs.Worlds.Supers.{super_shown}
 use Rattle.md_laws.proofs.Stops.LeftContents.{got_like, read_changed, read_in, read_same}
 use Rattle.md_laws.proofs.Runs.Moments.{IsSoundAt}
-use Rattle.md_laws.proofs.Stops.FirstSector.{ReadsAs, first_part, first_sector, reads_first, reads_same}
-use Rattle.md_laws.proofs.Stops.AsFailed.{failed_as_tried, stops_as_tried, stops_at_events}
+use Rattle.md_laws.proofs.Stops.FirstSector.{cut_reads, reads_same}
+use Rattle.md_laws.proofs.Stops.AsFailed.{failed_as_tried, left_as_tried, stops_as_tried, stops_at_events}
 use Rattle.md_laws.proofs.Stops.AtSteps.{stops_at_write}
+use Rattle.md_laws.proofs.Stops.TakenBack.{left_after, may_record_again}
 use Rattle.md_laws.proofs.Runs.Rests.{at_once, at_rest}
+use Rattle.md_assembly.proofs.Indices.{got_within, got_same}
 
 -- ---- one device, as a stop left it
 -- parts are on a device as long as another
@@ -492,19 +495,31 @@ module _ (t : Moment) (at : IsSoundAt t) where
       record_cut left (record { on = l.on; member = m; may = l.call.may; found = f.0; tried = f.1; same = f.2 }) (λ d e was is.
       let x = got_like left f.0 (sym f.2) l.on e is in
       let long = (at.sound.fits.each l.on d m was l.call.may.at).long in
-      let same = ap block_on (sym x.2) in
-      elim (cut_one d.content x.0.content w (but.this d x.0.content was (got_in_map (λ (y : Disk). y.content) left l.on x.0 x.1))) [
-        | inl done ↦ inr (inl (reads_same (block_on e.content) w.bytes (same ∙ ap block_on done ∙ part-spliced d.content (512 * 8) w.bytes 4096 (sym size) (omega arith))))
-        | inr mixed ↦
-            elim (mixed.each 0 (omega arith)) [
-              | inl old ↦ inl (reads_first (block_on e.content) (block_on d.content) (ap (take 512) same ∙ first_sector x.0.content ∙ old ∙ sym (first_sector d.content)) (l.old d was))
-              | inr new ↦ inr (inl (reads_first (block_on e.content) w.bytes (ap (take 512) same ∙ first_sector x.0.content ∙ new ∙ first_part w.bytes) l.new))
-            ]
+      elim (cut_reads d.content x.0.content w.bytes size (omega arith) (l.old d was) l.new (but.this d x.0.content was (got_in_map (λ (y : Disk). y.content) left l.on x.0 x.1))) [
+        | inl old ↦ inl (subst (λ (c : List ℕ). ReadsAs (block_on c) (block_on d.content)) x.2 old)
+        | inr new ↦ inr (inl (subst (λ (c : List ℕ). ReadsAs (block_on c) w.bytes) x.2 new))
       ])
+
+  -- where the superblock of a device that was taken back reads as after the call, it is a stop after it
+  taking_back : (left : List Disk) → IsLeftTakingBack t left → IsSorted t left
+  taking_back left l =
+      let r = l.call.recorded in
+      let m = r.takes.member in
+      let k = length l.before.disks in
+      let may = may_record_again l.on l.device l.before v l.call at.sound.fits.as_many in
+      let f = left_as_tried k (super_write a m) v.disks (contents_of left) (left_after l.on l.device l.before v l.call (contents_of left) at.honest l.honest l.within) in
+      let long = ap length r.disks ∙ length_push l.before.disks r.now in
+      let many = f.1.as_many in
+      let d = got_within v.disks k (omega arith) in
+      let e = got_within f.0 k (omega arith) in
+      let x = got_like left f.0 (sym f.2) k e.0 e.1 in
+      sorted_like t f.0 left f.2
+      (unrecorded k m may f.0 f.1 d.0 e.0 d.1 e.1 (inl (subst (λ (c : List ℕ). ReadsAs (block_on c) (block_on d.0.content)) x.2 (l.reads d.0 x.0 d.1 x.1))))
 
   pub sorted : (left : List Disk) → IsLeft t left → IsSorted t left
   sorted left (inl same) = sorted_like t v.disks left (sym same) between
   sorted left (inr (inl l)) = stored_sorted l.on l.block l.inside l.next l.call left l.within
   sorted left (inr (inr (inl l))) = writing left l
   sorted left (inr (inr (inr (inl l)))) = recording left l
-  sorted left (inr (inr (inr (inr l)))) = recording_short left l
+  sorted left (inr (inr (inr (inr (inl l))))) = recording_short left l
+  sorted left (inr (inr (inr (inr (inr l))))) = taking_back left l

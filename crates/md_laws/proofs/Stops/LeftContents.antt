@@ -10,7 +10,7 @@ use Rattle.md_state.specs.Members.{IsMember}
 use Rattle.md_array.specs.Worlds.{stored_of, stored_on}
 use Rattle.md_laws.specs.Left.{contents_of}
 use Rattle.md_array.proofs.General.Replaced.{read_kept}
-use Rattle.md_array.proofs.General.Indices.{got_within}
+use Rattle.md_assembly.proofs.Indices.{got_within}
 
 -- what this array's fields read of device k
 abbrev pub read_in : ArrayView → List Disk → ℕ → Stored

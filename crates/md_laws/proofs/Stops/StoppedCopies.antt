@@ -6,6 +6,7 @@ use Rattle.md_device.specs.Device.{held, written}
 use Rattle.md_device.specs.Splice.{SameOutside, part, spliced}
 use Rattle.md_device.specs.Stops.{IsMixed}
 use Rattle.md_device.proofs.Splices.{part_after, part_before, spliced_outside}
+use Rattle.md_device.proofs.Leaving.{three_same}
 use Rattle.md_model.specs.Events.{Event}
 use Rattle.md_model.proofs.Puts.{by_same}
 use Rattle.md_writes.specs.Writes.{IsCutShort}
@@ -21,13 +22,13 @@ use Rattle.md_array.specs.InTurn.{Leads, Requests}
 use Rattle.md_laws.specs.StoppedCopies.{StopsAtCopies, copies_at}
 use Rattle.md_array.proofs.Steps.CopiedRun.{first_holds, first_may, others_hold, others_may}
 use Rattle.md_array.proofs.Steps.DataWritten.{part-spliced_within}
-use Rattle.md_array.proofs.Steps.OneWrite.{at_device, set_elsewhere}
+use Rattle.md_array.proofs.Steps.OneWrite.{at_device}
 use Rattle.md_array.proofs.Worlds.PartsApart.{parts_of}
 use Rattle.md_array.proofs.Steps.RunsOfSectors.{first_half, half, second_half}
 use Rattle.md_array.proofs.Worlds.SectorCopied.{copied_is_consistent, copy_happens}
-use Rattle.md_array.proofs.Steps.WrittenParts.{with_part}
-use Rattle.md_array.proofs.General.Indices.{at_set_same, got_in_map, got_within}
+use Rattle.md_array.proofs.General.Indices.{at_set_same, got_in_map, got_other}
 use Rattle.md_laws.proofs.Stops.AtSteps.{same_lists, stops_at_write}
+use Rattle.md_assembly.proofs.Indices.{got_within}
 
 -- some of these sectors were copied: the device then has these bytes, and the others are as they were
 record IsCopiedTo (from k : ℕ) (old : MirrorView) (bytes : List ℕ) : Type 0 where
@@ -57,13 +58,13 @@ module _ (at n : ℕ) (bytes old new : List ℕ) (same : SameOutside at (512 + n
   first_copied : part new at 512 ≡ take 512 bytes → 512 ≤ length bytes → half at 512 n old new same low ≡ spliced old at (take 512 bytes)
   unfolding spliced
   first_copied is long =
-      with_part at 512 old (half at 512 n old new same low) (first_half at 512 n old new same low) (take 512 bytes) (first_part ∙ is)
+      three_same at 512 old (half at 512 n old new same low) (first_half at 512 n old new same low) (take 512 bytes) (first_part ∙ is)
       ∙ ap (λ (x : ℕ). take at old ++ (take 512 bytes ++ drop (at + x) old)) (sym (length-take-le 512 bytes long))
 
   first_left : part new at 512 ≡ part old at 512 → half at 512 n old new same low ≡ old
   first_left is =
-      with_part at 512 old (half at 512 n old new same low) (first_half at 512 n old new same low) (part old at 512) (first_part ∙ is)
-      ∙ sym (with_part at 512 old old (record { size = refl; before = refl; after = refl }) (part old at 512) refl)
+      three_same at 512 old (half at 512 n old new same low) (first_half at 512 n old new same low) (part old at 512) (first_part ∙ is)
+      ∙ sym (three_same at 512 old old (record { size = refl; before = refl; after = refl }) (part old at 512) refl)
 
 -- a write that was cut short left each sector as it was or as written, and one that was done, too
 as_mixed : (k sector : ℕ) (bytes : List ℕ) (old new : MirrorView) → IsConsistent old → (t : CopiesTo k sector bytes old new) → (d : Disk) → slice_get old.disks k ≡ Some d → d.honest ≡ true
@@ -195,7 +196,7 @@ module _ (n from k : ℕ) (go : Copied n from k) (s : ℕ) (bytes : List ℕ) (o
         disks = record {
           tried = record {
             as_many = length-set old.disks k now;
-            others = λ j apart. set_elsewhere old.disks k j now apart;
+            others = λ j apart. got_other old.disks k j now apart;
             stays = at_device old.disks k d now StaysHonest at (record { honest = refl; counted = omega arith });
             outside = at_device old.disks k d now (λ x y. SameOutside start (length (take 512 bytes)) x.content y.content) at
                 (subst (λ (x : ℕ). SameOutside start x d.content middle) (sym long_first) (first_half start 512 (512 * n) d.content left outside low));
@@ -205,14 +206,14 @@ module _ (n from k : ℕ) (go : Copied n from k) (s : ℕ) (bytes : List ℕ) (o
         array = refl;
       } in
       let rest = go (s + 1) (drop 512 bytes) mid now left (copied_is_consistent from k s old mid c copies) (others_may from k s n old.array may) long_rest
-      (others_hold old from s bytes holds mid refl (set_elsewhere old.disks k from now may.apart) (omega arith)) (at_set_same old.disks k now in_list) rest_same rest_each in
+      (others_hold old from s bytes holds mid refl (got_other old.disks k from now may.apart) (omega arith)) (at_set_same old.disks k now in_list) rest_same rest_each in
       record {
         sectors = s ∷ rest.sectors;
         mid = rest.mid;
         leads = λ previous requests in_flight.
             (mid, requests, tt, (refl, copies), (λ honest whole. copy_happens from k s old mid c copies honest requests in_flight), rest.leads (Some (Event.Copy from k s)) requests in_flight);
         as_many = rest.as_many ∙ length-set old.disks k now;
-        others = λ j apart. rest.others j apart ∙ set_elsewhere old.disks k j now apart;
+        others = λ j apart. rest.others j apart ∙ got_other old.disks k j now apart;
         disk = rest.disk;
         at = rest.at;
         is = rest.is;

@@ -2,7 +2,6 @@
 use Rattle.std.proofs.Common.{◌≡◌, ap, ◌∙◌}
 use Rattle.md_super.specs.Profile.{IsProfile}
 use Rattle.md_super.specs.declared.superblock.Superblock.{Superblock}
-use Rattle.md_state.specs.declared.step_fault.CleanFault.TheVariants as clean
 use Rattle.md_state.specs.View.{ArrayView}
 use Rattle.md_state.specs.Members.{clean_offset}
 use Rattle.md_state.specs.MakingClean.{with_clean}

@@ -7,7 +7,7 @@ use Rattle.md_state.specs.View.{ArrayView}
 use Rattle.md_state.specs.Members.{AllInSync, IsFirstInSyncWithout}
 use Rattle.md_state.specs.WritingMember.{HasMarksFrom, HasMarksOf}
 
-div_mono : (w a b : ℕ) → 0 < w → a ≤ b → a / w ≤ b / w
+pub div_mono : (w a b : ℕ) → 0 < w → a ≤ b → a / w ≤ b / w
 div_mono w a b wide le = let down = div-mul-le_self a w in (le-div_iff_mul-le {k = w} {x = a / w} {y = b} wide).1 (omega arith)
 
 -- so many sectors from a sector on lie in the chunks from the first on and below the end

@@ -7,8 +7,8 @@ use Rattle.md_inflight.specs.Inflight.{InflightList}
 use Rattle.md_super.specs.Profile.{IsProfile}
 use Rattle.md_super.specs.declared.superblock.Superblock.{Superblock}
 use Rattle.md_requests.specs.declared.extent.Extent.{Extent}
-use Rattle.md_state.specs.declared.step_fault.BeginFault.{BeginFault}
-use Rattle.md_state.specs.declared.step_fault.BeginFault.TheVariants.{NoMemory, NumbersSpent}
+use Rattle.md_faults.specs.declared.step_fault.BeginFault.{BeginFault}
+use Rattle.md_faults.specs.declared.step_fault.BeginFault.TheVariants.{NoMemory, NumbersSpent}
 use Rattle.md_state.specs.View.{ArrayView, Disk}
 use Rattle.md_state.specs.Members.{clean_offset, is_degraded}
 use Rattle.md_state.specs.Rising.{risen}

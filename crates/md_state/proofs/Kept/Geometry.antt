@@ -15,9 +15,9 @@ use Rattle.md_assembly.specs.declared.fault.AssembleFault.TheVariants.{Geometry,
 use Rattle.md_assembly.specs.Assembled.{IsAssembled, superblocks}
 use Rattle.md_assembly.specs.Faults.{HasOtherGeometry, LacksBitmap, NoFault}
 use Rattle.md_assembly.specs.Listed.{IsLeast, MemberAt, PairAt}
+use Rattle.md_assembly.proofs.Indices.{got_within}
 use Rattle.md_kept_members.specs.View.{MemberView}
 use Rattle.md_kept_members.specs.Remembering.{AreKept, AreWhole, HaveChunks, IsChunkingOf}
-use Rattle.md_kept_members.proofs.Members.Indices.{listed_at}
 
 -- what holds of no least number holds of none
 none_below : (Fact : ℕ → Type 0) → ((n : ℕ) → IsLeast Fact n → ⊥) → (m n : ℕ) → n < m → Fact n → ⊥
@@ -61,7 +61,7 @@ like_first infos k first info g h sound at_first at_k has_g has_h =
 pub alike : (infos : List MemberInfo) (j k : ℕ) (a b : MemberInfo) (g h : BitmapHeader) → AreWhole infos → NoFault infos → slice_get infos j ≡ Some a → slice_get infos k ≡ Some b → a.header ≡ Some g → b.header ≡ Some h → AreAlike a b g h
 alike infos j k a b g h whole sound at_j at_k has_g has_h =
     let within = slice_get_within infos j a at_j in
-    let first = listed_at infos 0 (omega arith) in
+    let first = got_within infos 0 (omega arith) in
     let w = whole 0 first.0 first.1 in
     let left = like_first infos j first.0 a g w.header sound first.1 at_j has_g w.has_header in
     let right = like_first infos k first.0 b h w.header sound first.1 at_k has_h w.has_header in
@@ -88,8 +88,8 @@ kept_at events infos assembly members k m assembled kept listed =
     let within = slice_get_within members k m listed in
     let as_many = kept.as_many in
     let states = states_as_many infos assembly assembled in
-    let info = listed_at infos k (omega arith) in
-    let state = listed_at assembly.states.items k (omega arith) in
+    let info = got_within infos k (omega arith) in
+    let state = got_within assembly.states.items k (omega arith) in
     let is_kept = kept.each k info.0 state.0 m info.1 state.1 listed in
     record { info = info.0; listed = info.1; header = is_kept.header; chunks = is_kept.chunks }
 

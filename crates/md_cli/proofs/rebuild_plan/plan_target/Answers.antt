@@ -1,26 +1,26 @@
 use Rattle.std.proofs.Common.{rules, ◌≡◌, Err, refl}
-use Rattle.md_kept_members.proofs.Members.Indices.{listed_at}
 use Rattle.md_copy.specs.declared.fault.RebuildFault.TheVariants.{NoMemory}
 use Rattle.md_cli.proofs.Planned.{refuses_target}
 use Rattle.md_cli.proofs.rebuild_plan.plan_target.Goals as goal
+use Rattle.md_assembly.proofs.Indices.{got_within}
 
 pub returns-in_err-missing : goal.returns-in_err-missing
 returns-in_err-missing g c =
     let a = c.args.mirror.now.array in
-    let at = listed_at a.members c.args.target c.requires.within in
+    let at = got_within a.members c.args.target c.requires.within in
     let fault = c.in_err-missing.field-0.0 in
     let is : c.from_residual.result ≡ Err fault = search rules in
     rw is (refuses_target a c.args.target at.0 (Err fault) fault refl at.1 (c.in_err-missing.ensures.accepted at.0 at.1) (c.in_err-missing.ensures.not_spare at.0 at.1))
 
 pub returns-in_err-plan : goal.returns-in_err-plan
 returns-in_err-plan g c =
-    let at = listed_at c.args.mirror.now.array.members c.args.target c.requires.within in
+    let at = got_within c.args.mirror.now.array.members c.args.target c.requires.within in
     let is : c.from_residual-in_err-plan.result ≡ Err NoMemory = search rules in
     rw is (at.0, at.1, c.in_ok-missing.ensures.accepted at.0 at.1 (λ other. absurd cc))
 
 pub returns : goal.returns
 returns g c =
-    let at = listed_at c.args.mirror.now.array.members c.args.target c.requires.within in
+    let at = got_within c.args.mirror.now.array.members c.args.target c.requires.within in
     record {
       member = at.0;
       listed = at.1;

@@ -1,5 +1,8 @@
-use Rattle.std.proofs.Common.{arith, ◌≡◌, ◌*◌, ◌∷◌, [], ◌++◌, List, ℕ, ap, subst, sym, length, ◌∙◌}
+use Rattle.std.proofs.Common.{arith, ◌≡◌, ◌*◌, ◌∷◌, [], ◌++◌, List, ℕ, ap, subst, sym, length, ◌∙◌, OnOk, Result, Ok, Err}
 use Rattle.md_device.specs.Splice.{SameOutside}
+use Rattle.md_super.specs.Checksum.{checksum_of}
+use Rattle.md_super.specs.Faults.{NoFault}
+use Rattle.md_super.specs.Format.{IsSuper}
 use Rattle.md_create.specs.Layout.{IsHalfLaidOut, IsLaidOut, empty_log, sectors_of, super_write, wipe, writes_of}
 use Rattle.md_create.proofs.HalfLaid.{half_laid}
 use Rattle.md_create.proofs.Laid.{bitmap_keeps, keeps_then, laid_out, log_keeps, super_keeps}
@@ -8,6 +11,10 @@ use Rattle.md_device.proofs.Leaving.{leaves_less}
 use Rattle.md_writes.specs.Writes.{IsCutShort, MakesWrites}
 use Rattle.md_writes.proofs.Runs.{all_done_of, does_any, stops_any, stops_front, stops_then}
 use Rattle.md_create.proofs.laying_out.lay_out.Goals as goal
+
+on_ok : {T E : Type 0} {P : Type 0} (r : Result T E) → P → OnOk r P
+on_ok (Ok x) p = p
+on_ok (Err e) p = tt
 
 pub returns-in_err-put-clause-writes : goal.returns-in_err-put-clause-writes
 returns-in_err-put-clause-writes g c =
@@ -86,6 +93,16 @@ returns-clause-outside g c =
     (keeps_then member first second third (super_keeps member first second c.put.ensures.outside) (log_keeps member second third c.put-2.ensures.outside))
     (bitmap_keeps member third fourth c.store_bitmap.ensures.outside))
     (super_keeps member fourth fifth named)
+
+pub returns-clause-readable : goal.returns-clause-readable
+returns-clause-readable g c =
+    let v = c.args.member.now.superblock in
+    let block : length c.encode.new.out ≡ 4096 = omega arith in
+    on_ok c.put-3.result (record {
+      size = ap length (sym c.encode.ensures.bytes) ∙ block;
+      fields = subst (λ (bytes : List ℕ). IsSuper bytes (record v { sb_csum = checksum_of bytes (length v.roles) })) c.encode.ensures.bytes c.encode.ensures.fields;
+      sound = subst NoFault c.encode.ensures.bytes c.encode.ensures.sound;
+    })
 
 pub returns-clause-laid_out : goal.returns-clause-laid_out
 returns-clause-laid_out g c =

@@ -1,8 +1,9 @@
 use Rattle.std.proofs.Common.{◌≡◌, ◌∙◌, true, false, ap, sym, refl, arith, length, inl, inr}
 use Rattle.std.proofs.lemmas.Option.{slice_get_read, slice_get_within}
 use Rattle.md_assembly.specs.States.{is_in_sync}
+use Rattle.md_assembly.proofs.Indices.{got_same}
 use Rattle.md_kept_members.specs.View.{MemberView}
-use Rattle.md_kept_members.proofs.Members.Indices.{cases_more, same_listed}
+use Rattle.md_kept_members.proofs.Members.Indices.{cases_more}
 use Rattle.md_kept_members.proofs.other_in_sync.has_other_in_sync.Goals.{else-j-k-via-then-j-k+else-is_in_sync, else-j-k-via-else-j-k}
 use Rattle.md_kept_members.proofs.other_in_sync.has_other_in_sync.Goals as goal
 
@@ -22,7 +23,7 @@ loop-j-preserved c i m below at in_sync =
     elim (cases_more i c.loop-j.j below) [
       | inl earlier ↦ c.loop-j.invariant i m earlier at in_sync
       | inr here ↦
-          let same : x ≡ m = same_listed members c.loop-j.j x m there (rw here at at) in
+          let same : x ≡ m = got_same members c.loop-j.j x m there (rw here at at) in
           let state : is_in_sync c.member.inside.state ≡ true = ap (λ (y : MemberView). is_in_sync y.state) (c.member.view_is ∙ same) ∙ in_sync in
           elim c.else-j-k.branch [
             | else-j-k-via-then-j-k+else-is_in_sync w ↦ let out : is_in_sync c.member.inside.state ≡ false = sym w.is_in_sync.ensures ∙ w.if-is_in_sync.false in absurd cc

@@ -1,9 +1,10 @@
 use Rattle.md_array.specs.InTurn.{HasSector}
 use Rattle.md_metadata.specs.Storing.{IsMarking}
-use Rattle.md_metadata.proofs.StoredMembers.{nothing_at, told}
+use Rattle.md_metadata.proofs.StoredMembers.{nothing_at}
 use Rattle.md_metadata.proofs.StoredSectors.{sector_or_stops, unlike_due}
 use Rattle.md_metadata.proofs.all_marks.store_unlike.Goals as goal
 use Rattle.md_metadata.proofs.all_marks.store_unlike.Goals.{then-not-is_in_sync-via-then-not-is_in_sync, then-not-is_in_sync-via-else-not-is_in_sync+then-has_sector}
+use Rattle.md_state.proofs.Members.At.{told}
 
 pub returns-then-not-is_in_sync : goal.returns-then-not-is_in_sync
 returns-then-not-is_in_sync g c =

@@ -2,9 +2,10 @@ use Rattle.std.proofs.Common.{◌≡◌, true}
 use Rattle.md_kept_members.specs.View.{MemberView}
 use Rattle.md_state.specs.Members.{IsMember}
 use Rattle.md_state.specs.WritingMember.{IsNotDue}
+use Rattle.md_state.proofs.Members.At.{told}
 use Rattle.md_metadata.specs.Storing.{IsRecording, IsSector}
 use Rattle.md_metadata.proofs.Going.{first_records, sector_stops, stops_as}
-use Rattle.md_metadata.proofs.StoredMembers.{nothing_at, told}
+use Rattle.md_metadata.proofs.StoredMembers.{nothing_at}
 use Rattle.md_metadata.proofs.StoredRecords.{header_due, in_sync_due, recorded_or_stops, still_recorded}
 use Rattle.md_metadata.proofs.records.store_due_record.Goals as goal
 use Rattle.md_metadata.proofs.records.store_due_record.Goals.{then-not-is_in_sync-via-then-not-is_in_sync, then-not-is_in_sync-via-else-not-is_in_sync+then-not-due}

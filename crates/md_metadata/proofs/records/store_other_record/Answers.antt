@@ -1,7 +1,7 @@
-use Rattle.md_metadata.proofs.StoredMembers.{told}
 use Rattle.md_metadata.proofs.StoredRecords.{other_due, other_or_stops, recorded_nothing}
 use Rattle.md_metadata.proofs.records.store_other_record.Goals as goal
 use Rattle.md_metadata.proofs.records.store_other_record.Goals.{then-is_in_sync-via-then-is_in_sync, then-is_in_sync-via-else-is_in_sync+then-not-is_recorded, then-is_in_sync-via-else-is_in_sync+else-not-is_recorded+then-not-due}
+use Rattle.md_state.proofs.Members.At.{told}
 
 pub returns-then-is_in_sync : goal.returns-then-is_in_sync
 returns-then-is_in_sync g c =

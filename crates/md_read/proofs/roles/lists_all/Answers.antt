@@ -2,8 +2,8 @@ use Rattle.std.proofs.Common.{◌+◌, ◌^◌, ◌≤◌, ap, sym, inl, inr}
 use Rattle.std.proofs.lemmas.Bool.{cases_lt}
 use Rattle.md_super.specs.declared.superblock.Superblock.{Superblock}
 use Rattle.md_read.proofs.AllListed.{has_all_lists, past_not_all}
-use Rattle.md_read.proofs.InRoles.{told}
 use Rattle.md_read.proofs.roles.lists_all.Goals as goal
+use Rattle.md_state.proofs.Members.At.{told}
 
 pub returns-in_default : goal.returns-in_default
 returns-in_default g c m at =

@@ -1,8 +1,9 @@
 use Rattle.std.proofs.Common.{◌∙◌, ◌+◌, ◌^◌, ◌≤◌, length, ap, sym, inl, inr}
 use Rattle.std.proofs.lemmas.Bool.{cases_lt, eqb-true}
 use Rattle.md_super.specs.declared.superblock.Superblock.{Superblock}
-use Rattle.md_read.proofs.InRoles.{empty_lists, meets_lists, past_lists, told}
+use Rattle.md_read.proofs.InRoles.{empty_lists, meets_lists, past_lists}
 use Rattle.md_read.proofs.roles.lists_some.Goals as goal
+use Rattle.md_state.proofs.Members.At.{told}
 
 pub returns-then-is_empty : goal.returns-then-is_empty
 returns-then-is_empty g c m at =

@@ -5,7 +5,7 @@ use Rattle.md_assembly.specs.States.{is_in_sync}
 use Rattle.md_model.specs.Events.{Event}
 use Rattle.md_state.specs.CopyingData.{RefusesCopy}
 use Rattle.md_state.specs.ReadingData.{HoldsData}
-use Rattle.md_metadata.proofs.StoredMembers.{told}
+use Rattle.md_state.proofs.Members.At.{told}
 use Rattle.md_resync.proofs.Bests.{member_at}
 use Rattle.md_resync.proofs.CopiedRuns.{gives_nothing, gives_to, halts_copying, loses_copying, run_is_copy}
 use Rattle.md_resync.proofs.members.copy_to.Goals as goal

@@ -1,7 +1,7 @@
 use Rattle.std.proofs.Common.{◌≡◌, arith, inl, inr, subst}
 use Rattle.std.proofs.lemmas.Bool.{cases_lt}
 use Rattle.md_state.specs.Members.{IsInSync}
-use Rattle.md_metadata.proofs.StoredMembers.{told}
+use Rattle.md_state.proofs.Members.At.{told}
 use Rattle.md_resync.proofs.Bests.{member_at}
 use Rattle.md_resync.proofs.resyncing.in_sync_from.Goals as goal
 

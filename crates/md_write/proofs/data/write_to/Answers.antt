@@ -1,9 +1,9 @@
 use Rattle.std.proofs.Common.{subst}
 use Rattle.md_model.specs.Events.{Event}
 use Rattle.md_state.specs.WritingMember.{RefusesWriteMember}
+use Rattle.md_state.proofs.Members.At.{told}
 use Rattle.md_array.specs.Events.{HappensAmong, IfWritingFailed}
 use Rattle.md_write.proofs.WrittenData.{data_again, data_fails, data_halts, data_written, written_nothing}
-use Rattle.md_metadata.proofs.StoredMembers.{told}
 use Rattle.md_write.proofs.data.write_to.Goals as goal
 
 pub returns-in-Ok : goal.returns-in-Ok

@@ -1,7 +1,8 @@
 use Rattle.md_write.specs.Progress.{HasMarksIn, IsMarkingOf}
-use Rattle.md_metadata.proofs.StoredMembers.{nothing_at, told}
+use Rattle.md_metadata.proofs.StoredMembers.{nothing_at}
 use Rattle.md_write.proofs.StoredMarks.{sector_lacks, stored_or_stops}
 use Rattle.md_write.proofs.marks.store_lacking.Goals as goal
+use Rattle.md_state.proofs.Members.At.{told}
 
 pub returns-then-not-is_in_sync : goal.returns-then-not-is_in_sync
 returns-then-not-is_in_sync g c =

@@ -25,13 +25,13 @@ returns-in-Err-clause-gives g c =
     let of = disk_of g.D.Device in
     let at = (goal.at.returns-in-Err-clause-gives g c).After-read_member in
     subst (RefusesReAdd (of c.args.device) (of c.read_member.new.device) c.args.self.now c.args.self.now) (sym c.refusal.ensures)
-    (refused_device (of c.args.device) (of c.read_member.new.device) c.args.self.now (running g at) (only_read g at) c.in-Err.fault c.in-Err.ensures.reads)
+    (refused_device (of c.args.device) (of c.read_member.new.device) c.args.self.now (running g at) (only_read g at) c.in-Err.fault c.in-Err.ensures.reads c.in-Err.ensures.unfailing)
 
 pub returns-in-Err-check_re_add-clause-gives : goal.returns-in-Err-check_re_add-clause-gives
 returns-in-Err-check_re_add-clause-gives g c =
     let of = disk_of g.D.Device in
     let at = (goal.at.returns-in-Err-check_re_add-clause-gives g c).After-read_member in
-    refused_info (of c.args.device) (of c.read_member.new.device) c.args.self.now (running g at) (only_read g at) c.in-Ok.info c.in-Ok.ensures.reads c.in-Err-check_re_add.fault
+    refused_info (of c.args.device) (of c.read_member.new.device) c.args.self.now (running g at) (only_read g at) c.in-Ok.ensures.unfailing c.in-Ok.info c.in-Ok.ensures.reads c.in-Err-check_re_add.fault
     (subst (λ (v : MirrorView). RefusesToTakeBack v.array c.in-Ok.info c.in-Err-check_re_add.fault) c.self.view_is c.in-Err-check_re_add.ensures)
 
 pub take_back-requires-clause-whole : goal.take_back-requires-clause-whole
@@ -48,7 +48,7 @@ returns g c =
     let old = c.args.self.now in
     let new = c.take_back.new.self in
     let may = subst (λ (v : MirrorView). MayReAdd v.array c.in-Ok.info) c.self.view_is c.in_default.ensures in
-    let gives = once_read of device (of c.read_member.new.device) old new c.in-Ok.info (running g at) c.in-Ok.ensures.reads (only_read g at) may c.take_back.result c.take_back.ensures in
+    let gives = once_read of device (of c.read_member.new.device) old new c.in-Ok.info (running g at) c.in-Ok.ensures.reads (only_read g at) c.in-Ok.ensures.unfailing may c.take_back.result c.take_back.ensures in
     record {
       gives = gives;
       event = re_add_is_event of device old new c.requires.sound c.take_back.result gives;

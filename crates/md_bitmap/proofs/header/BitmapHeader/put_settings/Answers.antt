@@ -1,8 +1,8 @@
 use Rattle.std.proofs.Common.{◌++◌, List, ℕ, ap, take, ◌∙◌, arith}
 use Rattle.byteorder.specs.Endian.{little_bytes}
 use Rattle.md_bitmap.specs.Header.{setting_bytes}
-use Rattle.md_bitmap.proofs.Encoded.{regroup_6}
 use Rattle.md_bitmap.proofs.header.BitmapHeader.put_settings.Goals as goal
+use Rattle.md_format.proofs.Written.{regroup_6}
 
 pub returns-clause-front : goal.returns-clause-front
 unfolding setting_bytes

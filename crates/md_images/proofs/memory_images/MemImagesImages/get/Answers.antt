@@ -1,6 +1,7 @@
 use Rattle.std.proofs.Common.{◌≡◌, ◌||◌, None, true, false, refl, inl, inr, sym, ap, ◌∙◌, rules}
+use Rattle.std.proofs.lemmas.Bool.{or_right}
 use Rattle.md_images.specs.Images.{allows, asks}
-use Rattle.md_images.proofs.MemPlaces.{looked_up, sets_place, gives_device, gone_device, no_device, on_ok, rights_at, same_or, then_or}
+use Rattle.md_images.proofs.MemPlaces.{looked_up, sets_place, gives_device, gone_device, no_device, on_ok, rights_at, same_or}
 use Rattle.md_images.proofs.memory_images.MemImagesImages.get.Goals as goal
 
 pub returns-in_default-clause-gives : goal.returns-in_default-clause-gives
@@ -43,4 +44,4 @@ returns-clause-looks g c known look =
 pub returns-clause-asks : goal.returns-clause-asks
 returns-clause-asks g c known asks_it =
     let sets = sets_place c.args.self.now c.self.inside.places.items c.as_slice.result.now c.args.name.now c.in-Some.at c.index_mut.result.now c.take_out.new.place None (c.index_mut.result.now.asked || asks c.args.access) c.self.view_is c.as_slice.ensures.value c.in-Some.ensures c.index_mut.ensures.value c.take_out.ensures.place in
-    on_ok c.ok_or.result (sets.asked ∙ then_or c.index_mut.result.now.asked (asks c.args.access) asks_it)
+    on_ok c.ok_or.result (sets.asked ∙ or_right c.index_mut.result.now.asked (asks c.args.access) asks_it)

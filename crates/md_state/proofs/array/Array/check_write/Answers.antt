@@ -1,8 +1,8 @@
 use Rattle.std.proofs.Common.{◌≡◌, ◌∙◌, ◌<◌, ◌+◌, ◌-◌, ◌/◌, ℕ, true, sym, ap, refl, rules}
 use Rattle.md_assembly.specs.States.{is_in_sync}
+use Rattle.md_assembly.proofs.Indices.{got_same}
 use Rattle.md_requests.specs.Pending.{PendingView, has_written, request_sectors}
 use Rattle.md_kept_members.specs.View.{MemberView}
-use Rattle.md_kept_members.proofs.Members.Indices.{same_listed}
 use Rattle.md_state.specs.View.{ArrayView}
 use Rattle.md_state.specs.Members.{IsInSync, IsMember}
 use Rattle.md_state.proofs.Members.FirstLacking.{all_recorded, first_to_record}
@@ -92,7 +92,7 @@ returns c disks n there =
     let at = member_read c.args.self.now _ c.args.k m c.self.view_is c.requires.within c.index-member.ensures in
     let in_sync = in_sync_at c.args.self.now c.args.k m _ _ at c.member.view_is c.is_in_sync.ensures c.if-not-is_in_sync.false in
     let are = chunks_are _ c.args.self.now c.args.pending.now _ _ _ _ c.self.view_is c.requires.chunks.wide c.requires.range.some c.sector.ensures c.sectors.ensures c.chunks_of-first.ensures.first c.chunks_of-first.ensures.end in
-    let same : n ≡ m = same_listed c.args.self.now.members c.args.k n m there at in
+    let same : n ≡ m = got_same c.args.self.now.members c.args.k n m there at in
     rw same (record {
       intent = record {
         running = search rules;

@@ -1,8 +1,9 @@
 use Rattle.std.proofs.Common.{◌≡◌, ◌∙◌, ◌<◌, ◌+◌, ℕ, length, true, arith, sym, ap, subst, refl, inl, inr}
 use Rattle.std.proofs.lemmas.Option.{slice_get_read, slice_get_within}
 use Rattle.md_assembly.specs.States.{is_in_sync}
+use Rattle.md_assembly.proofs.Indices.{got_same}
 use Rattle.md_kept_members.specs.View.{MemberView}
-use Rattle.md_kept_members.proofs.Members.Indices.{cases_more, same_listed}
+use Rattle.md_kept_members.proofs.Members.Indices.{cases_more}
 use Rattle.md_state.specs.View.{ArrayView}
 use Rattle.md_state.specs.Members.{IsFirstInSyncWithout, IsInSync, IsMember}
 use Rattle.md_state.specs.WritingMember.{HasMarksFrom}
@@ -21,7 +22,7 @@ one_more a k Has m earlier at has i n early there = elim (cases_more i k early) 
   | inl before ↦ earlier i n before there
   | inr here ↦
       let at_k : IsMember a k n = subst (λ (j : ℕ). IsMember a j n) here there.member in
-      let same : m ≡ n = same_listed a.members k m n at at_k in
+      let same : m ≡ n = got_same a.members k m n at at_k in
       subst Has same (has (ap (λ (x : MemberView). is_in_sync x.state) same ∙ there.in_sync))
 ]
 

@@ -1,11 +1,11 @@
-use Rattle.md_kept_members.proofs.Members.Indices.{listed_at}
 use Rattle.md_state.specs.Failing.{MayFail}
 use Rattle.md_state.proofs.array.Array.member_failed.Goals as goal
+use Rattle.md_assembly.proofs.Indices.{got_within}
 
 pub returns-then-can_fail : goal.returns-then-can_fail
 returns-then-can_fail c =
     let may : MayFail c.args.self.now c.args.k = c.if-can_fail.ensures in
-    let member = listed_at c.args.self.now.members c.args.k c.requires in
+    let member = got_within c.args.self.now.members c.args.k c.requires in
     record {
       member = member.0;
       at = member.1;

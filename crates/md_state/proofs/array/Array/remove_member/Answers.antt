@@ -3,8 +3,8 @@ use Rattle.std.specs.List.{remove}
 use Rattle.std.proofs.lemmas.List.{length-map}
 use Rattle.md_kept_members.specs.View.{MemberView}
 use Rattle.md_assembly.specs.States.{is_spare}
+use Rattle.md_assembly.proofs.Indices.{got_within}
 use Rattle.md_kept_members.specs.Members.{made_due}
-use Rattle.md_kept_members.proofs.Members.Indices.{listed_at}
 use Rattle.md_state.specs.View.{ArrayView}
 use Rattle.md_state.specs.Removing.{before_leaving, taken_out, without_spare}
 use Rattle.md_state.proofs.array.Array.remove_member.Goals as goal
@@ -25,7 +25,7 @@ note_leaving-requires-clause-unspent c m at = (c.in_default.ensures [] m at).uns
 pub remove-requires : goal.remove-requires
 remove-requires c =
     let a = c.args.self.now in
-    let m = listed_at a.members c.args.k c.requires in
+    let m = got_within a.members c.args.k c.requires in
     let within = c.requires in
     let count = ap (λ (y : ArrayView). length y.members) (c.self.view_is ∙ c.note_leaving.ensures m.0 m.1) ∙ as_many a m.0 in
     omega arith
@@ -33,7 +33,7 @@ remove-requires c =
 pub returns : goal.returns
 returns c disks =
     let a = c.args.self.now in
-    let m = listed_at a.members c.args.k c.requires in
+    let m = got_within a.members c.args.k c.requires in
     record {
       member = m.0;
       may = c.in_default.ensures disks m.0 m.1;

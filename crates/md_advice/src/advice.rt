@@ -1,7 +1,7 @@
 // What to do about a fault. The texts are those of docs/FAULTS.md, which a test compares with them.
 use crate::fault::CommandFault;
 use crate::option_fault::OptionFault;
-use md_array::{BeginFault, FailFault, OpenFault, RemoveFault};
+use md_array::{AddFault, BeginFault, FailFault, OpenFault, RemoveFault};
 use md_assembly::AssembleFault;
 use md_commands::DataFault;
 use md_copy::RebuildFault;
@@ -73,6 +73,7 @@ fn data_advice(fault: DataFault) -> &'static str {
         DataFault::BadMember => "count the images from 0, in the order in which they are named",
         DataFault::Fail(fault) => fail_advice(fault),
         DataFault::Remove(fault) => remove_advice(fault),
+        DataFault::Add(fault) => add_advice(fault),
         DataFault::Resync(fault) => resync_advice(fault),
         DataFault::Read(fault) => read_advice(fault),
         DataFault::Write(fault) => write_advice(fault),
@@ -100,6 +101,21 @@ fn remove_advice(fault: RemoveFault) -> &'static str {
         RemoveFault::StillActive => "run `fail` on it first",
         RemoveFault::EventsFull => NEW_ARRAY,
         RemoveFault::Halted => SEE_DEVICE,
+    }
+}
+
+fn add_advice(fault: AddFault) -> &'static str {
+    match fault {
+        AddFault::TooSmall => {
+            "add a larger one: it needs 2048 sectors more than the array, whose size `detail` shows"
+        }
+        AddFault::Full => "run `remove` first, on a member that is not in use",
+        AddFault::EventsFull => NEW_ARRAY,
+        AddFault::WriteFault => {
+            "see why the device can't be written (`dmesg`, free space, write protection); what it held may be lost"
+        }
+        AddFault::Halted => SEE_DEVICE,
+        AddFault::NoMemory => MORE_MEMORY,
     }
 }
 

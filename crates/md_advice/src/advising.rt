@@ -1,7 +1,7 @@
 // The line for people after a fault.
 use crate::advice::advice;
 use crate::fault::CommandFault;
-use md_array::OpenFault;
+use md_array::{AddFault, OpenFault};
 use md_assembly::AssembleFault;
 use md_commands::DataFault;
 use md_device::ImageFault;
@@ -20,7 +20,7 @@ enum Culprit {
     Device(usize),
     // The device with this index, where a member that was removed is not counted.
     Staying(usize),
-    // The member that the command names.
+    // The one that an option of the command names: a member, or one that joins.
     Named,
 }
 
@@ -56,16 +56,27 @@ fn culprit_of_data(fault: DataFault) -> Option<Culprit> {
         DataFault::Stop(StopFault::MemberFailed(device)) => Some(Culprit::Staying(device)),
         DataFault::Fail(_) => Some(Culprit::Named),
         DataFault::Remove(_) => Some(Culprit::Named),
+        DataFault::Add(AddFault::TooSmall) => Some(Culprit::Named),
+        DataFault::Add(AddFault::WriteFault) => Some(Culprit::Named),
         _ => None,
     }
 }
 
-// The member that a command fails or removes.
-fn member_of(action: Action<'_>) -> Option<usize> {
+// The image of the member that a command fails or removes, or of the device that it adds.
+fn named_by<'a>(action: Action<'a>, names: &[&'a str]) -> Option<&'a str> {
     match action {
-        Action::Perform(ArrayTask::Fail(member), _) => Some(member as usize),
-        Action::Remove(member) => Some(member as usize),
+        Action::Perform(ArrayTask::Fail(member), _) => names.get(member as usize).copied(),
+        Action::Remove(member) => names.get(member as usize).copied(),
+        Action::Add(device) => Some(device),
         _ => None,
+    }
+}
+
+// The image at a place among all of them: one that joins comes after the others.
+fn image_at<'a>(place: usize, action: Action<'a>, names: &[&'a str]) -> Option<&'a str> {
+    match action {
+        Action::Add(device) if place == names.len() => Some(device),
+        _ => names.get(place).copied(),
     }
 }
 
@@ -77,24 +88,24 @@ fn place_of(device: usize, action: Action<'_>) -> usize {
     }
 }
 
-fn path_of<'a>(culprit: Culprit, names: &[&'a str], action: Action<'_>) -> Option<&'a str> {
+fn path_of<'a>(culprit: Culprit, names: &[&'a str], action: Action<'a>) -> Option<&'a str> {
     match culprit {
-        Culprit::Word(word) => names.get(word).copied(),
+        Culprit::Word(word) => image_at(word, action, names),
         Culprit::Device(device) => {
             let may_miss = matches!(action, Action::Create(_));
             let mut images = names.iter().filter(|name| !is_missing(may_miss, name));
             images.nth(device).copied()
         }
-        Culprit::Staying(device) => names.get(place_of(device, action)).copied(),
-        Culprit::Named => names.get(member_of(action)?).copied(),
+        Culprit::Staying(device) => image_at(place_of(device, action), action, names),
+        Culprit::Named => named_by(action, names),
     }
 }
 
 /// Writes the image that a fault is about, and what to do, in one line.
-pub(crate) fn advise<E: Write>(
+pub fn advise<'a, E: Write>(
     fault: &CommandFault,
-    names: &[&str],
-    action: Action<'_>,
+    names: &[&'a str],
+    action: Action<'a>,
     err: &mut E,
 ) {
     if let Some(culprit) = culprit_of(fault) {

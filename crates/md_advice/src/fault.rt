@@ -43,7 +43,7 @@ pub enum CommandFault {
     #[error("{0}")]
     Rebuild(RebuildFault),
     /// No member has the index that the command names; or the array's data are not read or written, it is
-    /// not resynchronised or stopped, or its member is not failed or removed.
+    /// not resynchronised or stopped, its member is not failed or removed, or none is added.
     #[error("{0}")]
     Data(DataFault),
     /// The report can't be written.
@@ -56,7 +56,7 @@ pub enum CommandFault {
 
 impl From<ImagesFault> for CommandFault {
     ghost use Rattle.std.specs.Prelude.{◌≡◌};
-    ghost use Rattle.md_cli.specs.Arrays.{of_images};
+    ghost use Rattle.md_advice.specs.Faults.{of_images};
 
     ghost from_gives = { λ f e. e ≡ of_images f };
 
@@ -70,7 +70,7 @@ impl From<ImagesFault> for CommandFault {
 
 impl From<DataFault> for CommandFault {
     ghost use Rattle.std.specs.Prelude.{◌≡◌};
-    ghost use Rattle.md_cli.specs.declared.fault.CommandFault.TheVariants.{Data};
+    ghost use Rattle.md_advice.specs.declared.fault.CommandFault.TheVariants.{Data};
 
     ghost from_gives = { λ fault e. e ≡ Data fault };
 
@@ -81,7 +81,7 @@ impl From<DataFault> for CommandFault {
 
 impl From<SinkFault> for CommandFault {
     ghost use Rattle.std.specs.Prelude.{◌≡◌};
-    ghost use Rattle.md_cli.specs.declared.fault.CommandFault.TheVariants.{OutputFault};
+    ghost use Rattle.md_advice.specs.declared.fault.CommandFault.TheVariants.{OutputFault};
 
     ghost from_gives = { λ _ e. e ≡ OutputFault };
 

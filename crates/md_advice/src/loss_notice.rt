@@ -1,0 +1,31 @@
+// What is said where the content of an image is lost.
+use crate::fault::CommandFault;
+use md_commands::DataFault;
+use md_words::Action;
+use std::io::Write;
+
+// Whether a command that adds a device came as far as that: the stop and the report come after it.
+fn has_added(outcome: &Result<(), CommandFault>) -> bool {
+    matches!(
+        outcome,
+        Ok(())
+            | Err(CommandFault::Data(DataFault::Stop(_)))
+            | Err(CommandFault::Data(DataFault::OutputFault))
+    )
+}
+
+/// Says on `err` that what an image held is lost, where the command has added it to an array.
+pub fn tell_lost_content<E: Write>(
+    outcome: &Result<(), CommandFault>,
+    action: Action<'_>,
+    err: &mut E,
+) {
+    if let Action::Add(device) = action {
+        if has_added(outcome) {
+            let _ = writeln!(
+                err,
+                "mdcli: {device}: what it held is lost: it is a spare of the array now"
+            );
+        }
+    }
+}

@@ -1,0 +1,44 @@
+// The command that adds a device.
+ghost use Rattle.std.specs.Prelude.{MatchResult, option_map};
+ghost use Rattle.md_requests.specs.Pending.{PendingView};
+ghost use Rattle.md_state.specs.Requests.{IsPending};
+ghost use Rattle.md_state.specs.View.{disk_of};
+ghost use Rattle.md_array.specs.Consistency.{IsConsistent};
+ghost use Rattle.md_commands.specs.Adding.{AddsDevice, KeepsDevice, RefusesToAdd};
+ghost use Rattle.md_commands.specs.Stopping.{StopsArrayAfter};
+
+use crate::fault::DataFault;
+use crate::stopping::stop_array;
+use md_array::Mirror;
+use md_device::Device;
+use md_examine::Sink;
+use std::alloc::Global;
+
+/// Adds a device to the array as a spare, then stops the array, and puts out what it is in one line. What
+/// the device held is lost. A device that does not join comes back: as it was, unless a write to it failed,
+/// which is `Add` with `WriteFault`. One that joined is the mirror's, its last, also where the array is not
+/// stopped or shown after that.
+///
+///     let mut out = Output::new(rt.stdout());
+///     let (device, added) = add_device(rt.alloc(), &mut mirror, device, &mut out);
+///     added?; // it has put out `in sync 2 of 3, events 2, marked 0`
+pub fn add_device<D: Device + Drop, S: Sink>(
+    alloc: Global,
+    mirror: &mut Mirror<D>,
+    device: D,
+    out: &mut S,
+) -> (Option<D>, Result<(), DataFault>)
+    requires sound { IsConsistent mirror.old }
+    ensures gives { MatchResult result.1 (λ _. StopsArrayAfter S.Sink (AddsDevice (disk_of D.Device device) mirror.old) mirror.new out.old out.new) (RefusesToAdd S.Sink (disk_of D.Device device) (option_map (disk_of D.Device) result.0) mirror.old mirror.new out.old out.new) }
+    ensures device { KeepsDevice mirror.old.disks mirror.new.disks (option_map (disk_of D.Device) result.0) }
+    ensures sound { IsConsistent mirror.new }
+    ensures pending { (p : PendingView) → IsPending mirror.old.array p → IsPending mirror.new.array p }
+{
+    match mirror.add(alloc, device) {
+        Ok(_) => {
+            let stopped = stop_array(mirror, out);
+            (None, stopped)
+        }
+        Err((device, fault)) => (Some(device), Err(DataFault::Add(fault))),
+    }
+}

@@ -1,0 +1,23 @@
+-- What is kept in memory of a new device that comes in as a spare, and which member's bitmap it goes by.
+use Rattle.std.specs.Prelude.{◌≡◌, ℕ, false, List, [], map, slice_get, Some}
+use Rattle.md_super.specs.declared.superblock.Superblock.{Superblock}
+use Rattle.md_bitmap.specs.declared.header.BitmapHeader.{BitmapHeader}
+use Rattle.md_bitmap.specs.Marks.{Bitmap}
+use Rattle.md_assembly.specs.Assembled.{IsFreshest}
+use Rattle.md_assembly.specs.declared.state.MemberState.TheVariants.{Spare}
+use Rattle.md_kept_members.specs.View.{MemberView}
+
+-- It was laid out with these, so that its superblock is not due. It lists nothing.
+abbrev pub kept_spare : Superblock → BitmapHeader → Bitmap → MemberView
+kept_spare v h marks = record { superblock = v; header = h; stored = marks; bad = []; state = Spare; due = false; re_added = false }
+
+abbrev pub superblocks : List MemberView → List Superblock
+superblocks members = map (λ m. m.superblock) members
+
+-- the header of the member that is the freshest by the superblocks that are kept, as they were read
+pub record IsOfFreshest (members : List MemberView) (h : BitmapHeader) : Type 0 where
+  pub index : ℕ
+  pub member : MemberView
+  pub at : slice_get members index ≡ Some member
+  pub freshest : IsFreshest (superblocks members) index member.superblock
+  pub header : h ≡ member.header

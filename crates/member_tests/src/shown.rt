@@ -1,0 +1,69 @@
+// What a mirror shows, and what the superblock on a device says.
+use crate::changing::Testing;
+use crate::expected::Stored;
+use md_array::Mirror;
+use md_device::Device;
+use md_members::read_super;
+use std::alloc::Global;
+use std::test::Fail;
+
+#[derive(Clone, Copy, Debug, PartialEq, Eq)]
+pub(crate) struct Shown {
+    pub(crate) members: usize,
+    pub(crate) events: u64,
+    // The entries of the roles.
+    pub(crate) entries: u32,
+    pub(crate) marked: u32,
+    // How many superblocks have to be stored.
+    pub(crate) due: usize,
+    pub(crate) degraded: bool,
+    pub(crate) halted: bool,
+}
+
+pub(crate) fn what_shows(mirror: &Mirror<Testing>) -> Shown {
+    Shown {
+        members: mirror.members(),
+        events: mirror.events(),
+        entries: mirror.shared().roles.max_dev(),
+        marked: mirror.marks().count(),
+        due: how_many_due(mirror),
+        degraded: mirror.degraded(),
+        halted: mirror.halted(),
+    }
+}
+
+fn how_many_due(mirror: &Mirror<Testing>) -> usize {
+    let mut due = 0usize;
+    for k in 0..mirror.members() {
+        if mirror.due(k) {
+            due = due.saturating_add(1);
+        }
+    }
+    due
+}
+
+// How many chunks member k lacks; None where there is no such member.
+pub(crate) fn lacked(
+    alloc: Global,
+    mirror: &Mirror<Testing>,
+    k: usize,
+) -> Result<Option<u32>, Fail> {
+    if k >= mirror.members() {
+        return Ok(None);
+    }
+    let missing = mirror.missing(alloc, k)?;
+    let count = missing.count();
+    drop(missing);
+    Ok(Some(count))
+}
+
+pub(crate) fn stored_on<D: Device>(alloc: Global, device: &mut D) -> Result<Stored, Fail> {
+    let superblock = read_super(alloc, device)?;
+    let stored = Stored {
+        events: superblock.events,
+        role: superblock.role_of(superblock.dev_number),
+        recovering: superblock.feature_map & 2 != 0,
+    };
+    drop(superblock);
+    Ok(stored)
+}
