@@ -1,11 +1,22 @@
+-- The command that adds a device.
 pub mod Adding
+-- The command that fails a member.
 pub mod Failing
+-- What callers see of a reader as a source.
 pub mod Input
+-- What a command puts out.
 pub mod Output
+-- The command that reads an array.
 pub mod Reading
+-- The input of a write is read.
 pub mod ReadingInput
+-- The command that removes a member.
 pub mod Removing
+-- An array is resynced: by a command of its own, or because another one needs it.
 pub mod Resyncing
+-- What a source gives.
 pub mod Source
+-- The command that stops an array.
 pub mod Stopping
+-- The command that writes to an array.
 pub mod Writing

@@ -1,2 +1,4 @@
+-- What a member lacks, and where it may be read.
 pub mod Sources
+-- Which members may be rebuilt (this project's own rule, after md_start_sync and remove_and_add_spares of md.c).
 pub mod Targets

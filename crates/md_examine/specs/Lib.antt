@@ -1,7 +1,14 @@
+-- What a writer takes.
 pub mod Sink
+-- What callers see of a writer as a sink.
 pub mod Output
+-- What callers see of a buffered sink.
 pub mod Buffered
+-- Labelled lines and the values in them: the form of the reports is this project's own.
 pub mod Lines
+-- The report of a superblock, as text.
 pub mod SuperblockReport
+-- The report of a bitmap, as text.
 pub mod BitmapReport
+-- The report of a member's bad blocks, as text: a line for each maximal run, in a form of this project's own.
 pub mod BadblocksReport

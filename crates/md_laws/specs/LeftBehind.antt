@@ -19,8 +19,8 @@ DegradedRunWith t a (e ∷ es) last b =
     (m : MirrorView) × (requests : ℕ → Option Request) × (c : Content) × (is_degraded t.mirror.array ≡ true) × RestsThenDoes t.mirror t.requests e m requests
     × Becomes (geometry_of t.mirror.array) e (world_of t.mirror t.requests) a c × DegradedRunWith (then_as t e m requests) c es last b
 
--- A life from any moment on, likewise: events, a stop when some role is empty too, and an opening, events again, and so on. The
--- opening before gave the mirror opened, and the last one the mirror final.
+-- A life from any moment on, likewise: events, a stop when some role has no member in sync too, and an opening, events again, and
+-- so on. The opening before gave the mirror opened, and the last one the mirror final.
 abbrev pub DegradedLifeWith : MirrorView → Moment → Content → List Event → List (List Event) → MirrorView → Moment → Content → Type 0
 DegradedLifeWith opened t a es [] final last b = (final ≡ opened) × DegradedRunWith t a es last b
 DegradedLifeWith opened t a es (more ∷ rest) final last b =

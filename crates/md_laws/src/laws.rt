@@ -103,9 +103,10 @@ pub fn returning_devices()
 {}
 
 /// What a member that was in sync and failed, by a call or by a write, has of the array's content from then on, as
-/// long as some role is empty: all but the marked chunks. So the chunks that `missing` names of one that is taken back
-/// suffice. It may leave by `remove`, and the mirror may be stopped, at any moment of any of its calls, and opened
-/// again: so it is over each life that goes on from there.
+/// long as some role has no member in sync: all but the marked chunks. So where it is taken back as the failure left it,
+/// the chunks that `missing` names suffice; that each device that `re_add` takes back is such a one is not said. It
+/// may leave by `remove`, and the mirror may be stopped, at any moment of any of its calls, and opened again: so it is
+/// over each life that goes on from there.
 pub fn leaving_members()
     ensures behind { LiesBehind }
 {}

@@ -1,3 +1,6 @@
+-- Where the parts of a member stand on its device.
 pub mod Areas
+-- What reading a whole member gives.
 pub mod Members
+-- What reading a member of a device gives.
 pub mod Reading

@@ -1,4 +1,8 @@
+-- Parts of a whole call: each goes on by events of the chain, comes to its end, or loses a member.
 pub mod Going
+-- Marks and superblocks are stored on the members, whatever requests are in flight.
 pub mod Storing
+-- Marks go from memory, one after another.
 pub mod Clearing
+-- A whole stop.
 pub mod Stopping

@@ -33,8 +33,9 @@ is_marked d c = cond (is_accepted d) (d.bits c) true
 abbrev pub AgreeAt : Stored → Stored → ℕ → Type 0
 AgreeAt d e s = d.listed s ≡ false → e.listed s ≡ false → d.content s ≡ e.content s
 
--- Wherever two of these members differ, in a sector of the array that neither lists, the stored marks of each of them have
--- its chunk. That is: where the marks of one lack the chunk, any two agree.
+-- `Member` says which devices are meant, mostly those in sync. Wherever two of them differ, in a sector of the array that
+-- neither of the two lists, every one of them has the chunk in its stored marks (`is_marked`). So where one of them lacks the
+-- mark, any two agree.
 abbrev pub Covered : Geometry → (ℕ → Stored) → (ℕ → Type 0) → Type 0
 Covered g stored Member =
     (i j k s : ℕ) → s < g.size → Member i → Member j → Member k

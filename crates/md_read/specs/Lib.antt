@@ -1,1 +1,2 @@
+-- Sectors of the array are read from its members.
 pub mod Reading

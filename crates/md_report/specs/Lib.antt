@@ -1,3 +1,6 @@
+-- An array in one line: a form of this project's own.
 pub mod SummaryReport
+-- The report of an array, as text.
 pub mod DetailReport
+-- The report of a rebuild's plan, as text, in a form of this project's own.
 pub mod PlanReport

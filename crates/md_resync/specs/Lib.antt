@@ -1,5 +1,10 @@
+-- Which member may give a sector.
 pub mod Sources
+-- By which steps of the mirror events were done.
 pub mod Steps
+-- Steps of a mirror are a run of it.
 pub mod StepRuns
+-- A whole resync.
 pub mod Resyncing
+-- Marked chunks are copied, run by run.
 pub mod Copying

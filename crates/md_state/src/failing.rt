@@ -1,4 +1,4 @@
-// A write to a member fails.
+// A member fails: by a call, or since a write to it failed.
 ghost use Rattle.std.specs.Prelude.{◌≡◌, ◌<◌, MatchBool, cond, length};
 ghost use Rattle.md_kept_members.specs.View.{MemberView};
 ghost use Rattle.md_state.specs.CopyingData.{AnswersCopy};

@@ -1,2 +1,4 @@
+-- What the parts of a write have in common: they go on by events of the request, and come to their end or lose a member.
 pub mod Progress
+-- A whole write.
 pub mod Writing

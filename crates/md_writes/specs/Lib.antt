@@ -1,2 +1,4 @@
+-- Writes to a device in their order: what stands on it where one of them fails, and what a stop leaves.
 pub mod Writes
+-- The writes that store a bitmap.
 pub mod Bitmaps

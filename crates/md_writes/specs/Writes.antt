@@ -48,8 +48,8 @@ module _ {D : Type 0} (g : Ghosts D) where
     pub all_done : g.honest old ≡ true → g.content new ≡ after (g.content old) writes
     pub within : g.honest old ≡ true → LeavesOnly old new (IsCutShort (g.content old) writes)
 
-  -- One of them failed, and none was made after it. A stop within those before it leaves what it leaves of them; within it any
-  -- bytes may stand in its range, and so at its end.
+  -- One of them failed, and none was made after it: the writes end there, with no stop of the machine. A stop within those
+  -- before it leaves what it leaves of them; within it any bytes may stand in its range, and so at its end.
   pub record StopsInWrites (writes : List Write) (old new : D) : Type 0 where
     pub kept : IsKept old new
     pub failed : g.honest old ≡ true → g.failures old < g.failures new
