@@ -13,7 +13,7 @@ use Rattle.md_model.specs.Stops.{IsAbsent, IsLeft, IsFit, WasTried}
 abbrev pub beside : ℕ → (ℕ → Stored) → (ℕ → Stored) → ℕ → Stored
 beside members here back k = cond (nat_lt k members) (here k) (back k)
 
--- These were absent. With them the opening would have been of devices that are covered, one for each role.
+-- These were absent. With them the opening would have been of devices that are covered, no two in one role.
 pub record WasAway (g : Geometry) (opened : Super) (w : World) (back : ℕ → Stored) : Type 0 where
   pub absent : (k : ℕ) (own : Super) → (back k).super ≡ Some own → IsAbsent opened (λ d. not (w.present d)) own
   pub covered : Covered g (beside w.members w.stored back) (IsFound g (beside w.members w.stored back) opened)

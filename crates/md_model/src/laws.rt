@@ -90,7 +90,7 @@ pub fn needed_guards()
 /// The law of write intent, over every list of events, stops and openings that begins with devices that are covered. An opening
 /// may leave devices out, and take in such as the one before left out, if they are not found in sync.
 pub fn every_run()
-    // Wherever two members in sync differ, the marks stored on each of them have the chunk.
+    // Wherever two members in sync differ, the marks stored on every member in sync have the chunk.
     ensures covered { Always IsCovered }
 
     // A stop, also in the middle of a data write, leaves devices of which an opening finds only members in sync that were so,
