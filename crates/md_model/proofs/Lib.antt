@@ -10,6 +10,7 @@ pub mod Table
 pub mod Recorded
 pub mod RecordedSteps
 pub mod Membership
+pub mod Rebuilding
 pub mod Keeps
 pub mod Opened
 pub mod Safe
@@ -22,6 +23,8 @@ pub mod Between
 pub mod Contents
 pub mod BehindSteps
 pub mod ContentLives
+pub mod Told
+pub mod EnrolledLives
 pub mod Supers
 pub mod Fits
 pub mod Untouched
