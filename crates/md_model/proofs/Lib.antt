@@ -18,6 +18,7 @@ pub mod Lives
 pub mod Reopening
 pub mod SmallRun
 pub mod Comings
+pub mod Rebuilt
 pub mod Picked
 pub mod Between
 pub mod Contents

@@ -15,7 +15,7 @@ ghost use Rattle.md_model.specs.Returns.{CoversReturns};
 ghost use Rattle.md_model.specs.Runs.{History, IsStart, Run, opening};
 ghost use Rattle.md_model.specs.Sectors.{Geometry, chunk_of};
 ghost use Rattle.md_model.specs.SmallArray.{small_geometry, small_super, small_world};
-ghost use Rattle.md_model.specs.SmallRun.{CanRun, beginning, chunk_resynced, data_fails, data_written};
+ghost use Rattle.md_model.specs.SmallRun.{CanRun, beginning, chunk_resynced, data_fails, data_written, missed, rebuilt};
 ghost use Rattle.md_model.specs.Stops.{IsHalfOpened, IsSafeAtStop, KeepsOut, StaysOut};
 ghost use Rattle.md_model.specs.Worlds.{IsInSync, World};
 
@@ -58,6 +58,8 @@ pub fn small_runs()
     ensures copy_fails { CanRun ((beginning ++ data_written) ++ (Event.CopyFails 1 1 ∷ [])) }
     ensures comes_again { (own : Super) × (device left : Stored) × CanRun (beginning ++ (Event.Fail 1 ∷ Event.Remove 1 ∷ Event.ReAdd own device left ∷ [])) }
     ensures comes_new { (d : ℕ) × (left : Stored) × CanRun (beginning ++ (Event.Fail 1 ∷ Event.Remove 1 ∷ Event.Add d left ∷ [])) }
+    ensures returns { (own : Super) × (device left : Stored) × CanRun (missed ++ (Event.ReAdd own device left ∷ rebuilt)) }
+    ensures is_replaced { (d : ℕ) × (left : Stored) × CanRun (missed ++ (Event.Add d left ∷ rebuilt)) }
     ensures reopens { Reopens small_geometry (small_super 0) (opening small_world) (small_super 0) small_world }
 {}
 
