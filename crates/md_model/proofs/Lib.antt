@@ -10,6 +10,7 @@ pub mod Table
 pub mod Recorded
 pub mod RecordedSteps
 pub mod Membership
+pub mod Rebuilding
 pub mod Keeps
 pub mod Opened
 pub mod Safe
@@ -17,11 +18,14 @@ pub mod Lives
 pub mod Reopening
 pub mod SmallRun
 pub mod Comings
+pub mod Rebuilt
 pub mod Picked
 pub mod Between
 pub mod Contents
 pub mod BehindSteps
 pub mod ContentLives
+pub mod Told
+pub mod EnrolledLives
 pub mod Supers
 pub mod Fits
 pub mod Untouched

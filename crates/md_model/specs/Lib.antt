@@ -22,6 +22,8 @@ pub mod Failures
 pub mod Resyncing
 -- Members come and go.
 pub mod Membership
+-- A member is rebuilt, and comes into sync.
+pub mod Rebuilding
 -- What may happen to an array (this project's own).
 pub mod Events
 -- Whole runs from an opening (this project's own).

@@ -2,8 +2,8 @@
 
 ghost use Rattle.std.specs.Prelude.{◌≡◌, ℕ, ◌<◌, ◌⊎◌, false, true, None, [], ◌∷◌, ◌++◌};
 ghost use Rattle.md_model.specs.Assembly.{IsFound};
-ghost use Rattle.md_model.specs.Behind.{KeepsData, LeavesBehind, MissingBehind};
-ghost use Rattle.md_model.specs.Content.{BeginsBetween, BeginsInFlight, HasContent, HasContentAlong, KeepsBetween, KeepsContent, KeepsInFlight};
+ghost use Rattle.md_model.specs.Behind.{EnrolsBehind, KeepsData, LeavesBehind, MissingBehind, TellsBehind};
+ghost use Rattle.md_model.specs.Content.{BeginsBetween, BeginsInFlight, HasContent, HasContentAlong, KeepsBetween, KeepsContent, KeepsInFlight, TellsEnough};
 ghost use Rattle.md_model.specs.Devices.{Covered, Stored, Super, is_marked};
 ghost use Rattle.md_model.specs.Events.{Event};
 ghost use Rattle.md_model.specs.Fits.{FitsWhenThere, StepsRun};
@@ -15,7 +15,7 @@ ghost use Rattle.md_model.specs.Returns.{CoversReturns};
 ghost use Rattle.md_model.specs.Runs.{History, IsStart, Run, opening};
 ghost use Rattle.md_model.specs.Sectors.{Geometry, chunk_of};
 ghost use Rattle.md_model.specs.SmallArray.{small_geometry, small_super, small_world};
-ghost use Rattle.md_model.specs.SmallRun.{CanRun, beginning, chunk_resynced, data_fails, data_written};
+ghost use Rattle.md_model.specs.SmallRun.{CanRun, beginning, chunk_resynced, data_fails, data_written, missed, rebuilt};
 ghost use Rattle.md_model.specs.Stops.{IsHalfOpened, IsSafeAtStop, KeepsOut, StaysOut};
 ghost use Rattle.md_model.specs.Worlds.{IsInSync, World};
 
@@ -58,6 +58,8 @@ pub fn small_runs()
     ensures copy_fails { CanRun ((beginning ++ data_written) ++ (Event.CopyFails 1 1 ∷ [])) }
     ensures comes_again { (own : Super) × (device left : Stored) × CanRun (beginning ++ (Event.Fail 1 ∷ Event.Remove 1 ∷ Event.ReAdd own device left ∷ [])) }
     ensures comes_new { (d : ℕ) × (left : Stored) × CanRun (beginning ++ (Event.Fail 1 ∷ Event.Remove 1 ∷ Event.Add d left ∷ [])) }
+    ensures returns { (own : Super) × (device left : Stored) × CanRun (missed ++ (Event.ReAdd own device left ∷ rebuilt)) }
+    ensures is_replaced { (d : ℕ) × (left : Stored) × CanRun (missed ++ (Event.Add d left ∷ rebuilt)) }
     ensures reopens { Reopens small_geometry (small_super 0) (opening small_world) (small_super 0) small_world }
 {}
 
@@ -125,10 +127,22 @@ pub fn between_steps()
     ensures begins_in_flight { BeginsInFlight }
 {}
 
-/// There is such a content at an opening of devices that are covered, and it goes along every life.
+/// There is such a content at an opening of devices that are covered, and it goes along every life in which each
+/// enrolment is told: of each sector that the new member does not list, a member in sync does not list it either, or
+/// the new member holds the content there.
 pub fn has_content()
     ensures at_first { HasContent }
     ensures along { HasContentAlong }
+{}
+
+/// A member that comes into sync then holds the content on every sector that it does not list.
+pub fn rebuilt_members()
+    ensures told { TellsEnough }
+
+    // So does one that was re-added, if it lay behind by what is marked and each of its missing chunks was copied or is
+    // listed; and a life goes on by its enrolment, with the content that it had.
+    ensures behind { TellsBehind }
+    ensures goes_on { EnrolsBehind }
 {}
 
 /// A device that an opening left out may be found in sync again, as long as no data was tried: then the marks cover it too.
