@@ -32,7 +32,9 @@ pub mod Untouched
 pub mod Present
 pub mod Returns
 pub mod ContentAlong
+pub mod ToldInSync
 pub mod LoneOpening
 pub mod LoneMember
 pub mod LoneJoined
 pub mod NeededGuards
+pub mod Unfilled

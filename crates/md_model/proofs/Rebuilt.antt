@@ -192,8 +192,7 @@ module _ (n : Newcomer) (is : IsNewcomer n) where
   is_rebuilt h same =
       let h9 = then_in h (Event.Fill 1) z9 in
       let h10 = then_in h9 (Event.RecordTargetFails 1) z10 in
-      let h11 = then_in h10 (Event.Prepare 1) z11 in
-      (
+      let h11 = then_in h10 (Event.Prepare 1) z11 in (
         then_in h11 (Event.Enrol 1 1 (λ _. false)) z12,
         (
           z9,

@@ -36,6 +36,8 @@ pub mod Lives
 pub mod SmallRun
 -- The array's own content: what a reader is to get.
 pub mod Content
+-- A life in which the members in sync tell all of each enrolment.
+pub mod ToldInSync
 -- What a member that left still has of the array's content: by this a re-add copies marked chunks alone.
 pub mod Behind
 -- A device that an opening left out, and that comes back at the next one before any data was tried (this project's own).

@@ -9,7 +9,7 @@ ghost use Rattle.md_model.specs.Events.{Event};
 ghost use Rattle.md_model.specs.Fits.{FitsWhenThere, StepsRun};
 ghost use Rattle.md_model.specs.Lives.{Always, IsCovered, Reopens};
 ghost use Rattle.md_model.specs.LoneMember.{IsBack, IsKeptOut, IsShutOut, IsTakenIn, later_super, lone_at, lone_begin, lone_joined, lone_recorded, lone_world, lone_write, other_back};
-ghost use Rattle.md_model.specs.NeededGuards.{ForgetsFailure, KeepsTheRole, WritesTooEarly, WritesUnmarked};
+ghost use Rattle.md_model.specs.NeededGuards.{EnrolsUnfilled, ForgetsFailure, KeepsTheRole, WritesTooEarly, WritesUnmarked};
 ghost use Rattle.md_model.specs.Openings.{IsOpened, IsOpenedFrom};
 ghost use Rattle.md_model.specs.Returns.{CoversReturns};
 ghost use Rattle.md_model.specs.Runs.{History, IsStart, Run, opening};
@@ -17,6 +17,7 @@ ghost use Rattle.md_model.specs.Sectors.{Geometry, chunk_of};
 ghost use Rattle.md_model.specs.SmallArray.{small_geometry, small_super, small_world};
 ghost use Rattle.md_model.specs.SmallRun.{CanRun, beginning, chunk_resynced, data_fails, data_written, missed, rebuilt};
 ghost use Rattle.md_model.specs.Stops.{IsHalfOpened, IsSafeAtStop, KeepsOut, StaysOut};
+ghost use Rattle.md_model.specs.ToldInSync.{HasContentInSync};
 ghost use Rattle.md_model.specs.Worlds.{IsInSync, World};
 
 /// The premises on an opening can be met: the mirror of two members does.
@@ -87,6 +88,7 @@ pub fn needed_guards()
     ensures record_before_data { WritesTooEarly }
     ensures absent_loses_role { KeepsTheRole }
     ensures failure_recorded { ForgetsFailure }
+    ensures agrees_when_enrolled { EnrolsUnfilled }
 {}
 
 /// The law of write intent, over every list of events, stops and openings that begins with devices that are covered. An opening
@@ -133,6 +135,9 @@ pub fn between_steps()
 pub fn has_content()
     ensures at_first { HasContent }
     ensures along { HasContentAlong }
+
+    // Where the members in sync tell all of each enrolment, nothing is asked of the content.
+    ensures along_in_sync { HasContentInSync }
 {}
 
 /// A member that comes into sync then holds the content on every sector that it does not list.
