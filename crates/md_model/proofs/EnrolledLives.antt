@@ -6,7 +6,7 @@ use Rattle.md_model.specs.Worlds.{World}
 use Rattle.md_model.specs.Events.{Event, Step}
 use Rattle.md_model.specs.Runs.{History, then_in, opening}
 use Rattle.md_model.specs.Content.{Content, Anyhow, Becomes, LifeWith, RunWith}
-use Rattle.md_model.specs.Behind.{followed, followed_rest, EnrolsBehind}
+use Rattle.md_model.specs.RebuiltBehind.{followed, followed_rest, EnrolsBehind}
 use Rattle.md_model.proofs.ContentLives.{held_life, held_opened}
 use Rattle.md_model.proofs.Told.{shared_when_told, tells_behind}
 

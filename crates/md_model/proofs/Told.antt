@@ -4,7 +4,7 @@ use Rattle.md_model.specs.Sectors.{Geometry, chunk_of}
 use Rattle.md_model.specs.Worlds.{World, IsInSync}
 use Rattle.md_model.specs.Rebuilding.{MayEnrol}
 use Rattle.md_model.specs.Content.{Content, HoldsAtRest, IsShared, IsTold, TellsEnough}
-use Rattle.md_model.specs.Behind.{TellsBehind}
+use Rattle.md_model.specs.RebuiltBehind.{AgreesBehind, TellsBehind}
 use Rattle.md_model.proofs.Cases.{by_test, none_some}
 
 -- nothing is in flight, and the array is resynced: what a member in sync has is the content
@@ -26,3 +26,10 @@ pub tells_behind : TellsBehind
 tells_behind g w k listed a device late from s low clear = by_test (w.marks (chunk_of g s))
     (λ at. inl (from.copied s low at clear))
     (λ off. inr (from.content s low off ∙ late.in_memory s low (from.listed_still s low off clear) off))
+
+pub agrees_behind : AgreesBehind
+agrees_behind g w k listed a device idle resynced holds late from held j s low on off clear =
+    holds j s low on off (λ n p e. absurd (none_some p (sym (idle n) ∙ e))) (inl resynced)
+    ∙ sym (by_test (w.marks (chunk_of g s))
+    (λ at. held s low at clear)
+    (λ unmarked. from.content s low unmarked ∙ late.in_memory s low (from.listed_still s low unmarked clear) unmarked))

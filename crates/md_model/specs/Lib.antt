@@ -40,6 +40,8 @@ pub mod Content
 pub mod ToldInSync
 -- What a member that left still has of the array's content: by this a re-add copies marked chunks alone.
 pub mod Behind
+-- A member that was taken back and is rebuilt: when it agrees with those in sync, and holds the content.
+pub mod RebuiltBehind
 -- A device that an opening left out, and that comes back at the next one before any data was tried (this project's own).
 pub mod Returns
 -- When the next opening goes by a superblock that is fit, and calls that are lists of events (this project's own).

@@ -2,7 +2,7 @@
 
 ghost use Rattle.std.specs.Prelude.{◌≡◌, ℕ, ◌<◌, ◌⊎◌, false, true, None, [], ◌∷◌, ◌++◌};
 ghost use Rattle.md_model.specs.Assembly.{IsFound};
-ghost use Rattle.md_model.specs.Behind.{EnrolsBehind, KeepsData, LeavesBehind, MissingBehind, TellsBehind};
+ghost use Rattle.md_model.specs.Behind.{KeepsData, LeavesBehind, MissingBehind};
 ghost use Rattle.md_model.specs.Content.{BeginsBetween, BeginsInFlight, HasContent, HasContentAlong, KeepsBetween, KeepsContent, KeepsInFlight, TellsEnough};
 ghost use Rattle.md_model.specs.Devices.{Covered, Stored, Super, is_marked};
 ghost use Rattle.md_model.specs.Events.{Event};
@@ -11,6 +11,7 @@ ghost use Rattle.md_model.specs.Lives.{Always, IsCovered, Reopens};
 ghost use Rattle.md_model.specs.LoneMember.{IsBack, IsKeptOut, IsShutOut, IsTakenIn, later_super, lone_at, lone_begin, lone_joined, lone_recorded, lone_world, lone_write, other_back};
 ghost use Rattle.md_model.specs.NeededGuards.{EnrolsUnfilled, ForgetsFailure, KeepsTheRole, WritesTooEarly, WritesUnmarked};
 ghost use Rattle.md_model.specs.Openings.{IsOpened, IsOpenedFrom};
+ghost use Rattle.md_model.specs.RebuiltBehind.{AgreesBehind, EnrolsBehind, TellsBehind};
 ghost use Rattle.md_model.specs.Returns.{CoversReturns};
 ghost use Rattle.md_model.specs.Runs.{History, IsStart, Run, opening};
 ghost use Rattle.md_model.specs.Sectors.{Geometry, chunk_of};
@@ -107,7 +108,7 @@ pub fn every_run()
 
     // The members in sync hold the array's content, which only the end of a request changes, and a resync or an opening in
     // chunks that each of them has marked. A resync of a resynced array changes nothing of it, if its list of events is without
-    // Unresynced: one that answers Ok gives such a list.
+    // Unresynced: one that answers Ok gives such a list. A member that is enrolled has to hold it (`rebuilt_members`).
     ensures keeps_content { KeepsContent }
 
     // A member that was in sync and failed, or one as a stop left it, whatever the next opening finds of it, differs from the
@@ -145,7 +146,9 @@ pub fn rebuilt_members()
     ensures told { TellsEnough }
 
     // So does one that was re-added, if it lay behind by what is marked and each of its missing chunks was copied or is
-    // listed; and a life goes on by its enrolment, with the content that it had.
+    // listed: it agrees with the members in sync, as an enrolment asks, and a life goes on by that, with the content
+    // that it had.
+    ensures agrees { AgreesBehind }
     ensures behind { TellsBehind }
     ensures goes_on { EnrolsBehind }
 {}
