@@ -32,15 +32,21 @@ pub record IsOfFirst (n : ℕ) (chunks : Chunks) (offset : ℕ) (set : Bitmap) (
 abbrev pub IsOf : Chunks → ℕ → Bitmap → ℕ → Type 0
 IsOf chunks offset set sector = IsOfFirst set.chunks chunks offset set sector
 
--- The sectors of these chunks are taken from a list.
-pub record AreRemoved (chunks : Chunks) (offset : ℕ) (set : Bitmap) (old new : List Run) : Type 0 where
+-- The sectors of the first n of these chunks are taken from a list.
+pub record AreRemovedTo (n : ℕ) (chunks : Chunks) (offset : ℕ) (set : Bitmap) (old new : List Run) : Type 0 where
   pub canonical : IsCanonical new
-  pub bad : (sector : ℕ) → IsBad new sector ↔ (IsBad old sector × (IsOf chunks offset set sector → ⊥))
+  pub bad : (sector : ℕ) → IsBad new sector ↔ (IsBad old sector × (IsOfFirst n chunks offset set sector → ⊥))
+
+abbrev pub AreRemoved : Chunks → ℕ → Bitmap → List Run → List Run → Type 0
+AreRemoved chunks offset set old new = AreRemovedTo set.chunks chunks offset set old new
 
 -- They are added. No list has sectors from 2^54 on, and no device.
-pub record AreAdded (chunks : Chunks) (offset : ℕ) (set : Bitmap) (old new : List Run) : Type 0 where
+pub record AreAddedTo (n : ℕ) (chunks : Chunks) (offset : ℕ) (set : Bitmap) (old new : List Run) : Type 0 where
   pub canonical : IsCanonical new
-  pub bad : (sector : ℕ) → IsBad new sector ↔ (IsBad old sector ⊎ (IsOf chunks offset set sector × (sector < 2 ^ 54)))
+  pub bad : (sector : ℕ) → IsBad new sector ↔ (IsBad old sector ⊎ (IsOfFirst n chunks offset set sector × (sector < 2 ^ 54)))
+
+abbrev pub AreAdded : Chunks → ℕ → Bitmap → List Run → List Run → Type 0
+AreAdded chunks offset set old new = AreAddedTo set.chunks chunks offset set old new
 
 -- The list of a member of which these chunks were copied, and those, the orphans, nobody had: its list before, less the sectors of
 -- the former, and with those of the latter. A list is that of the maximal runs of its sectors, so that no other is such.

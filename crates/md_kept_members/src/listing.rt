@@ -42,7 +42,8 @@ pub fn log_room(own: &Superblock) -> u64
 
 // A list of the same sectors.
 fn same_list(alloc: Global, bad: &BadSet) -> Result<BadSet, AllocError>
-    ensures { IfOk result (λ list. (sector : ℕ) → IsBad list sector ↔ IsBad bad.now sector) }
+    ensures canonical { IfOk result IsCanonical }
+    ensures same { IfOk result (λ list. (sector : ℕ) → IsBad list sector ↔ IsBad bad.now sector) }
 {
     let mut list = BadSet::new(alloc);
     for run in bad.runs() {
@@ -57,7 +58,8 @@ fn remove_chunks(
     offset: u64,
     set: &Marks,
 ) -> Result<(), AllocError>
-    requires { set.now.chunks ≡ div_ceil chunks.size chunks.sectors }
+    requires all { set.now.chunks ≡ div_ceil chunks.size chunks.sectors }
+    requires canonical { IsCanonical list.old }
     ensures { OnOk result (AreRemoved chunks offset set.now list.old list.new) }
 {
     for chunk in 0..set.chunks() {
@@ -74,7 +76,8 @@ fn add_chunks(
     offset: u64,
     set: &Marks,
 ) -> Result<(), AllocError>
-    requires { set.now.chunks ≡ div_ceil chunks.size chunks.sectors }
+    requires all { set.now.chunks ≡ div_ceil chunks.size chunks.sectors }
+    requires canonical { IsCanonical list.old }
     ensures { OnOk result (AreAdded chunks offset set.now list.old list.new) }
 {
     for chunk in 0..set.chunks() {
@@ -92,7 +95,8 @@ fn remove_chunk(
     offset: u64,
     chunk: u32,
 ) -> Result<(), AllocError>
-    requires { chunk < div_ceil chunks.size chunks.sectors }
+    requires within { chunk < div_ceil chunks.size chunks.sectors }
+    requires canonical { IsCanonical list.old }
     ensures canonical { IsCanonical list.new }
     ensures bad { OnOk result ((sector : ℕ) → IsBad list.new sector ↔ (IsBad list.old sector × (IsOfChunk chunks offset chunk sector → ⊥))) }
 {
