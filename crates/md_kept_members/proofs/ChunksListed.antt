@@ -1,11 +1,11 @@
 -- Sectors of chunks are taken from a list, or added to it, chunk by chunk.
-use Rattle.std.proofs.Common.{◌≡◌, ◌↔◌, ◌⊎◌, ℕ, ◌+◌, ◌-◌, ◌^◌, ◌<◌, ◌≤◌, min, true, true≢false, false, List, [], ◌∷◌, Ok, Err, Result, OnOk, inl, inr, refl, sym, ap, ◌∙◌, subst, arith}
+use Rattle.std.proofs.Common.{◌≡◌, ◌↔◌, ◌⊎◌, ℕ, ◌+◌, ◌-◌, ◌^◌, ◌<◌, ◌≤◌, min, true, true≢false, false, List, [], ◌∷◌, Ok, Err, Result, OnOk, inl, inr, sym, ap, ◌∙◌, subst, arith}
 use Rattle.std.proofs.lemmas.Bool.{cases_lt}
 use Rattle.md_bitmap.specs.declared.chunks.Chunks.{Chunks}
 use Rattle.md_bitmap.specs.Marks.{Bitmap, is_set}
 use Rattle.md_badblocks.specs.declared.run.Run.{Run}
-use Rattle.md_badblocks.specs.Runs.{IsBad, IsCanonical, LiesIn}
-use Rattle.md_kept_members.specs.Enrolling.{AreAddedTo, AreRemovedTo, IsListAfter, IsOf, IsOfChunk, IsOfFirst}
+use Rattle.md_badblocks.specs.Runs.{IsBad, IsCanonical}
+use Rattle.md_kept_members.specs.Enrolling.{AreAddedTo, AreRemovedTo, IsListAfter, IsOfChunk, IsOfFirst}
 use Rattle.md_kept_members.specs.View.{MemberView}
 use Rattle.md_kept_members.proofs.Members.Indices.{cases_more}
 use Rattle.md_kept_members.proofs.Members.Roles.{IsRange, bad_below}
