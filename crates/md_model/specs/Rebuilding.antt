@@ -1,8 +1,8 @@
 -- A member is rebuilt, and comes into sync (raid1_sync_request, raid1_spare_active and super_1_sync in the kernel's md driver; what
 -- each asks, and in what order a member's parts are stored, are this project's own).
-use Rattle.std.specs.Prelude.{◌≡◌, ◌≢◌, ℕ, ◌+◌, ◌<◌, ◌≤◌, Bool, true, false, cond, Some}
+use Rattle.std.specs.Prelude.{◌≡◌, ◌≢◌, ℕ, ◌+◌, ◌<◌, ◌≤◌, ◌&&◌, ◌||◌, not, Bool, true, false, Some}
 use Rattle.md_model.specs.Sectors.{Geometry, chunk_of, put}
-use Rattle.md_model.specs.States.{State, is_active, is_recovering}
+use Rattle.md_model.specs.States.{State, is_active, is_in_sync, is_recovering}
 use Rattle.md_model.specs.States.State.{InSync, Recovering, Stale, Spare, Faulty}
 use Rattle.md_model.specs.Devices.{Stored, AgreeAt}
 use Rattle.md_model.specs.Worlds.{World, IsInSync}
@@ -20,7 +20,7 @@ is_target Faulty = false
 
 -- A member that is not in sync lacks this chunk: one that was re-added lacks the chunks that are marked, any other one lacks all.
 abbrev pub is_missing : World → ℕ → ℕ → Bool
-is_missing w k c = cond (w.re_added k) (w.marks c) true
+is_missing w k c = not (is_in_sync (w.state k)) && (not (w.re_added k) || w.marks c)
 
 -- It is rebuilt while nothing is in flight.
 pub record MayRebuild (w : World) (k : ℕ) : Type 0 where
@@ -78,3 +78,5 @@ pub record MayEnrol (g : Geometry) (w : World) (k role : ℕ) (listed : ℕ → 
   pub bitmap_fits : (w.stored k).bitmap_fits ≡ true
   -- its data: it agrees with each member in sync, by its list that is to come
   pub agrees : (j s : ℕ) → IsInSync w j → AgreeAt (w.stored j) (record (w.stored k) { listed = listed }) s
+  -- In a chunk that it lacked, each sector that it does not list was copied: some member in sync does not list it either.
+  pub copied : (s : ℕ) → s < g.size → is_missing w k (chunk_of g s) ≡ true → listed s ≡ false → (j : ℕ) × IsInSync w j × ((w.stored j).listed s ≡ false)
