@@ -5,14 +5,14 @@ use Rattle.md_model.specs.Sectors.{Geometry, chunk_of}
 use Rattle.md_model.specs.States.{is_in_sync}
 use Rattle.md_model.specs.Worlds.{World}
 use Rattle.md_model.specs.Rebuilding.{is_missing, MayEnrol}
-use Rattle.md_model.specs.Content.{Content, HoldsAtRest, IsShared, IsTold, TellsEnough}
+use Rattle.md_model.specs.Content.{Content, HoldsAtRest, IsKeptByEnrolling, IsTold, TellsEnough}
 use Rattle.md_model.specs.RebuiltBehind.{AgreesBehind, TellsBehind}
 use Rattle.md_model.proofs.Cases.{by_test, none_some}
 
 -- nothing is in flight, and the array is resynced: what a member in sync has is the content
-pub shared_when_told : (g : Geometry) (w : World) (k role : ℕ) (listed : ℕ → Bool) (a : Content)
-    → MayEnrol g w k role listed → HoldsAtRest g a w → IsTold g w k listed a → IsShared g w k listed a a
-shared_when_told g w k role listed a may holds told = record {
+pub kept_when_told : (g : Geometry) (w : World) (k role : ℕ) (listed : ℕ → Bool) (a : Content)
+    → MayEnrol g w k role listed → HoldsAtRest g a w → IsTold g w k listed a → IsKeptByEnrolling g w k listed a a
+kept_when_told g w k role listed a may holds told = record {
   same = refl;
   held = λ s low clear. by_test (is_missing w k (chunk_of g s))
       (λ lacked. let x = may.copied s low lacked clear in
@@ -21,7 +21,7 @@ shared_when_told g w k role listed a may holds told = record {
 }
 
 pub tells_enough : TellsEnough
-tells_enough g w k role listed w' a step t told = shared_when_told g w k role listed a step.1.1 t.at_rest told
+tells_enough g w k role listed w' a step t told = kept_when_told g w k role listed a step.1.1 t.at_rest told
 
 unmarked_unless_missing : (in_sync re_added marked : Bool) → in_sync ≡ false → not in_sync && (not re_added || marked) ≡ false → marked ≡ false
 unmarked_unless_missing true re_added marked out had = absurd (true≢false out)

@@ -28,7 +28,7 @@ pub record IsSettled (g : Geometry) (w : World) (a b : Content) : Type 0 where
   pub same : w.resynced ≡ true → (s : ℕ) → s < g.size → b s ≡ a s
 
 -- An enrolment leaves it. The new member has to hold it on each sector that it does not list.
-pub record IsShared (g : Geometry) (w : World) (k : ℕ) (listed : ℕ → Bool) (a b : Content) : Type 0 where
+pub record IsKeptByEnrolling (g : Geometry) (w : World) (k : ℕ) (listed : ℕ → Bool) (a b : Content) : Type 0 where
   pub same : b ≡ a
   pub held : (s : ℕ) → s < g.size → listed s ≡ false → (w.stored k).content s ≡ a s
 
@@ -36,7 +36,7 @@ pub record IsShared (g : Geometry) (w : World) (k : ℕ) (listed : ℕ → Bool)
 abbrev pub Becomes : Geometry → Event → World → Content → Content → Type 0
 Becomes g (Event.Finish n) w a b = b ≡ with_request (w.request n) a
 Becomes g Event.Resynced w a b = IsSettled g w a b
-Becomes g (Event.Enrol k role listed) w a b = IsShared g w k listed a b
+Becomes g (Event.Enrol k role listed) w a b = IsKeptByEnrolling g w k listed a b
 Becomes g e w a b = b ≡ a
 
 -- A member in sync holds it in each sector that it does not list, that no request in flight touches and, while the array is not
