@@ -9,7 +9,7 @@ use Rattle.md_model.specs.Steps.{entered, begun, with_device, recorded, marks_st
 use Rattle.md_model.specs.Failures.{failed}
 use Rattle.md_model.specs.Resyncing.{copied, made_resynced, made_clean, MayCopy}
 use Rattle.md_model.specs.Events.{Event, Fails, Happens}
-use Rattle.md_model.specs.Content.{Content, with_request, IsSettled, IsShared, Becomes, HoldsBetween, HoldsInFlight, KeepsBetween, KeepsInFlight, BeginsBetween}
+use Rattle.md_model.specs.Content.{Content, with_request, IsSettled, IsKeptByEnrolling, Becomes, HoldsBetween, HoldsInFlight, KeepsBetween, KeepsInFlight, BeginsBetween}
 use Rattle.md_model.proofs.Cases.{by_test, none_some}
 use Rattle.md_model.proofs.Puts.{by_same, put-miss}
 use Rattle.md_model.proofs.Tracked.{IsFewer, in_flight_fewer}
@@ -134,7 +134,7 @@ module _ (g : Geometry) (a : Content) where
   between_target : (w : World) (k : ℕ) (left : Stored) → is_target (w.state k) ≡ true → (w' : World) → w' ≡ with_device w k left → HoldsBetween g a w → HoldsBetween g a w'
   between_target w k left out w' is t = subst (HoldsBetween g a) (sym is) (between_fewer w (with_device w k left) (fewer_target w k left out) t)
 
-  between_enrolled : (w : World) (k role : ℕ) (listed : ℕ → Bool) (full : Bool) (b : Content) → MayEnrol g w k role listed → IsShared g w k listed a b
+  between_enrolled : (w : World) (k role : ℕ) (listed : ℕ → Bool) (full : Bool) (b : Content) → MayEnrol g w k role listed → IsKeptByEnrolling g w k listed a b
       → HoldsBetween g a w → HoldsBetween g a (enrolled g w k role listed full)
   between_enrolled w k role listed full b may c t = record {
     at_rest = λ j s low on clear q when. by_device g w k role listed full may j (λ (d : Stored). d.listed s ≡ false → d.content s ≡ a s) on

@@ -14,7 +14,7 @@ use Rattle.md_model.proofs.Recorded.{recorded_in_sync}
 use Rattle.md_model.proofs.Keeps.{all_agree, kept_step}
 use Rattle.md_model.proofs.Lives.{start_again}
 use Rattle.md_model.proofs.Contents.{holds_step}
-use Rattle.md_model.proofs.Told.{shared_when_told}
+use Rattle.md_model.proofs.Told.{kept_when_told}
 use Rattle.md_model.proofs.Picked.{picked, picked-all, picked-one, has_content_again}
 use Rattle.md_model.proofs.ContentLives.{IsHeld, held_opened}
 
@@ -59,7 +59,7 @@ module _ (g : Geometry) (small : IsWithinLimits g) (opened : Super) where
   after_event h (Event.Fill k) w' a t told s = (a, refl)
   after_event h (Event.Prepare k) w' a t told s = (a, refl)
   after_event h (Event.RecordTargetFails k) w' a t told s = (a, refl)
-  after_event h (Event.Enrol k role listed) w' a t told s = (a, shared_when_told g h.now k role listed a s.1 t.holds.at_rest told)
+  after_event h (Event.Enrol k role listed) w' a t told s = (a, kept_when_told g h.now k role listed a s.1 t.holds.at_rest told)
 
   along_run : (es : List Event) (h : History) (a : Content) (last : History) → IsHeld g opened h a → (run : Run g h es last) → RunTells g h a es last run
       → (b : Content) × RunWith g Anyhow h a es last b × IsHeld g opened last b

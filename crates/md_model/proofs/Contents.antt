@@ -7,7 +7,7 @@ use Rattle.md_model.specs.Steps.{begun, with_device, recorded, marks_stored, mem
 use Rattle.md_model.specs.Failures.{failed}
 use Rattle.md_model.specs.Resyncing.{copied, MayCopy}
 use Rattle.md_model.specs.Events.{Event, Fails, Step, Happens}
-use Rattle.md_model.specs.Content.{Content, with_request, IsShared, Becomes, HoldsUnmarked, Holds}
+use Rattle.md_model.specs.Content.{Content, with_request, IsKeptByEnrolling, Becomes, HoldsUnmarked, Holds}
 use Rattle.md_model.proofs.Cases.{by_test, never}
 use Rattle.md_model.proofs.Tracked.{IsTracked, IsFewer}
 use Rattle.md_model.proofs.TrackedSteps.{fewer_recorded, fewer_failed, content_marked, listed_marked, off_marked, content_written, listed_written, bits_written, bit_written}
@@ -71,7 +71,7 @@ module _ (g : Geometry) (a : Content) where
   unmarked_target w k left out w' is t = subst (HoldsUnmarked g a) (sym is) (unmarked_fewer w (with_device w k left) (fewer_target w k left out) t)
 
   -- the bits of the new member are the marks in memory
-  unmarked_enrolled : (w : World) (k role : ℕ) (listed : ℕ → Bool) (full : Bool) (b : Content) → MayEnrol g w k role listed → IsShared g w k listed a b
+  unmarked_enrolled : (w : World) (k role : ℕ) (listed : ℕ → Bool) (full : Bool) (b : Content) → MayEnrol g w k role listed → IsKeptByEnrolling g w k listed a b
       → IsTracked g w → Holds g a w → HoldsUnmarked g a (enrolled g w k role listed full)
   unmarked_enrolled w k role listed full b may c tracked t i j s low x on clear =
       let v = enrolled g w k role listed full in

@@ -8,7 +8,8 @@ use Rattle.md_model.specs.Runs.{History, then_in, opening}
 use Rattle.md_model.specs.Content.{Content, Anyhow, Becomes, LifeWith, RunWith}
 use Rattle.md_model.specs.RebuiltBehind.{followed, followed_rest, EnrolsBehind}
 use Rattle.md_model.proofs.ContentLives.{held_life, held_opened}
-use Rattle.md_model.proofs.Told.{shared_when_told, tells_behind}
+use Rattle.md_model.proofs.Rebuilding.{target_out}
+use Rattle.md_model.proofs.Told.{kept_when_told, tells_behind}
 
 module _ (g : Geometry) (last : History) (b : Content) (e : Event) (w' : World) (c : Content) (step : Step g last.now e w') (becomes : Becomes g e last.now b c) where
   run_followed : (es : List Event) (h : History) (a : Content) → RunWith g Anyhow h a es last b → RunWith g Anyhow h a (es ++ (e ∷ [])) (then_in last e w') c
@@ -32,5 +33,5 @@ pub enrols_behind : EnrolsBehind
 enrols_behind g opened w a start t es rest final last b life k role listed w' step device late from =
     let held = held_life g start.small Anyhow opened (opening w) a es rest final last b (held_opened g opened w a start t) life in
     life_followed g last b (Event.Enrol k role listed) w' b step
-    (shared_when_told g last.now k role listed b step.1.1 held.holds.at_rest (tells_behind g last.now k listed b device late from))
+    (kept_when_told g last.now k role listed b step.1.1 held.holds.at_rest (tells_behind g last.now k listed b device (target_out (last.now.state k) step.1.1.rebuild.target) late from))
     opened (opening w) a es rest final life

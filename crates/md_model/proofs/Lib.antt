@@ -32,7 +32,7 @@ pub mod Untouched
 pub mod Present
 pub mod Returns
 pub mod ContentAlong
-pub mod ToldInSync
+pub mod RebuiltWhole
 pub mod LoneOpening
 pub mod LoneMember
 pub mod LoneJoined

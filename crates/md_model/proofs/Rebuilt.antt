@@ -1,7 +1,7 @@
 -- The mirror of two members: one fails and leaves, a sector is written without it, and it comes again, or another one. That is filled
 -- with what it lacks, and comes into sync.
-use Rattle.std.proofs.Common.{◌≡◌, ◌≢◌, ℕ, zero, suc, ◌<◌, ◌≤◌, ◌+◌, Bool, true, false, cond, ◌++◌, [], ◌∷◌, inl, refl, sym, ap, ◌∙◌, subst, true≢false, arith}
-use Rattle.std.specs.Prelude.{Some, None}
+use Rattle.std.proofs.Common.{◌≡◌, ◌≢◌, ℕ, zero, suc, ◌<◌, ◌≤◌, ◌+◌, Bool, true, false, cond, ◌&&◌, ◌||◌, ◌++◌, [], ◌∷◌, inl, refl, sym, ap, ◌∙◌, subst, true≢false, arith}
+use Rattle.std.specs.Prelude.{Some, None, not}
 use Rattle.md_model.specs.Sectors.{chunk_of, put}
 use Rattle.md_model.specs.States.{State, is_active, is_in_sync, is_recovering}
 use Rattle.md_model.specs.Devices.{AgreeAt, Stored, Super}
@@ -20,7 +20,7 @@ use Rattle.md_model.proofs.Cases.{by_test, never, none_some}
 use Rattle.md_model.proofs.Puts.{by_same, put-at, put-hit, put-miss}
 use Rattle.md_model.proofs.RecordedSteps.{present_keeps}
 use Rattle.md_model.proofs.Comings.{never_full, only_active, only_first, to_first}
-use Rattle.md_model.proofs.Rebuilding.{not_target}
+use Rattle.md_model.proofs.Rebuilding.{not_target, target_out}
 use Rattle.md_model.proofs.SmallRun.{fails, only_eight, then}
 
 -- ---- without member 1
@@ -138,15 +138,15 @@ module _ (n : Newcomer) (is : IsNewcomer n) where
   abbrev z12 : World
   z12 = enrolled small_geometry z11 1 1 (λ _. false) true
 
-  lacks : (b : Bool) → cond b true true ≡ true
-  lacks true = refl
-  lacks false = refl
+  lacks : (s : State) (b : Bool) → is_target s ≡ true → not (is_in_sync s) && (not b || true) ≡ true
+  lacks s true out = ap (λ x. not x && true) (target_out s out)
+  lacks s false out = ap (λ x. not x && true) (target_out s out)
 
   fills : LeftByFilling small_geometry z8 1 filled
   fills = record {
     rest = refl;
     outside = λ s. by_same s 8
-        (λ same off. never (is_missing z8 1 (chunk_of small_geometry s)) (ap (λ t. is_missing z8 1 (chunk_of small_geometry t)) same ∙ lacks n.re_added) off)
+        (λ same off. never (is_missing z8 1 (chunk_of small_geometry s)) (ap (λ t. is_missing z8 1 (chunk_of small_geometry t)) same ∙ lacks n.state n.re_added is.target) off)
         (λ apart _. put-miss 8 (1 ∷ []) n.device.content s apart);
     past = λ s high. put-miss 8 (1 ∷ []) n.device.content s (λ same. omega arith);
   }
@@ -181,6 +181,7 @@ module _ (n : Newcomer) (is : IsNewcomer n) where
     bitmap_events = refl;
     bitmap_fits = refl;
     agrees = λ j s on. subst (λ i. AgreeAt (z11.stored i) prepared s) (sym (first_in_sync j on)) (agrees s);
+    copied = λ _ _ _ _. (0, refl, refl);
   }
 
   both_in : IsFull small_geometry z12

@@ -4,6 +4,7 @@ use Rattle.std.specs.Prelude.{◌≡◌, ℕ, ◌<◌, ◌⊎◌, Bool, true, fa
 use Rattle.md_model.specs.Sectors.{Geometry, chunk_of}
 use Rattle.md_model.specs.Devices.{Super}
 use Rattle.md_model.specs.Worlds.{Request, touches, World, IsInSync, IsInFlight, IsQuiet}
+use Rattle.md_model.specs.Rebuilding.{is_missing}
 use Rattle.md_model.specs.Events.{Event, Step}
 use Rattle.md_model.specs.Openings.{IsOpened}
 use Rattle.md_model.specs.Runs.{History, then_in, opening, Run, IsStart}
@@ -27,7 +28,7 @@ pub record IsSettled (g : Geometry) (w : World) (a b : Content) : Type 0 where
   pub same : w.resynced ≡ true → (s : ℕ) → s < g.size → b s ≡ a s
 
 -- An enrolment leaves it. The new member has to hold it on each sector that it does not list.
-pub record IsShared (g : Geometry) (w : World) (k : ℕ) (listed : ℕ → Bool) (a b : Content) : Type 0 where
+pub record IsKeptByEnrolling (g : Geometry) (w : World) (k : ℕ) (listed : ℕ → Bool) (a b : Content) : Type 0 where
   pub same : b ≡ a
   pub held : (s : ℕ) → s < g.size → listed s ≡ false → (w.stored k).content s ≡ a s
 
@@ -35,7 +36,7 @@ pub record IsShared (g : Geometry) (w : World) (k : ℕ) (listed : ℕ → Bool)
 abbrev pub Becomes : Geometry → Event → World → Content → Content → Type 0
 Becomes g (Event.Finish n) w a b = b ≡ with_request (w.request n) a
 Becomes g Event.Resynced w a b = IsSettled g w a b
-Becomes g (Event.Enrol k role listed) w a b = IsShared g w k listed a b
+Becomes g (Event.Enrol k role listed) w a b = IsKeptByEnrolling g w k listed a b
 Becomes g e w a b = b ≡ a
 
 -- A member in sync holds it in each sector that it does not list, that no request in flight touches and, while the array is not
@@ -119,11 +120,11 @@ KeepsContent =
 abbrev pub HasContent : Type 0
 HasContent = (g : Geometry) (opened : Super) (w : World) → IsStart g opened w → (a : Content) × Holds g a w
 
--- Of each sector that a new member does not list, some member in sync tells what it holds, as it does not list it either. Or the new
--- member holds the content there.
+-- In chunks that a member did not lack, it holds the content on each sector that it does not list. That is asked of one that was
+-- re-added alone: any other lacked them all.
 abbrev pub IsTold : Geometry → World → ℕ → (ℕ → Bool) → Content → Type 0
 IsTold g w k listed a =
-    (s : ℕ) → s < g.size → listed s ≡ false → ((j : ℕ) × IsInSync w j × ((w.stored j).listed s ≡ false)) ⊎ ((w.stored k).content s ≡ a s)
+    (s : ℕ) → s < g.size → is_missing w k (chunk_of g s) ≡ false → listed s ≡ false → (w.stored k).content s ≡ a s
 
 -- so at an enrolment
 abbrev pub Tells : Geometry → Event → World → Content → Type 0

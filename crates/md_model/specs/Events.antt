@@ -46,8 +46,8 @@ Fails g w k left w' = (full : Bool) × MayFail w k × ((full ≡ true) ↔ IsFul
 
 -- Member k, which is being rebuilt, has its device as left, and nothing changes in memory: it does not fail, and its superblock is due
 -- as before. A superblock that `enrol` failed to store, and that is the old one or none by then, is such too.
-abbrev pub LeavesTarget : World → ℕ → Stored → World → Type 0
-LeavesTarget w k left w' = (is_target (w.state k) ≡ true) × LeftBySuper w k left × (w' ≡ with_device w k left)
+abbrev pub FailsOnTarget : World → ℕ → Stored → World → Type 0
+FailsOnTarget w k left w' = (is_target (w.state k) ≡ true) × LeftBySuper w k left × (w' ≡ with_device w k left)
 
 -- what each event asks of the first world, and which it makes of it
 abbrev pub Happens : Geometry → World → Event → World → Type 0
@@ -73,7 +73,7 @@ Happens g w (Event.ReAdd own device left) w' =
     (full : Bool) × MayReAdd g w own × IsTakenBack (risen g w full) own device left × ((full ≡ true) ↔ IsFull g w') × (w' ≡ re_added g w own left full)
 Happens g w (Event.Fill k) w' = (left : Stored) × MayRebuild w k × LeftByFilling g w k left × (w' ≡ with_device w k left)
 Happens g w (Event.Prepare k) w' = (left : Stored) × MayRebuild w k × LeftByPreparing w k left × (w' ≡ with_device w k left)
-Happens g w (Event.RecordTargetFails k) w' = (left : Stored) × LeavesTarget w k left w'
+Happens g w (Event.RecordTargetFails k) w' = (left : Stored) × FailsOnTarget w k left w'
 Happens g w (Event.Enrol k role listed) w' =
     (full : Bool) × MayEnrol g w k role listed × ((full ≡ true) ↔ IsFull g w') × (w' ≡ enrolled g w k role listed full)
 

@@ -36,8 +36,8 @@ pub mod Lives
 pub mod SmallRun
 -- The array's own content: what a reader is to get.
 pub mod Content
--- A life in which the members in sync tell all of each enrolment.
-pub mod ToldInSync
+-- A life in which each member that comes into sync lacked all chunks.
+pub mod RebuiltWhole
 -- What a member that left still has of the array's content: by this a re-add copies marked chunks alone.
 pub mod Behind
 -- A member that was taken back and is rebuilt: when it agrees with those in sync, and holds the content.

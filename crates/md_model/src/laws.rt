@@ -18,7 +18,7 @@ ghost use Rattle.md_model.specs.Sectors.{Geometry, chunk_of};
 ghost use Rattle.md_model.specs.SmallArray.{small_geometry, small_super, small_world};
 ghost use Rattle.md_model.specs.SmallRun.{CanRun, beginning, chunk_resynced, data_fails, data_written, missed, rebuilt};
 ghost use Rattle.md_model.specs.Stops.{IsHalfOpened, IsSafeAtStop, KeepsOut, StaysOut};
-ghost use Rattle.md_model.specs.ToldInSync.{HasContentInSync};
+ghost use Rattle.md_model.specs.RebuiltWhole.{HasContentWhole};
 ghost use Rattle.md_model.specs.Worlds.{IsInSync, World};
 
 /// The premises on an opening can be met: the mirror of two members does.
@@ -131,23 +131,21 @@ pub fn between_steps()
 {}
 
 /// There is such a content at an opening of devices that are covered, and it goes along every life in which each
-/// enrolment is told: of each sector that the new member does not list, a member in sync does not list it either, or
-/// the new member holds the content there.
+/// enrolment is told: in chunks that it did not lack, the new member holds the content on each sector that it does not list.
 pub fn has_content()
     ensures at_first { HasContent }
     ensures along { HasContentAlong }
 
-    // Where the members in sync tell all of each enrolment, nothing is asked of the content.
-    ensures along_in_sync { HasContentInSync }
+    // Where no member that was re-added is enrolled, nothing is asked of the content.
+    ensures along_whole { HasContentWhole }
 {}
 
 /// A member that comes into sync then holds the content on every sector that it does not list.
 pub fn rebuilt_members()
     ensures told { TellsEnough }
 
-    // So does one that was re-added, if it lay behind by what is marked and each of its missing chunks was copied or is
-    // listed: it agrees with the members in sync, as an enrolment asks, and a life goes on by that, with the content
-    // that it had.
+    // So does one that was re-added, if it lay behind by what is marked: where its missing chunks hold the content it
+    // agrees with the members in sync, as an enrolment asks, and a life goes on by that, with the content that it had.
     ensures agrees { AgreesBehind }
     ensures behind { TellsBehind }
     ensures goes_on { EnrolsBehind }
