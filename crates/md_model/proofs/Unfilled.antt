@@ -1,10 +1,11 @@
--- A member that comes into sync unfilled is not covered.
+-- A member that comes into sync unfilled is not covered, and does not hold the content.
 use Rattle.std.proofs.Common.{◌≡◌, ◌≢◌, ℕ, ◌<◌, ◌≤◌, ◌+◌, true, false, zero, suc, inl, refl, sym, ap, ◌∙◌, subst, true≢false, arith, List, [], ◌∷◌}
 use Rattle.std.specs.Prelude.{Some, None}
 use Rattle.std.proofs.lemmas.Bool.Decides.{nat_tests}
+use Rattle.md_model.specs.States.{is_in_sync}
 use Rattle.md_model.specs.States.State.{Spare}
 use Rattle.md_model.specs.Devices.{Super, Stored}
-use Rattle.md_model.specs.Worlds.{World}
+use Rattle.md_model.specs.Worlds.{World, IsInSync}
 use Rattle.md_model.specs.Assembly.{IsFound}
 use Rattle.md_model.specs.Counts.{risen}
 use Rattle.md_model.specs.Steps.{recorded, super_for, with_device}
@@ -13,7 +14,7 @@ use Rattle.md_model.specs.Rebuilding.{enrolled}
 use Rattle.md_model.specs.Events.{Event}
 use Rattle.md_model.specs.Runs.{then_in}
 use Rattle.md_model.specs.SmallArray.{small_geometry, small_stored, small_world}
-use Rattle.md_model.specs.NeededGuards.{EnrolsUnfilled}
+use Rattle.md_model.specs.NeededGuards.{EnrolsOrphans, EnrolsUnfilled, orphaned_world}
 use Rattle.md_model.proofs.Cases.{none_some, some-injective}
 use Rattle.md_model.proofs.Puts.{put-miss}
 use Rattle.md_model.proofs.Comings.{never_full}
@@ -128,4 +129,35 @@ enrols_unfilled = (
     found = both_found;
     uncovered = λ c. some_byte ((unfilled 0).content 0) refl (c 1 0 1 0 (omega arith) (both_found 1 (omega arith)) (both_found 0 (omega arith)) (both_found 1 (omega arith)) refl refl refl);
   },
+)
+
+-- ---- where all in sync list a sector
+no_byte : (xs : List ℕ) → xs ≡ [] → xs ≡ 1 ∷ [] → ⊥
+no_byte [] none is = cc
+no_byte (x ∷ xs) none is = cc
+
+-- member 0 alone is in sync
+only_zero : (j : ℕ) → IsInSync orphaned_world j → j ≡ 0
+only_zero zero on = refl
+only_zero (suc zero) on = absurd (true≢false (sym on))
+only_zero (suc (suc j)) on =
+    absurd (true≢false (sym on ∙ ap is_in_sync (put-miss 1 Spare small_world.state (suc (suc j)) (λ e. omega arith))))
+
+all_listed : (j s : ℕ) → IsInSync orphaned_world j → (orphaned_world.stored j).listed s ≡ false → ⊥
+all_listed j s on off =
+    true≢false (subst (λ i. (orphaned_world.stored i).listed s ≡ false) (only_zero j on) off)
+
+pub enrols_orphans : EnrolsOrphans
+enrols_orphans = (
+  λ _. 1 ∷ [],
+  record {
+    at_rest = λ j s _ on off. absurd (all_listed j s on off);
+    in_flight = record {
+      written = λ n p j s e. absurd (none_some p e);
+      apart = λ m n q p s e. absurd (none_some q e);
+      distinct = λ i j a b _. only_zero i a ∙ sym (only_zero j b);
+    };
+  },
+  (λ j s on off. absurd (all_listed j s on off)),
+  λ holds. no_byte [] refl (holds 1 0 (omega arith) refl refl (λ n p e. absurd (none_some p e)) (inl refl)),
 )

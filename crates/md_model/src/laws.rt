@@ -9,7 +9,7 @@ ghost use Rattle.md_model.specs.Events.{Event};
 ghost use Rattle.md_model.specs.Fits.{FitsWhenThere, StepsRun};
 ghost use Rattle.md_model.specs.Lives.{Always, IsCovered, Reopens};
 ghost use Rattle.md_model.specs.LoneMember.{IsBack, IsKeptOut, IsShutOut, IsTakenIn, later_super, lone_at, lone_begin, lone_joined, lone_recorded, lone_world, lone_write, other_back};
-ghost use Rattle.md_model.specs.NeededGuards.{EnrolsUnfilled, ForgetsFailure, KeepsTheRole, WritesTooEarly, WritesUnmarked};
+ghost use Rattle.md_model.specs.NeededGuards.{EnrolsOrphans, EnrolsUnfilled, ForgetsFailure, KeepsTheRole, WritesTooEarly, WritesUnmarked};
 ghost use Rattle.md_model.specs.Openings.{IsOpened, IsOpenedFrom};
 ghost use Rattle.md_model.specs.RebuiltBehind.{AgreesBehind, EnrolsBehind, TellsBehind};
 ghost use Rattle.md_model.specs.Returns.{CoversReturns};
@@ -83,13 +83,14 @@ pub fn lone_member()
 {}
 
 /// Guards that the law can't do without. Where one is left out, an opening finds members in sync that marks don't cover, or one
-/// that failed.
+/// that failed; or a new member does not hold the content.
 pub fn needed_guards()
     ensures marks_before_data { WritesUnmarked }
     ensures record_before_data { WritesTooEarly }
     ensures absent_loses_role { KeepsTheRole }
     ensures failure_recorded { ForgetsFailure }
     ensures agrees_when_enrolled { EnrolsUnfilled }
+    ensures copied_when_enrolled { EnrolsOrphans }
 {}
 
 /// The law of write intent, over every list of events, stops and openings that begins with devices that are covered. An opening

@@ -1,5 +1,5 @@
 use Rattle.md_model.proofs.NeededGuards.{writes_unmarked, writes_too_early, keeps_the_role, forgets_failure}
-use Rattle.md_model.proofs.Unfilled.{enrols_unfilled}
+use Rattle.md_model.proofs.Unfilled.{enrols_orphans, enrols_unfilled}
 use Rattle.md_model.proofs.laws.needed_guards.Goals as goal
 
 pub returns : goal.returns
@@ -9,4 +9,5 @@ returns c = record {
   absent_loses_role = keeps_the_role;
   failure_recorded = forgets_failure;
   agrees_when_enrolled = enrols_unfilled;
+  copied_when_enrolled = enrols_orphans;
 }
