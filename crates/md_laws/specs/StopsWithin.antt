@@ -172,10 +172,10 @@ IsLeftBy (Event.Begin n p) before after w left = left ≡ map (λ d. d.content) 
 IsLeftBy (Event.Finish n) before after w left = left ≡ map (λ d. d.content) before
 IsLeftBy (Event.ClearIdle c) before after w left = left ≡ map (λ d. d.content) before
 IsLeftBy (Event.Fail k) before after w left = left ≡ map (λ d. d.content) before
-IsLeftBy (Event.Fill k) before after w left = Unit {0}
-IsLeftBy (Event.Prepare k) before after w left = Unit {0}
-IsLeftBy (Event.RecordTargetFails k) before after w left = Unit {0}
-IsLeftBy (Event.Enrol k role listed) before after w left = Unit {0}
+IsLeftBy (Event.Fill k) before after w left = ⊥
+IsLeftBy (Event.Prepare k) before after w left = ⊥
+IsLeftBy (Event.RecordTargetFails k) before after w left = ⊥
+IsLeftBy (Event.Enrol k role listed) before after w left = ⊥
 
 abbrev pub StopsAtEvents : Type 0
 StopsAtEvents =
