@@ -5,7 +5,7 @@ use Rattle.md_create.specs.Layout.{IsHalfLaidOut, IsLaidOut, KeepsOthers, writes
 use Rattle.md_create.specs.ReadBack.{IsReadable}
 use Rattle.md_members.specs.Members.{sectors_of}
 use Rattle.md_model.specs.Events.{Event}
-use Rattle.md_writes.specs.Writes.{DoesWrites, StopsInWrites}
+use Rattle.md_writes.specs.Writes.{DoesWrites, FailsInWrites}
 use Rattle.md_kept_members.specs.Spares.{kept_spare}
 use Rattle.md_kept_members.specs.View.{MemberView}
 use Rattle.md_faults.specs.declared.add_fault.AddFault.{AddFault}
@@ -42,7 +42,7 @@ pub record FailsToLayOut (device given : Disk) (number : ℕ) (old new : MirrorV
   pub unchanged : new ≡ old
   pub laid : NewMember
   pub spare : IsSpareOf old.array number (sectors_of device.content) laid
-  pub writes : StopsInWrites of_disks (writes_of laid) device given
+  pub writes : FailsInWrites of_disks (writes_of laid) device given
   pub outside : KeepsOthers laid device.content given.content
 
 abbrev pub RefusesToLayOut : Disk → Disk → ℕ → MirrorView → MirrorView → AddFault → Type 0

@@ -48,7 +48,7 @@ pub record ComesLast (before after : List Disk) : Type 0 where
   pub disks : after ≡ before ++ now ∷ []
 
 -- The devices before and after an event: one is written at most, and once, but for a new one. The sectors of one write of a resync
--- are an event each.
+-- are an event each. No call rebuilds a member yet.
 abbrev pub WritesOnce : Event → List Disk → List Disk → Type 0
 WritesOnce (Event.Record k) before after = (w : Write) × IsWritten k w before after
 WritesOnce (Event.StoreMarks k b) before after = (w : Write) × (length w.bytes ≡ 512) × IsWritten k w before after
@@ -68,6 +68,10 @@ WritesOnce (Event.Begin n p) before after = after ≡ before
 WritesOnce (Event.Finish n) before after = after ≡ before
 WritesOnce (Event.ClearIdle c) before after = after ≡ before
 WritesOnce (Event.Fail k) before after = after ≡ before
+WritesOnce (Event.Fill k) before after = ⊥
+WritesOnce (Event.Prepare k) before after = ⊥
+WritesOnce (Event.RecordTargetFails k) before after = ⊥
+WritesOnce (Event.Enrol k role listed) before after = ⊥
 
 -- By the event the mirror goes from its world with these requests in flight to that with those. A content that the members in
 -- sync held before it, they hold after it, changed as the event says; and who was written of a request in flight has its bytes.

@@ -90,7 +90,8 @@ pub record DidAdd (e : Event) (old new : MirrorView) : Type 0 where
   pub adds : Adds index device old new
   pub event : e ≡ add_event index device old new adds
 
--- What the step's own contract says of it, whatever its device is, and what requests are in flight after it.
+-- What the step's own contract says of it, whatever its device is, and what requests are in flight after it. No call rebuilds a member
+-- yet.
 abbrev pub Did : MirrorView → Requests → Event → MirrorView → Requests → Type 0
 Did old before (Event.Begin n r) new after =
     (sector : ℕ) × (bytes : List ℕ) × (p : PendingView) × IsUnder n p after × IsPut n (Some r) before after × Begins sector bytes old new p
@@ -113,6 +114,10 @@ Did old before (Event.Copy from k s) new after = (after ≡ before) × CopiesSec
 Did old before (Event.CopyFails k c) new after = (after ≡ before) × FailsToCopy k c old new
 Did old before Event.Resynced new after = (after ≡ before) × BecomesResynced old new
 Did old before Event.Unresynced new after = (after ≡ before) × NotesResynced false old new
+Did old before (Event.Fill k) new after = ⊥
+Did old before (Event.Prepare k) new after = ⊥
+Did old before (Event.RecordTargetFails k) new after = ⊥
+Did old before (Event.Enrol k role listed) new after = ⊥
 
 -- From this mirror, with these requests in flight, the events were done one after another, the first of them after this one, and
 -- then it holds of where they lead. What each step did is said of any devices. It is an event of the model where they do what they

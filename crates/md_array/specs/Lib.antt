@@ -30,3 +30,7 @@ pub mod MemberEvents
 pub mod Adding
 -- A device that left is taken back: it is read as a member, and then its superblock is written.
 pub mod ReAdding
+-- The devices move out, for a rebuild or a check, and come back (this project's own).
+pub mod Lending
+-- The superblock of a member that is rebuilt is stored, whose failure leaves the member as it was (this project's own).
+pub mod RecordingTarget

@@ -8,6 +8,7 @@ mod copying_data;
 mod failing_members;
 mod fault;
 mod finishing;
+mod lending;
 mod making_clean;
 mod mirror;
 mod missing;
@@ -17,6 +18,7 @@ mod re_adding;
 mod reading;
 mod reading_data;
 mod recording;
+mod recording_target;
 mod removing;
 mod stored_marks;
 mod stored_sectors;
@@ -27,7 +29,7 @@ mod writing_member;
 pub use fault::OpenFault;
 pub use md_faults::{
     AddFault, BeginFault, CleanFault, ClearFault, CopyFault, FailFault, FinishFault, ReAddFault,
-    RemoveFault, StoreFault, WriteMemberFault,
+    RemoveFault, StoreFault, TargetFault, WriteMemberFault,
 };
 pub use md_requests::Pending;
 pub use mirror::Mirror;

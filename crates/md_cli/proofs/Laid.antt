@@ -6,7 +6,7 @@ use Rattle.std.proofs.lemmas.Option.{same_Some, slice_get-get_or, slice_get-map,
 use Rattle.std.proofs.lemmas.List.{map-set}
 use Rattle.md_create.specs.declared.params.NewMember.{NewMember}
 use Rattle.md_create.specs.Layout.{writes_of}
-use Rattle.md_create.specs.Writes.{DoesWrites, StopsInWrites}
+use Rattle.md_create.specs.Writes.{DoesWrites, FailsInWrites}
 use Rattle.md_state.specs.View.{Disk, disk_of}
 use Rattle.md_cli.specs.Creating.{AreLaidOut, At, FailsToLayOut, LaysOut}
 use Rattle.md_array.proofs.General.Indices.{got_other, at_set_same}
@@ -70,7 +70,7 @@ module _ {D : Type 0} (g : Ghosts D) (d e : D) (m : NewMember) where
   pub does_on_disk : DoesWrites g (writes_of m) d e → LaysOut (disk_of g d) (disk_of g e) m
   does_on_disk h = record { kept = record { size = h.kept.size; honest_kept = h.kept.honest_kept; counted = h.kept.counted }; unfailing = h.unfailing; all_done = h.all_done; within = h.within }
 
-  pub stops_on_disk : StopsInWrites g (writes_of m) d e → FailsToLayOut (disk_of g d) (disk_of g e) m
+  pub stops_on_disk : FailsInWrites g (writes_of m) d e → FailsToLayOut (disk_of g d) (disk_of g e) m
   stops_on_disk h = record { kept = record { size = h.kept.size; honest_kept = h.kept.honest_kept; counted = h.kept.counted }; failed = h.failed; done = h.done; tried = h.tried; rest = h.rest; order = h.order; outside = h.outside; within = h.within }
 
 -- the first list of devices with one that was written to

@@ -4,7 +4,7 @@ use Rattle.clap.specs.Words.{Text}
 use Rattle.md_create.specs.Geometry.{IsGeometry}
 use Rattle.md_create.specs.Values.{AreMembers}
 use Rattle.md_create.specs.Layout.{writes_of}
-use Rattle.md_create.specs.Writes.{DoesWrites, StopsInWrites}
+use Rattle.md_create.specs.Writes.{DoesWrites, FailsInWrites}
 use Rattle.md_create.specs.declared.params.CreateParams.{CreateParams}
 use Rattle.md_create.specs.declared.params.NewMember.{NewMember}
 use Rattle.md_create.specs.declared.fault.CreateFault.TheVariants.{BadGeometry, NoMemory}
@@ -41,7 +41,7 @@ abbrev pub LaysOut : Disk → Disk → NewMember → Type 0
 LaysOut d e m = DoesWrites of_disks (writes_of m) d e
 
 abbrev pub FailsToLayOut : Disk → Disk → NewMember → Type 0
-FailsToLayOut d e m = StopsInWrites of_disks (writes_of m) d e
+FailsToLayOut d e m = FailsInWrites of_disks (writes_of m) d e
 
 -- the first n members are laid out, each on its device, and nothing is done to the devices after the n-th
 pub record AreLaidOut (before after : List Disk) (members : List NewMember) (n : ℕ) : Type 0 where

@@ -83,6 +83,10 @@ did IsOf keeps Event.MakeClean old new before after of h = ap length h.1.disks
 did IsOf keeps (Event.Remove k) old new before after of h = absurd (keeps.removes k of)
 did IsOf keeps (Event.Add d left) old new before after of h = absurd (keeps.adds d left of)
 did IsOf keeps (Event.ReAdd own device left) old new before after of h = absurd (keeps.re_adds own device left of)
+did IsOf keeps (Event.Fill k) old new before after of h = absurd h
+did IsOf keeps (Event.Prepare k) old new before after of h = absurd h
+did IsOf keeps (Event.RecordTargetFails k) old new before after of h = absurd h
+did IsOf keeps (Event.Enrol k role listed) old new before after of h = absurd h
 
 halts : (e : Event) (old new : MirrorView) (before : Requests) → HaltsAt old before e new → AsMany old new
 halts (Event.RecordFails k) old new before h = h.halts.disks.tried.as_many

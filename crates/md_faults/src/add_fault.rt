@@ -1,7 +1,8 @@
 // Why a new device is not added. A message is the fault's name.
 use thiserror::Error;
 
-/// Why a new device is not added, in the order in which it is looked for.
+/// Why a new device is not added, in the order in which it is looked for, but that memory is taken before the first
+/// write.
 #[derive(Clone, Copy, Debug, PartialEq, Eq, Error)]
 pub enum AddFault {
     /// The mirror is halted.
@@ -19,7 +20,7 @@ pub enum AddFault {
     /// The device could not be laid out.
     #[error("WriteFault")]
     WriteFault,
-    /// There was no memory. It is taken before anything is written.
+    /// There was no memory, before anything was written.
     #[error("NoMemory")]
     NoMemory,
 }

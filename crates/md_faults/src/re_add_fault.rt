@@ -2,7 +2,8 @@
 use md_members::MemberFault;
 use thiserror::Error;
 
-/// Why a device that left is not taken back, in the order in which it is looked for.
+/// Why a device that left is not taken back, in the order in which it is looked for, but that memory is taken before
+/// the write.
 #[derive(Clone, Copy, Debug, PartialEq, Eq, Error)]
 pub enum ReAddFault {
     /// The mirror is halted.
@@ -27,7 +28,7 @@ pub enum ReAddFault {
     /// Its superblock could not be written.
     #[error("WriteFault")]
     WriteFault,
-    /// There was no memory.
+    /// There was no memory, to read the device or before the write.
     #[error("NoMemory")]
     NoMemory,
 }

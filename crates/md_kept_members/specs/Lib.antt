@@ -18,3 +18,5 @@ pub mod StoredMarks
 pub mod TakingBack
 -- What is kept in memory of a new device that comes in as a spare, and which member's bitmap it goes by.
 pub mod Spares
+-- What is kept in memory of a member that was rebuilt, and comes into sync: its list, and its own fields (this project's own).
+pub mod Enrolling

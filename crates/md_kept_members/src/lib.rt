@@ -3,7 +3,9 @@
 
 mod clearing;
 mod due;
+mod enrolling;
 mod freshest;
+mod listing;
 mod marking;
 mod member;
 mod other_in_sync;
@@ -17,7 +19,9 @@ mod taking_back;
 
 pub use clearing::last_cleared;
 pub use due::make_due;
+pub use enrolling::in_sync;
 pub use freshest::freshest_header;
+pub use listing::{list_after, log_room};
 pub use marking::{needs_marks, united_marks};
 pub use member::Member;
 pub use other_in_sync::has_other_in_sync;

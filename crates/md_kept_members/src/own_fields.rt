@@ -16,8 +16,8 @@ pub(crate) fn stored_next(v: Superblock, bad: &BadSet) -> Superblock
     next
 }
 
-// The feature map, whose bit 8 tells whether the log lists bad blocks.
-fn with_list(feature_map: u32, bad: &BadSet) -> u32
+/// The feature map, whose bit 8 tells whether the log lists bad blocks.
+pub(crate) fn with_list(feature_map: u32, bad: &BadSet) -> u32
     ensures { result ≡ with_list bad.now feature_map }
 {
     if bad.runs().is_empty() {

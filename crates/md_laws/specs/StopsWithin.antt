@@ -150,7 +150,8 @@ abbrev pub IsLeftJoining : (before after : List Disk) → ComesLast before after
 IsLeftJoining before after w left = IsLeftBut (length before) (λ was c. IsCutShort was w.writes c) (before ++ w.was ∷ []) left
 
 -- What a stop leaves at a moment of the call of an event: what was there before it or what is after it, or its one write cut short.
--- Of a copy nothing is said here, as one write does many (`StoppedCopies`). Of a new device several writes are made.
+-- Of a copy nothing is said here, as one write does many (`StoppedCopies`). Of a new device several writes are made. No call rebuilds a
+-- member yet.
 abbrev pub IsLeftBy : (e : Event) (before after : List Disk) → WritesOnce e before after → List (List ℕ) → Type 0
 IsLeftBy (Event.Record k) before after once left = (w : Write) × IsWritten k w before after × IsLeftBut k (λ old c. IsCutShort old (w ∷ []) c) before left
 IsLeftBy (Event.WriteMember n k) before after once left = (w : Write) × IsWritten k w before after × IsLeftBut k (λ old c. IsCutShort old (w ∷ []) c) before left
@@ -171,6 +172,10 @@ IsLeftBy (Event.Begin n p) before after w left = left ≡ map (λ d. d.content) 
 IsLeftBy (Event.Finish n) before after w left = left ≡ map (λ d. d.content) before
 IsLeftBy (Event.ClearIdle c) before after w left = left ≡ map (λ d. d.content) before
 IsLeftBy (Event.Fail k) before after w left = left ≡ map (λ d. d.content) before
+IsLeftBy (Event.Fill k) before after w left = ⊥
+IsLeftBy (Event.Prepare k) before after w left = ⊥
+IsLeftBy (Event.RecordTargetFails k) before after w left = ⊥
+IsLeftBy (Event.Enrol k role listed) before after w left = ⊥
 
 abbrev pub StopsAtEvents : Type 0
 StopsAtEvents =

@@ -49,8 +49,7 @@ pub fn opening()
 /// own contract gives (`IsLeft`): of its write each sector as before or as written, or any bytes in its range
 /// where the write fails. A stop within `record` left the old superblock, the new one or none that can be
 /// decoded: a premise, unless the write is done and neither superblock has more than 128 roles. A device that comes in
-/// or comes back is one of those that were left where it is as after the call; of one that comes back it is enough that
-/// its superblock reads so. Nothing is said of a stop within a write of marks, or of a copy, that fails.
+/// counts as left only where it is as after the call. Of one that comes back it is enough that its superblock reads so. Nothing is said of a stop within a write of marks, or of a copy, that fails.
 ///
 /// An opening after a stop is of devices that were left, in any order, some of them missing (`IsReopened`). Beside
 /// them may be further ones, which the opening before left out (`IsFurther`): they are not found in sync. Its
@@ -58,7 +57,7 @@ pub fn opening()
 /// themselves stopped may have written bitmaps between, if no chunk lost its mark and the header kept its chunk
 /// size (`half_opening`). Nothing is said of a mirror once it is halted.
 pub fn every_run()
-    // Wherever two members in sync differ, the marks stored on each of them have the chunk.
+    // Wherever two members in sync differ, the marks stored on every member in sync have the chunk.
     ensures covered { AtEachMoment IsCovered }
 
     // A stop leaves devices of which an opening finds only members in sync that were so, whose marks cover

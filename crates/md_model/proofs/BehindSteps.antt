@@ -18,6 +18,8 @@ use Rattle.md_model.specs.States.State.{Recovering, Spare}
 use Rattle.md_model.specs.Counts.{risen}
 use Rattle.md_model.specs.Membership.{is_spare, joined, removed, skip, Newcomer}
 use Rattle.md_model.proofs.Membership.{same_device, was_member}
+use Rattle.md_model.specs.Rebuilding.{is_target, enrolled, MayEnrol}
+use Rattle.md_model.proofs.Rebuilding.{fewer_target, off_enrolled}
 use Rattle.md_model.proofs.Between.{ended_away}
 use Rattle.md_model.proofs.Contents.{quiet_unmarked}
 
@@ -46,6 +48,15 @@ module _ (g : Geometry) (d : Stored) where
   behind_joined a w n out t = record {
     in_memory = t.in_memory;
     on_members = λ i s low on off bit. t.on_members i s low (was_member w n out i on).1 off (sym (ap (λ (x : Stored). x.bits (chunk_of g s)) (same_device w n out i on)) ∙ bit);
+  }
+
+  behind_target : (a : Content) (w : World) (k : ℕ) (left : Stored) → is_target (w.state k) ≡ true → (w' : World) → w' ≡ with_device w k left → IsBehind g a d w → IsBehind g a d w'
+  behind_target a w k left out w' is t = subst (IsBehind g a d) (sym is) (behind_fewer a w (with_device w k left) (fewer_target w k left out) t)
+
+  behind_enrolled : (a : Content) (w : World) (k role : ℕ) (listed : ℕ → Bool) (full : Bool) → MayEnrol g w k role listed → IsBehind g a d w → IsBehind g a d (enrolled g w k role listed full)
+  behind_enrolled a w k role listed full may t = record {
+    in_memory = t.in_memory;
+    on_members = λ i s low on off. off_enrolled g w k role listed full may i (chunk_of g s) (d.content s ≡ a s) on (t.in_memory s low off) (λ was. t.on_members i s low was off);
   }
 
   -- each event, as long as the array is degraded: no mark is cleared
@@ -89,6 +100,10 @@ module _ (g : Geometry) (d : Stored) where
   behind_step a b w (Event.ReAdd own device left) w' _ _ t s c = behind_as a b w' c (subst (IsBehind g a d) (sym s.4)
       (behind_joined a (risen g w s.0) (record { number = own.number; role = own.role own.number; state = Recovering; re_added = true; recovering = true; device = left }) refl (record { in_memory = t.in_memory; on_members = t.on_members })))
   behind_step a b w Event.MakeClean w' _ _ t s c = behind_as a b w' c (subst (IsBehind g a d) (sym s.3) (record { in_memory = t.in_memory; on_members = t.on_members }))
+  behind_step a b w (Event.Fill k) w' _ _ t s c = behind_as a b w' c (behind_target a w k s.0 s.1.target w' s.3 t)
+  behind_step a b w (Event.Prepare k) w' _ _ t s c = behind_as a b w' c (behind_target a w k s.0 s.1.target w' s.3 t)
+  behind_step a b w (Event.RecordTargetFails k) w' _ _ t s c = behind_as a b w' c (behind_target a w k s.0 s.1.0 w' s.1.2 t)
+  behind_step a b w (Event.Enrol k role listed) w' _ _ t s c = behind_as a b w' c.same (subst (IsBehind g a d) (sym s.3) (behind_enrolled a w k role listed s.0 s.1 t))
 
 -- A member that fails is behind by what is marked.
 module _ (g : Geometry) (a : Content) (w : World) (tracked : IsTracked g w) (t : Holds g a w) (k : ℕ) (on : IsInSync w k) where
@@ -151,3 +166,7 @@ module _ (g : Geometry) (a : Content) (w : World) (tracked : IsTracked g w) (t :
   behind_leaving (Event.Remove j) same w' s = absurd same
   behind_leaving (Event.Add number left) same w' s = absurd same
   behind_leaving (Event.ReAdd own device left) same w' s = absurd same
+  behind_leaving (Event.Fill j) same w' s = absurd same
+  behind_leaving (Event.Prepare j) same w' s = absurd same
+  behind_leaving (Event.RecordTargetFails j) same w' s = absurd same
+  behind_leaving (Event.Enrol j role listed) same w' s = absurd same

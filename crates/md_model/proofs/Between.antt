@@ -9,7 +9,7 @@ use Rattle.md_model.specs.Steps.{entered, begun, with_device, recorded, marks_st
 use Rattle.md_model.specs.Failures.{failed}
 use Rattle.md_model.specs.Resyncing.{copied, made_resynced, made_clean, MayCopy}
 use Rattle.md_model.specs.Events.{Event, Fails, Happens}
-use Rattle.md_model.specs.Content.{Content, with_request, IsSettled, Becomes, HoldsBetween, HoldsInFlight, KeepsBetween, KeepsInFlight, BeginsBetween}
+use Rattle.md_model.specs.Content.{Content, with_request, IsSettled, IsKeptByEnrolling, Becomes, HoldsBetween, HoldsInFlight, KeepsBetween, KeepsInFlight, BeginsBetween}
 use Rattle.md_model.proofs.Cases.{by_test, none_some}
 use Rattle.md_model.proofs.Puts.{by_same, put-miss}
 use Rattle.md_model.proofs.Tracked.{IsFewer, in_flight_fewer}
@@ -18,7 +18,9 @@ use Rattle.md_model.proofs.TrackedCalls.{content_copied, content_at_copy, listed
 use Rattle.md_model.specs.States.{is_in_sync}
 use Rattle.md_model.specs.States.State.{Recovering, Spare}
 use Rattle.md_model.specs.Membership.{is_spare, joined, removed, skip, Newcomer}
+use Rattle.md_model.specs.Rebuilding.{is_target, enrolled, MayEnrol}
 use Rattle.md_model.proofs.Membership.{in_flight_joined, in_flight_removed, same_device, was_member}
+use Rattle.md_model.proofs.Rebuilding.{by_device, fewer_target, in_flight_enrolled}
 use Rattle.md_model.proofs.Keeps.{begin_after}
 use Rattle.md_model.proofs.Opened.{in_flight_opened}
 
@@ -129,6 +131,17 @@ module _ (g : Geometry) (a : Content) where
     in_flight = in_flight_joined w n out t.in_flight;
   }
 
+  between_target : (w : World) (k : ℕ) (left : Stored) → is_target (w.state k) ≡ true → (w' : World) → w' ≡ with_device w k left → HoldsBetween g a w → HoldsBetween g a w'
+  between_target w k left out w' is t = subst (HoldsBetween g a) (sym is) (between_fewer w (with_device w k left) (fewer_target w k left out) t)
+
+  between_enrolled : (w : World) (k role : ℕ) (listed : ℕ → Bool) (full : Bool) (b : Content) → MayEnrol g w k role listed → IsKeptByEnrolling g w k listed a b
+      → HoldsBetween g a w → HoldsBetween g a (enrolled g w k role listed full)
+  between_enrolled w k role listed full b may c t = record {
+    at_rest = λ j s low on clear q when. by_device g w k role listed full may j (λ (d : Stored). d.listed s ≡ false → d.content s ≡ a s) on
+        (λ _. c.held s low) (λ was off. t.at_rest j s low was off q when) clear;
+    in_flight = in_flight_enrolled g w k role listed full may t.in_flight;
+  }
+
   -- the content goes along with each event
   same : (b : Content) (w : World) → b ≡ a → HoldsBetween g a w → HoldsBetween g b w
   same b w e = subst (λ c. HoldsBetween g c w) (sym e)
@@ -154,6 +167,10 @@ module _ (g : Geometry) (a : Content) where
   between b w (Event.ReAdd own device left) w' s c t = same b w' c (subst (HoldsBetween g a) (sym s.4)
       (between_joined (risen g w s.0) (record { number = own.number; role = own.role own.number; state = Recovering; re_added = true; recovering = true; device = left }) refl (between_risen w s.0 t)))
   between b w Event.MakeClean w' s c t = same b w' c (subst (HoldsBetween g a) (sym s.3) (between_made_clean w s.0 t))
+  between b w (Event.Fill k) w' s c t = same b w' c (between_target w k s.0 s.1.target w' s.3 t)
+  between b w (Event.Prepare k) w' s c t = same b w' c (between_target w k s.0 s.1.target w' s.3 t)
+  between b w (Event.RecordTargetFails k) w' s c t = same b w' c (between_target w k s.0 s.1.0 w' s.1.2 t)
+  between b w (Event.Enrol k role listed) w' s c t = same b w' c.same (subst (HoldsBetween g a) (sym s.3) (between_enrolled w k role listed s.0 b s.1 c t))
 
 -- what was written of the requests in flight goes along by itself
 module _ (g : Geometry) where
@@ -163,6 +180,9 @@ module _ (g : Geometry) where
   flight_begun : (w : World) (n : ℕ) (p : Request) (rises full : Bool) → MayBegin g w n p → HoldsInFlight w → HoldsInFlight (begun g w n p rises full)
   flight_begun w n p true full may t = in_flight_entered g (risen g w full) n p (begin_after g w n p true full may) (in_flight_risen g w full t)
   flight_begun w n p false full may t = in_flight_entered g w n p may t
+
+  flight_target : (w : World) (k : ℕ) (left : Stored) → is_target (w.state k) ≡ true → (w' : World) → w' ≡ with_device w k left → HoldsInFlight w → HoldsInFlight w'
+  flight_target w k left out w' is t = subst HoldsInFlight (sym is) (in_flight_fewer w (with_device w k left) (fewer_target w k left out) t)
 
   flight : (w : World) (e : Event) (w' : World) → Happens g w e w' → HoldsInFlight w → HoldsInFlight w'
   flight w (Event.Begin n p) w' s t = subst HoldsInFlight (sym s.5) (flight_begun w n p s.0 s.1 s.2 t)
@@ -185,6 +205,10 @@ module _ (g : Geometry) where
       (in_flight_joined (risen g w s.0) (record { number = d; role = 65535; state = Spare; re_added = false; recovering = false; device = left }) refl (in_flight_risen g w s.0 t))
   flight w (Event.ReAdd own device left) w' s t = subst HoldsInFlight (sym s.4)
       (in_flight_joined (risen g w s.0) (record { number = own.number; role = own.role own.number; state = Recovering; re_added = true; recovering = true; device = left }) refl (in_flight_risen g w s.0 t))
+  flight w (Event.Fill k) w' s t = flight_target w k s.0 s.1.target w' s.3 t
+  flight w (Event.Prepare k) w' s t = flight_target w k s.0 s.1.target w' s.3 t
+  flight w (Event.RecordTargetFails k) w' s t = flight_target w k s.0 s.1.0 w' s.1.2 t
+  flight w (Event.Enrol k role listed) w' s t = subst HoldsInFlight (sym s.3) (in_flight_enrolled g w k role listed s.0 s.1 t)
 
 pub in_flight_step : KeepsInFlight
 in_flight_step g w e w' step = flight g w e w' step.1

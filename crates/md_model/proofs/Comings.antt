@@ -26,15 +26,15 @@ abbrev pub x2 : World
 x2 = removed small_geometry x1 1 false false
 
 -- member 0 alone is in sync
-only_first : (i : ℕ) → is_in_sync (put 1 Faulty small_state i) ≡ true → i ≡ 0
+pub only_first : (i : ℕ) → is_in_sync (put 1 Faulty small_state i) ≡ true → i ≡ 0
 only_first i on = put-at 1 Faulty small_state i (λ s. is_in_sync s ≡ true → i ≡ 0) (λ _ e. absurd (true≢false (sym e)))
     (λ apart e. in_two (λ k. k ≢ 1 → k ≡ 0) (λ _. refl) (λ other. absurd (other refl)) i e apart) on
 
-only_active : (i : ℕ) → is_active (put 1 Faulty small_state i) ≡ true → i ≡ 0
+pub only_active : (i : ℕ) → is_active (put 1 Faulty small_state i) ≡ true → i ≡ 0
 only_active i on = put-at 1 Faulty small_state i (λ s. is_active s ≡ true → i ≡ 0) (λ _ e. absurd (true≢false (sym e)))
     (λ apart e. in_both (λ k. k ≢ 1 → k ≡ 0) (λ _. refl) (λ other. absurd (other refl)) i e apart) on
 
-to_first : (j : ℕ) → skip 1 j ≡ 0 → j ≡ 0
+pub to_first : (j : ℕ) → skip 1 j ≡ 0 → j ≡ 0
 to_first j e = grind (arith, nat_tests)
 
 alone : (j : ℕ) → IsInSync x2 j → j ≡ 0
@@ -48,7 +48,7 @@ no_second w all zero_is full =
     let is = x.2 in
     omega arith
 
-never_full : (w : World) → ((j : ℕ) → IsInSync w j → j ≡ 0) → w.role (w.number 0) ≡ 0 → ((false ≡ true) → IsFull small_geometry w) × (IsFull small_geometry w → (false ≡ true))
+pub never_full : (w : World) → ((j : ℕ) → IsInSync w j → j ≡ 0) → w.role (w.number 0) ≡ 0 → ((false ≡ true) → IsFull small_geometry w) × (IsFull small_geometry w → (false ≡ true))
 never_full w all zero_is = ((λ e. absurd (true≢false (sym e))), (λ h. absurd (no_second w all zero_is h)))
 
 may_remove : MayRemove x1 1

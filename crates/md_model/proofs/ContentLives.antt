@@ -136,6 +136,10 @@ unchanged g Event.MakeClean k same w a = refl
 unchanged g (Event.Remove j) k same w a = refl
 unchanged g (Event.Add number left) k same w a = refl
 unchanged g (Event.ReAdd own device left) k same w a = refl
+unchanged g (Event.Fill j) k same w a = refl
+unchanged g (Event.Prepare j) k same w a = refl
+unchanged g (Event.RecordTargetFails j) k same w a = refl
+unchanged g (Event.Enrol j role listed) k same w a = absurd same
 
 pub leaves_behind : LeavesBehind
 leaves_behind g opened w a start t es rest final then b life k device after f more others newest last c life' =

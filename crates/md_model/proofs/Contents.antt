@@ -2,12 +2,12 @@
 use Rattle.std.proofs.Common.{◌≡◌, ℕ, Bool, true, false, inr, refl, sym, ap, ◌∙◌, subst}
 use Rattle.md_model.specs.Sectors.{Geometry, chunk_of}
 use Rattle.md_model.specs.Devices.{Stored}
-use Rattle.md_model.specs.Worlds.{Request, touches, World, IsQuiet}
+use Rattle.md_model.specs.Worlds.{Request, touches, World, IsInSync, IsQuiet}
 use Rattle.md_model.specs.Steps.{begun, with_device, recorded, marks_stored, member_written, finished, MayWrite, MayFinish}
 use Rattle.md_model.specs.Failures.{failed}
 use Rattle.md_model.specs.Resyncing.{copied, MayCopy}
 use Rattle.md_model.specs.Events.{Event, Fails, Step, Happens}
-use Rattle.md_model.specs.Content.{Content, with_request, Becomes, HoldsUnmarked, Holds}
+use Rattle.md_model.specs.Content.{Content, with_request, IsKeptByEnrolling, Becomes, HoldsUnmarked, Holds}
 use Rattle.md_model.proofs.Cases.{by_test, never}
 use Rattle.md_model.proofs.Tracked.{IsTracked, IsFewer}
 use Rattle.md_model.proofs.TrackedSteps.{fewer_recorded, fewer_failed, content_marked, listed_marked, off_marked, content_written, listed_written, bits_written, bit_written}
@@ -17,6 +17,8 @@ use Rattle.md_model.specs.States.State.{Recovering, Spare}
 use Rattle.md_model.specs.Counts.{risen}
 use Rattle.md_model.specs.Membership.{is_spare, joined, removed, skip, Newcomer}
 use Rattle.md_model.proofs.Membership.{same_device, was_member}
+use Rattle.md_model.specs.Rebuilding.{is_target, enrolled, MayEnrol}
+use Rattle.md_model.proofs.Rebuilding.{by_device, fewer_target, off_enrolled}
 use Rattle.md_model.proofs.Between.{ended_away, at_copy, between_step}
 
 -- a chunk without a mark has no request
@@ -65,6 +67,20 @@ module _ (g : Geometry) (a : Content) where
       ap (λ (d : Stored). d.content s) (same j on)
       ∙ t i j s low (was_member w n out i x).1 (was_member w n out j on).1 (sym (ap (λ (d : Stored). d.listed s) (same j on)) ∙ clear) (sym (ap (λ (d : Stored). d.bits (chunk_of g s)) (same i x)) ∙ bit)
 
+  unmarked_target : (w : World) (k : ℕ) (left : Stored) → is_target (w.state k) ≡ true → (w' : World) → w' ≡ with_device w k left → HoldsUnmarked g a w → HoldsUnmarked g a w'
+  unmarked_target w k left out w' is t = subst (HoldsUnmarked g a) (sym is) (unmarked_fewer w (with_device w k left) (fewer_target w k left out) t)
+
+  -- the bits of the new member are the marks in memory
+  unmarked_enrolled : (w : World) (k role : ℕ) (listed : ℕ → Bool) (full : Bool) (b : Content) → MayEnrol g w k role listed → IsKeptByEnrolling g w k listed a b
+      → IsTracked g w → Holds g a w → HoldsUnmarked g a (enrolled g w k role listed full)
+  unmarked_enrolled w k role listed full b may c tracked t i j s low x on clear =
+      let v = enrolled g w k role listed full in
+      let has : ((y : ℕ) → IsInSync w y → (w.stored y).listed s ≡ false → (w.stored y).content s ≡ a s) → (v.stored j).content s ≡ a s =
+      λ all. by_device g w k role listed full may j (λ (d : Stored). d.listed s ≡ false → d.content s ≡ a s) on (λ _. c.held s low) (λ was. all j was) clear in
+      off_enrolled g w k role listed full may i (chunk_of g s) ((v.stored j).content s ≡ a s) x
+      (λ m. has (λ y was off. t.at_rest y s low was off (quiet_unmarked g w tracked s m) (inr m)))
+      (λ was_i bit. has (λ y was off. t.unmarked i y s low was_i was off bit))
+
   same : (b : Content) (w : World) → b ≡ a → HoldsUnmarked g a w → HoldsUnmarked g b w
   same b w e = subst (λ c. HoldsUnmarked g c w) (sym e)
 
@@ -90,6 +106,11 @@ module _ (g : Geometry) (a : Content) where
   unmarked_step b w (Event.ReAdd own device left) w' _ t s c = same b w' c (subst (HoldsUnmarked g a) (sym s.4)
       (unmarked_joined (risen g w s.0) (record { number = own.number; role = own.role own.number; state = Recovering; re_added = true; recovering = true; device = left }) refl t.unmarked))
   unmarked_step b w Event.MakeClean w' _ t s c = same b w' c (subst (HoldsUnmarked g a) (sym s.3) t.unmarked)
+  unmarked_step b w (Event.Fill k) w' _ t s c = same b w' c (unmarked_target w k s.0 s.1.target w' s.3 t.unmarked)
+  unmarked_step b w (Event.Prepare k) w' _ t s c = same b w' c (unmarked_target w k s.0 s.1.target w' s.3 t.unmarked)
+  unmarked_step b w (Event.RecordTargetFails k) w' _ t s c = same b w' c (unmarked_target w k s.0 s.1.0 w' s.1.2 t.unmarked)
+  unmarked_step b w (Event.Enrol k role listed) w' tracked t s c =
+      same b w' c.same (subst (HoldsUnmarked g a) (sym s.3) (unmarked_enrolled w k role listed s.0 b s.1 c tracked t))
 
 pub holds_step : (g : Geometry) (a b : Content) (w : World) (e : Event) (w' : World) → IsTracked g w → Holds g a w → Step g w e w' → Becomes g e w a b → Holds g b w'
 holds_step g a b w e w' tracked t s c = record {

@@ -12,7 +12,9 @@ use Rattle.md_model.specs.Failures.{failed, MayFail, LeftBySuper}
 use Rattle.md_model.specs.Resyncing.{copied_device, copied, MayResync}
 use Rattle.md_model.specs.States.State.{Recovering, Spare}
 use Rattle.md_model.specs.Membership.{is_spare, removed}
+use Rattle.md_model.specs.Rebuilding.{is_target}
 use Rattle.md_model.proofs.Membership.{former_joins, number_absent, recorded_joined, recorded_removed, spare_joins, tracked_joined, tracked_removed}
+use Rattle.md_model.proofs.Rebuilding.{fewer_target, recorded_enrolled, recorded_left, recorded_target, tracked_enrolled}
 use Rattle.md_model.specs.Events.{Event, Fails, Happens, Step}
 use Rattle.md_model.specs.Openings.{IsWithinLimits}
 use Rattle.md_model.specs.Runs.{History, away_after, failed_after, tried_after, then_in, Run}
@@ -50,6 +52,9 @@ module _ (g : Geometry) (small : IsWithinLimits g) where
   rise_tracked w true full t = tracked_risen g w full t
   rise_tracked w false full t = t
 
+  target_tracked : (w : World) (k : ℕ) (left : Stored) → is_target (w.state k) ≡ true → (w' : World) → w' ≡ with_device w k left → IsTracked g w → IsTracked g w'
+  target_tracked w k left out w' is t = subst (IsTracked g) (sym is) (tracked_fewer g w (with_device w k left) (fewer_target w k left out) t)
+
   tracked_step : (w : World) (e : Event) (w' : World) → IsTracked g w → Happens g w e w' → IsTracked g w'
   tracked_step w (Event.Begin n p) w' t s = subst (IsTracked g) (sym s.5)
       (tracked_entered g (risen_if g w s.0 s.1) n p small.wide (begin_after g w n p s.0 s.1 s.2) (rise_tracked w s.0 s.1 t))
@@ -71,6 +76,10 @@ module _ (g : Geometry) (small : IsWithinLimits g) where
   tracked_step w (Event.Add d left) w' t s = subst (IsTracked g) (sym s.4) (tracked_joined g (risen g w s.0) (record { number = d; role = 65535; state = Spare; re_added = false; recovering = false; device = left }) refl (tracked_risen g w s.0 t))
   tracked_step w (Event.ReAdd own device left) w' t s = subst (IsTracked g) (sym s.4)
       (tracked_joined g (risen g w s.0) (record { number = own.number; role = own.role own.number; state = Recovering; re_added = true; recovering = true; device = left }) refl (tracked_risen g w s.0 t))
+  tracked_step w (Event.Fill k) w' t s = target_tracked w k s.0 s.1.target w' s.3 t
+  tracked_step w (Event.Prepare k) w' t s = target_tracked w k s.0 s.1.target w' s.3 t
+  tracked_step w (Event.RecordTargetFails k) w' t s = target_tracked w k s.0 s.1.0 w' s.1.2 t
+  tracked_step w (Event.Enrol k role listed) w' t s = subst (IsTracked g) (sym s.3) (tracked_enrolled g w k role listed s.0 s.1 t)
 
 module _ (g : Geometry) (small : IsWithinLimits g) (opened : Super) (away : ℕ → Bool) where
   abbrev Records : ℕ → Bool → World → Type 0
@@ -204,6 +213,17 @@ module _ (g : Geometry) (small : IsWithinLimits g) (opened : Super) (away : ℕ 
       (λ e off. ap (λ (v : World). v.present e) (sym s.4) ∙ gone e off)
       (recorded_risen g small.few opened h.failed_at h.tried away h.now s.0 r))
 
+  target_recorded : (h : History) (k : ℕ) (left : Stored) → is_target (h.now.state k) ≡ true → (w' : World) → w' ≡ with_device h.now k left
+      → ((own : Super) → left.super ≡ Some own → (h.now.stored k).super ≡ Some own) → Records h.failed_at h.tried h.now → Records h.failed_at h.tried w'
+  target_recorded h k left out w' is from r = subst (Records h.failed_at h.tried) (sym is) (recorded_target g small.few opened h.failed_at h.tried away h.now k left out from r)
+
+  enrolled_step : (h : History) (k role : ℕ) (listed : ℕ → Bool) (w' : World) → Records h.failed_at h.tried h.now → Happens g h.now (Event.Enrol k role listed) w' → Records h.failed_at h.tried w'
+  enrolled_step h k role listed w' r s = subst (Records h.failed_at h.tried) (sym s.3)
+      (recorded_enrolled g opened h.failed_at h.tried away (risen g h.now s.0) k role listed s.1.rebuild.target s.1.below s.1.small
+      (λ j own e. let b = r.below j own e in let t : own.events < h.now.events + 1 = omega arith in t)
+      (let l = r.later in let t : opened.events < h.now.events + 1 = omega arith in t)
+      (recorded_risen g small.few opened h.failed_at h.tried away h.now s.0 r))
+
   recorded_step : (h : History) (e : Event) (w' : World) → Before h → ((d : ℕ) → away d ≡ true → w'.present d ≡ false) → Happens g h.now e w' → Records (failed_after e w' h.failed_at) (tried_after e h.tried) w'
   recorded_step h (Event.Begin n p) w' t gone s = subst (Records h.failed_at h.tried) (sym s.5) (rise_recorded h.now n p s.0 s.1 h.failed_at h.tried t.recorded)
   recorded_step h (Event.Record k) w' t gone s = subst (Records h.failed_at h.tried) (sym s.3) (recorded_recorded g small.few opened h.failed_at h.tried away h.now k s.0 s.2 t.recorded)
@@ -231,6 +251,13 @@ module _ (g : Geometry) (small : IsWithinLimits g) (opened : Super) (away : ℕ 
   recorded_step h (Event.Remove k) w' t gone s = removed_step h k w' t.recorded gone s
   recorded_step h (Event.Add d left) w' t gone s = added_step h d left w' t.recorded gone s
   recorded_step h (Event.ReAdd own device left) w' t gone s = taken_back_step h own device left w' t.recorded gone s
+  recorded_step h (Event.Fill k) w' t gone s =
+      target_recorded h k s.0 s.1.target w' s.3 (λ own e. sym (ap (λ (d : Stored). d.super) s.2.rest) ∙ e) t.recorded
+  recorded_step h (Event.Prepare k) w' t gone s =
+      target_recorded h k s.0 s.1.target w' s.3 (λ own e. sym (ap (λ (d : Stored). d.super) s.2.rest) ∙ e) t.recorded
+  recorded_step h (Event.RecordTargetFails k) w' t gone s = subst (Records h.failed_at h.tried) (sym s.1.2)
+      (recorded_left g small.few opened h.failed_at h.tried away h.now k s.0 s.1.0 s.1.1 t.recorded)
+  recorded_step h (Event.Enrol k role listed) w' t gone s = enrolled_step h k role listed w' t.recorded s
 
   -- a failure takes no role to an absent device
   fails_alone : (w : World) (k : ℕ) (left : Stored) (w' : World) → ((d : ℕ) → away d ≡ true → w.present d ≡ false) → Fails g w k left w' → IsAlone g away w'
@@ -270,6 +297,10 @@ module _ (g : Geometry) (small : IsWithinLimits g) (opened : Super) (away : ℕ 
       (λ _ l. let few = small.few in omega arith) (λ _ l. absent_none g w e small.few (gone e off) l) low)
   alone_step w (Event.ReAdd own device left) w' gone then t s = subst (IsAlone g away) (sym s.4) (λ n p e _ off low. put-at own.number (own.role own.number) (role_at_rise g w) e (λ x. x < g.raid_disks → ⊥)
       (λ same l. true≢false (sym (ap (λ (v : World). v.present e) s.4 ∙ or_right (w.present e) (eqb e own.number) (eq-eqb e own.number same)) ∙ then e off)) (λ _ l. absent_none g w e small.few (gone e off) l) low)
+  alone_step w (Event.Fill k) w' gone then t s = subst (IsAlone g away) (sym s.3) t
+  alone_step w (Event.Prepare k) w' gone then t s = subst (IsAlone g away) (sym s.3) t
+  alone_step w (Event.RecordTargetFails k) w' gone then t s = subst (IsAlone g away) (sym s.1.2) t
+  alone_step w (Event.Enrol k role listed) w' gone then t s = subst (IsAlone g away) (sym s.3) (λ m q d e. absurd (none_some q (sym (s.1.rebuild.idle m) ∙ e)))
 
 -- what stays away was away
 still_away : (e : Event) (before : ℕ → Bool) (d : ℕ) → away_after e before d ≡ true → before d ≡ true
@@ -291,6 +322,10 @@ still_away (Event.Copy from k s) before d x = x
 still_away Event.Resynced before d x = x
 still_away Event.Unresynced before d x = x
 still_away Event.MakeClean before d x = x
+still_away (Event.Fill k) before d x = x
+still_away (Event.Prepare k) before d x = x
+still_away (Event.RecordTargetFails k) before d x = x
+still_away (Event.Enrol k role listed) before d x = x
 
 -- and no member has its number
 neither : (a b : Bool) → a ≡ false → b ≡ false → (a || b) ≡ false
@@ -333,6 +368,10 @@ gone_step g w (Event.Add number left) w' before gone s d x =
 gone_step g w (Event.ReAdd own device left) w' before gone s d x =
     let parts = and_parts (before d) (not (eqb d own.number)) x in
     ap (λ (v : World). v.present d) s.4 ∙ neither (w.present d) (eqb d own.number) (gone d parts.0) (not-true (eqb d own.number) parts.1)
+gone_step g w (Event.Fill k) w' before gone s d x = ap (λ (v : World). v.present d) s.3 ∙ gone d x
+gone_step g w (Event.Prepare k) w' before gone s d x = ap (λ (v : World). v.present d) s.3 ∙ gone d x
+gone_step g w (Event.RecordTargetFails k) w' before gone s d x = ap (λ (v : World). v.present d) s.1.2 ∙ gone d x
+gone_step g w (Event.Enrol k role listed) w' before gone s d x = ap (λ (v : World). v.present d) s.3 ∙ gone d x
 
 -- fewer devices stay away
 narrower : (g : Geometry) (opened : Super) (failed_at : ℕ) (tried : Bool) (away less : ℕ → Bool) (b : Book) → ((d : ℕ) → less d ≡ true → away d ≡ true)

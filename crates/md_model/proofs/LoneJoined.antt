@@ -1,5 +1,5 @@
 -- The lone member's device is opened with the other one beside it, which was out.
-use Rattle.std.proofs.Common.{◌≡◌, ◌⊎◌, ◌&&◌, ℕ, ◌<◌, ◌≤◌, true, false, zero, suc, inl, inr, refl, sym, ◌∙◌, subst, true≢false, arith, []}
+use Rattle.std.proofs.Common.{◌≡◌, ◌⊎◌, ◌&&◌, ℕ, ◌<◌, ◌≤◌, true, false, zero, suc, inl, inr, refl, sym, ◌∙◌, subst, true≢false, arith}
 use Rattle.std.specs.Prelude.{Some, None, nat_lt}
 use Rattle.md_model.specs.States.{State, is_in_sync, is_recorded}
 use Rattle.md_model.specs.Devices.{Super, is_accepted, is_marked}

@@ -27,6 +27,10 @@ keeps_both Event.MakeClean es k' = (tt, k')
 keeps_both (Event.Remove k) es k' = absurd k'
 keeps_both (Event.Add d left) es k' = absurd k'
 keeps_both (Event.ReAdd own device left) es k' = absurd k'
+keeps_both (Event.Fill k) es k' = (tt, k')
+keeps_both (Event.Prepare k) es k' = (tt, k')
+keeps_both (Event.RecordTargetFails k) es k' = (tt, k')
+keeps_both (Event.Enrol k role listed) es k' = absurd k'
 
 -- what stays away is as it was
 away_step : (e : Event) (before : ℕ → Bool) → KeepsMembers (e ∷ []) → away_after e before ≡ before
@@ -48,6 +52,10 @@ away_step Event.MakeClean before k' = refl
 away_step (Event.Remove k) before k' = absurd k'
 away_step (Event.Add d left) before k' = absurd k'
 away_step (Event.ReAdd own device left) before k' = absurd k'
+away_step (Event.Fill k) before k' = refl
+away_step (Event.Prepare k) before k' = refl
+away_step (Event.RecordTargetFails k) before k' = refl
+away_step (Event.Enrol k role listed) before k' = absurd k'
 
 module _ (g : Geometry) where
   pub same_away_run : (es : List Event) (h last : History) → KeepsMembers es → Run g h es last → last.away ≡ h.away
@@ -80,6 +88,10 @@ module _ (g : Geometry) where
   members_step w (Event.Remove k) w' keeps s = absurd keeps
   members_step w (Event.Add d left) w' keeps s = absurd keeps
   members_step w (Event.ReAdd own device left) w' keeps s = absurd keeps
+  members_step w (Event.Fill k) w' keeps s = members_by w w' _ refl s.3
+  members_step w (Event.Prepare k) w' keeps s = members_by w w' _ refl s.3
+  members_step w (Event.RecordTargetFails k) w' keeps s = members_by w w' _ refl s.1.2
+  members_step w (Event.Enrol k role listed) w' keeps s = absurd keeps
 
   pub same_members : (es : List Event) (h last : History) → KeepsMembers es → Run g h es last → last.now.members ≡ h.now.members
   same_members [] h last keeps r = ap (λ (x : History). x.now.members) r

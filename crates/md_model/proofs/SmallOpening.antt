@@ -1,6 +1,6 @@
 -- The mirror of two members is an opening.
-use Rattle.std.proofs.Common.{◌≡◌, ◌&&◌, ℕ, ◌<◌, ◌≤◌, true, false, cond, zero, suc, inl, refl, sym, ap, ◌∙◌, subst, true≢false, arith, []}
-use Rattle.std.specs.Prelude.{Some, None, nat_lt}
+use Rattle.std.proofs.Common.{◌≡◌, ◌&&◌, ℕ, ◌≤◌, true, false, cond, zero, suc, inl, refl, sym, ap, ◌∙◌, true≢false, arith}
+use Rattle.std.specs.Prelude.{Some, nat_lt}
 use Rattle.md_model.specs.States.{State, is_recorded, is_active}
 use Rattle.md_model.specs.Devices.{Super, is_accepted}
 use Rattle.md_model.specs.Worlds.{IsInSync}

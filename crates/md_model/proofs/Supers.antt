@@ -13,8 +13,10 @@ use Rattle.md_model.specs.Openings.{IsWithinLimits}
 use Rattle.md_model.specs.Runs.{History, then_in, Run}
 use Rattle.md_model.specs.Counts.{risen}
 use Rattle.md_model.specs.Membership.{is_spare, joined_super, removed, skip}
+use Rattle.md_model.specs.Rebuilding.{enrolled_device}
 use Rattle.md_model.proofs.Cases.{some-injective, none_some}
 use Rattle.md_model.proofs.Puts.{put-at}
+use Rattle.md_model.proofs.Rebuilding.{target_recorded}
 use Rattle.md_model.proofs.Keeps.{IsKept, kept_step}
 
 abbrev pub OfAll : (Super → Type 0) → World → Type 0
@@ -75,6 +77,12 @@ module _ (g : Geometry) (small : IsWithinLimits g) (opened : Super) (Q : Super �
   all_step h (Event.ReAdd own device left) w' t all s = subst (OfAll Q) (sym s.4)
       (put_all h.now h.now.members left all (λ it e. subst Q
       (some-injective (joined_super (risen g h.now s.0) own.number (own.role own.number) true) it (sym (ap (λ (x : Stored). x.super) s.2.rest) ∙ e)) (came h t all own.number (own.role own.number) true s.0)))
+  all_step h (Event.Fill k) w' t all s = subst (OfAll Q) (sym s.3) (put_all h.now k s.0 all (same_all h.now k s.0 all (ap (λ (d : Stored). d.super) s.2.rest)))
+  all_step h (Event.Prepare k) w' t all s = subst (OfAll Q) (sym s.3) (put_all h.now k s.0 all (same_all h.now k s.0 all (ap (λ (d : Stored). d.super) s.2.rest)))
+  all_step h (Event.RecordTargetFails k) w' t all s = subst (OfAll Q) (sym s.1.2) (put_all h.now k s.0 all (by_left h k s.0 t all (target_recorded (h.now.state k) s.1.0) s.1.1))
+  all_step h (Event.Enrol k role listed) w' t all s = subst (OfAll Q) (sym s.3)
+      (put_all h.now k (enrolled_device (risen g h.now s.0) k role listed) all (λ own e. subst Q
+      (some-injective (joined_super (risen g h.now s.0) (h.now.number k) role false) own e) (came h t all (h.now.number k) role false s.0)))
 
   pub all_run : (es : List Event) (h last : History) → IsKept g opened h → OfAll Q h.now → Run g h es last → OfAll Q last.now
   all_run [] h last t all r = subst (λ (x : History). OfAll Q x.now) (sym r) all

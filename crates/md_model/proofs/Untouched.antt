@@ -5,7 +5,8 @@ use Rattle.md_model.specs.Sectors.{Geometry}
 use Rattle.md_model.specs.Devices.{Super, Stored}
 use Rattle.md_model.specs.Worlds.{Request, World, IsInSync}
 use Rattle.md_model.specs.Counts.{IsFull, risen}
-use Rattle.md_model.specs.Steps.{touches_chunk, entered, begun, KeepsList, recorded, marks_stored}
+use Rattle.md_model.specs.Rebuilding.{is_target}
+use Rattle.md_model.specs.Steps.{with_device, touches_chunk, entered, begun, KeepsList, recorded, marks_stored}
 use Rattle.md_model.specs.Resyncing.{copied, MayCopy}
 use Rattle.md_model.specs.Events.{Event, Fails, Happens}
 use Rattle.md_model.specs.Returns.{KeepsMembers}
@@ -16,6 +17,7 @@ use Rattle.md_model.proofs.Puts.{by_same}
 use Rattle.md_model.proofs.TrackedSteps.{fewer_recorded, left_off, content_marked, listed_marked, off_marked}
 use Rattle.md_model.proofs.TrackedCalls.{content_copied, content_at_copy, listed_copied, bits_copied}
 use Rattle.md_model.proofs.Recorded.{recorded_in_sync}
+use Rattle.md_model.proofs.Rebuilding.{fewer_target}
 use Rattle.md_model.proofs.RecordedSteps.{present_keeps}
 use Rattle.md_model.proofs.Keeps.{IsKept, kept_step}
 use Rattle.md_model.proofs.Opened.{kept_opened}
@@ -77,6 +79,15 @@ module _ (g : Geometry) (opened : Super) (was : World) (start : IsStart g opened
     held = λ j s on clear. subst (WasHeld was s) (sym (f.content j s on)) (u.held j s on (sym (f.listed j s on) ∙ clear));
   }
 
+  untouched_target : (w : World) (k : ℕ) (left : Stored) → is_target (w.state k) ≡ true → Untouched w → Untouched (with_device w k left)
+  untouched_target w k left out u = let f = fewer_target w k left out in record {
+    in_sync = u.in_sync;
+    role = u.role;
+    marks = u.marks;
+    bits = λ j c on off. u.bits j c on (sym (f.bits j c on) ∙ off);
+    held = λ j s on clear. subst (WasHeld was s) (sym (f.content j s on)) (u.held j s on (sym (f.listed j s on) ∙ clear));
+  }
+
   untouched_marks_stored : (w : World) (k b : ℕ) → Untouched w → Untouched (marks_stored w k b)
   untouched_marks_stored w k b u = record {
     in_sync = u.in_sync;
@@ -129,6 +140,10 @@ module _ (g : Geometry) (opened : Super) (was : World) (start : IsStart g opened
   still_step h (Event.Remove k) w' keeps t u s a b = absurd keeps
   still_step h (Event.Add d left) w' keeps t u s a b = absurd keeps
   still_step h (Event.ReAdd own device left) w' keeps t u s a b = absurd keeps
+  still_step h (Event.Fill k) w' keeps t u s a b = subst Untouched (sym s.3) (untouched_target h.now k s.0 s.1.target (u a b))
+  still_step h (Event.Prepare k) w' keeps t u s a b = subst Untouched (sym s.3) (untouched_target h.now k s.0 s.1.target (u a b))
+  still_step h (Event.RecordTargetFails k) w' keeps t u s a b = subst Untouched (sym s.1.2) (untouched_target h.now k s.0 s.1.0 (u a b))
+  still_step h (Event.Enrol k role listed) w' keeps t u s a b = absurd keeps
 
   still_run : (es : List Event) (h last : History) → KeepsMembers es → IsKept g opened h → IsStill h → Run g h es last → IsStill last
   still_run [] h last keeps t u run = subst IsStill (sym run) u

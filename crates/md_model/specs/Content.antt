@@ -1,12 +1,13 @@
 -- The array's own content: what a reader is to get. No device and no memory has it; it goes along with the events
 -- (this project's own).
-use Rattle.std.specs.Prelude.{◌≡◌, ℕ, ◌<◌, ◌⊎◌, true, false, cond, List, [], ◌∷◌, Option, Some, None}
+use Rattle.std.specs.Prelude.{◌≡◌, ℕ, ◌<◌, ◌⊎◌, Bool, true, false, cond, List, [], ◌∷◌, Option, Some, None}
 use Rattle.md_model.specs.Sectors.{Geometry, chunk_of}
 use Rattle.md_model.specs.Devices.{Super}
 use Rattle.md_model.specs.Worlds.{Request, touches, World, IsInSync, IsInFlight, IsQuiet}
+use Rattle.md_model.specs.Rebuilding.{is_missing}
 use Rattle.md_model.specs.Events.{Event, Step}
 use Rattle.md_model.specs.Openings.{IsOpened}
-use Rattle.md_model.specs.Runs.{History, then_in, opening, IsStart}
+use Rattle.md_model.specs.Runs.{History, then_in, opening, Run, IsStart}
 use Rattle.md_model.specs.Lives.{Reopens, Life}
 
 -- each sector's bytes
@@ -26,10 +27,16 @@ pub record IsSettled (g : Geometry) (w : World) (a b : Content) : Type 0 where
   pub unmarked_on : (i s : ℕ) → s < g.size → IsInSync w i → (w.stored i).bits (chunk_of g s) ≡ false → b s ≡ a s
   pub same : w.resynced ≡ true → (s : ℕ) → s < g.size → b s ≡ a s
 
+-- An enrolment leaves it. The new member has to hold it on each sector that it does not list.
+pub record IsKeptByEnrolling (g : Geometry) (w : World) (k : ℕ) (listed : ℕ → Bool) (a b : Content) : Type 0 where
+  pub same : b ≡ a
+  pub held : (s : ℕ) → s < g.size → listed s ≡ false → (w.stored k).content s ≡ a s
+
 -- by an event that happens in this world it goes from the one to the other: only a request's end and a resync change it
 abbrev pub Becomes : Geometry → Event → World → Content → Content → Type 0
 Becomes g (Event.Finish n) w a b = b ≡ with_request (w.request n) a
 Becomes g Event.Resynced w a b = IsSettled g w a b
+Becomes g (Event.Enrol k role listed) w a b = IsKeptByEnrolling g w k listed a b
 Becomes g e w a b = b ≡ a
 
 -- A member in sync holds it in each sector that it does not list, that no request in flight touches and, while the array is not
@@ -113,9 +120,40 @@ KeepsContent =
 abbrev pub HasContent : Type 0
 HasContent = (g : Geometry) (opened : Super) (w : World) → IsStart g opened w → (a : Content) × Holds g a w
 
--- and it goes along every life
+-- In chunks that a member did not lack, it holds the content on each sector that it does not list. That is asked of one that was
+-- re-added alone: any other lacked them all.
+abbrev pub IsTold : Geometry → World → ℕ → (ℕ → Bool) → Content → Type 0
+IsTold g w k listed a =
+    (s : ℕ) → s < g.size → is_missing w k (chunk_of g s) ≡ false → listed s ≡ false → (w.stored k).content s ≡ a s
+
+-- so at an enrolment
+abbrev pub Tells : Geometry → Event → World → Content → Type 0
+Tells g (Event.Enrol k role listed) w a = IsTold g w k listed a
+Tells g e w a = Unit {0}
+
+-- and at each enrolment of a run, whatever the content has become by then;
+abbrev pub RunTells : (g : Geometry) (h : History) (a : Content) (es : List Event) (last : History) → Run g h es last → Type 0
+RunTells g h a [] last run = Unit {0}
+RunTells g h a (e ∷ es) last run = Tells g e h.now a × ((b : Content) → Becomes g e h.now a b → RunTells g (then_in h e run.0) b es last run.2)
+
+-- of a life, likewise
+abbrev pub LifeTells : (g : Geometry) (opened : Super) (w : World) (a : Content) (es : List Event) (rest : List (List Event)) (final : Super) (last : History)
+    → Life g opened w es rest final last → Type 0
+LifeTells g opened w a es [] final last life = RunTells g (opening w) a es last life.1
+LifeTells g opened w a es (more ∷ rest) final last life =
+    RunTells g (opening w) a es life.0 life.3
+    × ((b c : Content) → RunWith g Anyhow (opening w) a es life.0 b → BecomesAtOpening g life.2 b c → LifeTells g life.1 life.2 c more rest final last life.5)
+
+-- And it goes along every life, if at each enrolment it is told.
 abbrev pub HasContentAlong : Type 0
 HasContentAlong =
     (g : Geometry) (opened : Super) (w : World) (a : Content) → IsStart g opened w → Holds g a w
-    → (es : List Event) (rest : List (List Event)) (final : Super) (last : History) → Life g opened w es rest final last
+    → (es : List Event) (rest : List (List Event)) (final : Super) (last : History) (life : Life g opened w es rest final last)
+    → LifeTells g opened w a es rest final last life
     → (b : Content) × LifeWith g Anyhow opened (opening w) a es rest final last b
+
+-- By an enrolment that is told it goes on, from whatever world in which it is held.
+abbrev pub TellsEnough : Type 0
+TellsEnough =
+    (g : Geometry) (w : World) (k role : ℕ) (listed : ℕ → Bool) (w' : World) (a : Content) → Step g w (Event.Enrol k role listed) w'
+    → HoldsBetween g a w → IsTold g w k listed a → Becomes g (Event.Enrol k role listed) w a a

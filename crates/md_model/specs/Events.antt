@@ -9,6 +9,7 @@ use Rattle.md_model.specs.Steps.{with_device, begun, KeepsList, recorded, marks_
 use Rattle.md_model.specs.Failures.{failed, MayFail, LeftBySuper, LeftByMarks, LeftByData, LeftByCopy}
 use Rattle.md_model.specs.Resyncing.{copied, made_resynced, made_clean, IsIdle, MayCopyChunk, MayCopy, MayResync, MayStop}
 use Rattle.md_model.specs.Membership.{is_spare, removed, added, re_added, IsLaidOut, IsTakenBack, MayAdd, MayReAdd, MayRemove}
+use Rattle.md_model.specs.Rebuilding.{is_target, enrolled, LeftByFilling, LeftByPreparing, MayEnrol, MayRebuild}
 
 pub data Event : Type 0 where
   -- the steps
@@ -33,10 +34,20 @@ pub data Event : Type 0 where
   Remove : (k : ℕ) → Event
   Add : (d : ℕ) (left : Stored) → Event
   ReAdd : (own : Super) (device left : Stored) → Event
+  -- a member is rebuilt, and comes into sync
+  Fill : (k : ℕ) → Event
+  Prepare : (k : ℕ) → Event
+  RecordTargetFails : (k : ℕ) → Event
+  Enrol : (k role : ℕ) (listed : ℕ → Bool) → Event
 
 -- Member k fails, and its device is by then as left. Whether the array is full after that is known.
 abbrev pub Fails : Geometry → World → ℕ → Stored → World → Type 0
 Fails g w k left w' = (full : Bool) × MayFail w k × ((full ≡ true) ↔ IsFull g w') × (w' ≡ failed g (with_device w k left) k full)
+
+-- Member k, which is being rebuilt, has its device as left, and nothing changes in memory: it does not fail, and its superblock is due
+-- as before. A superblock that `enrol` failed to store, and that is the old one or none by then, is such too.
+abbrev pub FailsOnTarget : World → ℕ → Stored → World → Type 0
+FailsOnTarget w k left w' = (is_target (w.state k) ≡ true) × LeftBySuper w k left × (w' ≡ with_device w k left)
 
 -- what each event asks of the first world, and which it makes of it
 abbrev pub Happens : Geometry → World → Event → World → Type 0
@@ -60,6 +71,11 @@ Happens g w (Event.Remove k) w' = (full : Bool) × MayRemove w k × ((full ≡ t
 Happens g w (Event.Add d left) w' = (full : Bool) × MayAdd g w d × IsLaidOut g (risen g w full) d left × ((full ≡ true) ↔ IsFull g w') × (w' ≡ added g w d left full)
 Happens g w (Event.ReAdd own device left) w' =
     (full : Bool) × MayReAdd g w own × IsTakenBack (risen g w full) own device left × ((full ≡ true) ↔ IsFull g w') × (w' ≡ re_added g w own left full)
+Happens g w (Event.Fill k) w' = (left : Stored) × MayRebuild w k × LeftByFilling g w k left × (w' ≡ with_device w k left)
+Happens g w (Event.Prepare k) w' = (left : Stored) × MayRebuild w k × LeftByPreparing w k left × (w' ≡ with_device w k left)
+Happens g w (Event.RecordTargetFails k) w' = (left : Stored) × FailsOnTarget w k left w'
+Happens g w (Event.Enrol k role listed) w' =
+    (full : Bool) × MayEnrol g w k role listed × ((full ≡ true) ↔ IsFull g w') × (w' ≡ enrolled g w k role listed full)
 
 -- The event may happen in the first world, and give the second. In a halted one nothing happens: each call answers Halted.
 abbrev pub Step : Geometry → World → Event → World → Type 0

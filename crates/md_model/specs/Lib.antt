@@ -22,6 +22,8 @@ pub mod Failures
 pub mod Resyncing
 -- Members come and go.
 pub mod Membership
+-- A member is rebuilt, and comes into sync.
+pub mod Rebuilding
 -- What may happen to an array (this project's own).
 pub mod Events
 -- Whole runs from an opening (this project's own).
@@ -34,8 +36,12 @@ pub mod Lives
 pub mod SmallRun
 -- The array's own content: what a reader is to get.
 pub mod Content
+-- A life in which each member that comes into sync lacked all chunks.
+pub mod RebuiltWhole
 -- What a member that left still has of the array's content: by this a re-add copies marked chunks alone.
 pub mod Behind
+-- A member that was taken back and is rebuilt: when it agrees with those in sync, and holds the content.
+pub mod RebuiltBehind
 -- A device that an opening left out, and that comes back at the next one before any data was tried (this project's own).
 pub mod Returns
 -- When the next opening goes by a superblock that is fit, and calls that are lists of events (this project's own).

@@ -13,22 +13,24 @@ use Rattle.md_model.specs.Stops.{IsAbsent, IsLeft, IsFit, WasTried}
 abbrev pub beside : ℕ → (ℕ → Stored) → (ℕ → Stored) → ℕ → Stored
 beside members here back k = cond (nat_lt k members) (here k) (back k)
 
--- These were absent. With them the opening would have been of devices that are covered, one for each role.
+-- These were absent. With them the opening would have been of devices that are covered, no two in one role.
 pub record WasAway (g : Geometry) (opened : Super) (w : World) (back : ℕ → Stored) : Type 0 where
   pub absent : (k : ℕ) (own : Super) → (back k).super ≡ Some own → IsAbsent opened (λ d. not (w.present d)) own
   pub covered : Covered g (beside w.members w.stored back) (IsFound g (beside w.members w.stored back) opened)
   pub one_each : (j k : ℕ) (a : IsFound g (beside w.members w.stored back) opened j) (b : IsFound g (beside w.members w.stored back) opened k)
       → opened.role a.own.number ≡ opened.role b.own.number → j ≡ k
 
--- no member comes or goes
+-- No member comes, goes or comes into sync. (One that is enrolled may take the role of an absent device. Then marks may be cleared, in
+-- memory and on a member that has not yet recorded the enrolment, and with that one alone the absent device would be found in sync.)
 abbrev pub KeepsMembers : List Event → Type 0
 KeepsMembers [] = Unit {0}
 KeepsMembers (Event.Remove k ∷ es) = ⊥
 KeepsMembers (Event.Add d left ∷ es) = ⊥
 KeepsMembers (Event.ReAdd own device left ∷ es) = ⊥
+KeepsMembers (Event.Enrol k role listed ∷ es) = ⊥
 KeepsMembers (e ∷ es) = KeepsMembers es
 
--- As long as no member comes or goes, they may be found in sync, and then the marks cover them too
+-- As long as members are the same, and the same are in sync or fewer, they may be found in sync, and then the marks cover them too
 abbrev pub CoversReturns : Type 0
 CoversReturns =
     (g : Geometry) (opened : Super) (w : World) → IsStart g opened w → (back : ℕ → Stored) → WasAway g opened w back

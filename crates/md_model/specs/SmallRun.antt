@@ -25,6 +25,15 @@ chunk_resynced = Event.Unresynced ∷ Event.Copy 0 1 8 ∷ Event.Resynced ∷ Ev
 abbrev pub data_fails : List Event
 data_fails = Event.WriteMember 0 0 ∷ Event.WriteMemberFails 0 1 ∷ []
 
+-- member 1 fails and leaves, and a sector is written without it
+abbrev pub missed : List Event
+missed =
+    Event.Fail 1 ∷ Event.Remove 1 ∷ Event.Begin 0 one_sector ∷ Event.StoreMarks 0 0 ∷ Event.Record 0 ∷ Event.WriteMember 0 0 ∷ Event.Finish 0 ∷ []
+
+-- the member that came in its place is filled, and comes into sync in role 1, listing nothing
+abbrev pub rebuilt : List Event
+rebuilt = Event.Fill 1 ∷ Event.RecordTargetFails 1 ∷ Event.Prepare 1 ∷ Event.Enrol 1 1 (λ _. false) ∷ []
+
 -- these events may happen
 abbrev pub CanRun : List Event → Type 0
 CanRun es = (last : History) × Run small_geometry (opening small_world) es last

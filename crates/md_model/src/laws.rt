@@ -3,20 +3,22 @@
 ghost use Rattle.std.specs.Prelude.{◌≡◌, ℕ, ◌<◌, ◌⊎◌, false, true, None, [], ◌∷◌, ◌++◌};
 ghost use Rattle.md_model.specs.Assembly.{IsFound};
 ghost use Rattle.md_model.specs.Behind.{KeepsData, LeavesBehind, MissingBehind};
-ghost use Rattle.md_model.specs.Content.{BeginsBetween, BeginsInFlight, HasContent, HasContentAlong, KeepsBetween, KeepsContent, KeepsInFlight};
+ghost use Rattle.md_model.specs.Content.{BeginsBetween, BeginsInFlight, HasContent, HasContentAlong, KeepsBetween, KeepsContent, KeepsInFlight, TellsEnough};
 ghost use Rattle.md_model.specs.Devices.{Covered, Stored, Super, is_marked};
 ghost use Rattle.md_model.specs.Events.{Event};
 ghost use Rattle.md_model.specs.Fits.{FitsWhenThere, StepsRun};
 ghost use Rattle.md_model.specs.Lives.{Always, IsCovered, Reopens};
 ghost use Rattle.md_model.specs.LoneMember.{IsBack, IsKeptOut, IsShutOut, IsTakenIn, later_super, lone_at, lone_begin, lone_joined, lone_recorded, lone_world, lone_write, other_back};
-ghost use Rattle.md_model.specs.NeededGuards.{ForgetsFailure, KeepsTheRole, WritesTooEarly, WritesUnmarked};
+ghost use Rattle.md_model.specs.NeededGuards.{EnrolsOrphans, EnrolsUnfilled, ForgetsFailure, KeepsTheRole, WritesTooEarly, WritesUnmarked};
 ghost use Rattle.md_model.specs.Openings.{IsOpened, IsOpenedFrom};
+ghost use Rattle.md_model.specs.RebuiltBehind.{AgreesBehind, EnrolsBehind, TellsBehind};
 ghost use Rattle.md_model.specs.Returns.{CoversReturns};
 ghost use Rattle.md_model.specs.Runs.{History, IsStart, Run, opening};
 ghost use Rattle.md_model.specs.Sectors.{Geometry, chunk_of};
 ghost use Rattle.md_model.specs.SmallArray.{small_geometry, small_super, small_world};
-ghost use Rattle.md_model.specs.SmallRun.{CanRun, beginning, chunk_resynced, data_fails, data_written};
+ghost use Rattle.md_model.specs.SmallRun.{CanRun, beginning, chunk_resynced, data_fails, data_written, missed, rebuilt};
 ghost use Rattle.md_model.specs.Stops.{IsHalfOpened, IsSafeAtStop, KeepsOut, StaysOut};
+ghost use Rattle.md_model.specs.RebuiltWhole.{HasContentWhole};
 ghost use Rattle.md_model.specs.Worlds.{IsInSync, World};
 
 /// The premises on an opening can be met: the mirror of two members does.
@@ -58,6 +60,8 @@ pub fn small_runs()
     ensures copy_fails { CanRun ((beginning ++ data_written) ++ (Event.CopyFails 1 1 ∷ [])) }
     ensures comes_again { (own : Super) × (device left : Stored) × CanRun (beginning ++ (Event.Fail 1 ∷ Event.Remove 1 ∷ Event.ReAdd own device left ∷ [])) }
     ensures comes_new { (d : ℕ) × (left : Stored) × CanRun (beginning ++ (Event.Fail 1 ∷ Event.Remove 1 ∷ Event.Add d left ∷ [])) }
+    ensures returns { (own : Super) × (device left : Stored) × CanRun (missed ++ (Event.ReAdd own device left ∷ rebuilt)) }
+    ensures is_replaced { (d : ℕ) × (left : Stored) × CanRun (missed ++ (Event.Add d left ∷ rebuilt)) }
     ensures reopens { Reopens small_geometry (small_super 0) (opening small_world) (small_super 0) small_world }
 {}
 
@@ -79,18 +83,20 @@ pub fn lone_member()
 {}
 
 /// Guards that the law can't do without. Where one is left out, an opening finds members in sync that marks don't cover, or one
-/// that failed.
+/// that failed; or a new member does not hold the content.
 pub fn needed_guards()
     ensures marks_before_data { WritesUnmarked }
     ensures record_before_data { WritesTooEarly }
     ensures absent_loses_role { KeepsTheRole }
     ensures failure_recorded { ForgetsFailure }
+    ensures agrees_when_enrolled { EnrolsUnfilled }
+    ensures copied_when_enrolled { EnrolsOrphans }
 {}
 
 /// The law of write intent, over every list of events, stops and openings that begins with devices that are covered. An opening
 /// may leave devices out, and take in such as the one before left out, if they are not found in sync.
 pub fn every_run()
-    // Wherever two members in sync differ, the marks stored on each of them have the chunk.
+    // Wherever two members in sync differ, the marks stored on every member in sync have the chunk.
     ensures covered { Always IsCovered }
 
     // A stop, also in the middle of a data write, leaves devices of which an opening finds only members in sync that were so,
@@ -103,7 +109,7 @@ pub fn every_run()
 
     // The members in sync hold the array's content, which only the end of a request changes, and a resync or an opening in
     // chunks that each of them has marked. A resync of a resynced array changes nothing of it, if its list of events is without
-    // Unresynced: one that answers Ok gives such a list.
+    // Unresynced: one that answers Ok gives such a list. A member that is enrolled has to hold it (`rebuilt_members`).
     ensures keeps_content { KeepsContent }
 
     // A member that was in sync and failed, or one as a stop left it, whatever the next opening finds of it, differs from the
@@ -125,10 +131,25 @@ pub fn between_steps()
     ensures begins_in_flight { BeginsInFlight }
 {}
 
-/// There is such a content at an opening of devices that are covered, and it goes along every life.
+/// There is such a content at an opening of devices that are covered, and it goes along every life in which each
+/// enrolment is told: in chunks that it did not lack, the new member holds the content on each sector that it does not list.
 pub fn has_content()
     ensures at_first { HasContent }
     ensures along { HasContentAlong }
+
+    // Where no member that was re-added is enrolled, nothing is asked of the content.
+    ensures along_whole { HasContentWhole }
+{}
+
+/// A member that comes into sync then holds the content on every sector that it does not list.
+pub fn rebuilt_members()
+    ensures told { TellsEnough }
+
+    // So does one that was re-added, if it lay behind by what is marked: where its missing chunks hold the content it
+    // agrees with the members in sync, as an enrolment asks, and a life goes on by that, with the content that it had.
+    ensures agrees { AgreesBehind }
+    ensures behind { TellsBehind }
+    ensures goes_on { EnrolsBehind }
 {}
 
 /// A device that an opening left out may be found in sync again, as long as no data was tried: then the marks cover it too.

@@ -84,6 +84,10 @@ copying_is_calm (Event.MakeClean) is = absurd is
 copying_is_calm (Event.Remove k) is = absurd is
 copying_is_calm (Event.Add d left) is = absurd is
 copying_is_calm (Event.ReAdd own device left) is = absurd is
+copying_is_calm (Event.Fill k) is = absurd is
+copying_is_calm (Event.Prepare k) is = absurd is
+copying_is_calm (Event.RecordTargetFails k) is = absurd is
+copying_is_calm (Event.Enrol k role listed) is = absurd is
 
 pub clearing_is_calm : (e : Event) → IsClearing e → IsCalm e
 clearing_is_calm (Event.Begin n p) is = absurd is
@@ -104,6 +108,10 @@ clearing_is_calm (Event.MakeClean) is = absurd is
 clearing_is_calm (Event.Remove k) is = absurd is
 clearing_is_calm (Event.Add d left) is = absurd is
 clearing_is_calm (Event.ReAdd own device left) is = absurd is
+clearing_is_calm (Event.Fill k) is = absurd is
+clearing_is_calm (Event.Prepare k) is = absurd is
+clearing_is_calm (Event.RecordTargetFails k) is = absurd is
+clearing_is_calm (Event.Enrol k role listed) is = absurd is
 
 read_holds : (old new : MirrorView) (requests : Requests) (a : Content) → Rests old new → HoldsBetween (geometry_of old.array) a (world_of old requests) → HoldsBetween (geometry_of new.array) a (world_of new requests)
 read_holds old new requests a rests holds =

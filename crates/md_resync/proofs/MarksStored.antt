@@ -191,6 +191,10 @@ leaves_along (Event.MakeClean ∷ es) previous old before new after all sound t 
 leaves_along (Event.Remove k ∷ es) previous old before new after all sound t = absurd all.0
 leaves_along (Event.Add d left ∷ es) previous old before new after all sound t = absurd all.0
 leaves_along (Event.ReAdd own device left ∷ es) previous old before new after all sound t = absurd all.0
+leaves_along (Event.Fill k ∷ es) previous old before new after all sound t = absurd all.0
+leaves_along (Event.Prepare k ∷ es) previous old before new after all sound t = absurd all.0
+leaves_along (Event.RecordTargetFails k ∷ es) previous old before new after all sound t = absurd all.0
+leaves_along (Event.Enrol k role listed ∷ es) previous old before new after all sound t = absurd all.0
 
 mark_is_calm : (e : Event) → IsMarkStored e → IsCalm e
 mark_is_calm (Event.StoreMarks k b) is = record { of = tt; becomes = λ g w a. refl; whole = λ old new. tt }
@@ -211,6 +215,10 @@ mark_is_calm (Event.MakeClean) is = absurd is
 mark_is_calm (Event.Remove k) is = absurd is
 mark_is_calm (Event.Add d left) is = absurd is
 mark_is_calm (Event.ReAdd own device left) is = absurd is
+mark_is_calm (Event.Fill k) is = absurd is
+mark_is_calm (Event.Prepare k) is = absurd is
+mark_is_calm (Event.RecordTargetFails k) is = absurd is
+mark_is_calm (Event.Enrol k role listed) is = absurd is
 
 mark_is_stored : (e : Event) → IsMarking e → IsNoFailure e → IsMarkStored e
 mark_is_stored (Event.StoreMarks k b) is done = tt
@@ -275,6 +283,10 @@ marking_of (Event.MakeClean) is = absurd is
 marking_of (Event.Remove k) is = absurd is
 marking_of (Event.Add d left) is = absurd is
 marking_of (Event.ReAdd own device left) is = absurd is
+marking_of (Event.Fill k) is = absurd is
+marking_of (Event.Prepare k) is = absurd is
+marking_of (Event.RecordTargetFails k) is = absurd is
+marking_of (Event.Enrol k role listed) is = absurd is
 
 marking_goes : (old new : MirrorView) → metadata.GoesOn only_others only_others IsMarking old new → GoesOn old new
 marking_goes old new g = record {
@@ -317,6 +329,10 @@ halted_at (Event.MakeClean) old new is h = absurd is
 halted_at (Event.Remove k) old new is h = absurd is
 halted_at (Event.Add d left) old new is h = absurd is
 halted_at (Event.ReAdd own device left) old new is h = absurd is
+halted_at (Event.Fill k) old new is h = absurd is
+halted_at (Event.Prepare k) old new is h = absurd is
+halted_at (Event.RecordTargetFails k) old new is h = absurd is
+halted_at (Event.Enrol k role listed) old new is h = absurd is
 
 pub halts_marks : (old new : MirrorView) → IsIdle old.array → metadata.HaltsAfter only_others only_others IsMarking old new → HaltsIdle old new
 halts_marks old new idle h = record {

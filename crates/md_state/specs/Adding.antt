@@ -10,7 +10,7 @@ use Rattle.md_assembly.specs.States.{role_in}
 use Rattle.md_kept_members.specs.Spares.{IsOfFreshest, kept_spare}
 use Rattle.md_faults.specs.declared.add_fault.AddFault.{AddFault}
 use Rattle.md_faults.specs.declared.add_fault.AddFault.TheVariants.{Halted, TooSmall, Full, EventsFull, WriteFault, NoMemory}
-use Rattle.md_state.specs.Joining.{IsFull, joined, joined_shared}
+use Rattle.md_state.specs.Joining.{HasMostMembers, joined, joined_shared}
 use Rattle.md_state.specs.Members.{faulty_role, is_degraded}
 use Rattle.md_state.specs.Rising.{HasSpentEvents, has_number, is_absent}
 use Rattle.md_state.specs.View.{ArrayView}
@@ -43,7 +43,7 @@ IsLong a sectors = 2048 + a.shared.size ≤ sectors
 pub record MayAdd (a : ArrayView) (sectors d : ℕ) : Type 0 where
   pub running : a.halted ≡ false
   pub long : IsLong a sectors
-  pub room : IsFull a → ⊥
+  pub room : HasMostMembers a → ⊥
   pub unspent : HasSpentEvents a → ⊥
   pub number : IsNumber a d
 
@@ -51,23 +51,23 @@ pub record IsTooSmall (a : ArrayView) (sectors : ℕ) : Type 0 where
   pub running : a.halted ≡ false
   pub short : IsLong a sectors → ⊥
 
-pub record HasNoRoom (a : ArrayView) (sectors : ℕ) : Type 0 where
+pub record HasNoPlaceLeft (a : ArrayView) (sectors : ℕ) : Type 0 where
   pub running : a.halted ≡ false
   pub long : IsLong a sectors
-  pub full : IsFull a
+  pub full : HasMostMembers a
 
 -- the count has to rise, and can't
 pub record CannotCountAdd (a : ArrayView) (sectors : ℕ) : Type 0 where
   pub running : a.halted ≡ false
   pub long : IsLong a sectors
-  pub room : IsFull a → ⊥
+  pub room : HasMostMembers a → ⊥
   pub spent : HasSpentEvents a
 
 -- why a device of so many sectors is refused, before anything is written
 abbrev pub RefusesToAdd : ArrayView → ℕ → AddFault → Type 0
 RefusesToAdd a sectors Halted = a.halted ≡ true
 RefusesToAdd a sectors TooSmall = IsTooSmall a sectors
-RefusesToAdd a sectors Full = HasNoRoom a sectors
+RefusesToAdd a sectors Full = HasNoPlaceLeft a sectors
 RefusesToAdd a sectors EventsFull = CannotCountAdd a sectors
 RefusesToAdd a sectors WriteFault = ⊥
 RefusesToAdd a sectors NoMemory = ⊥

@@ -10,9 +10,9 @@ use Rattle.md_state.specs.Members.{faulty_role, is_degraded}
 use Rattle.md_state.specs.Rising.{is_absent, risen}
 use Rattle.md_state.specs.View.{ArrayView}
 
--- an array has 64 members at most
-abbrev pub IsFull : ArrayView → Type 0
-IsFull a = 64 ≤ length a.members
+-- an array has as many members as it may have, 64
+abbrev pub HasMostMembers : ArrayView → Type 0
+HasMostMembers a = 64 ≤ length a.members
 
 -- the role of each number, once the device with this one has come in with this role. As at each rise of the count, that of an
 -- absent device is a failed one's.

@@ -10,7 +10,7 @@ use Rattle.md_kept_members.specs.TakingBack.{IsTakenBack, own_role}
 use Rattle.md_kept_members.specs.View.{MemberView}
 use Rattle.md_faults.specs.declared.re_add_fault.ReAddFault.{ReAddFault}
 use Rattle.md_faults.specs.declared.re_add_fault.ReAddFault.TheVariants.{Halted, Member, Full, NotReAddable, NoRole, EventsFull, WriteFault, NoMemory}
-use Rattle.md_state.specs.Joining.{IsFull, joined}
+use Rattle.md_state.specs.Joining.{HasMostMembers, joined}
 use Rattle.md_state.specs.Rising.{HasSpentEvents, has_number}
 use Rattle.md_state.specs.View.{ArrayView}
 
@@ -46,7 +46,7 @@ is_taken a role = list_any (λ m. takes_role role m.state) a.members
 
 -- it may be taken back
 pub record MayReAdd (a : ArrayView) (info : MemberInfo) : Type 0 where
-  pub room : IsFull a → ⊥
+  pub room : HasMostMembers a → ⊥
   pub fits : IsReAddable a info
   pub free : is_taken a (own_role info.superblock) ≡ false
   pub unspent : HasSpentEvents a → ⊥
@@ -60,21 +60,21 @@ pub record TakesBack (info : MemberInfo) (old new : ArrayView) : Type 0 where
 
 -- no role is free for it
 pub record HasNoRole (a : ArrayView) (info : MemberInfo) : Type 0 where
-  pub room : IsFull a → ⊥
+  pub room : HasMostMembers a → ⊥
   pub fits : IsReAddable a info
   pub taken : is_taken a (own_role info.superblock) ≡ true
 
 -- the count has to rise, and can't
 pub record CannotCountReAdd (a : ArrayView) (info : MemberInfo) : Type 0 where
-  pub room : IsFull a → ⊥
+  pub room : HasMostMembers a → ⊥
   pub fits : IsReAddable a info
   pub free : is_taken a (own_role info.superblock) ≡ false
   pub spent : HasSpentEvents a
 
 -- why a device that was read is refused, before anything is written
 abbrev pub RefusesToTakeBack : ArrayView → MemberInfo → ReAddFault → Type 0
-RefusesToTakeBack a info Full = IsFull a
-RefusesToTakeBack a info NotReAddable = (IsFull a → ⊥) × (IsReAddable a info → ⊥)
+RefusesToTakeBack a info Full = HasMostMembers a
+RefusesToTakeBack a info NotReAddable = (HasMostMembers a → ⊥) × (IsReAddable a info → ⊥)
 RefusesToTakeBack a info NoRole = HasNoRole a info
 RefusesToTakeBack a info EventsFull = CannotCountReAdd a info
 RefusesToTakeBack a info Halted = ⊥

@@ -16,7 +16,7 @@ impl Array {
         if self.halted {
             return Err(AddFault::Halted);
         }
-        if !has_room(sectors, self.shared.size) {
+        if !is_long_enough(sectors, self.shared.size) {
             return Err(AddFault::TooSmall);
         }
         if self.members.len() >= MOST_MEMBERS {
@@ -29,8 +29,8 @@ impl Array {
     }
 }
 
-// Whether a device of so many sectors has room for an array of this size.
-fn has_room(sectors: u64, size: u64) -> bool
+// Whether a device of so many sectors is long enough for an array of this size.
+fn is_long_enough(sectors: u64, size: u64) -> bool
     ensures { result ≡ nat_le (2048 + size) sectors }
 {
     match sectors.checked_sub(DATA_SECTOR) {

@@ -18,7 +18,8 @@ pub struct Array {
     pub marks: Marks,
     /// The event count as it last rose while the array was not degraded.
     pub events_cleared: u64,
-    /// False from an opening of an array that was not stopped, until a resync.
+    /// Whether members in sync hold the same but for requests in flight: at an opening, where no chunk is
+    /// marked or one member alone is in sync; after that as the last resync ended.
     pub resynced: bool,
     /// A failed write could not be recorded: nothing is written any more.
     pub halted: bool,

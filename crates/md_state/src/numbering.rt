@@ -2,7 +2,7 @@
 ghost use Rattle.std.specs.Prelude.{◌≡◌, ◌↔◌, ◌<◌, IsTrue, false};
 ghost use Rattle.md_model.specs.Membership.{IsLeast};
 ghost use Rattle.md_state.specs.Adding.{IsFree, IsNumber, role_at_rise};
-ghost use Rattle.md_state.specs.Joining.{IsFull};
+ghost use Rattle.md_state.specs.Joining.{HasMostMembers};
 ghost use Rattle.md_state.specs.Rising.{has_number};
 
 use crate::array::Array;
@@ -11,7 +11,7 @@ use md_super::{FAULTY, MAX_ROLES};
 impl Array {
     /// The number that a new device gets.
     pub(crate) fn new_number(&self) -> u32
-        requires { IsFull self.now → ⊥ }
+        requires { HasMostMembers self.now → ⊥ }
         ensures { IsNumber self.now result }
     {
         for number in 0..MAX_ROLES {
@@ -42,7 +42,7 @@ impl Array {
 
     // The least number that no member has. Of one number more than there are members, one is.
     fn least_unused(&self) -> u32
-        requires { IsFull self.now → ⊥ }
+        requires { HasMostMembers self.now → ⊥ }
         ensures { IsLeast (λ d. has_number self.now d ≡ false) result }
     {
         let members = self.members.len() as u32;

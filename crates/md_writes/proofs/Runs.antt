@@ -8,7 +8,7 @@ use Rattle.md_device.specs.Device.{written}
 use Rattle.md_device.specs.Stops.{IsMixed, WithinWrite}
 use Rattle.md_device.proofs.Leaving as leaving
 use Rattle.md_device.proofs.Leaving.{leaves_less, leaves_none, mixed_none}
-use Rattle.md_writes.specs.Writes.{Write, IsKept, IsCutShort, IsNextMixed, IsAnyIn, DoesWrites, StopsInWrites, MakesWrites, LeavesOnly, after}
+use Rattle.md_writes.specs.Writes.{Write, IsKept, IsCutShort, IsNextMixed, IsAnyIn, DoesWrites, FailsInWrites, MakesWrites, LeavesOnly, after}
 
 pub after-append : (old : List ℕ) (writes more : List Write) → after old (writes ++ more) ≡ after (after old writes) more
 after-append old writes more = fold-append (λ before (w : Write). written before w.sector w.bytes) old writes more
@@ -135,7 +135,7 @@ module _ {D : Type 0} (g : Ghosts D) where
         (first.within h) (second.within (first.kept.honest_kept ∙ h));
   }
 
-  pub stops_then : (writes more : List Write) (old mid new : D) → DoesWrites g writes old mid → StopsInWrites g more mid new → StopsInWrites g (writes ++ more) old new
+  pub stops_then : (writes more : List Write) (old mid new : D) → DoesWrites g writes old mid → FailsInWrites g more mid new → FailsInWrites g (writes ++ more) old new
   stops_then writes more old mid new first second = record {
     kept = kept_then old mid new first.kept second.kept;
     failed = λ h. omega (arith, first.kept.counted, second.failed (first.kept.honest_kept ∙ h));
@@ -152,7 +152,7 @@ module _ {D : Type 0} (g : Ghosts D) where
         (first.within h) (second.within (first.kept.honest_kept ∙ h));
   }
 
-  pub stops_front : (writes more : List Write) (old new : D) → StopsInWrites g writes old new → StopsInWrites g (writes ++ more) old new
+  pub stops_front : (writes more : List Write) (old new : D) → FailsInWrites g writes old new → FailsInWrites g (writes ++ more) old new
   stops_front writes more old new stop = record {
     kept = stop.kept;
     failed = stop.failed;
@@ -183,7 +183,7 @@ module _ {D : Type 0} (g : Ghosts D) where
   pub none_left : (writes : List Write) (old new : D) → AreLeft writes [] old new → DoesWrites g writes old new
   none_left writes old new before = rw (before.order ∙ append-nil before.made) before.does
 
-  pub stops_in_left : (writes more left : List Write) (old mid new : D) → AreLeft writes (more ++ left) old mid → StopsInWrites g more mid new → StopsInWrites g writes old new
+  pub stops_in_left : (writes more left : List Write) (old mid new : D) → AreLeft writes (more ++ left) old mid → FailsInWrites g more mid new → FailsInWrites g writes old new
   stops_in_left writes more left old mid new before stop =
       rw before.order (stops_then before.made (more ++ left) old mid new before.does (stops_front more left mid new stop))
 
@@ -210,7 +210,7 @@ module _ {D : Type 0} (g : Ghosts D) where
   }
 
   -- a single write that failed: any bytes in its range at each moment
-  pub stops_in_one : (w : Write) (old new : D) → StopsInWrites g (w ∷ []) old new → g.honest old ≡ true → LeavesOnly g old new (IsAnyIn w (g.content old))
+  pub stops_in_one : (w : Write) (old new : D) → FailsInWrites g (w ∷ []) old new → g.honest old ≡ true → LeavesOnly g old new (IsAnyIn w (g.content old))
   stops_in_one w old new stop h = by stop.done stop.tried stop.rest stop.order (stop.within h)
     where
       by : (done : List Write) (tried : Write) (rest : List Write) → w ∷ [] ≡ done ++ tried ∷ rest
@@ -222,7 +222,7 @@ module _ {D : Type 0} (g : Ghosts D) where
       by (x ∷ []) tried rest order leaves = absurd (let e : w ∷ [] ≡ x ∷ (tried ∷ rest) = order in cc)
       by (x ∷ y ∷ done) tried rest order leaves = absurd (let e : w ∷ [] ≡ x ∷ (y ∷ (done ++ tried ∷ rest)) = order in cc)
 
-  pub stops_any : {T E : Type 0} (writes : List Write) (old new : D) (result : Result T E) → StopsInWrites g writes old new → IsErr result → MakesWrites g writes old new result
+  pub stops_any : {T E : Type 0} (writes : List Write) (old new : D) (result : Result T E) → FailsInWrites g writes old new → IsErr result → MakesWrites g writes old new result
   stops_any writes old new (Ok x) stop err = absurd (let e : false ≡ true = err in cc)
   stops_any writes old new (Err e) stop err = stop
 

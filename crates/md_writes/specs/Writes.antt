@@ -50,7 +50,7 @@ module _ {D : Type 0} (g : Ghosts D) where
 
   -- One of them failed, and none was made after it: the writes end there, with no stop of the machine. A stop within those
   -- before it leaves what it leaves of them; within it any bytes may stand in its range, and so at its end.
-  pub record StopsInWrites (writes : List Write) (old new : D) : Type 0 where
+  pub record FailsInWrites (writes : List Write) (old new : D) : Type 0 where
     pub kept : IsKept old new
     pub failed : g.honest old ≡ true → g.failures old < g.failures new
     pub done : List Write
@@ -62,4 +62,4 @@ module _ {D : Type 0} (g : Ghosts D) where
 
   -- the writes are made up to the first that fails, and the answer is whether one has
   abbrev pub MakesWrites : List Write → D → D → {T E : Type 0} → Result T E → Type 0
-  MakesWrites writes old new result = MatchResult result (λ _. DoesWrites writes old new) (λ _. StopsInWrites writes old new)
+  MakesWrites writes old new result = MatchResult result (λ _. DoesWrites writes old new) (λ _. FailsInWrites writes old new)

@@ -26,7 +26,7 @@ use Rattle.md_members.specs.Areas.{BitmapIsPlaced, IsPlaced, LogIsPlaced, bitmap
 use Rattle.md_members.specs.Members.{HasBitmap, sectors_of}
 use Rattle.md_assembly.specs.declared.state.MemberState.{MemberState}
 use Rattle.md_assembly.specs.States.{is_in_sync}
-use Rattle.md_writes.specs.Writes.{DoesWrites, StopsInWrites}
+use Rattle.md_writes.specs.Writes.{DoesWrites, FailsInWrites}
 use Rattle.md_requests.specs.Pending.{PendingView, has_written}
 use Rattle.md_kept_members.specs.OwnFields.{kept_superblock}
 use Rattle.md_kept_members.specs.TakingBack.{IsTakenBack, own_role, recovering}
@@ -288,7 +288,7 @@ module _ {D : Type 0} (g : Ghosts D) (was now : D) (a : ArrayView) (info : Membe
         disks = ap (map (disk_of g)) items ∙ map-append (disk_of g) devices (now ∷ []);
       }
 
-  pub not_recorded : (old new : MirrorView) → new ≡ old → old.array ≡ a → StopsInWrites g (write_of v m ∷ []) was now → FailsToRecordLast (disk_of g was) (disk_of g now) info old new
+  pub not_recorded : (old new : MirrorView) → new ≡ old → old.array ≡ a → FailsInWrites g (write_of v m ∷ []) was now → FailsToRecordLast (disk_of g was) (disk_of g now) info old new
   not_recorded old new unchanged array stops = record {
     unchanged = unchanged;
     member = m;

@@ -6,7 +6,7 @@ use Rattle.std.proofs.lemmas.Option.{slice_get_within}
 use Rattle.md_device.specs.Device.{written}
 use Rattle.md_device.specs.Splice.{SameOutside}
 use Rattle.md_device.specs.declared.device.Device.{Ghosts}
-use Rattle.md_writes.specs.Writes.{DoesWrites, IsAnyIn, IsCutShort, StopsInWrites, Write}
+use Rattle.md_writes.specs.Writes.{DoesWrites, IsAnyIn, IsCutShort, FailsInWrites, Write}
 use Rattle.md_writes.proofs.Runs.{stops_in_one}
 use Rattle.md_kept_members.specs.View.{MemberView}
 use Rattle.md_state.specs.View.{ArrayView, Disk, MirrorView, disk_of}
@@ -57,7 +57,7 @@ module _ {D : Type 0} (g : Ghosts D) (devices : List D) (k : ℕ) (was : D) (rea
         })
 
     -- it failed
-    pub is_failed : StopsInWrites g (w ∷ []) was new → IsFailed k w (map (disk_of g) devices) (map (disk_of g) (set devices k new))
+    pub is_failed : FailsInWrites g (w ∷ []) was new → IsFailed k w (map (disk_of g) devices) (map (disk_of g) (set devices k new))
     is_failed stops =
         let before = map (disk_of g) devices in
         let d = disk_of g was in

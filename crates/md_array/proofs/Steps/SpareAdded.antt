@@ -15,7 +15,7 @@ use Rattle.md_members.specs.Members.{sectors_of}
 use Rattle.md_create.specs.declared.params.NewMember.{NewMember}
 use Rattle.md_create.specs.Layout.{IsHalfLaidOut, IsLaidOut, KeepsOthers, writes_of}
 use Rattle.md_create.specs.ReadBack.{IsReadable}
-use Rattle.md_writes.specs.Writes.{DoesWrites, IsKept, StopsInWrites}
+use Rattle.md_writes.specs.Writes.{DoesWrites, IsKept, FailsInWrites}
 use Rattle.md_create.proofs.Laid.{few_sectors}
 use Rattle.md_create.proofs.Taken.{new_placed}
 use Rattle.md_requests.specs.Pending.{PendingView}
@@ -195,7 +195,7 @@ module _ {D : Type 0} (g : Ghosts D) (was now : D) where
     disks = ap (map (disk_of g)) items ∙ map-append (disk_of g) devices (now ∷ []);
   }
 
-  pub not_laid : (old new : MirrorView) (number : ℕ) (laid : NewMember) → new ≡ old → IsSpareOf old.array number (sectors_of (g.content was)) laid → StopsInWrites g (writes_of laid) was now
+  pub not_laid : (old new : MirrorView) (number : ℕ) (laid : NewMember) → new ≡ old → IsSpareOf old.array number (sectors_of (g.content was)) laid → FailsInWrites g (writes_of laid) was now
       → KeepsOthers laid (g.content was) (g.content now) → FailsToLayOut (disk_of g was) (disk_of g now) number old new
   not_laid old new number laid unchanged spare stops outside = record {
     unchanged = unchanged;

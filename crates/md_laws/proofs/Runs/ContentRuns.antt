@@ -5,15 +5,41 @@ use Rattle.md_model.specs.Devices.{Super}
 use Rattle.md_model.specs.Events.{Event, Step}
 use Rattle.md_model.specs.Runs as runs
 use Rattle.md_model.specs.Worlds.{World}
-use Rattle.md_model.specs.Content.{Content, Becomes, Holds}
+use Rattle.md_model.specs.Content.{Content, Becomes, Holds, Tells}
 use Rattle.md_model.proofs.ContentAlong.{after_event}
 use Rattle.md_model.proofs.ContentLives.{IsHeld, held_opened}
 use Rattle.md_model.proofs.Contents.{holds_step}
 use Rattle.md_model.proofs.Keeps.{kept_step}
-use Rattle.md_state.specs.View.{MirrorView}
+use Rattle.md_state.specs.View.{Disk, MirrorView}
+use Rattle.md_array.specs.Events.{WritesOnce}
 use Rattle.md_array.specs.Worlds.{geometry_of, none_in_flight, super_of, world_of}
 use Rattle.md_laws.specs.Runs.{MirrorRun, MirrorRunWith, Moment, history_of, opened_as, then_as}
 use Rattle.md_laws.proofs.Runs.Rests.{history_rests, rests_does}
+
+-- no member is enrolled by any of these
+no_enrolment : (e : Event) (before after : List Disk) → WritesOnce e before after → (g : Geometry) (world : World) (a : Content) → Tells g e world a
+no_enrolment (Event.Begin n p) before after w g world a = tt
+no_enrolment (Event.Record k) before after w g world a = tt
+no_enrolment (Event.StoreMarks k b) before after w g world a = tt
+no_enrolment (Event.WriteMember n k) before after w g world a = tt
+no_enrolment (Event.Finish n) before after w g world a = tt
+no_enrolment (Event.ClearIdle c) before after w g world a = tt
+no_enrolment (Event.Fail k) before after w g world a = tt
+no_enrolment (Event.RecordFails k) before after w g world a = tt
+no_enrolment (Event.StoreMarksFails k b) before after w g world a = tt
+no_enrolment (Event.WriteMemberFails n k) before after w g world a = tt
+no_enrolment (Event.CopyFails k c) before after w g world a = tt
+no_enrolment (Event.Copy from k s) before after w g world a = tt
+no_enrolment Event.Resynced before after w g world a = tt
+no_enrolment Event.Unresynced before after w g world a = tt
+no_enrolment Event.MakeClean before after w g world a = tt
+no_enrolment (Event.Remove k) before after w g world a = tt
+no_enrolment (Event.Add d left) before after w g world a = tt
+no_enrolment (Event.ReAdd own device left) before after w g world a = tt
+no_enrolment (Event.Fill k) before after w g world a = tt
+no_enrolment (Event.Prepare k) before after w g world a = tt
+no_enrolment (Event.RecordTargetFails k) before after w g world a = tt
+no_enrolment (Event.Enrol k role listed) before after w g world a = absurd w
 
 module _ (m : MirrorView) (start : runs.IsStart (geometry_of m.array) (super_of m.array.shared) (world_of m none_in_flight)) where
   abbrev g : Geometry
@@ -33,7 +59,7 @@ module _ (m : MirrorView) (start : runs.IsStart (geometry_of m.array) (super_of 
       let w = world_of r.0 r.1 in
       let leads = rests_does t.mirror r.0 t.requests r.1 e r.2 in
       let s = subst (λ x. Step x h.now e w) same leads.step in
-      let c = after_event g start.small opened h e w a held s.1 in
+      let c = after_event g start.small opened h e w a held (no_enrolment e r.2.mid.disks r.0.disks r.2.does.writes g h.now a) s.1 in
       let next = then_as t e r.0 r.1 in
       let more = along es next c.0 last (leads.geometry ∙ same)
       (record { kept = kept_step g start.small opened h e w held.kept s; holds = holds_step g a c.0 h.now e w held.kept.tracked held.holds s c.1 })

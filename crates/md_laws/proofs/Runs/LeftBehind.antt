@@ -146,6 +146,10 @@ same_content g w a k Event.MakeClean it = absurd it
 same_content g w a k (Event.Remove j) it = absurd it
 same_content g w a k (Event.Add number left) it = absurd it
 same_content g w a k (Event.ReAdd own device left) it = absurd it
+same_content g w a k (Event.Fill j) it = absurd it
+same_content g w a k (Event.Prepare j) it = absurd it
+same_content g w a k (Event.RecordTargetFails j) it = absurd it
+same_content g w a k (Event.Enrol j role listed) it = absurd it
 
 pub left_behind : LiesBehind
 left_behind before m a start holds es rest final t b life k f more others newest last c r =

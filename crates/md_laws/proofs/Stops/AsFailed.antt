@@ -247,3 +247,7 @@ stops_at_events (Event.Begin n p) before after left honest writes may = in_memor
 stops_at_events (Event.Finish n) before after left honest writes may = in_memory before after left writes may
 stops_at_events (Event.ClearIdle c) before after left honest writes may = in_memory before after left writes may
 stops_at_events (Event.Fail k) before after left honest writes may = in_memory before after left writes may
+stops_at_events (Event.Fill k) before after left honest writes may = absurd writes
+stops_at_events (Event.Prepare k) before after left honest writes may = absurd writes
+stops_at_events (Event.RecordTargetFails k) before after left honest writes may = absurd writes
+stops_at_events (Event.Enrol k role listed) before after left honest writes may = absurd writes

@@ -7,7 +7,7 @@ use Rattle.std.proofs.lemmas.List.Sums.{count_by-le-length, sum_by-cons}
 use Rattle.md_model.specs.Membership.{IsLeast}
 use Rattle.md_kept_members.specs.View.{MemberView}
 use Rattle.md_state.specs.Adding.{IsNumber}
-use Rattle.md_state.specs.Joining.{IsFull}
+use Rattle.md_state.specs.Joining.{HasMostMembers}
 use Rattle.md_state.specs.Rising.{has_number}
 use Rattle.md_state.specs.View.{ArrayView}
 
@@ -89,7 +89,7 @@ pub number_is_unused : (a : ArrayView) (d : ℕ) → IsNumber a d → has_number
 number_is_unused a d (inl free) = free.fits.unused
 number_is_unused a d (inr least) = least.1.fits
 
-pub number_is_small : (a : ArrayView) (d : ℕ) → (IsFull a → ⊥) → IsNumber a d → d < 1920
+pub number_is_small : (a : ArrayView) (d : ℕ) → (HasMostMembers a → ⊥) → IsNumber a d → d < 1920
 number_is_small a d room (inl free) = free.fits.room
 number_is_small a d room (inr least) =
     let few = unused_is_small a d least.1 in

@@ -1,5 +1,6 @@
 use Rattle.md_model.proofs.SmallRun.{can_resync, can_fail_record, can_fail_marks, can_fail_data, can_fail_copy, reopens}
 use Rattle.md_model.proofs.Comings.{back, can_come_again, can_come_new, laid, own}
+use Rattle.md_model.proofs.Rebuilt.{can_be_replaced, can_return, former, former_device, new_device, taken_back}
 use Rattle.md_model.proofs.SmallRun.{w5}
 use Rattle.md_model.proofs.laws.small_runs.Goals as goal
 
@@ -12,5 +13,7 @@ returns c = record {
   copy_fails = can_fail_copy;
   comes_again = (own, w5.stored 1, back, can_come_again);
   comes_new = (2, laid, can_come_new);
+  returns = (former, former_device, taken_back, can_return);
+  is_replaced = (2, new_device, can_be_replaced);
   reopens = reopens;
 }

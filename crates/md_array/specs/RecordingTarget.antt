@@ -1,0 +1,27 @@
+-- The superblock of a member that is rebuilt is stored, whose failure leaves the member as it was (this project's own).
+use Rattle.std.specs.Prelude.{◌≡◌, ℕ, ⊤, Result, MatchResult}
+use Rattle.md_faults.specs.declared.enrol_fault.TargetFault.{TargetFault as TargetFaults}
+use Rattle.md_faults.specs.declared.enrol_fault.TargetFault.TheVariants.{Halted, TargetFault}
+use Rattle.md_kept_members.specs.View.{MemberView}
+use Rattle.md_model.specs.Events.{Event}
+use Rattle.md_state.specs.DiskWrites.{IsFailed}
+use Rattle.md_state.specs.Trying.{RefusesHalted}
+use Rattle.md_state.specs.View.{MirrorView}
+use Rattle.md_array.specs.Events.{Happens}
+use Rattle.md_array.specs.Recording.{MayRecord, super_write}
+
+-- The write failed. In memory all is as it was, so that the member's record is due still. A stop within the write leaves any bytes in
+-- its range (`disks.within`).
+pub record LeavesUnrecorded (k : ℕ) (old new : MirrorView) : Type 0 where
+  pub member : MemberView
+  pub may : MayRecord k old.array member
+  pub array : new.array ≡ old.array
+  pub disks : IsFailed k (super_write old.array member) old.disks new.disks
+
+abbrev pub RefusesTarget : ℕ → MirrorView → MirrorView → TargetFaults → Type 0
+RefusesTarget k old new Halted = RefusesHalted old new
+RefusesTarget k old new TargetFault = LeavesUnrecorded k old new
+
+-- the event of the model, where the superblock is stored
+abbrev pub TargetHappens : ℕ → MirrorView → MirrorView → {T E : Type 0} → Result T E → Type 0
+TargetHappens k old new result = MatchResult result (λ _. Happens old (Event.Record k) new) (λ _. ⊤)
