@@ -6,3 +6,6 @@ pub mod Workers
 pub mod Settles
 pub mod Sweeps
 pub mod Rounds
+pub mod Departures
+pub mod InTurn
+pub mod LaneMaking

@@ -8,3 +8,9 @@ pub mod Lanes
 pub mod Settling
 -- A pass: its lanes and its books, as it began and now.
 pub mod Passes
+-- Devices leave their list one after another, and come back to their places.
+pub mod Places
+-- Which chunks a source reads in a pass, and the lane that is made of it.
+pub mod Readings
+-- What a pass asks of the members that it reads, and what it does for the target.
+pub mod Sources

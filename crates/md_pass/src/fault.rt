@@ -1,5 +1,5 @@
 // Why a pass ends before its last turn.
-use std::alloc::AllocError;
+use std::alloc::{AllocError, AllocFailed};
 use thiserror::Error;
 
 /// Why a pass ends before its last turn.
@@ -23,6 +23,17 @@ impl From<AllocError> for PassFault {
     ghost from_gives = { λ _ e. e ≡ NoMemory };
 
     fn from(_: AllocError) -> PassFault {
+        PassFault::NoMemory
+    }
+}
+
+impl<T: Drop> From<AllocFailed<T>> for PassFault {
+    ghost use Rattle.std.specs.Prelude.{◌≡◌};
+    ghost use Rattle.md_pass.specs.declared.fault.PassFault.TheVariants.{NoMemory};
+
+    ghost from_gives = { λ _ e. e ≡ NoMemory };
+
+    fn from(_: AllocFailed<T>) -> PassFault {
         PassFault::NoMemory
     }
 }

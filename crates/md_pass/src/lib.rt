@@ -6,10 +6,16 @@ mod board;
 mod fault;
 mod gate;
 mod lane;
+mod places;
+mod put_back;
+mod reading;
 mod settle;
+mod source;
+mod take_out;
 mod turn;
 mod turns;
 
 pub use board::{Board, Share};
 pub use fault::PassFault;
 pub use gate::Gate;
+pub use source::Source;
