@@ -9,3 +9,6 @@ pub mod Rounds
 pub mod Departures
 pub mod InTurn
 pub mod LaneMaking
+pub mod FilteredLists
+pub mod Orders
+pub mod Totals

@@ -11,6 +11,10 @@ use Rattle.md_collect.specs.Reports.{Copying, is_planned}
 use Rattle.md_pass.specs.declared.source.Source.{Source}
 use Rattle.md_pass.specs.Beside.{has_chunk}
 
+-- what is copied to a target whose data start at this sector
+abbrev pub copy_of : List Slot → Chunks → ℕ → Copying
+copy_of slots chunks offset = record { slots = slots; chunks = chunks; offset = offset }
+
 -- the planned chunks join those that were copied
 pub record AreMarked (slots : List Slot) (old new : Bitmap) : Type 0 where
   pub chunks : new.chunks ≡ old.chunks

@@ -12,16 +12,23 @@ pub(crate) fn places_in_turn(
 ) -> Result<Vec<usize>, AllocError>
     ensures { IfOk result (λ v. AreInTurn (map (λ r. r.source.place) readings.now) v.items) }
 {
-    let places: Vec<usize> = readings
-        .iter()
-        .map(|reading| reading.source.place)
-        .collect(alloc)?;
+    let places = places_of(alloc, readings)?;
     let places = places.as_slice();
     let mut turns = Vec::with_capacity(alloc, places.len())?;
     for k in 0..places.len() {
         turns.push_reserved(place_in_turn(places, k));
     }
     Ok(turns)
+}
+
+// The place of each source's device in the whole list.
+fn places_of(alloc: Global, readings: &[Reading]) -> Result<Vec<usize>, AllocError>
+    ensures { IfOk result (λ v. v.items ≡ map (λ r. r.source.place) readings.now) }
+{
+    readings
+        .iter()
+        .map(|reading| reading.source.place)
+        .collect(alloc)
 }
 
 // The place of number `k` once those before it have left.
