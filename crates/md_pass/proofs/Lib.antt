@@ -12,3 +12,6 @@ pub mod LaneMaking
 pub mod FilteredLists
 pub mod Orders
 pub mod Totals
+pub mod PassStarts
+pub mod PassEnds
+pub mod PassSources

@@ -23,6 +23,16 @@ pub sum_none : {X : Type 0} (f : X → ℕ) (xs : List X) → ((k : ℕ) (d : X)
 sum_none f [] none = refl
 sum_none f (x ∷ xs) none = let r = sum_none f xs (λ k d below. none (suc k) d (omega (arith, below))) in let a = sum_by-cons f x xs in let e = none 0 x (omega arith) in omega (arith, r, a, e)
 
+-- two lists whose elements have the same numbers
+pub same_sums : {X : Type 0} (f : X → ℕ) (xs ys : List X) → length xs ≡ length ys → ((k : ℕ) (d : X) → k < length xs → f (get_or xs k d) ≡ f (get_or ys k d)) → sum_by f xs ≡ sum_by f ys
+same_sums f [] [] long same = refl
+same_sums f [] (y ∷ ys) long same = absurd (omega (arith, long))
+same_sums f (x ∷ xs) [] long same = absurd (omega (arith, long))
+same_sums f (x ∷ xs) (y ∷ ys) long same =
+    let r = same_sums f xs ys (omega (arith, long)) (λ k d below. same (suc k) d (omega (arith, below))) in
+    let e = same 0 x (omega arith) in
+    sum_by-cons f x xs ∙ (let b = sum_by-cons f y ys in omega (arith, r, e, b))
+
 -- whether the source has this role
 abbrev pub hit : ℕ → Source → ℕ
 hit role s = cond (role == s.role) 1 0

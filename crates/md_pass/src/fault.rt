@@ -1,5 +1,5 @@
 // Why a pass ends before its last turn.
-use std::alloc::{AllocError, AllocFailed};
+use std::alloc::AllocError;
 use thiserror::Error;
 
 /// Why a pass ends before its last turn.
@@ -27,13 +27,13 @@ impl From<AllocError> for PassFault {
     }
 }
 
-impl<T: Drop> From<AllocFailed<T>> for PassFault {
+impl From<md_cert::NoMemory> for PassFault {
     ghost use Rattle.std.specs.Prelude.{◌≡◌};
     ghost use Rattle.md_pass.specs.declared.fault.PassFault.TheVariants.{NoMemory};
 
     ghost from_gives = { λ _ e. e ≡ NoMemory };
 
-    fn from(_: AllocFailed<T>) -> PassFault {
+    fn from(_: md_cert::NoMemory) -> PassFault {
         PassFault::NoMemory
     }
 }

@@ -30,7 +30,7 @@ pub(crate) fn take_out<D, L: Ledger, M: Ledger>(
 
     ensures len { length lanes.new.items ≡ length readings.old.items }
     ensures capacity { vec_capacity devices.new ≡ vec_capacity devices.old }
-    ensures count { vec_len devices.new + length readings.old.items ≡ vec_len devices.old }
+    ensures count { length devices.new.items + length readings.old.items ≡ length devices.old.items }
 {
     let mut rest = share;
     for k in 0..places.len() {
