@@ -1,29 +1,28 @@
 -- A pass ends: devices are back in their list.
-use Rattle.std.proofs.Common.{◌≡◌, ℕ, suc, ◌+◌, ◌-◌, ◌<◌, ◌≤◌, ◌||◌, ◌==◌, Bool, true, false, [], ◌∷◌, List, length, map, sum_by, get_or, slice_index, Contains, None, refl, ap, sym, ◌∙◌, arith, subst}
+use Rattle.std.proofs.Common.{◌≡◌, ℕ, suc, ◌-◌, ◌<◌, ◌||◌, ◌==◌, Bool, true, false, [], ◌∷◌, List, length, map, sum_by, get_or, slice_index, Contains, None, refl, ap, sym, ◌∙◌, arith, subst}
 use Rattle.std.specs.List.{All, Any}
-use Rattle.std.proofs.lemmas.List.{get_or-map, length-map, get_or_default}
+use Rattle.std.proofs.lemmas.List.{get_or-map, length-map}
 use Rattle.std.proofs.lemmas.List.Sums.{sum_by-cons}
 use Rattle.std.proofs.lemmas.List.Elements.{Contains-get_or}
 use Rattle.std.proofs.lemmas.List.Folds.{Any-from_list_any}
 use Rattle.std.proofs.lemmas.Bool.{eqb-true}
 use Rattle.md_cert.specs.declared.slots.Slot.{Slot}
 use Rattle.md_device.specs.declared.device.Device.{Ghosts}
-use Rattle.md_bitmap.specs.Marks.{Bitmap, is_set}
+use Rattle.md_bitmap.specs.Marks.{is_set}
 use Rattle.md_collect.specs.Places.{chunk_on}
 use Rattle.md_collect.specs.Reading.{Fails}
 use Rattle.md_collect.specs.Reports.{Copying, is_planned}
-use Rattle.md_collect.specs.Collecting.{copying}
 use Rattle.md_pass.specs.declared.lane.Lane.{Lane}
 use Rattle.md_pass.specs.declared.reading.Reading.{Reading}
 use Rattle.md_pass.specs.declared.source.Source.{Source}
 use Rattle.md_pass.specs.Beside.{has_chunk}
 use Rattle.md_pass.specs.Lanes.{OnlyRead, AreOnlyRead}
-use Rattle.md_pass.specs.Places.{AreInTurn, AreTaken, FitPlaces}
+use Rattle.md_pass.specs.Places.{AreInTurn, AreTaken}
 use Rattle.md_pass.specs.Readings.{IsLaneOf, IsOrderOf, slots_of}
 use Rattle.md_pass.specs.Settling.{Books}
 use Rattle.md_pass.specs.Sources.{AreMarked, FailsToGive, MayRead}
 use Rattle.md_pass.specs.Passes.{FailsIn, HasLanded, IsPassing, IsUnderWay, LanesOnlyRead, Waits}
-use Rattle.md_pass.proofs.Departures.{related, taken_many}
+use Rattle.md_pass.proofs.Departures.{related}
 use Rattle.md_pass.proofs.OnlyReads.{not_read}
 use Rattle.md_pass.proofs.Orders.{order_covers, order_planned}
 use Rattle.md_pass.proofs.PassStarts.{all_fit, device_at, reading_like, source_at}
@@ -156,12 +155,17 @@ module _ {D L M : Type 0} {g : Ghosts D} where
           record {
             planned = subst (λ n. is_planned start.collector.slots chunk n ≡ true) role_is (subst (λ n. is_planned start.collector.slots n r.source.role ≡ true) chunk_is planned);
             fails = (
-              at, r.source, omega (arith, below, n), from,
-              (role_is,
+              at,
+              r.source,
+              omega (arith, below, n),
+              from,
+              (
+                role_is,
                 λ e.
                     let old = first_device t at f e r.source below ∙ ap (λ (s : Source). get_or devices s.place e) from in
                     let new = sym (get_or-map (λ (l : Lane D L M). l.device) lanes at f e (omega (arith, below, t.same, many))) ∙ device_at devices news (map (λ (l : Lane D L M). l.device) lanes) rest rs places t.may t.turn long taken' at e e r.source below ∙ ap (λ (s : Source). get_or news s.place e) from in
-                    subst (λ x. Fails g x (get_or news r.source.place e)) old (subst (λ x. Fails g (get_or firsts at f).device x) new (fails.fails f))),
+                    subst (λ x. Fails g x (get_or news r.source.place e)) old (subst (λ x. Fails g (get_or firsts at f).device x) new (fails.fails f)),
+              ),
             );
           }
 

@@ -1,6 +1,5 @@
 -- A pass reads those of its sources that have a slot.
-use Rattle.std.proofs.Common.{◌≡◌, ◌≢◌, ℕ, ◌<◌, ◌==◌, Bool, true, List, length, filter, get_or, Contains, Result, Ok, Err, OnOk, refl, ap, sym, ◌∙◌, arith, subst}
-use Rattle.std.specs.List.{All, AllPairs, Any}
+use Rattle.std.proofs.Common.{◌≡◌, ◌≢◌, ℕ, ◌<◌, ◌==◌, true, List, length, filter, get_or, Result, Ok, Err, OnOk, sym, arith}
 use Rattle.std.proofs.lemmas.Bool.Decides.{nat_tests}
 use Rattle.std.proofs.lemmas.List.{get_or_default}
 use Rattle.std.proofs.lemmas.List.Elements.{All-filter}

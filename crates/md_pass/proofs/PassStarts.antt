@@ -1,13 +1,13 @@
 -- A pass begins: devices have left for lanes.
-use Rattle.std.proofs.Common.{◌≡◌, ◌≢◌, ℕ, ◌+◌, ◌-◌, ◌<◌, ◌≤◌, ◌||◌, Bool, true, false, inl, inr, [], List, length, map, get_or, slice_index, None, refl, ap, sym, ◌∙◌, arith, subst}
-use Rattle.std.specs.List.{All, AllPairs}
+use Rattle.std.proofs.Common.{◌≡◌, ℕ, ◌<◌, ◌≤◌, ◌||◌, Bool, true, false, inl, inr, List, length, map, get_or, slice_index, refl, ap, sym, ◌∙◌, arith, subst}
+use Rattle.std.specs.List.{All}
 use Rattle.std.specs.Int.{div_ceil}
 use Rattle.std.proofs.lemmas.Bool.{cases_lt}
 use Rattle.std.proofs.lemmas.List.{get_or-map, length-map}
 use Rattle.std.proofs.lemmas.Simd.{map-map}
 use Rattle.md_device.specs.declared.device.Device.{Ghosts}
 use Rattle.md_bitmap.specs.Marks.{is_set}
-use Rattle.md_collect.specs.Places.{IsChunk, HasRoom}
+use Rattle.md_collect.specs.Places.{HasRoom}
 use Rattle.md_collect.specs.Collecting.{ArePlanned, IsFresh}
 use Rattle.md_pass.specs.declared.lane.Lane.{Lane}
 use Rattle.md_pass.specs.declared.reading.Reading.{Reading}

@@ -1,5 +1,5 @@
 -- A turn of a pass.
-use Rattle.std.proofs.Common.{◌≡◌, ℕ, ◌+◌, ◌<◌, ◌≤◌, min, Bool, true, false, inl, inr, List, length, Option, Some, None, ◌⊎◌, get_or, slice_index, refl, ap, sym, ◌∙◌, arith, subst}
+use Rattle.std.proofs.Common.{◌≡◌, ℕ, ◌+◌, ◌<◌, ◌≤◌, min, Bool, true, false, inl, inr, List, length, Option, Some, None, ◌⊎◌, get_or, refl, ap, sym, ◌∙◌, arith, subst}
 use Rattle.std.specs.List.{All, slice_get}
 use Rattle.std.proofs.lemmas.Option.{slice_get_cases}
 use Rattle.md_device.specs.declared.device.Device.{Ghosts}

@@ -1,10 +1,10 @@
 -- What it does to a pass that a report is taken.
-use Rattle.std.proofs.Common.{◌≡◌, ◌≢◌, ℕ, ◌+◌, ◌*◌, ◌<◌, ◌||◌, ◌==◌, Bool, true, false, inl, inr, List, length, Option, Some, None, is_some, cond, slice_index, refl, ap, sym, ◌∙◌, arith, subst}
+use Rattle.std.proofs.Common.{◌≡◌, ◌≢◌, ℕ, ◌+◌, ◌<◌, ◌||◌, ◌==◌, Bool, true, false, inl, inr, List, length, Option, Some, None, is_some, cond, slice_index, refl, ap, sym, ◌∙◌, arith, subst}
 use Rattle.std.proofs.lemmas.Bool.{cases_lt}
 use Rattle.md_device.specs.declared.device.Device.{Ghosts}
 use Rattle.md_bitmap.specs.declared.chunks.Chunks.{Chunks}
-use Rattle.md_bitmap.specs.Marks.{Bitmap, is_set}
-use Rattle.md_collect.specs.Places.{IsChunk, HasRoom, bytes_of, chunk_on, with_chunk}
+use Rattle.md_bitmap.specs.Marks.{is_set}
+use Rattle.md_collect.specs.Places.{IsChunk, HasRoom, bytes_of, with_chunk}
 use Rattle.md_collect.specs.Reports.{ReportView, Copying, is_planned, has_length, with_report}
 use Rattle.md_collect.specs.Collecting.{CollectorView, copying}
 use Rattle.md_collect.specs.Targets.{ChangesChunk}

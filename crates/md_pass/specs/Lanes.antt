@@ -1,5 +1,5 @@
 -- A lane: a source, and the chunks that it reads one after another. Before and after its worker reads one.
-use Rattle.std.specs.Prelude.{◌≡◌, ℕ, ◌+◌, ◌-◌, ◌<◌, ◌≤◌, true, false, List, length, Option, Some, None, slice_get, slice_index, slice_index_or, not, is_none}
+use Rattle.std.specs.Prelude.{◌≡◌, ℕ, ◌-◌, ◌<◌, ◌≤◌, true, false, List, length, Option, Some, None, slice_get, slice_index, slice_index_or, not, is_none}
 use Rattle.md_device.specs.declared.device.Device.{Ghosts}
 use Rattle.md_bitmap.specs.declared.chunks.Chunks.{Chunks}
 use Rattle.md_collect.specs.Places.{IsChunk, HasRoom, bytes_of}

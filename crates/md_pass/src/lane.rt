@@ -1,6 +1,7 @@
 // A source with the chunks that it reads, and the worker that reads the next of them.
 ghost use Rattle.std.specs.Prelude.{◌≡◌, ◌+◌, ◌-◌, ◌<◌, true, false, Some, None, ℕ, slice_get};
 ghost use Rattle.md_pass.specs.Lanes.{IsReady, HasWorked};
+ghost use Rattle.md_pass.specs.Tally.{noted};
 
 use crate::board::{Board, Share};
 use crate::gate::Gate;
@@ -75,9 +76,22 @@ pub(crate) fn work<D: Device, G: Gate, L: Ledger, M: Ledger, R: Wait>(
     match answer {
         Ok(report) => {
             let delivered = !report.is_failed();
-            board.lock(rt).enter(&mut lane.share, delivered);
+            note(rt, board, &mut lane.share, delivered);
             lane.report = Some(report);
         }
         Err(_) => lane.starved = true,
     }
+}
+
+// Notes a slot on the board, under its lock.
+fn note<L: Ledger, M: Ledger, R: Wait>(
+    rt: &R,
+    board: &Mutex<Board<L, M>>,
+    share: &mut Share<L, M>,
+    delivered: bool,
+)
+    requires { 0 < share.old.left }
+    ensures { share.new ≡ noted share.old delivered }
+{
+    board.lock(rt).enter(share, delivered);
 }

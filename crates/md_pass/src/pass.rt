@@ -68,7 +68,8 @@ pub fn copy_pass<D: Device + Drop + Send, G: Gate + Sync, R: Threads + Wait + Sy
     requires marks { copied.old.chunks ≡ div_ceil chunks.size chunks.sectors }
 
     ensures marked { OnOk result (AreMarked plan.now.slots copied.old copied.new) }
-    ensures copied { OnOk result (AreCopied D.Device (copy_of plan.now.slots chunks offset) sources.now devices.old.items target.old target.new) }
+    ensures copied { OnOk result (AreCopied D.Device (copy_of plan.now.slots chunks offset) sources.now
+        devices.old.items target.old target.new) }
     ensures noted { IfOk result (λ counts. (counts.left ≡ 0) × (counts.failed ≡ 0)) }
     ensures target_fault { result ≡ Err PassFault.TargetFault → Fails D.Device target.old target.new }
     ensures source_fault { (role chunk : ℕ) → result ≡ Err (PassFault.SourceFault role chunk)
@@ -127,18 +128,22 @@ fn copy_readings<
     requires slots { (length collector.old.slots ≡ slots) × (slots ≤ 1048576) }
     requires left { (left.name ≡ L.name) × (left.parts ≡ L.parts) × (L.parts ≡ slots) }
     requires failed { (failed.name ≡ M.name) × (failed.parts ≡ M.parts) × (M.parts ≡ slots) }
-    requires sources { MayRead D.Device collector.old.chunks collector.old.slots (map (λ r. r.source) readings.old.items) devices.old.items }
-    requires orders { All (λ r. IsOrderOf collector.old.slots r.source.role r.chunks.items) readings.old.items }
+    requires sources { MayRead D.Device collector.old.chunks collector.old.slots
+        (map (λ r. r.source) readings.old.items) devices.old.items }
+    requires orders { All (λ r. IsOrderOf collector.old.slots r.source.role r.chunks.items)
+        readings.old.items }
     requires places { AreInTurn (map (λ r. r.source.place) readings.old.items) places.now }
     requires room { HasRoom (D.content target.old) collector.old.offset collector.old.chunks }
     requires marks { copied.old.chunks ≡ div_ceil collector.old.chunks.size collector.old.chunks.sectors }
 
     ensures marked { OnOk result (AreMarked collector.old.slots copied.old copied.new) }
-    ensures copied { OnOk result (AreCopied D.Device (copying collector.old) (map (λ r. r.source) readings.old.items) devices.old.items target.old target.new) }
+    ensures copied { OnOk result (AreCopied D.Device (copying collector.old)
+        (map (λ r. r.source) readings.old.items) devices.old.items target.old target.new) }
     ensures noted { IfOk result (λ counts. (counts.left ≡ 0) × (counts.failed ≡ 0)) }
     ensures target_fault { result ≡ Err PassFault.TargetFault → Fails D.Device target.old target.new }
     ensures source_fault { (role chunk : ℕ) → result ≡ Err (PassFault.SourceFault role chunk)
-        → FailsToGive D.Device collector.old.slots (map (λ r. r.source) readings.old.items) devices.old.items devices.new.items role chunk }
+        → FailsToGive D.Device collector.old.slots (map (λ r. r.source) readings.old.items)
+        devices.old.items devices.new.items role chunk }
 
     ensures devices { AreOnlyRead D.Device devices.old.items devices.new.items }
     ensures target { KeepsBeside D.Device (copying collector.old) target.old target.new }

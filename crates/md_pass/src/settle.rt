@@ -29,7 +29,8 @@ pub(crate) fn settle<D: Device, L: Ledger, M: Ledger>(
     ensures ok { OnOk result (IsSettled (D.honest target.old) (books collector.old (D.content target.old) copied.old)
         (books collector.new (D.content target.new) copied.new) lane.old lane.new lane.old.report) }
     ensures target_fault { result ≡ Err PassFault.TargetFault → Fails D.Device target.old target.new }
-    ensures source_fault { (role chunk : ℕ) → result ≡ Err (PassFault.SourceFault role chunk) → HasFailed role chunk lane.old }
+    ensures source_fault { (role chunk : ℕ) → result ≡ Err (PassFault.SourceFault role chunk)
+        → HasFailed role chunk lane.old }
 
     ensures copy { copying collector.new ≡ copying collector.old }
     ensures target { KeepsBeside D.Device (copying collector.old) target.old target.new }
@@ -58,20 +59,27 @@ pub(crate) fn settle_all<D: Device, L: Ledger, M: Ledger>(
     copied: &mut Marks,
     lanes: &mut Vec<Lane<D, L, M>>,
 ) -> Result<(), PassFault>
-    requires { (firsts : List (_)) × (first : Books) × IsPassing D.Device (D.honest target.old) firsts lanes.old.items first (books collector.old (D.content target.old) copied.old) }
+    requires { (firsts : List (_)) × (first : Books)
+        × IsPassing D.Device (D.honest target.old) firsts lanes.old.items first
+        (books collector.old (D.content target.old) copied.old) }
 
     ensures passing { OnOk result ((firsts : List (_)) (first : Books)
-        → IsPassing D.Device (D.honest target.old) firsts lanes.old.items first (books collector.old (D.content target.old) copied.old)
-        → IsPassing D.Device (D.honest target.old) firsts lanes.new.items first (books collector.new (D.content target.new) copied.new)) }
-    ensures goes { OnOk result ((k : ℕ) (d : _) → k < length lanes.old.items → Goes (slice_index_or lanes.old.items k d) (slice_index_or lanes.new.items k d)) }
+        → IsPassing D.Device (D.honest target.old) firsts lanes.old.items first
+        (books collector.old (D.content target.old) copied.old)
+        → IsPassing D.Device (D.honest target.old) firsts lanes.new.items first
+        (books collector.new (D.content target.new) copied.new)) }
+    ensures goes { OnOk result ((k : ℕ) (d : _) → k < length lanes.old.items
+        → Goes (slice_index_or lanes.old.items k d) (slice_index_or lanes.new.items k d)) }
     ensures taken { OnOk result (All (λ lane. lane.report ≡ None) lanes.new.items) }
     ensures target_fault { result ≡ Err PassFault.TargetFault → Fails D.Device target.old target.new }
-    ensures source_fault { (role chunk : ℕ) → result ≡ Err (PassFault.SourceFault role chunk) → SomeHasFailed role chunk lanes.old.items }
+    ensures source_fault { (role chunk : ℕ) → result ≡ Err (PassFault.SourceFault role chunk)
+        → SomeHasFailed role chunk lanes.old.items }
 
     ensures copy { copying collector.new ≡ copying collector.old }
     ensures target { KeepsBeside D.Device (copying collector.old) target.old target.new }
     ensures len { length lanes.new.items ≡ length lanes.old.items }
-    ensures devices { (k : ℕ) (d : _) → k < length lanes.old.items → (slice_index_or lanes.new.items k d).device ≡ (slice_index_or lanes.old.items k d).device }
+    ensures devices { (k : ℕ) (d : _) → k < length lanes.old.items
+        → (slice_index_or lanes.new.items k d).device ≡ (slice_index_or lanes.old.items k d).device }
 {
     for k in 0..lanes.len() {
         settle(collector, target, copied, &mut lanes[k])?;

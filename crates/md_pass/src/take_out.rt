@@ -22,7 +22,8 @@ pub(crate) fn take_out<D, L: Ledger, M: Ledger>(
     requires fits { FitPlaces (length devices.old.items) places.now }
     requires slots { (sum_by slots_of readings.old.items ≤ share.left) × (share.left < 2 ^ 32) }
 
-    ensures lanes { (i : ℕ) (r d : _) → i < length readings.old.items → IsLaneOf (slice_index_or readings.old.items i r) (slice_index_or lanes.new.items i d) }
+    ensures lanes { (i : ℕ) (r d : _) → i < length readings.old.items
+        → IsLaneOf (slice_index_or readings.old.items i r) (slice_index_or lanes.new.items i d) }
     ensures taken { AreTaken devices.old.items places.now (map (λ lane. lane.device) lanes.new.items) devices.new.items }
     ensures left { result.left + sum_by slots_of readings.old.items ≡ share.left }
     ensures parts { result.parts + sum_by slots_of readings.old.items ≡ share.parts }

@@ -32,7 +32,8 @@ pub(crate) fn turn<
 )
     requires { All (λ lane. IsReady D.Device chunks lane) lanes.old.items }
     ensures len { length lanes.new.items ≡ length lanes.old.items }
-    ensures worked { (k : ℕ) (d : _) → k < length lanes.old.items → HasWorked D.Device chunks (slice_index_or lanes.old.items k d) (slice_index_or lanes.new.items k d) }
+    ensures worked { (k : ℕ) (d : _) → k < length lanes.old.items
+        → HasWorked D.Device chunks (slice_index_or lanes.old.items k d) (slice_index_or lanes.new.items k d) }
 {
     let threads = lanes.len().max(1);
     thread::for_each_mut(

@@ -47,9 +47,11 @@ pub(crate) fn run_turns<
 
     ensures passed { OnOk result (IsPassing D.Device (D.honest target.old) lanes.old.items lanes.new.items
         (books collector.old (D.content target.old) copied.old) (books collector.new (D.content target.new) copied.new)) }
-    ensures done { OnOk result (All (λ lane. (lane.done ≡ length lane.chunks.items) × (lane.report ≡ None)) lanes.new.items) }
+    ensures done { OnOk result (All (λ lane. (lane.done ≡ length lane.chunks.items) × (lane.report ≡ None))
+        lanes.new.items) }
     ensures target_fault { result ≡ Err PassFault.TargetFault → Fails D.Device target.old target.new }
-    ensures source_fault { (role chunk : ℕ) → result ≡ Err (PassFault.SourceFault role chunk) → FailsIn D.Device role chunk lanes.old.items lanes.new.items }
+    ensures source_fault { (role chunk : ℕ) → result ≡ Err (PassFault.SourceFault role chunk)
+        → FailsIn D.Device role chunk lanes.old.items lanes.new.items }
 
     ensures sources { LanesOnlyRead D.Device lanes.old.items lanes.new.items }
     ensures target { KeepsBeside D.Device (copying collector.old) target.old target.new }

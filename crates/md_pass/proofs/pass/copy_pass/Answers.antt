@@ -1,9 +1,7 @@
-use Rattle.std.proofs.Common.{◌≡◌, ◌≤◌, ◌<◌, List, length, map, refl, ap, sym, ◌∙◌, arith, subst}
-use Rattle.md_collect.specs.Reports.{Copying}
+use Rattle.std.proofs.Common.{◌≡◌, length, map, refl, ap, sym, ◌∙◌, arith, subst}
 use Rattle.md_collect.specs.Collecting.{copying}
 use Rattle.md_pass.specs.declared.reading.Reading.{Reading}
-use Rattle.md_pass.specs.declared.source.Source.{Source}
-use Rattle.md_pass.specs.Sources.{AreCopied, FailsToGive, MayRead, copy_of}
+use Rattle.md_pass.specs.Sources.{AreCopied, FailsToGive, copy_of}
 use Rattle.md_pass.proofs.Orders.{few_slots}
 use Rattle.md_pass.proofs.PassSources.{copied_of_all, fails_of_all, may_read_those, on_ok, with_slots}
 use Rattle.md_pass.proofs.pass.copy_pass.Goals as goal

@@ -1,9 +1,8 @@
-use Rattle.std.proofs.Common.{rules, ◌≡◌, ◌+◌, ◌*◌, ◌<◌, ◌≤◌, ℕ, Err, List, length, map, sum_by, refl, ap, sym, ◌∙◌, arith, subst}
+use Rattle.std.proofs.Common.{rules, ◌≡◌, ◌+◌, Err, length, ap, sym, ◌∙◌, arith, subst}
 use Rattle.std.proofs.lemmas.List.{length-map}
 use Rattle.md_pass.specs.declared.fault.PassFault.TheVariants.{SourceFault}
-use Rattle.md_pass.specs.declared.lane.Lane.{Lane}
 use Rattle.md_pass.specs.declared.reading.Reading.{Reading}
-use Rattle.md_pass.specs.Settling.{Books, books}
+use Rattle.md_pass.specs.Settling.{books}
 use Rattle.md_pass.specs.Places.{FitPlaces}
 use Rattle.md_pass.specs.Tally.{Tally}
 use Rattle.md_pass.proofs.PassStarts.{all_fit, starts, turns_enough}

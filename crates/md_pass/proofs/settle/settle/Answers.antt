@@ -1,6 +1,4 @@
-use Rattle.std.proofs.Common.{◌≡◌, Some, refl, ap, sym, ◌∙◌, subst, rules, true}
-use Rattle.md_pass.specs.Settling.{IsAllowed}
-use Rattle.md_pass.specs.Beside.{has_chunk}
+use Rattle.std.proofs.Common.{◌≡◌, Some, refl, rules}
 use Rattle.md_pass.proofs.Besides.{keeps_one}
 use Rattle.md_pass.proofs.Settles.{held}
 use Rattle.md_pass.proofs.settle.settle.Goals as goal

@@ -1,4 +1,4 @@
-use Rattle.std.proofs.Common.{rules, ◌≡◌, ◌<◌, ◌≤◌, length, Bool, Err, get_or, ap, sym, ◌∙◌, arith, subst, length-set, inl, inr}
+use Rattle.std.proofs.Common.{rules, ◌≡◌, ◌<◌, length, Bool, Err, get_or, ap, sym, ◌∙◌, arith, subst, length-set, inl, inr}
 use Rattle.std.proofs.lemmas.List.{get_or_default, get_or-set_same, get_or-set_other}
 use Rattle.md_collect.specs.Collecting.{copying}
 use Rattle.md_pass.specs.declared.fault.PassFault.TheVariants.{SourceFault}
@@ -54,7 +54,6 @@ loop-k-preserved g c =
       copy = c.settle.ensures.copy ∙ inv.copy;
       target = keeps_then (copying c.args.collector.now) c.args.target.now c.loop-k.target c.settle.new.target inv.target (subst (λ v. KeepsBeside g.D.Device v c.loop-k.target c.settle.new.target) inv.copy c.settle.ensures.target);
     }
-
 
 pub returns-in_err-settle-clause-source_fault : goal.returns-in_err-settle-clause-source_fault
 returns-in_err-settle-clause-source_fault g c = λ role chunk e.

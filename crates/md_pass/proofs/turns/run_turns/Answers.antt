@@ -1,4 +1,4 @@
-use Rattle.std.proofs.Common.{rules, ◌≡◌, ◌<◌, ◌≤◌, Bool, Err, List, length, get_or, refl, ap, sym, ◌∙◌, arith, subst, false}
+use Rattle.std.proofs.Common.{rules, ◌≡◌, ◌<◌, Bool, Err, List, length, get_or, refl, ap, sym, ◌∙◌, arith, subst, false}
 use Rattle.std.specs.List.{All}
 use Rattle.md_collect.specs.Reports.{Copying}
 use Rattle.md_collect.specs.Collecting.{copying}
