@@ -1,0 +1,17 @@
+pub mod Tests
+pub mod ChunkPlaces
+pub mod OnlyReads
+pub mod Besides
+pub mod Workers
+pub mod Settles
+pub mod Sweeps
+pub mod Rounds
+pub mod Departures
+pub mod InTurn
+pub mod LaneMaking
+pub mod FilteredLists
+pub mod Orders
+pub mod Totals
+pub mod PassStarts
+pub mod PassEnds
+pub mod PassSources

@@ -1,0 +1,182 @@
+-- A pass begins: devices have left for lanes.
+use Rattle.std.proofs.Common.{◌≡◌, ℕ, ◌<◌, ◌≤◌, ◌||◌, Bool, true, false, inl, inr, List, length, map, get_or, slice_index, refl, ap, sym, ◌∙◌, arith, subst}
+use Rattle.std.specs.List.{All}
+use Rattle.std.specs.Int.{div_ceil}
+use Rattle.std.proofs.lemmas.Bool.{cases_lt}
+use Rattle.std.proofs.lemmas.List.{get_or-map, length-map}
+use Rattle.std.proofs.lemmas.Simd.{map-map}
+use Rattle.md_device.specs.declared.device.Device.{Ghosts}
+use Rattle.md_bitmap.specs.Marks.{is_set}
+use Rattle.md_collect.specs.Places.{HasRoom}
+use Rattle.md_collect.specs.Collecting.{ArePlanned, IsFresh}
+use Rattle.md_pass.specs.declared.lane.Lane.{Lane}
+use Rattle.md_pass.specs.declared.reading.Reading.{Reading}
+use Rattle.md_pass.specs.declared.source.Source.{Source}
+use Rattle.md_pass.specs.Places.{AreInTurn, AreTaken, FitPlaces, AreApart}
+use Rattle.md_pass.specs.Readings.{IsLaneOf, IsOrderOf}
+use Rattle.md_pass.specs.Settling.{Books}
+use Rattle.md_pass.specs.Sources.{MayRead}
+use Rattle.md_pass.specs.Passes.{HasBooks, IsFirst, IsUnderWay, IsPassing, Waits}
+use Rattle.md_pass.proofs.InTurn.{taken_at, turns_fit}
+use Rattle.md_pass.proofs.OnlyReads.{not_read}
+use Rattle.md_pass.proofs.Orders.{one_slot, order_apart, order_chunk, order_planned, slot_at}
+
+no_source : Source
+no_source = record { place = 0; role = 0; offset = 0 }
+
+-- the source of a reading in the list of sources
+pub source_at : (rs : List Reading) (k : ℕ) (r : Reading) (s : Source) → k < length rs → get_or (map (λ (x : Reading). x.source) rs) k s ≡ (get_or rs k r).source
+source_at rs k r s below = get_or-map (λ (x : Reading). x.source) rs k r s below
+
+place_at : (rs : List Reading) (k : ℕ) → k < length rs → slice_index (map (λ (r : Reading). r.source.place) rs) k ≡ (get_or (map (λ (r : Reading). r.source) rs) k no_source).place
+place_at rs k below =
+    ap (λ (xs : List ℕ). slice_index xs k) (sym (map-map (λ (s : Source). s.place) (λ (r : Reading). r.source) rs)) ∙ get_or-map (λ (s : Source). s.place) (map (λ (r : Reading). r.source) rs) k no_source 0 (omega (arith, below, length-map rs (λ (r : Reading). r.source)))
+
+module _ {D : Type 0} {g : Ghosts D} where
+  pub places_apart : {chunks : _} {slots : _} {devices : List D} (rs : List Reading) → MayRead g chunks slots (map (λ (r : Reading). r.source) rs) devices → AreApart (map (λ (r : Reading). r.source.place) rs)
+  places_apart rs may i j wi wj e =
+      let n = length-map rs (λ (r : Reading). r.source.place) in
+      let m = length-map rs (λ (r : Reading). r.source) in
+      let pi = place_at rs i (omega (arith, wi, n)) in
+      let pj = place_at rs j (omega (arith, wj, n)) in
+      elim (cases_lt i j) [
+        | inl less ↦ absurd (may.apart i j no_source less (omega (arith, wj, n, m)) (sym pi ∙ e ∙ pj))
+        | inr up ↦ elim (cases_lt j i) [ inl less ↦ absurd (may.apart j i no_source less (omega (arith, wi, n, m)) (sym pj ∙ sym e ∙ pi)) | inr down ↦ omega arith ]
+      ]
+
+  pub places_within : {chunks : _} {slots : _} {devices : List D} (rs : List Reading) → MayRead g chunks slots (map (λ (r : Reading). r.source) rs) devices → (i : ℕ) → i < length (map (λ (r : Reading). r.source.place) rs)
+      → slice_index (map (λ (r : Reading). r.source.place) rs) i < length devices
+  places_within rs may i wi =
+      let n = length-map rs (λ (r : Reading). r.source.place) in
+      let m = length-map rs (λ (r : Reading). r.source) in
+      let is = place_at rs i (omega (arith, wi, n)) in
+      let inside = may.within i no_source (omega (arith, wi, n, m)) in
+      omega (arith, is, inside)
+
+  pub all_fit : {chunks : _} {slots : _} (devices : List D) (rs : List Reading) (places : List ℕ) → MayRead g chunks slots (map (λ (r : Reading). r.source) rs) devices → AreInTurn (map (λ (r : Reading). r.source.place) rs) places → FitPlaces (length devices) places
+  all_fit devices rs places may turn = turns_fit (length devices) (map (λ (r : Reading). r.source.place) rs) places turn (places_apart rs may) (places_within rs may)
+
+  -- the device that was taken for a reading
+  pub device_at : {chunks : _} {slots : _} (devices news out rest : List D) (rs : List Reading) (places : List ℕ) → MayRead g chunks slots (map (λ (r : Reading). r.source) rs) devices → AreInTurn (map (λ (r : Reading). r.source.place) rs) places
+      → length news ≡ length devices → AreTaken news places out rest → (k : ℕ) (d e : D) (s : Source) → k < length rs → get_or out k d ≡ get_or news (get_or (map (λ (r : Reading). r.source) rs) k s).place e
+  device_at devices news out rest rs places may turn long taken k d e s below =
+      let ps = map (λ (r : Reading). r.source.place) rs in
+      let n = length-map rs (λ (r : Reading). r.source.place) in
+      let inside = λ (i : ℕ) (wi : i < length ps). let w = places_within rs may i wi in (let z : slice_index ps i < length news = omega (arith, w, long) in z) in
+      taken_at news ps places out rest turn (places_apart rs may) inside taken k d e (omega (arith, below, n))
+      ∙ ap (λ p. get_or news p e) (ap (λ (xs : List ℕ). slice_index xs k) (sym (map-map (λ (x : Source). x.place) (λ (r : Reading). r.source) rs)) ∙ get_or-map (λ (x : Source). x.place) (map (λ (r : Reading). r.source) rs) k s 0 (omega (arith, below, length-map rs (λ (r : Reading). r.source))))
+
+  -- sources of one role are one
+  pub one_role : {chunks : _} {slots : _} {devices : List D} (ss : List Source) → MayRead g chunks slots ss devices → (i j : ℕ) (s : Source) → i < length ss → j < length ss → (get_or ss i s).role ≡ (get_or ss j s).role → i ≡ j
+  one_role ss may i j s wi wj e =
+      elim (cases_lt i j) [
+        | inl less ↦ absurd (let up = may.rising i j s less wj in omega (arith, up, e))
+        | inr up ↦ elim (cases_lt j i) [ inl less ↦ absurd (let low = may.rising j i s less wi in omega (arith, low, e)) | inr down ↦ omega arith ]
+      ]
+
+nothing_more : (a b : Bool) → a ≡ false → b ≡ (a || b)
+nothing_more a b e = rw e refl
+
+still : (start : Books) → IsFresh start.collector → HasBooks start start
+still start fresh = record {
+  same_copy = refl;
+  whole = fresh.whole;
+  size = refl;
+  planned = λ c e. absurd (impossible (is_set start.collector.reported.bytes c) e (fresh.none c));
+  count = refl;
+  marks = λ c. nothing_more (is_set start.collector.reported.bytes c) (is_set start.copied.bytes c) (fresh.none c);
+}
+  where
+    impossible : (b : Bool) → b ≡ true → b ≡ false → ⊥
+    impossible b t f = cc
+
+-- a reading as long as the lane's
+pub reading_like : {D L M : Type 0} → Lane D L M → Reading
+reading_like lane = record { source = no_source; chunks = lane.chunks; spare = lane.spare }
+
+module _ {D L M : Type 0} {g : Ghosts D} where
+  begun : (th : Bool) (start : Books) (lane : Lane D L M) → IsFirst g start lane → IsUnderWay g th start lane lane
+  begun th start lane first = record {
+    kept = refl;
+    only_read = not_read lane.device;
+    within = let z = first.none_done in omega (arith, z);
+    landed = λ j below. absurd (let z = first.none_done in omega (arith, z, below));
+    waiting = λ j from below. first.unreported j below;
+    waits = subst (λ o. Waits g start.collector.chunks lane lane o) (sym first.none_waits) (first.left ∙ (let z = first.none_done in omega (arith, z)), first.none_failed);
+    parts = refl;
+  }
+
+  first_of : (start : Books) (r : Reading) (lane : Lane D L M) → IsFresh start.collector → ArePlanned start.collector.chunks start.collector.slots → IsOrderOf start.collector.slots r.source.role r.chunks.items → IsLaneOf r lane
+      → HasRoom (g.content lane.device) r.source.offset start.collector.chunks → IsFirst g start lane
+  first_of start r lane fresh planned order is room = record {
+    room = rw is.offset room;
+    planned = rw (is.chunks, is.role) (order_planned order);
+    chunk = rw is.chunks (order_chunk order start.collector.chunks planned);
+    unreported = λ j below. fresh.none (slice_index lane.chunks.items j);
+    none_done = is.none_done;
+    none_waits = is.none_waits;
+    left = is.left ∙ ap (λ (v : _). length v.items) (sym is.chunks);
+    none_failed = is.none_failed;
+  }
+
+  -- lanes that were made of readings
+  pub starts : (th : Bool) (start : Books) (devices rest : List D) (places : List ℕ) (rs : List Reading) (lanes : List (Lane D L M)) → IsFresh start.collector → ArePlanned start.collector.chunks start.collector.slots
+      → MayRead g start.collector.chunks start.collector.slots (map (λ (r : Reading). r.source) rs) devices → All (λ (r : Reading). IsOrderOf start.collector.slots r.source.role r.chunks.items) rs
+      → AreInTurn (map (λ (r : Reading). r.source.place) rs) places → HasRoom start.target start.collector.offset start.collector.chunks → start.copied.chunks ≡ div_ceil start.collector.chunks.size start.collector.chunks.sectors
+      → length lanes ≡ length rs → AreTaken devices places (map (λ (l : Lane D L M). l.device) lanes) rest
+      → ((i : ℕ) (r : Reading) (d : Lane D L M) → i < length rs → IsLaneOf (get_or rs i r) (get_or lanes i d))
+      → IsPassing g th lanes lanes start start
+  starts th start devices rest places rs lanes fresh planned may orders turn room marks same taken are = record {
+    begins = firsts;
+    apart = apart;
+    room = room;
+    covers = λ c is. rw marks is;
+    as_many = refl;
+    each = λ k d below. begun th start (get_or lanes k d) (firsts k d below);
+    books = still start fresh;
+  }
+    where
+      ss : List Source
+      ss = map (λ (r : Reading). r.source) rs
+
+      chunks_at : (k : ℕ) (d : Lane D L M) → k < length lanes → (get_or lanes k d).chunks ≡ (get_or rs k (reading_like d)).chunks
+      chunks_at k d within = (are k (reading_like d) d (omega (arith, same, within))).chunks
+
+      firsts : (k : ℕ) (d : Lane D L M) → k < length lanes → IsFirst g start (get_or lanes k d)
+      firsts k d within =
+          let here : k < length rs = omega (arith, same, within) in
+          let r = get_or rs k (reading_like d) in
+          let from : get_or ss k no_source ≡ r.source = source_at rs k (reading_like d) no_source here in
+          let at : (get_or lanes k d).device ≡ get_or devices r.source.place d.device
+          = sym (get_or-map (λ (l : Lane D L M). l.device) lanes k d d.device within) ∙ device_at devices devices (map (λ (l : Lane D L M). l.device) lanes) rest rs places may turn refl taken k d.device d.device no_source here ∙ ap (λ (s : Source). get_or devices s.place d.device) from in
+          let wide : HasRoom (g.content (get_or devices r.source.place d.device)) r.source.offset start.collector.chunks
+          = subst (λ (s : Source). HasRoom (g.content (get_or devices s.place d.device)) s.offset start.collector.chunks) from (may.room k no_source (omega (arith, here, length-map rs (λ (x : Reading). x.source))) d.device) in
+          first_of start r (get_or lanes k d) fresh planned (orders k (reading_like d) here) (are k (reading_like d) d here) (rw at wide)
+
+      apart : (k m i j : ℕ) (d : Lane D L M) → k < length lanes → m < length lanes → i < length (get_or lanes k d).chunks.items → j < length (get_or lanes m d).chunks.items
+          → slice_index (get_or lanes k d).chunks.items i ≡ slice_index (get_or lanes m d).chunks.items j → (k ≡ m) × (i ≡ j)
+      apart k m i j d wk wm wi wj e =
+          let hk : k < length rs = omega (arith, same, wk) in
+          let hm : m < length rs = omega (arith, same, wm) in
+          let ck = chunks_at k d wk in
+          let cm = chunks_at m d wm in
+          let rk = get_or rs k (reading_like d) in
+          let rm = get_or rs m (reading_like d) in
+          let wi' : i < length rk.chunks.items = rw (← ck) wi in
+          let wj' : j < length rm.chunks.items = rw (← cm) wj in
+          let e' : slice_index rk.chunks.items i ≡ slice_index rm.chunks.items j = ap (λ (v : _). slice_index v.items i) (sym ck) ∙ e ∙ ap (λ (v : _). slice_index v.items j) cm in
+          let a = slot_at (orders k (reading_like d) hk) i wi' in
+          let b = slot_at (orders m (reading_like d) hm) j wj' in
+          let slot = one_slot start.collector.slots planned.rising a.slot b.slot a.there b.there (a.chunk_is ∙ e' ∙ sym b.chunk_is) in
+          let n = length-map rs (λ (r : Reading). r.source) in
+          let role : (get_or ss k no_source).role ≡ (get_or ss m no_source).role
+          = ap (λ (s : Source). s.role) (source_at rs k (reading_like d) no_source hk) ∙ sym a.source_is ∙ ap (λ (s : _). s.source) slot ∙ b.source_is ∙ ap (λ (s : Source). s.role) (sym (source_at rs m (reading_like d) no_source hm)) in
+          let one : k ≡ m = one_role ss may k m no_source (omega (arith, hk, n)) (omega (arith, hm, n)) role in
+          let there : get_or rs m (reading_like d) ≡ rk = ap (λ x. get_or rs x (reading_like d)) (sym one) in
+          (one, order_apart (orders k (reading_like d) hk) planned.rising i j wi' (subst (λ (r : Reading). j < length r.chunks.items) there wj') (e' ∙ ap (λ (r : Reading). slice_index r.chunks.items j) there))
+
+pub turns_enough : {D L M : Type 0} (turns : ℕ) (rs : List Reading) (lanes : List (Lane D L M)) → length lanes ≡ length rs → All (λ (r : Reading). length r.chunks.items ≤ turns) rs
+    → ((i : ℕ) (r : Reading) (d : Lane D L M) → i < length rs → IsLaneOf (get_or rs i r) (get_or lanes i d)) → All (λ (lane : Lane D L M). length lane.chunks.items ≤ turns) lanes
+turns_enough turns rs lanes same short are k d below =
+    let here : k < length rs = omega (arith, same, below) in
+    rw (are k (reading_like d) d here).chunks (short k (reading_like d) here)

@@ -1,0 +1,30 @@
+-- What a pass leaves of its target: all but the chunks of the plan.
+use Rattle.std.specs.Prelude.{◌≡◌, ℕ, ◌+◌, ◌*◌, ◌≤◌, ◌==◌, ◌⊎◌, Bool, true, List, length}
+use Rattle.std.specs.List.{list_any}
+use Rattle.md_cert.specs.declared.slots.Slot.{Slot}
+use Rattle.md_bitmap.specs.declared.chunks.Chunks.{Chunks}
+use Rattle.md_device.specs.Splice.{part}
+use Rattle.md_device.specs.Stops.{LeavesMore}
+use Rattle.md_device.specs.declared.device.Device.{Ghosts}
+use Rattle.md_collect.specs.Places.{start_of, bytes_of}
+use Rattle.md_collect.specs.Reports.{Copying}
+
+-- a slot has the chunk
+abbrev pub has_chunk : List Slot → ℕ → Bool
+has_chunk slots c = list_any (λ slot. slot.chunk == c) slots
+
+-- n bytes from a place on lie beside the chunk of a member whose data start at this sector
+abbrev pub IsBeside : Chunks → ℕ → ℕ → ℕ → ℕ → Type 0
+IsBeside chunks offset at n c = (at + n ≤ 512 * (offset + start_of chunks c)) ⊎ (512 * (offset + start_of chunks c) + bytes_of chunks c ≤ at)
+
+-- two contents that are the same beside the chunks that are copied
+pub record SameBeside (copy : Copying) (old new : List ℕ) : Type 0 where
+  pub size : length new ≡ length old
+  pub beside : (at n : ℕ) → ((c : ℕ) → has_chunk copy.slots c ≡ true → IsBeside copy.chunks copy.offset at n c) → part new at n ≡ part old at n
+
+-- a target before and after chunks were copied to it, and what a stop in between leaves of it
+pub record KeepsBeside {D : Type 0} (g : Ghosts D) (copy : Copying) (old new : D) : Type 0 where
+  pub same : SameBeside copy (g.content old) (g.content new)
+  pub honest_kept : g.honest new ≡ g.honest old
+  pub counted : g.failures old ≤ g.failures new
+  pub stops : g.honest old ≡ true → LeavesMore (g.stops old) (g.stops new) (SameBeside copy (g.content old))
