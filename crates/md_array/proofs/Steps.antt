@@ -21,6 +21,8 @@ pub mod DataFailed
 pub mod DataWritten
 -- The device of a member that is taken back: nothing but its superblock changes there, and an opening would read what is kept of it.
 pub mod DeviceTakenBack
+-- Devices that were lent and have come back: the mirror is consistent again, and an opening reads what is kept.
+pub mod DevicesBack
 -- A request that is finished leaves the list of those in flight, and nothing else changes: that is the model's event.
 pub mod Finished
 -- The requests in flight, by the mirror's list of them.
@@ -71,3 +73,5 @@ pub mod WriteKeeps
 pub mod WriteToMember
 -- A device that is read, written once, and then stands behind the others.
 pub mod WrittenLast
+-- The superblock of a member that is rebuilt could not be stored: the mirror stays consistent.
+pub mod TargetUnrecorded
