@@ -1,12 +1,13 @@
 // A member that was rebuilt comes into sync.
-ghost use Rattle.std.specs.Prelude.{◌≡◌, ◌<◌, ℕ, MatchOption, MatchResult, cond, false, length, map, set, true};
+ghost use Rattle.std.specs.Prelude.{◌≡◌, ◌<◌, ◌==◌, ◌||◌, ℕ, MatchOption, MatchResult, cond, false, length, map, not, set, true};
+ghost use Rattle.std.specs.List.{list_any, range_with_len};
 ghost use Rattle.std.specs.Int.{div_ceil};
 ghost use Rattle.md_assembly.specs.States.{is_in_sync};
 ghost use Rattle.md_assembly.specs.declared.state.MemberState.TheVariants as state;
 ghost use Rattle.md_kept_members.specs.Members.{made_due};
 ghost use Rattle.md_kept_members.specs.View.{MemberView};
 ghost use Rattle.md_state.specs.Enrolling.{AreAllTaken, ComesWith, GetsNoRole, GetsRole, IsLeastFree, MayTakeRole, RefusesMember, RefusesRole, is_full_with};
-ghost use Rattle.md_state.specs.Members.{IsMember};
+ghost use Rattle.md_state.specs.Members.{IsMember, is_filled};
 ghost use Rattle.md_state.specs.Missing.{is_rebuilt};
 
 use crate::array::Array;
@@ -70,7 +71,7 @@ impl Array {
         ensures { (k : ℕ) (m n : MemberView) → IsMember self.now k m → is_in_sync m.state ≡ false → n.state ≡ state.InSync role
             → result ≡ is_full_with self.now k n }
     {
-        !(0..self.shared.raid_disks).any(|r| !(u32::from(role) == r || self.is_filled(r)))
+        !self.lacks_beside(role)
     }
 
     /// Member k has come into sync, and is this from now on, with the array's fields as `shared_with` gives
@@ -89,6 +90,13 @@ impl Array {
         self.shared = shared;
         make_due(&mut self.members);
         self.members[k] = member;
+    }
+
+    // Whether some role has no member in sync, but for this one.
+    fn lacks_beside(&self, role: u16) -> bool
+        ensures { result ≡ list_any (λ r. not (role == r || is_filled self.now r)) (range_with_len 0 self.now.shared.raid_disks) }
+    {
+        (0..self.shared.raid_disks).any(|r| !(u32::from(role) == r || self.is_filled(r)))
     }
 
     // The role that a member which may be rebuilt gets.
