@@ -1,11 +1,11 @@
 -- Sectors of chunks are taken from a list, or added to it, chunk by chunk.
-use Rattle.std.proofs.Common.{◌≡◌, ◌↔◌, ◌⊎◌, ℕ, ◌+◌, ◌-◌, ◌^◌, ◌<◌, ◌≤◌, min, true, true≢false, false, List, [], ◌∷◌, Ok, Err, Result, OnOk, inl, inr, refl, sym, ap, ◌∙◌, subst, arith}
+use Rattle.std.proofs.Common.{◌≡◌, ◌↔◌, ◌⊎◌, ℕ, ◌+◌, ◌-◌, ◌^◌, ◌<◌, ◌≤◌, min, true, true≢false, false, List, [], ◌∷◌, Ok, Err, Result, OnOk, inl, inr, sym, ap, ◌∙◌, subst, arith}
 use Rattle.std.proofs.lemmas.Bool.{cases_lt}
 use Rattle.md_bitmap.specs.declared.chunks.Chunks.{Chunks}
 use Rattle.md_bitmap.specs.Marks.{Bitmap, is_set}
 use Rattle.md_badblocks.specs.declared.run.Run.{Run}
-use Rattle.md_badblocks.specs.Runs.{IsBad, IsCanonical, LiesIn}
-use Rattle.md_kept_members.specs.Enrolling.{AreAddedTo, AreRemovedTo, IsListAfter, IsOf, IsOfChunk, IsOfFirst}
+use Rattle.md_badblocks.specs.Runs.{IsBad, IsCanonical}
+use Rattle.md_kept_members.specs.Enrolling.{AreAddedTo, AreRemovedTo, IsListAfter, IsOfChunk, IsOfFirst}
 use Rattle.md_kept_members.specs.View.{MemberView}
 use Rattle.md_kept_members.proofs.Members.Indices.{cases_more}
 use Rattle.md_kept_members.proofs.Members.Roles.{IsRange, bad_below}
@@ -46,16 +46,18 @@ module _ (chunks : Chunks) (chunk offset start len first : ℕ) (range : IsRange
   one_removed old new canonical removed s = (
     λ bad.
         let was = (removed s).0 bad in
-        let low = bad_below 0 s old canonical was.0 in
-        (was.0, λ here.
-        let is = here.is in
-        let inside = (range here.at).0 here.inside in
-        let from = inside.0 in
-        let below = inside.1 in
-        elim was.1 [
-          | inl before ↦ absurd (omega arith)
-          | inr behind ↦ absurd (omega arith)
-        ]),
+        let low = bad_below 0 s old canonical was.0 in (
+          was.0,
+          λ here.
+              let is = here.is in
+              let inside = (range here.at).0 here.inside in
+              let from = inside.0 in
+              let below = inside.1 in
+              elim was.1 [
+                | inl before ↦ absurd (omega arith)
+                | inr behind ↦ absurd (omega arith)
+              ],
+        ),
     λ was.
         let low = bad_below 0 s old canonical was.0 in
         elim (cases_lt s first) [
@@ -117,9 +119,9 @@ module _ (n : ℕ) (chunks : Chunks) (offset : ℕ) (set : Bitmap) where
       λ either. elim either [
         | inl begun ↦ (one s).1 (inl ((before.bad s).1 (inl begun)))
         | inr h ↦ elim ((first_more is s).0 h.0) [
-            | inl was ↦ (one s).1 (inl ((before.bad s).1 (inr (was, h.1))))
-            | inr here ↦ (one s).1 (inr (here, h.1))
-          ]
+          | inl was ↦ (one s).1 (inl ((before.bad s).1 (inr (was, h.1))))
+          | inr here ↦ (one s).1 (inr (here, h.1))
+        ]
       ],
     );
   }
@@ -189,15 +191,15 @@ made_more runs rest old new run canonical before added s = (
   λ bad. elim ((before s).0 bad) [
     | inl made ↦ inl ((added s).1 (inl made))
     | inr left ↦ elim left [
-        | inl here ↦ inl ((added s).1 (inr (here.0, here.1, bad_below 0 s runs canonical bad)))
-        | inr later ↦ inr later
-      ]
+      | inl here ↦ inl ((added s).1 (inr (here.0, here.1, bad_below 0 s runs canonical bad)))
+      | inr later ↦ inr later
+    ]
   ],
   λ either. elim either [
     | inl made ↦ elim ((added s).0 made) [
-        | inl was ↦ (before s).1 (inl was)
-        | inr here ↦ (before s).1 (inr (inl (here.0, here.1)))
-      ]
+      | inl was ↦ (before s).1 (inl was)
+      | inr here ↦ (before s).1 (inr (inl (here.0, here.1)))
+    ]
     | inr later ↦ (before s).1 (inr (inr later))
   ],
 )

@@ -70,12 +70,7 @@ fn remove_chunks(
     Ok(())
 }
 
-fn add_chunks(
-    list: &mut BadSet,
-    chunks: Chunks,
-    offset: u64,
-    set: &Marks,
-) -> Result<(), AllocError>
+fn add_chunks(list: &mut BadSet, chunks: Chunks, offset: u64, set: &Marks) -> Result<(), AllocError>
     requires all { set.now.chunks ≡ div_ceil chunks.size chunks.sectors }
     requires canonical { IsCanonical list.old }
     ensures { OnOk result (AreAdded chunks offset set.now list.old list.new) }
@@ -104,12 +99,7 @@ fn remove_chunk(
     list.remove(offset.saturating_add(start), sectors)
 }
 
-fn add_chunk(
-    list: &mut BadSet,
-    chunks: Chunks,
-    offset: u64,
-    chunk: u32,
-) -> Result<(), AllocError>
+fn add_chunk(list: &mut BadSet, chunks: Chunks, offset: u64, chunk: u32) -> Result<(), AllocError>
     requires { chunk < div_ceil chunks.size chunks.sectors }
     ensures canonical { IsCanonical list.new }
     ensures bad { OnOk result ((sector : ℕ) → IsBad list.new sector ↔ (IsBad list.old sector ⊎ (IsOfChunk chunks offset chunk sector × (sector < 2 ^ 54)))) }

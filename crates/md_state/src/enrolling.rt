@@ -79,9 +79,9 @@ impl Array {
     pub fn note_enrolled(&mut self, k: usize, member: Member, shared: Superblock, full: bool)
         requires { k < length self.old.members }
         ensures { self.new ≡ record self.old {
-            shared = shared;
-            members = set (map made_due self.old.members) k member;
-            events_cleared = cond full shared.events self.old.events_cleared;
+          shared = shared;
+          members = set (map made_due self.old.members) k member;
+          events_cleared = cond full shared.events self.old.events_cleared;
         } }
     {
         if full {

@@ -1,5 +1,4 @@
 use Rattle.std.proofs.Common.{sym, ◌∙◌}
-use Rattle.md_kept_members.specs.Enrolling.{AreAddedTo}
 use Rattle.md_kept_members.proofs.ChunksListed.{added_more, added_same}
 use Rattle.md_kept_members.proofs.listing.add_chunks.Goals as goal
 use Rattle.md_kept_members.proofs.listing.add_chunks.Goals.{then-is_marked+in_ok-add_chunk, else-is_marked}

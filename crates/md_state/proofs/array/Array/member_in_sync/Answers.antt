@@ -1,10 +1,6 @@
-use Rattle.std.proofs.Common.{◌≡◌, ◌∙◌, ◌<◌, ap, arith, refl, subst, sym}
-use Rattle.md_bitmap.specs.Marks.{Bitmap}
-use Rattle.md_badblocks.specs.declared.run.Run.{Run}
+use Rattle.std.proofs.Common.{ap, arith, refl, subst}
 use Rattle.md_kept_members.specs.Enrolling.{ComesIntoSync, IsListAfter, log_room}
 use Rattle.md_kept_members.specs.View.{MemberView}
-use Rattle.md_state.specs.Enrolling.{ComesWith, HasFullLog}
-use Rattle.md_state.specs.Members.{IsMember}
 use Rattle.md_state.specs.View.{ArrayView}
 use Rattle.md_state.proofs.Members.At.{member_read}
 use Rattle.md_state.proofs.array.Array.member_in_sync.Goals as goal
@@ -14,14 +10,16 @@ returns-then-entries_needed-log_room c =
     let a = c.args.self.now in
     let m = c.index-member.result.now in
     let room = ap (λ (x : MemberView). log_room x.superblock) c.member.view_is in
-    let above = c.if-entries_needed-log_room.true in
-    (refl, record {
-      member = m;
-      at = member_read a _ c.args.k m c.self.view_is c.requires.within c.index-member.ensures;
-      list = c.in-Ok.list;
-      list_is = subst (λ (x : ArrayView). IsListAfter x.chunks m c.args.copied.now c.args.orphans.now c.in-Ok.list) c.self.view_is c.in-Ok.ensures;
-      full = λ fits. let e = c.entries_needed.ensures in let f = c.log_room.ensures in absurd (omega arith);
-    })
+    let above = c.if-entries_needed-log_room.true in (
+      refl,
+      record {
+        member = m;
+        at = member_read a _ c.args.k m c.self.view_is c.requires.within c.index-member.ensures;
+        list = c.in-Ok.list;
+        list_is = subst (λ (x : ArrayView). IsListAfter x.chunks m c.args.copied.now c.args.orphans.now c.in-Ok.list) c.self.view_is c.in-Ok.ensures;
+        full = λ fits. let e = c.entries_needed.ensures in let f = c.log_room.ensures in absurd (omega arith);
+      },
+    )
 
 pub returns-in-Ok-in_sync : goal.returns-in-Ok-in_sync
 returns-in-Ok-in_sync c =
