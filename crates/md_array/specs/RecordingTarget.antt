@@ -1,5 +1,5 @@
 -- The superblock of a member that is rebuilt is stored, whose failure leaves the member as it was (this project's own).
-use Rattle.std.specs.Prelude.{◌≡◌, ℕ, true, ⊤, Result, MatchResult}
+use Rattle.std.specs.Prelude.{◌≡◌, ℕ, ⊤, Result, MatchResult}
 use Rattle.md_faults.specs.declared.enrol_fault.TargetFault.{TargetFault as TargetFaults}
 use Rattle.md_faults.specs.declared.enrol_fault.TargetFault.TheVariants.{Halted, TargetFault}
 use Rattle.md_kept_members.specs.View.{MemberView}

@@ -1,5 +1,5 @@
 -- The superblock of a member that is rebuilt could not be stored: the mirror stays consistent.
-use Rattle.std.proofs.Common.{◌≡◌, ℕ, true, true≢false, List, set, sym, ap, ◌∙◌, subst, refl}
+use Rattle.std.proofs.Common.{◌≡◌, ℕ, true, true≢false, List, sym, ap, ◌∙◌, subst, refl}
 use Rattle.md_assembly.specs.declared.state.MemberState.{MemberState}
 use Rattle.md_assembly.specs.declared.state.MemberState.TheVariants.{InSync, Recovering, Stale, Spare, Faulty}
 use Rattle.md_assembly.specs.States.{is_recorded}
