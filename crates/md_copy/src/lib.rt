@@ -1,6 +1,7 @@
 //! What is copied to a member that lacks data, and from where.
 #![tactic(auto)]
 
+mod checking;
 mod fault;
 mod in_sync;
 mod listed;
