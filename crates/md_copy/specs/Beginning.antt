@@ -51,3 +51,9 @@ CannotRebuild a m Dirty = IsDirty a m
 CannotRebuild a m (InFlight number) = IsBusy number a m
 CannotRebuild a m NoMemory = ⊥
 CannotRebuild a m EventsFull = IsSpent a m
+
+-- why there is no table of what the member lacks: it may not be rebuilt; or it may, and memory was refused
+abbrev pub RefusesTable : ArrayView → MemberView → RebuildFault → Type 0
+RefusesTable a m NotSpare = IsTarget a m → ⊥
+RefusesTable a m NoMemory = IsTarget a m
+RefusesTable a m _ = ⊥
