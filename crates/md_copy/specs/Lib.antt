@@ -4,3 +4,5 @@ pub mod Sources
 pub mod Targets
 -- Whether a rebuild of a member may begin, and the first reason why it may not (this project's own order).
 pub mod Beginning
+-- The sources of a plan: the members from which its chunks are read.
+pub mod RebuildSources

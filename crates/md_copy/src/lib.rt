@@ -6,6 +6,8 @@ mod fault;
 mod in_sync;
 mod listed;
 mod rebuild_table;
+mod source;
+mod sources;
 mod target;
 
 pub use fault::RebuildFault;
