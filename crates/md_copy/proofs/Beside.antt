@@ -30,11 +30,11 @@ pub beside_one : (target j k : ℕ) → j ≢ target → k ≢ target → place_
 beside_one target j k other_j other_k same =
     elim (beside_cases target j other_j) [
       | inl j_after ↦ elim (beside_cases target k other_k) [
-          | inl k_after ↦ (let a = j_after.0 in let b = j_after.1 in let c = k_after.0 in let d = k_after.1 in omega arith)
-          | inr k_before ↦ (let a = j_after.0 in let b = j_after.1 in let c = k_before.0 in let d = k_before.1 in absurd (omega arith))
-        ]
+        | inl k_after ↦ (let a = j_after.0 in let b = j_after.1 in let c = k_after.0 in let d = k_after.1 in omega arith)
+        | inr k_before ↦ (let a = j_after.0 in let b = j_after.1 in let c = k_before.0 in let d = k_before.1 in absurd (omega arith))
+      ]
       | inr j_before ↦ elim (beside_cases target k other_k) [
-          | inl k_after ↦ (let a = j_before.0 in let b = j_before.1 in let c = k_after.0 in let d = k_after.1 in absurd (omega arith))
-          | inr k_before ↦ (let a = j_before.0 in let b = j_before.1 in let c = k_before.0 in let d = k_before.1 in omega arith)
-        ]
+        | inl k_after ↦ (let a = j_before.0 in let b = j_before.1 in let c = k_after.0 in let d = k_after.1 in absurd (omega arith))
+        | inr k_before ↦ (let a = j_before.0 in let b = j_before.1 in let c = k_before.0 in let d = k_before.1 in omega arith)
+      ]
     ]

@@ -116,16 +116,16 @@ module _ (v : MirrorView) (sound : IsConsistent v) (target : ℕ) (within : targ
     named = named;
     served = λ k d below.
         (let found = serves k d below in
-         let slot = get_or slots k d in
-         let source = subst (IsSource v target) found.3 (each found.0 found.1 found.2) in
-         (found.0, found.1, found.2, found.3, served_by slot found.1 source found.4 (allowed k d below).permitted));
+        let slot = get_or slots k d in
+        let source = subst (IsSource v target) found.3 (each found.0 found.1 found.2) in
+        (found.0, found.1, found.2, found.3, served_by slot found.1 source found.4 (allowed k d below).permitted));
     may_read = record {
       within = λ k d below. source_within (get_or sources k d) (each k d below);
       room = λ k d below. source_room (get_or sources k d) (each k d below);
       apart = λ i j d less below same.
           (let up = rising i j d less below in
-           let one = source_one (get_or sources i d) (get_or sources j d) (each i d (omega (arith, less, below))) (each j d below) same in
-           absurd (omega (arith, up, one)));
+          let one = source_one (get_or sources i d) (get_or sources j d) (each i d (omega (arith, less, below))) (each j d below) same in
+          absurd (omega (arith, up, one)));
       rising = rising;
       serves = serves;
     };

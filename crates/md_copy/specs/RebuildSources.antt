@@ -41,8 +41,8 @@ pub record IsSourceAt (v : MirrorView) (target k : ℕ) (m : MemberView) (s : So
 abbrev pub IsSource : MirrorView → ℕ → Source → Type 0
 IsSource v target s = (k : ℕ) × (m : MemberView) × IsSourceAt v target k m s
 
--- What a pass asks of its sources and of the devices among which they stand: the sources that a plan's slots name, by rising roles,
--- each with a place of its own, and with room for the array's data.
+-- What a pass asks of its sources and of the devices among which they stand: the sources that a plan's slots name, by rising
+-- roles, each with a place of its own, and with room for the array's data.
 pub record MayRead (chunks : Chunks) (slots : List Slot) (sources : List Source) (devices : List Disk) : Type 0 where
   pub within : All (λ s. s.place < length devices) sources
   pub room : All (λ s. (d : Disk) → HasRoom (slice_index_or devices s.place d).content s.offset chunks) sources

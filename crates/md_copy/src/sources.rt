@@ -76,7 +76,8 @@ fn place_beside(target: usize, k: usize) -> usize
 fn member_in<D: Device + Drop>(mirror: &Mirror<D>, role: u8) -> usize
     requires { IsInSyncAs mirror.now.array role }
     ensures within { result < length mirror.now.array.members }
-    ensures in_sync { (m : MemberView) → IsMember mirror.now.array result m → is_in_sync_as role m.state ≡ true }
+    ensures in_sync { (m : MemberView) → IsMember mirror.now.array result m
+        → is_in_sync_as role m.state ≡ true }
 {
     for k in 0..mirror.members() {
         if mirror.state(k).is_in_sync_as(u32::from(role)) {

@@ -24,7 +24,7 @@ loop-role-preserved g c =
     elim c.if-has_slot.branch [
       | then-has_slot+in_ok-push w ↦
           rw (w.sources-is, w.in_ok-push.ensures.items)
-             (chosen_more v c.args.target slots role sources w.source_in.result w.source_in.ensures.role w.source_in.ensures.source (named_slot slots role c.has_slot.result c.has_slot.ensures w.if-has_slot.true) c.loop-role.invariant)
+          (chosen_more v c.args.target slots role sources w.source_in.result w.source_in.ensures.role w.source_in.ensures.source (named_slot slots role c.has_slot.result c.has_slot.ensures w.if-has_slot.true) c.loop-role.invariant)
       | else-has_slot w ↦ rw w.sources-is (chosen_same v c.args.target slots role sources (unnamed_slot slots role c.has_slot.result c.has_slot.ensures w.if-has_slot.false) c.loop-role.invariant)
     ]
 
@@ -38,4 +38,4 @@ returns g c =
     let end : 32 ≡ c.loop-role.role = omega (arith, c.loop-role-test.false, c.loop-role.auto.role-end) in
     let is = subst (λ (xs : List Slot). IsChosen v c.args.target xs c.loop-role.role sources) c.as_slice-slots.ensures c.loop-role.invariant in
     are_sources v c.requires.sound c.args.target c.requires.within slots sources all is.each is.named is.rising
-      (λ k d below. is.serves k d below (let small = (all k d below).small in omega (arith, end, small)))
+    (λ k d below. is.serves k d below (let small = (all k d below).small in omega (arith, end, small)))
