@@ -34,3 +34,5 @@ pub mod ReAdding
 pub mod Lending
 -- The superblock of a member that is rebuilt is stored, whose failure leaves the member as it was (this project's own).
 pub mod RecordingTarget
+-- A member that was rebuilt comes into sync: its marks are stored, its log, and last its superblock (this project's own order).
+pub mod Enrolling

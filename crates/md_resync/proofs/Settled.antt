@@ -7,7 +7,7 @@ use Rattle.md_model.specs.Events.{Event, Step}
 use Rattle.md_model.specs.Sectors.{Geometry, chunk_of}
 use Rattle.md_model.specs.Worlds.{IsInSync, IsQuiet, World}
 use Rattle.md_model.proofs.Cases.{by_test, none_some}
-use Rattle.md_model.proofs.Picked.{picked, picked-all, picked-one}
+use Rattle.md_model.proofs.Content.Picked.{picked, picked-all, picked-one}
 use Rattle.md_state.specs.View.{MirrorView}
 use Rattle.md_array.specs.Events.{Happens}
 use Rattle.md_array.specs.Worlds.{geometry_of, world_of}

@@ -8,3 +8,5 @@ pub mod FirstLacking
 pub mod Numbers
 -- The roles in which a chunk of the array may be read, by what is found in the list of its members.
 pub mod Permitted
+-- Which roles are filled once a member comes into sync.
+pub mod Filled

@@ -55,3 +55,5 @@ pub mod Joining
 pub mod ReAdding
 -- A new device comes in as a spare.
 pub mod Adding
+-- A member that was rebuilt comes into sync.
+pub mod Enrolling

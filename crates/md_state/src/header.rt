@@ -14,10 +14,18 @@ impl Array {
         requires { IsSound self.now.shared.size member.now.header.chunksize }
         ensures { IsHeaderFor self.now member.now result }
     {
+        self.header_under(member, self.shared.events, self.events_cleared)
+    }
+
+    /// It, once the count is this, and marks were last cleared at that one.
+    pub fn header_under(&self, member: &Member, events: u64, events_cleared: u64) -> BitmapHeader
+        requires { IsSound self.now.shared.size member.now.header.chunksize }
+        ensures { IsHeaderFor (record self.now { shared = record self.now.shared { events = events }; events_cleared = events_cleared }) member.now result }
+    {
         fitting(BitmapHeader {
             uuid: self.shared.set_uuid,
-            events: self.shared.events,
-            events_cleared: self.events_cleared,
+            events,
+            events_cleared,
             sync_size: self.shared.size,
             state: 0,
             chunksize: member.header.chunksize,

@@ -6,6 +6,7 @@ mod array;
 mod beginning;
 mod checking;
 mod clearing_marks;
+mod enrolling;
 mod failing;
 mod failing_members;
 mod finishing;

@@ -23,8 +23,8 @@ impl Array {
         permitted_roles(&self.members, self.chunks, chunk)
     }
 
-    // Whether a member is in sync in the role.
-    fn is_filled(&self, role: u32) -> bool
+    /// Whether a member is in sync in the role.
+    pub(crate) fn is_filled(&self, role: u32) -> bool
         ensures { result ≡ is_filled self.now role }
     {
         self.members

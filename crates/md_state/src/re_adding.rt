@@ -65,8 +65,8 @@ impl Array {
         self.events_cleared <= own.events && own.events <= self.shared.events
     }
 
-    // Whether a member in sync or recovering has the role.
-    fn is_taken(&self, role: u16) -> bool
+    /// Whether a member in sync or recovering has the role.
+    pub(crate) fn is_taken(&self, role: u16) -> bool
         ensures { result ≡ is_taken self.now role }
     {
         self.members

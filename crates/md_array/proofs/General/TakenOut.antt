@@ -6,7 +6,7 @@ use Rattle.std.proofs.lemmas.List.Sums.{sum_by-cons}
 use Rattle.std.proofs.lemmas.Option.{same_Some}
 use Rattle.std.proofs.Math.Bool.{and-false}
 use Rattle.md_model.specs.Membership.{skip}
-use Rattle.md_model.proofs.Membership.{skip-apart}
+use Rattle.md_model.proofs.Steps.Membership.{skip-apart}
 use Rattle.md_model.proofs.Puts.{by_same}
 use Rattle.md_array.proofs.General.Indices.{at_any}
 use Rattle.md_array.proofs.General.Tests.{true_unless_false}

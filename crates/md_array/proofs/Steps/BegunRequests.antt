@@ -9,7 +9,7 @@ use Rattle.md_model.specs.Worlds.{touches}
 use Rattle.md_model.specs.Counts as counts
 use Rattle.md_model.specs.Events.{Event, Step}
 use Rattle.md_model.specs.Steps.{begun, entered, touches_chunk, MayBegin}
-use Rattle.md_model.proofs.Between.{between_step, in_flight_step}
+use Rattle.md_model.proofs.Steps.Between.{between_step, in_flight_step}
 use Rattle.md_model.proofs.Cases.{by_option, by_test, is_at_most}
 use Rattle.md_inflight.specs.Inflight.{InflightList, lookup}
 use Rattle.md_bitmap.specs.Marks.{Bitmap, is_set}

@@ -6,7 +6,7 @@ use Rattle.std.proofs.lemmas.Bool.{cases_lt, and_from}
 use Rattle.md_model.specs.Worlds as worlds
 use Rattle.md_model.specs.Events.{Event, Step}
 use Rattle.md_model.specs.Steps as steps
-use Rattle.md_model.proofs.Between.{between_step, in_flight_step}
+use Rattle.md_model.proofs.Steps.Between.{between_step, in_flight_step}
 use Rattle.md_bitmap.specs.Marks.{is_set}
 use Rattle.md_requests.specs.Pending.{PendingView}
 use Rattle.md_state.specs.View.{ArrayView, MirrorView}

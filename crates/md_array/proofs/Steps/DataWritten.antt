@@ -15,7 +15,7 @@ use Rattle.md_model.specs.Devices.{Stored}
 use Rattle.md_model.specs.Events.{Event, Step}
 use Rattle.md_model.specs.Steps as steps
 use Rattle.md_model.specs.Worlds.{Request, World, touches}
-use Rattle.md_model.proofs.Between.{between_step, in_flight_step}
+use Rattle.md_model.proofs.Steps.Between.{between_step, in_flight_step}
 use Rattle.md_model.proofs.Cases.{below-nat_lt, by_test}
 use Rattle.md_model.proofs.Puts.{put-hit, put-self, put-twice}
 use Rattle.md_requests.specs.Pending.{PendingView, has_written, request_sectors}

@@ -8,7 +8,7 @@ use Rattle.md_model.specs.Events.{Event, Step}
 use Rattle.md_model.specs.Sectors.{put}
 use Rattle.md_model.specs.Steps as steps
 use Rattle.md_model.specs.Worlds.{Request, World}
-use Rattle.md_model.proofs.Between.{between_step, in_flight_step}
+use Rattle.md_model.proofs.Steps.Between.{between_step, in_flight_step}
 use Rattle.md_model.proofs.Cases.{none_some}
 use Rattle.md_model.proofs.Puts.{by_same, put-hit, put-miss, put-twice}
 use Rattle.md_requests.specs.Pending.{PendingView}

@@ -12,7 +12,7 @@ use Rattle.md_model.specs.Steps.{with_device}
 use Rattle.md_model.specs.Failures as failures
 use Rattle.md_model.specs.Failures.{MayFail}
 use Rattle.md_model.specs.Events.{Event, Step}
-use Rattle.md_model.proofs.Between.{between_step, in_flight_step}
+use Rattle.md_model.proofs.Steps.Between.{between_step, in_flight_step}
 use Rattle.md_model.proofs.Puts.{put-self}
 use Rattle.md_assembly.specs.declared.state.MemberState.{MemberState}
 use Rattle.md_assembly.specs.declared.state.MemberState.TheVariants.{InSync, Recovering, Stale, Spare, Faulty}

@@ -8,7 +8,7 @@ use Rattle.md_model.specs.Counts.{IsFull}
 use Rattle.md_model.specs.Events.{Event, Step}
 use Rattle.md_model.specs.Membership as membership
 use Rattle.md_model.specs.Membership.{MayRemove, skip}
-use Rattle.md_model.proofs.Between.{between_step, in_flight_step}
+use Rattle.md_model.proofs.Steps.Between.{between_step, in_flight_step}
 use Rattle.md_assembly.specs.declared.state.MemberState.{MemberState}
 use Rattle.md_assembly.specs.declared.state.MemberState.TheVariants.{InSync, Recovering, Stale, Spare, Faulty}
 use Rattle.md_assembly.specs.States.{is_active, is_in_sync, is_spare, takes_role}

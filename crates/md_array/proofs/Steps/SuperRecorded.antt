@@ -17,7 +17,7 @@ use Rattle.md_model.specs.Devices.{Stored}
 use Rattle.md_model.specs.Worlds.{Request, World}
 use Rattle.md_model.specs.Steps.{KeepsList, recorded, recorded_device, super_for}
 use Rattle.md_model.specs.Events.{Event, Step}
-use Rattle.md_model.proofs.Between.{between_step, in_flight_step}
+use Rattle.md_model.proofs.Steps.Between.{between_step, in_flight_step}
 use Rattle.md_model.proofs.Puts.{put-self}
 use Rattle.md_requests.specs.Pending.{PendingView}
 use Rattle.md_kept_members.specs.View.{MemberView}

@@ -8,7 +8,7 @@ use Rattle.md_model.specs.Resyncing as model
 use Rattle.md_model.specs.Runs.{failed_after}
 use Rattle.md_model.specs.Worlds as worlds
 use Rattle.md_model.specs.Worlds.{Request, World}
-use Rattle.md_model.proofs.Between.{between_step, in_flight_step}
+use Rattle.md_model.proofs.Steps.Between.{between_step, in_flight_step}
 use Rattle.md_model.proofs.Cases.{by_test, is_below}
 use Rattle.md_requests.specs.Pending.{PendingView}
 use Rattle.md_kept_members.specs.View.{MemberView}

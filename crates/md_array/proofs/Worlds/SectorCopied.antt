@@ -15,7 +15,7 @@ use Rattle.md_model.specs.Devices.{Stored}
 use Rattle.md_model.specs.Events.{Event, Step}
 use Rattle.md_model.specs.Resyncing as model
 use Rattle.md_model.specs.Worlds.{Request, World}
-use Rattle.md_model.proofs.Between.{between_step, in_flight_step}
+use Rattle.md_model.proofs.Steps.Between.{between_step, in_flight_step}
 use Rattle.md_model.proofs.Cases.{below-nat_lt, by_test, not_below}
 use Rattle.md_model.proofs.Puts.{by_same, put-hit, put-miss, put-self}
 use Rattle.md_kept_members.specs.View.{MemberView}

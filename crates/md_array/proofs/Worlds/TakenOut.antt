@@ -8,7 +8,7 @@ use Rattle.md_model.specs.States as model
 use Rattle.md_model.specs.Worlds as worlds
 use Rattle.md_model.specs.Membership as membership
 use Rattle.md_model.specs.Membership.{skip}
-use Rattle.md_model.proofs.Membership.{skip-injective, skip-onto}
+use Rattle.md_model.proofs.Steps.Membership.{skip-injective, skip-onto}
 use Rattle.md_assembly.specs.declared.state.MemberState.{MemberState}
 use Rattle.md_assembly.specs.declared.state.MemberState.TheVariants.{InSync, Recovering, Stale, Spare, Faulty}
 use Rattle.md_assembly.specs.States.{has_recovery_offset, is_in_sync, is_in_sync_as}

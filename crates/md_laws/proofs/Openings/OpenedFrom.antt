@@ -7,8 +7,8 @@ use Rattle.md_model.specs.Devices.{Covered, Stored, Super, is_marked}
 use Rattle.md_model.specs.Openings as openings
 use Rattle.md_model.specs.Sectors.{chunk_of}
 use Rattle.md_model.specs.Worlds as worlds
-use Rattle.md_model.proofs.OpeningCovers.{accepted-bits}
-use Rattle.md_model.proofs.Tracked.{agree_as}
+use Rattle.md_model.proofs.Lives.OpeningCovers.{accepted-bits}
+use Rattle.md_model.proofs.Steps.Tracked.{agree_as}
 use Rattle.md_kept_members.specs.View.{MemberView}
 use Rattle.md_state.specs.View.{Disk, ArrayView, MirrorView}
 use Rattle.md_state.specs.Members.{IsMember}

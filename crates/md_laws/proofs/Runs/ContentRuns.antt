@@ -6,10 +6,10 @@ use Rattle.md_model.specs.Events.{Event, Step}
 use Rattle.md_model.specs.Runs as runs
 use Rattle.md_model.specs.Worlds.{World}
 use Rattle.md_model.specs.Content.{Content, Becomes, Holds, Tells}
-use Rattle.md_model.proofs.ContentAlong.{after_event}
-use Rattle.md_model.proofs.ContentLives.{IsHeld, held_opened}
-use Rattle.md_model.proofs.Contents.{holds_step}
-use Rattle.md_model.proofs.Keeps.{kept_step}
+use Rattle.md_model.proofs.Content.ContentAlong.{after_event}
+use Rattle.md_model.proofs.Content.ContentLives.{IsHeld, held_opened}
+use Rattle.md_model.proofs.Content.Contents.{holds_step}
+use Rattle.md_model.proofs.Steps.Keeps.{kept_step}
 use Rattle.md_state.specs.View.{Disk, MirrorView}
 use Rattle.md_array.specs.Events.{WritesOnce}
 use Rattle.md_array.specs.Worlds.{geometry_of, none_in_flight, super_of, world_of}

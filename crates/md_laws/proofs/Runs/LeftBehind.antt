@@ -9,10 +9,10 @@ use Rattle.md_model.specs.Events.{Event, Step}
 use Rattle.md_model.specs.Openings.{IsWithinLimits}
 use Rattle.md_model.specs.Lives.{Reopens}
 use Rattle.md_model.specs.Worlds.{Request, World}
-use Rattle.md_model.proofs.BehindSteps.{behind_leaving, behind_step}
-use Rattle.md_model.proofs.ContentLives.{IsHeld, held_again, stays_behind}
-use Rattle.md_model.proofs.Contents.{holds_step}
-use Rattle.md_model.proofs.Keeps.{kept_step}
+use Rattle.md_model.proofs.Content.BehindSteps.{behind_leaving, behind_step}
+use Rattle.md_model.proofs.Content.ContentLives.{IsHeld, held_again, stays_behind}
+use Rattle.md_model.proofs.Content.Contents.{holds_step}
+use Rattle.md_model.proofs.Steps.Keeps.{kept_step}
 use Rattle.md_state.specs.Members.{is_degraded}
 use Rattle.md_state.specs.View.{MirrorView}
 use Rattle.md_array.specs.Worlds.{geometry_of, none_in_flight, super_of, world_of}

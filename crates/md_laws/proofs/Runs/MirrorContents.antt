@@ -8,9 +8,9 @@ use Rattle.md_model.specs.Lives.{Reopens}
 use Rattle.md_model.specs.Openings.{IsWithinLimits}
 use Rattle.md_model.specs.Runs as runs
 use Rattle.md_model.specs.Worlds.{World}
-use Rattle.md_model.proofs.ContentLives.{IsHeld}
-use Rattle.md_model.proofs.Lives.{start_again}
-use Rattle.md_model.proofs.Picked.{has_content_again}
+use Rattle.md_model.proofs.Content.ContentLives.{IsHeld}
+use Rattle.md_model.proofs.Lives.Lives.{start_again}
+use Rattle.md_model.proofs.Content.Picked.{has_content_again}
 use Rattle.md_state.specs.View.{Disk, MirrorView}
 use Rattle.md_array.specs.Worlds.{geometry_of, none_in_flight, super_of, world_of}
 use Rattle.md_laws.specs.Lives.{ContentGoesAlong, IsReopened, KeepsContent, MirrorLife, MirrorLifeWith}

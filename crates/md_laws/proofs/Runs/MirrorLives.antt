@@ -13,12 +13,12 @@ use Rattle.md_model.specs.Runs as runs
 use Rattle.md_model.specs.Stops as stops
 use Rattle.md_model.specs.Stops.{IsFit}
 use Rattle.md_model.proofs.Cases.{below-nat_lt, by_option, by_test, not_below-nat_lt}
-use Rattle.md_model.proofs.Reopening.{freshest_own}
+use Rattle.md_model.proofs.Lives.Reopening.{freshest_own}
 use Rattle.md_model.specs.States.{is_in_sync}
 use Rattle.md_model.specs.Worlds as worlds
-use Rattle.md_model.proofs.OpeningCovers.{own_of}
-use Rattle.md_model.proofs.Fits as fits
-use Rattle.md_model.proofs.Lives.{always_covered, always_out, always_safe, always_stays_out}
+use Rattle.md_model.proofs.Lives.OpeningCovers.{own_of}
+use Rattle.md_model.proofs.Lives.Fits as fits
+use Rattle.md_model.proofs.Lives.Lives.{always_covered, always_out, always_safe, always_stays_out}
 use Rattle.md_kept_members.specs.View.{MemberView}
 use Rattle.md_state.specs.View.{Disk, MirrorView}
 use Rattle.md_state.specs.Members.{IsInSync, IsMember}

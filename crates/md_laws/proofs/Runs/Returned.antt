@@ -12,9 +12,9 @@ use Rattle.md_model.specs.Returns.{KeepsMembers, WasAway, beside}
 use Rattle.md_model.specs.Stops as stops
 use Rattle.md_model.specs.Stops.{IsFit, WasTried}
 use Rattle.md_model.proofs.Cases.{by_option}
-use Rattle.md_model.proofs.OpeningCovers.{own_of}
+use Rattle.md_model.proofs.Lives.OpeningCovers.{own_of}
 use Rattle.md_model.proofs.Present.{same_members}
-use Rattle.md_model.proofs.Returns.{covers_returns}
+use Rattle.md_model.proofs.Lives.Returns.{covers_returns}
 use Rattle.md_state.specs.View.{Disk, MirrorView}
 use Rattle.md_array.specs.Opening.{IsOpenedFrom}
 use Rattle.md_array.specs.Worlds.{geometry_of, none_in_flight, super_of, world_of}

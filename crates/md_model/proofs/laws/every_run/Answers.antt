@@ -1,5 +1,5 @@
-use Rattle.md_model.proofs.Lives.{always_covered, always_safe, always_out, always_stays_out}
-use Rattle.md_model.proofs.ContentLives.{keeps_content, leaves_behind, missing_behind_ever}
+use Rattle.md_model.proofs.Lives.Lives.{always_covered, always_safe, always_out, always_stays_out}
+use Rattle.md_model.proofs.Content.ContentLives.{keeps_content, leaves_behind, missing_behind_ever}
 use Rattle.md_model.proofs.laws.every_run.Goals as goal
 
 pub returns : goal.returns

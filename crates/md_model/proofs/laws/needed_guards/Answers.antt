@@ -1,5 +1,5 @@
-use Rattle.md_model.proofs.NeededGuards.{writes_unmarked, writes_too_early, keeps_the_role, forgets_failure}
-use Rattle.md_model.proofs.Unfilled.{enrols_orphans, enrols_unfilled}
+use Rattle.md_model.proofs.Examples.NeededGuards.{writes_unmarked, writes_too_early, keeps_the_role, forgets_failure}
+use Rattle.md_model.proofs.Examples.Unfilled.{enrols_orphans, enrols_unfilled}
 use Rattle.md_model.proofs.laws.needed_guards.Goals as goal
 
 pub returns : goal.returns

@@ -1,7 +1,7 @@
-use Rattle.md_model.proofs.SmallRun.{can_resync, can_fail_record, can_fail_marks, can_fail_data, can_fail_copy, reopens}
-use Rattle.md_model.proofs.Comings.{back, can_come_again, can_come_new, laid, own}
-use Rattle.md_model.proofs.Rebuilt.{can_be_replaced, can_return, former, former_device, new_device, taken_back}
-use Rattle.md_model.proofs.SmallRun.{w5}
+use Rattle.md_model.proofs.Examples.SmallRun.{can_resync, can_fail_record, can_fail_marks, can_fail_data, can_fail_copy, reopens}
+use Rattle.md_model.proofs.Examples.Comings.{back, can_come_again, can_come_new, laid, own}
+use Rattle.md_model.proofs.Examples.Rebuilt.{can_be_replaced, can_return, former, former_device, new_device, taken_back}
+use Rattle.md_model.proofs.Examples.SmallRun.{w5}
 use Rattle.md_model.proofs.laws.small_runs.Goals as goal
 
 pub returns : goal.returns

@@ -1,0 +1,124 @@
+-- A member that was rebuilt comes into sync: its marks are stored, its log, and last its superblock (this project's own order).
+use Rattle.std.specs.Prelude.{◌≡◌, ◌≢◌, ◌⊎◌, ℕ, ◌+◌, ◌*◌, ◌<◌, ◌≤◌, true, false, List, [], ◌∷◌, ◌++◌, if◌then◌else◌, length, slice_get, Some, None}
+use Rattle.md_device.specs.Splice.{part}
+use Rattle.md_super.specs.declared.superblock.Superblock.{Superblock}
+use Rattle.md_super.specs.Log.{has_bad_block_log}
+use Rattle.md_super.specs.Merge.{merged}
+use Rattle.md_bitmap.specs.declared.header.BitmapHeader.{BitmapHeader}
+use Rattle.md_bitmap.specs.Chunks.{InChunk}
+use Rattle.md_bitmap.specs.Marks.{Bitmap, is_set}
+use Rattle.md_badblocks.specs.declared.run.Run.{Run}
+use Rattle.md_badblocks.specs.Log.{log_bytes}
+use Rattle.md_members.specs.Areas.{bitmap_sectors}
+use Rattle.md_members.specs.Reading.{BitmapStartsAt}
+use Rattle.md_model.specs.Content.{Content}
+use Rattle.md_writes.specs.Bitmaps.{bitmap_writes}
+use Rattle.md_writes.specs.Writes.{DoesWrites, FailsInWrites, Write}
+use Rattle.md_kept_members.specs.Enrolling.{log_room}
+use Rattle.md_kept_members.specs.View.{MemberView}
+use Rattle.md_faults.specs.declared.enrol_fault.EnrolFault.{EnrolFault}
+use Rattle.md_faults.specs.declared.enrol_fault.EnrolFault.TheVariants.{Halted, NoRole, EventsFull, LogFull, TargetFault, NoMemory}
+use Rattle.md_state.specs.CopyingData.{Lists}
+use Rattle.md_state.specs.DiskWrites.{AtDevice}
+use Rattle.md_state.specs.Enrolling.{ComesWith, HasFullLog, MayTakeRole, RefusesRole, enrolled}
+use Rattle.md_state.specs.Headers.{IsHeaderFor}
+use Rattle.md_state.specs.MakingClean.{first_number}
+use Rattle.md_state.specs.Members.{IsInSync, IsMember}
+use Rattle.md_state.specs.Missing.{is_missing, is_rebuilt}
+use Rattle.md_state.specs.Trying.{Refuses}
+use Rattle.md_state.specs.View.{ArrayView, Disk, MirrorView, of_disks}
+use Rattle.md_array.specs.Recording.{IsReadable, write_of}
+use Rattle.md_array.specs.Worlds.{from_super}
+
+-- ---- its conditions
+-- Where the array's content is held: each member in sync holds it in each sector that it does not list.
+pub record HasContent (disks : List Disk) (a : ArrayView) (content : Content) : Type 0 where
+  pub held : (k : ℕ) (d : Disk) (m : MemberView) → slice_get disks k ≡ Some d → IsInSync a k m
+      → (s : ℕ) → s < a.chunks.size → (Lists m s → ⊥) → part d.content (512 * (m.superblock.data_offset + s)) 512 ≡ content s
+
+-- Of a copy: whatever content the members in sync hold, member k holds it in each copied chunk.
+abbrev pub HoldsCopied : List Disk → ArrayView → ℕ → Bitmap → Type 0
+HoldsCopied disks a k copied =
+    (content : Content) → HasContent disks a content
+    → (d : Disk) (m : MemberView) → slice_get disks k ≡ Some d → IsMember a k m
+    → (c s : ℕ) → c < copied.chunks → is_set copied.bytes c ≡ true → InChunk a.chunks.sectors a.chunks.size c s → part d.content (512 * (m.superblock.data_offset + s)) 512 ≡ content s
+
+-- Nothing is in flight, the array is resynced, and the member may be rebuilt. Of its missing chunks some were copied, and the others
+-- are the orphans.
+pub record MayEnrol (k : ℕ) (copied orphans : Bitmap) (v : MirrorView) : Type 0 where
+  pub member : MemberView
+  pub at : IsMember v.array k member
+  pub rebuilt : is_rebuilt member.state ≡ true
+  pub resynced : v.array.resynced ≡ true
+  pub idle : first_number v.array ≡ None
+  pub copied_chunks : copied.chunks ≡ v.array.marks.chunks
+  pub orphan_chunks : orphans.chunks ≡ v.array.marks.chunks
+  pub disjoint : (c : ℕ) → c < v.array.marks.chunks → is_set copied.bytes c ≡ true → is_set orphans.bytes c ≡ false
+  pub cover : (c : ℕ) → c < v.array.marks.chunks → is_missing v.array member c ≡ true → (is_set copied.bytes c ≡ true) ⊎ (is_set orphans.bytes c ≡ true)
+  pub only : (c : ℕ) → c < v.array.marks.chunks → (is_set copied.bytes c ≡ true) ⊎ (is_set orphans.bytes c ≡ true) → is_missing v.array member c ≡ true
+  pub holds : HoldsCopied v.disks v.array k copied
+
+-- ---- what is written
+-- a list is stored in the log that a superblock names, where it names one
+abbrev pub log_writes : Superblock → List Run → List Write
+log_writes own list =
+    if has_bad_block_log own then record { sector = from_super own.bblog_offset; bytes = log_bytes list (log_room own) } ∷ [] else []
+
+-- what stores all of a member but its data: its marks with this header, from this sector on, the bitmap's first sector last; its log;
+-- and its superblock beside these fields of the array
+abbrev pub member_writes : ℕ → BitmapHeader → Superblock → MemberView → List Write
+member_writes start header shared n =
+    bitmap_writes start header n.stored (bitmap_sectors n.stored.chunks) ++ (log_writes n.superblock n.bad ++ write_of shared n ∷ [])
+
+-- The writes of a member as it is kept then, in an array as it is then: its marks are stored under the count and the events_cleared that
+-- are to come.
+pub record AreEnrolWrites (a : ArrayView) (n : MemberView) (writes : List Write) : Type 0 where
+  pub start : ℕ
+  pub starts : BitmapStartsAt n.superblock start
+  pub header : BitmapHeader
+  pub header_is : IsHeaderFor a n header
+  pub are : writes ≡ member_writes start header a.shared n
+
+-- data stays: at most the member's superblock, bitmap and log change
+abbrev pub KeepsData : MemberView → Disk → Disk → Type 0
+KeepsData m d e =
+    (at n : ℕ) → 512 * m.superblock.data_offset ≤ at → at + n ≤ 512 * (m.superblock.data_offset + m.superblock.data_size) → part e.content at n ≡ part d.content at n
+
+-- no other device is used
+pub record IsUsedAlone (k : ℕ) (before after : List Disk) (Change : Disk → Disk → Type 0) : Type 0 where
+  pub as_many : length after ≡ length before
+  pub others : (j : ℕ) → j ≢ k → slice_get after j ≡ slice_get before j
+  pub change : AtDevice k before after Change
+
+-- ---- what comes of it
+-- All was written. At each moment a stop leaves the first of the writes done, and the next one cut short (`DoesWrites.within`).
+pub record Enrols (k : ℕ) (copied orphans : Bitmap) (old new : MirrorView) : Type 0 where
+  pub role : ℕ
+  pub may : MayTakeRole k old.array role
+  pub member : MemberView  -- as it is then
+  pub comes : ComesWith k role copied orphans old.array member
+  pub array : new.array ≡ enrolled old.array k member role
+  pub readable : IsReadable (merged new.array.shared member.superblock)  -- no condition: so it is of every superblock that is kept
+  pub writes : List Write
+  pub are : AreEnrolWrites new.array member writes
+  pub disks : IsUsedAlone k old.disks new.disks (λ d e. DoesWrites of_disks writes d e × KeepsData member d e)
+
+-- One of these writes failed, and none was made after it. In memory all is as before, and the superblock was not written but by the
+-- last of them.
+pub record FailsToEnrol (k : ℕ) (copied orphans : Bitmap) (old new : MirrorView) : Type 0 where
+  pub role : ℕ
+  pub may : MayTakeRole k old.array role
+  pub member : MemberView  -- as it would be
+  pub comes : ComesWith k role copied orphans old.array member
+  pub array : new.array ≡ old.array
+  pub writes : List Write
+  pub are : AreEnrolWrites (enrolled old.array k member role) member writes
+  pub disks : IsUsedAlone k old.disks new.disks (λ d e. FailsInWrites of_disks writes d e × KeepsData member d e)
+
+abbrev pub RefusesEnrol : ℕ → Bitmap → Bitmap → MirrorView → MirrorView → EnrolFault → Type 0
+RefusesEnrol k copied orphans old new Halted = Refuses old new (RefusesRole k old.array Halted)
+RefusesEnrol k copied orphans old new NoRole = Refuses old new (RefusesRole k old.array NoRole)
+RefusesEnrol k copied orphans old new EventsFull = Refuses old new (RefusesRole k old.array EventsFull)
+RefusesEnrol k copied orphans old new (LogFull j) = Refuses old new ((j ≡ k) × ((role : ℕ) × MayTakeRole k old.array role) × HasFullLog k copied orphans old.array)
+RefusesEnrol k copied orphans old new TargetFault = FailsToEnrol k copied orphans old new
+RefusesEnrol k copied orphans old new NoMemory = Refuses old new ((role : ℕ) × MayTakeRole k old.array role)

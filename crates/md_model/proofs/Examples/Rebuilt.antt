@@ -1,0 +1,302 @@
+-- The mirror of two members: one fails and leaves, a sector is written without it, and it comes again, or another one. That is filled
+-- with what it lacks, and comes into sync.
+use Rattle.std.proofs.Common.{◌≡◌, ◌≢◌, ℕ, zero, suc, ◌<◌, ◌≤◌, ◌+◌, Bool, true, false, cond, ◌&&◌, ◌||◌, ◌++◌, [], ◌∷◌, inl, refl, sym, ap, ◌∙◌, subst, true≢false, arith}
+use Rattle.std.specs.Prelude.{Some, None, not}
+use Rattle.md_model.specs.Sectors.{chunk_of, put}
+use Rattle.md_model.specs.States.{State, is_active, is_in_sync, is_recovering}
+use Rattle.md_model.specs.Devices.{AgreeAt, Stored, Super}
+use Rattle.md_model.specs.Worlds.{Request, World, IsInSync, touches}
+use Rattle.md_model.specs.Counts.{risen, IsFull}
+use Rattle.md_model.specs.Steps.{begun, finished, marks_stored, member_written, recorded, with_device, MayBegin, MayFinish, MayWrite}
+use Rattle.md_model.specs.Failures.{failed}
+use Rattle.md_model.specs.Resyncing.{IsIdle}
+use Rattle.md_model.specs.Membership.{added, joined, joined_super, re_added, removed, skip, IsFree, MayAdd, MayReAdd, MayRemove, Newcomer}
+use Rattle.md_model.specs.Rebuilding.{enrolled, is_missing, is_target, LeftByFilling, MayEnrol}
+use Rattle.md_model.specs.Events.{Event, Happens}
+use Rattle.md_model.specs.Runs.{History, opening, then_in, Run}
+use Rattle.md_model.specs.SmallArray.{small_device, small_geometry, small_super, small_world}
+use Rattle.md_model.specs.SmallRun.{CanRun, missed, one_sector, rebuilt}
+use Rattle.md_model.proofs.Cases.{by_test, never, none_some}
+use Rattle.md_model.proofs.Puts.{by_same, put-at, put-hit, put-miss}
+use Rattle.md_model.proofs.Steps.RecordedSteps.{present_keeps}
+use Rattle.md_model.proofs.Examples.Comings.{never_full, only_active, only_first, to_first}
+use Rattle.md_model.proofs.Steps.Rebuilding.{not_target, target_out}
+use Rattle.md_model.proofs.Examples.SmallRun.{fails, only_eight, then}
+
+-- ---- without member 1
+abbrev pub z1 : World
+z1 = failed small_geometry (with_device small_world 1 (small_world.stored 1)) 1 false
+
+abbrev pub z2 : World
+z2 = removed small_geometry z1 1 false false
+
+abbrev z3 : World
+z3 = begun small_geometry z2 0 one_sector true false
+
+abbrev z4 : World
+z4 = marks_stored z3 0 0
+
+abbrev z5 : World
+z5 = recorded z4 0 (λ _. false)
+
+abbrev z6 : World
+z6 = member_written z5 0 one_sector 0
+
+abbrev z7 : World
+z7 = finished z6 0
+
+pub alone : (j : ℕ) → IsInSync z2 j → j ≡ 0
+alone j on = to_first j (only_first (skip 1 j) on)
+
+pub may_remove : MayRemove z1 1
+may_remove = record { there = omega arith; out = refl }
+
+may_begin : MayBegin small_geometry z2 0 one_sector
+may_begin = record { resynced = refl; new = refl; apart = λ m q e. absurd (none_some q e); some = omega arith; inside = omega arith; unwritten = λ _. refl }
+
+may_write : MayWrite small_geometry z5 0 one_sector 0
+may_write = record {
+  in_flight = refl;
+  in_sync = refl;
+  marked = λ j s on. only_eight (λ t. z5.known j (chunk_of small_geometry t) ≡ true) (subst (λ i. z5.known i 1 ≡ true) (sym (alone j on)) refl) s;
+  recorded = λ j on. subst (λ i. z5.due i ≡ false) (sym (alone j on)) refl;
+  unwritten = refl;
+}
+
+abbrev has_written : Request
+has_written = record one_sector { written = put 0 true one_sector.written }
+
+may_finish : MayFinish z6 0 has_written
+may_finish = record {
+  in_flight = refl;
+  written = λ j on. subst (λ i. has_written.written (z6.number i) ≡ true) (sym (alone j on)) refl;
+  recorded = λ j on. subst (λ i. z6.due i ≡ false) (sym (alone j on)) refl;
+}
+
+abbrev pub h1 : History
+h1 = then_in (then_in (opening small_world) (Event.Fail 1) z1) (Event.Remove 1) z2
+
+abbrev h3 : History
+h3 = then_in (then_in (then_in h1 (Event.Begin 0 one_sector) z3) (Event.StoreMarks 0 0) z4) (Event.Record 0) z5
+
+abbrev h7 : History
+h7 = then_in (then_in h3 (Event.WriteMember 0 0) z6) (Event.Finish 0) z7
+
+misses : Run small_geometry (opening small_world) missed h7
+misses = (
+  z1,
+  (refl, (refl, fails small_world (small_world.stored 1) refl refl (λ _. refl))),
+  (
+    z2,
+    (refl, (false, may_remove, never_full z2 alone refl, refl)),
+    (
+      z3,
+      (refl, (true, false, may_begin, ((λ _. inl refl), (λ _. refl)), never_full z3 alone refl, refl)),
+      (
+        z4,
+        (refl, (refl, refl)),
+        (
+          z5,
+          (refl, ((λ _. false), (λ _ _. refl), refl, refl)),
+          (z6, (refl, (one_sector, may_write, refl)), (z7, (refl, (has_written, may_finish, refl)), refl)),
+        ),
+      ),
+    ),
+  ),
+)
+
+idle : IsIdle z7
+idle n = put-at 0 None z6.request n (λ x. x ≡ None) (λ _. refl) (λ apart. put-miss 0 (Some has_written) z5.request n apart ∙ put-miss 0 (Some one_sector) z2.request n apart)
+
+-- ---- one that comes in is filled, and enrolled
+pub record IsNewcomer (n : Newcomer) : Type 0 where
+  pub target : is_target n.state ≡ true
+  pub empty : (s : ℕ) → n.device.content s ≡ []
+  pub own : is_recovering n.state ≡ true → n.role ≡ 1
+  pub small : n.number < 1920
+  pub other : n.number ≢ 0
+
+module _ (n : Newcomer) (is : IsNewcomer n) where
+  abbrev pub z8 : World
+  z8 = joined (risen small_geometry z7 false) n
+
+  abbrev filled : Stored
+  filled = record n.device { content = put 8 (1 ∷ []) n.device.content }
+
+  abbrev z9 : World
+  z9 = with_device z8 1 filled
+
+  abbrev z10 : World
+  z10 = with_device z9 1 filled
+
+  abbrev prepared : Stored
+  prepared = record filled { bits = z7.marks; bitmap_events = z8.events + 1; bitmap_fits = true; listed = λ _. false }
+
+  abbrev z11 : World
+  z11 = with_device z10 1 prepared
+
+  abbrev z12 : World
+  z12 = enrolled small_geometry z11 1 1 (λ _. false) true
+
+  lacks : (s : State) (b : Bool) → is_target s ≡ true → not (is_in_sync s) && (not b || true) ≡ true
+  lacks s true out = ap (λ x. not x && true) (target_out s out)
+  lacks s false out = ap (λ x. not x && true) (target_out s out)
+
+  fills : LeftByFilling small_geometry z8 1 filled
+  fills = record {
+    rest = refl;
+    outside = λ s. by_same s 8
+        (λ same off. never (is_missing z8 1 (chunk_of small_geometry s)) (ap (λ t. is_missing z8 1 (chunk_of small_geometry t)) same ∙ lacks n.state n.re_added is.target) off)
+        (λ apart _. put-miss 8 (1 ∷ []) n.device.content s apart);
+    past = λ s high. put-miss 8 (1 ∷ []) n.device.content s (λ same. omega arith);
+  }
+
+  -- the others are as before
+  first_in_sync : (j : ℕ) → IsInSync z11 j → j ≡ 0
+  first_in_sync j on = alone j (ap is_in_sync (sym (put-miss 1 n.state z7.state j (not_target z11 1 is.target j on))) ∙ on)
+
+  first_role : z11.role 0 ≡ 0
+  first_role = put-miss n.number n.role (risen small_geometry z7 false).role 0 (λ same. is.other (sym same))
+
+  agrees : (s : ℕ) → AgreeAt (z11.stored 0) prepared s
+  agrees s _ _ = by_same s 8
+      (λ same. subst (λ t. (z7.stored 0).content t ≡ filled.content t) (sym same) refl)
+      (λ apart. by_test (touches one_sector s)
+      (λ at. absurd (apart (only_eight (λ t. t ≡ 8) refl s at)))
+      (λ off. ap (λ b. cond b (1 ∷ []) []) off ∙ sym (is.empty s) ∙ sym (put-miss 8 (1 ∷ []) n.device.content s apart)))
+
+  may_enrol : MayEnrol small_geometry z11 1 1 (λ _. false)
+  may_enrol = record {
+    rebuild = record { idle = idle; target = is.target };
+    resynced = refl;
+    below = omega arith;
+    own = λ e. put-hit n.number n.role (risen small_geometry z7 false).role ∙ is.own e;
+    free = λ j apart on taken.
+        let first : j ≡ 0 = to_first j (only_active (skip 1 j) (ap is_active (sym (put-miss 1 n.state z7.state j apart)) ∙ on)) in
+        let none : 0 ≡ 1 = sym first_role ∙ ap (λ i. z11.role (z11.number i)) (sym first) ∙ taken in
+        omega arith;
+    small = is.small;
+    apart = λ j on same. is.other (sym same ∙ ap z11.number (first_in_sync j on));
+    bits = λ _. refl;
+    bitmap_events = refl;
+    bitmap_fits = refl;
+    agrees = λ j s on. subst (λ i. AgreeAt (z11.stored i) prepared s) (sym (first_in_sync j on)) (agrees s);
+    copied = λ _ _ _ _. (0, refl, refl);
+  }
+
+  both_in : IsFull small_geometry z12
+  both_in zero low = (0, refl, put-miss n.number 1 (risen small_geometry z11 true).role 0 (λ same. is.other (sym same)) ∙ present_keeps small_geometry z11 0 (omega arith) refl ∙ first_role)
+  both_in (suc zero) low = (1, refl, put-hit n.number 1 (risen small_geometry z11 true).role)
+  both_in (suc (suc r)) low = absurd (omega arith)
+
+  pub is_rebuilt : (h : History) → h.now ≡ z8 → (last : History) × Run small_geometry h rebuilt last
+  is_rebuilt h same =
+      let h9 = then_in h (Event.Fill 1) z9 in
+      let h10 = then_in h9 (Event.RecordTargetFails 1) z10 in
+      let h11 = then_in h10 (Event.Prepare 1) z11 in (
+        then_in h11 (Event.Enrol 1 1 (λ _. false)) z12,
+        (
+          z9,
+          subst (λ (w : World). (w.halted ≡ false) × Happens small_geometry w (Event.Fill 1) z9) (sym same) (refl, (filled, record { idle = idle; target = is.target }, fills, refl)),
+          (
+            z10,
+            (refl, (filled, (is.target, record { rest = refl; listed = λ _ _. refl; super = inl refl }, refl))),
+            (
+              z11,
+              (refl, (prepared, record { idle = idle; target = is.target }, record { rest = refl }, refl)),
+              (z12, (refl, (true, may_enrol, ((λ _. both_in), (λ _. refl)), refl)), refl),
+            ),
+          ),
+        ),
+      )
+
+  -- who is in sync once it came in
+  alone_after : is_in_sync n.state ≡ false → (j : ℕ) → IsInSync z8 j → j ≡ 0
+  alone_after out j on = put-at 1 n.state z7.state j (λ s. is_in_sync s ≡ true → j ≡ 0) (λ _ e. absurd (true≢false (sym e ∙ out))) (λ _ e. alone j e) on
+
+-- ---- it comes again
+abbrev pub former : Super
+former = small_super 1
+
+abbrev pub former_device : Stored
+former_device = small_device (Some former)
+
+abbrev pub taken_back : Stored
+taken_back = record former_device { super = Some (joined_super (risen small_geometry z7 false) 1 1 true) }
+
+abbrev again : Newcomer
+again = record { number = 1; role = 1; state = State.Recovering; re_added = true; recovering = true; device = taken_back }
+
+is_again : IsNewcomer again
+is_again = record { target = refl; empty = λ _. refl; own = λ _. refl; small = omega arith; other = λ e. omega arith }
+
+may_re_add : MayReAdd small_geometry z7 former
+may_re_add = record {
+  room = omega arith;
+  absent = refl;
+  small = omega arith;
+  whole = refl;
+  late = omega arith;
+  no_newer = omega arith;
+  has_role = omega arith;
+  free = λ k on same. active_first k on same;
+}
+  where
+    active_first : (k : ℕ) → is_active (z7.state k) ≡ true → z7.role (z7.number k) ≡ former.role former.number → ⊥
+    active_first k on same =
+        let first = to_first k (only_active (skip 1 k) on) in
+        let none : z7.role (z7.number k) ≡ 0 = ap (λ i. z7.role (z7.number i)) first in
+        let one : former.role former.number ≡ 1 = refl in
+        omega arith
+
+pub can_return : CanRun (missed ++ (Event.ReAdd former former_device taken_back ∷ rebuilt))
+can_return =
+    let h8 = then_in h7 (Event.ReAdd former former_device taken_back) (re_added small_geometry z7 former taken_back false) in
+    let more = is_rebuilt again is_again h8 refl in (
+      more.0,
+      then small_geometry missed (Event.ReAdd former former_device taken_back ∷ rebuilt) (opening small_world) h7 more.0 misses (
+        re_added small_geometry z7 former taken_back false,
+        (refl, (false, may_re_add, record { was = refl; rest = refl }, never_full (z8 again is_again) (alone_after again is_again refl) refl, refl)),
+        more.1,
+      ),
+    )
+
+-- ---- or another
+abbrev pub new_device : Stored
+new_device = record {
+  super = Some (joined_super (risen small_geometry z7 false) 2 65535 false);
+  content = λ _. [];
+  listed = λ _. false;
+  bits = λ _. true;
+  bitmap_events = 13;
+  bitmap_fits = true;
+}
+
+abbrev new : Newcomer
+new = record { number = 2; role = 65535; state = State.Spare; re_added = false; recovering = false; device = new_device }
+
+is_new : IsNewcomer new
+is_new = record { target = refl; empty = λ _. refl; own = λ e. absurd (true≢false (sym e)); small = omega arith; other = λ e. omega arith }
+
+two_is_least : (e : ℕ) → IsFree small_geometry z7 e → 2 ≤ e
+two_is_least zero free = absurd (true≢false free.1)
+two_is_least (suc zero) free = absurd (free.2 refl)
+two_is_least (suc (suc e)) free = omega arith
+
+may_add : MayAdd small_geometry z7 2
+may_add = record {
+  room = omega arith;
+  number = inl (record { fits = (omega arith, refl, λ e. let x : 65535 ≡ 65534 = e in absurd (omega arith)); least = two_is_least });
+}
+
+pub can_be_replaced : CanRun (missed ++ (Event.Add 2 new_device ∷ rebuilt))
+can_be_replaced =
+    let h8 = then_in h7 (Event.Add 2 new_device) (added small_geometry z7 2 new_device false) in
+    let more = is_rebuilt new is_new h8 refl in (
+      more.0,
+      then small_geometry missed (Event.Add 2 new_device ∷ rebuilt) (opening small_world) h7 more.0 misses (
+        added small_geometry z7 2 new_device false,
+        (refl, (false, may_add, record { super = refl; listed = λ _. refl; bits = λ _ _. refl }, never_full (z8 new is_new) (alone_after new is_new refl) refl, refl)),
+        more.1,
+      ),
+    )

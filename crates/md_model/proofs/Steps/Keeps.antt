@@ -1,0 +1,425 @@
+-- Every event keeps the invariant.
+use Rattle.std.proofs.Common.{◌≡◌, ℕ, ◌<◌, ◌+◌, ◌↔◌, Bool, true, false, cond, ◌&&◌, ◌||◌, ◌⊎◌, inr, ⊎_elim, refl, sym, ap, ◌∙◌, subst, eqb, eq-eqb, true≢false, arith, List, [], ◌∷◌}
+use Rattle.std.specs.Prelude.{Some, None, nat_lt, not}
+use Rattle.std.proofs.lemmas.Bool.{or_right, not-true, and_parts}
+use Rattle.md_model.specs.Sectors.{Geometry, chunk_of, put}
+use Rattle.md_model.specs.States.{State, is_recorded, is_in_sync}
+use Rattle.md_model.specs.Devices.{Super, Stored, AgreeAt}
+use Rattle.md_model.specs.Worlds.{Request, World, IsInFlight, IsInSync}
+use Rattle.md_model.specs.Counts.{role_at_rise, risen, risen_if, HasToRise}
+use Rattle.md_model.specs.Steps.{begun, with_device, super_for, recorded, recorded_device, marked_device, marks_stored, written_device, member_written, MayBegin, MayWrite}
+use Rattle.md_model.specs.Failures.{failed, MayFail, LeftBySuper}
+use Rattle.md_model.specs.Resyncing.{copied_device, copied, MayResync}
+use Rattle.md_model.specs.States.State.{Recovering, Spare}
+use Rattle.md_model.specs.Membership.{is_spare, removed}
+use Rattle.md_model.specs.Rebuilding.{is_target}
+use Rattle.md_model.proofs.Steps.Membership.{former_joins, number_absent, recorded_joined, recorded_removed, spare_joins, tracked_joined, tracked_removed}
+use Rattle.md_model.proofs.Steps.Rebuilding.{fewer_target, recorded_enrolled, recorded_left, recorded_target, tracked_enrolled}
+use Rattle.md_model.specs.Events.{Event, Fails, Happens, Step}
+use Rattle.md_model.specs.Openings.{IsWithinLimits}
+use Rattle.md_model.specs.Runs.{History, away_after, failed_after, tried_after, then_in, Run}
+use Rattle.md_model.proofs.Cases.{by_test, none_some, is_below, not_below}
+use Rattle.md_model.proofs.Puts.{put-at, put-same, put-hit, put-twice}
+use Rattle.md_model.proofs.Steps.Tracked.{IsTracked, tracked_fewer}
+use Rattle.md_model.proofs.Steps.TrackedSteps.{fewer_recorded, fewer_failed, tracked_risen, tracked_entered, tracked_finished, tracked_unmarked, tracked_marks_stored, tracked_written, other_flights}
+use Rattle.md_model.proofs.Steps.TrackedCalls.{tracked_copied, tracked_resynced, tracked_made_clean}
+use Rattle.md_model.proofs.Steps.Recorded.{Book, book_of, IsRecorded, recorded_in_sync}
+use Rattle.md_model.proofs.Steps.RecordedSteps.{absent_none, recorded_risen, recorded_recorded, recorded_without}
+
+-- where marked chunks were copied, the members in sync agree everywhere
+pub all_agree : (g : Geometry) (w : World) → MayResync g w → IsTracked g w → (j k s : ℕ) → IsInSync w j → IsInSync w k → AgreeAt (w.stored j) (w.stored k) s
+all_agree g w may t j k s a b = by_test (w.marks (chunk_of g s)) (λ at. may.agree j k s a b at) (λ off. t.in_memory j k s a b off)
+
+-- while a request is in flight, no absent device has a role
+abbrev pub IsAlone : Geometry → (ℕ → Bool) → World → Type 0
+IsAlone g away w = (n : ℕ) (p : Request) (d : ℕ) → IsInFlight w n p → away d ≡ true → w.role d < g.raid_disks → ⊥
+
+pub record IsKept (g : Geometry) (opened : Super) (h : History) : Type 0 where
+  pub tracked : IsTracked g h.now
+  pub recorded : IsRecorded g opened h.failed_at h.tried h.away (book_of h.now)
+  pub alone : IsAlone g h.away h.now
+
+-- a request may begin after the rise, if it may before
+pub begin_after : (g : Geometry) (w : World) (n : ℕ) (p : Request) (rises full : Bool) → MayBegin g w n p → MayBegin g (risen_if g w rises full) n p
+begin_after g w n p true full m = record { resynced = m.resynced; new = m.new; apart = m.apart; some = m.some; inside = m.inside; unwritten = m.unwritten }
+begin_after g w n p false full m = m
+
+module _ (g : Geometry) (small : IsWithinLimits g) where
+  fails_tracked : (w : World) (k : ℕ) (left : Stored) (w' : World) → Fails g w k left w' → IsTracked g w → IsTracked g w'
+  fails_tracked w k left w' f t = subst (IsTracked g) (sym f.3) (tracked_fewer g w (failed g (with_device w k left) k f.0) (fewer_failed g w k left f.0) t)
+
+  rise_tracked : (w : World) (rises full : Bool) → IsTracked g w → IsTracked g (risen_if g w rises full)
+  rise_tracked w true full t = tracked_risen g w full t
+  rise_tracked w false full t = t
+
+  target_tracked : (w : World) (k : ℕ) (left : Stored) → is_target (w.state k) ≡ true → (w' : World) → w' ≡ with_device w k left → IsTracked g w → IsTracked g w'
+  target_tracked w k left out w' is t = subst (IsTracked g) (sym is) (tracked_fewer g w (with_device w k left) (fewer_target w k left out) t)
+
+  tracked_step : (w : World) (e : Event) (w' : World) → IsTracked g w → Happens g w e w' → IsTracked g w'
+  tracked_step w (Event.Begin n p) w' t s = subst (IsTracked g) (sym s.5)
+      (tracked_entered g (risen_if g w s.0 s.1) n p small.wide (begin_after g w n p s.0 s.1 s.2) (rise_tracked w s.0 s.1 t))
+  tracked_step w (Event.Record k) w' t s = subst (IsTracked g) (sym s.3) (tracked_fewer g w (recorded w k s.0) (fewer_recorded w k s.0 s.1) t)
+  tracked_step w (Event.StoreMarks k b) w' t s = subst (IsTracked g) (sym s.1) (tracked_marks_stored g w k b t)
+  tracked_step w (Event.WriteMember n k) w' t s = subst (IsTracked g) (sym s.2) (tracked_written g w n s.0 k s.1 t)
+  tracked_step w (Event.Finish n) w' t s = subst (IsTracked g) (sym s.2) (tracked_finished g w n s.0 s.1 t)
+  tracked_step w (Event.ClearIdle c) w' t s = subst (IsTracked g) (sym s.1) (tracked_unmarked g w c s.0 t)
+  tracked_step w (Event.Fail k) w' t s = fails_tracked w k (w.stored k) w' s.1 t
+  tracked_step w (Event.RecordFails k) w' t s = fails_tracked w k s.0 w' s.2 t
+  tracked_step w (Event.StoreMarksFails k b) w' t s = fails_tracked w k s.0 w' s.3 t
+  tracked_step w (Event.WriteMemberFails n k) w' t s = fails_tracked w k s.0 w' s.4 t
+  tracked_step w (Event.CopyFails k c) w' t s = fails_tracked w k s.0 w' s.4 t
+  tracked_step w (Event.Copy from k x) w' t s = subst (IsTracked g) (sym s.1) (tracked_copied g w from k x s.0 t)
+  tracked_step w Event.Resynced w' t s = subst (IsTracked g) (sym s.1) (tracked_resynced g w true s.0.idle (λ _. all_agree g w s.0 t) t)
+  tracked_step w Event.Unresynced w' t s = subst (IsTracked g) (sym s.1) (tracked_resynced g w false s.0 (λ r. absurd (true≢false (sym r))) t)
+  tracked_step w Event.MakeClean w' t s = subst (IsTracked g) (sym s.3) (tracked_made_clean g w s.0 t)
+  tracked_step w (Event.Remove k) w' t s = subst (IsTracked g) (sym s.3) (tracked_removed g w k (is_spare (w.state k)) s.0 t)
+  tracked_step w (Event.Add d left) w' t s = subst (IsTracked g) (sym s.4) (tracked_joined g (risen g w s.0) (record { number = d; role = 65535; state = Spare; re_added = false; recovering = false; device = left }) refl (tracked_risen g w s.0 t))
+  tracked_step w (Event.ReAdd own device left) w' t s = subst (IsTracked g) (sym s.4)
+      (tracked_joined g (risen g w s.0) (record { number = own.number; role = own.role own.number; state = Recovering; re_added = true; recovering = true; device = left }) refl (tracked_risen g w s.0 t))
+  tracked_step w (Event.Fill k) w' t s = target_tracked w k s.0 s.1.target w' s.3 t
+  tracked_step w (Event.Prepare k) w' t s = target_tracked w k s.0 s.1.target w' s.3 t
+  tracked_step w (Event.RecordTargetFails k) w' t s = target_tracked w k s.0 s.1.0 w' s.1.2 t
+  tracked_step w (Event.Enrol k role listed) w' t s = subst (IsTracked g) (sym s.3) (tracked_enrolled g w k role listed s.0 s.1 t)
+
+module _ (g : Geometry) (small : IsWithinLimits g) (opened : Super) (away : ℕ → Bool) where
+  abbrev Records : ℕ → Bool → World → Type 0
+  Records failed_at tried w = IsRecorded g opened failed_at tried away (book_of w)
+
+  -- the same superblocks
+  same_supers : (failed_at : ℕ) (tried : Bool) (w : World) (stored : ℕ → Stored) → ((j : ℕ) → (stored j).super ≡ (w.stored j).super)
+      → Records failed_at tried w → Records failed_at tried (record w { stored = stored })
+  same_supers failed_at tried w stored same = subst (IsRecorded g opened failed_at tried away) (λ i. record (book_of w) { super = λ k. sym (same k) i })
+
+  -- Data was let through: each member in sync has recorded the absence of those that had a role.
+  pub tried_now : (failed_at : ℕ) (tried : Bool) (w : World) (n : ℕ) (p : Request) (k : ℕ) → MayWrite g w n p k → IsAlone g away w
+      → Records failed_at tried w → Records failed_at true w
+  tried_now failed_at tried w n p k may alone r =
+      record {
+        number = r.number;
+        below = r.below;
+        later = r.later;
+        has_super = r.has_super;
+        there = r.there;
+        entries = r.entries;
+        present = r.present;
+        slot = r.slot;
+        gone = r.gone;
+        distinct = r.distinct;
+        by_memory = r.by_memory;
+        by_opening = r.by_opening;
+        by_super = r.by_super;
+        as_new = r.as_new;
+        stale = r.stale;
+        recovering = r.recovering;
+        clear = r.clear;
+        bit = r.bit;
+        in_memory = r.in_memory;
+        in_opening = r.in_opening;
+        in_super = r.in_super;
+        unrisen = r.unrisen;
+        out_memory = r.out_memory;
+        out_super = r.out_super;
+        current = r.current;
+        some_in = r.some_in;
+        out_tried = λ d _ off low j own a e.
+            let is : own.events ≡ w.events = r.current j own (recorded_in_sync (w.state j) a) (may.recorded j a) e in
+            let up : opened.events < w.events = by_test (nat_lt opened.events w.events) (is_below opened.events w.events)
+            (λ at. absurd (alone n p d may.in_flight off (subst (λ x. x < g.raid_disks) (sym (r.unrisen (not_below opened.events w.events at) d)) low))) in
+            omega arith;
+      }
+
+  may_fail_risen : (w v : World) (k : ℕ) → v.state ≡ w.state → MayFail w k → MayFail v k
+  may_fail_risen w v k same may = record {
+    in_use = ap (λ (f : ℕ → State). is_recorded (f k)) same ∙ may.in_use;
+    other = may.other;
+    apart = may.apart;
+    in_sync = ap (λ (f : ℕ → State). is_in_sync (f may.other)) same ∙ may.in_sync;
+  }
+
+  -- a member fails, whose device has the superblock that it had, or none
+  fails_recorded : (w : World) (k : ℕ) (left : Stored) (w' : World) (failed_at : ℕ) (tried : Bool)
+      → ((own : Super) → left.super ≡ Some own → (w.stored k).super ≡ Some own)
+      → Fails g w k left w' → Records failed_at tried w → Records w'.events tried w'
+  fails_recorded w k left w' failed_at tried from f r = subst (λ v. Records v.events tried v) (sym f.3)
+      (recorded_without g small.few opened failed_at tried away (risen g w f.0) k left from
+      (λ j own e. let h = r.below j own e in let t : own.events < w.events + 1 = omega arith in t)
+      (let h = r.later in let t : opened.events < w.events + 1 = omega arith in t)
+      (may_fail_risen w (risen g w f.0) k refl f.1) (recorded_risen g small.few opened failed_at tried away w f.0 r))
+
+  -- or the one that was being written: then it fails as after a record
+  module _ (w : World) (k : ℕ) (left : Stored) (full : Bool) (tried : Bool) where
+    abbrev after_record : World
+    after_record = failed g (with_device (recorded w k left.listed) k left) k full
+
+    not_due : (j : ℕ) → put k false (λ i. is_recorded (w.state i) || put k false w.due i) j ≡ put k false (λ i. is_recorded (w.state i) || w.due i) j
+    not_due j = by_test (eqb j k)
+        (λ at. ap (λ b. cond b false (is_recorded (w.state j) || cond b false (w.due j))) at ∙ sym (ap (λ b. cond b false (is_recorded (w.state j) || w.due j)) at))
+        (λ off. ap (λ b. cond b false (is_recorded (w.state j) || cond b false (w.due j))) off ∙ sym (ap (λ b. cond b false (is_recorded (w.state j) || w.due j)) off))
+
+    as_unrecorded : Records (w.events + 1) tried after_record → Records (w.events + 1) tried (failed g (with_device w k left) k full)
+    as_unrecorded = subst (IsRecorded g opened (w.events + 1) tried away) (λ i. record (book_of (failed g (with_device w k left) k full)) {
+      super = λ j. (put-twice k left (recorded_device w k left.listed) w.stored j i).super;
+      due = λ j. not_due j i;
+    })
+
+    fails_at_end : (failed_at : ℕ) → left.super ≡ Some (super_for w k) → MayFail w k → Records failed_at tried (recorded w k left.listed) → Records (w.events + 1) tried after_record
+    fails_at_end failed_at new may r = recorded_without g small.few opened failed_at tried away (risen g (recorded w k left.listed) full) k left
+        (λ own e. ap (λ (d : Stored). d.super) (put-hit k (recorded_device w k left.listed) w.stored) ∙ sym new ∙ e)
+        (λ j own e. let h = r.below j own e in let t : own.events < w.events + 1 = omega arith in t)
+        (let h = r.later in let t : opened.events < w.events + 1 = omega arith in t)
+        (may_fail_risen w (risen g (recorded w k left.listed) full) k refl may) (recorded_risen g small.few opened failed_at tried away (recorded w k left.listed) full r)
+
+  record_fails : (w : World) (k : ℕ) (left : Stored) (w' : World) (failed_at : ℕ) (tried : Bool)
+      → LeftBySuper w k left → Fails g w k left w' → Records failed_at tried w → Records w'.events tried w'
+  record_fails w k left w' failed_at tried l f r = ⊎_elim
+      (λ (same : left.super ≡ (w.stored k).super). fails_recorded w k left w' failed_at tried (λ own e. sym same ∙ e) f r)
+      (λ (x : (left.super ≡ Some (super_for w k)) ⊎ (left.super ≡ None)). ⊎_elim
+      (λ (new : left.super ≡ Some (super_for w k)). subst (λ v. Records v.events tried v) (sym f.3)
+      (as_unrecorded w k left f.0 tried (fails_at_end w k left f.0 tried failed_at new f.1
+      (recorded_recorded g small.few opened failed_at tried away w k left.listed f.1.in_use r))))
+      (λ (lost : left.super ≡ None). fails_recorded w k left w' failed_at tried (λ own e. absurd (none_some own (sym lost ∙ e))) f r)
+      x)
+      l.super
+
+  rise_recorded : (w : World) (n : ℕ) (p : Request) (rises full : Bool) (failed_at : ℕ) (tried : Bool) → Records failed_at tried w → Records failed_at tried (begun g w n p rises full)
+  rise_recorded w n p true full failed_at tried r = recorded_risen g small.few opened failed_at tried away w full r
+  rise_recorded w n p false full failed_at tried r = r
+
+  -- with the devices that stay away
+  pub record Before (h : History) : Type 0 where
+    pub recorded : Records h.failed_at h.tried h.now
+    pub alone : IsAlone g away h.now
+
+  removed_step : (h : History) (k : ℕ) (w' : World) → Records h.failed_at h.tried h.now → ((d : ℕ) → away d ≡ true → w'.present d ≡ false) → Happens g h.now (Event.Remove k) w' → Records h.failed_at h.tried w'
+  removed_step h k w' r gone s = subst (Records h.failed_at h.tried) (sym s.3)
+      (recorded_removed g small.few opened h.failed_at h.tried away h.now k s.0 s.1 (λ d off. ap (λ (v : World). v.present d) (sym s.3) ∙ gone d off) r)
+
+  added_step : (h : History) (d : ℕ) (left : Stored) (w' : World) → Records h.failed_at h.tried h.now → ((d : ℕ) → away d ≡ true → w'.present d ≡ false) → Happens g h.now (Event.Add d left) w' → Records h.failed_at h.tried w'
+  added_step h d left w' r gone s = subst (Records h.failed_at h.tried) (sym s.4)
+      (recorded_joined g small.few opened h.failed_at h.tried away (risen g h.now s.0) (record { number = d; role = 65535; state = Spare; re_added = false; recovering = false; device = left })
+      (spare_joins g (risen g h.now s.0) d left small.few (number_absent g h.now d s.1.number) s.2)
+      (λ j own e. let b = r.below j own e in let t : own.events < h.now.events + 1 = omega arith in t)
+      (let l = r.later in let t : opened.events < h.now.events + 1 = omega arith in t)
+      (λ e off. ap (λ (v : World). v.present e) (sym s.4) ∙ gone e off)
+      (recorded_risen g small.few opened h.failed_at h.tried away h.now s.0 r))
+
+  taken_back_step : (h : History) (own : Super) (device left : Stored) (w' : World) → Records h.failed_at h.tried h.now → ((d : ℕ) → away d ≡ true → w'.present d ≡ false)
+      → Happens g h.now (Event.ReAdd own device left) w' → Records h.failed_at h.tried w'
+  taken_back_step h own device left w' r gone s = subst (Records h.failed_at h.tried) (sym s.4)
+      (recorded_joined g small.few opened h.failed_at h.tried away (risen g h.now s.0) (record { number = own.number; role = own.role own.number; state = Recovering; re_added = true; recovering = true; device = left })
+      (former_joins g (risen g h.now s.0) own device left s.1.absent s.1.small s.2)
+      (λ j other e. let b = r.below j other e in let t : other.events < h.now.events + 1 = omega arith in t)
+      (let l = r.later in let t : opened.events < h.now.events + 1 = omega arith in t)
+      (λ e off. ap (λ (v : World). v.present e) (sym s.4) ∙ gone e off)
+      (recorded_risen g small.few opened h.failed_at h.tried away h.now s.0 r))
+
+  target_recorded : (h : History) (k : ℕ) (left : Stored) → is_target (h.now.state k) ≡ true → (w' : World) → w' ≡ with_device h.now k left
+      → ((own : Super) → left.super ≡ Some own → (h.now.stored k).super ≡ Some own) → Records h.failed_at h.tried h.now → Records h.failed_at h.tried w'
+  target_recorded h k left out w' is from r = subst (Records h.failed_at h.tried) (sym is) (recorded_target g small.few opened h.failed_at h.tried away h.now k left out from r)
+
+  enrolled_step : (h : History) (k role : ℕ) (listed : ℕ → Bool) (w' : World) → Records h.failed_at h.tried h.now → Happens g h.now (Event.Enrol k role listed) w' → Records h.failed_at h.tried w'
+  enrolled_step h k role listed w' r s = subst (Records h.failed_at h.tried) (sym s.3)
+      (recorded_enrolled g opened h.failed_at h.tried away (risen g h.now s.0) k role listed s.1.rebuild.target s.1.below s.1.small
+      (λ j own e. let b = r.below j own e in let t : own.events < h.now.events + 1 = omega arith in t)
+      (let l = r.later in let t : opened.events < h.now.events + 1 = omega arith in t)
+      (recorded_risen g small.few opened h.failed_at h.tried away h.now s.0 r))
+
+  recorded_step : (h : History) (e : Event) (w' : World) → Before h → ((d : ℕ) → away d ≡ true → w'.present d ≡ false) → Happens g h.now e w' → Records (failed_after e w' h.failed_at) (tried_after e h.tried) w'
+  recorded_step h (Event.Begin n p) w' t gone s = subst (Records h.failed_at h.tried) (sym s.5) (rise_recorded h.now n p s.0 s.1 h.failed_at h.tried t.recorded)
+  recorded_step h (Event.Record k) w' t gone s = subst (Records h.failed_at h.tried) (sym s.3) (recorded_recorded g small.few opened h.failed_at h.tried away h.now k s.0 s.2 t.recorded)
+  recorded_step h (Event.StoreMarks k b) w' t gone s = subst (Records h.failed_at h.tried) (sym s.1)
+      (same_supers h.failed_at h.tried h.now (marks_stored h.now k b).stored (λ j. put-same (λ d. d.super) k (marked_device h.now k b) h.now.stored j refl) t.recorded)
+  recorded_step h (Event.WriteMember n k) w' t gone s = subst (Records h.failed_at true) (sym s.2)
+      (same_supers h.failed_at true h.now (member_written h.now n s.0 k).stored (λ j. put-same (λ d. d.super) k (written_device h.now k s.0) h.now.stored j refl)
+      (tried_now h.failed_at h.tried h.now n s.0 k s.1 t.alone t.recorded))
+  recorded_step h (Event.Finish n) w' t gone s = subst (Records h.failed_at h.tried) (sym s.2) t.recorded
+  recorded_step h (Event.ClearIdle c) w' t gone s = subst (Records h.failed_at h.tried) (sym s.1) t.recorded
+  recorded_step h (Event.Fail k) w' t gone s = fails_recorded h.now k (h.now.stored k) w' h.failed_at h.tried (λ own e. e) s.1 t.recorded
+  recorded_step h (Event.RecordFails k) w' t gone s = record_fails h.now k s.0 w' h.failed_at h.tried s.1 s.2 t.recorded
+  recorded_step h (Event.StoreMarksFails k b) w' t gone s =
+      fails_recorded h.now k s.0 w' h.failed_at h.tried (λ own e. sym (ap (λ (d : Stored). d.super) s.2.rest) ∙ e) s.3 t.recorded
+  recorded_step h (Event.WriteMemberFails n k) w' t gone s =
+      fails_recorded h.now k s.0 w' h.failed_at true (λ own e. sym (ap (λ (d : Stored). d.super) s.3.rest) ∙ e) s.4
+      (tried_now h.failed_at h.tried h.now n s.1 k s.2 t.alone t.recorded)
+  recorded_step h (Event.CopyFails k c) w' t gone s =
+      fails_recorded h.now k s.0 w' h.failed_at h.tried (λ own e. sym (ap (λ (d : Stored). d.super) s.3.rest) ∙ e) s.4 t.recorded
+  recorded_step h (Event.Copy from k x) w' t gone s = subst (Records h.failed_at h.tried) (sym s.1)
+      (same_supers h.failed_at h.tried h.now (copied h.now from k x).stored (λ j. put-same (λ d. d.super) k (copied_device h.now from k x) h.now.stored j refl) t.recorded)
+  recorded_step h Event.Resynced w' t gone s = subst (Records h.failed_at h.tried) (sym s.1) t.recorded
+  recorded_step h Event.Unresynced w' t gone s = subst (Records h.failed_at h.tried) (sym s.1) t.recorded
+  recorded_step h Event.MakeClean w' t gone s = subst (Records h.failed_at h.tried) (sym s.3) (recorded_risen g small.few opened h.failed_at h.tried away h.now s.0 t.recorded)
+  recorded_step h (Event.Remove k) w' t gone s = removed_step h k w' t.recorded gone s
+  recorded_step h (Event.Add d left) w' t gone s = added_step h d left w' t.recorded gone s
+  recorded_step h (Event.ReAdd own device left) w' t gone s = taken_back_step h own device left w' t.recorded gone s
+  recorded_step h (Event.Fill k) w' t gone s =
+      target_recorded h k s.0 s.1.target w' s.3 (λ own e. sym (ap (λ (d : Stored). d.super) s.2.rest) ∙ e) t.recorded
+  recorded_step h (Event.Prepare k) w' t gone s =
+      target_recorded h k s.0 s.1.target w' s.3 (λ own e. sym (ap (λ (d : Stored). d.super) s.2.rest) ∙ e) t.recorded
+  recorded_step h (Event.RecordTargetFails k) w' t gone s = subst (Records h.failed_at h.tried) (sym s.1.2)
+      (recorded_left g small.few opened h.failed_at h.tried away h.now k s.0 s.1.0 s.1.1 t.recorded)
+  recorded_step h (Event.Enrol k role listed) w' t gone s = enrolled_step h k role listed w' t.recorded s
+
+  -- a failure takes no role to an absent device
+  fails_alone : (w : World) (k : ℕ) (left : Stored) (w' : World) → ((d : ℕ) → away d ≡ true → w.present d ≡ false) → Fails g w k left w' → IsAlone g away w'
+  fails_alone w k left w' gone f = subst (IsAlone g away) (sym f.3)
+      (λ n p d _ off. by_test (eqb d (w.number k) && nat_lt d w.entries)
+      (λ at low. let t : 65534 < g.raid_disks = subst (λ x. x < g.raid_disks) (ap (λ b. cond b 65534 (role_at_rise g w d)) at) low in let few = small.few in omega arith)
+      (λ no_entry low. absent_none g w d small.few (gone d off) (subst (λ x. x < g.raid_disks) (ap (λ b. cond b 65534 (role_at_rise g w d)) no_entry) low)))
+
+  begun_alone : (w : World) (n : ℕ) (p : Request) (rises full : Bool) → ((d : ℕ) → away d ≡ true → w.present d ≡ false) → ((rises ≡ true) ↔ HasToRise g w) → IsAlone g away (begun g w n p rises full)
+  begun_alone w n p true full gone needed m q d e off low = absent_none g w d small.few (gone d off) low
+  begun_alone w n p false full gone needed m q d e off low = true≢false (sym (needed.1 (inr (d, low, gone d off))))
+
+  alone_step : (w : World) (e : Event) (w' : World) → ((d : ℕ) → away d ≡ true → w.present d ≡ false) → ((d : ℕ) → away d ≡ true → w'.present d ≡ false) → IsAlone g away w → Happens g w e w' → IsAlone g away w'
+  alone_step w (Event.Begin n p) w' gone then t s = subst (IsAlone g away) (sym s.5) (begun_alone w n p s.0 s.1 gone s.3)
+  alone_step w (Event.Record k) w' gone then t s = subst (IsAlone g away) (sym s.3) t
+  alone_step w (Event.StoreMarks k b) w' gone then t s = subst (IsAlone g away) (sym s.1) t
+  alone_step w (Event.WriteMember n k) w' gone then t s = subst (IsAlone g away) (sym s.2) (λ _ _ d _. t n s.0 d s.1.in_flight)
+  alone_step w (Event.Finish n) w' gone then t s = subst (IsAlone g away) (sym s.2) (λ m q d e. t m q d (other_flights w n m q e).1)
+  alone_step w (Event.ClearIdle c) w' gone then t s = subst (IsAlone g away) (sym s.1) t
+  alone_step w (Event.Fail k) w' gone then t s = fails_alone w k (w.stored k) w' gone s.1
+  alone_step w (Event.RecordFails k) w' gone then t s = fails_alone w k s.0 w' gone s.2
+  alone_step w (Event.StoreMarksFails k b) w' gone then t s = fails_alone w k s.0 w' gone s.3
+  alone_step w (Event.WriteMemberFails n k) w' gone then t s = fails_alone w k s.0 w' gone s.4
+  alone_step w (Event.CopyFails k c) w' gone then t s = fails_alone w k s.0 w' gone s.4
+  alone_step w (Event.Copy from k x) w' gone then t s = subst (IsAlone g away) (sym s.1) t
+  alone_step w Event.Resynced w' gone then t s = subst (IsAlone g away) (sym s.1) t
+  alone_step w Event.Unresynced w' gone then t s = subst (IsAlone g away) (sym s.1) t
+  alone_step w Event.MakeClean w' gone then t s = subst (IsAlone g away) (sym s.3) (λ m q d e. absurd (none_some q (sym (s.1.idle m) ∙ e)))
+  alone_step w (Event.Remove k) w' gone then t s = subst (IsAlone g away) (sym s.3) (removed_alone (is_spare (w.state k)))
+    where
+      removed_alone : (spare : Bool) → IsAlone g away (removed g w k spare s.0)
+      removed_alone true n p d e off low = by_test (eqb d (w.number k) && nat_lt d w.entries)
+          (λ at. let t : 65534 < g.raid_disks = subst (λ x. x < g.raid_disks) (ap (λ b. cond b 65534 (role_at_rise g w d)) at) low in let few = small.few in omega arith)
+          (λ no_entry. absent_none g w d small.few (gone d off) (subst (λ x. x < g.raid_disks) (ap (λ b. cond b 65534 (role_at_rise g w d)) no_entry) low))
+      removed_alone false n p d e off low = t n p d e off low
+  alone_step w (Event.Add d left) w' gone then t s = subst (IsAlone g away) (sym s.4) (λ n p e _ off low. put-at d 65535 (role_at_rise g w) e (λ x. x < g.raid_disks → ⊥)
+      (λ _ l. let few = small.few in omega arith) (λ _ l. absent_none g w e small.few (gone e off) l) low)
+  alone_step w (Event.ReAdd own device left) w' gone then t s = subst (IsAlone g away) (sym s.4) (λ n p e _ off low. put-at own.number (own.role own.number) (role_at_rise g w) e (λ x. x < g.raid_disks → ⊥)
+      (λ same l. true≢false (sym (ap (λ (v : World). v.present e) s.4 ∙ or_right (w.present e) (eqb e own.number) (eq-eqb e own.number same)) ∙ then e off)) (λ _ l. absent_none g w e small.few (gone e off) l) low)
+  alone_step w (Event.Fill k) w' gone then t s = subst (IsAlone g away) (sym s.3) t
+  alone_step w (Event.Prepare k) w' gone then t s = subst (IsAlone g away) (sym s.3) t
+  alone_step w (Event.RecordTargetFails k) w' gone then t s = subst (IsAlone g away) (sym s.1.2) t
+  alone_step w (Event.Enrol k role listed) w' gone then t s = subst (IsAlone g away) (sym s.3) (λ m q d e. absurd (none_some q (sym (s.1.rebuild.idle m) ∙ e)))
+
+-- what stays away was away
+still_away : (e : Event) (before : ℕ → Bool) (d : ℕ) → away_after e before d ≡ true → before d ≡ true
+still_away (Event.Add number left) before d x = (and_parts (before d) (not (eqb d number)) x).0
+still_away (Event.ReAdd own device left) before d x = (and_parts (before d) (not (eqb d own.number)) x).0
+still_away (Event.Remove k) before d x = x
+still_away (Event.Begin n p) before d x = x
+still_away (Event.Record k) before d x = x
+still_away (Event.StoreMarks k b) before d x = x
+still_away (Event.WriteMember n k) before d x = x
+still_away (Event.Finish n) before d x = x
+still_away (Event.ClearIdle c) before d x = x
+still_away (Event.Fail k) before d x = x
+still_away (Event.RecordFails k) before d x = x
+still_away (Event.StoreMarksFails k b) before d x = x
+still_away (Event.WriteMemberFails n k) before d x = x
+still_away (Event.CopyFails k c) before d x = x
+still_away (Event.Copy from k s) before d x = x
+still_away Event.Resynced before d x = x
+still_away Event.Unresynced before d x = x
+still_away Event.MakeClean before d x = x
+still_away (Event.Fill k) before d x = x
+still_away (Event.Prepare k) before d x = x
+still_away (Event.RecordTargetFails k) before d x = x
+still_away (Event.Enrol k role listed) before d x = x
+
+-- and no member has its number
+neither : (a b : Bool) → a ≡ false → b ≡ false → (a || b) ≡ false
+neither true b e f = absurd (true≢false e)
+neither false b e f = f
+
+never_both : (a b : Bool) → a ≡ false → (a && b) ≡ false
+never_both true b e = absurd (true≢false e)
+never_both false b e = refl
+
+begun_present : (g : Geometry) (w : World) (n : ℕ) (p : Request) (rises full : Bool) → (begun g w n p rises full).present ≡ w.present
+begun_present g w n p true full = refl
+begun_present g w n p false full = refl
+
+removed_present : (g : Geometry) (w : World) (k : ℕ) (spare full : Bool) (d : ℕ) → (removed g w k spare full).present d ≡ w.present d && not (eqb d (w.number k))
+removed_present g w k true full d = refl
+removed_present g w k false full d = refl
+
+gone_step : (g : Geometry) (w : World) (e : Event) (w' : World) (before : ℕ → Bool) → ((d : ℕ) → before d ≡ true → w.present d ≡ false) → Happens g w e w'
+    → (d : ℕ) → away_after e before d ≡ true → w'.present d ≡ false
+gone_step g w (Event.Begin n p) w' before gone s d x = ap (λ (v : World). v.present d) s.5 ∙ ap (λ (f : ℕ → Bool). f d) (begun_present g w n p s.0 s.1) ∙ gone d x
+gone_step g w (Event.Record k) w' before gone s d x = ap (λ (v : World). v.present d) s.3 ∙ gone d x
+gone_step g w (Event.StoreMarks k b) w' before gone s d x = ap (λ (v : World). v.present d) s.1 ∙ gone d x
+gone_step g w (Event.WriteMember n k) w' before gone s d x = ap (λ (v : World). v.present d) s.2 ∙ gone d x
+gone_step g w (Event.Finish n) w' before gone s d x = ap (λ (v : World). v.present d) s.2 ∙ gone d x
+gone_step g w (Event.ClearIdle c) w' before gone s d x = ap (λ (v : World). v.present d) s.1 ∙ gone d x
+gone_step g w (Event.Fail k) w' before gone s d x = ap (λ (v : World). v.present d) s.1.3 ∙ gone d x
+gone_step g w (Event.RecordFails k) w' before gone s d x = ap (λ (v : World). v.present d) s.2.3 ∙ gone d x
+gone_step g w (Event.StoreMarksFails k b) w' before gone s d x = ap (λ (v : World). v.present d) s.3.3 ∙ gone d x
+gone_step g w (Event.WriteMemberFails n k) w' before gone s d x = ap (λ (v : World). v.present d) s.4.3 ∙ gone d x
+gone_step g w (Event.CopyFails k c) w' before gone s d x = ap (λ (v : World). v.present d) s.4.3 ∙ gone d x
+gone_step g w (Event.Copy from k y) w' before gone s d x = ap (λ (v : World). v.present d) s.1 ∙ gone d x
+gone_step g w Event.Resynced w' before gone s d x = ap (λ (v : World). v.present d) s.1 ∙ gone d x
+gone_step g w Event.Unresynced w' before gone s d x = ap (λ (v : World). v.present d) s.1 ∙ gone d x
+gone_step g w Event.MakeClean w' before gone s d x = ap (λ (v : World). v.present d) s.3 ∙ gone d x
+gone_step g w (Event.Remove k) w' before gone s d x = ap (λ (v : World). v.present d) s.3 ∙ removed_present g w k (is_spare (w.state k)) s.0 d ∙ never_both (w.present d) (not (eqb d (w.number k))) (gone d x)
+gone_step g w (Event.Add number left) w' before gone s d x =
+    let parts = and_parts (before d) (not (eqb d number)) x in
+    ap (λ (v : World). v.present d) s.4 ∙ neither (w.present d) (eqb d number) (gone d parts.0) (not-true (eqb d number) parts.1)
+gone_step g w (Event.ReAdd own device left) w' before gone s d x =
+    let parts = and_parts (before d) (not (eqb d own.number)) x in
+    ap (λ (v : World). v.present d) s.4 ∙ neither (w.present d) (eqb d own.number) (gone d parts.0) (not-true (eqb d own.number) parts.1)
+gone_step g w (Event.Fill k) w' before gone s d x = ap (λ (v : World). v.present d) s.3 ∙ gone d x
+gone_step g w (Event.Prepare k) w' before gone s d x = ap (λ (v : World). v.present d) s.3 ∙ gone d x
+gone_step g w (Event.RecordTargetFails k) w' before gone s d x = ap (λ (v : World). v.present d) s.1.2 ∙ gone d x
+gone_step g w (Event.Enrol k role listed) w' before gone s d x = ap (λ (v : World). v.present d) s.3 ∙ gone d x
+
+-- fewer devices stay away
+narrower : (g : Geometry) (opened : Super) (failed_at : ℕ) (tried : Bool) (away less : ℕ → Bool) (b : Book) → ((d : ℕ) → less d ≡ true → away d ≡ true)
+    → IsRecorded g opened failed_at tried away b → IsRecorded g opened failed_at tried less b
+narrower g opened failed_at tried away less b from r = record {
+  number = r.number;
+  below = r.below;
+  later = r.later;
+  has_super = r.has_super;
+  there = r.there;
+  entries = r.entries;
+  present = r.present;
+  slot = r.slot;
+  gone = λ d off. r.gone d (from d off);
+  distinct = r.distinct;
+  by_memory = r.by_memory;
+  by_opening = r.by_opening;
+  by_super = r.by_super;
+  as_new = r.as_new;
+  stale = r.stale;
+  recovering = r.recovering;
+  clear = r.clear;
+  bit = r.bit;
+  in_memory = r.in_memory;
+  in_opening = r.in_opening;
+  in_super = r.in_super;
+  unrisen = r.unrisen;
+  out_memory = λ d off. r.out_memory d (from d off);
+  out_super = λ j own d e off. r.out_super j own d e (from d off);
+  out_tried = λ d at off. r.out_tried d at (from d off);
+  current = r.current;
+  some_in = r.some_in;
+}
+
+module _ (g : Geometry) (small : IsWithinLimits g) (opened : Super) where
+  pub kept_step : (h : History) (e : Event) (w' : World) → IsKept g opened h → Step g h.now e w' → IsKept g opened (then_in h e w')
+  kept_step h e w' t s =
+      let away = (then_in h e w').away in
+      let from : (d : ℕ) → away d ≡ true → h.away d ≡ true = λ d. still_away e h.away d in
+      let gone : (d : ℕ) → away d ≡ true → w'.present d ≡ false = gone_step g h.now e w' h.away t.recorded.gone s.1 in
+      let r = narrower g opened h.failed_at h.tried h.away away (book_of h.now) from t.recorded in
+      let alone : IsAlone g away h.now = λ n p d e off. t.alone n p d e (from d off) in
+      record {
+        tracked = tracked_step g small h.now e w' t.tracked s.1;
+        recorded = recorded_step g small opened away h e w' (record { recorded = r; alone = alone }) gone s.1;
+        alone = alone_step g small opened away h.now e w' r.gone gone alone s.1;
+      }
+
+  pub kept_run : (es : List Event) (h last : History) → IsKept g opened h → Run g h es last → IsKept g opened last
+  kept_run [] h last t r = subst (IsKept g opened) (sym r) t
+  kept_run (e ∷ es) h last t r = kept_run es (then_in h e r.0) last (kept_step h e r.0 t r.1) r.2
