@@ -33,14 +33,11 @@ pub(crate) fn advice(fault: &CommandFault) -> &'static str {
         CommandFault::MetadataFault(_) | CommandFault::Open(OpenFault::MetadataFault(_)) => {
             "see why the device can't be written (`dmesg`, free space, write protection); run the command again, which begins anew"
         }
-        CommandFault::Rebuild(RebuildFault::NotSpare) => {
-            "`detail` shows the state of each member: a recovering one can be rebuilt, and a spare where a role is free"
-        }
+        CommandFault::Rebuild(fault) => rebuild_advice(*fault),
         CommandFault::Data(fault) => data_advice(*fault),
         CommandFault::OutputFault => ANOTHER_OUTPUT,
         CommandFault::Create(CreateFault::NoMemory)
         | CommandFault::Open(OpenFault::NoMemory)
-        | CommandFault::Rebuild(RebuildFault::NoMemory)
         | CommandFault::NoMemory => MORE_MEMORY,
     }
 }
@@ -128,6 +125,19 @@ fn resync_advice(fault: ResyncFault) -> &'static str {
         ResyncFault::Halted => SEE_DEVICE,
         ResyncFault::InFlight(_) => AGAIN,
         ResyncFault::NoMemory => MORE_MEMORY,
+    }
+}
+
+fn rebuild_advice(fault: RebuildFault) -> &'static str {
+    match fault {
+        RebuildFault::NotSpare => {
+            "`detail` shows the state of each member: a recovering one can be rebuilt, and a spare where a role is free"
+        }
+        RebuildFault::Dirty => RESYNC_FIRST,
+        RebuildFault::EventsFull => NEW_ARRAY,
+        RebuildFault::Halted => SEE_DEVICE,
+        RebuildFault::InFlight(_) => AGAIN,
+        RebuildFault::NoMemory => MORE_MEMORY,
     }
 }
 

@@ -28,7 +28,7 @@ use Rattle.md_state.specs.Missing.{is_missing, is_rebuilt}
 use Rattle.md_state.specs.Trying.{Refuses}
 use Rattle.md_state.specs.View.{ArrayView, Disk, MirrorView, of_disks}
 use Rattle.md_array.specs.Recording.{IsReadable, write_of}
-use Rattle.md_array.specs.Worlds.{from_super}
+use Rattle.md_array.specs.Worlds.{AreHonest, from_super}
 
 -- ---- its conditions
 -- Where the array's content is held: each member in sync holds it in each sector that it does not list.
@@ -56,7 +56,7 @@ pub record MayEnrol (k : ℕ) (copied orphans : Bitmap) (v : MirrorView) : Type 
   pub disjoint : (c : ℕ) → c < v.array.marks.chunks → is_set copied.bytes c ≡ true → is_set orphans.bytes c ≡ false
   pub cover : (c : ℕ) → c < v.array.marks.chunks → is_missing v.array member c ≡ true → (is_set copied.bytes c ≡ true) ⊎ (is_set orphans.bytes c ≡ true)
   pub only : (c : ℕ) → c < v.array.marks.chunks → (is_set copied.bytes c ≡ true) ⊎ (is_set orphans.bytes c ≡ true) → is_missing v.array member c ≡ true
-  pub holds : HoldsCopied v.disks v.array k copied
+  pub holds : AreHonest v.disks → HoldsCopied v.disks v.array k copied  -- what a device holds that isn't honest, no caller can know
 
 -- ---- what is written
 -- a list is stored in the log that a superblock names, where it names one

@@ -14,7 +14,7 @@ use Rattle.md_state.specs.Members.{IsMember}
 use Rattle.md_copy.specs.Sources.{IsTableOf}
 use Rattle.md_copy.specs.Targets.{IsTarget}
 use Rattle.md_copy.specs.declared.fault.RebuildFault.{RebuildFault}
-use Rattle.md_copy.specs.declared.fault.RebuildFault.TheVariants.{NotSpare, NoMemory}
+use Rattle.md_copy.specs.Beginning.{RefusesTable}
 use Rattle.md_commands.specs.declared.fault.DataFault.TheVariants.{BadMember}
 use Rattle.md_report.specs.PlanReport.{plan_text}
 use Rattle.md_advice.specs.declared.fault.CommandFault.{CommandFault}
@@ -45,8 +45,7 @@ pub record IsPlanText (a : ArrayView) (k : ℕ) (text : List ℕ) : Type 0 where
 
 -- why there is none: the array has no member k; the member may not be rebuilt; or there is no memory
 abbrev pub RefusesTarget : ArrayView → ℕ → RebuildFault → Type 0
-RefusesTarget a k NotSpare = (m : MemberView) × IsMember a k m × (IsTarget a m → ⊥)
-RefusesTarget a k NoMemory = (m : MemberView) × IsMember a k m × IsTarget a m
+RefusesTarget a k fault = (m : MemberView) × IsMember a k m × RefusesTable a m fault
 
 abbrev pub RefusesPlan : ArrayView → ℕ → CommandFault → Type 0
 RefusesPlan a k (Data BadMember) = length a.members ≤ k

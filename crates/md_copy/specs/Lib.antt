@@ -2,3 +2,7 @@
 pub mod Sources
 -- Which members may be rebuilt (this project's own rule, after md_start_sync and remove_and_add_spares of md.c).
 pub mod Targets
+-- Whether a rebuild of a member may begin, and the first reason why it may not (this project's own order).
+pub mod Beginning
+-- The sources of a plan: the members from which its chunks are read.
+pub mod RebuildSources

@@ -1,5 +1,5 @@
 // The table of a rebuild.
-ghost use Rattle.std.specs.Prelude.{◌≡◌, ◌↔◌, ◌^◌, ◌<◌, ◌≤◌, ℕ, length, true, IfOk, IsErrOf};
+ghost use Rattle.std.specs.Prelude.{◌≡◌, ◌↔◌, ◌^◌, ◌<◌, ◌≤◌, ℕ, length, true, IfOk, IfErr};
 ghost use Rattle.std.specs.Int.{bit_at, div_ceil};
 ghost use Rattle.md_kept_members.specs.View.{MemberView};
 ghost use Rattle.md_kept_members.specs.Permitting.{ListsAny};
@@ -9,6 +9,7 @@ ghost use Rattle.md_array.specs.Consistency.{IsConsistent};
 ghost use Rattle.md_bitmap.specs.Marks.{is_set};
 ghost use Rattle.md_copy.specs.Sources.{HasSources, IsInSyncAs, IsTableOf, is_missing};
 ghost use Rattle.md_copy.specs.Targets.{IsTarget};
+ghost use Rattle.md_copy.specs.Beginning.{RefusesTable};
 
 use crate::fault::RebuildFault;
 use crate::in_sync::roles_in_sync;
@@ -33,9 +34,9 @@ pub fn table<D: Device + Drop>(
         → IfOk result (IsTableOf mirror.now.array m) }
     ensures few { IfOk result (λ rows. length rows ≤ 2 ^ 20) }
     ensures accepted { (m : MemberView) → IsMember mirror.now.array target m
-        → (IsErrOf result RebuildFault.NotSpare → ⊥) → IsTarget mirror.now.array m }
-    ensures not_spare { (m : MemberView) → IsMember mirror.now.array target m
-        → IsErrOf result RebuildFault.NotSpare → IsTarget mirror.now.array m → ⊥ }
+        → IfOk result (λ _. IsTarget mirror.now.array m) }
+    ensures refused { (m : MemberView) → IsMember mirror.now.array target m
+        → IfErr result (RefusesTable mirror.now.array m) }
 {
     if !is_target(mirror, target) {
         return Err(RebuildFault::NotSpare);

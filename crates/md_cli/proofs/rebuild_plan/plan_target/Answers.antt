@@ -1,6 +1,5 @@
-use Rattle.std.proofs.Common.{rules, ◌≡◌, Err, refl}
+use Rattle.std.proofs.Common.{rules, ◌≡◌, Err}
 use Rattle.md_copy.specs.declared.fault.RebuildFault.TheVariants.{NoMemory}
-use Rattle.md_cli.proofs.Planned.{refuses_target}
 use Rattle.md_cli.proofs.rebuild_plan.plan_target.Goals as goal
 use Rattle.md_assembly.proofs.Indices.{got_within}
 
@@ -10,13 +9,13 @@ returns-in_err-missing g c =
     let at = got_within a.members c.args.target c.requires.within in
     let fault = c.in_err-missing.field-0.0 in
     let is : c.from_residual.result ≡ Err fault = search rules in
-    rw is (refuses_target a c.args.target at.0 (Err fault) fault refl at.1 (c.in_err-missing.ensures.accepted at.0 at.1) (c.in_err-missing.ensures.not_spare at.0 at.1))
+    rw is (at.0, at.1, c.in_err-missing.ensures.refused at.0 at.1)
 
 pub returns-in_err-plan : goal.returns-in_err-plan
 returns-in_err-plan g c =
     let at = got_within c.args.mirror.now.array.members c.args.target c.requires.within in
     let is : c.from_residual-in_err-plan.result ≡ Err NoMemory = search rules in
-    rw is (at.0, at.1, c.in_ok-missing.ensures.accepted at.0 at.1 (λ other. absurd cc))
+    rw is (at.0, at.1, c.in_ok-missing.ensures.accepted at.0 at.1)
 
 pub returns : goal.returns
 returns g c =
@@ -24,7 +23,7 @@ returns g c =
     record {
       member = at.0;
       listed = at.1;
-      target = c.in_ok-missing.ensures.accepted at.0 at.1 (λ other. absurd cc);
+      target = c.in_ok-missing.ensures.accepted at.0 at.1;
       plans = record {
         table = c.in_ok-missing.missing;
         table_is = c.in_ok-missing.ensures.ok at.0 at.1;

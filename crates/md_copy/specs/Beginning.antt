@@ -1,0 +1,59 @@
+-- Whether a rebuild of a member may begin, and the first reason why it may not (this project's own order).
+use Rattle.std.specs.Prelude.{◌≡◌, ℕ, true, false, Some}
+use Rattle.md_kept_members.specs.View.{MemberView}
+use Rattle.md_state.specs.View.{ArrayView}
+use Rattle.md_state.specs.MakingClean.{IsIdle, first_number}
+use Rattle.md_state.specs.Rising.{HasSpentEvents}
+use Rattle.md_copy.specs.declared.fault.RebuildFault.{RebuildFault}
+use Rattle.md_copy.specs.declared.fault.RebuildFault.TheVariants.{Halted, NotSpare, Dirty, InFlight, NoMemory, EventsFull}
+use Rattle.md_copy.specs.Targets.{IsTarget}
+
+-- the mirror runs, and the member may be rebuilt
+pub record HasTarget (a : ArrayView) (m : MemberView) : Type 0 where
+  pub running : a.halted ≡ false
+  pub target : IsTarget a m
+
+-- members in sync agree, too
+pub record IsSettled (a : ArrayView) (m : MemberView) : Type 0 where
+  pub has_target : HasTarget a m
+  pub resynced : a.resynced ≡ true
+
+-- and nothing is in flight, and the count can rise, as it does when the member comes into sync
+pub record MayRebuild (a : ArrayView) (m : MemberView) : Type 0 where
+  pub settled : IsSettled a m
+  pub idle : IsIdle a
+  pub unspent : HasSpentEvents a → ⊥
+
+-- ---- the first that is lacking
+pub record LacksTarget (a : ArrayView) (m : MemberView) : Type 0 where
+  pub running : a.halted ≡ false
+  pub none : IsTarget a m → ⊥
+
+pub record IsDirty (a : ArrayView) (m : MemberView) : Type 0 where
+  pub has_target : HasTarget a m
+  pub not_yet : a.resynced ≡ false
+
+-- the request of this number is in flight, and is the first in the list
+pub record IsBusy (number : ℕ) (a : ArrayView) (m : MemberView) : Type 0 where
+  pub settled : IsSettled a m
+  pub first : first_number a ≡ Some number
+
+pub record IsSpent (a : ArrayView) (m : MemberView) : Type 0 where
+  pub settled : IsSettled a m
+  pub idle : IsIdle a
+  pub spent : HasSpentEvents a
+
+-- no check gives NoMemory
+abbrev pub CannotRebuild : ArrayView → MemberView → RebuildFault → Type 0
+CannotRebuild a m Halted = a.halted ≡ true
+CannotRebuild a m NotSpare = LacksTarget a m
+CannotRebuild a m Dirty = IsDirty a m
+CannotRebuild a m (InFlight number) = IsBusy number a m
+CannotRebuild a m NoMemory = ⊥
+CannotRebuild a m EventsFull = IsSpent a m
+
+-- why there is no table of what the member lacks: it may not be rebuilt; or it may, and memory was refused
+abbrev pub RefusesTable : ArrayView → MemberView → RebuildFault → Type 0
+RefusesTable a m NotSpare = IsTarget a m → ⊥
+RefusesTable a m NoMemory = IsTarget a m
+RefusesTable a m _ = ⊥

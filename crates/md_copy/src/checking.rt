@@ -1,0 +1,37 @@
+// What is checked of a rebuild before any device is used.
+ghost use Rattle.std.specs.Prelude.{◌<◌, MatchResult, length};
+ghost use Rattle.md_kept_members.specs.View.{MemberView};
+ghost use Rattle.md_state.specs.Members.{IsMember};
+ghost use Rattle.md_copy.specs.Beginning.{CannotRebuild, MayRebuild};
+
+use crate::fault::RebuildFault;
+use crate::target::is_target;
+use md_array::Mirror;
+use md_device::Device;
+
+/// Whether a rebuild of the target may begin. The fault is the first in the order of `RebuildFault`.
+pub(crate) fn check_rebuild<D: Device + Drop>(
+    mirror: &Mirror<D>,
+    target: usize,
+) -> Result<(), RebuildFault>
+    requires { target < length mirror.now.array.members }
+    ensures { (m : MemberView) → IsMember mirror.now.array target m
+        → MatchResult result (λ _. MayRebuild mirror.now.array m) (CannotRebuild mirror.now.array m) }
+{
+    if mirror.halted() {
+        return Err(RebuildFault::Halted);
+    }
+    if !is_target(mirror, target) {
+        return Err(RebuildFault::NotSpare);
+    }
+    if !mirror.resynced() {
+        return Err(RebuildFault::Dirty);
+    }
+    if let Some(number) = mirror.in_flight() {
+        return Err(RebuildFault::InFlight(number));
+    }
+    if mirror.events() == u64::MAX {
+        return Err(RebuildFault::EventsFull);
+    }
+    Ok(())
+}
