@@ -1,5 +1,5 @@
 // A member that was rebuilt comes into sync.
-ghost use Rattle.std.specs.Prelude.{◌≡◌, ◌≤◌, ◌≤ℤ◌, ◌+ℤ◌, ◌×◌, pos, ℕ, MatchResult, OnOk, true};
+ghost use Rattle.std.specs.Prelude.{◌≡◌, ◌≤◌, ◌≤ℤ◌, ◌+ℤ◌, pos, ℕ, MatchResult, OnOk, true};
 ghost use Rattle.md_super.specs.Merge.{merged};
 ghost use Rattle.md_members.specs.Reading.{BitmapStartsAt, LogStartsAt};
 ghost use Rattle.md_writes.specs.Writes.{MakesWrites};
