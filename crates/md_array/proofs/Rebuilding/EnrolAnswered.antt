@@ -23,7 +23,7 @@ use Rattle.md_array.specs.Consistency.{IsConsistent}
 use Rattle.md_array.specs.Enrolling.{Enrols, FailsToEnrol, IsStorable, IsUsedAlone, KeepsData, member_writes}
 use Rattle.md_array.specs.Recording.{IsReadable}
 use Rattle.md_array.proofs.General.Indices.{got_other}
-use Rattle.md_array.proofs.Rebuilding.MemberEnrolled.{storable}
+use Rattle.md_array.proofs.Rebuilding.EnrolledArray.{storable}
 use Rattle.md_array.proofs.Steps.OneWrite.{at_device, here}
 
 -- ---- before anything is written
