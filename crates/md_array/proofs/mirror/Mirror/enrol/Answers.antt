@@ -9,6 +9,7 @@ use Rattle.md_state.specs.Joining.{joined_shared}
 use Rattle.md_state.specs.View.{ArrayView, MirrorView, disk_of}
 use Rattle.md_array.specs.Consistency.{IsConsistent}
 use Rattle.md_array.specs.Enrolling.{Enrols, FailsToEnrol}
+use Rattle.md_array.specs.declared.mirror.Mirror.TheInside.{Inside}
 use Rattle.md_array.proofs.General.Answered.{err_of, ok_gives, ok_of}
 use Rattle.md_array.proofs.Steps.OneWrite.{here, within_devices}
 use Rattle.md_array.proofs.Rebuilding.MemberEnrolled.{enrolled_is_consistent, enrolled_read}
@@ -29,7 +30,7 @@ header_under-header-requires g c =
     header_sound c.args.k c.in_ok-role.role c.args.copied.now c.args.orphans.now v (subst IsConsistent (sym c.self.view_is) c.requires.sound) c.in_ok-member.member c.in_ok-member.ensures
 
 pub index_mut-requires : goal.index_mut-requires
-index_mut-requires g c = on_device g (goal.at.index_mut-requires g c).After-header_under-header
+index_mut-requires g c = omega (arith, on_device g (goal.at.index_mut-requires g c).After-header_under-header)
 
 pub store_member-requires : goal.store_member-requires
 store_member-requires g c =
@@ -57,8 +58,10 @@ header g c =
     let told = told_full g c in
     let since : c.if-full.cleared ≡ cond c.is_full_with-full.result c.in-Ok.shared.events a.events_cleared =
     elim c.if-full.branch [
-      | then-full w ↦ ?
-      | else-full w ↦ ?
+      | then-full w ↦ w.cleared-is ∙ ap (λ full. cond full c.in-Ok.shared.events a.events_cleared) (sym w.if-full.true)
+      | else-full w ↦
+          w.cleared-is ∙ ap (λ (x : Inside g.row.D.Denot). x.array.events_cleared) w.self-inside.view_is
+          ∙ ap (λ full. cond full c.in-Ok.shared.events a.events_cleared) (sym w.if-full.false)
     ] in
     header_enrolled a c.args.k c.in_ok-role.role n c.header_under-header.result c.in-Ok.shared.events c.if-full.cleared count
     (since ∙ (λ i. cond (told i) (count i) a.events_cleared)) c.header_under-header.ensures
