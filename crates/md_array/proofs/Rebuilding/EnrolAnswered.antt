@@ -1,5 +1,5 @@
 -- What `enrol` answers, by what was stored on the device.
-use Rattle.std.proofs.Common.{◌≡◌, ℕ, ◌+◌, ◌<◌, ◌≤◌, ◌++◌, ◌∷◌, [], Bool, false, cond, List, get_or, length, length-set, map, set, slice_get, Some, refl, sym, ap, ◌∙◌, subst, arith}
+use Rattle.std.proofs.Common.{◌≡◌, ℕ, ◌+◌, ◌<◌, Bool, cond, List, get_or, length, length-set, map, set, slice_get, Some, sym, ap, ◌∙◌, subst, arith}
 use Rattle.std.proofs.lemmas.List.{map-set}
 use Rattle.std.proofs.lemmas.Option.{slice_get_within}
 use Rattle.md_device.specs.declared.device.Device.{Ghosts}
@@ -17,7 +17,6 @@ use Rattle.md_kept_members.specs.View.{MemberView}
 use Rattle.md_state.specs.Enrolling.{ComesWith, MayTakeRole, enrolled, is_full_with}
 use Rattle.md_state.specs.Headers.{IsHeaderFor}
 use Rattle.md_state.specs.Joining.{joined_shared}
-use Rattle.md_state.specs.Members.{IsMember}
 use Rattle.md_state.specs.View.{ArrayView, Disk, MirrorView, disk_of, of_disks}
 use Rattle.md_array.specs.Consistency.{IsConsistent}
 use Rattle.md_array.specs.Enrolling.{Enrols, FailsToEnrol, IsStorable, IsUsedAlone, KeepsData, member_writes}

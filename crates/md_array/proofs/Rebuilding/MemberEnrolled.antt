@@ -1,66 +1,31 @@
 -- A member that was rebuilt comes into sync: the mirror stays consistent, and an opening reads what is kept.
-use Rattle.std.proofs.Common.{◌≡◌, ◌≢◌, ℕ, ◌+◌, ◌*◌, ◌^◌, ◌/◌, ◌<◌, ◌≤◌, ◌↔◌, inl, inr, Bool, true, false, cond, not, ◌&&◌, ◌==◌, bit_and, nat_lt, pos, ltb-true, lt-ltb, true≢false, List, [], ◌∷◌, length, length-set, map, set, slice_get, Option, Some, None, Result, Ok, Err, refl, sym, ap, ◌∙◌, subst, arith, eq-eqb, eqb-true}
-use Rattle.std.specs.Prelude.{MatchResult}
-use Rattle.std.specs.Ordering.{int_eq}
-use Rattle.std.proofs.lemmas.Bool.{and_from, and_parts, cases_lt}
-use Rattle.std.proofs.lemmas.Bool.Decides.{nat_tests}
-use Rattle.std.proofs.lemmas.List.{get_or_past, length-map}
-use Rattle.std.proofs.lemmas.List.FromFn.{length-map-range_with_len}
-use Rattle.std.proofs.lemmas.Option.{same_Some, slice_get_within}
-use Rattle.md_device.specs.Splice.{part}
-use Rattle.md_format.specs.Fields.{number_at}
+use Rattle.std.proofs.Common.{◌≡◌, ℕ, ◌+◌, ◌/◌, inl, true, not, map, slice_get, Some, refl, sym, ap, ◌∙◌, subst, arith}
+use Rattle.std.proofs.lemmas.Option.{slice_get_within}
 use Rattle.md_super.specs.declared.superblock.Superblock.{Superblock}
-use Rattle.md_super.specs.Log.{has_bad_block_log}
 use Rattle.md_super.specs.Merge.{merged}
-use Rattle.md_super.proofs.Order.{sound_without_fault}
-use Rattle.md_super.proofs.RoleLists.{length-roles_in}
 use Rattle.md_bitmap.specs.declared.header.BitmapHeader.{BitmapHeader}
 use Rattle.md_bitmap.specs.Marks.{Bitmap}
-use Rattle.md_bitmap.specs.Sound.{IsSound}
-use Rattle.md_badblocks.specs.declared.run.Run.{Run}
-use Rattle.md_badblocks.specs.Log.{log_bytes, named_runs}
-use Rattle.md_badblocks.specs.Runs.{IsBad, IsCanonical}
-use Rattle.md_badblocks.proofs.Written.{log_read}
-use Rattle.md_members.specs.Areas.{IsPlaced, bitmap_sectors, has_bad_blocks, has_bitmap}
-use Rattle.md_members.specs.Members.{reads_log, sectors_of}
-use Rattle.md_model.specs.Sectors.{put}
-use Rattle.md_model.proofs.Cases.{by_test}
-use Rattle.md_model.proofs.Puts.{by_same, put-hit, put-miss}
-use Rattle.md_assembly.specs.declared.state.MemberState.{MemberState}
-use Rattle.md_assembly.specs.declared.state.MemberState.TheVariants.{InSync, Recovering, Stale, Spare, Faulty}
-use Rattle.md_assembly.specs.States.{is_in_sync, is_recorded, role_in, takes_role}
+use Rattle.md_model.proofs.Puts.{by_same}
+use Rattle.md_assembly.specs.States.{is_recorded}
 use Rattle.md_assembly.proofs.Indices.{got_same, got_within}
-use Rattle.md_writes.specs.Writes.{DoesWrites, after}
-use Rattle.md_requests.specs.Pending.{PendingView}
-use Rattle.md_kept_members.specs.Enrolling.{HasRoomFor, in_sync_superblock, log_room}
+use Rattle.md_writes.specs.Writes.{after}
+use Rattle.md_kept_members.specs.Enrolling.{HasRoomFor}
 use Rattle.md_kept_members.specs.Members.{made_due}
 use Rattle.md_kept_members.specs.View.{MemberView}
-use Rattle.md_faults.specs.declared.enrol_fault.EnrolFault.{EnrolFault}
-use Rattle.md_faults.specs.declared.enrol_fault.EnrolFault.TheVariants as fault
-use Rattle.md_state.specs.Enrolling.{ComesWith, GetsRole, enrolled}
-use Rattle.md_state.specs.InMemory.{HasChunks, HasRoles}
-use Rattle.md_state.specs.Joining.{entries_with, joined_roles, role_after}
-use Rattle.md_state.specs.MakingClean.{first_number}
-use Rattle.md_state.specs.Members.{IsMember, is_degraded}
-use Rattle.md_state.specs.ReAdding.{is_taken}
-use Rattle.md_state.specs.Requests.{IsPending}
-use Rattle.md_state.specs.Rising.{risen}
-use Rattle.md_state.specs.View.{ArrayView, Disk, MirrorView, of_disks}
-use Rattle.md_array.specs.Consistency.{HasPlaces, HasSuper, IsConsistent}
-use Rattle.md_array.specs.Enrolling.{AreEnrolWrites, Enrols, FailsToEnrol, IsStorable, IsUsedAlone, MayEnrol, RefusesEnrol}
-use Rattle.md_array.specs.Fits.{Fits, FitsMember}
+use Rattle.md_state.specs.Enrolling.{GetsRole, enrolled}
+use Rattle.md_state.specs.Joining.{entries_with, joined_roles}
+use Rattle.md_state.specs.Members.{is_degraded}
+use Rattle.md_state.specs.View.{ArrayView, Disk, MirrorView}
+use Rattle.md_array.specs.Consistency.{HasSuper, IsConsistent}
+use Rattle.md_array.specs.Enrolling.{AreEnrolWrites, Enrols}
 use Rattle.md_array.specs.ReadAsKept.{AreReadAsKept, IsReadAsKept}
 use Rattle.md_array.specs.Recording.{IsReadable}
-use Rattle.md_array.specs.Worlds.{AreHonest, block_on, from_super, is_listed, is_listed_next, is_logged, lies_in, super_in, super_of}
-use Rattle.md_array.proofs.General.Indices.{any_at, at_map, at_set_same, got_in_map, got_other}
+use Rattle.md_array.specs.Worlds.{AreHonest}
+use Rattle.md_array.proofs.General.Indices.{at_map}
 use Rattle.md_array.proofs.General.Replaced.{of_set}
-use Rattle.md_array.proofs.Steps.MadeClean.{none_listed}
-use Rattle.md_array.proofs.Steps.SuperRecorded.{listed_written, readable_super}
-use Rattle.md_array.proofs.Worlds.Bad.{bad_from_test, test_from_bad}
-use Rattle.md_array.proofs.Worlds.Joined.{role_joined}
 use Rattle.md_array.proofs.Worlds.ReadAsKept.{IsSameArray, kept_in, own_written}
 use Rattle.md_array.proofs.Worlds.Risen.{risen_is_consistent}
-use Rattle.md_array.proofs.Rebuilding.MemberStored.{HoldsMember, bitmap_in_sync, holds_member, none_bad, placed_in_sync, some_bad}
+use Rattle.md_array.proofs.Rebuilding.MemberStored.{HoldsMember, holds_member}
 use Rattle.md_array.proofs.Rebuilding.EnrolledArray.{TakesRole, chunks_enrolled, few_entries, fits_enrolled, roles_enrolled, storable, super_enrolled, takes_by}
 
 -- ---- the mirror, once it is in sync

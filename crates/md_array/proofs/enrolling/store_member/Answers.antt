@@ -1,4 +1,4 @@
-use Rattle.std.proofs.Common.{◌≡◌, ℕ, ◌*◌, ◌++◌, ◌∷◌, [], length, subst}
+use Rattle.std.proofs.Common.{ℕ, ◌*◌, ◌++◌, ◌∷◌, [], subst}
 use Rattle.md_device.specs.Splice.{SameOutside}
 use Rattle.md_members.specs.Areas.{bitmap_sectors}
 use Rattle.md_members.specs.Members.{sectors_of}
