@@ -53,9 +53,7 @@ impl<D: Device + Drop> Mirror<D> {
         } else {
             self.array.events_cleared
         };
-        let header = self
-            .array
-            .header_under(&member, shared.events, cleared);
+        let header = self.array.header_under(&member, shared.events, cleared);
         if store_member(&mut self.devices[k], &header, &shared, &member).is_err() {
             return Err(EnrolFault::TargetFault);
         }

@@ -257,4 +257,3 @@ module _ (disks now : List Disk) (a : ArrayView) (c : IsConsistent (record { dis
               (sym (listed sector ∙ ap (λ (o : Superblock). is_listed_next o e.content sector) superblock))
               (subst (λ (runs : List Run). (is_listed_next (in_sync_superblock list v) e.content sector ≡ true) ↔ IsBad runs sector) (sym bad) next);
         }
-

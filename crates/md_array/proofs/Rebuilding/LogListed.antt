@@ -36,8 +36,8 @@ pub listed_enrolled : (v : Superblock) (list : List Run) (content : List ℕ) �
 unfolding is_listed_next
 listed_enrolled v [] content canonical room log sector = (
   (λ e.
-  let own = in_sync_superblock [] v in
-  absurd (true≢false (sym (and_parts (has_bad_blocks own) (has_bad_block_log v) (and_parts (reads_log own) _ e).0).0 ∙ none_bad v))),
+      let own = in_sync_superblock [] v in
+      absurd (true≢false (sym (and_parts (has_bad_blocks own) (has_bad_block_log v) (and_parts (reads_log own) _ e).0).0 ∙ none_bad v))),
   (λ h. absurd h),
 )
 listed_enrolled v (run ∷ runs) content canonical room log sector =
@@ -50,11 +50,11 @@ listed_enrolled v (run ∷ runs) content canonical room log sector =
     let same : is_logged content (from_super v.bblog_offset) v.bblog_size 0 sector ≡ of (log_bytes list (log_room v)) = ap of (log there) in
     let written = named_runs 0 (log_bytes list (log_room v)) in (
       (λ e.
-      let p = and_parts (nat_lt sector (2 ^ 54)) (lies_in written sector) (sym same ∙ (and_parts (reads_log own) _ e).1) in
-      named.1 (bad_from_test written sector p.1, ltb-true sector (2 ^ 54) p.0)),
+          let p = and_parts (nat_lt sector (2 ^ 54)) (lies_in written sector) (sym same ∙ (and_parts (reads_log own) _ e).1) in
+          named.1 (bad_from_test written sector p.1, ltb-true sector (2 ^ 54) p.0)),
       (λ h.
-      let p = named.0 h in
-      and_from (reads_log own) _ reads (same ∙ and_from (nat_lt sector (2 ^ 54)) (lies_in written sector) (lt-ltb sector (2 ^ 54) p.1) (test_from_bad written sector p.0))),
+          let p = named.0 h in
+          and_from (reads_log own) _ reads (same ∙ and_from (nat_lt sector (2 ^ 54)) (lies_in written sector) (lt-ltb sector (2 ^ 54) p.1) (test_from_bad written sector p.0))),
     )
 
 -- a log is the same by any superblock that places it so
@@ -66,4 +66,3 @@ logged v own list bad size offset same content log has =
     (λ i. part content (512 * from_super (sym offset i)) (512 * sym size i))
     ∙ log (there ∙ has)
     ∙ (λ i. log_bytes (same i) (cond (there i) (64 * size i) 0))
-

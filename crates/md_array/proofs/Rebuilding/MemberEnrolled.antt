@@ -134,4 +134,3 @@ module _ (k : ℕ) (copied orphans : Bitmap) (old new : MirrorView) (c : IsConsi
       let d = got_within old.disks k (omega arith) in
       (r.disks.change d.0 e d.1 now).0.kept.honest_kept ∙ honest k d.0 d.1)
       (λ apart. honest j e (sym (r.disks.others j apart) ∙ found))
-

@@ -36,11 +36,13 @@ returns-in_err-store_bitmap-clause-writes g c =
     let s = c.bitmap_start-start.result in
     let was = c.args.device.now in
     let now = c.store_bitmap.new.device in
-    let stopped = subst (λ (m : MemberView). FailsInWrites g.D.Device (bitmap_writes s h m.stored (bitmap_sectors m.stored.chunks)) was now) c.member.view_is c.in_err-store_bitmap.ensures.writes in
-    (s, starts g at,
-    stops_any g.D.Device (member_writes s h v n) was now c.from_residual.result
-    (stops_front g.D.Device (bitmap_writes s h n.stored (bitmap_sectors n.stored.chunks)) (log_writes n.superblock n.bad ++ write_of v n ∷ []) was now stopped)
-    c.from_residual.ensures.0)
+    let stopped = subst (λ (m : MemberView). FailsInWrites g.D.Device (bitmap_writes s h m.stored (bitmap_sectors m.stored.chunks)) was now) c.member.view_is c.in_err-store_bitmap.ensures.writes in (
+      s,
+      starts g at,
+      stops_any g.D.Device (member_writes s h v n) was now c.from_residual.result
+          (stops_front g.D.Device (bitmap_writes s h n.stored (bitmap_sectors n.stored.chunks)) (log_writes n.superblock n.bad ++ write_of v n ∷ []) was now stopped)
+          c.from_residual.ensures.0,
+    )
 
 pub returns-in_err-store_bitmap-clause-data : goal.returns-in_err-store_bitmap-clause-data
 returns-in_err-store_bitmap-clause-data g c = beside_bitmap g (goal.at.returns-in_err-store_bitmap-clause-data g c).After-store_bitmap
@@ -57,12 +59,14 @@ returns-in_err-store_log-clause-writes g c =
     let was = c.args.device.now in
     let marked = c.store_bitmap.new.device in
     let now = c.store_log.new.device in
-    let made = subst (λ (m : MemberView). DoesWrites g.D.Device (bitmap_writes s h m.stored (bitmap_sectors m.stored.chunks)) was marked) c.member.view_is c.in_ok-store_bitmap.ensures.writes in
-    (s, starts g at,
-    stops_any g.D.Device (member_writes s h v n) was now c.from_residual-in_err-store_log.result
-    (stops_then g.D.Device bitmap (log ++ write_of v n ∷ []) was marked now made
-    (stops_front g.D.Device log (write_of v n ∷ []) marked now c.in_err-store_log.ensures.writes))
-    c.from_residual-in_err-store_log.ensures.0)
+    let made = subst (λ (m : MemberView). DoesWrites g.D.Device (bitmap_writes s h m.stored (bitmap_sectors m.stored.chunks)) was marked) c.member.view_is c.in_ok-store_bitmap.ensures.writes in (
+      s,
+      starts g at,
+      stops_any g.D.Device (member_writes s h v n) was now c.from_residual-in_err-store_log.result
+          (stops_then g.D.Device bitmap (log ++ write_of v n ∷ []) was marked now made
+          (stops_front g.D.Device log (write_of v n ∷ []) marked now c.in_err-store_log.ensures.writes))
+          c.from_residual-in_err-store_log.ensures.0,
+    )
 
 pub returns-in_err-store_log-clause-data : goal.returns-in_err-store_log-clause-data
 returns-in_err-store_log-clause-data g c =
@@ -83,10 +87,12 @@ returns-clause-writes g c =
     let marked = c.store_bitmap.new.device in
     let listed = c.store_log.new.device in
     let now = c.store_superblock.new.device in
-    let made = subst (λ (m : MemberView). DoesWrites g.D.Device (bitmap_writes s h m.stored (bitmap_sectors m.stored.chunks)) was marked) c.member.view_is c.in_ok-store_bitmap.ensures.writes in
-    (s, starts g at,
-    does_any g.D.Device bitmap (log ++ write_of v n ∷ []) was marked now c.store_superblock.result made
-    (does_any g.D.Device log (write_of v n ∷ []) marked listed now c.store_superblock.result c.in_ok-store_log.ensures.writes c.store_superblock.ensures.writes))
+    let made = subst (λ (m : MemberView). DoesWrites g.D.Device (bitmap_writes s h m.stored (bitmap_sectors m.stored.chunks)) was marked) c.member.view_is c.in_ok-store_bitmap.ensures.writes in (
+      s,
+      starts g at,
+      does_any g.D.Device bitmap (log ++ write_of v n ∷ []) was marked now c.store_superblock.result made
+          (does_any g.D.Device log (write_of v n ∷ []) marked listed now c.store_superblock.result c.in_ok-store_log.ensures.writes c.store_superblock.ensures.writes),
+    )
 
 pub returns-clause-data : goal.returns-clause-data
 returns-clause-data g c =
