@@ -34,7 +34,7 @@ use Rattle.md_array.specs.Filling.{Fills, MayRebuild}
 use Rattle.md_array.specs.Lending.{AreBack, ComesBack, IsBesideChunk, IsBesideMissing}
 use Rattle.md_array.specs.Worlds.{AreHonest, from_super, geometry_of, header_fits, kind_of, stored_of, super_in, world_of}
 use Rattle.md_array.proofs.General.Tests.{and_same}
-use Rattle.md_array.proofs.Rebuilding.OneDevice.{changed_only, only_does, only_left, only_world}
+use Rattle.md_array.proofs.Rebuilding.OneDevice.{IsOnlyAt, changed_only, only_does, only_left, only_world}
 use Rattle.md_array.proofs.Steps.DevicesBack.{block_back, header_back, in_area, log_back, read_back, unrebuilt}
 use Rattle.md_array.proofs.Steps.MadeClean.{none_listed}
 use Rattle.md_array.proofs.Steps.OneMember.{member_there, stored_there}
@@ -79,36 +79,33 @@ rebuilt_target Spare h = refl
 rebuilt_target Faulty h = absurd cc
 
 module _ (k : ℕ) (v : MirrorView) (requests : ℕ → Option Request) (may : MayRebuild k v.array) where
-  abbrev m : MemberView
-  m = may.member
+  abbrev target : MemberView
+  target = may.member
 
-  state_is : (world_of v requests).state k ≡ kind_of m.state
-  state_is = member_there v.array k m states.State.Faulty (λ x. kind_of x.state) may.at
+  state_is : (world_of v requests).state k ≡ kind_of target.state
+  state_is = member_there v.array k target states.State.Faulty (λ x. kind_of x.state) may.at
 
-  re_added_is : (world_of v requests).re_added k ≡ m.re_added
-  re_added_is = member_there v.array k m false (λ x. x.re_added) may.at
+  re_added_is : (world_of v requests).re_added k ≡ target.re_added
+  re_added_is = member_there v.array k target false (λ x. x.re_added) may.at
 
-  pub same_missing : (c : ℕ) → c < v.array.marks.chunks → model.is_missing (world_of v requests) k c ≡ is_missing v.array m c
+  pub same_missing : (c : ℕ) → c < v.array.marks.chunks → model.is_missing (world_of v requests) k c ≡ is_missing v.array target c
   same_missing c low =
-      let out = rebuilt_out m.state may.rebuilt in
+      let out = rebuilt_out target.state may.rebuilt in
       ap (λ s. not (states.is_in_sync s) && (not ((world_of v requests).re_added k) || (nat_lt c v.array.marks.chunks && is_set v.array.marks.bytes c))) state_is
       ∙ ap (λ b. not b && (not ((world_of v requests).re_added k) || (nat_lt c v.array.marks.chunks && is_set v.array.marks.bytes c))) out.0
       ∙ ap (λ b. not b || (nat_lt c v.array.marks.chunks && is_set v.array.marks.bytes c)) re_added_is
-      ∙ missing_by m.re_added (nat_lt c v.array.marks.chunks && is_set v.array.marks.bytes c) (is_set v.array.marks.bytes c) (ap (λ b. b && is_set v.array.marks.bytes c) (below-nat_lt c v.array.marks.chunks low))
-      ∙ sym (ap (λ b. cond m.re_added (is_set v.array.marks.bytes c) (not b)) out.1)
+      ∙ missing_by target.re_added (nat_lt c v.array.marks.chunks && is_set v.array.marks.bytes c) (is_set v.array.marks.bytes c) (ap (λ b. b && is_set v.array.marks.bytes c) (below-nat_lt c v.array.marks.chunks low))
+      ∙ sym (ap (λ b. cond target.re_added (is_set v.array.marks.bytes c) (not b)) out.1)
 
   pub may_rebuild : AreInFlight v.array requests → model.MayRebuild (world_of v requests) k
   may_rebuild in_flight = record {
     idle = λ n. by_option (requests n) (λ none. none) (λ q is. absurd (none_listed v.array.requests.entries n (record { start = q.start; sectors = q.sectors }) may.idle.none (in_flight n q is)));
-    target = ap model.is_target state_is ∙ rebuilt_target m.state may.rebuilt;
+    target = ap model.is_target state_is ∙ rebuilt_target target.state may.rebuilt;
   }
 
 -- ---- beside the data nothing changes
 module _ (old : MirrorView) (before after : List Disk) (b : AreBack old before after) (m : MemberView) (d e : Disk) (back : ComesBack old.array m d e) (has : HasParts old.array m d.content) where
-  abbrev a : ArrayView
-  a = old.array
-
-  bits_back : (c : ℕ) → c < a.marks.chunks
+  bits_back : (c : ℕ) → c < old.array.marks.chunks
       → is_set (drop (512 * from_super m.superblock.bitmap_offset + 256) e.content) c ≡ is_set (drop (512 * from_super m.superblock.bitmap_offset + 256) d.content) c
   bits_back c low =
       let start : ℕ = from_super m.superblock.bitmap_offset in
@@ -121,19 +118,19 @@ module _ (old : MirrorView) (before after : List Disk) (b : AreBack old before a
       (in_area old before after b m d e back has (bitmap_area m.superblock width) start (sector_at_is (bitmap_area m.superblock width).start has.bitmap.within.from) has.bitmap.from_data p 1 (omega arith) (omega arith))
       ∙ sym (get_or-drop (512 * start + 256) d.content (c / 8) 0))
 
-  pub data_back : stored_of a m e.content ≡ record (stored_of a m d.content) { content = (stored_of a m e.content).content }
+  pub data_back : stored_of old.array m e.content ≡ record (stored_of old.array m d.content) { content = (stored_of old.array m e.content).content }
   data_back =
       let block = block_back old before after b m d e back has in
       let log = log_back old before after b m d e back has in
       let header = header_back old before after b m d e back has in
       λ i. record {
         super = super_in (block i);
-        content = (stored_of a m e.content).content;
-        listed = λ s. (nat_lt s a.chunks.size && lists.listed_kept m.superblock d.content e.content log (m.superblock.data_offset + s) block i);
-        bits = λ c. and_same (nat_lt c a.marks.chunks) (is_set (drop (512 * from_super m.superblock.bitmap_offset + 256) e.content) c)
-            (is_set (drop (512 * from_super m.superblock.bitmap_offset + 256) d.content) c) (λ low. bits_back c (is_below c a.marks.chunks low)) i;
+        content = (stored_of old.array m e.content).content;
+        listed = λ s. (nat_lt s old.array.chunks.size && lists.listed_kept m.superblock d.content e.content log (m.superblock.data_offset + s) block i);
+        bits = λ c. and_same (nat_lt c old.array.marks.chunks) (is_set (drop (512 * from_super m.superblock.bitmap_offset + 256) e.content) c)
+            (is_set (drop (512 * from_super m.superblock.bitmap_offset + 256) d.content) c) (λ low. bits_back c (is_below c old.array.marks.chunks low)) i;
         bitmap_events = number_at 8 24 (header i);
-        bitmap_fits = header_fits a (header i);
+        bitmap_fits = header_fits old.array (header i);
       }
 
 -- ---- the event
@@ -167,7 +164,7 @@ module _ (k : ℕ) (old new : MirrorView) (c : IsConsistent old) (f : Fills k ol
   pub fills_back : AreBack old old.disks new.disks
   fills_back = record { consistent = c; idle = f.may.idle; back = record { as_many = f.disks.as_many; each = back_at } }
 
-  only : _
+  only : IsOnlyAt k old.disks new.disks
   only = changed_only k (IsSameBesideMissing a m) old.disks new.disks f.disks
 
   module _ (requests : ℕ → Option Request) (in_flight : AreInFlight a requests) (d e : Disk) (was : slice_get old.disks k ≡ Some d) (is : slice_get new.disks k ≡ Some e) where

@@ -1,6 +1,6 @@
 -- The superblock of a member that is rebuilt could not be stored: where the write left the old one, the new one or none, that is the
 -- model's event.
-use Rattle.std.proofs.Common.{◌≡◌, ◌≢◌, ℕ, ◌*◌, inl, inr, true, true≢false, List, slice_get, Option, Some, refl, sym, ap, ◌∙◌, subst, arith}
+use Rattle.std.proofs.Common.{◌≡◌, ◌≢◌, ℕ, ◌*◌, ◌/◌, inl, inr, true, true≢false, List, slice_get, Option, Some, refl, sym, ap, ◌∙◌, subst, arith}
 use Rattle.std.proofs.lemmas.Option.{same_Some}
 use Rattle.md_assembly.specs.States.{is_in_sync}
 use Rattle.md_device.specs.Splice.{SameOutside}
@@ -24,7 +24,7 @@ use Rattle.md_array.specs.Recording.{super_write}
 use Rattle.md_array.specs.RecordingTarget.{FailsOnTarget, TargetFails}
 use Rattle.md_array.specs.Worlds.{AreHonest, block_on, geometry_of, kind_of, stored_of, super_in, super_of, world_of}
 use Rattle.md_array.proofs.Rebuilding.FilledEvent.{rebuilt_target}
-use Rattle.md_array.proofs.Rebuilding.OneDevice.{only_does, only_left, only_world, tried_only}
+use Rattle.md_array.proofs.Rebuilding.OneDevice.{IsOnlyAt, only_does, only_left, only_world, tried_only}
 use Rattle.md_array.proofs.Steps.DevicesBack.{unrebuilt}
 use Rattle.md_array.proofs.Steps.OneMember.{member_there, stored_there}
 use Rattle.md_array.proofs.Steps.SuperRecorded.{readable_super, super_is_for}
@@ -44,7 +44,7 @@ module _ (k : ℕ) (old new : MirrorView) (c : IsConsistent old) (f : FailsOnTar
   abbrev w : Write
   w = super_write a m
 
-  only : _
+  only : IsOnlyAt k old.disks new.disks
   only = tried_only k w old.disks new.disks f.leaves.disks.tried
 
   module _ (d e : Disk) (was : slice_get old.disks k ≡ Some d) (is : slice_get new.disks k ≡ Some e) (leaves : IsOldNewOrNone w.bytes d e) where
@@ -101,8 +101,8 @@ module _ (k : ℕ) (old new : MirrorView) (c : IsConsistent old) (f : FailsOnTar
       target_step : Step (geometry_of a) (world_of old requests) (Event.RecordTargetFails k) (world_of new requests)
       target_step =
           let state_is : (world_of old requests).state k ≡ kind_of m.state = member_there a k m states.State.Faulty (λ x. kind_of x.state) f.leaves.may.at in
-          (f.leaves.may.running, (left, ap model.is_target state_is ∙ rebuilt_target m.state f.rebuilt, left_by_super,
-          only_world k m old new c f.leaves.may.at f.rebuilt f.leaves.array only requests))
+          (f.leaves.may.running, (left, (ap model.is_target state_is ∙ rebuilt_target m.state f.rebuilt, left_by_super,
+          only_world k m old new c f.leaves.may.at f.rebuilt f.leaves.array only requests)))
 
   pub target_fails_happens : TargetFails k old new
   target_fails_happens n at leaves honest requests in_flight =
