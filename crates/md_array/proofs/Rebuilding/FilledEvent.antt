@@ -1,6 +1,5 @@
 -- A member that is rebuilt gets data in chunks that it lacks: that is the model's event.
-use Rattle.std.proofs.Common.{◌≡◌, ◌≢◌, ℕ, ◌+◌, ◌*◌, ◌/◌, ◌<◌, ◌≤◌, ◌⊎◌, inl, inr, Bool, true, false, true≢false, cond, not, ◌&&◌, ◌||◌, nat_lt, List, [], drop, length, slice_get, Option, Some, refl, sym, ap, ◌∙◌, subst, arith, get_or-drop}
-use Rattle.std.specs.Int.{div_ceil}
+use Rattle.std.proofs.Common.{◌≡◌, ◌≢◌, ℕ, ◌+◌, ◌*◌, ◌/◌, ◌<◌, ◌≤◌, inl, inr, Bool, true, false, true≢false, cond, not, ◌&&◌, ◌||◌, nat_lt, List, [], drop, length, slice_get, Option, Some, refl, sym, ap, ◌∙◌, subst, arith, get_or-drop}
 use Rattle.std.proofs.lemmas.Bool.{cases_lt}
 use Rattle.std.proofs.lemmas.Nat.{div_below, le-div}
 use Rattle.std.proofs.lemmas.Option.{same_Some, slice_get_within}
@@ -20,10 +19,8 @@ use Rattle.md_model.specs.Events.{Event, Step}
 use Rattle.md_model.specs.Rebuilding as model
 use Rattle.md_model.specs.States as states
 use Rattle.md_model.specs.Worlds.{Request, World}
-use Rattle.md_model.proofs.Cases.{below-nat_lt, by_option, by_test, is_below, not_below-nat_lt}
+use Rattle.md_model.proofs.Cases.{below-nat_lt, by_option, is_below, not_below-nat_lt}
 use Rattle.md_model.proofs.Puts.{by_same}
-use Rattle.md_requests.specs.declared.extent.Extent.{Extent}
-use Rattle.md_state.specs.MakingClean.{IsIdle}
 use Rattle.md_state.specs.Members.{IsMember}
 use Rattle.md_state.specs.Missing.{is_missing, is_rebuilt}
 use Rattle.md_state.specs.Requests.{AreInFlight}
@@ -31,11 +28,11 @@ use Rattle.md_state.specs.View.{ArrayView, Disk, MirrorView}
 use Rattle.md_array.specs.Consistency.{IsConsistent}
 use Rattle.md_array.specs.Events.{Happens, IsSameBesideMissing}
 use Rattle.md_array.specs.Filling.{Fills, MayRebuild}
-use Rattle.md_array.specs.Lending.{AreBack, ComesBack, IsBesideChunk, IsBesideMissing}
+use Rattle.md_array.specs.Lending.{AreBack, ComesBack, IsBesideChunk}
 use Rattle.md_array.specs.Worlds.{AreHonest, from_super, geometry_of, header_fits, kind_of, stored_of, super_in, world_of}
 use Rattle.md_array.proofs.General.Tests.{and_same}
 use Rattle.md_array.proofs.Rebuilding.OneDevice.{IsOnlyAt, changed_only, only_does, only_left, only_world}
-use Rattle.md_array.proofs.Steps.DevicesBack.{block_back, header_back, in_area, log_back, read_back, unrebuilt}
+use Rattle.md_array.proofs.Steps.DevicesBack.{block_back, header_back, in_area, log_back, read_back}
 use Rattle.md_array.proofs.Steps.MadeClean.{none_listed}
 use Rattle.md_array.proofs.Steps.OneMember.{member_there, stored_there}
 use Rattle.md_array.proofs.Worlds.Listed as lists

@@ -1,8 +1,7 @@
 -- The superblock of a member that is rebuilt could not be stored: where the write left the old one, the new one or none, that is the
 -- model's event.
-use Rattle.std.proofs.Common.{◌≡◌, ◌≢◌, ℕ, ◌*◌, ◌/◌, inl, inr, true, true≢false, List, slice_get, Option, Some, refl, sym, ap, ◌∙◌, subst, arith}
+use Rattle.std.proofs.Common.{◌≡◌, ℕ, ◌*◌, ◌/◌, inl, inr, true≢false, List, slice_get, Option, Some, refl, sym, ap, ◌∙◌, subst}
 use Rattle.std.proofs.lemmas.Option.{same_Some}
-use Rattle.md_assembly.specs.States.{is_in_sync}
 use Rattle.md_device.specs.Splice.{SameOutside}
 use Rattle.md_format.specs.Fields.{number_at}
 use Rattle.md_kept_members.specs.View.{MemberView}
@@ -11,10 +10,8 @@ use Rattle.md_model.specs.Events.{Event, Step}
 use Rattle.md_model.specs.Failures.{LeftBySuper}
 use Rattle.md_model.specs.Rebuilding as model
 use Rattle.md_model.specs.States as states
-use Rattle.md_model.specs.Worlds.{Request, World}
+use Rattle.md_model.specs.Worlds.{Request}
 use Rattle.md_model.proofs.Cases.{none_some}
-use Rattle.md_state.specs.DiskWrites.{AtDevice}
-use Rattle.md_state.specs.Requests.{AreInFlight}
 use Rattle.md_state.specs.View.{ArrayView, Disk, MirrorView}
 use Rattle.md_writes.specs.Writes.{Write}
 use Rattle.md_array.specs.Consistency.{IsConsistent}
@@ -22,13 +19,13 @@ use Rattle.md_array.specs.Events.{IsOldNewOrNone}
 use Rattle.md_array.specs.ReadAsKept.{HasOwnSuper, IsReadAsKept}
 use Rattle.md_array.specs.Recording.{super_write}
 use Rattle.md_array.specs.RecordingTarget.{FailsOnTarget, TargetFails}
-use Rattle.md_array.specs.Worlds.{AreHonest, block_on, geometry_of, kind_of, stored_of, super_in, super_of, world_of}
+use Rattle.md_array.specs.Worlds.{block_on, geometry_of, kind_of, stored_of, super_in, super_of, world_of}
 use Rattle.md_array.proofs.Rebuilding.FilledEvent.{rebuilt_target}
 use Rattle.md_array.proofs.Rebuilding.OneDevice.{IsOnlyAt, only_does, only_left, only_world, tried_only}
 use Rattle.md_array.proofs.Steps.DevicesBack.{unrebuilt}
 use Rattle.md_array.proofs.Steps.OneMember.{member_there, stored_there}
 use Rattle.md_array.proofs.Steps.SuperRecorded.{readable_super, super_is_for}
-use Rattle.md_array.proofs.Worlds.Failed.{IsThere, there_is}
+use Rattle.md_array.proofs.Worlds.Failed.{there_is}
 use Rattle.md_array.proofs.Worlds.InSync.{in_sync_of}
 use Rattle.md_array.proofs.Worlds.PartsApart.{HasParts, header_beside_super, log_beside_super, parts_of, super_alone}
 use Rattle.md_array.proofs.Worlds.ReadAsKept.{own_stays, own_written}
