@@ -1,5 +1,12 @@
--- Members that are rebuilt: they are stored, come into sync, and what that is of the model.
+-- A member is rebuilt: what its events keep, and that they are the model's.
 
+-- What one device of a member that is rebuilt holds changes, and nothing in memory: the mirror stays consistent, and so its world.
+pub mod OneDevice
+-- A member that is rebuilt gets data in chunks that it lacks: that is the model's event.
+pub mod FilledEvent
+-- The superblock of a member that is rebuilt could not be stored: where the write left the old one, the new one or none, that is the
+-- model's event.
+pub mod TargetEvent
 -- What stands on a device once all of a member but its data is stored there.
 pub mod MemberStored
 -- The list of a member that comes into sync is what its log lists, once the log is stored.

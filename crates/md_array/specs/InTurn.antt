@@ -20,6 +20,8 @@ use Rattle.md_state.specs.WritingMember.{FailsToWrite, HaltsWritingTo, IsNotDue,
 use Rattle.md_state.specs.Requests.{request_of}
 use Rattle.md_state.specs.CopyingData.{CopiesSector, FailsToCopy, HaltsCopying}
 use Rattle.md_array.specs.Recording.{FailsToRecord, HaltsRecording, Records, super_write}
+use Rattle.md_array.specs.Filling.{Fills}
+use Rattle.md_array.specs.RecordingTarget.{FailsOnTarget}
 use Rattle.md_array.specs.NotingResynced.{BecomesResynced, NotesResynced}
 use Rattle.md_array.specs.Adding.{Adds, add_event}
 use Rattle.md_array.specs.ReAdding.{ReAdds, re_add_event}
@@ -33,6 +35,8 @@ Requests = ℕ → Option Request
 -- what is asked of the device, where the event is a superblock's write that failed
 abbrev pub LeftWhole : MirrorView → Event → MirrorView → Type 0
 LeftWhole old (Event.RecordFails k) new =
+    (m : MemberView) → IsMember old.array k m → AtDevice k old.disks new.disks (IsOldNewOrNone (super_write old.array m).bytes)
+LeftWhole old (Event.RecordTargetFails k) new =
     (m : MemberView) → IsMember old.array k m → AtDevice k old.disks new.disks (IsOldNewOrNone (super_write old.array m).bytes)
 LeftWhole old e new = Unit {0}
 
@@ -90,8 +94,8 @@ pub record DidAdd (e : Event) (old new : MirrorView) : Type 0 where
   pub adds : Adds index device old new
   pub event : e ≡ add_event index device old new adds
 
--- What the step's own contract says of it, whatever its device is, and what requests are in flight after it. No call rebuilds a member
--- yet.
+-- What the step's own contract says of it, whatever its device is, and what requests are in flight after it. A member is filled by
+-- `give_back`, from the devices that were lent on.
 abbrev pub Did : MirrorView → Requests → Event → MirrorView → Requests → Type 0
 Did old before (Event.Begin n r) new after =
     (sector : ℕ) × (bytes : List ℕ) × (p : PendingView) × IsUnder n p after × IsPut n (Some r) before after × Begins sector bytes old new p
@@ -114,9 +118,9 @@ Did old before (Event.Copy from k s) new after = (after ≡ before) × CopiesSec
 Did old before (Event.CopyFails k c) new after = (after ≡ before) × FailsToCopy k c old new
 Did old before Event.Resynced new after = (after ≡ before) × BecomesResynced old new
 Did old before Event.Unresynced new after = (after ≡ before) × NotesResynced false old new
-Did old before (Event.Fill k) new after = ⊥
+Did old before (Event.Fill k) new after = (after ≡ before) × Fills k old new
 Did old before (Event.Prepare k) new after = ⊥
-Did old before (Event.RecordTargetFails k) new after = ⊥
+Did old before (Event.RecordTargetFails k) new after = (after ≡ before) × FailsOnTarget k old new
 Did old before (Event.Enrol k role listed) new after = ⊥
 
 -- From this mirror, with these requests in flight, the events were done one after another, the first of them after this one, and

@@ -1,5 +1,7 @@
 -- What a stop leaves.
 
+-- What a stop leaves where one device alone is written: of a member that is rebuilt, what another such change leaves at its end.
+pub mod AloneChanged
 -- What a stop leaves within the write of an event: devices that the event might leave at its end, or that a torn write leaves.
 pub mod AsFailed
 -- What a stop within a step leaves.

@@ -12,8 +12,10 @@ use Rattle.md_state.specs.Requests.{IsPending, among}
 use Rattle.md_state.specs.StoringMarks.{StoresMarkSector}
 use Rattle.md_state.specs.WritingMember.{FailsToWrite, HaltsWritingTo, WritesTo}
 use Rattle.md_array.specs.Events.{IsOldNewOrNone}
+use Rattle.md_array.specs.Filling.{Fills}
 use Rattle.md_array.specs.ReAdding.{ReAdds}
 use Rattle.md_array.specs.Recording.{FailsToRecord, HaltsRecording, Records, super_write}
+use Rattle.md_array.specs.RecordingTarget.{LeavesUnrecorded}
 use Rattle.md_array.specs.Worlds.{block_on}
 use Rattle.md_laws.specs.Runs.{Moment}
 use Rattle.md_laws.specs.StopsReadAs.{EndsInFirstSector, ReadsAs}
@@ -39,11 +41,11 @@ pub record IsLeftWriting (t : Moment) (left : List Disk) : Type 0 where
   pub call : WritesTo on t.mirror next request then ⊎ (FailsToWrite on t.mirror next request then ⊎ HaltsWritingTo on t.mirror next request then)
   pub within : IsLeftWithin t next left
 
--- Within `record`, whatever comes of the write, where it left the old superblock, the new one or none: a premise on such stops.
+-- Within `record` or `record_target`, whatever comes of the write, where it left the old superblock, the new one or none: a premise on such stops.
 pub record IsLeftRecording (t : Moment) (left : List Disk) : Type 0 where
   pub on : ℕ
   pub next : MirrorView
-  pub call : Records on t.mirror next ⊎ (FailsToRecord on t.mirror next ⊎ HaltsRecording on t.mirror next)
+  pub call : Records on t.mirror next ⊎ (FailsToRecord on t.mirror next ⊎ (HaltsRecording on t.mirror next ⊎ LeavesUnrecorded on t.mirror next))
   pub within : IsLeftWithin t next left
   pub super : (m : MemberView) → IsMember t.mirror.array on m → AtDevice on t.mirror.disks left (IsOldNewOrNone (super_write t.mirror.array m).bytes)
 
@@ -66,6 +68,14 @@ pub record IsLeftStoring (t : Moment) (left : List Disk) : Type 0 where
   pub call : StoresMarkSector on block t.mirror next
   pub within : IsLeftWithin t next left
 
+-- While the devices are lent to a rebuild of one member, which writes its data in chunks that it lacks: its contract says what the devices
+-- are when they come back, and what a stop leaves until then.
+pub record IsLeftFilling (t : Moment) (left : List Disk) : Type 0 where
+  pub on : ℕ
+  pub next : MirrorView
+  pub call : Fills on t.mirror next
+  pub within : IsLeftWithin t next left
+
 -- Within the `re_add` after which t is, where the superblock of the device that it takes back reads as after the call.
 pub record IsLeftTakingBack (t : Moment) (left : List Disk) : Type 0 where
   pub on : ℕ
@@ -84,4 +94,5 @@ pub record IsLeftTakingBack (t : Moment) (left : List Disk) : Type 0 where
 abbrev pub IsLeft : Moment → List Disk → Type 0
 IsLeft t left =
     (contents_of left ≡ contents_of t.mirror.disks)
-    ⊎ (IsLeftStoring t left ⊎ (IsLeftWriting t left ⊎ (IsLeftRecording t left ⊎ (IsLeftRecordingShort t left ⊎ IsLeftTakingBack t left))))
+    ⊎ (IsLeftStoring t left
+    ⊎ (IsLeftWriting t left ⊎ (IsLeftRecording t left ⊎ (IsLeftRecordingShort t left ⊎ (IsLeftTakingBack t left ⊎ IsLeftFilling t left)))))

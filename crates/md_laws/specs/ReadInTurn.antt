@@ -23,6 +23,7 @@ LeadsReading previous old before es new after = ReadInTurn previous old before e
 -- no write of a superblock that failed, of which something is asked
 abbrev pub IsNoFailedRecord : Event → Type 0
 IsNoFailedRecord (Event.RecordFails k) = ⊥
+IsNoFailedRecord (Event.RecordTargetFails k) = ⊥
 IsNoFailedRecord e = Unit {0}
 
 -- From any moment of a mirror such a call is a run, and ends where the call says.

@@ -18,7 +18,7 @@ ghost use Rattle.md_laws.specs.Lives.{AtEachMoment, ContentGoesAlong, FindsInSyn
 ghost use Rattle.md_laws.specs.Returning.{StartsAgain};
 ghost use Rattle.md_laws.specs.Runs.{HasContent};
 ghost use Rattle.md_laws.specs.StopsReadAs.{ReadsAtAdd, ReadsAtReAdd};
-ghost use Rattle.md_laws.specs.StopsWithin.{StopsAsFailed, StopsAsTried, StopsAtAdd, StopsAtEvents, StopsAtFailedAdd, StopsAtFailedReAdd, StopsAtFailure, StopsAtReAdd, StopsAtRefusedAdd, StopsAtRefusedReAdd, StopsAtRemoval, StopsAtSector, StopsAtWrite, StopsInMemory, StopsUndivided};
+ghost use Rattle.md_laws.specs.StopsWithin.{StopsAsFailed, StopsAsFilled, StopsAsTried, StopsAtAdd, StopsAtEvents, StopsAtFailedAdd, StopsAtFailedReAdd, StopsAtFailure, StopsAtReAdd, StopsAtRefusedAdd, StopsAtRefusedReAdd, StopsAtRemoval, StopsAtSector, StopsAtWrite, StopsInMemory, StopsUndivided};
 
 /// A mirror that was opened from devices that do what they answer is an opened world of the model, by
 /// the array's superblock: the opening stored all marks where the bitmap was not accepted, and nothing
@@ -119,8 +119,8 @@ pub fn half_opening()
     ensures as_left { StaysAsLeft }
 {}
 
-/// What a stop at any moment of a step leaves, where the step makes a write to one device, or none, or lays a new one
-/// out. Each event is of such a step (`Does`). A superblock of at most 128 roles ends within its first sector, which is
+/// What a stop at any moment of a step leaves, where the step makes a write to one device, or none, lays a new one
+/// out, or fills a member that is rebuilt. Each event is of such a step (`Does`). A superblock of at most 128 roles ends within its first sector, which is
 /// written whole or not at all. So that of a device that comes back then reads as before the call or as after it; and one
 /// that comes in is as after the call, or has the wipe of its old superblock cut short, or zeros in place of one.
 pub fn stops_at_steps()
@@ -139,9 +139,11 @@ pub fn stops_at_steps()
     ensures failed { StopsAtFailure }
 
     // So a stop within the call of an event is before it, after it, or within its one write; and what it leaves
-    // within a write, the same write might leave that failed, or was torn.
+    // within a write, the same write might leave that failed, or was torn. What it leaves while a member is
+    // filled, another filling might leave.
     ensures event { StopsAtEvents }
     ensures as_failed { StopsAsFailed }
     ensures as_tried { StopsAsTried }
+    ensures as_filled { StopsAsFilled }
     ensures undivided { StopsUndivided }
 {}

@@ -56,7 +56,7 @@ left_whole (Event.Add d left) old new is = tt
 left_whole (Event.ReAdd own device left) old new is = tt
 left_whole (Event.Fill k) old new is = tt
 left_whole (Event.Prepare k) old new is = tt
-left_whole (Event.RecordTargetFails k) old new is = tt
+left_whole (Event.RecordTargetFails k) old new is = absurd is
 left_whole (Event.Enrol k role listed) old new is = tt
 
 -- a call's events go on with a mirror's run
