@@ -7,3 +7,9 @@ pub mod FilledEvent
 -- The superblock of a member that is rebuilt could not be stored: where the write left the old one, the new one or none, that is the
 -- model's event.
 pub mod TargetEvent
+-- The bitmap and the log of a member that is rebuilt are stored: that is the model's event.
+pub mod PreparedEvent
+-- What stands on a device once a member is stored there, all but its data.
+pub mod MemberStored
+-- The mirror in the midst of an enrolment: marks and log are stored, and the superblock is not.
+pub mod InBetween

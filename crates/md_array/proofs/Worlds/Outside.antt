@@ -32,7 +32,7 @@ pub apart_either_way : (a b : Area) → AreApart a b → AreApart b a
 apart_either_way a b (inl before) = inr before
 apart_either_way a b (inr behind) = inl behind
 
-apart : (p q : ℤ) (s start m n : ℕ) → p ≡ pos s → q ≡ pos start → ((p +ℤ pos m) ≤ℤ q) ⊎ ((q +ℤ pos n) ≤ℤ p) → (s + m ≤ start) ⊎ (start + n ≤ s)
+pub apart : (p q : ℤ) (s start m n : ℕ) → p ≡ pos s → q ≡ pos start → ((p +ℤ pos m) ≤ℤ q) ⊎ ((q +ℤ pos n) ≤ℤ p) → (s + m ≤ start) ⊎ (start + n ≤ s)
 apart p q s start m n e f (inl h) = inl (omega (arith, ints))
 apart p q s start m n e f (inr h) = inr (omega (arith, ints))
 
@@ -53,7 +53,7 @@ byte_stays at n p old new same where_is =
 
 -- the area that is written, from this sector on
 module _ (written : Area) (start : ℕ) (at : written.start ≡ pos start) (old new : List ℕ) (same : SameOutside (512 * start) (512 * written.sectors) old new) where
-  stays : (a : Area) (s : ℕ) → a.start ≡ pos s → AreApart a written → (i m : ℕ) → 512 * s ≤ i → i + m ≤ 512 * (s + a.sectors) → part new i m ≡ part old i m
+  pub stays : (a : Area) (s : ℕ) → a.start ≡ pos s → AreApart a written → (i m : ℕ) → 512 * s ≤ i → i + m ≤ 512 * (s + a.sectors) → part new i m ≡ part old i m
   stays a s e h i m from to =
       elim (apart a.start written.start s start a.sectors written.sectors e at h) [
         | inl before ↦ part_before same i m (omega arith)
