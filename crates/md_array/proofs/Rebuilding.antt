@@ -13,3 +13,5 @@ pub mod PreparedEvent
 pub mod MemberStored
 -- The mirror in the midst of an enrolment: marks and log are stored, and the superblock is not.
 pub mod InBetween
+-- A member that comes into sync holds what the members in sync hold, in each sector that it does not list then.
+pub mod HeldContent
