@@ -15,3 +15,5 @@ pub mod MemberStored
 pub mod InBetween
 -- A member that comes into sync holds what the members in sync hold, in each sector that it does not list then.
 pub mod HeldContent
+-- A member comes into sync by the write of its superblock: its device and the array's world then.
+pub mod EnrolledWorld

@@ -45,7 +45,7 @@ use Rattle.md_array.proofs.Worlds.Writes.{HoldsBitmap, holds_written, within_are
 -- ---- its superblock, once it is in sync
 module _ (v : Superblock) (list : List Run) where
   -- the same superblock without bit 2
-  abbrev whole : Superblock
+  abbrev pub whole : Superblock
   whole = record v {
     feature_map = bit_and v.feature_map 0xffff_fffd;
     in_profile = record {
