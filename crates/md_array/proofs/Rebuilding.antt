@@ -17,3 +17,5 @@ pub mod InBetween
 pub mod HeldContent
 -- A member comes into sync by the write of its superblock: its device and the array's world then.
 pub mod EnrolledWorld
+-- A member is prepared, and comes into sync by the write of its superblock: those are the model's events.
+pub mod EnrolledEvent

@@ -74,7 +74,7 @@ module _ (k : ℕ) (copied orphans : Bitmap) (old new : MirrorView) (c : IsConsi
   abbrev b : ArrayView
   b = enrolled array k n role
 
-  abbrev full : Bool
+  abbrev pub full : Bool
   full = is_full_with array k n
 
   abbrev up : ArrayView

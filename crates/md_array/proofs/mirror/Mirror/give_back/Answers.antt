@@ -1,7 +1,3 @@
-use Rattle.md_array.proofs.Rebuilding.PreparedEvent.{prepare_happens}
-use Rattle.md_array.proofs.Rebuilding.InBetween.{prepares}
-use Rattle.md_array.proofs.Rebuilding.HeldContent.{it_holds}
-use Rattle.md_array.proofs.Rebuilding.EnrolledWorld.{full_after}
 use Rattle.std.proofs.Common.{List, map, sym, ap, subst}
 use Rattle.md_state.specs.View.{Disk, MirrorView, disk_of}
 use Rattle.md_array.specs.Consistency.{IsConsistent}
