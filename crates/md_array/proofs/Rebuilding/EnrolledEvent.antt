@@ -1,12 +1,11 @@
 -- A member is prepared, and comes into sync by the write of its superblock: those are the model's events.
-use Rattle.std.proofs.Common.{◌≡◌, ◌≢◌, ℕ, ◌+◌, ◌*◌, ◌/◌, ◌<◌, ◌≤◌, inl, inr, Bool, true, false, true≢false, cond, not, ◌&&◌, nat_lt, List, [], ◌∷◌, length, map, set, slice_get, Option, Some, refl, sym, ap, ◌∙◌, subst, arith, eq-eqb, length-set}
-use Rattle.std.proofs.lemmas.Bool.{and_parts, cases_lt}
-use Rattle.std.proofs.lemmas.Option.{same_Some, slice_get_within}
+use Rattle.std.proofs.Common.{◌≡◌, ◌≢◌, ℕ, ◌+◌, ◌*◌, ◌/◌, ◌<◌, inl, inr, Bool, true, false, true≢false, cond, ◌&&◌, nat_lt, List, [], ◌∷◌, length, map, set, slice_get, Option, Some, refl, sym, ap, ◌∙◌, subst, arith, eq-eqb, length-set}
+use Rattle.std.proofs.lemmas.Bool.{cases_lt}
+use Rattle.std.proofs.lemmas.Option.{slice_get_within}
 use Rattle.md_assembly.proofs.Indices.{got_same, got_within}
 use Rattle.md_assembly.specs.declared.state.MemberState.{MemberState}
 use Rattle.md_assembly.specs.declared.state.MemberState.TheVariants.{InSync, Recovering, Stale, Spare, Faulty}
 use Rattle.md_assembly.specs.States.{is_in_sync, is_recorded, role_in, takes_role}
-use Rattle.md_badblocks.specs.Runs.{IsBad}
 use Rattle.md_bitmap.specs.declared.header.BitmapHeader.{BitmapHeader}
 use Rattle.md_bitmap.specs.Marks.{Bitmap, is_set}
 use Rattle.md_device.specs.Device.{written}
@@ -21,28 +20,25 @@ use Rattle.md_model.specs.Rebuilding as model
 use Rattle.md_model.specs.States as states
 use Rattle.md_model.specs.Worlds as worlds
 use Rattle.md_model.specs.Worlds.{Request, World}
-use Rattle.md_model.proofs.Cases.{below-nat_lt, by_test, is_below, not_below-nat_lt}
+use Rattle.md_model.proofs.Cases.{below-nat_lt, is_below, not_below-nat_lt}
 use Rattle.md_model.proofs.Puts.{by_same}
 use Rattle.md_model.proofs.Steps.Between.{between_step, in_flight_step}
 use Rattle.md_state.specs.CopyingData.{IsDone, Lists}
 use Rattle.md_state.specs.DeviceChanges.{StaysHonest}
-use Rattle.md_state.specs.DiskWrites.{IsTried}
 use Rattle.md_state.specs.Enrolling.{GetsRole, enrolled}
 use Rattle.md_state.specs.Members.{IsInSync, IsMember}
-use Rattle.md_state.specs.Missing.{is_missing}
 use Rattle.md_state.specs.Requests.{AreInFlight}
 use Rattle.md_state.specs.View.{ArrayView, Disk, MirrorView}
 use Rattle.md_super.specs.declared.superblock.Superblock.{Superblock}
 use Rattle.md_super.specs.Merge.{merged}
 use Rattle.md_super.proofs.Order.{sound_without_fault}
 use Rattle.md_super.proofs.RoleLists.{length-roles_in}
-use Rattle.md_writes.specs.Writes.{Write}
 use Rattle.md_array.specs.Consistency.{IsConsistent}
 use Rattle.md_array.specs.Enrolling.{Enrols, MayEnrol}
 use Rattle.md_array.specs.Enrolments.{EndsBelow, IsHeldBy, enrol_event, lists_of, prepared}
 use Rattle.md_array.specs.Events.{Does}
 use Rattle.md_array.specs.InTurn.{Leads, Requests}
-use Rattle.md_array.specs.ReadAsKept.{AreReadAsKept, HasWidth, IsReadAsKept}
+use Rattle.md_array.specs.ReadAsKept.{AreReadAsKept, IsReadAsKept}
 use Rattle.md_array.specs.Recording.{IsReadable, write_of}
 use Rattle.md_array.specs.Worlds.{AreHonest, from_super, geometry_of, header_on, is_listed, kind_of, lies_in, stored_of, world_of, world_on}
 use Rattle.md_array.proofs.General.Indices.{at_map, at_set_same, got_in_map, got_other}

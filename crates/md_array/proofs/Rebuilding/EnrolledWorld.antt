@@ -1,14 +1,10 @@
 -- A member comes into sync by the write of its superblock: its device and the array's world then.
-use Rattle.std.proofs.Common.{◌≡◌, ◌≢◌, ℕ, ◌+◌, ◌*◌, ◌/◌, ◌<◌, ◌≤◌, ◌↔◌, inl, inr, Bool, true, false, true≢false, cond, not, ◌&&◌, ◌||◌, ◌==◌, eqb, leb, nat_lt, bit_and, List, [], ◌∷◌, ◌++◌, length, length-set, map, set, slice_get, Option, Some, None, option_map, unwrap_or, refl, sym, ap, ◌∙◌, subst, arith, eq-eqb}
+use Rattle.std.proofs.Common.{◌≡◌, ℕ, ◌+◌, ◌*◌, ◌/◌, ◌<◌, ◌≤◌, ◌↔◌, Bool, true, false, cond, not, ◌&&◌, ◌||◌, ◌==◌, eqb, leb, nat_lt, List, [], ◌∷◌, ◌++◌, length, length-set, set, slice_get, Option, Some, None, option_map, unwrap_or, refl, sym, ap, ◌∙◌, subst, arith}
 use Rattle.std.specs.Int.Bits.{and_zero_r}
 use Rattle.std.specs.List.{list_any, range_with_len}
-use Rattle.std.proofs.lemmas.List.{length-map}
 use Rattle.std.proofs.lemmas.List.FromFn.{length-map-range_with_len}
 use Rattle.std.proofs.lemmas.Nat.{and_assoc}
-use Rattle.std.proofs.lemmas.Option.{same_Some, slice_get_within}
-use Rattle.md_assembly.proofs.Indices.{got_within}
-use Rattle.md_assembly.specs.declared.state.MemberState.{MemberState}
-use Rattle.md_assembly.specs.declared.state.MemberState.TheVariants.{InSync}
+use Rattle.std.proofs.lemmas.Option.{slice_get_within}
 use Rattle.md_assembly.specs.States.{has_recovery_offset, is_in_sync, role_in}
 use Rattle.md_bitmap.specs.Marks.{Bitmap, is_set}
 use Rattle.md_device.specs.Device.{written}
@@ -20,14 +16,13 @@ use Rattle.md_kept_members.specs.View.{MemberView}
 use Rattle.md_members.specs.Areas.{BitmapIsPlaced, IsPlaced, bitmap_sectors}
 use Rattle.md_members.specs.Members.{sectors_of}
 use Rattle.md_model.specs.Counts as counts
-use Rattle.md_model.specs.Devices.{Stored, Super}
 use Rattle.md_model.specs.Membership.{joined_super}
 use Rattle.md_model.specs.Rebuilding as model
 use Rattle.md_model.specs.Sectors.{Geometry, put}
 use Rattle.md_model.specs.States as states
 use Rattle.md_model.specs.Worlds.{Request, World}
 use Rattle.md_model.proofs.Cases.{is_below}
-use Rattle.md_model.proofs.Puts.{by_same, put-at}
+use Rattle.md_model.proofs.Puts.{put-at}
 use Rattle.md_state.proofs.Members.Filled.{filled_with}
 use Rattle.md_state.specs.Enrolling.{enrolled, is_full_with}
 use Rattle.md_state.specs.Members.{IsMember, is_degraded, is_filled}
@@ -40,14 +35,14 @@ use Rattle.md_writes.specs.Writes.{DoesWrites, Write, after}
 use Rattle.md_writes.proofs.Runs.{after-append}
 use Rattle.md_array.specs.Consistency.{IsConsistent}
 use Rattle.md_array.specs.Enrolling.{Enrols, log_writes}
-use Rattle.md_array.specs.Enrolments.{first_writes, lists_of}
-use Rattle.md_array.specs.Recording.{IsReadable, write_of}
-use Rattle.md_array.specs.Worlds.{block_on, from_super, geometry_of, is_listed, kind_of, lies_in, stored_of, stored_on, super_in, super_of, world_of, world_on}
+use Rattle.md_array.specs.Enrolments.{lists_of}
+use Rattle.md_array.specs.Recording.{write_of}
+use Rattle.md_array.specs.Worlds.{block_on, geometry_of, is_listed, kind_of, lies_in, stored_of, stored_on, super_in, super_of, world_of, world_on}
 use Rattle.md_array.proofs.General.Indices.{any_kept, at_set_same, got_in_map, got_other}
 use Rattle.md_array.proofs.General.Replaced.{read_changed, read_kept}
 use Rattle.md_array.proofs.General.Tests.{and_same}
 use Rattle.md_array.proofs.Openings.OwnFields as own_fields
-use Rattle.md_array.proofs.Rebuilding.InBetween.{in_two, may_rebuild_it, superblock, then_at, then_disk, then_long}
+use Rattle.md_array.proofs.Rebuilding.InBetween.{in_two, superblock, then_at, then_disk, then_long}
 use Rattle.md_array.proofs.Rebuilding.MemberStored.{whole}
 use Rattle.md_array.proofs.Steps.OneMember.{member_there}
 use Rattle.md_array.proofs.Steps.SuperRecorded.{readable_super}

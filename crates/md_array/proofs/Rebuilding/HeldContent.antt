@@ -1,13 +1,13 @@
 -- A member that comes into sync holds what the members in sync hold, in each sector that it does not list then.
-use Rattle.std.proofs.Common.{◌≡◌, ◌≢◌, ℕ, ◌+◌, ◌*◌, ◌/◌, ◌^◌, ◌<◌, ◌≤◌, ◌⊎◌, ◌↔◌, inl, inr, Bool, true, false, true≢false, cond, not, ◌&&◌, eqb, nat_lt, List, [], ◌∷◌, length, set, slice_get, Option, Some, refl, sym, ap, ◌∙◌, subst, arith, eq-eqb, ne_eqb, lt-ltb}
+use Rattle.std.proofs.Common.{◌≡◌, ◌≢◌, ℕ, ◌+◌, ◌*◌, ◌/◌, ◌<◌, ◌≤◌, inl, inr, Bool, true, false, true≢false, cond, not, ◌&&◌, eqb, nat_lt, List, ◌∷◌, length, set, slice_get, Some, refl, sym, ap, ◌∙◌, subst, arith, eq-eqb, ne_eqb, lt-ltb}
 use Rattle.std.specs.Int.{div_ceil}
 use Rattle.std.specs.List.{list_any}
 use Rattle.std.proofs.lemmas.Bool.{and_from, and_parts, cases_lt}
 use Rattle.std.proofs.lemmas.Nat.{div_below, le-div}
 use Rattle.std.proofs.lemmas.Grind.{div_ceil_times}
-use Rattle.std.proofs.lemmas.Option.{same_Some, slice_get_within}
+use Rattle.std.proofs.lemmas.Option.{same_Some}
 use Rattle.md_assembly.specs.States.{is_in_sync}
-use Rattle.md_assembly.proofs.Indices.{got_same, got_within}
+use Rattle.md_assembly.proofs.Indices.{got_same}
 use Rattle.md_badblocks.specs.declared.run.Run.{Run}
 use Rattle.md_badblocks.specs.Runs.{IsBad}
 use Rattle.md_bitmap.specs.Chunks.{InChunk}
@@ -16,10 +16,10 @@ use Rattle.md_device.specs.Splice.{part}
 use Rattle.md_kept_members.specs.Enrolling.{IsOf}
 use Rattle.md_kept_members.specs.View.{MemberView}
 use Rattle.md_model.specs.Content.{Content}
-use Rattle.md_model.proofs.Cases.{below-nat_lt, by_test}
+use Rattle.md_model.proofs.Cases.{by_test}
 use Rattle.md_model.proofs.Puts.{by_same}
 use Rattle.md_state.specs.CopyingData.{Lists}
-use Rattle.md_state.specs.Members.{IsInSync, IsMember}
+use Rattle.md_state.specs.Members.{IsInSync}
 use Rattle.md_state.specs.Missing.{is_missing}
 use Rattle.md_state.specs.View.{ArrayView, Disk, MirrorView}
 use Rattle.md_super.specs.declared.superblock.Superblock.{Superblock}
@@ -28,7 +28,7 @@ use Rattle.md_array.specs.Enrolling.{Enrols, HasContent, MayEnrol}
 use Rattle.md_array.specs.Enrolments.{EndsBelow, IsHeldBy, lists_of}
 use Rattle.md_array.specs.Worlds.{AreHonest, lies_in}
 use Rattle.md_array.proofs.General.Indices.{any_at, at_any, got_other}
-use Rattle.md_array.proofs.Rebuilding.InBetween.{a, m, n, may_rebuild_it, superblock, then_at, then_beside, then_disk}
+use Rattle.md_array.proofs.Rebuilding.InBetween.{may_rebuild_it, superblock, then_at, then_beside, then_disk}
 use Rattle.md_array.proofs.Rebuilding.PreparedEvent.{sector_kept}
 use Rattle.md_array.proofs.Steps.DevicesBack.{unrebuilt}
 use Rattle.md_array.proofs.Worlds.Bad.{bad_from_test, test_from_bad}

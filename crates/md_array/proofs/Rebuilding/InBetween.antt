@@ -1,38 +1,30 @@
 -- The mirror in the midst of an enrolment: marks and log are stored, and the superblock is not. No caller sees it.
-use Rattle.std.proofs.Common.{◌≡◌, ◌≢◌, ℕ, ◌+◌, ◌*◌, ◌/◌, ◌<◌, ◌≤◌, ◌⊎◌, inl, inr, true, List, ◌∷◌, [], ◌++◌, length, length-set, set, slice_get, Option, Some, refl, sym, ap, ◌∙◌, subst, arith}
+use Rattle.std.proofs.Common.{◌≡◌, ℕ, ◌*◌, ◌/◌, ◌<◌, ◌≤◌, inl, inr, true, List, length, length-set, set, slice_get, Option, Some, refl, sym, ap, ◌∙◌, subst, arith}
 use Rattle.std.proofs.lemmas.Option.{same_Some, slice_get_within}
 use Rattle.md_assembly.proofs.Indices.{got_same, got_within}
-use Rattle.md_badblocks.specs.declared.run.Run.{Run}
 use Rattle.md_bitmap.specs.declared.header.BitmapHeader.{BitmapHeader}
 use Rattle.md_bitmap.specs.Marks.{Bitmap}
 use Rattle.md_device.specs.Splice.{SameOutside, part}
 use Rattle.md_device.proofs.Leaving.{leaves_none}
 use Rattle.md_device.proofs.Splices.{part_after, part_before}
-use Rattle.md_format.specs.Fields.{number_at}
 use Rattle.md_kept_members.specs.Enrolling.{HasRoomFor, in_sync_superblock}
 use Rattle.md_kept_members.specs.View.{MemberView}
 use Rattle.md_members.specs.Areas.{IsPlaced, bitmap_sectors, has_bitmap}
 use Rattle.md_members.specs.Members.{sectors_of}
 use Rattle.md_state.specs.DeviceChanges.{IsLeftAlone, LeavesOn, StaysHonest}
-use Rattle.md_state.specs.Enrolling.{enrolled}
-use Rattle.md_state.specs.Headers.{IsHeaderFor}
-use Rattle.md_state.specs.Members.{IsMember}
 use Rattle.md_state.specs.Missing.{is_rebuilt}
 use Rattle.md_state.specs.View.{ArrayView, Disk, MirrorView}
 use Rattle.md_super.specs.declared.superblock.Superblock.{Superblock}
 use Rattle.md_super.specs.Log.{has_bad_block_log}
-use Rattle.md_super.specs.Merge.{merged}
 use Rattle.md_writes.specs.Bitmaps.{bitmap_writes}
-use Rattle.md_writes.specs.Writes.{Write, after}
+use Rattle.md_writes.specs.Writes.{after}
 use Rattle.md_writes.proofs.Runs.{after-append}
 use Rattle.md_array.specs.Consistency.{IsConsistent}
 use Rattle.md_array.specs.Enrolling.{Enrols, IsStorable, MayEnrol, log_writes}
 use Rattle.md_array.specs.Enrolments.{Prepares, first_writes, prepared, with_writes}
 use Rattle.md_array.specs.Events.{IsBesideArea, IsBesideMarks, IsChangedAlone, IsSameBesideMarks}
 use Rattle.md_array.specs.Filling.{MayRebuild}
-use Rattle.md_array.specs.ReadAsKept.{HasWidth}
-use Rattle.md_array.specs.Recording.{IsReadable}
-use Rattle.md_array.specs.Worlds.{from_super, header_on}
+use Rattle.md_array.specs.Worlds.{from_super}
 use Rattle.md_array.proofs.General.Indices.{at_set_same, got_other}
 use Rattle.md_array.proofs.Rebuilding.MemberStored as stored
 use Rattle.md_array.proofs.Rebuilding.MemberStored.{bitmap_in_sync, placed_in_sync}

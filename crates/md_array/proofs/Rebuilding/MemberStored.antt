@@ -1,20 +1,18 @@
 -- What stands on a device once all of a member but its data is stored there.
-use Rattle.std.proofs.Common.{◌≡◌, ℕ, ◌+◌, ◌-◌, ◌*◌, ◌/◌, ◌<◌, ◌≤◌, Bool, true, false, cond, not, ◌==◌, bit_and, pos, if◌then◌else◌, List, [], ◌∷◌, ◌++◌, length, length-append, replicate, refl, sym, ap, ◌∙◌, subst, arith}
+use Rattle.std.proofs.Common.{◌≡◌, ℕ, ◌+◌, ◌-◌, ◌*◌, ◌/◌, ◌≤◌, Bool, true, false, cond, not, ◌==◌, bit_and, pos, if◌then◌else◌, List, [], ◌∷◌, ◌++◌, length, length-append, replicate, refl, sym, ap, ◌∙◌, subst, arith}
 use Rattle.std.specs.List.{flat_map}
 use Rattle.std.proofs.lemmas.List.{length-replicate}
 use Rattle.std.proofs.lemmas.List.Sums.{sum_by-cons}
-use Rattle.std.proofs.lemmas.Int.{ints}
 use Rattle.std.proofs.lemmas.List.FromFn.{length-map-range_with_len}
 use Rattle.std.proofs.lemmas.Nat.{and_assoc}
 use Rattle.md_device.specs.Splice.{part, SameOutside}
 use Rattle.md_device.specs.Device.{written}
-use Rattle.md_device.proofs.Splices.{part-spliced, part_after, part_before, spliced_outside}
+use Rattle.md_device.proofs.Splices.{part-spliced, spliced_outside}
 use Rattle.md_super.specs.declared.superblock.Superblock.{Superblock}
 use Rattle.md_super.specs.Log.{has_bad_block_log}
 use Rattle.md_super.specs.Merge.{merged}
 use Rattle.md_bitmap.specs.declared.header.BitmapHeader.{BitmapHeader}
 use Rattle.md_bitmap.specs.Header.{IsHeader}
-use Rattle.md_bitmap.specs.Marks.{is_set}
 use Rattle.md_bitmap.proofs.Encoded.{length-header_bytes, reads_back}
 use Rattle.md_badblocks.specs.declared.run.Run.{Run}
 use Rattle.md_badblocks.specs.Log.{all_ones, entries_of, entry_at, log_bytes}
@@ -25,18 +23,16 @@ use Rattle.md_members.specs.Areas.{AreApart, BitmapIsPlaced, IsPlaced, LogIsPlac
 use Rattle.md_members.specs.Members.{sectors_of}
 use Rattle.md_members.specs.Reading.{BitmapStartsAt}
 use Rattle.md_writes.specs.Bitmaps.{bitmap_writes}
-use Rattle.md_writes.specs.Writes.{Write, after}
-use Rattle.md_writes.proofs.Frames.{outside_around}
+use Rattle.md_writes.specs.Writes.{after}
 use Rattle.md_writes.proofs.Runs.{after-append}
 use Rattle.md_writes.proofs.Stored.{AreStored, stored_all}
 use Rattle.md_kept_members.specs.Enrolling.{HasRoomFor, in_sync_superblock, log_room, whole-supported}
-use Rattle.md_kept_members.specs.OwnFields.{stored_next}
 use Rattle.md_kept_members.specs.View.{MemberView}
 use Rattle.md_state.specs.Headers.{IsHeaderFor}
 use Rattle.md_state.specs.View.{ArrayView, Disk}
 use Rattle.md_array.specs.Enrolling.{IsStorable, KeepsData, log_writes, member_writes}
 use Rattle.md_array.specs.Recording.{IsReadable, write_of}
-use Rattle.md_array.specs.Worlds.{block_on, from_super, header_on}
+use Rattle.md_array.specs.Worlds.{block_on, from_super}
 use Rattle.md_array.proofs.Openings.OwnFields as own_fields
 use Rattle.md_array.proofs.Worlds.Device.{fits_on}
 use Rattle.md_array.proofs.Worlds.Outside.{apart_either_way, bit_stays, header_stays, log_stays, sector_at_is, starts_at, stays}

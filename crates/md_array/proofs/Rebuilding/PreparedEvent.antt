@@ -1,18 +1,17 @@
 -- The bitmap and the log of a member that is rebuilt are stored: that is the model's event.
-use Rattle.std.proofs.Common.{◌≡◌, ℕ, ◌+◌, ◌*◌, ◌<◌, ◌≤◌, ◌⊎◌, inl, inr, Bool, true, false, true≢false, cond, not, ◌&&◌, ◌==◌, nat_lt, bit_and, List, [], slice_get, Option, Some, None, pos, refl, sym, ap, ◌∙◌, subst, arith}
+use Rattle.std.proofs.Common.{◌≡◌, ℕ, ◌+◌, ◌*◌, ◌<◌, ◌≤◌, inl, inr, true, true≢false, not, ◌&&◌, ◌==◌, nat_lt, List, [], slice_get, Option, Some, pos, refl, sym, ap, ◌∙◌, subst, arith}
 use Rattle.std.specs.Ordering.{int_eq}
 use Rattle.std.proofs.lemmas.Option.{slice_get_within}
 use Rattle.md_assembly.proofs.Indices.{got_within}
 use Rattle.md_device.specs.Splice.{part}
-use Rattle.md_format.specs.Fields.{number_at}
 use Rattle.md_kept_members.specs.View.{MemberView}
 use Rattle.md_members.specs.declared.area.Area.{Area}
 use Rattle.md_members.specs.Areas.{AreApart, bitmap_area, bitmap_sectors, data_area, has_bad_blocks, log_area, super_area}
 use Rattle.md_members.specs.Members.{reads_log}
-use Rattle.md_model.specs.Devices.{Stored, Super}
+use Rattle.md_model.specs.Devices.{Stored}
 use Rattle.md_model.specs.Events.{Event, Step}
 use Rattle.md_model.specs.Rebuilding as model
-use Rattle.md_model.specs.Worlds.{Request, World}
+use Rattle.md_model.specs.Worlds.{Request}
 use Rattle.md_model.proofs.Cases.{is_below}
 use Rattle.md_state.specs.Requests.{AreInFlight}
 use Rattle.md_state.specs.View.{ArrayView, Disk, MirrorView}
@@ -24,7 +23,7 @@ use Rattle.md_array.specs.Consistency.{IsConsistent}
 use Rattle.md_array.specs.Enrolments.{Prepares}
 use Rattle.md_array.specs.Events.{Happens, IsBesideArea, IsBesideMarks, IsSameBesideMarks}
 use Rattle.md_array.specs.ReadAsKept.{HasOwnSuper, IsReadAsKept}
-use Rattle.md_array.specs.Worlds.{AreHonest, block_on, from_super, geometry_of, is_listed, is_logged, list_bit, stored_of, super_in, super_of, world_of}
+use Rattle.md_array.specs.Worlds.{AreHonest, block_on, from_super, geometry_of, is_listed, is_logged, stored_of, super_in, world_of}
 use Rattle.md_array.proofs.Rebuilding.FilledEvent.{may_rebuild}
 use Rattle.md_array.proofs.Rebuilding.OneDevice.{IsOnlyAt, changed_only, only_does, only_left, only_world}
 use Rattle.md_array.proofs.Steps.OneMember.{stored_there}
@@ -34,7 +33,6 @@ use Rattle.md_array.proofs.Worlds.Listed.{bit_read}
 use Rattle.md_array.proofs.Worlds.Outside.{apart, sector_at_is}
 use Rattle.md_array.proofs.Worlds.PartsApart.{HasParts, parts_of, same_if}
 use Rattle.md_array.proofs.Worlds.ReadAsKept.{super_was}
-use Rattle.md_array.proofs.Worlds.Supers.{super_shown}
 
 -- what lies in an area that is apart from another lies beside that
 in_apart : (a b : Area) (s start : ℕ) → a.start ≡ pos s → b.start ≡ pos start → AreApart a b → (at n : ℕ) → 512 * s ≤ at → at + n ≤ 512 * (s + a.sectors) → IsBesideArea start b.sectors at n
