@@ -12,6 +12,7 @@ use Rattle.md_state.specs.Requests.{IsPending, among}
 use Rattle.md_state.specs.StoringMarks.{StoresMarkSector}
 use Rattle.md_state.specs.WritingMember.{FailsToWrite, HaltsWritingTo, WritesTo}
 use Rattle.md_array.specs.Events.{IsOldNewOrNone}
+use Rattle.md_array.specs.Enrolments.{Prepares}
 use Rattle.md_array.specs.Filling.{Fills}
 use Rattle.md_array.specs.ReAdding.{ReAdds}
 use Rattle.md_array.specs.Recording.{FailsToRecord, HaltsRecording, Records, super_write}
@@ -76,6 +77,13 @@ pub record IsLeftFilling (t : Moment) (left : List Disk) : Type 0 where
   pub call : Fills on t.mirror next
   pub within : IsLeftWithin t next left
 
+-- While the bitmap and the log of a member are stored, before its superblock.
+pub record IsLeftPreparing (t : Moment) (left : List Disk) : Type 0 where
+  pub on : ℕ
+  pub next : MirrorView
+  pub call : Prepares on t.mirror next
+  pub within : IsLeftWithin t next left
+
 -- Within the `re_add` after which t is, where the superblock of the device that it takes back reads as after the call.
 pub record IsLeftTakingBack (t : Moment) (left : List Disk) : Type 0 where
   pub on : ℕ
@@ -95,4 +103,4 @@ abbrev pub IsLeft : Moment → List Disk → Type 0
 IsLeft t left =
     (contents_of left ≡ contents_of t.mirror.disks)
     ⊎ (IsLeftStoring t left
-    ⊎ (IsLeftWriting t left ⊎ (IsLeftRecording t left ⊎ (IsLeftRecordingShort t left ⊎ (IsLeftTakingBack t left ⊎ IsLeftFilling t left)))))
+    ⊎ (IsLeftWriting t left ⊎ (IsLeftRecording t left ⊎ (IsLeftRecordingShort t left ⊎ (IsLeftTakingBack t left ⊎ (IsLeftFilling t left ⊎ IsLeftPreparing t left))))))
