@@ -157,13 +157,13 @@ module _ (a : ArrayView) (n : MemberView) (start : ℕ) (starts : BitmapStartsAt
   abbrev pub listed : List ℕ
   listed = after marked (log_writes own n.bad)
 
-  abbrev pub new : List ℕ
+  abbrev new : List ℕ
   new = after listed (write_of shared n ∷ [])
 
   abbrev pub bitmap : Area
   bitmap = bitmap_area own width
 
-  pub bitmap_placed : BitmapIsPlaced (sectors_of old) own width
+  bitmap_placed : BitmapIsPlaced (sectors_of old) own width
   bitmap_placed = fit.placed.bitmap fit.has
 
   bitmap_room : 512 * (start + width) ≤ length old
@@ -172,7 +172,7 @@ module _ (a : ArrayView) (n : MemberView) (start : ℕ) (starts : BitmapStartsAt
   pub marks_stored : AreStored start h n.stored 0 width old marked
   marks_stored = stored_all start h n.stored width old (omega arith) bitmap_room
 
-  pub marked_long : length marked ≡ length old
+  marked_long : length marked ≡ length old
   marked_long = marks_stored.outside.size
 
   marked_holds : HoldsBitmap marked start h n.stored
@@ -217,10 +217,10 @@ module _ (a : ArrayView) (n : MemberView) (start : ℕ) (starts : BitmapStartsAt
   listed_long = by_log (λ there. (listed_outside there).size ∙ marked_long) (λ none. ap length (unlisted none) ∙ marked_long)
 
   -- ---- the superblock
-  pub named : SameOutside (512 * 8) 4096 listed new
+  named : SameOutside (512 * 8) 4096 listed new
   named = let long = listed_long in let enough = fit.long in spliced_outside listed (512 * 8) (write_of shared n).bytes 4096 (sym readable.size) (omega arith)
 
-  pub block_new : block_on new ≡ (write_of shared n).bytes
+  block_new : block_on new ≡ (write_of shared n).bytes
   block_new = let long = listed_long in let enough = fit.long in part-spliced listed (512 * 8) (write_of shared n).bytes 4096 (sym readable.size) (omega arith)
 
   log_new : has_bad_block_log own ≡ true → part new (512 * from_super own.bblog_offset) (512 * own.bblog_size) ≡ log_bytes n.bad (log_room own)
@@ -244,7 +244,7 @@ module _ (a : ArrayView) (n : MemberView) (start : ℕ) (starts : BitmapStartsAt
   holds_new : HoldsBitmap new start h n.stored
   holds_new = bitmap_beside super_area 8 refl (apart_either_way super_area bitmap bitmap_placed.from_super) listed new named listed_holds
 
-  pub in_order : after old (member_writes start h shared n) ≡ new
+  in_order : after old (member_writes start h shared n) ≡ new
   in_order =
       after-append old (bitmap_writes start h n.stored width) (log_writes own n.bad ++ write_of shared n ∷ [])
       ∙ after-append marked (log_writes own n.bad) (write_of shared n ∷ [])
