@@ -26,6 +26,7 @@ use Rattle.md_array.specs.Events.{IsBesideArea, IsBesideMarks, IsChangedAlone, I
 use Rattle.md_array.specs.Filling.{MayRebuild}
 use Rattle.md_array.specs.Worlds.{from_super}
 use Rattle.md_array.proofs.General.Indices.{at_set_same, got_other}
+use Rattle.md_array.proofs.Rebuilding.EnrolledArray as array
 use Rattle.md_array.proofs.Rebuilding.MemberStored as stored
 use Rattle.md_array.proofs.Rebuilding.MemberStored.{bitmap_in_sync, placed_in_sync}
 use Rattle.md_array.proofs.Worlds.Outside.{starts_at}
@@ -60,17 +61,7 @@ module _ (k : ℕ) (copied orphans : Bitmap) (old new : MirrorView) (c : IsConsi
 
   module _ (d : Disk) (was : slice_get old.disks k ≡ Some d) where
     storable : IsStorable n d.content
-    storable =
-        let fit = c.fits.each k d m was r.comes.at in
-        record {
-          long = fit.long;
-          has = ap has_bitmap superblock ∙ bitmap_in_sync m.superblock r.comes.list ∙ fit.has;
-          placed = subst (λ (v : Superblock). IsPlaced (sectors_of d.content) v (bitmap_sectors n.stored.chunks)) (sym superblock)
-              (placed_in_sync m.superblock r.comes.list (sectors_of d.content) (bitmap_sectors n.stored.chunks)
-              (subst (λ (x : ℕ). IsPlaced (sectors_of d.content) m.superblock (bitmap_sectors x)) (sym chunks) fit.placed));
-          few_chunks = subst (λ (x : ℕ). x ≤ 1048576) (sym chunks) fit.few_chunks;
-          room = room;
-        }
+    storable = array.storable old c k m n r.comes.list d r.comes.at superblock r.comes.comes.stored.chunks room was
 
     abbrev pub content_then : List ℕ
     content_then = after d.content (first_writes r)
