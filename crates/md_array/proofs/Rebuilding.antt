@@ -29,3 +29,6 @@ pub mod HeldContent
 pub mod EnrolledWorld
 -- A member is prepared, and comes into sync by the write of its superblock: those are the model's events.
 pub mod EnrolledEvent
+-- What a stop leaves of a member's device within the writes of an enrolment: its bitmap and its log have changed at most, or all of them are
+-- stored, and the superblock has changed at most.
+pub mod CutBefore

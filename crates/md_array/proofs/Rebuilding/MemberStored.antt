@@ -163,10 +163,10 @@ module _ (a : ArrayView) (n : MemberView) (start : ℕ) (starts : BitmapStartsAt
   abbrev pub bitmap : Area
   bitmap = bitmap_area own width
 
-  bitmap_placed : BitmapIsPlaced (sectors_of old) own width
+  pub bitmap_placed : BitmapIsPlaced (sectors_of old) own width
   bitmap_placed = fit.placed.bitmap fit.has
 
-  bitmap_room : 512 * (start + width) ≤ length old
+  pub bitmap_room : 512 * (start + width) ≤ length old
   bitmap_room = fits_on bitmap.start start width (length old) starts bitmap_placed.within.to
 
   pub marks_stored : AreStored start h n.stored 0 width old marked
@@ -175,7 +175,7 @@ module _ (a : ArrayView) (n : MemberView) (start : ℕ) (starts : BitmapStartsAt
   marked_long : length marked ≡ length old
   marked_long = marks_stored.outside.size
 
-  marked_holds : HoldsBitmap marked start h n.stored
+  pub marked_holds : HoldsBitmap marked start h n.stored
   marked_holds = holds_written start h n.stored old marked (length-header_bytes h header.uuid_long header.name_long)
       (reads_back h header.uuid_long header.name_long header.counts_fit header.settings_fit) bitmap_room refl
 
@@ -184,7 +184,7 @@ module _ (a : ArrayView) (n : MemberView) (start : ℕ) (starts : BitmapStartsAt
     log_placed : LogIsPlaced (sectors_of old) own
     log_placed = fit.placed.log there
 
-    log_at : (log_area own).start ≡ pos (from_super own.bblog_offset)
+    pub log_at : (log_area own).start ≡ pos (from_super own.bblog_offset)
     log_at = sector_at_is (log_area own).start log_placed.within.from
 
     log_fits : 512 * (from_super own.bblog_offset + own.bblog_size) ≤ length marked
@@ -229,7 +229,7 @@ module _ (a : ArrayView) (n : MemberView) (start : ℕ) (starts : BitmapStartsAt
       log_stays super_area 8 refl listed new named own (apart_either_way super_area (log_area own) log.from_super) log.within.from ∙ listed_log there
 
   -- ---- the bitmap stays beside both
-  bitmap_beside : (area : Area) (at : ℕ) → area.start ≡ pos at → AreApart bitmap area → (xs ys : List ℕ) → SameOutside (512 * at) (512 * area.sectors) xs ys
+  pub bitmap_beside : (area : Area) (at : ℕ) → area.start ≡ pos at → AreApart bitmap area → (xs ys : List ℕ) → SameOutside (512 * at) (512 * area.sectors) xs ys
       → HoldsBitmap xs start h n.stored → HoldsBitmap ys start h n.stored
   bitmap_beside area at is apart xs ys same holds = record {
     header = subst (λ (bytes : List ℕ). IsHeader bytes h) (sym (header_stays area at is xs ys same bitmap start (sym starts) apart (omega arith))) holds.header;

@@ -4,11 +4,16 @@ use Rattle.std.proofs.lemmas.Option.{none-some, same_Some, slice_get_within}
 use Rattle.md_assembly.proofs.Indices.{got_within}
 use Rattle.md_device.proofs.Leaving.{leaves_none}
 use Rattle.md_state.specs.DeviceChanges.{LeavesOn, StaysHonest}
-use Rattle.md_state.specs.View.{Disk}
+use Rattle.md_state.specs.View.{Disk, MirrorView}
 use Rattle.md_writes.specs.Writes.{IsCutShort, Write}
-use Rattle.md_array.specs.Enrolling.{IsUsedAlone}
+use Rattle.md_bitmap.specs.Marks.{Bitmap}
+use Rattle.md_array.specs.Consistency.{IsConsistent}
+use Rattle.md_array.specs.Enrolling.{Enrols, IsUsedAlone, MayEnrol}
+use Rattle.md_array.specs.Enrolments.{Prepares}
 use Rattle.md_array.specs.Events.{IsChangedAlone, IsSameBesideMarks, IsSameBesideMissing}
-use Rattle.md_array.specs.Worlds.{AreHonest}
+use Rattle.md_array.specs.Worlds.{AreHonest, block_on}
+use Rattle.md_array.proofs.Rebuilding.CutBefore.{cut_with_super}
+use Rattle.md_array.proofs.Rebuilding.InBetween.{may_rebuild_it}
 use Rattle.md_laws.specs.StopsWithin.{IsLeftBut, IsLeftFailing, MayAllBeLeft, MayBeLeft, StopsAsFilled, StopsAsPrepared, StopsAtEnrol, StopsAtFailedEnrol}
 use Rattle.md_laws.proofs.Stops.AtSteps.{new_has, none_new}
 use Rattle.md_laws.proofs.Stops.WithinAdd.{cut_none}
@@ -135,3 +140,21 @@ stops_at_failed_enrol k copied orphans old new left honest r may =
     (λ d e c was change left_so. (change.0.done, change.0.tried,
     ⊎_elim (λ kept. inl (subst (IsCutShort d.content change.0.done) (sym kept) (cut_none d.content change.0.done)))
     (λ found. new_has d.stops e.stops (IsLeftFailing change.0.done change.0.tried d.content) (change.0.within (honest k d was)) found.0 c found.1) left_so))
+
+-- devices that were left so, where the superblock stands as before: those of a preparing
+pub left_prepared : (k : ℕ) (copied orphans : Bitmap) (old new : MirrorView) → IsConsistent old → (r : Enrols k copied orphans old new) → MayEnrol k copied orphans old
+    → (left : List (List ℕ)) → IsLeftBut k (λ was c. IsCutShort was r.writes c) old.disks left
+    → ((d : Disk) (c : List ℕ) → slice_get old.disks k ≡ Some d → slice_get left k ≡ Some c → block_on c ≡ block_on d.content)
+    → (other : MirrorView) × Prepares k old other × (map (λ d. d.content) other.disks ≡ left)
+left_prepared k copied orphans old new c r may left but super =
+    let m = r.comes.member in
+    let Related : List ℕ → List ℕ → Type 0 = IsSameBesideMarks old.array m in
+    let as_prepared : IsLeftBut k Related old.disks left = record {
+      as_many = but.as_many;
+      others = but.others;
+      this = λ d b was found. cut_with_super k copied orphans old new c r d was b (but.this d b was found) (super d b was found);
+    } in (
+      record { disks = with_contents old.disks left; array = old.array },
+      record { may = may_rebuild_it k copied orphans old new c r may; array = refl; disks = found_alone k Related old.disks left as_prepared (λ d b is. is.size) },
+      contents_with old.disks left but.as_many,
+    )

@@ -35,7 +35,7 @@ use Rattle.md_array.specs.ReadAsKept.{HasOwnSuper, IsReadAsKept}
 use Rattle.md_array.specs.Recording.{MayRecord, Records, super_write}
 use Rattle.md_array.specs.Worlds.{block_on, geometry_of, is_listed, stored_of, stored_on, super_in, super_of, world_of}
 use Rattle.md_laws.specs.StopsWithin.{MayAllBeLeft}
-use Rattle.md_laws.specs.Left.{IsLeft, IsLeftFilling, IsLeftPreparing, IsLeftRecording, IsLeftRecordingShort, IsLeftTakingBack, IsLeftWriting, contents_of}
+use Rattle.md_laws.specs.Left.{IsLeft, IsLeftEnrolling, IsLeftFilling, IsLeftPreparing, IsLeftRecording, IsLeftRecordingShort, IsLeftTakingBack, IsLeftWriting, contents_of}
 use Rattle.md_laws.specs.Runs.{MirrorRun, MirrorRunWith, Moment, history_of, then_as}
 use Rattle.md_laws.specs.StopsReadAs.{ReadsAs}
 use Rattle.md_array.proofs.Rebuilding.FilledEvent.{fill_happens}
@@ -50,11 +50,11 @@ use Rattle.md_array.proofs.Worlds.ReadAsKept.{own_stays_as, own_written_as, read
 use Rattle.md_array.proofs.Steps.SuperRecorded.{lists_alike, record_happens}
 use Rattle.md_array.proofs.General.Indices.{at_set_same, got_in_map, got_other}
 use Rattle.md_array.proofs.Worlds.Supers.{super_shown}
-use Rattle.md_laws.proofs.Stops.LeftContents.{got_like, read_changed, read_in, read_same}
+use Rattle.md_laws.proofs.Stops.LeftContents.{got_content, got_like, read_changed, read_in, read_same}
 use Rattle.md_laws.proofs.Runs.Moments.{IsSoundAt}
 use Rattle.md_laws.proofs.Stops.FirstSector.{cut_reads, reads_same}
 use Rattle.md_laws.proofs.Stops.AsFailed.{failed_as_tried, left_as_tried, stops_as_tried, stops_at_events}
-use Rattle.md_laws.proofs.Stops.AloneChanged.{stops_as_filled, stops_as_prepared}
+use Rattle.md_laws.proofs.Stops.AloneChanged.{left_prepared, stops_as_filled, stops_as_prepared, stops_at_enrol}
 use Rattle.md_laws.proofs.Stops.AtSteps.{stops_at_write}
 use Rattle.md_laws.proofs.Stops.TakenBack.{left_after, may_record_again}
 use Rattle.md_laws.proofs.Runs.Rests.{at_once, at_rest}
@@ -567,6 +567,16 @@ module _ (t : Moment) (at : IsSoundAt t) where
       let f = stops_as_prepared l.on v l.next (contents_of left) at.honest l.call l.within in
       sorted_like t f.0.disks left f.2 (prepared l.on f.0 f.1)
 
+  -- and within `enrol`, before the superblock is written
+  enrolling : (left : List Disk) → IsLeftEnrolling t left → IsSorted t left
+  enrolling left l =
+      let but = stops_at_enrol l.on l.copied l.orphans v l.next (contents_of left) at.honest l.call l.within in
+      let x = left_prepared l.on l.copied l.orphans v l.next at.sound l.call l.may (contents_of left) but
+      (λ d e was is.
+      let found = got_content left l.on e is in
+      ap block_on (sym found.2) ∙ l.super d found.0 was found.1) in
+      sorted_like t x.0.disks left x.2 (prepared l.on x.0 x.1)
+
   filling : (left : List Disk) → IsLeftFilling t left → IsSorted t left
   filling left l =
       let f = stops_as_filled l.on v l.next (contents_of left) at.honest l.call l.within in
@@ -580,4 +590,5 @@ module _ (t : Moment) (at : IsSoundAt t) where
   sorted left (inr (inr (inr (inr (inl l))))) = recording_short left l
   sorted left (inr (inr (inr (inr (inr (inl l)))))) = taking_back left l
   sorted left (inr (inr (inr (inr (inr (inr (inl l))))))) = filling left l
-  sorted left (inr (inr (inr (inr (inr (inr (inr l))))))) = preparing left l
+  sorted left (inr (inr (inr (inr (inr (inr (inr (inl l)))))))) = preparing left l
+  sorted left (inr (inr (inr (inr (inr (inr (inr (inr l)))))))) = enrolling left l
