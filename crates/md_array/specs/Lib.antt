@@ -38,3 +38,5 @@ pub mod Filling
 pub mod RecordingTarget
 -- A member that was rebuilt comes into sync: its marks are stored, its log, and last its superblock (this project's own order).
 pub mod Enrolling
+-- An enrolment as events: the member is prepared, and then it comes into sync by one write (this project's own).
+pub mod Enrolments

@@ -1,6 +1,7 @@
 -- What a stop leaves of a mirror's devices: it comes between two calls or within one, of which its own contract says what may be
 -- left (`MayAllBeLeft`).
 use Rattle.std.specs.Prelude.{◌≡◌, ◌⊎◌, ℕ, ◌<◌, true, List, [], ◌∷◌, ◌++◌, length, map, Option, slice_get, Some}
+use Rattle.md_bitmap.specs.Marks.{Bitmap}
 use Rattle.md_members.specs.Areas.{bitmap_sectors}
 use Rattle.md_model.specs.Worlds.{Request}
 use Rattle.md_requests.specs.Pending.{PendingView}
@@ -12,6 +13,8 @@ use Rattle.md_state.specs.Requests.{IsPending, among}
 use Rattle.md_state.specs.StoringMarks.{StoresMarkSector}
 use Rattle.md_state.specs.WritingMember.{FailsToWrite, HaltsWritingTo, WritesTo}
 use Rattle.md_array.specs.Events.{IsOldNewOrNone}
+use Rattle.md_array.specs.Enrolling.{Enrols, MayEnrol}
+use Rattle.md_array.specs.Enrolments.{Prepares}
 use Rattle.md_array.specs.Filling.{Fills}
 use Rattle.md_array.specs.ReAdding.{ReAdds}
 use Rattle.md_array.specs.Recording.{FailsToRecord, HaltsRecording, Records, super_write}
@@ -76,6 +79,24 @@ pub record IsLeftFilling (t : Moment) (left : List Disk) : Type 0 where
   pub call : Fills on t.mirror next
   pub within : IsLeftWithin t next left
 
+-- While the bitmap and the log of a member are stored, before its superblock.
+pub record IsLeftPreparing (t : Moment) (left : List Disk) : Type 0 where
+  pub on : ℕ
+  pub next : MirrorView
+  pub call : Prepares on t.mirror next
+  pub within : IsLeftWithin t next left
+
+-- Within `enrol`, as long as the superblock of the member stands as before: its bitmap and its log are being stored.
+pub record IsLeftEnrolling (t : Moment) (left : List Disk) : Type 0 where
+  pub on : ℕ
+  pub copied : Bitmap
+  pub orphans : Bitmap
+  pub may : MayEnrol on copied orphans t.mirror
+  pub next : MirrorView
+  pub call : Enrols on copied orphans t.mirror next
+  pub within : IsLeftWithin t next left
+  pub super : AtDevice on t.mirror.disks left (λ d e. block_on e.content ≡ block_on d.content)
+
 -- Within the `re_add` after which t is, where the superblock of the device that it takes back reads as after the call.
 pub record IsLeftTakingBack (t : Moment) (left : List Disk) : Type 0 where
   pub on : ℕ
@@ -95,4 +116,4 @@ abbrev pub IsLeft : Moment → List Disk → Type 0
 IsLeft t left =
     (contents_of left ≡ contents_of t.mirror.disks)
     ⊎ (IsLeftStoring t left
-    ⊎ (IsLeftWriting t left ⊎ (IsLeftRecording t left ⊎ (IsLeftRecordingShort t left ⊎ (IsLeftTakingBack t left ⊎ IsLeftFilling t left)))))
+    ⊎ (IsLeftWriting t left ⊎ (IsLeftRecording t left ⊎ (IsLeftRecordingShort t left ⊎ (IsLeftTakingBack t left ⊎ (IsLeftFilling t left ⊎ (IsLeftPreparing t left ⊎ IsLeftEnrolling t left)))))))

@@ -41,7 +41,7 @@ use Rattle.md_array.proofs.Worlds.Writes.{HoldsBitmap, holds_written, within_are
 -- ---- its superblock, once it is in sync
 module _ (v : Superblock) (list : List Run) where
   -- the same superblock without bit 2
-  abbrev whole : Superblock
+  abbrev pub whole : Superblock
   whole = record v {
     feature_map = bit_and v.feature_map 0xffff_fffd;
     in_profile = record {
@@ -145,37 +145,37 @@ log_long n room there =
 
 module _ (a : ArrayView) (n : MemberView) (start : ℕ) (starts : BitmapStartsAt n.superblock start) (h : BitmapHeader) (header : IsHeaderFor a n h)
     (shared : Superblock) (old : List ℕ) (fit : IsStorable n old) (readable : IsReadable (merged shared n.superblock)) where
-  abbrev own : Superblock
+  abbrev pub own : Superblock
   own = n.superblock
 
-  abbrev width : ℕ
+  abbrev pub width : ℕ
   width = bitmap_sectors n.stored.chunks
 
-  abbrev marked : List ℕ
+  abbrev pub marked : List ℕ
   marked = after old (bitmap_writes start h n.stored width)
 
-  abbrev listed : List ℕ
+  abbrev pub listed : List ℕ
   listed = after marked (log_writes own n.bad)
 
   abbrev new : List ℕ
   new = after listed (write_of shared n ∷ [])
 
-  abbrev bitmap : Area
+  abbrev pub bitmap : Area
   bitmap = bitmap_area own width
 
-  bitmap_placed : BitmapIsPlaced (sectors_of old) own width
+  pub bitmap_placed : BitmapIsPlaced (sectors_of old) own width
   bitmap_placed = fit.placed.bitmap fit.has
 
-  bitmap_room : 512 * (start + width) ≤ length old
+  pub bitmap_room : 512 * (start + width) ≤ length old
   bitmap_room = fits_on bitmap.start start width (length old) starts bitmap_placed.within.to
 
-  marks_stored : AreStored start h n.stored 0 width old marked
+  pub marks_stored : AreStored start h n.stored 0 width old marked
   marks_stored = stored_all start h n.stored width old (omega arith) bitmap_room
 
   marked_long : length marked ≡ length old
   marked_long = marks_stored.outside.size
 
-  marked_holds : HoldsBitmap marked start h n.stored
+  pub marked_holds : HoldsBitmap marked start h n.stored
   marked_holds = holds_written start h n.stored old marked (length-header_bytes h header.uuid_long header.name_long)
       (reads_back h header.uuid_long header.name_long header.counts_fit header.settings_fit) bitmap_room refl
 
@@ -184,7 +184,7 @@ module _ (a : ArrayView) (n : MemberView) (start : ℕ) (starts : BitmapStartsAt
     log_placed : LogIsPlaced (sectors_of old) own
     log_placed = fit.placed.log there
 
-    log_at : (log_area own).start ≡ pos (from_super own.bblog_offset)
+    pub log_at : (log_area own).start ≡ pos (from_super own.bblog_offset)
     log_at = sector_at_is (log_area own).start log_placed.within.from
 
     log_fits : 512 * (from_super own.bblog_offset + own.bblog_size) ≤ length marked
@@ -194,7 +194,7 @@ module _ (a : ArrayView) (n : MemberView) (start : ℕ) (starts : BitmapStartsAt
     listed_is : listed ≡ written marked (from_super own.bblog_offset) (log_bytes n.bad (log_room own))
     listed_is = ap (λ (b : Bool). after marked (if b then record { sector = from_super own.bblog_offset; bytes = log_bytes n.bad (log_room own) } ∷ [] else [])) there
 
-    listed_outside : SameOutside (512 * from_super own.bblog_offset) (512 * own.bblog_size) marked listed
+    pub listed_outside : SameOutside (512 * from_super own.bblog_offset) (512 * own.bblog_size) marked listed
     listed_outside = subst (SameOutside (512 * from_super own.bblog_offset) (512 * own.bblog_size) marked) (sym listed_is)
         (spliced_outside marked (512 * from_super own.bblog_offset) (log_bytes n.bad (log_room own)) (512 * own.bblog_size) (sym (log_long n fit.room there)) (omega (arith, log_fits)))
 
@@ -202,18 +202,18 @@ module _ (a : ArrayView) (n : MemberView) (start : ℕ) (starts : BitmapStartsAt
     listed_log = ap (λ (xs : List ℕ). part xs (512 * from_super own.bblog_offset) (512 * own.bblog_size)) listed_is
         ∙ part-spliced marked (512 * from_super own.bblog_offset) (log_bytes n.bad (log_room own)) (512 * own.bblog_size) (sym (log_long n fit.room there)) (omega (arith, log_fits))
 
-  unlisted : has_bad_block_log own ≡ false → listed ≡ marked
+  pub unlisted : has_bad_block_log own ≡ false → listed ≡ marked
   unlisted none = ap (λ (b : Bool). after marked (if b then record { sector = from_super own.bblog_offset; bytes = log_bytes n.bad (log_room own) } ∷ [] else [])) none
 
   -- with a log or without
-  by_log : {P : Type 0} → (has_bad_block_log own ≡ true → P) → (has_bad_block_log own ≡ false → P) → P
+  pub by_log : {P : Type 0} → (has_bad_block_log own ≡ true → P) → (has_bad_block_log own ≡ false → P) → P
   by_log {P} with_log without = by (has_bad_block_log own) refl
     where
       by : (b : Bool) → has_bad_block_log own ≡ b → P
       by true is = with_log is
       by false is = without is
 
-  listed_long : length listed ≡ length old
+  pub listed_long : length listed ≡ length old
   listed_long = by_log (λ there. (listed_outside there).size ∙ marked_long) (λ none. ap length (unlisted none) ∙ marked_long)
 
   -- ---- the superblock
@@ -229,14 +229,14 @@ module _ (a : ArrayView) (n : MemberView) (start : ℕ) (starts : BitmapStartsAt
       log_stays super_area 8 refl listed new named own (apart_either_way super_area (log_area own) log.from_super) log.within.from ∙ listed_log there
 
   -- ---- the bitmap stays beside both
-  bitmap_beside : (area : Area) (at : ℕ) → area.start ≡ pos at → AreApart bitmap area → (xs ys : List ℕ) → SameOutside (512 * at) (512 * area.sectors) xs ys
+  pub bitmap_beside : (area : Area) (at : ℕ) → area.start ≡ pos at → AreApart bitmap area → (xs ys : List ℕ) → SameOutside (512 * at) (512 * area.sectors) xs ys
       → HoldsBitmap xs start h n.stored → HoldsBitmap ys start h n.stored
   bitmap_beside area at is apart xs ys same holds = record {
     header = subst (λ (bytes : List ℕ). IsHeader bytes h) (sym (header_stays area at is xs ys same bitmap start (sym starts) apart (omega arith))) holds.header;
     bits = λ c low. bit_stays area at is xs ys same bitmap start (sym starts) apart c (within_area n.stored.chunks c low) ∙ holds.bits c low;
   }
 
-  listed_holds : HoldsBitmap listed start h n.stored
+  pub listed_holds : HoldsBitmap listed start h n.stored
   listed_holds = by_log
       (λ there. bitmap_beside (log_area own) (from_super own.bblog_offset) (log_at there) (apart_either_way (log_area own) bitmap (bitmap_placed.from_log there)) marked listed (listed_outside there) marked_holds)
       (λ none. subst (λ (xs : List ℕ). HoldsBitmap xs start h n.stored) (sym (unlisted none)) marked_holds)

@@ -81,7 +81,7 @@ listed_is_bad content v (run ∷ runs) sector (inl log) =
     )
 listed_is_bad content v (run ∷ runs) sector (inr none) = let empty = none.1 in absurd cc
 
-same_test : {P : Type 0} (a b : Bool) → (a ≡ true ↔ P) → (b ≡ true ↔ P) → a ≡ b
+pub same_test : {P : Type 0} (a b : Bool) → (a ≡ true ↔ P) → (b ≡ true ↔ P) → a ≡ b
 same_test a b f g = by_test b
     (λ is. f.1 (g.0 is) ∙ sym is)
     (λ isnt. by_test a (λ is. absurd (true≢false (sym (g.1 (f.0 is)) ∙ isnt))) (λ neither. neither ∙ sym isnt))

@@ -32,7 +32,7 @@ pub apart_either_way : (a b : Area) → AreApart a b → AreApart b a
 apart_either_way a b (inl before) = inr before
 apart_either_way a b (inr behind) = inl behind
 
-apart : (p q : ℤ) (s start m n : ℕ) → p ≡ pos s → q ≡ pos start → ((p +ℤ pos m) ≤ℤ q) ⊎ ((q +ℤ pos n) ≤ℤ p) → (s + m ≤ start) ⊎ (start + n ≤ s)
+pub apart : (p q : ℤ) (s start m n : ℕ) → p ≡ pos s → q ≡ pos start → ((p +ℤ pos m) ≤ℤ q) ⊎ ((q +ℤ pos n) ≤ℤ p) → (s + m ≤ start) ⊎ (start + n ≤ s)
 apart p q s start m n e f (inl h) = inl (omega (arith, ints))
 apart p q s start m n e f (inr h) = inr (omega (arith, ints))
 

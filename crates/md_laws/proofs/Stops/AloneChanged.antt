@@ -1,14 +1,22 @@
 -- What a stop leaves where one device alone is written: of a member that is rebuilt, what another such change leaves at its end.
-use Rattle.std.proofs.Common.{◌≡◌, ◌∙◌, ⊎_elim, ℕ, zero, suc, List, [], ◌∷◌, length, map, slice_get, Some, sym, ap, refl, subst, arith}
+use Rattle.std.proofs.Common.{◌≡◌, ◌∙◌, ⊎_elim, inl, ℕ, zero, suc, List, [], ◌∷◌, length, map, slice_get, Some, sym, ap, refl, subst, arith}
 use Rattle.std.proofs.lemmas.Option.{none-some, same_Some, slice_get_within}
 use Rattle.md_assembly.proofs.Indices.{got_within}
 use Rattle.md_device.proofs.Leaving.{leaves_none}
 use Rattle.md_state.specs.DeviceChanges.{LeavesOn, StaysHonest}
-use Rattle.md_state.specs.View.{Disk}
-use Rattle.md_array.specs.Events.{IsChangedAlone, IsSameBesideMissing}
-use Rattle.md_array.specs.Worlds.{AreHonest}
-use Rattle.md_laws.specs.StopsWithin.{IsLeftBut, MayAllBeLeft, StopsAsFilled}
-use Rattle.md_laws.proofs.Stops.AtSteps.{new_has}
+use Rattle.md_state.specs.View.{Disk, MirrorView}
+use Rattle.md_writes.specs.Writes.{IsCutShort, Write}
+use Rattle.md_bitmap.specs.Marks.{Bitmap}
+use Rattle.md_array.specs.Consistency.{IsConsistent}
+use Rattle.md_array.specs.Enrolling.{Enrols, IsUsedAlone, MayEnrol}
+use Rattle.md_array.specs.Enrolments.{Prepares}
+use Rattle.md_array.specs.Events.{IsChangedAlone, IsSameBesideMarks, IsSameBesideMissing}
+use Rattle.md_array.specs.Worlds.{AreHonest, block_on}
+use Rattle.md_array.proofs.Rebuilding.CutBefore.{cut_with_super}
+use Rattle.md_array.proofs.Rebuilding.InBetween.{may_rebuild_it}
+use Rattle.md_laws.specs.StopsWithin.{IsLeftBut, IsLeftFailing, MayAllBeLeft, MayBeLeft, StopsAsFilled, StopsAsPrepared, StopsAtEnrol, StopsAtFailedEnrol}
+use Rattle.md_laws.proofs.Stops.AtSteps.{new_has, none_new}
+use Rattle.md_laws.proofs.Stops.WithinAdd.{cut_none}
 
 -- devices with these contents in place of theirs
 abbrev pub with_contents : List Disk → List (List ℕ) → List Disk
@@ -93,5 +101,60 @@ stops_as_filled k old new left honest fills may =
     let but = left_alone k Related old.disks new.disks left (λ c. record { size = refl; beside = λ at n _. refl }) honest fills.disks may in (
       record { disks = with_contents old.disks left; array = old.array },
       record { may = fills.may; array = refl; disks = found_alone k Related old.disks left but (λ d c is. is.size) },
+      contents_with old.disks left but.as_many,
+    )
+
+pub stops_as_prepared : StopsAsPrepared
+stops_as_prepared k old new left honest prepares may =
+    let Related : List ℕ → List ℕ → Type 0 = IsSameBesideMarks old.array prepares.may.member in
+    let but = left_alone k Related old.disks new.disks left (λ c. record { size = refl; beside = λ at n _. refl; width = λ width. width }) honest prepares.disks may in (
+      record { disks = with_contents old.disks left; array = old.array },
+      record { may = prepares.may; array = refl; disks = found_alone k Related old.disks left but (λ d c is. is.size) },
+      contents_with old.disks left but.as_many,
+    )
+
+-- ---- within the writes of an enrolment
+used_alone : (k : ℕ) (before after : List Disk) (left : List (List ℕ)) (Change : Disk → Disk → Type 0) (P : List ℕ → List ℕ → Type 0) → IsUsedAlone k before after Change → MayAllBeLeft before after left
+    → ((d e : Disk) (c : List ℕ) → slice_get before k ≡ Some d → Change d e → MayBeLeft d e c → P d.content c) → IsLeftBut k P before left
+used_alone k before after left Change P is may this =
+    let many = is.as_many in
+    record {
+      as_many = may.as_many;
+      others = λ j apart d c was found.
+          ⊎_elim (λ kept. kept) (λ new. absurd (none_new d.stops new.0 c new.1)) (may.each j d d c was (is.others j apart ∙ was) found);
+      this = λ d c was found.
+          let low = slice_get_within before k d was in
+          let e = got_within after k (omega arith) in
+          this d e.0 c was (is.change d e.0 was e.1) (may.each k d e.0 c was e.1 found);
+    }
+
+pub stops_at_enrol : StopsAtEnrol
+stops_at_enrol k copied orphans old new left honest r may =
+    used_alone k old.disks new.disks left _ (λ was c. IsCutShort was r.writes c) r.disks may
+    (λ d e c was change left_so. ⊎_elim (λ kept. subst (IsCutShort d.content r.writes) (sym kept) (cut_none d.content r.writes))
+    (λ found. new_has d.stops e.stops (IsCutShort d.content r.writes) (change.0.within (honest k d was)) found.0 c found.1) left_so)
+
+pub stops_at_failed_enrol : StopsAtFailedEnrol
+stops_at_failed_enrol k copied orphans old new left honest r may =
+    used_alone k old.disks new.disks left _ (λ was c. (done : List Write) × (tried : Write) × IsLeftFailing done tried was c) r.disks may
+    (λ d e c was change left_so. (change.0.done, change.0.tried,
+    ⊎_elim (λ kept. inl (subst (IsCutShort d.content change.0.done) (sym kept) (cut_none d.content change.0.done)))
+    (λ found. new_has d.stops e.stops (IsLeftFailing change.0.done change.0.tried d.content) (change.0.within (honest k d was)) found.0 c found.1) left_so))
+
+-- devices that were left so, where the superblock stands as before: those of a preparing
+pub left_prepared : (k : ℕ) (copied orphans : Bitmap) (old new : MirrorView) → IsConsistent old → (r : Enrols k copied orphans old new) → MayEnrol k copied orphans old
+    → (left : List (List ℕ)) → IsLeftBut k (λ was c. IsCutShort was r.writes c) old.disks left
+    → ((d : Disk) (c : List ℕ) → slice_get old.disks k ≡ Some d → slice_get left k ≡ Some c → block_on c ≡ block_on d.content)
+    → (other : MirrorView) × Prepares k old other × (map (λ d. d.content) other.disks ≡ left)
+left_prepared k copied orphans old new c r may left but super =
+    let m = r.comes.member in
+    let Related : List ℕ → List ℕ → Type 0 = IsSameBesideMarks old.array m in
+    let as_prepared : IsLeftBut k Related old.disks left = record {
+      as_many = but.as_many;
+      others = but.others;
+      this = λ d b was found. cut_with_super k copied orphans old new c r d was b (but.this d b was found) (super d b was found);
+    } in (
+      record { disks = with_contents old.disks left; array = old.array },
+      record { may = may_rebuild_it k copied orphans old new c r may; array = refl; disks = found_alone k Related old.disks left as_prepared (λ d b is. is.size) },
       contents_with old.disks left but.as_many,
     )

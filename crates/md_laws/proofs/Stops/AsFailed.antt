@@ -16,7 +16,7 @@ use Rattle.md_model.proofs.Puts.{by_same}
 use Rattle.md_state.specs.DeviceChanges.{LeavesOn, StaysHonest}
 use Rattle.md_state.specs.DiskWrites.{IsFailed, IsTried, IsWritten}
 use Rattle.md_state.specs.View.{Disk}
-use Rattle.md_array.specs.Events.{IsSameBesideMissing}
+use Rattle.md_array.specs.Events.{IsSameBesideMarks, IsSameBesideMissing}
 use Rattle.md_array.specs.Worlds.{AreHonest}
 use Rattle.md_laws.specs.StopsWithin.{IsLeftBut, MayAllBeLeft, StopsAsFailed, StopsAsTried, StopsAtEvents, StopsUndivided}
 use Rattle.md_array.proofs.General.Indices.{got_in_map}
@@ -224,6 +224,7 @@ stops_at_events (Event.ClearIdle c) before after left honest writes may = in_mem
 stops_at_events (Event.Fail k) before after left honest writes may = in_memory before after left writes may
 stops_at_events (Event.Fill k) before after left honest writes may =
     left_alone k (IsSameBesideMissing writes.0 writes.1) before after left (λ c. record { size = refl; beside = λ at n _. refl }) honest writes.2 may
-stops_at_events (Event.Prepare k) before after left honest writes may = absurd writes
+stops_at_events (Event.Prepare k) before after left honest writes may =
+    left_alone k (IsSameBesideMarks writes.0 writes.1) before after left (λ c. record { size = refl; beside = λ at n _. refl; width = λ width. width }) honest writes.2 may
 stops_at_events (Event.RecordTargetFails k) before after left honest writes may = (writes.0, writes.1, stops_at_failure k writes.0 before after left honest writes.1 may)
-stops_at_events (Event.Enrol k role listed) before after left honest writes may = absurd writes
+stops_at_events (Event.Enrol k role listed) before after left honest writes may = tt
