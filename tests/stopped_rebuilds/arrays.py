@@ -99,7 +99,7 @@ def made_cases(scratch):
             (["write", "--sector", 6], [0], members.pattern(9, 12)),
         ]
         contents = prepared(scratch, scratch.created([0, 1], SECTORS, CHUNK_KIB, CLEAN), away)
-        return re_add_case("marked chunks alone", contents, [0], "in sync 2 of 2, events 7, marked 0\n")
+        return re_add_case("marked chunks alone", contents, [0], "in sync 2 of 2, events 6, marked 0\n")
 
     def a_member_of_an_unequal_array():
         away = [(["fail", "--member", 2], [0, 1, 2], b""), (["remove", "--member", 2], [0, 1, 2], b"")]
