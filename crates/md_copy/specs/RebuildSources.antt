@@ -14,7 +14,7 @@ use Rattle.md_assembly.specs.States.{is_in_sync_as}
 use Rattle.md_kept_members.specs.View.{MemberView}
 use Rattle.md_state.specs.View.{ArrayView, Disk, MirrorView}
 use Rattle.md_state.specs.Members.{IsInSync, IsMember}
-use Rattle.md_copy.specs.declared.source.Source.{Source}
+use Rattle.md_pass.specs.declared.source.Source.{Source}
 use Rattle.md_copy.specs.Sources.{IsTableOf}
 
 -- a plan of the chunks that the member lacks
