@@ -22,6 +22,7 @@ mod writing;
 pub use adding::add_device;
 pub use failing::fail_member;
 pub use fault::DataFault;
+pub use md_copy::Gate;
 pub use re_adding::re_add_device;
 pub use reading::read_array;
 pub use rebuilding::rebuild_member;

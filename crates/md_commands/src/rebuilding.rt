@@ -90,7 +90,7 @@ pub(crate) fn rebuild_watched<
     ensures pending { (p : PendingView) → IsPending mirror.old.array p → IsPending mirror.new.array p }
 {
     if let Ok(missing) = mirror.missing(alloc, k) {
-        watch.begins(missing.count(), mirror.chunks().sectors);
+        watch.begins(missing.count());
     }
     rebuild(rt, alloc, mirror, k, watch)
 }
