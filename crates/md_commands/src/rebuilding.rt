@@ -3,6 +3,7 @@ ghost use Rattle.std.specs.Prelude.{◌≡◌, ◌<◌, MatchResult, length};
 ghost use Rattle.md_requests.specs.Pending.{PendingView};
 ghost use Rattle.md_state.specs.Requests.{IsPending};
 ghost use Rattle.md_array.specs.Consistency.{IsConsistent};
+ghost use Rattle.md_copy.specs.Rebuilding.{Rebuilds, RefusesRebuild};
 ghost use Rattle.md_commands.specs.Rebuilding.{RebuildsArray, RebuildsReadied, RefusesReadied, RefusesToRebuild};
 ghost use Rattle.md_commands.specs.Stopping.{StopsAfter};
 
@@ -86,6 +87,7 @@ pub(crate) fn rebuild_watched<
 ) -> Result<Rebuilt, RebuildFault>
     requires member { k < length mirror.old.array.members }
     requires sound { IsConsistent mirror.old }
+    ensures gives { MatchResult result (λ rebuilt. Rebuilds k rebuilt mirror.old mirror.new) (RefusesRebuild k mirror.old mirror.new) }
     ensures sound { IsConsistent mirror.new }
     ensures pending { (p : PendingView) → IsPending mirror.old.array p → IsPending mirror.new.array p }
 {

@@ -3,17 +3,11 @@ use Rattle.std.specs.List.{flat_map}
 use Rattle.std.proofs.lemmas.List.{take_all}
 use Rattle.md_examine.specs.Sink.{Puts}
 use Rattle.md_report.specs.RebuiltReport.{planned_text}
-use Rattle.md_examine.proofs.Puts.{puts_then, puts_nothing, flat_map_at}
+use Rattle.md_examine.proofs.Puts.{puts_nothing}
 use Rattle.md_report.proofs.rebuilt_lines.plan_reports.Goals as goal
 
 pub loop-planned-init : goal.loop-planned-init
 loop-planned-init g c = puts_nothing g.S.Sink.contents g.S.Sink.failed c.args.out.now
-
-pub loop-planned-preserved : goal.loop-planned-preserved
-loop-planned-preserved g c =
-    let P : List ℕ → Type 0 = λ t. Puts g.S.Sink.contents g.S.Sink.failed c.args.out.now c.planned_report.new.out t in
-    subst P (flat_map_at planned_text c.args.plans.now c.loop-planned.planned-index _ c.loop-planned-test.true)
-    (puts_then g.S.Sink.contents g.S.Sink.failed c.loop-planned.invariant c.in_ok-planned_report.ensures)
 
 pub returns : goal.returns
 returns g c =
