@@ -4,8 +4,8 @@ use Rattle.md_device.specs.declared.access.Access.TheVariants.{Change}
 use Rattle.md_advice.specs.Faults.{of_images}
 use Rattle.md_images.specs.Images.{allows}
 use Rattle.md_images.specs.Taking.{RefusesImages, Word, image_list, word_of}
-use Rattle.md_cli.proofs.Added.{all_named}
-use Rattle.md_cli.proofs.adding.add_last_image.Goals as goal
+use Rattle.md_cli.proofs.Joined.{all_named}
+use Rattle.md_cli.proofs.joining.join_last_image.Goals as goal
 
 pub returns-in_err-devices-clause-gives : goal.returns-in_err-devices-clause-gives
 returns-in_err-devices-clause-gives g c =
@@ -22,8 +22,8 @@ returns-in_err-devices-clause-gives g c =
       unwritten = refl;
     })
 
-pub add_last-devices-requires : goal.add_last-devices-requires
-add_last-devices-requires g c =
+pub join_last-devices-requires : goal.join_last-devices-requires
+join_last-devices-requires g c =
     let names = map (λ s. s.now) c.args.names.now in
     let words_are : map word_of c.as_slice-words.result.now ≡ image_list false names = ap (map word_of) c.as_slice-words.ensures.value ∙ c.in-Ok.ensures in
     let many = c.in_ok-devices.ensures.gives.many ∙ ap length words_are ∙ all_named names ∙ length-map c.args.names.now (λ s. s.now) in

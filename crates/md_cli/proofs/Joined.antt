@@ -8,7 +8,7 @@ use Rattle.md_commands.specs.Adding.{KeepsDevice}
 use Rattle.md_images.specs.Taking.{Text, Word, image_list, numbered}
 use Rattle.md_images.proofs.Listed.{is_image, word_at}
 use Rattle.md_state.specs.View.{Disk, disk_of}
-use Rattle.md_cli.specs.Adding.{with_last}
+use Rattle.md_cli.specs.Joining.{with_last}
 
 -- where no member may miss, each word names an image
 all_listed : (words : List Word) → filter (is_image false) words ≡ words
