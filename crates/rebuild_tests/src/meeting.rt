@@ -14,6 +14,7 @@ use std::thread::Threads;
 const LOOKS: u32 = 1_000_000_000;
 
 // Holds the first read of each of two sources until that of the other has begun.
+#[derive(Drop)]
 struct Meeting {
     first: AtomicBool,
     second: AtomicBool,
@@ -63,7 +64,7 @@ impl Gate for Meeting {
 }
 
 // Of three roles, with 20 sectors: three chunks.
-const fn of_three(number: u32, data: u8) -> Kind {
+fn of_three(number: u32, data: u8) -> Kind {
     Kind {
         raid_disks: 3,
         size: 20,

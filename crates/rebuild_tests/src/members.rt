@@ -30,7 +30,7 @@ pub(crate) struct Kind {
 }
 
 /// A member of the vault's array: in sync, with a log that is not looked at.
-pub(crate) const fn plain(number: u32) -> Kind {
+pub(crate) fn plain(number: u32) -> Kind {
     Kind {
         number,
         features: BITMAP_OFFSET,
@@ -44,8 +44,8 @@ pub(crate) const fn plain(number: u32) -> Kind {
 
 // The data of a sector: its number in each byte but the first.
 fn put_data(device: &mut MemDevice, sector: u8, data: u8) -> Result<(), Fail>
-    requires { length device.old ≡ 512 * 2112 }
-    requires { sector ≤ 63 }
+    requires long { length device.old ≡ 512 * 2112 }
+    requires within { sector ≤ 63 }
     ensures { length device.new ≡ 512 * 2112 }
 {
     let mut bytes = [sector; 512];

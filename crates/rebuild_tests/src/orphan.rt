@@ -16,18 +16,22 @@ const CHUNK: usize = 4096;
 // Sectors 2072 to 2079, those of chunk 3.
 const ENTRY: [u8; 8] = [0x08, 0x60, 0x20, 0, 0, 0, 0, 0];
 
-const SOURCE: Kind = Kind {
-    features: BITMAP_OFFSET_AND_BAD_BLOCKS,
-    listed: 2072,
-    ..plain(0)
-};
+fn source() -> Kind {
+    Kind {
+        features: BITMAP_OFFSET_AND_BAD_BLOCKS,
+        listed: 2072,
+        ..plain(0)
+    }
+}
 
 // It lists another chunk, which it gets.
-const SPARE: Kind = Kind {
-    features: BITMAP_OFFSET_AND_BAD_BLOCKS,
-    data: 0x77,
-    ..plain(2)
-};
+fn spare() -> Kind {
+    Kind {
+        features: BITMAP_OFFSET_AND_BAD_BLOCKS,
+        data: 0x77,
+        ..plain(2)
+    }
+}
 
 const TOLD: Told = Told {
     passes: 1,
@@ -81,7 +85,7 @@ fn expect_devices(rt: &impl Abort, changing: Rebuilding) {
 
 #[test]
 fn rebuild_with_orphan(rt: HostRuntime) -> Result<(), Fail> {
-    let mut changing = rebuilding_of(rt.alloc(), &[SOURCE, SPARE])?;
+    let mut changing = rebuilding_of(rt.alloc(), &[source(), spare()])?;
     expect_rebuilt(&rt, rt.alloc(), &mut changing);
     expect_devices(&rt, changing);
     Ok(())

@@ -61,7 +61,7 @@ fn told_of(rebuilt: &Rebuilt) -> Told {
         passes: rebuilt.passes,
         plans: rebuilt.plans.len(),
         rounds: plan.map_or(0, |plan| plan.rounds),
-        slots: plan.map_or(0, |plan| plan.slots.len()),
+        slots: plan.map_or(0, |plan| plan.slots.as_slice().len()),
         orphans: (rebuilt.orphans.len(), rebuilt.orphans.first().copied()),
     }
 }

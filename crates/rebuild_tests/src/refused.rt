@@ -26,7 +26,7 @@ fn expect_refused<R: Abort + Threads + Wait + Sync>(
 }
 
 // A member of an array of three, whose bitmap tells of nothing, so that each chunk is marked.
-const fn unsure(number: u32) -> Kind {
+fn unsure(number: u32) -> Kind {
     Kind {
         raid_disks: 3,
         bitmap_events: 8,
