@@ -1,4 +1,4 @@
--- Only `add` wins a device, and only `remove` loses one.
+-- Of the commands that don't rebuild, only `add` wins a device, and only `remove` loses one.
 use Rattle.std.proofs.Common.{◌≡◌, ◌∙◌, ◌⊎◌, inl, inr, ⊎_elim, ℕ, ◌+◌, Bool, true, false, List, [], ◌∷◌, ◌++◌, length, Option, Some, None, Result, Ok, Err, MatchResult, refl, sym, ap}
 use Rattle.std.proofs.lemmas.List.{length-append}
 use Rattle.std.proofs.lemmas.List.Edits.{length-remove}
@@ -51,7 +51,7 @@ use Rattle.md_commands.specs.Writing.{RefusesToWrite, WritesReadied}
 abbrev pub AsMany : MirrorView → MirrorView → Type 0
 AsMany old new = length new.disks ≡ length old.disks
 
-same : (old new : MirrorView) → new ≡ old → AsMany old new
+pub same : (old new : MirrorView) → new ≡ old → AsMany old new
 same old new e = ap (λ (v : MirrorView). length v.disks) e
 
 refused : (old new : MirrorView) (Reason : Type 0) → Refuses old new Reason → AsMany old new
@@ -204,20 +204,20 @@ not_written begin.NumbersSpent sector bytes old new h = refused old new _ h
 not_written begin.NoMemory sector bytes old new h = refused old new _ h
 
 -- ---- the commands
-readied : (old new : MirrorView) → ResyncsIfNeeded old new → AsMany old new
+pub readied : (old new : MirrorView) → ResyncsIfNeeded old new → AsMany old new
 readied old new r = by (needs_resync old.array) refl
   where
     by : (needs : Bool) → needs_resync old.array ≡ needs → AsMany old new
     by true is = resynced old new (r.resynced is)
     by false is = same old new (r.untouched is)
 
-not_readied : (fault : ResyncFault) (old new : MirrorView) → RefusesNeededResync old new fault → AsMany old new
+pub not_readied : (fault : ResyncFault) (old new : MirrorView) → RefusesNeededResync old new fault → AsMany old new
 not_readied fault old new r = not_resynced fault old new r.refused
 
 pub stopped_after : (Through : MirrorView → Type 0) (old new : MirrorView) → ((mid : MirrorView) → Through mid → AsMany old mid) → StopsAfter Through new → AsMany old new
 stopped_after Through old new through s = stopped s.mid new s.stops ∙ through s.mid s.through
 
-fails_after : (Through : MirrorView → Type 0) (old new : MirrorView) (fault : StopFault) → ((mid : MirrorView) → Through mid → AsMany old mid) → FailsToStop Through new fault → AsMany old new
+pub fails_after : (Through : MirrorView → Type 0) (old new : MirrorView) (fault : StopFault) → ((mid : MirrorView) → Through mid → AsMany old mid) → FailsToStop Through new fault → AsMany old new
 fails_after Through old new fault through s = not_stopped fault s.mid new s.refused ∙ through s.mid s.through
 
 pub read_readied : (sector count : ℕ) (bytes : List ℕ) (old new : MirrorView) → ReadsWhenReady sector count bytes old new → AsMany old new

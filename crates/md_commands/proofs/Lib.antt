@@ -1,5 +1,7 @@
 pub mod DeviceCounts
 pub mod ReadReadied
+pub mod RebuildCounts
+pub mod Rebuilt
 pub mod Resynced
 pub mod StoppedAfter
 pub mod Written

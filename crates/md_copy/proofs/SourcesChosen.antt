@@ -14,7 +14,7 @@ use Rattle.md_kept_members.specs.View.{MemberView}
 use Rattle.md_state.specs.View.{ArrayView, Disk, MirrorView}
 use Rattle.md_state.specs.Members.{IsMember, IsPermitted}
 use Rattle.md_array.specs.Consistency.{IsConsistent}
-use Rattle.md_copy.specs.declared.source.Source.{Source}
+use Rattle.md_pass.specs.declared.source.Source.{Source}
 use Rattle.md_copy.specs.RebuildSources.{AreSources, IsServedBy, IsSource, IsSourceAt, place_beside}
 use Rattle.md_copy.specs.Targets.{IsTarget, MayBeRebuilt}
 use Rattle.md_copy.proofs.Beside.{beside_is, beside_one, beside_within}
