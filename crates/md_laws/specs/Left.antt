@@ -44,7 +44,8 @@ pub record IsLeftWriting (t : Moment) (left : List Disk) : Type 0 where
   pub call : WritesTo on t.mirror next request then ⊎ (FailsToWrite on t.mirror next request then ⊎ HaltsWritingTo on t.mirror next request then)
   pub within : IsLeftWithin t next left
 
--- Within `record` or `record_target`, whatever comes of the write, where it left the old superblock, the new one or none: a premise on such stops.
+-- Within `record` or `record_target`, whatever comes of the write, where it left the old superblock, the new one or none: a premise on
+-- such stops.
 pub record IsLeftRecording (t : Moment) (left : List Disk) : Type 0 where
   pub on : ℕ
   pub next : MirrorView
@@ -116,4 +117,6 @@ abbrev pub IsLeft : Moment → List Disk → Type 0
 IsLeft t left =
     (contents_of left ≡ contents_of t.mirror.disks)
     ⊎ (IsLeftStoring t left
-    ⊎ (IsLeftWriting t left ⊎ (IsLeftRecording t left ⊎ (IsLeftRecordingShort t left ⊎ (IsLeftTakingBack t left ⊎ (IsLeftFilling t left ⊎ (IsLeftPreparing t left ⊎ IsLeftEnrolling t left)))))))
+    ⊎ (IsLeftWriting t left
+    ⊎ (IsLeftRecording t left
+    ⊎ (IsLeftRecordingShort t left ⊎ (IsLeftTakingBack t left ⊎ (IsLeftFilling t left ⊎ (IsLeftPreparing t left ⊎ IsLeftEnrolling t left)))))))

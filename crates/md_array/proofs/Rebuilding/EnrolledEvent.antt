@@ -267,12 +267,15 @@ module _ (k : ℕ) (copied orphans : Bitmap) (old new : MirrorView) (c : IsConsi
         }
 
         step : Step (geometry_of array) w (Event.Enrol k r.role listed) (world_of new requests)
-        step = (r.may.running, (
-          enrolled_world.full k copied orphans old new c sound r out small d was e is (honest k d was),
-          may_enrol,
-          enrolled_world.full_after k copied orphans old new c sound r out small d was e is (honest k d was) requests,
-          enrolled_world.world_enrolled k copied orphans old new c sound r out small d was e is (honest k d was) requests,
-        ))
+        step = (
+          r.may.running,
+          (
+            enrolled_world.full k copied orphans old new c sound r out small d was e is (honest k d was),
+            may_enrol,
+            enrolled_world.full_after k copied orphans old new c sound r out small d was e is (honest k d was) requests,
+            enrolled_world.world_enrolled k copied orphans old new c sound r out small d was e is (honest k d was) requests,
+          ),
+        )
 
     -- ---- what an opening would read
     readable : IsReadable (merged (enrolled array k n r.role).shared n.superblock)
