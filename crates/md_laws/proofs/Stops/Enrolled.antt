@@ -1,7 +1,7 @@
 -- A member that came into sync, and what a stop within that call leaves of it, once its superblock is written.
-use Rattle.std.proofs.Common.{◌≡◌, ◌≢◌, ℕ, ◌+◌, ◌*◌, ◌<◌, ◌≤◌, inl, inr, true, List, length, slice_get, Some, refl, sym, ap, ◌∙◌, subst, arith}
+use Rattle.std.proofs.Common.{◌≡◌, ℕ, ◌*◌, ◌≤◌, inl, inr, List, slice_get, Some, sym, ap, ◌∙◌, subst, arith}
 use Rattle.std.proofs.lemmas.Option.{slice_get_within}
-use Rattle.md_assembly.proofs.Indices.{got_same, got_within}
+use Rattle.md_assembly.proofs.Indices.{got_within}
 use Rattle.md_assembly.specs.States.{is_recorded}
 use Rattle.md_bitmap.specs.Marks.{Bitmap}
 use Rattle.md_device.specs.Splice.{SameOutside}
@@ -13,7 +13,6 @@ use Rattle.md_super.specs.Merge.{merged}
 use Rattle.md_writes.specs.Writes.{IsAnyIn, IsCutShort}
 use Rattle.md_array.specs.Consistency.{IsConsistent}
 use Rattle.md_array.specs.Enrolling.{Enrols}
-use Rattle.md_array.specs.Events.{IsSameBesideMarks}
 use Rattle.md_array.specs.ReadAsKept.{AreReadAsKept}
 use Rattle.md_array.specs.Recording.{MayRecord, super_write}
 use Rattle.md_array.specs.Worlds.{AreHonest, block_on}
