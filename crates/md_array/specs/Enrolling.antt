@@ -135,4 +135,5 @@ RefusesEnrol k copied orphans old new NoMemory = Refuses old new ((role : ℕ) �
 
 -- An opening would read of the devices what is kept of the members, as before, once it is in sync.
 abbrev pub EnrolReads : MirrorView → MirrorView → {T E : Type 0} → Result T E → Type 0
-EnrolReads old new result = MatchResult result (λ _. AreHonest old.disks → (failed_at : ℕ) → AreReadAsKept old failed_at → AreReadAsKept new failed_at) (λ _. ⊤)
+EnrolReads old new result =
+    MatchResult result (λ _. AreHonest old.disks → (failed_at : ℕ) → AreReadAsKept old failed_at → AreReadAsKept new failed_at) (λ _. ⊤)

@@ -6,6 +6,8 @@ pub mod AloneChanged
 pub mod AsFailed
 -- What a stop within a step leaves.
 pub mod AtSteps
+-- A member that came into sync, and what a stop within that call leaves of it, once its superblock is written.
+pub mod Enrolled
 -- A superblock that ends within its first sector is read by that sector.
 pub mod FirstSector
 -- What a stop leaves within a call is what one leaves between two calls, or in the midst of a write of data.

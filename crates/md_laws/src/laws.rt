@@ -49,7 +49,9 @@ pub fn opening()
 /// own contract gives (`IsLeft`): of its write each sector as before or as written, or any bytes in its range
 /// where the write fails. A stop within `record` left the old superblock, the new one or none that can be
 /// decoded: a premise, unless the write is done and neither superblock has more than 128 roles. A device that comes in
-/// counts as left only where it is as after the call. Of one that comes back it is enough that its superblock reads so. Nothing is said of a stop within a write of marks, or of a copy, that fails.
+/// counts as left only where it is as after the call. Of one that comes back it is enough that its superblock reads so. A member that is
+/// rebuilt counts as left at any moment of its filling, and of `enrol` where its superblock stands as before or as after. Nothing is said of a stop
+/// within a write of marks, or of a copy, that fails, or within an `enrol` that fails.
 ///
 /// An opening after a stop is of devices that were left, in any order, some of them missing (`IsReopened`). Beside
 /// them may be further ones, which the opening before left out (`IsFurther`): they are not found in sync. Its

@@ -87,13 +87,13 @@ module _ (k : ℕ) (copied orphans : Bitmap) (old new : MirrorView) (c : IsConsi
   gets : GetsRole array it it.state r.role
   gets = subst (λ (x : MemberView). GetsRole array x x.state r.role) (got_same array.members k r.may.member it r.may.at r.comes.at) r.may.gets
 
-  out : is_in_sync it.state ≡ false
+  pub out : is_in_sync it.state ≡ false
   out = gets_out array it it.state r.role gets
 
   its_number : n.superblock.dev_number ≡ it.superblock.dev_number
   its_number = ap (λ (v : Superblock). v.dev_number) (superblock k copied orphans old new c r)
 
-  there : IsMember new.array k n
+  pub there : IsMember new.array k n
   there =
       ap (λ (x : ArrayView). slice_get x.members k) r.array
       ∙ at_set_same (map made_due array.members) k n (slice_get_within (map made_due array.members) k (made_due it) (got_in_map made_due array.members k it r.comes.at))
@@ -104,7 +104,7 @@ module _ (k : ℕ) (copied orphans : Bitmap) (old new : MirrorView) (c : IsConsi
   low_role : r.role < array.shared.raid_disks
   low_role = subst (λ (x : ArrayView). r.role < x.shared.raid_disks) r.array (sound.roles.below k r.role n there takes)
 
-  small : n.superblock.dev_number < 1920
+  pub small : n.superblock.dev_number < 1920
   small =
       let given : role_in new.array.shared n.superblock.dev_number ≡ r.role = sound.roles.shared k r.role n there takes in
       let most = (sound_without_fault _ r.readable.sound).few_roles in
@@ -267,12 +267,15 @@ module _ (k : ℕ) (copied orphans : Bitmap) (old new : MirrorView) (c : IsConsi
         }
 
         step : Step (geometry_of array) w (Event.Enrol k r.role listed) (world_of new requests)
-        step = (r.may.running, (
-          enrolled_world.full k copied orphans old new c sound r out small d was e is (honest k d was),
-          may_enrol,
-          enrolled_world.full_after k copied orphans old new c sound r out small d was e is (honest k d was) requests,
-          enrolled_world.world_enrolled k copied orphans old new c sound r out small d was e is (honest k d was) requests,
-        ))
+        step = (
+          r.may.running,
+          (
+            enrolled_world.full k copied orphans old new c sound r out small d was e is (honest k d was),
+            may_enrol,
+            enrolled_world.full_after k copied orphans old new c sound r out small d was e is (honest k d was) requests,
+            enrolled_world.world_enrolled k copied orphans old new c sound r out small d was e is (honest k d was) requests,
+          ),
+        )
 
     -- ---- what an opening would read
     readable : IsReadable (merged (enrolled array k n r.role).shared n.superblock)

@@ -47,13 +47,13 @@ other_chunk chunks offset s c wide other =
     let expand : (c + 1) * w ≡ c * w + 1 * w = add-mul c 1 w in
     elim (cases_lt (s / w) c) [
       | inl before ↦ inl (elim (cases_lt s (c * w)) [
-          | inl low ↦ omega arith
-          | inr high ↦ let reaches : c ≤ s / w = le-div c s w wide high in absurd (omega (arith, before))
-        ])
+        | inl low ↦ omega arith
+        | inr high ↦ let reaches : c ≤ s / w = le-div c s w wide high in absurd (omega (arith, before))
+      ])
       | inr behind ↦ inr (elim (cases_lt s ((c + 1) * w)) [
-          | inl low ↦ let short : s / w < c + 1 = div_below s w (c + 1) wide low in absurd (other (omega arith))
-          | inr high ↦ omega arith
-        ])
+        | inl low ↦ let short : s / w < c + 1 = div_below s w (c + 1) wide low in absurd (other (omega arith))
+        | inr high ↦ omega arith
+      ])
     ]
 
 -- ---- the model's chunks that a member lacks are those of the array

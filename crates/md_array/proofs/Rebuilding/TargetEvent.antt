@@ -97,9 +97,17 @@ module _ (k : ℕ) (old new : MirrorView) (c : IsConsistent old) (f : FailsOnTar
 
       target_step : Step (geometry_of a) (world_of old requests) (Event.RecordTargetFails k) (world_of new requests)
       target_step =
-          let state_is : (world_of old requests).state k ≡ kind_of m.state = member_there a k m states.State.Faulty (λ x. kind_of x.state) f.leaves.may.at in
-          (f.leaves.may.running, (left, (ap model.is_target state_is ∙ rebuilt_target m.state f.rebuilt, left_by_super,
-          only_world k m old new c f.leaves.may.at f.rebuilt f.leaves.array only requests)))
+          let state_is : (world_of old requests).state k ≡ kind_of m.state = member_there a k m states.State.Faulty (λ x. kind_of x.state) f.leaves.may.at in (
+            f.leaves.may.running,
+            (
+              left,
+              (
+                ap model.is_target state_is ∙ rebuilt_target m.state f.rebuilt,
+                left_by_super,
+                only_world k m old new c f.leaves.may.at f.rebuilt f.leaves.array only requests,
+              ),
+            ),
+          )
 
   pub target_fails_happens : TargetFails k old new
   target_fails_happens n at leaves honest requests in_flight =

@@ -83,11 +83,12 @@ module _ (k : ℕ) (Related : List ℕ → List ℕ → Type 0) (before : List D
     as_many = long_with before left;
     others = λ j apart d e was is.
         let x = found j d e was is in
-        let kept : x.bytes ≡ d.content = but.others j apart d x.bytes was x.at_left in
-        (
+        let kept : x.bytes ≡ d.content = but.others j apart d x.bytes was x.at_left in (
           subst (λ (y : Disk). StaysHonest d y) (sym x.same) (record { honest = refl; counted = omega arith }),
-          (ap (λ (y : Disk). y.content) x.same ∙ kept,
-          λ _. subst (λ (y : Disk). LeavesOn (λ c. c ≡ d.content) d y) (sym x.same) (leaves_none d.stops (λ c. c ≡ d.content))),
+          (
+            ap (λ (y : Disk). y.content) x.same ∙ kept,
+            λ _. subst (λ (y : Disk). LeavesOn (λ c. c ≡ d.content) d y) (sym x.same) (leaves_none d.stops (λ c. c ≡ d.content)),
+          ),
         );
     stays = λ d e was is. let x = found k d e was is in subst (λ (y : Disk). StaysHonest d y) (sym x.same) (record { honest = refl; counted = omega arith });
     size = λ d e was is. let x = found k d e was is in ap (λ (y : Disk). length y.content) x.same ∙ long d x.bytes (but.this d x.bytes was x.at_left);
@@ -137,9 +138,12 @@ stops_at_enrol k copied orphans old new left honest r may =
 pub stops_at_failed_enrol : StopsAtFailedEnrol
 stops_at_failed_enrol k copied orphans old new left honest r may =
     used_alone k old.disks new.disks left _ (λ was c. (done : List Write) × (tried : Write) × IsLeftFailing done tried was c) r.disks may
-    (λ d e c was change left_so. (change.0.done, change.0.tried,
-    ⊎_elim (λ kept. inl (subst (IsCutShort d.content change.0.done) (sym kept) (cut_none d.content change.0.done)))
-    (λ found. new_has d.stops e.stops (IsLeftFailing change.0.done change.0.tried d.content) (change.0.within (honest k d was)) found.0 c found.1) left_so))
+    (λ d e c was change left_so. (
+      change.0.done,
+      change.0.tried,
+      ⊎_elim (λ kept. inl (subst (IsCutShort d.content change.0.done) (sym kept) (cut_none d.content change.0.done)))
+          (λ found. new_has d.stops e.stops (IsLeftFailing change.0.done change.0.tried d.content) (change.0.within (honest k d was)) found.0 c found.1) left_so,
+    ))
 
 -- devices that were left so, where the superblock stands as before: those of a preparing
 pub left_prepared : (k : ℕ) (copied orphans : Bitmap) (old new : MirrorView) → IsConsistent old → (r : Enrols k copied orphans old new) → MayEnrol k copied orphans old

@@ -35,7 +35,7 @@ use Rattle.md_array.specs.ReadAsKept.{HasOwnSuper, IsReadAsKept}
 use Rattle.md_array.specs.Recording.{MayRecord, Records, super_write}
 use Rattle.md_array.specs.Worlds.{block_on, geometry_of, is_listed, stored_of, stored_on, super_in, super_of, world_of}
 use Rattle.md_laws.specs.StopsWithin.{MayAllBeLeft}
-use Rattle.md_laws.specs.Left.{IsLeft, IsLeftEnrolling, IsLeftFilling, IsLeftPreparing, IsLeftRecording, IsLeftRecordingShort, IsLeftTakingBack, IsLeftWriting, contents_of}
+use Rattle.md_laws.specs.Left.{IsLeft, IsLeftEnrolled, IsLeftEnrolling, IsLeftFilling, IsLeftPreparing, IsLeftRecording, IsLeftRecordingShort, IsLeftTakingBack, IsLeftWriting, contents_of}
 use Rattle.md_laws.specs.Runs.{MirrorRun, MirrorRunWith, Moment, history_of, then_as}
 use Rattle.md_laws.specs.StopsReadAs.{ReadsAs}
 use Rattle.md_array.proofs.Rebuilding.FilledEvent.{fill_happens}
@@ -56,6 +56,7 @@ use Rattle.md_laws.proofs.Stops.FirstSector.{cut_reads, reads_same}
 use Rattle.md_laws.proofs.Stops.AsFailed.{failed_as_tried, left_as_tried, stops_as_tried, stops_at_events}
 use Rattle.md_laws.proofs.Stops.AloneChanged.{left_prepared, stops_as_filled, stops_as_prepared, stops_at_enrol}
 use Rattle.md_laws.proofs.Stops.AtSteps.{stops_at_write}
+use Rattle.md_laws.proofs.Stops.Enrolled.{left_since, may_record_new}
 use Rattle.md_laws.proofs.Stops.TakenBack.{left_after, may_record_again}
 use Rattle.md_laws.proofs.Runs.Rests.{at_once, at_rest}
 use Rattle.md_assembly.proofs.Indices.{got_within, got_same}
@@ -582,6 +583,24 @@ module _ (t : Moment) (at : IsSoundAt t) where
       let f = stops_as_filled l.on v l.next (contents_of left) at.honest l.call l.within in
       sorted_like t f.0.disks left f.2 (filled l.on f.0 f.1)
 
+  -- where the superblock stands as after `enrol`, it is a stop after it
+  enrolled : (left : List Disk) → IsLeftEnrolled t left → IsSorted t left
+  enrolled left l =
+      let m = l.call.member in
+      let may = may_record_new l.on l.copied l.orphans l.before v l.sound at.sound l.call l.honest l.failed_at l.read in
+      let but = stops_at_enrol l.on l.copied l.orphans l.before v (contents_of left) l.honest l.call l.within in
+      let since = left_since l.on l.copied l.orphans l.before v l.sound at.sound l.call l.honest l.failed_at l.read (contents_of left) but
+      (λ e x is found. let y = got_content left l.on x found in ap block_on (sym y.2) ∙ l.super e y.0 is y.1) in
+      let f = left_as_tried l.on (super_write a m) v.disks (contents_of left) since in
+      let low = slice_get_within a.members l.on m may.at in
+      let as_many = at.sound.fits.as_many in
+      let many = f.1.as_many in
+      let d = got_within v.disks l.on (omega arith) in
+      let e = got_within f.0 l.on (omega arith) in
+      let x = got_like left f.0 (sym f.2) l.on e.0 e.1 in
+      sorted_like t f.0 left f.2
+      (unrecorded l.on m may f.0 f.1 d.0 e.0 d.1 e.1 (inl (reads_same (block_on e.0.content) (block_on d.0.content) (ap block_on (sym x.2) ∙ l.super d.0 x.0 d.1 x.1))))
+
   pub sorted : (left : List Disk) → IsLeft t left → IsSorted t left
   sorted left (inl same) = sorted_like t v.disks left (sym same) between
   sorted left (inr (inl l)) = stored_sorted l.on l.block l.inside l.next l.call left l.within
@@ -591,4 +610,5 @@ module _ (t : Moment) (at : IsSoundAt t) where
   sorted left (inr (inr (inr (inr (inr (inl l)))))) = taking_back left l
   sorted left (inr (inr (inr (inr (inr (inr (inl l))))))) = filling left l
   sorted left (inr (inr (inr (inr (inr (inr (inr (inl l)))))))) = preparing left l
-  sorted left (inr (inr (inr (inr (inr (inr (inr (inr l)))))))) = enrolling left l
+  sorted left (inr (inr (inr (inr (inr (inr (inr (inr (inl l))))))))) = enrolling left l
+  sorted left (inr (inr (inr (inr (inr (inr (inr (inr (inr l))))))))) = enrolled left l
