@@ -23,14 +23,14 @@ use Rattle.md_commands.specs.Stopping.{StopsArrayAfter}
 use Rattle.md_commands.proofs.DeviceCounts.{AsMany, fails_after, not_readied, readied, same, stopped, stopped_after, stops_as_many}
 
 begun : (k : ℕ) (planned : Planned) (old stored : MirrorView) → Begins k planned old stored → AsMany old stored
-begun k planned old stored b = b.first.aside.data.as_many
+begun k planned old stored b = b.first.aside.kept.as_many
 
 filled : (k : ℕ) (planned : Planned) (copied orphans : Bitmap) (old new : MirrorView) → FillsBy k planned copied orphans old new → AsMany old new
 filled k planned copied orphans old new f = f.fills.filling.as_many ∙ begun k planned old f.stored f.begins
 
 rebuilt : (k : ℕ) (told : Rebuilt) (old new : MirrorView) → Rebuilds k told old new → AsMany old new
 rebuilt k told old new r =
-    r.by.settles.data.as_many ∙ (r.by.enrols.disks.as_many ∙ filled k r.planned r.copied r.orphans old r.by.filled r.by.fills)
+    r.by.settles.kept.as_many ∙ (r.by.enrols.disks.as_many ∙ filled k r.planned r.copied r.orphans old r.by.filled r.by.fills)
 
 in_pass : (fault : RebuildFault) (k : ℕ) (old new : MirrorView) → EndsInPass k fault old new → AsMany old new
 in_pass fault k old new e = e.fails.filling.as_many ∙ begun k e.planned old e.stored e.begins
@@ -45,13 +45,13 @@ refused_by rebuild.NotSpare k old new h = same old new h.unchanged
 refused_by rebuild.Dirty k old new h = same old new h.unchanged
 refused_by (rebuild.InFlight number) k old new h = same old new h.unchanged
 refused_by rebuild.EventsFull k old new h = same old new h.unchanged
-refused_by (rebuild.MetadataFault j) k old new h = h.data.as_many
+refused_by (rebuild.MetadataFault j) k old new h = h.kept.as_many
 refused_by rebuild.TargetFault k old new h =
-    ⊎_elim (λ f. f.data.as_many)
+    ⊎_elim (λ f. f.kept.as_many)
     (λ rest. ⊎_elim (λ e. in_pass rebuild.TargetFault k old new e) (λ e. when_filled k old new _ (λ copied orphans mid why. why.disks.as_many) e) rest)
     h
 refused_by rebuild.NoMemory k old new h =
-    ⊎_elim (λ n. n.first.aside.data.as_many)
+    ⊎_elim (λ n. n.first.aside.kept.as_many)
     (λ rest. ⊎_elim (λ e. in_pass rebuild.NoMemory k old new e) (λ e. when_filled k old new _ (λ copied orphans mid why. same mid new why) e) rest)
     h
 refused_by (rebuild.SourceFault j chunk) k old new h = in_pass (rebuild.SourceFault j chunk) k old new h
