@@ -23,7 +23,7 @@ returns-in_err-devices-clause-gives g c =
     })
 
 pub join_last-devices-requires-clause-some : goal.join_last-devices-requires-clause-some
-join_last-devices-requires-clause-some g c =
+join_last-devices-requires-clause-some g c lifetimes within =
     let names = map (λ s. s.now) c.args.names.now in
     let words_are : map word_of c.as_slice-words.result.now ≡ image_list false names = ap (map word_of) c.as_slice-words.ensures.value ∙ c.in-Ok.ensures in
     let many = c.in_ok-devices.ensures.gives.many ∙ ap length words_are ∙ all_named names ∙ length-map c.args.names.now (λ s. s.now) in
