@@ -2,7 +2,8 @@
 ghost use Rattle.std.specs.Prelude.{◌≡◌, ◌⊎◌, ◌+◌, ◌<◌, ◌++◌, ◌∷◌, [], IfOk, MatchResult, false, length, map, option_map, vec_capacity};
 ghost use Rattle.md_state.specs.View.{disk_of};
 ghost use Rattle.md_array.specs.Consistency.{IsConsistent};
-ghost use Rattle.md_commands.specs.Adding.{KeepsDevice};
+ghost use Rattle.md_commands.specs.Adding.{AddsDevice, KeepsDevice, RefusesToAdd};
+ghost use Rattle.md_commands.specs.ReAdding.{ReAddsDevice, RefusesToReAdd};
 ghost use Rattle.md_commands.specs.Stopping.{StopsArrayAfter};
 ghost use Rattle.md_cli.specs.Joining.{Joins, JoinsDevices, JoinsMirror, JoinsOpened, RefusesMembers, RefusesToJoin};
 ghost use Rattle.md_cli.specs.Arrays.{UsesImages};
@@ -46,6 +47,46 @@ fn with_last<D: Drop>(mut list: Vec<D>, mut devices: Vec<D>, device: D) -> Vec<D
     list
 }
 
+// Adds a device, stops the array and shows it. The device comes back, if it did not join.
+fn add_and_show<D: Device + Drop, S: Sink>(
+    alloc: Global,
+    mirror: &mut Mirror<D>,
+    device: D,
+    out: &mut S,
+) -> (Option<D>, Result<(), CommandFault>)
+    requires sound { IsConsistent mirror.old }
+    ensures joins { MatchResult result.1 (λ _. StopsArrayAfter S.Sink (AddsDevice (disk_of D.Device device) mirror.old) mirror.new out.old out.new) (OfData (RefusesToAdd S.Sink (disk_of D.Device device) (option_map (disk_of D.Device) result.0) mirror.old mirror.new out.old out.new)) }
+    ensures device { KeepsDevice mirror.old.disks mirror.new.disks (option_map (disk_of D.Device) result.0) }
+    ensures flushed { IfOk result.1 (λ _. S.is_flushed out.new) }
+{
+    let (device, added) = add_device(alloc, mirror, device, out);
+    match added {
+        Ok(()) => (device, Ok(())),
+        Err(fault) => (device, Err(CommandFault::Data(fault))),
+    }
+}
+
+// Takes a device back, rebuilds it, stops the array and shows it. The device comes back, if it did not join.
+fn re_add_and_show<D: Device + Drop + Send, S: Sink, W: Watch + Sync, T: Threads + Wait + Sync>(
+    rt: &T,
+    alloc: Global,
+    mirror: &mut Mirror<D>,
+    device: D,
+    watch: &W,
+    out: &mut S,
+) -> (Option<D>, Result<(), CommandFault>)
+    requires sound { IsConsistent mirror.old }
+    ensures joins { MatchResult result.1 (λ _. StopsArrayAfter S.Sink (ReAddsDevice (disk_of D.Device device) mirror.old) mirror.new out.old out.new) (OfData (RefusesToReAdd S.Sink (disk_of D.Device device) (option_map (disk_of D.Device) result.0) mirror.old mirror.new out.old out.new)) }
+    ensures device { KeepsDevice mirror.old.disks mirror.new.disks (option_map (disk_of D.Device) result.0) }
+    ensures flushed { IfOk result.1 (λ _. S.is_flushed out.new) }
+{
+    let (device, joined) = re_add_device(rt, alloc, mirror, device, watch, out);
+    match joined {
+        Ok(()) => (device, Ok(())),
+        Err(fault) => (device, Err(CommandFault::Data(fault))),
+    }
+}
+
 // A device joins the array, which is stopped then and shown. The device comes back, if it did not join.
 fn join_and_show<D: Device + Drop + Send, S: Sink, W: Watch + Sync, T: Threads + Wait + Sync>(
     rt: &T,
@@ -61,13 +102,9 @@ fn join_and_show<D: Device + Drop + Send, S: Sink, W: Watch + Sync, T: Threads +
     ensures device { KeepsDevice mirror.old.disks mirror.new.disks (option_map (disk_of D.Device) result.0) }
     ensures flushed { IfOk result.1 (λ _. S.is_flushed out.new) }
 {
-    let (device, joined) = match joining {
-        Joining::Added => add_device(alloc, mirror, device, out),
-        Joining::ReAdded => re_add_device(rt, alloc, mirror, device, watch, out),
-    };
-    match joined {
-        Ok(()) => (device, Ok(())),
-        Err(fault) => (device, Err(CommandFault::Data(fault))),
+    match joining {
+        Joining::Added => add_and_show(alloc, mirror, device, out),
+        Joining::ReAdded => re_add_and_show(rt, alloc, mirror, device, watch, out),
     }
 }
 

@@ -59,10 +59,10 @@ refused old new Reason r = same old new r.unchanged
 
 -- ---- events
 -- no member leaves or comes in by one of this kind
-record KeepsMembers (IsOf : Event → Type 0) : Type 0 where
-  removes : (k : ℕ) → IsOf (Event.Remove k) → ⊥
-  adds : (d : ℕ) (left : Stored) → IsOf (Event.Add d left) → ⊥
-  re_adds : (own : Super) (device left : Stored) → IsOf (Event.ReAdd own device left) → ⊥
+pub record KeepsMembers (IsOf : Event → Type 0) : Type 0 where
+  pub removes : (k : ℕ) → IsOf (Event.Remove k) → ⊥
+  pub adds : (d : ℕ) (left : Stored) → IsOf (Event.Add d left) → ⊥
+  pub re_adds : (own : Super) (device left : Stored) → IsOf (Event.ReAdd own device left) → ⊥
 
 did : (IsOf : Event → Type 0) → KeepsMembers IsOf → (e : Event) (old new : MirrorView) (before after : Requests) → IsOf e → Did old before e new after → AsMany old new
 did IsOf keeps (Event.Begin n p) old new before after of h = ap length h.5.disks
@@ -88,7 +88,7 @@ did IsOf keeps (Event.Prepare k) old new before after of h = absurd h
 did IsOf keeps (Event.RecordTargetFails k) old new before after of h = absurd h
 did IsOf keeps (Event.Enrol k role listed) old new before after of h = absurd h
 
-halts : (e : Event) (old new : MirrorView) (before : Requests) → HaltsAt old before e new → AsMany old new
+pub halts : (e : Event) (old new : MirrorView) (before : Requests) → HaltsAt old before e new → AsMany old new
 halts (Event.RecordFails k) old new before h = h.halts.disks.tried.as_many
 halts (Event.StoreMarksFails k b) old new before h = h.halts.disks.tried.as_many
 halts (Event.WriteMemberFails n k) old new before h = h.3.halts.disks.tried.as_many
@@ -97,7 +97,7 @@ halts e old new before h = absurd h
 
 -- ---- lists of events
 module _ (IsOf : Event → Type 0) (keeps : KeepsMembers IsOf) where
-  led : (es : List Event) (previous : Option Event) (old new : MirrorView) (before after : Requests) → AllOf IsOf es → Leads previous old before es new after → AsMany old new
+  pub led : (es : List Event) (previous : Option Event) (old new : MirrorView) (before after : Requests) → AllOf IsOf es → Leads previous old before es new after → AsMany old new
   led [] previous old new before after all t = same old new (sym t.0)
   led (e ∷ es) previous old new before after all t = led es (Some e) t.0 new t.1 after all.1 t.5 ∙ did IsOf keeps e old t.0 before t.1 all.0 t.3
 
@@ -139,10 +139,10 @@ request_keeps : (chunks : Chunks) (p : PendingView) → KeepsMembers (IsOfReques
 request_keeps chunks p = record { removes = λ k of. of; adds = λ d left of. of; re_adds = λ own device left of. of }
 
 -- no request of the model
-nothing : Requests
+pub nothing : Requests
 nothing n = None
 
-none_in_flight : (a : ArrayView) → AreInFlight a nothing
+pub none_in_flight : (a : ArrayView) → AreInFlight a nothing
 unfolding nothing
 none_in_flight a n p is = absurd (none-some p is)
 

@@ -5,13 +5,16 @@ use Rattle.md_bitmap.specs.Marks.{Bitmap}
 use Rattle.md_plan.specs.declared.planner.Planned.{Planned}
 use Rattle.md_faults.specs.declared.re_add_fault.ReAddFault.{ReAddFault}
 use Rattle.md_faults.specs.declared.re_add_fault.ReAddFault.TheVariants as re_add
+use Rattle.md_metadata.specs.Going.{GoesOn, HaltsAfter, only_others}
+use Rattle.md_metadata.specs.Storing.{IsStoring}
 use Rattle.md_resync.specs.declared.fault.ResyncFault.{ResyncFault}
 use Rattle.md_state.specs.View.{Disk, MirrorView}
 use Rattle.md_array.specs.ReAdding.{ReAdds, RefusesReAdd}
 use Rattle.md_copy.specs.declared.fault.RebuildFault.{RebuildFault}
 use Rattle.md_copy.specs.declared.fault.RebuildFault.TheVariants as rebuild
 use Rattle.md_copy.specs.declared.rebuilt.Rebuilt.{Rebuilt}
-use Rattle.md_copy.specs.Rebuilding.{Begins, EndsFilled, EndsInPass, FillsBy, Rebuilds, RefusesBy, RefusesRebuild}
+use Rattle.md_copy.specs.Rebuilding.{Begins, EndsFilled, EndsInPass, FillsBy, Rebuilds, RefusesRebuild}
+use Rattle.md_copy.specs.Storing.{Settles}
 use Rattle.md_examine.specs.declared.sink.Sink.{Ghosts}
 use Rattle.md_commands.specs.declared.fault.DataFault.{DataFault}
 use Rattle.md_commands.specs.declared.fault.DataFault.TheVariants.{BadMember, OutputFault, Rebuild, Resync, Stop}
@@ -20,17 +23,29 @@ use Rattle.md_commands.specs.ReAdding.{ComesBackReadied, RebuildsMember, Refuses
 use Rattle.md_commands.specs.Rebuilding.{RebuildsArray, RebuildsReadied, RefusesToRebuild}
 use Rattle.md_commands.specs.Resyncing.{RefusesNeededResync, ResyncsIfNeeded}
 use Rattle.md_commands.specs.Stopping.{StopsArrayAfter}
-use Rattle.md_commands.proofs.DeviceCounts.{AsMany, fails_after, not_readied, readied, same, stopped, stopped_after, stops_as_many}
+use Rattle.md_commands.proofs.DeviceCounts.{AsMany, KeepsMembers, fails_after, halts, led, none_in_flight, not_readied, nothing, readied, same, stopped, stopped_after, stops_as_many}
+
+storing_keeps : KeepsMembers IsStoring
+storing_keeps = record { removes = λ k of. of; adds = λ d left of. of; re_adds = λ own device left of. of }
+
+gone_on : (old new : MirrorView) → GoesOn only_others only_others IsStoring old new → AsMany old new
+gone_on old new goes = led IsStoring storing_keeps goes.events None old new nothing nothing goes.steps (goes.leads None nothing (none_in_flight old.array))
+
+halted_after : (old new : MirrorView) → HaltsAfter only_others only_others IsStoring old new → AsMany old new
+halted_after old new h = halts h.failing h.mid new nothing (h.halts nothing) ∙ gone_on old h.mid h.goes
+
+settled : (old new : MirrorView) → Settles old new → AsMany old new
+settled old new s = ⊎_elim (λ all. gone_on old new all.goes) (λ h. halted_after old new h) s
 
 begun : (k : ℕ) (planned : Planned) (old stored : MirrorView) → Begins k planned old stored → AsMany old stored
-begun k planned old stored b = b.first.aside.data.as_many
+begun k planned old stored b = gone_on old stored b.first.stores.goes
 
 filled : (k : ℕ) (planned : Planned) (copied orphans : Bitmap) (old new : MirrorView) → FillsBy k planned copied orphans old new → AsMany old new
 filled k planned copied orphans old new f = f.fills.filling.as_many ∙ begun k planned old f.stored f.begins
 
 rebuilt : (k : ℕ) (told : Rebuilt) (old new : MirrorView) → Rebuilds k told old new → AsMany old new
 rebuilt k told old new r =
-    r.by.settles.data.as_many ∙ (r.by.enrols.disks.as_many ∙ filled k r.planned r.copied r.orphans old r.by.filled r.by.fills)
+    settled r.by.enrolled new r.by.settles ∙ (r.by.enrols.disks.as_many ∙ filled k r.planned r.copied r.orphans old r.by.filled r.by.fills)
 
 in_pass : (fault : RebuildFault) (k : ℕ) (old new : MirrorView) → EndsInPass k fault old new → AsMany old new
 in_pass fault k old new e = e.fails.filling.as_many ∙ begun k e.planned old e.stored e.begins
@@ -39,26 +54,24 @@ when_filled : (k : ℕ) (old new : MirrorView) (Why : Bitmap → Bitmap → Mirr
     → ((copied orphans : Bitmap) (mid : MirrorView) → Why copied orphans mid → AsMany mid new) → EndsFilled k old new Why → AsMany old new
 when_filled k old new Why left e = left e.copied e.orphans e.filled e.why ∙ filled k e.planned e.copied e.orphans old e.filled e.fills
 
-refused_by : (fault : RebuildFault) (k : ℕ) (old new : MirrorView) → RefusesBy k old new fault → AsMany old new
-refused_by rebuild.Halted k old new h = same old new h.unchanged
-refused_by rebuild.NotSpare k old new h = same old new h.unchanged
-refused_by rebuild.Dirty k old new h = same old new h.unchanged
-refused_by (rebuild.InFlight number) k old new h = same old new h.unchanged
-refused_by rebuild.EventsFull k old new h = same old new h.unchanged
-refused_by (rebuild.MetadataFault j) k old new h = h.data.as_many
-refused_by rebuild.TargetFault k old new h =
-    ⊎_elim (λ f. f.data.as_many)
+not_rebuilt : (fault : RebuildFault) (k : ℕ) (old new : MirrorView) → RefusesRebuild k old new fault → AsMany old new
+not_rebuilt rebuild.Halted k old new h = same old new h.unchanged
+not_rebuilt rebuild.NotSpare k old new h = same old new h.unchanged
+not_rebuilt rebuild.Dirty k old new h = same old new h.unchanged
+not_rebuilt (rebuild.InFlight number) k old new h = same old new h.unchanged
+not_rebuilt rebuild.EventsFull k old new h = same old new h.unchanged
+not_rebuilt (rebuild.MetadataFault j) k old new h =
+    ⊎_elim (λ lost. gone_on old new lost.loses.goes) (λ halted. halted_after old new halted.halts) h
+not_rebuilt rebuild.TargetFault k old new h =
+    ⊎_elim (λ f. f.fails.disks.tried.as_many ∙ gone_on old f.mid f.stores.goes)
     (λ rest. ⊎_elim (λ e. in_pass rebuild.TargetFault k old new e) (λ e. when_filled k old new _ (λ copied orphans mid why. why.disks.as_many) e) rest)
     h
-refused_by rebuild.NoMemory k old new h =
-    ⊎_elim (λ n. n.first.aside.data.as_many)
+not_rebuilt rebuild.NoMemory k old new h =
+    ⊎_elim (λ n. gone_on old new n.first.stores.goes)
     (λ rest. ⊎_elim (λ e. in_pass rebuild.NoMemory k old new e) (λ e. when_filled k old new _ (λ copied orphans mid why. same mid new why) e) rest)
     h
-refused_by (rebuild.SourceFault j chunk) k old new h = in_pass (rebuild.SourceFault j chunk) k old new h
-refused_by (rebuild.LogFull j) k old new h = when_filled k old new _ (λ copied orphans mid why. same mid new why.unchanged) h.1
-
-not_rebuilt : (fault : RebuildFault) (k : ℕ) (old new : MirrorView) → RefusesRebuild k old new fault → AsMany old new
-not_rebuilt fault k old new h = refused_by fault k old new h.by
+not_rebuilt (rebuild.SourceFault j chunk) k old new h = in_pass (rebuild.SourceFault j chunk) k old new h
+not_rebuilt (rebuild.LogFull j) k old new h = when_filled k old new _ (λ copied orphans mid why. same mid new why.unchanged) h.1
 
 -- ---- the command that rebuilds a member
 rebuilt_readied : (k : ℕ) (told : Rebuilt) (old new : MirrorView) → RebuildsReadied k told old new → AsMany old new

@@ -35,6 +35,10 @@ impl Copying {
         self.has_begun.store(true, Ordering::SeqCst);
     }
 
+    pub fn has_begun(&self) -> bool {
+        self.has_begun.load(Ordering::SeqCst)
+    }
+
     /// One more chunk is read.
     pub fn count(&self) {
         self.done.fetch_add(1, Ordering::SeqCst);
@@ -43,7 +47,7 @@ impl Copying {
     /// How far it is: chunks done of all, bytes per second, and the time that is left; nothing before it
     /// begins.
     pub fn line(&self, alloc: Global, now: u64, read: u64) -> Option<Result<String, AllocError>> {
-        if !self.has_begun.load(Ordering::SeqCst) {
+        if !self.has_begun() {
             return None;
         }
         let chunks = self.chunks.load(Ordering::SeqCst);

@@ -78,6 +78,9 @@ impl<'a> Progress<'a> {
         let Some(task) = self.task else {
             return;
         };
+        if self.is_early(task) {
+            return;
+        }
         let Some(now) = self.milliseconds() else {
             return;
         };
@@ -90,6 +93,12 @@ impl<'a> Progress<'a> {
         }
         self.is_shown.store(true, Ordering::SeqCst);
         self.draw(task, now);
+    }
+
+    // Before a rebuild begins little but metadata is read, unless a resync comes first.
+    fn is_early(&self, task: WatchedTask) -> bool {
+        let is_rebuild = matches!(task, WatchedTask::Rebuild);
+        is_rebuild && !self.copying.has_begun() && self.read.load(Ordering::SeqCst) < MIB
     }
 
     fn milliseconds(&self) -> Option<u64> {
@@ -155,6 +164,5 @@ impl<'a> Watch for Progress<'a> {
         };
         let read = self.read.load(Ordering::SeqCst);
         self.copying.begin(chunks, now, read);
-        self.draw_if_due();
     }
 }

@@ -22,9 +22,9 @@ returns-in_err-devices-clause-gives g c =
       unwritten = refl;
     })
 
-pub join_last-devices-requires : goal.join_last-devices-requires
-join_last-devices-requires g c =
+pub join_last-devices-requires-clause-some : goal.join_last-devices-requires-clause-some
+join_last-devices-requires-clause-some g c lifetimes within =
     let names = map (λ s. s.now) c.args.names.now in
     let words_are : map word_of c.as_slice-words.result.now ≡ image_list false names = ap (map word_of) c.as_slice-words.ensures.value ∙ c.in-Ok.ensures in
     let many = c.in_ok-devices.ensures.gives.many ∙ ap length words_are ∙ all_named names ∙ length-map c.args.names.now (λ s. s.now) in
-    record { some = subst (λ n. 0 < n) (sym many) c.requires.some }
+    subst (λ n. 0 < n) (sym many) c.requires.some

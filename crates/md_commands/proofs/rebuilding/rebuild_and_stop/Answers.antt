@@ -27,3 +27,11 @@ returns-in_err-stop-clause-gives g c =
       );
       refused = c.in_err-stop.ensures.gives;
     })
+
+pub returns-in_err-stop-clause-pending : goal.returns-in_err-stop-clause-pending
+returns-in_err-stop-clause-pending g c p is =
+    c.stop.ensures.pending p (c.rebuild_watched.ensures.pending p (c.resync_if_needed.ensures.pending p is))
+
+pub returns-clause-pending : goal.returns-clause-pending
+returns-clause-pending g c p is =
+    c.stop.ensures.pending p (c.rebuild_watched.ensures.pending p (c.resync_if_needed.ensures.pending p is))
