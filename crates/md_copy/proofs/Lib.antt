@@ -1,8 +1,14 @@
 pub mod Beside
+pub mod Carried
 pub mod Chosen
 pub mod Covered
+pub mod LentBack
+pub mod Lists
 pub mod Observed
+pub mod PlanChunks
 pub mod Planned
+pub mod Returned
 pub mod Rows
 pub mod Served
+pub mod SetsMade
 pub mod SourcesChosen

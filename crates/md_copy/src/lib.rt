@@ -6,6 +6,7 @@ mod fault;
 mod filling;
 mod in_sync;
 mod listed;
+mod one_pass;
 mod preparing;
 mod rebuild_table;
 mod rebuilding;
