@@ -2,6 +2,7 @@ pub mod Beside
 pub mod Carried
 pub mod Chosen
 pub mod Covered
+pub mod EnrolReady
 pub mod LentBack
 pub mod Lists
 pub mod Observed

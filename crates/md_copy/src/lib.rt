@@ -2,6 +2,7 @@
 #![tactic(auto)]
 
 mod checking;
+mod enrol_filled;
 mod fault;
 mod filling;
 mod in_sync;
