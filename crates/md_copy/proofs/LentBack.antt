@@ -37,7 +37,7 @@ use Rattle.md_copy.proofs.Planned.{allowed}
 use Rattle.md_copy.proofs.SourcesChosen.{served_by}
 
 -- ---- what a member that is rebuilt lacks
-rebuilt_out : (s : MemberState) → is_rebuilt s ≡ true → is_in_sync s ≡ false
+pub rebuilt_out : (s : MemberState) → is_rebuilt s ≡ true → is_in_sync s ≡ false
 rebuilt_out (InSync role) is = absurd cc
 rebuilt_out (Recovering role) is = refl
 rebuilt_out (Stale role) is = absurd cc

@@ -13,3 +13,4 @@ pub mod Rows
 pub mod Served
 pub mod SetsMade
 pub mod SourcesChosen
+pub mod StoredFirst

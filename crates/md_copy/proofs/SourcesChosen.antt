@@ -21,7 +21,7 @@ use Rattle.md_copy.proofs.Beside.{beside_is, beside_one, beside_within}
 use Rattle.md_copy.proofs.Planned.{IsAllowed}
 use Rattle.md_copy.proofs.Served.{in_sync_as}
 
-takes_as : (role : ℕ) (state : MemberState) → is_in_sync_as role state ≡ true → takes_role role state ≡ true
+pub takes_as : (role : ℕ) (state : MemberState) → is_in_sync_as role state ≡ true → takes_role role state ≡ true
 takes_as role (InSync own) is = is
 takes_as role (Recovering own) is = absurd cc
 takes_as role (Stale own) is = is
