@@ -13,4 +13,5 @@ pub mod Rows
 pub mod Served
 pub mod SetsMade
 pub mod SourcesChosen
+pub mod StepsOfRebuild
 pub mod StoredFirst

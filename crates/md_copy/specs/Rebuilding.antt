@@ -15,7 +15,6 @@ use Rattle.md_copy.specs.Beginning.{CannotRebuild, MayRebuild}
 use Rattle.md_copy.specs.Enrolled.{HasNoRoom}
 use Rattle.md_copy.specs.Filling.{FailsToFill, Fills}
 use Rattle.md_copy.specs.Preparing.{IsLeastPlan, IsSetOf, Tells, is_in}
-use Rattle.md_copy.specs.Rebuilt.{IsRebuilt}
 use Rattle.md_copy.specs.Storing.{FailsOnTarget, Settles, StopsAt, StoresFirst}
 
 -- It was checked, what was due is stored, and a pass is planned by what is kept in memory then.
@@ -55,8 +54,6 @@ pub record Rebuilds (target : ℕ) (told : Rebuilt) (old new : MirrorView) : Typ
   pub copied : Bitmap
   pub orphans : Bitmap
   pub by : RebuildsBy target planned copied orphans old new
-  -- in plain terms, between what was stored first and what is stored after it
-  pub rebuilt : IsRebuilt target copied orphans by.fills.stored by.enrolled
 
 -- ---- what is refused
 -- before anything was done
