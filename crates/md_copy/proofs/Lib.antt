@@ -1,3 +1,4 @@
+pub mod AnsweredRebuild
 pub mod Beside
 pub mod Carried
 pub mod Chosen

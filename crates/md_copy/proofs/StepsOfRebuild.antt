@@ -65,7 +65,7 @@ module _ (target : ℕ) (old stored : MirrorView) (may : (m : MemberView) → Is
 
     -- ---- after the pass
     module _ (before after : Pass) (p : IsPrepared stored target before) where
-      pub begins : Begins target p.planned old stored
+      abbrev pub begins : Begins target p.planned old stored
       begins = record { member = member; at = at; may = may member at; first = first; now = p.member; there = p.at; plan = p.plan }
 
       module _ (filled : MirrorView) (f : FillsPass target before after stored filled) where
@@ -85,7 +85,6 @@ module _ (target : ℕ) (old stored : MirrorView) (may : (m : MemberView) → Is
         may_filled = may_enrol target before after stored filled first.stores.goes.sound p f resynced_then idle_then.none
 
         pub fills_by : FillsBy target p.planned after.copied after.orphans old filled
-        unfolding begins
         fills_by = record {
           stored = stored;
           begins = begins;

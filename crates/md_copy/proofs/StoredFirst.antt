@@ -61,6 +61,20 @@ module _ (target : ℕ) (old new : MirrorView) where
   serving_where_halted part.Halted h e = halted_serves h
   serving_where_halted (part.MemberFailed k) h e = absurd cc
 
+  -- the mirror is consistent then
+  pub stops_sound : (fault : RebuildFault) → StoringStops target old new fault → IsConsistent new
+  stops_sound Halted h = absurd h
+  stops_sound NotSpare h = absurd h
+  stops_sound Dirty h = absurd h
+  stops_sound (InFlight n) h = absurd h
+  stops_sound (LogFull k) h = absurd h
+  stops_sound NoMemory h = absurd h
+  stops_sound TargetFault h = h.sound
+  stops_sound (MetadataFault k) (inl h) = h.loses.goes.sound
+  stops_sound (MetadataFault k) (inr h) = h.halts.sound
+  stops_sound EventsFull h = absurd h
+  stops_sound (SourceFault k chunk) h = absurd h
+
 -- ---- one part after another
 module _ (target : ℕ) (old mid new : MirrorView) (g : Stores IsStoring old mid) where
   pub stops_then : (fault : RebuildFault) → StoringStops target mid new fault → StoringStops target old new fault
@@ -70,7 +84,7 @@ module _ (target : ℕ) (old mid new : MirrorView) (g : Stores IsStoring old mid
   stops_then (InFlight n) h = absurd h
   stops_then (LogFull k) h = absurd h
   stops_then NoMemory h = absurd h
-  stops_then TargetFault h = record { mid = h.mid; stores = stores_on IsStoring old mid h.mid g h.stores; fails = h.fails }
+  stops_then TargetFault h = record { mid = h.mid; stores = stores_on IsStoring old mid h.mid g h.stores; fails = h.fails; sound = h.sound }
   stops_then (MetadataFault k) (inl h) = inl (stops_on IsStoring old mid new (part.MemberFailed k) g h)
   stops_then (MetadataFault k) (inr h) = inr (record { halts = stops_on IsStoring old mid new part.Halted g h.halts; member = h.member; in_sync = h.in_sync })
   stops_then EventsFull h = absurd h
@@ -88,9 +102,9 @@ module _ (k : ℕ) (old new : MirrorView) (sound : IsConsistent old) (rebuilt : 
       let out = λ (m : MemberView) (in_sync : IsInSync old.array k m). (let no = rebuilt_out m.state (rebuilt m in_sync.member) in let yes = in_sync.in_sync in absurd cc) in
       other_or_stops k old new (other_due k old new out due recorded) stored_ok (record_stored old new k after pending r happens)
 
-  pub target_unstored : old.array.halted ≡ false → (fault : TargetFaults) → RefusesTarget k old new fault → FailsOnTarget k old new
-  target_unstored running why.Halted r = absurd (let yes = r.reason in cc)
-  target_unstored running why.TargetFault r = record { mid = old; stores = stores_nowhere IsStoring old sound; fails = r }
+  pub target_unstored : IsConsistent new → old.array.halted ≡ false → (fault : TargetFaults) → RefusesTarget k old new fault → FailsOnTarget k old new
+  target_unstored after running why.Halted r = absurd (let yes = r.reason in cc)
+  target_unstored after running why.TargetFault r = record { mid = old; stores = stores_nowhere IsStoring old sound; fails = r; sound = after }
 
 -- ---- after a rebuild
 module _ (old mid new : MirrorView) where
@@ -111,3 +125,12 @@ first_stored old a b new marks records others =
       marks = λ k m in_sync. last_on IsStoring (HasAllMarks old.array.marks) old a new (all_marks_last old.array.marks) first.goes.array.marks marks.done rest k m in_sync;
       recorded = others.done;
     }
+
+-- the last of it, or why it is not
+pub first_or_stops : (target : ℕ) (old a b new : MirrorView) → StoresAll IsMarking (HasAllMarks old.array.marks) old a → StoresAll IsRecording IsNotDue a b → {T : Type 0} (result : Result T RebuildFault)
+    → MatchResult result (λ _. RecordsAll b new) (StoringStops target b new) → MatchResult result (λ _. StoresFirst old new) (StoringStops target old new)
+first_or_stops target old a b new marks records (Ok t) others = first_stored old a b new marks records others
+first_or_stops target old a b new marks records (Err fault) stops =
+    let first = stores_as IsMarking IsStoring marking_stores old a marks.stores in
+    let second = stores_as IsRecording IsStoring recording_stores a b records.stores in
+    stops_then target old b new (stores_on IsStoring old a b first second) fault stops

@@ -3,6 +3,7 @@ use Rattle.std.specs.Prelude.{◌≡◌, ◌⊎◌, ℕ, false}
 use Rattle.md_kept_members.specs.View.{MemberView}
 use Rattle.md_state.specs.Members.{AllInSync, IsInSync}
 use Rattle.md_state.specs.View.{MirrorView}
+use Rattle.md_array.specs.Consistency.{IsConsistent}
 use Rattle.md_array.specs.RecordingTarget.{LeavesUnrecorded}
 use Rattle.md_metadata.specs.Going.{GoesOn, HaltsAfter, only_others}
 use Rattle.md_metadata.specs.Storing.{AllRecorded, HasAllMarks, IsStoring, LosesStoring, Stores}
@@ -31,6 +32,7 @@ pub record FailsOnTarget (target : ℕ) (old new : MirrorView) : Type 0 where
   pub mid : MirrorView
   pub stores : Stores IsStoring old mid
   pub fails : LeavesUnrecorded target mid new
+  pub sound : IsConsistent new
 
 -- why it is not all stored: a member fails, or the target's superblock is not stored
 abbrev pub StoringStops : ℕ → MirrorView → MirrorView → RebuildFault → Type 0

@@ -8,4 +8,4 @@ returns-in-Ok g c =
 
 pub returns-in-Err : goal.returns-in-Err
 returns-in-Err g c =
-    target_unstored c.args.target c.args.mirror.now c.record_target.new.self c.requires.sound c.requires.target c.requires.due c.requires.recorded c.requires.running c.in-Err.field-0 c.in-Err.ensures.gives
+    target_unstored c.args.target c.args.mirror.now c.record_target.new.self c.requires.sound c.requires.target c.requires.due c.requires.recorded c.in-Err.ensures.sound c.requires.running c.in-Err.field-0 c.in-Err.ensures.gives
