@@ -34,7 +34,7 @@ returns-in-Err-prepare-clause-gives g c =
     refused_pass c.args.target c.args.mirror.now c.store_first.new.mirror c.in_default.ensures c.in_default-store_first.ensures at.0 at.1 c.in-Err-prepare.fault c.in-Err-prepare.ensures.refused
 
 pub fill-requires-clause-idle : goal.fill-requires-clause-idle
-fill-requires-clause-idle g c =
+fill-requires-clause-idle g c κs bounds =
     let at = got_within c.args.mirror.now.array.members c.args.target c.requires.within in
     idle_then c.args.target c.args.mirror.now c.store_first.new.mirror c.in_default.ensures c.in_default-store_first.ensures at.0 at.1
 
