@@ -1,6 +1,5 @@
--- What a rebuild makes of its target, in plain terms, whatever the steps were; and what it leaves of it where it is refused.
-use Rattle.std.specs.Prelude.{◌≡◌, ◌≢◌, ◌⊎◌, ◌↔◌, ℕ, ◌+◌, ◌*◌, ◌<◌, ◌≤◌, true, length, slice_get, Some}
-use Rattle.md_assembly.specs.declared.state.MemberState.TheVariants.{Faulty}
+-- What a rebuild makes of its target, in plain terms, whatever the steps were.
+use Rattle.std.specs.Prelude.{◌≡◌, ◌≢◌, ◌↔◌, ℕ, ◌+◌, ◌*◌, ◌<◌, ◌≤◌, true, slice_get, Some}
 use Rattle.md_assembly.specs.States.{is_in_sync}
 use Rattle.md_bitmap.specs.Chunks.{InChunk}
 use Rattle.md_bitmap.specs.Marks.{Bitmap, is_set}
@@ -12,7 +11,7 @@ use Rattle.md_state.specs.Members.{IsMember}
 use Rattle.md_state.specs.Missing.{is_missing}
 use Rattle.md_state.specs.View.{ArrayView, Disk, MirrorView}
 use Rattle.md_array.specs.Enrolling.{HasContent, KeepsData}
-use Rattle.md_array.specs.Lending.{IsBesideChunk, IsBesideMissing}
+use Rattle.md_array.specs.Lending.{IsBesideChunk}
 use Rattle.md_array.specs.Worlds.{AreHonest}
 use Rattle.md_copy.specs.RebuildSources.{Serves}
 
@@ -39,8 +38,7 @@ pub record IsRebuilt (target : ℕ) (copied orphans : Bitmap) (old new : MirrorV
   pub at : IsMember old.array target member
   pub now : MemberView
   pub there : IsMember new.array target now
-  -- a write to it may have failed after it came into sync
-  pub state : (is_in_sync now.state ≡ true) ⊎ (now.state ≡ Faulty)
+  pub state : is_in_sync now.state ≡ true
   pub copied_chunks : copied.chunks ≡ old.array.marks.chunks
   pub orphan_chunks : orphans.chunks ≡ old.array.marks.chunks
   pub copied_are : (c : ℕ) → c < old.array.marks.chunks
@@ -54,16 +52,4 @@ pub record IsRebuilt (target : ℕ) (copied orphans : Bitmap) (old new : MirrorV
   pub bad : IsListAfter old.array.chunks member copied orphans now.bad
   pub beside : (d e : Disk) → slice_get old.disks target ≡ Some d → slice_get new.disks target ≡ Some e
       → (at n : ℕ) → IsBeside old.array member copied at n → part e.content at n ≡ part d.content at n
-  pub others : OthersKeepData target old new
-
--- It is in the state in which it was, with the list that it had, and its data are as before beside the chunks that it lacks.
-pub record IsLeftUnbuilt (target : ℕ) (old new : MirrorView) : Type 0 where
-  pub member : MemberView
-  pub at : IsMember old.array target member
-  pub now : MemberView
-  pub there : IsMember new.array target now
-  pub same : now ≡ record member { stored = now.stored; due = now.due }
-  pub beside : (d e : Disk) → slice_get old.disks target ≡ Some d → slice_get new.disks target ≡ Some e
-      → (at n : ℕ) → 512 * member.superblock.data_offset ≤ at → at + n ≤ 512 * (member.superblock.data_offset + member.superblock.data_size)
-      → IsBesideMissing old.array member at n → part e.content at n ≡ part d.content at n
   pub others : OthersKeepData target old new
