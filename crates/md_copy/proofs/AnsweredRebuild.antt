@@ -1,13 +1,12 @@
 -- What a rebuild answers, by the step that ends it.
-use Rattle.std.proofs.Common.{◌≡◌, ℕ, refl, sym, ap, subst, inl, inr}
+use Rattle.std.proofs.Common.{ℕ, refl, sym, subst, inl, inr}
 use Rattle.md_kept_members.specs.View.{MemberView}
 use Rattle.md_state.specs.Members.{IsMember}
-use Rattle.md_state.specs.View.{ArrayView, MirrorView}
+use Rattle.md_state.specs.View.{MirrorView}
 use Rattle.md_array.specs.Enrolling.{Enrols}
 use Rattle.md_copy.specs.declared.fault.RebuildFault.{RebuildFault}
 use Rattle.md_copy.specs.declared.fault.RebuildFault.TheVariants.{Halted, NotSpare, Dirty, InFlight, LogFull, NoMemory, TargetFault, MetadataFault, EventsFull, SourceFault}
 use Rattle.md_copy.specs.declared.preparing.Pass.{Pass}
-use Rattle.md_copy.specs.declared.rebuilt.Rebuilt.{Rebuilt}
 use Rattle.md_copy.specs.Beginning.{CannotRebuild, MayRebuild}
 use Rattle.md_copy.specs.Enrolled.{RefusesFilled}
 use Rattle.md_copy.specs.Filling.{FailsPass, FillsPass}

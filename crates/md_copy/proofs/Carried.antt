@@ -1,6 +1,5 @@
 -- A pass over devices, as it is seen of the mirror that has lent them.
-use Rattle.std.proofs.Common.{◌≡◌, ◌≢◌, ◌∙◌, ℕ, ◌<◌, true, false, List, length, map, remove, get_or, slice_get, slice_index_or, Some, All, refl, sym, ap, subst, arith}
-use Rattle.std.specs.List.{Any}
+use Rattle.std.proofs.Common.{◌≡◌, ◌≢◌, ◌∙◌, ℕ, ◌<◌, true, List, length, map, remove, get_or, slice_get, slice_index_or, Some, All, sym, ap, subst, arith}
 use Rattle.std.proofs.lemmas.List.{length-map}
 use Rattle.std.proofs.lemmas.Option.{get_or_from_slice_get, slice_get-get_or, slice_get_within}
 use Rattle.md_assembly.specs.States.{is_in_sync_as}
@@ -10,18 +9,16 @@ use Rattle.md_collect.specs.Places.{HasRoom, chunk_on}
 use Rattle.md_collect.specs.Reading.{Fails}
 use Rattle.md_collect.specs.Reports.{Copying}
 use Rattle.md_device.specs.declared.device.Device.{Ghosts}
-use Rattle.md_kept_members.specs.View.{MemberView}
 use Rattle.md_pass.specs.Beside.{KeepsBeside}
 use Rattle.md_pass.specs.Lanes.{AreOnlyRead, OnlyRead}
 use Rattle.md_pass.specs.Sources.{AreCopied, MayRead, copy_of}
 use Rattle.md_pass.specs.declared.source.Source.{Source}
 use Rattle.md_state.specs.View.{Disk, MirrorView, disk_of, of_disks}
 use Rattle.md_state.specs.DiskWrites.{AtDevice}
-use Rattle.md_array.specs.Worlds.{AreHonest}
 use Rattle.md_copy.specs.Filling.{IsCopiedSlot}
 use Rattle.md_copy.specs.RebuildSources.{AreSources, place_beside}
 use Rattle.md_copy.proofs.Beside.{beside_is, beside_within}
-use Rattle.md_copy.proofs.Lists.{IsMapped, got_of, mapped_at, mapped_from, removed_of}
+use Rattle.md_copy.proofs.Lists.{got_of, mapped_at, mapped_from, removed_of}
 
 module _ {D : Type 0} (g : Ghosts D) where
   abbrev pub seen : List D → List Disk
@@ -76,7 +73,7 @@ module _ {D : Type 0} (g : Ghosts D) where
         let x = mapped_from (disk_of g) olds target d at_d in
         let y = mapped_from (disk_of g) news target e at_e in
         let both = subst (λ (z : D). KeepsBeside g copy z y.from) (get_or_from_slice_get olds target x.from x.from x.at)
-            (subst (KeepsBeside g copy (get_or olds target x.from)) (get_or_from_slice_get news target y.from x.from y.at) (keeps x.from)) in
+        (subst (KeepsBeside g copy (get_or olds target x.from)) (get_or_from_slice_get news target y.from x.from y.at) (keeps x.from)) in
         subst (λ (z : Disk). KeepsBeside of_disks copy z e) x.is (subst (KeepsBeside of_disks copy (disk_of g x.from)) y.is (kept_seen copy x.from y.from both))
 
     pub target_fails : ((d : D) → Fails g (slice_index_or olds target d) (slice_index_or news target d)) → (d e : Disk) → slice_get (seen olds) target ≡ Some d → slice_get (seen news) target ≡ Some e → Fails of_disks d e
@@ -84,7 +81,7 @@ module _ {D : Type 0} (g : Ghosts D) where
         let x = mapped_from (disk_of g) olds target d at_d in
         let y = mapped_from (disk_of g) news target e at_e in
         let both = subst (λ (z : D). Fails g z y.from) (get_or_from_slice_get olds target x.from x.from x.at)
-            (subst (Fails g (get_or olds target x.from)) (get_or_from_slice_get news target y.from x.from y.at) (fails x.from)) in
+        (subst (Fails g (get_or olds target x.from)) (get_or_from_slice_get news target y.from x.from y.at) (fails x.from)) in
         subst (λ (z : Disk). Fails of_disks z e) x.is (subst (Fails of_disks (disk_of g x.from)) y.is both)
 
     pub other_fails : (j : ℕ) → j ≢ target → ((d : D) → Fails g (slice_index_or (remove olds target) (place_beside target j) d) (slice_index_or (remove news target) (place_beside target j) d))
@@ -93,7 +90,7 @@ module _ {D : Type 0} (g : Ghosts D) where
         let x = mapped_from (disk_of g) olds j d at_d in
         let y = mapped_from (disk_of g) news j e at_e in
         let both = subst (λ (z : D). Fails g z y.from) (beside_old j x.from other x.at x.from)
-            (subst (Fails g (get_or (remove olds target) (place_beside target j) x.from)) (beside_new j y.from other y.at x.from) (fails x.from)) in
+        (subst (Fails g (get_or (remove olds target) (place_beside target j) x.from)) (beside_new j y.from other y.at x.from) (fails x.from)) in
         subst (λ (z : Disk). Fails of_disks z e) x.is (subst (Fails of_disks (disk_of g x.from)) y.is both)
 
     -- a slot was copied

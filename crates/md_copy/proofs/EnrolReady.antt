@@ -1,39 +1,34 @@
 -- A target that has the chunks of its plan may come into sync: it holds there what the members in sync hold.
-use Rattle.std.proofs.Common.{◌≡◌, ◌≢◌, ◌∙◌, ◌⊎◌, ℕ, ◌+◌, ◌-◌, ◌*◌, ◌<◌, ◌≤◌, ◌==◌, Bool, true, false, not, List, length, min, get_or, slice_get, Some, None, All, refl, sym, ap, subst, arith, inl, inr}
-use Rattle.std.specs.Int.{div_ceil}
-use Rattle.std.specs.List.{Any, list_any}
+use Rattle.std.proofs.Common.{◌≡◌, ◌∙◌, ℕ, ◌+◌, ◌-◌, ◌*◌, ◌<◌, ◌==◌, true, List, get_or, slice_get, Some, None, All, refl, sym, ap, subst, arith, inl, inr}
 use Rattle.std.proofs.lemmas.Bool.{both_ways, cases_Bool, cases_eq, eqb-true}
-use Rattle.std.proofs.lemmas.List.Folds.{Any-from_list_any, list_any_at}
-use Rattle.std.proofs.lemmas.Option.{get_or_from_slice_get, same_Some, slice_get-get_or, slice_get_within}
+use Rattle.std.proofs.lemmas.List.Folds.{Any-from_list_any}
+use Rattle.std.proofs.lemmas.Option.{same_Some, slice_get-get_or, slice_get_within}
 use Rattle.md_device.specs.Splice.{part}
 use Rattle.md_device.proofs.Splices.{part_part}
 use Rattle.md_assembly.specs.declared.state.MemberState.{MemberState}
 use Rattle.md_assembly.specs.declared.state.MemberState.TheVariants.{InSync, Recovering, Stale, Spare, Faulty}
-use Rattle.md_assembly.specs.States.{is_in_sync, takes_role}
+use Rattle.md_assembly.specs.States.{takes_role}
 use Rattle.md_bitmap.specs.declared.chunks.Chunks.{Chunks}
 use Rattle.md_bitmap.specs.Chunks.{InChunk}
 use Rattle.md_bitmap.specs.Marks.{Bitmap, is_set}
 use Rattle.md_cert.specs.declared.slots.Slot.{Slot}
 use Rattle.md_cert.specs.Tables.{orphans_of}
-use Rattle.md_collect.specs.Places.{bytes_of, chunk_on, sectors_of, start_of}
+use Rattle.md_collect.specs.Places.{bytes_of, chunk_on, start_of}
 use Rattle.md_kept_members.specs.View.{MemberView}
-use Rattle.md_model.specs.Content.{Content}
 use Rattle.md_pass.specs.Beside.{has_chunk}
 use Rattle.md_state.specs.Enrolling.{HasNoRole}
 use Rattle.md_state.specs.MakingClean.{first_number}
 use Rattle.md_state.specs.Members.{IsInSync, IsMember}
 use Rattle.md_state.specs.Missing as state
 use Rattle.md_state.specs.Missing.{is_rebuilt}
-use Rattle.md_state.specs.ReAdding.{is_taken}
 use Rattle.md_state.specs.View.{ArrayView, Disk, MirrorView}
 use Rattle.md_array.specs.Consistency.{IsConsistent}
-use Rattle.md_array.specs.Enrolling.{HasContent, HoldsCopied, MayEnrol}
+use Rattle.md_array.specs.Enrolling.{HoldsCopied, MayEnrol}
 use Rattle.md_array.specs.Worlds.{AreHonest}
 use Rattle.md_copy.specs.declared.preparing.Pass.{Pass}
 use Rattle.md_copy.specs.Filling.{FillsPass, Fills, IsCopiedSlot, IsFilling}
 use Rattle.md_copy.specs.Preparing.{IsPrepared, is_in}
 use Rattle.md_copy.specs.RebuildSources.{IsPlanOf}
-use Rattle.md_copy.specs.Sources.{is_missing}
 use Rattle.md_copy.specs.Targets.{HasFreeRole, IsTarget, MayBeRebuilt}
 use Rattle.md_copy.proofs.LentBack.{missing_same}
 use Rattle.md_copy.proofs.PlanChunks.{IsLacking, orphan_unserved, planned_given, planned_or_orphan}

@@ -1,7 +1,5 @@
 -- Devices that were lent for a pass come back, and what the mirror has then.
-use Rattle.std.proofs.Common.{◌≡◌, ◌≢◌, ◌∙◌, ℕ, ◌<◌, ◌==◌, ◌||◌, ◌&&◌, Bool, true, false, not, cond, List, length, map, remove, get_or, slice_get, slice_index_or, Some, All, refl, sym, ap, subst, arith, inl, inr}
-use Rattle.std.specs.Int.{div_ceil}
-use Rattle.std.specs.List.{Any}
+use Rattle.std.proofs.Common.{◌≡◌, ◌∙◌, ℕ, ◌<◌, ◌==◌, ◌||◌, ◌&&◌, Bool, true, false, not, cond, List, length, remove, get_or, slice_get, slice_index_or, refl, sym, ap, subst, arith, inl, inr}
 use Rattle.std.proofs.lemmas.Bool.{and_parts, cases_eq, eqb-true}
 use Rattle.std.proofs.lemmas.List.{length-map}
 use Rattle.std.proofs.lemmas.List.Folds.{Any-from_list_any}
@@ -27,12 +25,12 @@ use Rattle.md_state.specs.Missing as state
 use Rattle.md_state.specs.Missing.{is_rebuilt}
 use Rattle.md_state.specs.View.{ArrayView, Disk, MirrorView, disk_of, of_disks}
 use Rattle.md_array.specs.Consistency.{IsConsistent}
-use Rattle.md_array.specs.Lending.{AreBack, ComeBack, ComesBack, lent}
+use Rattle.md_array.specs.Lending.{AreBack, ComesBack, lent}
 use Rattle.md_copy.specs.Filling.{FailsInRole, IsFilling}
 use Rattle.md_copy.specs.RebuildSources.{AreSources, IsPlanOf, IsServedBy, IsSource, Serves}
 use Rattle.md_copy.specs.Sources.{is_missing}
 use Rattle.md_copy.proofs.Carried.{others_read, other_fails, seen, target_kept}
-use Rattle.md_copy.proofs.PlanChunks.{IsGiven, planned_given, slot_given}
+use Rattle.md_copy.proofs.PlanChunks.{planned_given, slot_given}
 use Rattle.md_copy.proofs.Planned.{allowed}
 use Rattle.md_copy.proofs.SourcesChosen.{served_by}
 

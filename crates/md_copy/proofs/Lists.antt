@@ -1,5 +1,5 @@
 -- Lists of devices as contracts see them.
-use Rattle.std.proofs.Common.{◌≡◌, ◌∙◌, ℕ, ◌<◌, zero, suc, List, [], ◌∷◌, length, map, remove, get_or, slice_get, Option, Some, None, option_map, refl, sym, ap, arith}
+use Rattle.std.proofs.Common.{◌≡◌, ◌∙◌, ℕ, zero, suc, List, [], ◌∷◌, map, remove, get_or, slice_get, Option, Some, None, option_map, refl, sym, ap}
 use Rattle.std.proofs.lemmas.Option.{none-some, same_Some, slice_get-map}
 
 module _ {X Y : Type 0} (f : X → Y) where

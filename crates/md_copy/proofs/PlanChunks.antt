@@ -1,7 +1,7 @@
 -- What a plan says of a chunk: it is planned where the member lacks it and another member may give it, and an orphan where nobody may.
-use Rattle.std.proofs.Common.{◌≡◌, ◌≢◌, ◌∙◌, ◌⊎◌, ℕ, ◌+◌, ◌<◌, ◌==◌, Bool, true, false, zero, suc, List, [], ◌∷◌, length, map, get_or, refl, sym, ap, subst, arith, inl, inr, All}
+use Rattle.std.proofs.Common.{◌≡◌, ◌≢◌, ◌∙◌, ◌⊎◌, ℕ, ◌+◌, ◌<◌, ◌==◌, Bool, true, zero, suc, List, [], ◌∷◌, length, get_or, refl, sym, ap, subst, arith, inl, inr, All}
 use Rattle.std.specs.Int.{bit_at, div_ceil}
-use Rattle.std.specs.List.{Any, filter, list_any, range_with_len}
+use Rattle.std.specs.List.{Any, filter, range_with_len}
 use Rattle.std.proofs.lemmas.Bool.{both_ways, cases_Bool, eq-eqb, eqb-false, eqb-true}
 use Rattle.std.proofs.lemmas.List.{length-map}
 use Rattle.std.proofs.lemmas.List.Elements.{All-filter, All-map, filter_passes}
@@ -25,7 +25,7 @@ use Rattle.md_copy.specs.Preparing.{is_in}
 use Rattle.md_copy.specs.RebuildSources.{IsPlanOf}
 use Rattle.md_copy.specs.Sources.{HasSources, IsTableOf, is_missing, missing_chunks}
 use Rattle.md_copy.proofs.Lists.{got_of}
-use Rattle.md_copy.proofs.Planned.{IsAllowed, allowed}
+use Rattle.md_copy.proofs.Planned.{allowed}
 
 abbrev pub count : ArrayView → ℕ
 count a = div_ceil a.chunks.size a.chunks.sectors
@@ -174,5 +174,5 @@ module _ (a : ArrayView) (m : MemberView) (plan : Plan) (is : IsPlanOf a m plan)
             let covered = is.certified.covered here.at r here.within in
             let planned = subst (λ (x : Row). x.mask ≢ 0 → IsPlanned plan.slots x.chunk) here.is covered (eqb-false r.mask 0 some) in
             inl (list_any_at (λ (slot : Slot). slot.chunk == c) plan.slots planned.0 planned.1 planned.2
-                (eq-eqb (get_or plan.slots planned.0 planned.1).chunk c (ap (λ (slot : Slot). slot.chunk) planned.3 ∙ planned.4 ∙ here.chunk)))
+            (eq-eqb (get_or plan.slots planned.0 planned.1).chunk c (ap (λ (slot : Slot). slot.chunk) planned.3 ∙ planned.4 ∙ here.chunk)))
       ]

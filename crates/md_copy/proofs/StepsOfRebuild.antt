@@ -1,6 +1,5 @@
 -- What a rebuild's steps hand to the next one.
-use Rattle.std.proofs.Common.{◌≡◌, ◌∙◌, ℕ, ◌<◌, true, false, length, slice_get, refl, sym, ap, subst, arith}
-use Rattle.std.proofs.lemmas.Option.{same_Some}
+use Rattle.std.proofs.Common.{◌≡◌, ◌∙◌, ℕ, ◌<◌, true, false, sym, ap, subst}
 use Rattle.md_assembly.specs.declared.state.MemberState.{MemberState}
 use Rattle.md_assembly.specs.declared.state.MemberState.TheVariants.{InSync, Recovering, Stale, Spare, Faulty}
 use Rattle.md_assembly.specs.States.{takes_role}
@@ -10,15 +9,14 @@ use Rattle.md_state.specs.MakingClean.{IsIdle, first_number}
 use Rattle.md_state.specs.Members.{IsMember}
 use Rattle.md_state.specs.Rising.{HasSpentEvents}
 use Rattle.md_state.specs.View.{ArrayView, MirrorView}
-use Rattle.md_array.specs.Consistency.{IsConsistent}
-use Rattle.md_array.specs.Enrolling.{Enrols, MayEnrol}
+use Rattle.md_array.specs.Enrolling.{MayEnrol}
 use Rattle.md_metadata.specs.Storing.{AllStayReady, StaysReady}
 use Rattle.md_metadata.proofs.Going.{same_state}
 use Rattle.md_copy.specs.declared.preparing.Pass.{Pass}
 use Rattle.md_copy.specs.Beginning.{MayRebuild}
 use Rattle.md_copy.specs.Filling.{FillsPass}
 use Rattle.md_copy.specs.Preparing.{IsPrepared}
-use Rattle.md_copy.specs.Rebuilding.{AreSets, Begins, FillsBy}
+use Rattle.md_copy.specs.Rebuilding.{Begins, FillsBy}
 use Rattle.md_copy.specs.Storing.{StoresFirst}
 use Rattle.md_copy.specs.Targets.{HasFreeRole, IsTarget, MayBeRebuilt}
 use Rattle.md_copy.proofs.EnrolReady.{may_enrol}
@@ -96,4 +94,5 @@ module _ (target : ℕ) (old stored : MirrorView) (may : (m : MemberView) → Is
               bits = λ c. ap (λ (x : Pass). is_set x.orphans.bytes c) f.kept ∙ p.orphans.bits c;
             };
           };
+          may = may_filled;
         }

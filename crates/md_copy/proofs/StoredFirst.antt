@@ -1,8 +1,7 @@
 -- What is stored before a rebuild and after it, part by part.
-use Rattle.std.proofs.Common.{◌≡◌, ◌∙◌, ℕ, ◌<◌, true, false, slice_get, None, refl, sym, ap, subst, inl, inr}
+use Rattle.std.proofs.Common.{◌≡◌, ◌∙◌, ℕ, true, false, slice_get, None, refl, sym, ap, subst, inl, inr}
 use Rattle.std.specs.Prelude.{Result, Ok, Err, MatchResult}
 use Rattle.md_model.specs.Events.{Event}
-use Rattle.md_assembly.specs.States.{is_in_sync}
 use Rattle.md_faults.specs.declared.enrol_fault.TargetFault.{TargetFault as TargetFaults}
 use Rattle.md_faults.specs.declared.enrol_fault.TargetFault.TheVariants as why
 use Rattle.md_kept_members.specs.View.{MemberView}
@@ -16,19 +15,19 @@ use Rattle.md_array.specs.Consistency.{IsConsistent}
 use Rattle.md_array.specs.Events.{Happens}
 use Rattle.md_array.specs.InTurn.{HaltsAt}
 use Rattle.md_array.specs.Recording.{Records}
-use Rattle.md_array.specs.RecordingTarget.{LeavesUnrecorded, RefusesTarget}
+use Rattle.md_array.specs.RecordingTarget.{RefusesTarget}
 use Rattle.md_metadata.specs.declared.fault.PartFault.{PartFault}
 use Rattle.md_metadata.specs.declared.fault.PartFault.TheVariants as part
-use Rattle.md_metadata.specs.Going.{GoesOn, HaltsAfter, only_others}
-use Rattle.md_metadata.specs.Storing.{AllRecorded, HasAllMarks, IsMarking, IsRecording, IsStoring, LosesStoring, RecordsAll, RecordsAt, RecordsOn, Stores, StoresAll, StoringFails}
-use Rattle.md_metadata.proofs.Going.{goes_as, goes_on, halts_on, marking_stores, recording_stores, stops_as, stops_on, stores_as, stores_nowhere, stores_on}
+use Rattle.md_metadata.specs.Going.{HaltsAfter, only_others}
+use Rattle.md_metadata.specs.Storing.{HasAllMarks, IsMarking, IsRecording, IsStoring, RecordsAll, RecordsAt, Stores, StoresAll, StoringFails}
+use Rattle.md_metadata.proofs.Going.{marking_stores, recording_stores, stops_on, stores_as, stores_nowhere, stores_on}
 use Rattle.md_metadata.proofs.Steps.{record_stored}
 use Rattle.md_metadata.proofs.StoredMembers.{last_on}
 use Rattle.md_metadata.proofs.StoredRecords.{other_due, other_or_stops}
 use Rattle.md_metadata.proofs.StoredSectors.{all_marks_last}
 use Rattle.md_copy.specs.declared.fault.RebuildFault.{RebuildFault}
 use Rattle.md_copy.specs.declared.fault.RebuildFault.TheVariants.{Halted, NotSpare, Dirty, InFlight, LogFull, NoMemory, TargetFault, MetadataFault, EventsFull, SourceFault}
-use Rattle.md_copy.specs.Storing.{FailsOnTarget, HaltsStoring, Settles, StoresFirst, StoringStops}
+use Rattle.md_copy.specs.Storing.{FailsOnTarget, StoresFirst, StoringStops}
 use Rattle.md_copy.proofs.LentBack.{rebuilt_out}
 
 -- ---- who is in sync once the mirror is halted

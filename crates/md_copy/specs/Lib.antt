@@ -14,7 +14,5 @@ pub mod Preparing
 pub mod Filling
 -- The target comes into sync after a pass, or it does not.
 pub mod Enrolled
--- What a rebuild makes of its target, in plain terms.
-pub mod Rebuilt
 -- A rebuild in one pass, step by step (this project's own).
 pub mod Rebuilding

@@ -1,13 +1,13 @@
 -- A rebuild in one pass, step by step (this project's own): what is due is stored, the pass is made, the target comes into sync, and the
 -- others are told.
-use Rattle.std.specs.Prelude.{◌≡◌, ◌⊎◌, ℕ, true, List, [], ◌∷◌}
+use Rattle.std.specs.Prelude.{◌≡◌, ◌⊎◌, ℕ}
 use Rattle.md_bitmap.specs.Marks.{Bitmap}
 use Rattle.md_kept_members.specs.View.{MemberView}
 use Rattle.md_pass.specs.Beside.{has_chunk}
 use Rattle.md_plan.specs.declared.planner.Planned.{Planned}
 use Rattle.md_state.specs.Members.{IsMember}
 use Rattle.md_state.specs.View.{MirrorView}
-use Rattle.md_array.specs.Enrolling.{Enrols, FailsToEnrol}
+use Rattle.md_array.specs.Enrolling.{Enrols, FailsToEnrol, MayEnrol}
 use Rattle.md_copy.specs.declared.fault.RebuildFault.{RebuildFault}
 use Rattle.md_copy.specs.declared.fault.RebuildFault.TheVariants.{Halted, NotSpare, Dirty, InFlight, LogFull, NoMemory, TargetFault, MetadataFault, EventsFull, SourceFault}
 use Rattle.md_copy.specs.declared.rebuilt.Rebuilt.{Rebuilt}
@@ -32,12 +32,14 @@ pub record AreSets (planned : Planned) (v : MirrorView) (copied orphans : Bitmap
   pub copied_are : IsSetOf v.array (has_chunk planned.plan.slots) copied
   pub orphans_are : IsSetOf v.array (is_in planned.orphans) orphans
 
--- the target has the chunks of the plan
+-- The target has the chunks of the plan. It may come into sync: the chunks of the plan and those that nobody may give are all that it
+-- lacked, and in those of the plan it holds whatever content the members in sync hold.
 pub record FillsBy (target : ℕ) (planned : Planned) (copied orphans : Bitmap) (old filled : MirrorView) : Type 0 where
   pub stored : MirrorView
   pub begins : Begins target planned old stored
   pub fills : Fills target begins.now planned.plan.slots stored filled
   pub sets : AreSets planned filled copied orphans
+  pub may : MayEnrol target copied orphans filled
 
 -- all of it
 pub record RebuildsBy (target : ℕ) (planned : Planned) (copied orphans : Bitmap) (old new : MirrorView) : Type 0 where
@@ -99,4 +101,3 @@ RefusesRebuild target old new NoMemory =
     HasNoPass target old new ⊎ (EndsInPass target NoMemory old new ⊎ EndsFilled target old new (λ copied orphans filled. new ≡ filled))
 RefusesRebuild target old new (SourceFault k chunk) = EndsInPass target (SourceFault k chunk) old new
 RefusesRebuild target old new (LogFull k) = (k ≡ target) × EndsFilled target old new (λ copied orphans filled. HasNoRoom target copied orphans filled new)
-

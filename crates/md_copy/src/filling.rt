@@ -13,8 +13,8 @@ ghost use Rattle.md_copy.specs.Filling.{FailsInRole, FailsPass, FillsPass, IsCop
 ghost use Rattle.md_copy.specs.Preparing.{IsPrepared};
 ghost use Rattle.md_copy.specs.RebuildSources.{AreSources, IsPlanOf};
 
-use crate::one_pass::copy_beside;
 use crate::fault::RebuildFault;
+use crate::one_pass::copy_beside;
 use crate::preparing::Pass;
 use crate::sources::member_in;
 use md_array::Mirror;

@@ -83,10 +83,7 @@ fn store_if_due<D: Device + Drop>(
 }
 
 // Stores that of the target, where it is due.
-fn store_target<D: Device + Drop>(
-    mirror: &mut Mirror<D>,
-    target: usize,
-) -> Result<(), RebuildFault>
+fn store_target<D: Device + Drop>(mirror: &mut Mirror<D>, target: usize) -> Result<(), RebuildFault>
     requires within { target < length mirror.old.array.members }
     requires sound { IsConsistent mirror.old }
     requires running { mirror.old.array.halted ≡ false }

@@ -1,6 +1,4 @@
 use Rattle.std.proofs.Common.{rules, ◌≡◌, Err, subst, sym}
-use Rattle.md_assembly.specs.States.{is_in_sync_as}
-use Rattle.md_kept_members.specs.View.{MemberView}
 use Rattle.md_pass.specs.declared.fault.PassFault.TheVariants.{SourceFault, TargetFault}
 use Rattle.md_plan.specs.declared.planner.Planned.{Planned}
 use Rattle.md_state.specs.Members.{IsMember}

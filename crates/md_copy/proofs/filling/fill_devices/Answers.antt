@@ -1,4 +1,4 @@
-use Rattle.std.proofs.Common.{◌≡◌, ◌∙◌, List, ap, get_or, length, refl, remove, slice_get, slice_index_or, subst, sym}
+use Rattle.std.proofs.Common.{◌≡◌, ◌∙◌, List, ap, get_or, refl, remove, slice_get, slice_index_or, subst, sym}
 use Rattle.std.proofs.lemmas.Option.{slice_get-get_or}
 use Rattle.md_assembly.proofs.Indices.{got_within}
 use Rattle.md_bitmap.specs.declared.chunks.Chunks.{Chunks}
@@ -8,7 +8,6 @@ use Rattle.md_kept_members.specs.View.{MemberView}
 use Rattle.md_pass.specs.Beside.{KeepsBeside}
 use Rattle.md_pass.specs.Sources.{AreCopied, MayRead, copy_of}
 use Rattle.md_pass.proofs.PassSources.{on_ok}
-use Rattle.md_state.specs.Members.{IsMember}
 use Rattle.md_state.specs.View.{Disk, MirrorView, disk_of, of_disks}
 use Rattle.md_array.specs.Lending.{AreBack}
 use Rattle.md_super.specs.declared.superblock.Superblock.{Superblock}
@@ -58,10 +57,12 @@ give_back-requires-clause-back g c =
     let at = got_within v.array.members target c.requires.within in
     let own = field_of (λ (m : MemberView). m.superblock) _ at.0 _ at.1 c.own.ensures in
     let keeps = λ (d : g.row.D.Denot). subst (λ (b : Superblock). KeepsBeside g.D.Device (copy_of slots v.array.chunks b.data_offset) (slice_index_or olds target d) (slice_index_or news target d)) (sym own)
-    (subst (λ (x : Chunks). KeepsBeside g.D.Device (copy_of slots x c.own.result.now.data_offset) (slice_index_or olds target d) (slice_index_or news target d)) c.chunks-chunks.ensures (c.copy_beside-result.ensures.target d)) in
-    (v.disks, subst (λ (x : MirrorView). AreBack x v.disks (seen g.D.Device news)) (sym c.lend-devices.ensures.out)
-        (back g.D.Device v c.requires.sound target c.requires.within at.0 at.1 (c.requires.target at.0 at.1) c.args.plan.now (c.requires.planned at.0 at.1) olds news (sym c.lend-devices.ensures.devices) c.copy_beside-result.ensures.as_many
-        c.copy_beside-result.ensures.others keeps c.requires.idle))
+    (subst (λ (x : Chunks). KeepsBeside g.D.Device (copy_of slots x c.own.result.now.data_offset) (slice_index_or olds target d) (slice_index_or news target d)) c.chunks-chunks.ensures (c.copy_beside-result.ensures.target d)) in (
+      v.disks,
+      subst (λ (x : MirrorView). AreBack x v.disks (seen g.D.Device news)) (sym c.lend-devices.ensures.out)
+          (back g.D.Device v c.requires.sound target c.requires.within at.0 at.1 (c.requires.target at.0 at.1) c.args.plan.now (c.requires.planned at.0 at.1) olds news (sym c.lend-devices.ensures.devices) c.copy_beside-result.ensures.as_many
+          c.copy_beside-result.ensures.others keeps c.requires.idle),
+    )
 
 pub returns-clause-filling : goal.returns-clause-filling
 returns-clause-filling g c m at =

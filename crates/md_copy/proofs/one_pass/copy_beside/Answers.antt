@@ -1,4 +1,4 @@
-use Rattle.std.proofs.Common.{◌≡◌, ◌∙◌, ◌≤◌, List, ap, arith, if◌then◌else◌, insert, is_ok, length, not, remove, subst, sym, true}
+use Rattle.std.proofs.Common.{◌≡◌, ◌∙◌, ◌≤◌, ap, arith, if◌then◌else◌, insert, is_ok, length, not, remove, subst, sym, true}
 use Rattle.md_pass.specs.Lanes.{AreOnlyRead}
 use Rattle.md_pass.specs.Sources.{FailsToGive}
 use Rattle.md_copy.proofs.Returned.{removed_again}

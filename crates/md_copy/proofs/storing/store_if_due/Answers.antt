@@ -1,7 +1,6 @@
-use Rattle.std.proofs.Common.{◌≡◌, true}
 use Rattle.std.specs.Prelude.{Result, Err}
 use Rattle.md_metadata.specs.declared.fault.PartFault.{PartFault}
-use Rattle.md_metadata.specs.Storing.{IsRecording, IsStoring, StoringFails}
+use Rattle.md_metadata.specs.Storing.{IsRecording, IsStoring}
 use Rattle.md_metadata.proofs.Going.{recording_stores, stops_as}
 use Rattle.md_metadata.proofs.StoredRecords.{other_due, other_or_stops, recorded_nothing}
 use Rattle.md_state.proofs.Members.At.{told}

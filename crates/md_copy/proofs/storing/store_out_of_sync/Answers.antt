@@ -1,4 +1,4 @@
-use Rattle.std.proofs.Common.{◌≡◌, ◌∙◌, ap, arith, refl, sym}
+use Rattle.std.proofs.Common.{◌∙◌, ap, arith, refl, sym}
 use Rattle.md_state.specs.Missing.{is_rebuilt}
 use Rattle.md_state.specs.WritingMember.{IsNotDue}
 use Rattle.md_metadata.specs.Storing.{IsRecording, IsStoring, StaysReady}
