@@ -11,7 +11,7 @@ use Rattle.md_plan.specs.declared.planner.Planned.{Planned}
 use Rattle.md_state.specs.Members.{IsMember}
 use Rattle.md_state.specs.View.{ArrayView, MirrorView}
 use Rattle.md_copy.specs.declared.fault.RebuildFault.{RebuildFault}
-use Rattle.md_copy.specs.declared.fault.RebuildFault.TheVariants.{NoMemory, NotSpare}
+use Rattle.md_copy.specs.declared.fault.RebuildFault.TheVariants.{NoMemory}
 use Rattle.md_copy.specs.declared.preparing.Pass.{Pass}
 use Rattle.md_copy.specs.declared.rebuilt.Rebuilt.{Rebuilt}
 use Rattle.md_copy.specs.RebuildSources.{AreSources}

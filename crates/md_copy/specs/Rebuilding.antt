@@ -1,21 +1,20 @@
 -- A rebuild in one pass, step by step (this project's own): what is due is stored, the pass is made, the target comes into sync, and the
 -- others are told.
-use Rattle.std.specs.Prelude.{◌≡◌, ◌⊎◌, ℕ, true, List, [], ◌∷◌}
+use Rattle.std.specs.Prelude.{◌≡◌, ◌⊎◌, ℕ}
 use Rattle.md_bitmap.specs.Marks.{Bitmap}
 use Rattle.md_kept_members.specs.View.{MemberView}
 use Rattle.md_pass.specs.Beside.{has_chunk}
 use Rattle.md_plan.specs.declared.planner.Planned.{Planned}
-use Rattle.md_state.specs.Enrolling.{HasFullLog}
 use Rattle.md_state.specs.Members.{IsMember}
 use Rattle.md_state.specs.View.{MirrorView}
-use Rattle.md_array.specs.Enrolling.{Enrols, FailsToEnrol}
+use Rattle.md_array.specs.Enrolling.{Enrols, FailsToEnrol, MayEnrol}
 use Rattle.md_copy.specs.declared.fault.RebuildFault.{RebuildFault}
 use Rattle.md_copy.specs.declared.fault.RebuildFault.TheVariants.{Halted, NotSpare, Dirty, InFlight, LogFull, NoMemory, TargetFault, MetadataFault, EventsFull, SourceFault}
 use Rattle.md_copy.specs.declared.rebuilt.Rebuilt.{Rebuilt}
 use Rattle.md_copy.specs.Beginning.{CannotRebuild, MayRebuild}
+use Rattle.md_copy.specs.Enrolled.{HasNoRoom}
 use Rattle.md_copy.specs.Filling.{FailsToFill, Fills}
 use Rattle.md_copy.specs.Preparing.{IsLeastPlan, IsSetOf, Tells, is_in}
-use Rattle.md_copy.specs.Rebuilt.{IsLeftUnbuilt, IsRebuilt}
 use Rattle.md_copy.specs.Storing.{FailsOnTarget, Settles, StopsAt, StoresFirst}
 
 -- It was checked, what was due is stored, and a pass is planned by what is kept in memory then.
@@ -33,12 +32,14 @@ pub record AreSets (planned : Planned) (v : MirrorView) (copied orphans : Bitmap
   pub copied_are : IsSetOf v.array (has_chunk planned.plan.slots) copied
   pub orphans_are : IsSetOf v.array (is_in planned.orphans) orphans
 
--- the target has the chunks of the plan
+-- The target has the chunks of the plan. It may come into sync: the chunks of the plan and those that nobody may give are all that it
+-- lacked, and in those of the plan it holds whatever content the members in sync hold.
 pub record FillsBy (target : ℕ) (planned : Planned) (copied orphans : Bitmap) (old filled : MirrorView) : Type 0 where
   pub stored : MirrorView
   pub begins : Begins target planned old stored
   pub fills : Fills target begins.now planned.plan.slots stored filled
   pub sets : AreSets planned filled copied orphans
+  pub may : MayEnrol target copied orphans filled
 
 -- all of it
 pub record RebuildsBy (target : ℕ) (planned : Planned) (copied orphans : Bitmap) (old new : MirrorView) : Type 0 where
@@ -55,7 +56,6 @@ pub record Rebuilds (target : ℕ) (told : Rebuilt) (old new : MirrorView) : Typ
   pub copied : Bitmap
   pub orphans : Bitmap
   pub by : RebuildsBy target planned copied orphans old new
-  pub rebuilt : IsRebuilt target copied orphans old new
 
 -- ---- what is refused
 -- before anything was done
@@ -88,26 +88,16 @@ pub record EndsFilled (target : ℕ) (old new : MirrorView) (Why : Bitmap → Bi
   pub fills : FillsBy target planned copied orphans old filled
   pub why : Why copied orphans filled
 
--- its list needs more room than its log has, and nothing was written for it
-pub record HasNoRoom (target : ℕ) (new : MirrorView) (copied orphans : Bitmap) (filled : MirrorView) : Type 0 where
-  pub unchanged : new ≡ filled
-  pub full : HasFullLog target copied orphans filled.array
-
-abbrev pub RefusesBy : ℕ → MirrorView → MirrorView → RebuildFault → Type 0
-RefusesBy target old new Halted = RefusesAtOnce target Halted old new
-RefusesBy target old new NotSpare = RefusesAtOnce target NotSpare old new
-RefusesBy target old new Dirty = RefusesAtOnce target Dirty old new
-RefusesBy target old new (InFlight number) = RefusesAtOnce target (InFlight number) old new
-RefusesBy target old new EventsFull = RefusesAtOnce target EventsFull old new
-RefusesBy target old new (MetadataFault k) = StopsAt k old new
-RefusesBy target old new TargetFault =
+abbrev pub RefusesRebuild : ℕ → MirrorView → MirrorView → RebuildFault → Type 0
+RefusesRebuild target old new Halted = RefusesAtOnce target Halted old new
+RefusesRebuild target old new NotSpare = RefusesAtOnce target NotSpare old new
+RefusesRebuild target old new Dirty = RefusesAtOnce target Dirty old new
+RefusesRebuild target old new (InFlight number) = RefusesAtOnce target (InFlight number) old new
+RefusesRebuild target old new EventsFull = RefusesAtOnce target EventsFull old new
+RefusesRebuild target old new (MetadataFault k) = StopsAt k old new
+RefusesRebuild target old new TargetFault =
     FailsOnTarget target old new ⊎ (EndsInPass target TargetFault old new ⊎ EndsFilled target old new (λ copied orphans filled. FailsToEnrol target copied orphans filled new))
-RefusesBy target old new NoMemory =
+RefusesRebuild target old new NoMemory =
     HasNoPass target old new ⊎ (EndsInPass target NoMemory old new ⊎ EndsFilled target old new (λ copied orphans filled. new ≡ filled))
-RefusesBy target old new (SourceFault k chunk) = EndsInPass target (SourceFault k chunk) old new
-RefusesBy target old new (LogFull k) = (k ≡ target) × EndsFilled target old new (HasNoRoom target new)
-
--- why, and whatever it is, the target is left as it was but in the chunks that it lacks
-pub record RefusesRebuild (target : ℕ) (old new : MirrorView) (fault : RebuildFault) : Type 0 where
-  pub by : RefusesBy target old new fault
-  pub left : IsLeftUnbuilt target old new
+RefusesRebuild target old new (SourceFault k chunk) = EndsInPass target (SourceFault k chunk) old new
+RefusesRebuild target old new (LogFull k) = (k ≡ target) × EndsFilled target old new (λ copied orphans filled. HasNoRoom target copied orphans filled new)

@@ -2,10 +2,12 @@
 #![tactic(auto)]
 
 mod checking;
+mod enrol_filled;
 mod fault;
 mod filling;
 mod in_sync;
 mod listed;
+mod one_pass;
 mod preparing;
 mod rebuild_table;
 mod rebuilding;

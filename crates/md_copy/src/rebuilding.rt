@@ -1,12 +1,17 @@
 // A member is rebuilt.
+ghost use Rattle.std.specs.Prelude.{◌<◌, MatchResult, length};
+ghost use Rattle.md_array.specs.Consistency.{IsConsistent};
+ghost use Rattle.md_copy.specs.Rebuilding.{Rebuilds, RefusesRebuild};
+
 use crate::checking::check_rebuild;
+use crate::enrol_filled::enrol_filled;
 use crate::fault::RebuildFault;
 use crate::filling::fill;
-use crate::preparing::{Pass, prepare};
+use crate::preparing::prepare;
 use crate::rebuilt::Rebuilt;
 use crate::settling::settle;
 use crate::storing::store_first;
-use md_array::{EnrolFault, Mirror};
+use md_array::Mirror;
 use md_device::Device;
 use md_pass::Gate;
 use std::alloc::Global;
@@ -21,7 +26,12 @@ pub fn rebuild<D: Device + Drop + Send, G: Gate + Sync, R: Threads + Wait + Sync
     mirror: &mut Mirror<D>,
     target: usize,
     gate: &G,
-) -> Result<Rebuilt, RebuildFault> {
+) -> Result<Rebuilt, RebuildFault>
+    requires within { target < length mirror.old.array.members }
+    requires sound { IsConsistent mirror.old }
+    ensures gives { MatchResult result (λ told. Rebuilds target told mirror.old mirror.new) (RefusesRebuild target mirror.old mirror.new) }
+    ensures sound { IsConsistent mirror.new }
+{
     if let Err(fault) = check_rebuild(mirror, target) {
         return Err(fault);
     }
@@ -40,21 +50,4 @@ pub fn rebuild<D: Device + Drop + Send, G: Gate + Sync, R: Threads + Wait + Sync
     }
     settle(mirror);
     Ok(pass.told)
-}
-
-// The target comes into sync.
-fn enrol_filled<D: Device + Drop>(
-    alloc: Global,
-    mirror: &mut Mirror<D>,
-    target: usize,
-    pass: &Pass,
-) -> Result<(), RebuildFault> {
-    match mirror.enrol(alloc, target, &pass.copied, &pass.orphans) {
-        Ok(()) => Ok(()),
-        Err(EnrolFault::LogFull(k)) => Err(RebuildFault::LogFull(k)),
-        Err(EnrolFault::NoMemory) => Err(RebuildFault::NoMemory),
-        Err(EnrolFault::TargetFault) => Err(RebuildFault::TargetFault),
-        // It was checked that it runs, that the target can be given a role, and that the count can rise.
-        Err(EnrolFault::Halted | EnrolFault::NoRole | EnrolFault::EventsFull) => unreachable!(),
-    }
 }

@@ -50,7 +50,7 @@ byte_stays at n p old new same where_is =
 
 -- the area that is written, from this sector on
 module _ (written : Area) (start : ℕ) (at : written.start ≡ pos start) (old new : List ℕ) (same : SameOutside (512 * start) (512 * written.sectors) old new) where
-  stays : (a : Area) (s : ℕ) → a.start ≡ pos s → AreApart a written → (i m : ℕ) → 512 * s ≤ i → i + m ≤ 512 * (s + a.sectors) → part new i m ≡ part old i m
+  pub stays : (a : Area) (s : ℕ) → a.start ≡ pos s → AreApart a written → (i m : ℕ) → 512 * s ≤ i → i + m ≤ 512 * (s + a.sectors) → part new i m ≡ part old i m
   stays a s e h i m from to =
       elim (apart a.start written.start s start a.sectors written.sectors e at h) [
         | inl before ↦ part_before same i m (omega arith)
