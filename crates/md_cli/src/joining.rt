@@ -175,13 +175,7 @@ fn join_members<
 }
 
 // Opens all devices but the last as a mirror, which the last joins. They come back in their order.
-fn join_last<
-    D: Device + Drop + Send,
-    S: Sink,
-    E: Write,
-    W: Watch + Sync,
-    T: Threads + Wait + Sync,
->(
+fn join_last<D: Device + Drop + Send, S: Sink, E: Write, W: Watch + Sync, T: Threads + Wait + Sync>(
     rt: &T,
     alloc: Global,
     joining: Joining,
@@ -249,13 +243,7 @@ fn with_name<'a>(
 /// The image under a name joins the array that the images of the other names make, and all of them are put
 /// back. Among the images it counts after the others. Where opening the array stored marks, `err` is told
 /// on which images. `watch` is told of a rebuild.
-pub(crate) fn join_images<
-    I: Images,
-    S: Sink,
-    E: Write,
-    W: Watch + Sync,
-    T: Threads + Wait + Sync,
->(
+pub(crate) fn join_images<I: Images, S: Sink, E: Write, W: Watch + Sync, T: Threads + Wait + Sync>(
     rt: &T,
     alloc: Global,
     joining: Joining,

@@ -95,8 +95,7 @@ pub(crate) fn rebuild_on_images<
     };
     let words = list.as_slice();
     let devices = take_images(alloc, Access::Change, images, words)?;
-    let (devices, result) =
-        rebuild_on_devices(rt, alloc, member, devices, names, watch, out, err);
+    let (devices, result) = rebuild_on_devices(rt, alloc, member, devices, names, watch, out, err);
     put_back(images, words, devices);
     result
 }

@@ -36,15 +36,7 @@ use std::thread::Threads;
 /// line for each image on which marks were stored; and the parser's text. No clause speaks of what is written to `err`, nor of whether that can be written.
 ///
 /// `watch` is told of a rebuild, by `rebuild` and `re-add`, whose workers `rt` starts.
-pub fn run<
-    'a,
-    I: Images,
-    R: Source,
-    S: Sink,
-    E: Write,
-    W: Watch + Sync,
-    T: Threads + Wait + Sync,
->(
+pub fn run<'a, I: Images, R: Source, S: Sink, E: Write, W: Watch + Sync, T: Threads + Wait + Sync>(
     rt: &T,
     alloc: Global,
     words: &'a [&'a str],
@@ -70,20 +62,21 @@ pub fn run<
     };
     let names = request.images.as_slice();
     let outcome = act(
-        rt, alloc, request.action, images, names, input, out, err, watch,
+        rt,
+        alloc,
+        request.action,
+        images,
+        names,
+        input,
+        out,
+        err,
+        watch,
     );
     answer(outcome, request.action, names, messages, err)
 }
 
 // Does a command on the images that are named.
-fn act<
-    I: Images,
-    R: Source,
-    S: Sink,
-    E: Write,
-    W: Watch + Sync,
-    T: Threads + Wait + Sync,
->(
+fn act<I: Images, R: Source, S: Sink, E: Write, W: Watch + Sync, T: Threads + Wait + Sync>(
     rt: &T,
     alloc: Global,
     action: Action<'_>,

@@ -29,12 +29,7 @@ use std::thread::Threads;
 ///     let mut out = Output::new(rt.stdout());
 ///     let (device, re_added) = re_add_device(&rt, rt.alloc(), &mut mirror, device, &watch, &mut out);
 ///     re_added?; // it has put out `in sync 2 of 2, events 8, marked 0`
-pub fn re_add_device<
-    D: Device + Drop + Send,
-    W: Watch + Sync,
-    S: Sink,
-    T: Threads + Wait + Sync,
->(
+pub fn re_add_device<D: Device + Drop + Send, W: Watch + Sync, S: Sink, T: Threads + Wait + Sync>(
     rt: &T,
     alloc: Global,
     mirror: &mut Mirror<D>,
@@ -61,12 +56,7 @@ pub fn re_add_device<
 }
 
 // Rebuilds member k, stops the array, and shows it.
-fn rebuild_and_show<
-    D: Device + Drop + Send,
-    W: Watch + Sync,
-    S: Sink,
-    T: Threads + Wait + Sync,
->(
+fn rebuild_and_show<D: Device + Drop + Send, W: Watch + Sync, S: Sink, T: Threads + Wait + Sync>(
     rt: &T,
     alloc: Global,
     mirror: &mut Mirror<D>,

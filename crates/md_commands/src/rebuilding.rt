@@ -29,12 +29,7 @@ use std::thread::Threads;
 ///
 ///     let mut out = Output::new(rt.stdout());
 ///     rebuild_member(&rt, rt.alloc(), &mut mirror, 2, &watch, &mut out)?; // ends with `rebuilt member 2, passes 1, orphans 0`
-pub fn rebuild_member<
-    D: Device + Drop + Send,
-    W: Watch + Sync,
-    S: Sink,
-    T: Threads + Wait + Sync,
->(
+pub fn rebuild_member<D: Device + Drop + Send, W: Watch + Sync, S: Sink, T: Threads + Wait + Sync>(
     rt: &T,
     alloc: Global,
     mirror: &mut Mirror<D>,
@@ -74,11 +69,7 @@ fn rebuild_and_stop<D: Device + Drop + Send, W: Watch + Sync, T: Threads + Wait 
 
 /// Rebuilds member k. `watch` is told how many chunks it lacks, where there is memory to say so, and of each
 /// read.
-pub(crate) fn rebuild_watched<
-    D: Device + Drop + Send,
-    W: Watch + Sync,
-    T: Threads + Wait + Sync,
->(
+pub(crate) fn rebuild_watched<D: Device + Drop + Send, W: Watch + Sync, T: Threads + Wait + Sync>(
     rt: &T,
     alloc: Global,
     mirror: &mut Mirror<D>,
