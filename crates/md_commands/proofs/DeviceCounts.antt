@@ -58,11 +58,12 @@ refused : (old new : MirrorView) (Reason : Type 0) → Refuses old new Reason �
 refused old new Reason r = same old new r.unchanged
 
 -- ---- events
--- no member leaves or comes in by one of this kind
+-- no member leaves, comes in, or comes into sync by one of this kind
 pub record KeepsMembers (IsOf : Event → Type 0) : Type 0 where
   pub removes : (k : ℕ) → IsOf (Event.Remove k) → ⊥
   pub adds : (d : ℕ) (left : Stored) → IsOf (Event.Add d left) → ⊥
   pub re_adds : (own : Super) (device left : Stored) → IsOf (Event.ReAdd own device left) → ⊥
+  pub enrols : (k role : ℕ) (listed : ℕ → Bool) → IsOf (Event.Enrol k role listed) → ⊥
 
 did : (IsOf : Event → Type 0) → KeepsMembers IsOf → (e : Event) (old new : MirrorView) (before after : Requests) → IsOf e → Did old before e new after → AsMany old new
 did IsOf keeps (Event.Begin n p) old new before after of h = ap length h.5.disks
@@ -83,10 +84,10 @@ did IsOf keeps Event.MakeClean old new before after of h = ap length h.1.disks
 did IsOf keeps (Event.Remove k) old new before after of h = absurd (keeps.removes k of)
 did IsOf keeps (Event.Add d left) old new before after of h = absurd (keeps.adds d left of)
 did IsOf keeps (Event.ReAdd own device left) old new before after of h = absurd (keeps.re_adds own device left of)
-did IsOf keeps (Event.Fill k) old new before after of h = absurd h
-did IsOf keeps (Event.Prepare k) old new before after of h = absurd h
-did IsOf keeps (Event.RecordTargetFails k) old new before after of h = absurd h
-did IsOf keeps (Event.Enrol k role listed) old new before after of h = absurd h
+did IsOf keeps (Event.Fill k) old new before after of h = h.1.disks.as_many
+did IsOf keeps (Event.Prepare k) old new before after of h = h.1.disks.as_many
+did IsOf keeps (Event.RecordTargetFails k) old new before after of h = h.1.leaves.disks.tried.as_many
+did IsOf keeps (Event.Enrol k role listed) old new before after of h = absurd (keeps.enrols k role listed of)
 
 pub halts : (e : Event) (old new : MirrorView) (before : Requests) → HaltsAt old before e new → AsMany old new
 halts (Event.RecordFails k) old new before h = h.halts.disks.tried.as_many
@@ -127,16 +128,17 @@ keeps_or_ends IsOf keeps = record {
   removes = λ k. ⊎_elim (λ (of : IsOf (Event.Remove k)). keeps.removes k of) (λ (no : ⊥). no);
   adds = λ d left. ⊎_elim (λ (of : IsOf (Event.Add d left)). keeps.adds d left of) (λ (no : ⊥). no);
   re_adds = λ own device left. ⊎_elim (λ (of : IsOf (Event.ReAdd own device left)). keeps.re_adds own device left of) (λ (no : ⊥). no);
+  enrols = λ k role listed. ⊎_elim (λ (of : IsOf (Event.Enrol k role listed)). keeps.enrols k role listed of) (λ (no : ⊥). no);
 }
 
 stopping_keeps : KeepsMembers IsStopping
-stopping_keeps = record { removes = λ k of. of; adds = λ d left of. of; re_adds = λ own device left of. of }
+stopping_keeps = record { removes = λ k of. of; adds = λ d left of. of; re_adds = λ own device left of. of; enrols = λ k role listed of. of }
 
 resync_keeps : KeepsMembers IsOfResync
-resync_keeps = record { removes = λ k of. of; adds = λ d left of. of; re_adds = λ own device left of. of }
+resync_keeps = record { removes = λ k of. of; adds = λ d left of. of; re_adds = λ own device left of. of; enrols = λ k role listed of. of }
 
 request_keeps : (chunks : Chunks) (p : PendingView) → KeepsMembers (IsOfRequest chunks p)
-request_keeps chunks p = record { removes = λ k of. of; adds = λ d left of. of; re_adds = λ own device left of. of }
+request_keeps chunks p = record { removes = λ k of. of; adds = λ d left of. of; re_adds = λ own device left of. of; enrols = λ k role listed of. of }
 
 -- no request of the model
 pub nothing : Requests

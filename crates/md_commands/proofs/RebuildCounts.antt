@@ -26,7 +26,7 @@ use Rattle.md_commands.specs.Stopping.{StopsArrayAfter}
 use Rattle.md_commands.proofs.DeviceCounts.{AsMany, KeepsMembers, fails_after, halts, led, none_in_flight, not_readied, nothing, readied, same, stopped, stopped_after, stops_as_many}
 
 storing_keeps : KeepsMembers IsStoring
-storing_keeps = record { removes = λ k of. of; adds = λ d left of. of; re_adds = λ own device left of. of }
+storing_keeps = record { removes = λ k of. of; adds = λ d left of. of; re_adds = λ own device left of. of; enrols = λ k role listed of. of }
 
 gone_on : (old new : MirrorView) → GoesOn only_others only_others IsStoring old new → AsMany old new
 gone_on old new goes = led IsStoring storing_keeps goes.events None old new nothing nothing goes.steps (goes.leads None nothing (none_in_flight old.array))
