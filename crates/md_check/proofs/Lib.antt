@@ -1,0 +1,2 @@
+-- Sectors of a buffer of which a part was read.
+mod SectorsRead

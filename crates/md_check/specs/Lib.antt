@@ -4,3 +4,9 @@ pub mod Differences
 pub mod Seats
 -- What a worker reads of its seat's member.
 pub mod Readings
+-- What a member's worker has to know of it, made before its device is lent.
+pub mod Plans
+-- Mismatches: the chunks in which two members in sync differ in a sector that neither lists.
+pub mod Mismatches
+-- The members of a mirror are compared: what comes of it, and why it is refused.
+pub mod Checking

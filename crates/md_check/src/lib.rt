@@ -2,11 +2,17 @@
 //! counted. Nothing is written.
 #![tactic(auto)]
 
+mod check;
 mod compare;
+mod fault;
 mod lent;
 mod listed;
+mod order;
 mod reading;
 mod seat;
+mod seats;
 mod turn;
 
+pub use check::check_array;
+pub use fault::CheckFault;
 pub use md_pass::Gate;
