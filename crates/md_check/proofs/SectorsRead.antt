@@ -1,5 +1,5 @@
 -- Sectors of a buffer of which a part was read.
-use Rattle.std.proofs.Common.{◌≡◌, ℕ, ◌+◌, ◌*◌, ◌-◌, ◌/◌, ◌%◌, ◌<◌, ◌≤◌, List, ◌++◌, length, take, drop, inl, inr, sym, ap, ◌∙◌, arith, length-append, length-drop, drop-drop}
+use Rattle.std.proofs.Common.{◌≡◌, ℕ, ◌+◌, ◌*◌, ◌-◌, ◌/◌, ◌%◌, ◌<◌, ◌≤◌, List, ◌++◌, length, take, drop, refl, inl, inr, sym, ap, ◌∙◌, arith, length-append, length-drop, drop-drop}
 use Rattle.std.proofs.lemmas.Bool.{cases_lt}
 use Rattle.std.proofs.lemmas.List.{drop-append-le, drop-take, drop_at, length-take-le, take-append-le}
 use Rattle.std.proofs.lemmas.Slice.{take-put_mid_below}
@@ -56,7 +56,8 @@ held_held content start n i low =
 pub front_read : (content : List ℕ) (offset : ℕ) (listed : List Run) (sector run : ℕ) (xs ys : List ℕ) → ys ≡ held content (offset + sector) (512 * run) → length ys ≡ 512 * run
     → HasUnlisted content offset listed sector run (put_mid 0 (512 * run) xs ys)
 front_read content offset listed sector run xs ys is as_long i low unlisted =
-    held_after 0 (512 * run) xs ys (omega arith) i (omega arith) (omega arith)
+    ap (λ (k : ℕ). held (put_mid 0 (512 * run) xs ys) k 512) (let e : i ≡ 0 / 512 + i = omega arith in e)
+    ∙ held_after 0 (512 * run) xs ys (omega arith) i (omega arith) (omega arith)
     ∙ ap (λ (bytes : List ℕ). held bytes i 512) is ∙ held_held content (offset + sector) run i low
     ∙ ap (λ (s : ℕ). held content s 512) (let e : offset + sector + i ≡ offset + (sector + i) = omega arith in e)
 

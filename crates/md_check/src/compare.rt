@@ -65,7 +65,12 @@ fn are_alike<D>(seats: &[Seat<D>], from: u64, sectors: u64) -> bool
 fn first_read<D>(seats: &[Seat<D>]) -> Option<usize>
     ensures { MatchOption result (All (λ seat. is_some seat.role ≡ false) seats.now) (λ k. k < length seats.now) }
 {
-    seats.iter().position(|seat| seat.role.is_some())
+    for k in 0..seats.len() {
+        if seats[k].role.is_some() {
+            return Some(k);
+        }
+    }
+    None
 }
 
 // Whether two members in sync differ in a sector of the window that neither lists.

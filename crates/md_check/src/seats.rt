@@ -13,7 +13,6 @@ pub(crate) fn seats_of<D>(
 )
     requires room { (seats.old.items ≡ []) × (vec_len orders.old ≤ vec_capacity seats.old) }
     requires as_many { length devices.old.items ≡ length orders.old.items }
-    ensures devices { map (λ seat. seat.device) seats.new.items ≡ devices.old.items }
     ensures seats { (k : ℕ) (order device seat : _) → k < length orders.old.items
         → IsSeatOf (slice_index_or orders.old.items k order) (slice_index_or devices.old.items k device) (slice_index_or seats.new.items k seat) }
     ensures none { devices.new.items ≡ [] }
