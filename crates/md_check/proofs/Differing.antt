@@ -14,27 +14,27 @@ no_test b t f = cc
 -- two ways to say what members show
 module _ (P Q : ℕ → ℕ → List ℕ → Type 0) where
   pub differ_as : (s : ℕ) → ((k : ℕ) (bytes : List ℕ) → P k s bytes → Q k s bytes) → DifferIn P s → DifferIn Q s
-  differ_as s as d = record {
+  differ_as s via d = record {
     one = d.one;
     other = d.other;
     bytes = d.bytes;
     other_bytes = d.other_bytes;
-    shows = as d.one d.bytes d.shows;
-    shows_other = as d.other d.other_bytes d.shows_other;
+    shows = via d.one d.bytes d.shows;
+    shows_other = via d.other d.other_bytes d.shows_other;
     differ = d.differ;
   }
 
   -- the set grows by a window, in which Q says what P says
   pub different_after : (chunks : Chunks) (from end : ℕ) (old new : Bitmap) → from ≤ end → AreDifferent P chunks from old → AddsDifferent Q chunks from end old new
       → ((s : ℕ) → from ≤ s → s < end → DifferIn P s → DifferIn Q s) → ((s : ℕ) → from ≤ s → s < end → DifferIn Q s → DifferIn P s) → AreDifferent P chunks end new
-  different_after chunks from end old new up so_far adds as back = record { bits = λ c. (
+  different_after chunks from end old new up so_far adds via back = record { bits = λ c. (
     λ e. elim ((adds.bits c).0 e) [
       | inl was ↦ let d = (so_far.bits c).0 was in record { sector = d.sector; inside = d.inside; not_before = omega arith; before = let b = d.before in omega arith; differ = d.differ }
       | inr d ↦ record { sector = d.sector; inside = d.inside; not_before = omega arith; before = d.before; differ = back d.sector d.not_before d.before d.differ }
     ],
     λ d. elim (cases_lt d.sector from) [
       | inl early ↦ (adds.bits c).1 (inl ((so_far.bits c).1 (record { sector = d.sector; inside = d.inside; not_before = omega arith; before = early; differ = d.differ })))
-      | inr late ↦ (adds.bits c).1 (inr (record { sector = d.sector; inside = d.inside; not_before = late; before = d.before; differ = as d.sector late d.before d.differ }))
+      | inr late ↦ (adds.bits c).1 (inr (record { sector = d.sector; inside = d.inside; not_before = late; before = d.before; differ = via d.sector late d.before d.differ }))
     ],
   ) }
 

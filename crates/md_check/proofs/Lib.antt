@@ -12,3 +12,5 @@ mod RunByRun
 mod WindowsRead
 -- Seats stand for the members of a mirror.
 mod SeatedMembers
+-- What was read of a sector is compared with the first that shows it.
+mod WindowCompared

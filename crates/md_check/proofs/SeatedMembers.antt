@@ -47,6 +47,9 @@ alone_same disks a c alone m =
     (sym one.is ∙ ap (λ (x : Disk). held x.content (one.member.superblock.data_offset + m.sector) 512) disk
       ∙ ap (λ (x : MemberView). held other.disk.content (x.superblock.data_offset + m.sector) 512) member ∙ other.is)
 
+pub devices_many : {D : Type 0} (g : Ghosts D) (old : MirrorView) → IsConsistent old → (room : ℕ) (devices : List D) (orders : List Order) → map (disk_of g) devices ≡ old.disks → AreOrders old.array room orders → length devices ≡ length orders
+devices_many g old sound room devices orders out ordered = sym (length-map (disk_of g) devices) ∙ ap length out ∙ sound.fits.as_many ∙ sym ordered.as_many
+
 module _ {D : Type 0} (g : Ghosts D) (old : MirrorView) (sound : IsConsistent old) (room : ℕ) (devices : List D) (orders : List Order) (seats : List (Seat D))
     (out : map (disk_of g) devices ≡ old.disks) (ordered : AreOrders old.array room orders) (many : length seats ≡ length orders)
     (seated : (k : ℕ) (order : Order) (device : D) (seat : Seat D) → k < length orders → IsSeatOf (get_or orders k order) (get_or devices k device) (get_or seats k seat)) where
@@ -55,9 +58,6 @@ module _ {D : Type 0} (g : Ghosts D) (old : MirrorView) (sound : IsConsistent ol
 
   disks_many : length old.disks ≡ length seats
   disks_many = sound.fits.as_many ∙ members_many
-
-  pub devices_many : length devices ≡ length orders
-  devices_many = sym (length-map (disk_of g) devices) ∙ ap length out ∙ disks_many ∙ many
 
   -- seat k stands for member k, on its device
   record StandsFor (k : ℕ) (seat : Seat D) (disk : Disk) (m : MemberView) : Type 0 where
@@ -72,7 +72,7 @@ module _ {D : Type 0} (g : Ghosts D) (old : MirrorView) (sound : IsConsistent ol
       let within : k < length seats = slice_get_within seats k seat at_seat in
       let low : k < length orders = omega (arith, many, within) in
       let order = got_within orders k low in
-      let device = got_within devices k (omega (arith, devices_many, low)) in
+      let device = got_within devices k (omega (arith, devices_many g old sound room devices orders out ordered, low)) in
       let here : get_or seats k seat ≡ seat = get_or_from_slice_get seats k seat seat at_seat in
       let one : IsSeatOf order.0 (get_or devices k device.0) (get_or seats k seat) = subst (λ (o : Order). IsSeatOf o (get_or devices k device.0) (get_or seats k seat)) (get_or_from_slice_get orders k order.0 order.0 order.1) (seated k order.0 device.0 seat low) in
       let two : IsSeatOf order.0 device.0 (get_or seats k seat) = subst (λ (d : D). IsSeatOf order.0 d (get_or seats k seat)) (get_or_from_slice_get devices k device.0 device.0 device.1) one in

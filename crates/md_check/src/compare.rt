@@ -1,5 +1,5 @@
 // What was read of a window is compared.
-ghost use Rattle.std.specs.Prelude.{◌≡◌, ◌+◌, ◌-◌, ◌*◌, ◌/◌, ◌<◌, ◌≤◌, ◌↔◌, ℕ, MatchOption, is_some, length, slice_get, slice_index_or, Some, true};
+ghost use Rattle.std.specs.Prelude.{◌≡◌, ◌+◌, ◌-◌, ◌*◌, ◌<◌, ◌≤◌, ◌↔◌, ℕ, MatchOption, false, is_some, length, slice_get, slice_index_or, Some, true};
 ghost use Rattle.std.specs.Int.{div_ceil};
 ghost use Rattle.std.specs.List.{All};
 ghost use Rattle.md_device.specs.Splice.{part};

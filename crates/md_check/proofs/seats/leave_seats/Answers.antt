@@ -8,7 +8,7 @@ pub remove-requires : goal.remove-requires
 remove-requires g c =
     let inv = c.loop-k.invariant in
     let all = c.args.seats.now.items in
-    omega (arith, c.loop-k-test.true, ap length inv.seats, length-drop c.loop-k._k all)
+    omega (arith, c.loop-k-test.true, c.len-k-end.ensures, ap length inv.seats, length-drop c.loop-k._k all)
 
 pub loop-k-preserved : goal.loop-k-preserved
 loop-k-preserved g c =
@@ -16,7 +16,7 @@ loop-k-preserved g c =
     let all = c.args.seats.now.items in
     let k = c.loop-k._k in
     let seat = c.remove.result in
-    let low : k < length all = c.loop-k-test.true in
+    let low : k < length all = omega (arith, c.loop-k-test.true, c.len-k-end.ensures) in
     record {
       seats = rest_is all c.loop-k.seats.items c.remove.new.self.items k inv.seats c.remove.ensures.items;
       devices = c.push_reserved.ensures.items ∙ ap (λ xs. xs ++ (c.device_of.result ∷ [])) inv.devices ∙ ap (λ d. map (λ (s : Seat _). s.device) (take k all) ++ (d ∷ [])) c.device_of.ensures
@@ -29,4 +29,4 @@ loop-k-preserved g c =
 pub returns : goal.returns
 returns g c =
     let all = c.args.seats.now.items in
-    c.loop-k.invariant.devices ∙ ap (λ (xs : List (Seat _)). map (λ (s : Seat _). s.device) xs) (take_all c.loop-k._k all (omega (arith, c.loop-k-test.false)))
+    c.loop-k.invariant.devices ∙ ap (λ (xs : List (Seat _)). map (λ (s : Seat _). s.device) xs) (take_all c.loop-k._k all (omega (arith, c.loop-k-test.false, c.len-k-end.ensures)))

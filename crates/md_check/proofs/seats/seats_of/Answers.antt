@@ -11,13 +11,13 @@ pub remove-order-requires : goal.remove-order-requires
 remove-order-requires g c =
     let inv = c.loop-k.invariant in
     let all = c.args.orders.now.items in
-    omega (arith, c.loop-k-test.true, ap length inv.orders, length-drop c.loop-k._k all)
+    omega (arith, c.loop-k-test.true, c.len-k-end.ensures, ap length inv.orders, length-drop c.loop-k._k all)
 
 pub remove-device-requires : goal.remove-device-requires
 remove-device-requires g c =
     let inv = c.loop-k.invariant in
     let all = c.args.devices.now.items in
-    omega (arith, c.loop-k-test.true, ap length inv.devices, length-drop c.loop-k._k all, c.requires.as_many)
+    omega (arith, c.loop-k-test.true, c.len-k-end.ensures, ap length inv.devices, length-drop c.loop-k._k all, c.requires.as_many)
 
 pub loop-k-preserved : goal.loop-k-preserved
 loop-k-preserved g c =
@@ -28,7 +28,7 @@ loop-k-preserved g c =
     let order = c.remove-order.result in
     let device = c.remove-device.result in
     let seat = c.seat_of.result in
-    let low : k < length orders = c.loop-k-test.true in
+    let low : k < length orders = omega (arith, c.loop-k-test.true, c.len-k-end.ensures) in
     let here : IsSeatOf order device seat = c.seat_of.ensures in
     record {
       orders = rest_is orders c.loop-k.orders.items c.remove-order.new.self.items k inv.orders c.remove-order.ensures.items;
@@ -44,9 +44,9 @@ loop-k-preserved g c =
     }
 
 pub returns-clause-seats : goal.returns-clause-seats
-returns-clause-seats g c = λ k order device seat below. c.loop-k.invariant.each k seat (omega (arith, below, c.loop-k-test.false)) order device
+returns-clause-seats g c = λ k order device seat below. c.loop-k.invariant.each k seat (omega (arith, below, c.loop-k-test.false, c.len-k-end.ensures)) order device
 
 pub returns-clause-none : goal.returns-clause-none
 returns-clause-none g c =
     let all = c.args.devices.now.items in
-    c.loop-k.invariant.devices ∙ drop_all c.loop-k._k all (omega (arith, c.loop-k-test.false, c.requires.as_many))
+    c.loop-k.invariant.devices ∙ drop_all c.loop-k._k all (omega (arith, c.loop-k-test.false, c.len-k-end.ensures, c.requires.as_many))
