@@ -3,6 +3,7 @@ use Rattle.std.proofs.Common.{◌≡◌, ◌≢◌, ℕ, ◌+◌, ◌/◌, ◌<�
 use Rattle.std.proofs.lemmas.Bool.{cases_lt}
 use Rattle.std.proofs.Math.Nat.{eq-or-lt_of_le}
 use Rattle.md_bitmap.specs.declared.chunks.Chunks.{Chunks}
+use Rattle.md_bitmap.specs.Chunks.{InChunk}
 use Rattle.md_bitmap.specs.Marks.{Bitmap, is_set}
 use Rattle.md_pass.proofs.Tests.{has_new, has_old, has_either}
 use Rattle.md_check.specs.Differences.{AddsDifferent, AreDifferent, DifferIn, DifferWithin}
@@ -86,7 +87,7 @@ module _ (P : ℕ → ℕ → List ℕ → Type 0) where
       here : (c : ℕ) → c ≡ chunk → DifferWithin P chunks from (end + 1) c
       here c same = record {
         sector = end;
-        inside = subst (λ n. _) (sym (same ∙ is)) (in_its_chunk chunks.sectors chunks.size end wide inside);
+        inside = subst (λ n. InChunk chunks.sectors chunks.size n end) (sym (same ∙ is)) (in_its_chunk chunks.sectors chunks.size end wide inside);
         not_before = up;
         before = omega arith;
         differ = differ;

@@ -1,12 +1,15 @@
 -- Seats stand for the members of a mirror.
 use Rattle.std.proofs.Common.{◌≡◌, ◌≢◌, ℕ, ◌+◌, ◌-◌, ◌*◌, ◌/◌, ◌<◌, ◌≤◌, ◌↔◌, Bool, true, false, List, [], length, map, get_or, is_some, Some, refl, ap, sym, ◌∙◌, subst, arith, slice_get, option_map}
+use Rattle.std.specs.Int.{div_ceil}
 use Rattle.std.specs.List.{All}
 use Rattle.std.proofs.lemmas.List.{length-map}
 use Rattle.std.proofs.lemmas.Option.{get_or_from_slice_get, same_Some, slice_get-get_or, slice_get-map, slice_get_within}
 use Rattle.md_device.specs.Device.{held}
 use Rattle.md_device.specs.Splice.{part}
 use Rattle.md_device.specs.declared.device.Device.{Ghosts}
-use Rattle.md_bitmap.specs.Marks.{Bitmap, is_set}
+use Rattle.md_device.specs.Stops.{LeavesMore}
+use Rattle.md_device.proofs.Leaving.{leaves_none}
+use Rattle.md_bitmap.specs.Marks.{Bitmap, count_set, is_set}
 use Rattle.md_badblocks.specs.declared.run.Run.{Run}
 use Rattle.md_badblocks.specs.Runs.{IsBad}
 use Rattle.md_collect.specs.Reading.{Fails}
@@ -14,7 +17,7 @@ use Rattle.md_assembly.specs.States.{is_in_sync}
 use Rattle.md_assembly.proofs.Indices.{got_same, got_within}
 use Rattle.md_kept_members.specs.View.{MemberView}
 use Rattle.md_pass.specs.Lanes.{OnlyRead}
-use Rattle.md_state.specs.DeviceChanges.{IsUntouched}
+use Rattle.md_state.specs.DeviceChanges.{IsUntouched, LeavesAsWas, StaysHonest}
 use Rattle.md_state.specs.DiskWrites.{AtDevice}
 use Rattle.md_state.specs.MakingClean.{IsIdle}
 use Rattle.md_state.specs.Members.{IsAlone, IsMember}
@@ -26,7 +29,7 @@ use Rattle.md_array.specs.Worlds as worlds
 use Rattle.md_check.specs.declared.lent.Missed.{Missed}
 use Rattle.md_check.specs.declared.order.Order.{Order}
 use Rattle.md_check.specs.declared.seat.Seat.{Seat}
-use Rattle.md_check.specs.Checking.{FailsChecking, MarksMembers}
+use Rattle.md_check.specs.Checking.{Checks, FailsChecking, MarksMembers}
 use Rattle.md_check.specs.Differences.{AreDifferent, DifferIn}
 use Rattle.md_check.specs.Mismatches.{Mismatches, Shows}
 use Rattle.md_check.specs.Plans.{AreOrders, IsOrderFor, IsSeatOf}
@@ -47,8 +50,50 @@ alone_same disks a c alone m =
     (sym one.is ∙ ap (λ (x : Disk). held x.content (one.member.superblock.data_offset + m.sector) 512) disk
       ∙ ap (λ (x : MemberView). held other.disk.content (x.superblock.data_offset + m.sector) 512) member ∙ other.is)
 
+-- a device that was only read
+module _ {D : Type 0} {g : Ghosts D} (d e : Disk) (x y : D) (was : d ≡ disk_of g x) (now : e ≡ disk_of g y) (only : OnlyRead g x y) where
+  stays : StaysHonest d e
+  stays = record {
+    honest = ap (λ (z : Disk). z.honest) now ∙ only.honest_kept ∙ sym (ap (λ (z : Disk). z.honest) was);
+    counted = let a = ap (λ (z : Disk). z.failures) was in let b = ap (λ (z : Disk). z.failures) now in let up = only.counted in omega (arith, a, b, up);
+  }
+
+  leaves : LeavesAsWas d e
+  leaves = rw (was, now) only.stops
+
+-- nothing was done
+pub rests_alone : (v : MirrorView) → Rests v v
+rests_alone v = record {
+  array = refl;
+  disks = record {
+    same = record { as_many = refl; honest = λ k d e at there. let same = got_same v.disks k e d there at in record { honest = ap (λ (x : Disk). x.honest) same; counted = let n = ap (λ (x : Disk). x.failures) same in omega (arith, n) } };
+    content = λ k d e at there. ap (λ (x : Disk). x.content) (got_same v.disks k e d there at);
+    within = λ k d e at there _. subst (λ (x : Disk). LeavesMore d.stops x.stops (λ left. left ≡ d.content)) (got_same v.disks k d e at there) (leaves_none d.stops (λ left. left ≡ d.content));
+  };
+}
+
+no_mark : (b : Bool) → b ≡ true → b ≡ false → ⊥
+no_mark b t f = cc
+
+-- with one member in sync the set is empty
+pub marks_alone : (v : MirrorView) (marks : Bitmap) → IsAlone v.array → ((c : ℕ) → is_set marks.bytes c ≡ false) → MarksMembers marks marks v v
+marks_alone v marks alone none = record {
+  chunks = refl;
+  rests = rests_alone v;
+  bits = λ honest c. (λ e. absurd (no_mark (is_set marks.bytes c) e (none c)), λ m. absurd (alone_same v.disks v.array c alone m));
+}
+
+-- the set's number is the count
+pub checks : (old new : MirrorView) (before after : Bitmap) (n : ℕ) → IsConsistent old → IsIdle old.array → before.chunks ≡ div_ceil old.array.chunks.size old.array.chunks.sectors → MarksMembers before after old new
+    → n ≡ count_set after.bytes after.chunks → Checks old new n
+checks old new before after n sound idle many marks is = record {
+  idle = idle;
+  rests = marks.rests;
+  counts = λ honest. record { set = after; chunks = marks.chunks ∙ many ∙ sym sound.chunks.count; bits = marks.bits honest; is = is };
+}
+
 pub devices_many : {D : Type 0} (g : Ghosts D) (old : MirrorView) → IsConsistent old → (room : ℕ) (devices : List D) (orders : List Order) → map (disk_of g) devices ≡ old.disks → AreOrders old.array room orders → length devices ≡ length orders
-devices_many g old sound room devices orders out ordered = sym (length-map (disk_of g) devices) ∙ ap length out ∙ sound.fits.as_many ∙ sym ordered.as_many
+devices_many g old sound room devices orders out ordered = sym (length-map devices (disk_of g)) ∙ ap length out ∙ sound.fits.as_many ∙ sym ordered.as_many
 
 module _ {D : Type 0} (g : Ghosts D) (old : MirrorView) (sound : IsConsistent old) (room : ℕ) (devices : List D) (orders : List Order) (seats : List (Seat D))
     (out : map (disk_of g) devices ≡ old.disks) (ordered : AreOrders old.array room orders) (many : length seats ≡ length orders)
@@ -174,7 +219,7 @@ module _ {D : Type 0} (g : Ghosts D) (old : MirrorView) (sound : IsConsistent ol
     after = map (disk_of g) (map (λ (s : Seat D). s.device) news)
 
     after_many : length after ≡ length old.disks
-    after_many = length-map (disk_of g) (map (λ (s : Seat D). s.device) news) ∙ length-map (λ (s : Seat D). s.device) news ∙ read.as_many ∙ sym disks_many
+    after_many = length-map (map (λ (s : Seat D). s.device) news) (disk_of g) ∙ length-map news (λ (s : Seat D). s.device) ∙ read.as_many ∙ sym disks_many
 
     -- the device of member k before and after
     record WasRead (k : ℕ) (d e : Disk) : Type 0 where
@@ -205,10 +250,10 @@ module _ {D : Type 0} (g : Ghosts D) (old : MirrorView) (sound : IsConsistent ol
     untouched = record {
       same = record {
         as_many = after_many;
-        honest = λ k d e at there. let w = was_read k d e at there in rw (w.was, w.now) (record { honest = w.only.honest_kept; counted = w.only.counted });
+        honest = λ k d e at there. let w = was_read k d e at there in stays d e w.seat.device w.new.device w.was w.now w.only;
       };
-      content = λ k d e at there. let w = was_read k d e at there in rw (w.was, w.now) w.only.content_kept;
-      within = λ k d e at there. let w = was_read k d e at there in rw (w.was, w.now) w.only.stops;
+      content = λ k d e at there. let w = was_read k d e at there in ap (λ (x : Disk). x.content) w.now ∙ w.only.content_kept ∙ sym (ap (λ (x : Disk). x.content) w.was);
+      within = λ k d e at there. let w = was_read k d e at there in leaves d e w.seat.device w.new.device w.was w.now w.only;
     }
 
     pub come_back : IsIdle old.array → AreBack (lent old) old.disks after

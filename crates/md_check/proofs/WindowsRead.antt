@@ -44,8 +44,8 @@ module _ {D : Type 0} {g : Ghosts D} where
   }
 
   -- what a seat is still to be read for
-  pub seated_still : {chunks : Chunks} (firsts olds : List (Seat D)) → AreSeatsRead g firsts olds → All (IsSeated g chunks) firsts → All (IsSeated g chunks) olds
-  seated_still {chunks = chunks} firsts olds so_far seated k d below reads =
+  pub seated_still : (chunks : Chunks) (firsts olds : List (Seat D)) → AreSeatsRead g firsts olds → All (IsSeated g chunks) firsts → All (IsSeated g chunks) olds
+  seated_still chunks firsts olds so_far seated k d below reads =
       let one = so_far.each k d (let many = so_far.as_many in omega arith) in
       let first = get_or firsts k d in
       let old = get_or olds k d in

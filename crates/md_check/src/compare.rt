@@ -32,7 +32,7 @@ pub(crate) fn mark_window<D>(
     requires marks { marks.old.chunks ≡ div_ceil chunks.size chunks.sectors }
     ensures { AddsDifferent (SeatShows (in_window from) seats.now) chunks from (from + sectors) marks.old marks.new }
 {
-    if are_alike(seats, from, sectors) {
+    if are_alike(seats) {
         return;
     }
     for at in 0..sectors {
@@ -42,23 +42,29 @@ pub(crate) fn mark_window<D>(
     }
 }
 
-// Whether it is seen at once that no two members differ in the window: none that is in sync lists a sector of
-// it, and what was read of them is the same as a whole.
-fn are_alike<D>(seats: &[Seat<D>], from: u64, sectors: u64) -> bool
-    ensures { result ≡ true → (s : ℕ) → from ≤ s → s < from + sectors
-        → DifferIn (SeatShows (in_window from) seats.now) s → ⊥ }
+// Whether it is seen at once that no two members differ: all that was read is the same.
+fn are_alike<D>(seats: &[Seat<D>]) -> bool
+    ensures { result ≡ true → (from s : ℕ) → DifferIn (SeatShows (in_window from) seats.now) s → ⊥ }
 {
     let Some(first) = first_read(seats) else {
         return true;
     };
-    for seat in seats {
-        if seat.role.is_some()
-            && (seat.listed.meets(from, sectors) || seat.bytes != seats[first].bytes)
-        {
+    for k in 0..seats.len() {
+        if !is_alike(&seats[k], &seats[first]) {
             return false;
         }
     }
     true
+}
+
+// Whether the same was read of two members, or nothing of the one, which is not in sync.
+fn is_alike<D>(one: &Seat<D>, other: &Seat<D>) -> bool
+    ensures { result ≡ true → is_some one.now.role ≡ true → one.now.bytes.items ≡ other.now.bytes.items }
+{
+    if one.role.is_none() {
+        return true;
+    }
+    one.bytes.as_slice() == other.bytes.as_slice()
 }
 
 // The first seat whose member is in sync.

@@ -9,7 +9,7 @@ use Rattle.md_check.proofs.compare.mark_window.Goals.{then-differ_in, else-diffe
 pub returns-then-are_alike : goal.returns-then-are_alike
 returns-then-are_alike g c =
     adds_none (SeatShows (in_window c.args.from) c.args.seats.now) c.args.chunks c.args.from (c.args.from + c.args.sectors) c.args.marks.now
-    (λ s up below. c.are_alike.ensures c.if-are_alike.true s up below)
+    (λ s up below. c.are_alike.ensures c.if-are_alike.true c.args.from s)
 
 pub loop-at-preserved : goal.loop-at-preserved
 loop-at-preserved g c =
