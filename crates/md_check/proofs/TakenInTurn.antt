@@ -4,10 +4,6 @@ use Rattle.std.proofs.lemmas.List.{get_or_append_left, get_or_default}
 use Rattle.std.proofs.Math.Seq.{get_or-append_seam}
 use Rattle.std.proofs.Math.Nat.{eq-or-lt_of_le}
 
-pub none_left : {X : Type 0} (xs : List X) → length xs ≡ 0 → xs ≡ []
-none_left [] none = refl
-none_left (x ∷ xs) none = absurd (omega arith)
-
 pub left_next : {X Y : Type 0} (f : X → Y) (all : List X) (k : ℕ) (x : X) → k < length all → get_or all k x ≡ x → map f (take k all) ++ (f x ∷ []) ≡ map f (take (suc k) all)
 left_next f [] k x below is = absurd (omega arith)
 left_next f (y ∷ ys) zero x below is = ap (λ z. f z ∷ []) (sym is)
