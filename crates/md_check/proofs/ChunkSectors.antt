@@ -1,5 +1,5 @@
 -- A sector lies in one chunk.
-use Rattle.std.proofs.Common.{◌≡◌, ℕ, ◌+◌, ◌*◌, ◌/◌, ◌<◌, ◌≤◌, min, sym, ap, arith}
+use Rattle.std.proofs.Common.{◌≡◌, ℕ, ◌+◌, ◌*◌, ◌/◌, ◌<◌, ◌≤◌, min, ap, arith}
 use Rattle.std.proofs.Math.Nat.{add-mul, lt-div-mul-add, div-mul-le_self}
 use Rattle.std.proofs.lemmas.Nat.{div_below, le-div}
 use Rattle.md_bitmap.specs.Chunks.{InChunk}

@@ -1,5 +1,5 @@
 -- Sets of chunks in which members differ, as more sectors are looked at.
-use Rattle.std.proofs.Common.{◌≡◌, ◌≢◌, ℕ, ◌+◌, ◌/◌, ◌<◌, ◌≤◌, ◌==◌, ◌||◌, ◌↔◌, ◌⊎◌, Bool, true, false, List, inl, inr, refl, ap, sym, ◌∙◌, subst, arith}
+use Rattle.std.proofs.Common.{◌≡◌, ◌≢◌, ℕ, ◌+◌, ◌/◌, ◌<◌, ◌≤◌, ◌==◌, ◌||◌, ◌⊎◌, Bool, true, false, List, inl, inr, refl, ap, sym, ◌∙◌, subst, arith}
 use Rattle.std.proofs.lemmas.Bool.{cases_lt}
 use Rattle.std.proofs.Math.Nat.{eq-or-lt_of_le}
 use Rattle.md_bitmap.specs.declared.chunks.Chunks.{Chunks}
@@ -28,16 +28,18 @@ module _ (P Q : ℕ → ℕ → List ℕ → Type 0) where
   -- the set grows by a window, in which Q says what P says
   pub different_after : (chunks : Chunks) (from end : ℕ) (old new : Bitmap) → from ≤ end → AreDifferent P chunks from old → AddsDifferent Q chunks from end old new
       → ((s : ℕ) → from ≤ s → s < end → DifferIn P s → DifferIn Q s) → ((s : ℕ) → from ≤ s → s < end → DifferIn Q s → DifferIn P s) → AreDifferent P chunks end new
-  different_after chunks from end old new up so_far adds via back = record { bits = λ c. (
-    λ e. elim ((adds.bits c).0 e) [
-      | inl was ↦ let d = (so_far.bits c).0 was in record { sector = d.sector; inside = d.inside; not_before = omega arith; before = let b = d.before in omega arith; differ = d.differ }
-      | inr d ↦ record { sector = d.sector; inside = d.inside; not_before = omega arith; before = d.before; differ = back d.sector d.not_before d.before d.differ }
-    ],
-    λ d. elim (cases_lt d.sector from) [
-      | inl early ↦ (adds.bits c).1 (inl ((so_far.bits c).1 (record { sector = d.sector; inside = d.inside; not_before = omega arith; before = early; differ = d.differ })))
-      | inr late ↦ (adds.bits c).1 (inr (record { sector = d.sector; inside = d.inside; not_before = late; before = d.before; differ = via d.sector late d.before d.differ }))
-    ],
-  ) }
+  different_after chunks from end old new up so_far adds via back = record {
+    bits = λ c. (
+      λ e. elim ((adds.bits c).0 e) [
+        | inl was ↦ let d = (so_far.bits c).0 was in record { sector = d.sector; inside = d.inside; not_before = omega arith; before = let b = d.before in omega arith; differ = d.differ }
+        | inr d ↦ record { sector = d.sector; inside = d.inside; not_before = omega arith; before = d.before; differ = back d.sector d.not_before d.before d.differ }
+      ],
+      λ d. elim (cases_lt d.sector from) [
+        | inl early ↦ (adds.bits c).1 (inl ((so_far.bits c).1 (record { sector = d.sector; inside = d.inside; not_before = omega arith; before = early; differ = d.differ })))
+        | inr late ↦ (adds.bits c).1 (inr (record { sector = d.sector; inside = d.inside; not_before = late; before = d.before; differ = via d.sector late d.before d.differ }))
+      ],
+    );
+  }
 
 module _ (P : ℕ → ℕ → List ℕ → Type 0) where
   -- before the first sector

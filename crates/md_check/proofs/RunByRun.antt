@@ -39,15 +39,15 @@ split_next all offset old new k x start end canonical below is starts stops adds
       λ b. elim ((split s).0 b) [
         | inl there ↦ inl ((adds s).1 (inl there))
         | inr later ↦ elim (subst (λ xs. IsBad xs (offset + s)) rest later) [
-            | inl here ↦ inl ((adds s).1 (inr (moved x offset start end bound starts stops s here)))
-            | inr more ↦ inr more
-          ]
+          | inl here ↦ inl ((adds s).1 (inr (moved x offset start end bound starts stops s here)))
+          | inr more ↦ inr more
+        ]
       ],
       λ either. elim either [
         | inl there ↦ elim ((adds s).0 there) [
-            | inl was ↦ (split s).1 (inl was)
-            | inr here ↦ (split s).1 (inr (subst (λ xs. IsBad xs (offset + s)) (sym rest) (inl (moved_back x offset start end bound starts stops s here.0 here.1))))
-          ]
+          | inl was ↦ (split s).1 (inl was)
+          | inr here ↦ (split s).1 (inr (subst (λ xs. IsBad xs (offset + s)) (sym rest) (inl (moved_back x offset start end bound starts stops s here.0 here.1))))
+        ]
         | inr more ↦ (split s).1 (inr (subst (λ xs. IsBad xs (offset + s)) (sym rest) (inr more)))
       ],
     )

@@ -1,9 +1,9 @@
 -- Seats stand for the members of a mirror.
-use Rattle.std.proofs.Common.{◌≡◌, ◌≢◌, ℕ, ◌+◌, ◌-◌, ◌*◌, ◌/◌, ◌<◌, ◌≤◌, ◌↔◌, Bool, true, false, List, [], length, map, get_or, is_some, Some, refl, ap, sym, ◌∙◌, subst, arith, slice_get, option_map}
+use Rattle.std.proofs.Common.{◌≡◌, ℕ, ◌+◌, ◌<◌, ◌≤◌, ◌↔◌, Bool, true, false, List, length, map, get_or, is_some, Some, refl, ap, sym, ◌∙◌, subst, arith, slice_get, option_map}
 use Rattle.std.specs.Int.{div_ceil}
 use Rattle.std.specs.List.{All}
 use Rattle.std.proofs.lemmas.List.{length-map}
-use Rattle.std.proofs.lemmas.Option.{get_or_from_slice_get, same_Some, slice_get-get_or, slice_get-map, slice_get_within}
+use Rattle.std.proofs.lemmas.Option.{get_or_from_slice_get, slice_get-get_or, slice_get-map, slice_get_within}
 use Rattle.md_device.specs.Device.{held}
 use Rattle.md_device.specs.Splice.{part}
 use Rattle.md_device.specs.declared.device.Device.{Ghosts}
@@ -18,7 +18,6 @@ use Rattle.md_assembly.proofs.Indices.{got_same, got_within}
 use Rattle.md_kept_members.specs.View.{MemberView}
 use Rattle.md_pass.specs.Lanes.{OnlyRead}
 use Rattle.md_state.specs.DeviceChanges.{IsUntouched, LeavesAsWas, StaysHonest}
-use Rattle.md_state.specs.DiskWrites.{AtDevice}
 use Rattle.md_state.specs.MakingClean.{IsIdle}
 use Rattle.md_state.specs.Members.{IsAlone, IsMember}
 use Rattle.md_state.specs.Rests.{Rests}
@@ -30,9 +29,9 @@ use Rattle.md_check.specs.declared.lent.Missed.{Missed}
 use Rattle.md_check.specs.declared.order.Order.{Order}
 use Rattle.md_check.specs.declared.seat.Seat.{Seat}
 use Rattle.md_check.specs.Checking.{Checks, FailsChecking, MarksMembers}
-use Rattle.md_check.specs.Differences.{AreDifferent, DifferIn}
+use Rattle.md_check.specs.Differences.{AreDifferent}
 use Rattle.md_check.specs.Mismatches.{Mismatches, Shows}
-use Rattle.md_check.specs.Plans.{AreOrders, IsOrderFor, IsSeatOf}
+use Rattle.md_check.specs.Plans.{AreOrders, IsSeatOf}
 use Rattle.md_check.specs.Readings.{MissesChunk, MissesIn}
 use Rattle.md_check.specs.Seats.{AreHonest, AreSeatsRead, IsSeated, SeatShows, on_device}
 use Rattle.md_check.proofs.Differing.{differ_as}
@@ -48,7 +47,7 @@ alone_same disks a c alone m =
     let disk : one.disk ≡ other.disk = got_same disks d.other one.disk other.disk (subst (λ k. slice_get disks k ≡ Some one.disk) same one.there) other.there in
     d.differ
     (sym one.is ∙ ap (λ (x : Disk). held x.content (one.member.superblock.data_offset + m.sector) 512) disk
-      ∙ ap (λ (x : MemberView). held other.disk.content (x.superblock.data_offset + m.sector) 512) member ∙ other.is)
+    ∙ ap (λ (x : MemberView). held other.disk.content (x.superblock.data_offset + m.sector) 512) member ∙ other.is)
 
 -- a device that was only read
 module _ {D : Type 0} {g : Ghosts D} (d e : Disk) (x y : D) (was : d ≡ disk_of g x) (now : e ≡ disk_of g y) (only : OnlyRead g x y) where
@@ -243,7 +242,7 @@ module _ {D : Type 0} (g : Ghosts D) (old : MirrorView) (sound : IsConsistent ol
         let two : OnlyRead g seat.0.device (get_or news k seat.0).device = subst (λ (s : Seat D). OnlyRead g s.device (get_or news k seat.0).device) (get_or_from_slice_get seats k seat.0 seat.0 seat.1) one in
         let it : OnlyRead g seat.0.device new.0.device = subst (λ (s : Seat D). OnlyRead g seat.0.device s.device) (get_or_from_slice_get news k new.0 seat.0 new.1) two in
         let mapped : slice_get after k ≡ Some (disk_of g new.0.device) =
-            slice_get-map (disk_of g) (map (λ (s : Seat D). s.device) news) k ∙ ap (option_map (disk_of g)) (slice_get-map (λ (s : Seat D). s.device) news k ∙ ap (option_map (λ (s : Seat D). s.device)) new.1) in
+        slice_get-map (disk_of g) (map (λ (s : Seat D). s.device) news) k ∙ ap (option_map (disk_of g)) (slice_get-map (λ (s : Seat D). s.device) news k ∙ ap (option_map (λ (s : Seat D). s.device)) new.1) in
         record { seat = seat.0; new = new.0; seat_at = seat.1; new_at = new.1; was = first.disk_is; now = got_same after k e (disk_of g new.0.device) there mapped; only = it }
 
     pub untouched : IsUntouched old.disks after

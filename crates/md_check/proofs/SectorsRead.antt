@@ -8,7 +8,6 @@ use Rattle.md_device.proofs.Splices.{part_part}
 use Rattle.md_device.specs.Device.{held}
 use Rattle.md_device.specs.Splice.{part}
 use Rattle.md_badblocks.specs.declared.run.Run.{Run}
-use Rattle.md_badblocks.specs.Runs.{IsBad}
 use Rattle.md_check.specs.Readings.{HasUnlisted}
 
 part_front : (xs ys : List ℕ) (at n : ℕ) → at + n ≤ length xs → part (xs ++ ys) at n ≡ part xs at n

@@ -77,4 +77,4 @@ module _ {D : Type 0} (seats : List (Seat D)) where
       let below_b = slice_get_within seats d.other b.seat b.there in
       d.differ
       (sym a.is ∙ same_window from s a.seat one (same d.one a.seat one (omega arith) a.there at a.reads)
-        ∙ sym (same_window from s b.seat one (same d.other b.seat one (omega arith) b.there at b.reads)) ∙ b.is)
+      ∙ sym (same_window from s b.seat one (same d.other b.seat one (omega arith) b.there at b.reads)) ∙ b.is)

@@ -1,6 +1,6 @@
 -- Windows that were read: what the buffers show is what the devices show.
-use Rattle.std.proofs.Common.{◌≡◌, ℕ, ◌+◌, ◌-◌, ◌*◌, ◌<◌, ◌≤◌, Bool, true, Option, None, List, length, get_or, is_some, refl, ap, sym, ◌∙◌, subst, arith}
-use Rattle.std.specs.List.{All, slice_get}
+use Rattle.std.proofs.Common.{◌≡◌, ℕ, ◌+◌, ◌-◌, ◌<◌, ◌≤◌, true, Option, None, List, length, get_or, is_some, refl, ap, sym, ◌∙◌, subst, arith}
+use Rattle.std.specs.List.{All}
 use Rattle.std.proofs.lemmas.Option.{get_or_from_slice_get, slice_get-get_or, slice_get_within}
 use Rattle.md_device.specs.Device.{held}
 use Rattle.md_device.specs.declared.device.Device.{Ghosts}
@@ -12,7 +12,7 @@ use Rattle.md_pass.proofs.OnlyReads.{not_read, read_then}
 use Rattle.md_check.specs.declared.seat.Seat.{Seat}
 use Rattle.md_check.specs.declared.lent.Missed.{Missed}
 use Rattle.md_check.specs.Differences.{DifferIn}
-use Rattle.md_check.specs.Readings.{HasRead, MissesChunk, MissesIn}
+use Rattle.md_check.specs.Readings.{HasRead, MissesIn}
 use Rattle.md_check.specs.Seats.{AreHonest, AreSeatsRead, IsSeated, OnlySeatRead, SeatShows, in_window, on_device}
 use Rattle.md_check.proofs.Differing.{differ_as}
 

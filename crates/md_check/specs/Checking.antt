@@ -1,18 +1,14 @@
 -- The members of a mirror are compared: what comes of it, and why it is refused.
-use Rattle.std.specs.Prelude.{◌≡◌, ℕ, ◌<◌, ◌↔◌, ◌+◌, true, is_some, List, length, slice_get, slice_index_or, Some}
-use Rattle.md_badblocks.specs.Runs.{IsBad}
-use Rattle.md_bitmap.specs.declared.chunks.Chunks.{Chunks}
+use Rattle.std.specs.Prelude.{◌≡◌, ℕ, ◌<◌, ◌↔◌, true}
 use Rattle.md_bitmap.specs.Marks.{Bitmap, is_set}
 use Rattle.md_collect.specs.Places.{IsChunk}
-use Rattle.md_device.specs.declared.device.Device.{Ghosts}
-use Rattle.md_assembly.specs.States.{is_in_sync}
 use Rattle.md_kept_members.specs.View.{MemberView}
 use Rattle.md_state.specs.DiskWrites.{AtDevice}
 use Rattle.md_state.specs.MakingClean.{HasInFlight, IsIdle}
-use Rattle.md_state.specs.Members.{IsInSync, IsMember}
+use Rattle.md_state.specs.Members.{IsInSync}
 use Rattle.md_state.specs.Rests.{Rests}
 use Rattle.md_state.specs.Trying.{Refuses, RefusesHalted}
-use Rattle.md_state.specs.View.{ArrayView, Disk, MirrorView}
+use Rattle.md_state.specs.View.{MirrorView}
 use Rattle.md_array.specs.Worlds.{AreHonest}
 use Rattle.md_check.specs.declared.fault.CheckFault.{CheckFault}
 use Rattle.md_check.specs.declared.fault.CheckFault.TheVariants.{Halted, InFlight, NoMemory, ReadFault}

@@ -1,5 +1,5 @@
 -- What a member's worker has to know of it, made before its device is lent.
-use Rattle.std.specs.Prelude.{◌≡◌, ℕ, ◌+◌, ◌↔◌, is_some, List, length, slice_get, slice_index_or, Some}
+use Rattle.std.specs.Prelude.{◌≡◌, ℕ, ◌+◌, ◌↔◌, is_some, List, length, slice_get, Some}
 use Rattle.md_badblocks.specs.Runs.{IsBad}
 use Rattle.md_assembly.specs.States.{is_in_sync}
 use Rattle.md_kept_members.specs.View.{MemberView}

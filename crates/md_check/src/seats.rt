@@ -6,11 +6,7 @@ use crate::order::Order;
 use crate::seat::Seat;
 
 /// Each device takes a seat with its order. It takes no memory.
-pub(crate) fn seats_of<D>(
-    devices: &mut Vec<D>,
-    orders: &mut Vec<Order>,
-    seats: &mut Vec<Seat<D>>,
-)
+pub(crate) fn seats_of<D>(devices: &mut Vec<D>, orders: &mut Vec<Order>, seats: &mut Vec<Seat<D>>)
     requires room { (seats.old.items ≡ []) × (vec_len orders.old ≤ vec_capacity seats.old) }
     requires as_many { length devices.old.items ≡ length orders.old.items }
     ensures seats { (k : ℕ) (order device seat : _) → k < length orders.old.items

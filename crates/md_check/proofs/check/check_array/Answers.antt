@@ -1,4 +1,4 @@
-use Rattle.std.proofs.Common.{◌≡◌, ◌∙◌, ap, sym, subst, None}
+use Rattle.std.proofs.Common.{◌≡◌, ◌∙◌, ap, sym, subst}
 use Rattle.std.specs.Int.{div_ceil}
 use Rattle.md_bitmap.specs.declared.chunks.Chunks.{Chunks}
 use Rattle.md_bitmap.specs.Marks.{Bitmap}
@@ -15,7 +15,7 @@ returns-clause-gives g c =
     let before = c.in_ok-marks.marks in
     let idle : IsIdle old.array = record { running = sym c.halted.ensures ∙ c.if-halted.false; none = sym c.in_flight.ensures ∙ c.in_default.is } in
     let many : before.chunks ≡ div_ceil old.array.chunks.size old.array.chunks.sectors =
-        c.in_ok-marks.ensures.chunks ∙ c.count.ensures.count ∙ ap (λ (x : Chunks). div_ceil x.size x.sectors) c.chunks.ensures in
+    c.in_ok-marks.ensures.chunks ∙ c.count.ensures.count ∙ ap (λ (x : Chunks). div_ceil x.size x.sectors) c.chunks.ensures in
     let marks : MarksMembers before c.if-has_two_in_sync.marks old c.if-has_two_in_sync.mirror = elim c.if-has_two_in_sync.branch [
       | then-has_two_in_sync+in_ok-check_members w ↦
           subst (λ (m : Bitmap). MarksMembers before m old c.if-has_two_in_sync.mirror) (sym w.marks-is)

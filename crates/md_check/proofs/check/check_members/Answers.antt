@@ -1,4 +1,4 @@
-use Rattle.std.proofs.Common.{◌≡◌, ◌∙◌, ◌*◌, ◌≤◌, List, length, map, min, refl, ap, sym, subst, arith}
+use Rattle.std.proofs.Common.{◌≡◌, ◌∙◌, ◌*◌, map, refl, ap, sym, subst, arith}
 use Rattle.std.specs.List.{All}
 use Rattle.md_bitmap.specs.declared.chunks.Chunks.{Chunks}
 use Rattle.md_state.specs.Rests.{Rests}
@@ -27,8 +27,8 @@ give_back-requires-clause-back g c =
     let seats = c.seats_of.new.seats.items in (
       c.args.mirror.now.disks,
       rw (c.lend-devices.ensures.out, c.leave_seats.ensures)
-      (come_back g.D.Device c.args.mirror.now c.requires.sound (512 * c.min.result) c.lend-devices.result.items c.in_ok-orders.orders.items seats c.lend-devices.ensures.devices c.in_ok-orders.ensures c.seats_of.ensures.len c.seats_of.ensures.seats
-        c.check_lent-answer.new.seats.items c.check_lent-answer.ensures.read c.requires.idle),
+          (come_back g.D.Device c.args.mirror.now c.requires.sound (512 * c.min.result) c.lend-devices.result.items c.in_ok-orders.orders.items seats c.lend-devices.ensures.devices c.in_ok-orders.ensures c.seats_of.ensures.len c.seats_of.ensures.seats
+          c.check_lent-answer.new.seats.items c.check_lent-answer.ensures.read c.requires.idle),
     )
 
 pub returns-in-Ok-clause-gives : goal.returns-in-Ok-clause-gives
@@ -38,8 +38,8 @@ returns-in-Ok-clause-gives g c =
     let news = c.check_lent-answer.new.seats.items in
     let after = map (disk_of g.D.Device) (map (λ (s : Seat _). s.device) news) in
     let is : c.give_back.new.self ≡ record old { disks = after } =
-        c.give_back.ensures.in_place ∙ ap (λ (v : MirrorView). record v { disks = map (disk_of g.D.Device) c.leave_seats.new.devices.items }) c.lend-devices.ensures.out
-        ∙ ap (λ xs. record old { disks = map (disk_of g.D.Device) xs }) c.leave_seats.ensures in
+    c.give_back.ensures.in_place ∙ ap (λ (v : MirrorView). record v { disks = map (disk_of g.D.Device) c.leave_seats.new.devices.items }) c.lend-devices.ensures.out
+    ∙ ap (λ xs. record old { disks = map (disk_of g.D.Device) xs }) c.leave_seats.ensures in
     let here = untouched g.D.Device old c.requires.sound (512 * c.min.result) c.lend-devices.result.items c.in_ok-orders.orders.items seats c.lend-devices.ensures.devices c.in_ok-orders.ensures c.seats_of.ensures.len c.seats_of.ensures.seats news c.in-Ok.ensures.read in
     record {
       chunks = c.in-Ok.ensures.chunks;
@@ -58,8 +58,8 @@ returns-clause-gives g c =
     let news = c.check_lent-answer.new.seats.items in
     let after = map (disk_of g.D.Device) (map (λ (s : Seat _). s.device) news) in
     let is : c.give_back.new.self ≡ record old { disks = after } =
-        c.give_back.ensures.in_place ∙ ap (λ (v : MirrorView). record v { disks = map (disk_of g.D.Device) c.leave_seats.new.devices.items }) c.lend-devices.ensures.out
-        ∙ ap (λ xs. record old { disks = map (disk_of g.D.Device) xs }) c.leave_seats.ensures in
+    c.give_back.ensures.in_place ∙ ap (λ (v : MirrorView). record v { disks = map (disk_of g.D.Device) c.leave_seats.new.devices.items }) c.lend-devices.ensures.out
+    ∙ ap (λ xs. record old { disks = map (disk_of g.D.Device) xs }) c.leave_seats.ensures in
     fails_checking g.D.Device old c.requires.sound (512 * c.min.result) c.lend-devices.result.items c.in_ok-orders.orders.items seats c.lend-devices.ensures.devices c.in_ok-orders.ensures c.seats_of.ensures.len c.seats_of.ensures.seats news c.in-Err.ensures.read
     c.give_back.new.self c.in-Err.missed c.requires.idle is
     (subst (λ (chunks : Chunks). MissesIn g.D.Device chunks seats news c.in-Err.missed) c.chunks-chunks.ensures c.in-Err.ensures.missed)

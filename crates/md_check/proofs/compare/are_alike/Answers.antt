@@ -1,4 +1,4 @@
-use Rattle.std.proofs.Common.{◌≡◌, ◌∙◌, length, refl, sym, ap, arith, true}
+use Rattle.std.proofs.Common.{◌≡◌, ◌∙◌, length, refl, ap, true}
 use Rattle.std.proofs.lemmas.Option.{slice_get_read, slice_get_within}
 use Rattle.md_assembly.proofs.Indices.{got_same, got_within}
 use Rattle.md_check.specs.declared.seat.Seat.{Seat}
@@ -15,9 +15,9 @@ loop-k-preserved g c =
     let at = slice_get_read xs (length xs) k x refl c.loop-k-test.true c.index-seats-k.is in
     alike_next xs first k x at
     (λ one there reads.
-        let f_at = slice_get_read xs (length xs) first f refl (slice_get_within xs first one there) c.index-seats-first.is in
-        let yes : c.is_alike.result ≡ true = (let no = c.if-not-is_alike.false in cc) in
-        c.is_alike.ensures yes reads ∙ ap (λ (s : Seat _). s.bytes.items) (got_same xs first f one f_at there))
+    let f_at = slice_get_read xs (length xs) first f refl (slice_get_within xs first one there) c.index-seats-first.is in
+    let yes : c.is_alike.result ≡ true = (let no = c.if-not-is_alike.false in cc) in
+    c.is_alike.ensures yes reads ∙ ap (λ (s : Seat _). s.bytes.items) (got_same xs first f one f_at there))
     c.loop-k.invariant
 
 pub returns : goal.returns

@@ -1,8 +1,6 @@
-use Rattle.std.proofs.Common.{◌≡◌, ◌∙◌, ◌*◌, ◌-◌, length, refl, sym, subst, ap, arith, true, Some}
-use Rattle.std.specs.List.{slice_get}
+use Rattle.std.proofs.Common.{◌≡◌, ◌∙◌, length, refl, sym, subst, ap, true}
 use Rattle.std.proofs.lemmas.Option.{slice_get_read, slice_get_within}
 use Rattle.md_assembly.proofs.Indices.{got_same}
-use Rattle.md_device.specs.Splice.{part}
 use Rattle.md_check.specs.declared.seat.Seat.{Seat}
 use Rattle.md_check.specs.Seats.{in_window}
 use Rattle.md_check.proofs.WindowCompared.{IsShowing, agree_next, differ_at, none_differ}

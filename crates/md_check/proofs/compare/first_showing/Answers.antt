@@ -1,4 +1,4 @@
-use Rattle.std.proofs.Common.{◌≡◌, ◌≤◌, ◌<◌, length, refl, subst, arith, inl, inr, true, is_some, Some}
+use Rattle.std.proofs.Common.{◌≡◌, ◌≤◌, length, refl, subst, arith, inl, inr, Some}
 use Rattle.std.specs.List.{slice_get}
 use Rattle.std.proofs.lemmas.Option.{slice_get_read, slice_get_within}
 use Rattle.std.proofs.Math.Nat.{eq-or-lt_of_le}

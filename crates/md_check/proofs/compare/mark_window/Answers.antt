@@ -1,6 +1,6 @@
-use Rattle.std.proofs.Common.{◌≡◌, ◌∙◌, ◌+◌, ◌*◌, ◌<◌, ap, sym, subst, arith}
+use Rattle.std.proofs.Common.{◌≡◌, ◌+◌, sym, subst, arith}
 use Rattle.md_bitmap.specs.Marks.{Bitmap}
-use Rattle.md_check.specs.Differences.{AddsDifferent, DifferIn}
+use Rattle.md_check.specs.Differences.{AddsDifferent}
 use Rattle.md_check.specs.Seats.{SeatShows, in_window}
 use Rattle.md_check.proofs.Differing.{adds_none, adds_not, adds_one}
 use Rattle.md_check.proofs.compare.mark_window.Goals as goal

@@ -1,4 +1,4 @@
-use Rattle.std.proofs.Common.{◌≡◌, ◌∙◌, ◌+◌, ◌-◌, ◌*◌, ◌<◌, ◌≤◌, List, length, min, get_or, None, Some, refl, sym, subst, arith}
+use Rattle.std.proofs.Common.{◌≡◌, ◌∙◌, ◌+◌, ◌<◌, List, length, get_or, None, Some, refl, subst, arith}
 use Rattle.std.specs.List.{All}
 use Rattle.md_check.specs.declared.seat.Seat.{Seat}
 use Rattle.md_check.specs.Differences.{AddsDifferent, AreDifferent}

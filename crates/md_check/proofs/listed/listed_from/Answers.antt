@@ -1,4 +1,4 @@
-use Rattle.std.proofs.Common.{◌≡◌, ◌∙◌, ◌+◌, ◌-◌, ◌^◌, ◌<◌, List, length, get_or, min, arith, ap}
+use Rattle.std.proofs.Common.{◌∙◌, ◌+◌, ◌-◌, ◌^◌, ◌<◌, List, length, get_or, min, arith, ap}
 use Rattle.std.proofs.lemmas.List.{drop_all, get_or_default}
 use Rattle.md_badblocks.specs.declared.run.Run.{Run}
 use Rattle.md_check.proofs.RunByRun.{split_first, split_last, split_next}

@@ -1,4 +1,4 @@
-use Rattle.std.proofs.Common.{◌≡◌, ◌∙◌, ◌+◌, ◌<◌, ◌∷◌, [], ℕ, length, get_or, ap, sym, subst, arith, length-append, length-drop}
+use Rattle.std.proofs.Common.{◌∙◌, ◌+◌, ◌<◌, ◌∷◌, [], length, get_or, ap, sym, subst, arith, length-append, length-drop}
 use Rattle.std.proofs.lemmas.List.{drop_all}
 use Rattle.md_pass.proofs.LaneMaking.{first_is, rest_is}
 use Rattle.md_check.specs.declared.order.Order.{Order}
@@ -39,7 +39,7 @@ loop-k-preserved g c =
       each = rw c.push_reserved.ensures.items
           (next_at (λ i (s : Seat _). (o : Order) (d : _) → IsSeatOf (get_or orders i o) (get_or devices i d) s) c.loop-k.seats.items k seat inv.count
           (λ o d. subst (λ (x : Order). IsSeatOf x (get_or devices k d) seat) (sym (first_is orders c.loop-k.orders.items k order o inv.orders low c.remove-order.ensures.value))
-            (subst (λ x. IsSeatOf order x seat) (sym (first_is devices c.loop-k.devices.items k device d inv.devices (omega (arith, low, c.requires.as_many)) c.remove-device.ensures.value)) here))
+          (subst (λ x. IsSeatOf order x seat) (sym (first_is devices c.loop-k.devices.items k device d inv.devices (omega (arith, low, c.requires.as_many)) c.remove-device.ensures.value)) here))
           inv.each);
     }
 
