@@ -3,6 +3,7 @@ use md_check::Gate;
 use std::sync::atomic::{AtomicU64, Ordering};
 
 // Counts the reads that began and that ended, and adds up roles and chunks.
+#[derive(Drop)]
 pub(crate) struct Counting {
     begun: AtomicU64,
     ended: AtomicU64,
@@ -47,6 +48,7 @@ impl Gate for Counting {
 const TURNS: u64 = 1_000_000_000;
 
 // Holds each source's first read until the other source's has begun.
+#[derive(Drop)]
 pub(crate) struct Meeting {
     first: AtomicU64,
     second: AtomicU64,
