@@ -17,6 +17,8 @@ complete -c mdcli -n __fish_use_subcommand -a resync -d 'Make the members in syn
 complete -c mdcli -n __fish_use_subcommand -a fail -d 'Make a member faulty'
 complete -c mdcli -n __fish_use_subcommand -a remove -d 'Take a member out of the array'
 complete -c mdcli -n __fish_use_subcommand -a add -d 'Add an image to the array as a spare'
+complete -c mdcli -n __fish_use_subcommand -a re-add -d 'Take an image back that left the array'
+complete -c mdcli -n __fish_use_subcommand -a rebuild -d 'Rebuild a member from the others'
 complete -c mdcli -n __fish_use_subcommand -a stop -d 'Leave the array clean'
 complete -c mdcli -n __fish_use_subcommand -a create -d 'Make an array of the images'
 complete -c mdcli -n __fish_use_subcommand -a help -d 'Show the help of a command'
@@ -25,9 +27,9 @@ complete -c mdcli -n 'not __fish_use_subcommand; and not __fish_seen_subcommand_
 
 complete -c mdcli -n '__fish_seen_subcommand_from assemble detail plan read' -l readonly -d 'Change no image'
 
-complete -c mdcli -n '__fish_seen_subcommand_from plan fail remove' -l member -x -d 'The member, by its place among the images, from 0'
+complete -c mdcli -n '__fish_seen_subcommand_from plan fail remove rebuild' -l member -x -d 'The member, by its place among the images, from 0'
 
-complete -c mdcli -n '__fish_seen_subcommand_from add' -l device -r -F -d 'The image that joins the array'
+complete -c mdcli -n '__fish_seen_subcommand_from add re-add' -l device -r -F -d 'The image that joins the array'
 
 complete -c mdcli -n '__fish_seen_subcommand_from read write' -l sector -x -d 'The first sector of the array, from 0'
 complete -c mdcli -n '__fish_seen_subcommand_from read' -l count -x -d 'The number of sectors'

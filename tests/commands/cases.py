@@ -167,6 +167,19 @@ Marked Chunks   : 0 of 8
      1      2      - spare
 """
 
+DETAIL_AFTER_RE_ADD = """\
+Array UUID      : 00112233-4455-6677-8899-aabbccddeeff
+Name            : md
+Raid Devices    : 2
+Array Size      : 64 sectors
+In Sync         : 2
+State           : clean
+Events          : 8
+Marked Chunks   : 0 of 8
+     0      1      1 in sync
+     1      0      0 in sync
+"""
+
 # Two sectors of data, and what two sectors of a new array hold.
 DATA = b"first sector".ljust(SECTOR, b".") + b"second sector".ljust(SECTOR, b".")
 BLANK = "\0" * (2 * SECTOR)
@@ -181,6 +194,13 @@ STORED = "mdcli: a: its bitmap did not tell of the array, so all chunks are mark
 PLAN = (
     "rounds 4, chunks 8, orphans 0\n   chunk source    round\n",
     "\ncertificate for 3 rounds: 0 1 2 3 4 5 6 7\norphans: none\n",
+)
+
+REBUILT = (PLAN[0], PLAN[1] + "rebuilt member 2, passes 1, orphans 0\n")
+# Chunk 5 of the array's eight.
+REBUILT_FROM_ONE = (
+    "rounds 7, chunks 7, orphans 1\n   chunk source    round\n",
+    "\ncertificate for 6 rounds: 0 1 2 3 4 6 7\norphans: 5\nrebuilt member 1, passes 1, orphans 1\n",
 )
 
 TWO = {"a": ZEROS, "b": ZEROS}
@@ -223,6 +243,21 @@ def added(number):
             bblog_size=8,
             bblog_offset=2024,
         )
+
+    return make
+
+
+def listing(first):
+    """The image of a member that lists a sector of chunk 5 as bad."""
+    return members.with_bad_blocks(first, [(2048 + 43, 1)])
+
+
+def as_role(role, number):
+    """What makes, of the image of a member in sync, that of another one that holds the same."""
+
+    def make(first):
+        device = uuid.uuid5(uuid.UUID(SET), str(number)).bytes
+        return members.with_superblock(first, roles={number: role}, dev_number=number, device_uuid=device)
 
     return make
 
@@ -389,6 +424,123 @@ CASES = [
             Step("read --sector 8 --count 1 a b", DATA[:SECTOR].decode()),
         ],
     ),
+    (
+        "one that failed and left comes back, and gets what was written since",
+        TWO,
+        [
+            create("raid1", 2, 4, "--assume-clean a b", output=CLEAN, changes="a b"),
+            Step("write --sector 8 a b", WRITTEN, changes="a b", given=DATA[:SECTOR]),
+            Step("fail --member 1 a b", FAILED, changes="a"),
+            Step("write --sector 16 a b", ALONE, changes="a", given=DATA[SECTOR:]),
+            Step("remove --member 1 a b", ALONE),
+            Step("re-add --device b a", "in sync 2 of 2, events 8, marked 0\n", changes="a b"),
+            Holds("b", "a", as_role(1, 1)),
+            Step("read --sector 16 --count 1 b", DATA[SECTOR:].decode()),
+            Step("detail b a", DETAIL_AFTER_RE_ADD),
+        ],
+    ),
+    (
+        "one that failed and left comes back, and lacks nothing",
+        TWO,
+        [
+            create("raid1", 2, 4, "--assume-clean a b", output=CLEAN, changes="a b"),
+            Step("fail --member 1 a b", "in sync 1 of 2, events 2, marked 0\n", changes="a"),
+            Step("remove --member 1 a b", "in sync 1 of 2, events 2, marked 0\n"),
+            Step("re-add --device b a", "in sync 2 of 2, events 4, marked 0\n", changes="a b"),
+            Holds("b", "a", as_role(1, 1)),
+        ],
+    ),
+    (
+        "what does not come back",
+        {"a": ZEROS, "b": ZEROS, "c": ZEROS, "d": bytes(15 * SECTOR)},
+        [
+            create("raid1", 2, 4, "--assume-clean a b", output=CLEAN, changes="a b"),
+            Step("re-add --device b a b", fault="BadImage 2"),
+            Step("re-add --device e a b", fault="BadImage 2"),
+            Step("re-add --device c a b", fault="Member Super Magic"),
+            Step("re-add --device d a b", fault="Member TooShort"),
+            Step("re-add --device c", fault="Assemble Empty"),
+            Step("fail --member 1 a b", "in sync 1 of 2, events 2, marked 0\n", changes="a"),
+            Step("remove --member 1 a b", "in sync 1 of 2, events 2, marked 0\n"),
+            Step("add --device c a", "in sync 1 of 2, events 3, marked 0\n", changes="a c"),
+            Step("rebuild --member 1 a c", ("rounds 8, chunks 8, orphans 0\n", "rebuilt member 1, passes 1, orphans 0\n"), changes="a c"),
+            Step("re-add --device b a c", fault="NotReAddable"),
+        ],
+    ),
+    (
+        "a third member is rebuilt",
+        THREE,
+        [
+            create("1", 3, 4, "--assume-clean a b missing", output="in sync 2 of 3, events 1, marked 0\n", changes="a b"),
+            Step("add --device c a b", "in sync 2 of 3, events 2, marked 0\n", changes="a b c"),
+            Step("write --sector 8 a b c", "in sync 2 of 3, events 4, marked 1\n", changes="a b c", given=DATA[:SECTOR]),
+            Step("rebuild --member 2 a b c", REBUILT, changes="a b c"),
+            Holds("c", "a", as_role(2, 3)),
+            Step("read --sector 8 --count 1 c", DATA[:SECTOR].decode()),
+            Step("stop a b c", "in sync 3 of 3, events 5, marked 0\n"),
+            Step("rebuild --member 2 a b c", fault="NotSpare"),
+        ],
+    ),
+    (
+        "a third member is rebuilt, and nothing was written",
+        THREE,
+        [
+            create("1", 3, 4, "--assume-clean a b missing", output="in sync 2 of 3, events 1, marked 0\n", changes="a b"),
+            Step("add --device c a b", "in sync 2 of 3, events 2, marked 0\n", changes="a b c"),
+            Step("rebuild --member 2 a b c", REBUILT, changes="a b c"),
+            Step("stop a b c", "in sync 3 of 3, events 3, marked 0\n"),
+        ],
+    ),
+    (
+        "a chunk that no member can give is listed as bad",
+        TWO,
+        [
+            create("1", 2, 4, "--assume-clean a missing", output="in sync 1 of 2, events 1, marked 0\n", changes="a"),
+            Step("write --sector 0 a", "in sync 1 of 2, events 3, marked 8\n", changes="a", given=members.pattern(1, 64)),
+            Made("a", "a", listing),
+            Step("add --device b a", "in sync 1 of 2, events 4, marked 8\n", changes="a b"),
+            Step("rebuild --member 1 a b", REBUILT_FROM_ONE, changes="a b"),
+            Step("examine-badblocks b", "        2088 for 8 sectors\n"),
+            Step("examine-badblocks a", "        2091 for 1 sectors\n"),
+            Step("read --sector 43 --count 1 a b", fault="Unreadable 43"),
+            Step("read --sector 44 --count 4 b", fault="Unreadable 44"),
+            Step("read --sector 44 --count 1 a b", members.pattern(1, 64)[44 * SECTOR : 45 * SECTOR].decode("utf-8", "backslashreplace")),
+        ],
+    ),
+    (
+        "what is not rebuilt",
+        TWO,
+        WITH_A_SPARE
+        + [
+            Step("rebuild --member 1 a b c", fault="NotSpare"),
+            Step("rebuild --member 3 a b c", fault="BadMember"),
+            Step("rebuild --member 0 a a", fault="BadImage 1"),
+            Step("rebuild --member 0 a d", fault="BadImage 1"),
+            Step("rebuild --member 0", fault="Assemble Empty"),
+        ],
+    ),
+    (
+        "no rebuild of an array whose members may differ",
+        TWO,
+        [
+            create("1", 2, 4, "a b", output="in sync 2 of 2, events 1, marked 8\n", changes="a b"),
+            Made("c", "a", spare_beside),
+            Step("rebuild --member 2 a b c", fault="NotSpare"),
+        ],
+    ),
+    (
+        "members that may differ agree before a third one is rebuilt",
+        TWO,
+        [
+            create("1", 3, 4, "a b missing", output="in sync 2 of 3, events 1, marked 8\n", changes="a b"),
+            Made("b", "b", lambda image: members.with_data(image, 8, DATA)),
+            Made("c", "a", spare_beside),
+            Step("rebuild --member 2 a b c", REBUILT, changes="a b c"),
+            Holds("c", "a", spare_beside),
+            Step("read --sector 8 --count 2 b a c", BLANK),
+        ],
+    ),
+    ("re-add, the event count can't rise", {"a": SPENT, "b": ZEROS}, [Step("re-add --device b a", fault="Member Super Magic")]),
     (
         "what is not added",
         {"a": ZEROS, "b": ZEROS, "c": SHORT},

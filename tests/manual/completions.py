@@ -136,6 +136,7 @@ def bash_details():
             ("a level after =", ["mdcli", "create", "--level", "=", "m"], ["mirror"]),
             ("an image that joins", ["mdcli", "add", "--device", "a"], ["a.img"]),
             ("an image that joins after =", ["mdcli", "add", "--device", "=", "a"], ["a.img"]),
+            ("an image that comes back", ["mdcli", "re-add", "--device", "a"], ["a.img"]),
             ("no missing member in the place of one that joins", ["mdcli", "add", "--device", "m"], []),
             ("nothing for a UUID", ["mdcli", "create", "--uuid", ""], []),
             ("images alone after --", ["mdcli", "create", "--", "--"], []),

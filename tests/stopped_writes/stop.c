@@ -27,7 +27,7 @@ enum { SECTOR = 512, JUNK = 0xa5 };
 /* The path of an image's descriptor, or none. */
 static const char *image_of(int fd)
 {
-    static char path[4096];
+    static _Thread_local char path[4096];
     char link[64];
     ssize_t size;
     snprintf(link, sizeof link, "/proc/self/fd/%d", fd);
@@ -62,7 +62,7 @@ static const char *turn(const char *call, const char *image, off_t place, size_t
 {
     static long calls;
     note(call, image, place, size);
-    return ++calls == number_in("STOPPED_CALL") ? getenv("STOPPED_HOW") : NULL;
+    return __atomic_add_fetch(&calls, 1, __ATOMIC_SEQ_CST) == number_in("STOPPED_CALL") ? getenv("STOPPED_HOW") : NULL;
 }
 
 static int is(const char *how, const char *word)
@@ -211,7 +211,7 @@ static ssize_t read_at(int fd, void *bytes, size_t size, off_t place)
     const char *image = image_of(fd);
     if (image) {
         note("read", image, place, size);
-        if (++calls == number_in("FAILED_READ"))
+        if (__atomic_add_fetch(&calls, 1, __ATOMIC_SEQ_CST) == number_in("FAILED_READ"))
             return fail();
     }
     return syscall(SYS_pread64, fd, bytes, size, place);

@@ -7,7 +7,9 @@ use md_examine::Output;
 use md_images::MemImages;
 use std::alloc::Global;
 use std::process::Abort;
+use std::sync::Wait;
 use std::test::Fail;
+use std::thread::Threads;
 
 const EXAMINE: [&str; 3] = ["mdcli", "examine", "a"];
 
@@ -35,8 +37,8 @@ const UNWRITABLE: &str = "mdcli: BadImage 1\n\
     b: it can't be written: ask for write permission, or make its file system or device writable\n";
 
 // A run that is refused before it writes to the output.
-fn shows_nothing<'a>(
-    rt: &impl Abort,
+fn shows_nothing<'a, R: Abort + Threads + Wait + Sync>(
+    rt: &R,
     alloc: Global,
     words: &'a [&'a str],
     images: &mut HeldImages,
@@ -64,7 +66,11 @@ fn add_protected(alloc: Global, images: &mut HeldImages) -> Result<(), Fail> {
     Ok(())
 }
 
-fn expect_unread(rt: &impl Abort, alloc: Global, images: &mut HeldImages) -> Result<(), Fail> {
+fn expect_unread<R: Abort + Threads + Wait + Sync>(
+    rt: &R,
+    alloc: Global,
+    images: &mut HeldImages,
+) -> Result<(), Fail> {
     shows_nothing(rt, alloc, &EXAMINE, images, Messages::Plain, UNREAD)?;
     expect_kept_under(rt, alloc, images, "a")
 }
@@ -78,7 +84,11 @@ fn bad_sector(rt: HostRuntime) -> Result<(), Fail> {
     unread
 }
 
-fn expect_protected(rt: &impl Abort, alloc: Global, images: &mut HeldImages) -> Result<(), Fail> {
+fn expect_protected<R: Abort + Threads + Wait + Sync>(
+    rt: &R,
+    alloc: Global,
+    images: &mut HeldImages,
+) -> Result<(), Fail> {
     add_protected(alloc, images)?;
     shows_nothing(rt, alloc, &CREATE, images, Messages::WithAdvice, UNWRITABLE)?;
     expect_kept_under(rt, alloc, images, "a")?;
@@ -94,7 +104,11 @@ fn create_over_an_image_that_may_only_be_looked_at(rt: HostRuntime) -> Result<()
     kept
 }
 
-fn fills(rt: &impl Abort, alloc: Global, images: &mut HeldImages) -> Result<(), Fail> {
+fn fills<R: Abort + Threads + Wait + Sync>(
+    rt: &R,
+    alloc: Global,
+    images: &mut HeldImages,
+) -> Result<(), Fail> {
     let mut room = [0u8; 100];
     let mut out = Output::new(room.as_mut_slice());
     expect_refused(rt, alloc, &EXAMINE, images, &mut out, Messages::Plain, FULL)?;

@@ -1,4 +1,5 @@
-//! Tests of commands on images in memory that fail or are protected, of reports, and of where these go.
+//! Tests of commands on images in memory that fail or are protected, of a rebuild, of reports, and of
+//! where these go.
 #![tactic(auto)]
 
 #[cfg(test)]
@@ -11,6 +12,10 @@ mod devices;
 mod faults_in_memory;
 #[cfg(test)]
 mod plan_reports;
+#[cfg(test)]
+mod rebuilds;
+#[cfg(test)]
+mod silent;
 #[cfg(test)]
 mod sinks;
 #[cfg(test)]

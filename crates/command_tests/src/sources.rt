@@ -6,7 +6,9 @@ use md_images::MemImages;
 use std::alloc::Global;
 use std::io::{Error, ErrorKind, Read, Result as IoResult};
 use std::process::Abort;
+use std::sync::Wait;
 use std::test::Fail;
+use std::thread::Threads;
 
 // What one read answers.
 #[derive(Clone, Copy)]
@@ -92,8 +94,8 @@ fn one_image(alloc: Global) -> Result<HeldImages, Fail> {
     Ok(images)
 }
 
-fn ends_with(
-    rt: &impl Abort,
+fn ends_with<R: Abort + Threads + Wait + Sync>(
+    rt: &R,
     alloc: Global,
     images: &mut HeldImages,
     steps: &[Step],
@@ -120,8 +122,8 @@ fn a_write_goes_on_after_an_interrupted_read(rt: HostRuntime) -> Result<(), Fail
     written
 }
 
-fn keeps_the_image(
-    rt: &impl Abort,
+fn keeps_the_image<R: Abort + Threads + Wait + Sync>(
+    rt: &R,
     alloc: Global,
     images: &mut HeldImages,
     steps: &[Step],

@@ -1,7 +1,7 @@
 // What to do about a fault. The texts are those of docs/FAULTS.md, which a test compares with them.
 use crate::fault::CommandFault;
 use crate::option_fault::OptionFault;
-use md_array::{AddFault, BeginFault, FailFault, OpenFault, RemoveFault};
+use md_array::{AddFault, BeginFault, FailFault, OpenFault, ReAddFault, RemoveFault};
 use md_assembly::AssembleFault;
 use md_commands::DataFault;
 use md_copy::RebuildFault;
@@ -31,7 +31,7 @@ pub(crate) fn advice(fault: &CommandFault) -> &'static str {
         CommandFault::Open(OpenFault::Member(_, fault)) => member_advice(*fault),
         CommandFault::Open(OpenFault::Assemble(fault)) => array_advice(*fault),
         CommandFault::MetadataFault(_) | CommandFault::Open(OpenFault::MetadataFault(_)) => {
-            "see why the device can't be written (`dmesg`, free space, write protection); run the command again, which begins anew"
+            BEGIN_ANEW
         }
         CommandFault::Rebuild(fault) => rebuild_advice(*fault),
         CommandFault::Data(fault) => data_advice(*fault),
@@ -54,6 +54,17 @@ const RESYNC_FIRST: &str = "run `resync` first";
 const SEE_DEVICE: &str =
     "see why the device can't be written (`dmesg`, free space, write protection); run the command again";
 
+const BEGIN_ANEW: &str =
+    "see why the device can't be written (`dmesg`, free space, write protection); run the command again, which begins anew";
+
+const COPY_DISK: &str =
+    "copy the disk with a tool that goes past bad sectors, and use the copy; or leave the image out";
+
+const MAYBE_LOST: &str =
+    "see why the device can't be written (`dmesg`, free space, write protection); what it held may be lost";
+
+const REMOVE_ONE: &str = "run `remove` first, on a member that is not in use";
+
 const TELL_OTHERS: &str =
     "see why the device can't be written (`dmesg`, free space, write protection); run `stop` on the images, which tells the others";
 
@@ -71,6 +82,8 @@ fn data_advice(fault: DataFault) -> &'static str {
         DataFault::Fail(fault) => fail_advice(fault),
         DataFault::Remove(fault) => remove_advice(fault),
         DataFault::Add(fault) => add_advice(fault),
+        DataFault::ReAdd(fault) => re_add_advice(fault),
+        DataFault::Rebuild(fault) => rebuild_advice(fault),
         DataFault::Resync(fault) => resync_advice(fault),
         DataFault::Read(fault) => read_advice(fault),
         DataFault::Write(fault) => write_advice(fault),
@@ -106,21 +119,34 @@ fn add_advice(fault: AddFault) -> &'static str {
         AddFault::TooSmall => {
             "add a larger one: it needs 2048 sectors more than the array, whose size `detail` shows"
         }
-        AddFault::Full => "run `remove` first, on a member that is not in use",
+        AddFault::Full => REMOVE_ONE,
         AddFault::EventsFull => NEW_ARRAY,
-        AddFault::WriteFault => {
-            "see why the device can't be written (`dmesg`, free space, write protection); what it held may be lost"
-        }
+        AddFault::WriteFault => MAYBE_LOST,
         AddFault::Halted => SEE_DEVICE,
         AddFault::NoMemory => MORE_MEMORY,
     }
 }
 
+fn re_add_advice(fault: ReAddFault) -> &'static str {
+    match fault {
+        ReAddFault::Member(fault) => member_advice(fault),
+        ReAddFault::Full => REMOVE_ONE,
+        ReAddFault::NotReAddable => {
+            "make a spare of it by `add`, which wipes what it holds, and run `rebuild`"
+        }
+        ReAddFault::NoRole => {
+            "`detail` shows which member has its role; `add` makes a spare of it, and wipes what it holds"
+        }
+        ReAddFault::EventsFull => NEW_ARRAY,
+        ReAddFault::WriteFault => MAYBE_LOST,
+        ReAddFault::Halted => SEE_DEVICE,
+        ReAddFault::NoMemory => MORE_MEMORY,
+    }
+}
+
 fn resync_advice(fault: ResyncFault) -> &'static str {
     match fault {
-        ResyncFault::ReadFault(_, _) => {
-            "copy the disk with a tool that goes past bad sectors, and use the copy; or leave the image out"
-        }
+        ResyncFault::ReadFault(_, _) => COPY_DISK,
         ResyncFault::MemberFailed(_) => TELL_OTHERS,
         ResyncFault::Halted => SEE_DEVICE,
         ResyncFault::InFlight(_) => AGAIN,
@@ -134,6 +160,12 @@ fn rebuild_advice(fault: RebuildFault) -> &'static str {
             "`detail` shows the state of each member: a recovering one can be rebuilt, and a spare where a role is free"
         }
         RebuildFault::Dirty => RESYNC_FIRST,
+        RebuildFault::SourceFault(_, _) => COPY_DISK,
+        RebuildFault::TargetFault => {
+            "see why the device can't be written (`dmesg`, free space, write protection); `remove` it, and `add` it or another one anew"
+        }
+        RebuildFault::MetadataFault(_) => BEGIN_ANEW,
+        RebuildFault::LogFull(_) => "`remove` it, and `add` it again, which gives it a new log",
         RebuildFault::EventsFull => NEW_ARRAY,
         RebuildFault::Halted => SEE_DEVICE,
         RebuildFault::InFlight(_) => AGAIN,

@@ -1,9 +1,10 @@
 // The line for people after a fault.
 use crate::advice::advice;
 use crate::fault::CommandFault;
-use md_array::{AddFault, OpenFault};
+use md_array::{AddFault, OpenFault, ReAddFault};
 use md_assembly::AssembleFault;
 use md_commands::DataFault;
+use md_copy::RebuildFault;
 use md_device::ImageFault;
 use md_images::{ImageRefusal, is_missing};
 use md_metadata::StopFault;
@@ -58,16 +59,42 @@ fn culprit_of_data(fault: DataFault) -> Option<Culprit> {
         DataFault::Remove(_) => Some(Culprit::Named),
         DataFault::Add(AddFault::TooSmall) => Some(Culprit::Named),
         DataFault::Add(AddFault::WriteFault) => Some(Culprit::Named),
+        DataFault::ReAdd(fault) => culprit_of_re_add(fault),
+        DataFault::Rebuild(fault) => culprit_of_rebuild(fault),
         _ => None,
     }
 }
 
-// The image of the member that a command fails or removes, or of the device that it adds.
+fn culprit_of_re_add(fault: ReAddFault) -> Option<Culprit> {
+    match fault {
+        ReAddFault::Member(_) => Some(Culprit::Named),
+        ReAddFault::NotReAddable => Some(Culprit::Named),
+        ReAddFault::NoRole => Some(Culprit::Named),
+        ReAddFault::WriteFault => Some(Culprit::Named),
+        _ => None,
+    }
+}
+
+fn culprit_of_rebuild(fault: RebuildFault) -> Option<Culprit> {
+    match fault {
+        RebuildFault::NotSpare => Some(Culprit::Named),
+        RebuildFault::TargetFault => Some(Culprit::Named),
+        RebuildFault::LogFull(device) => Some(Culprit::Staying(device)),
+        RebuildFault::MetadataFault(device) => Some(Culprit::Staying(device)),
+        RebuildFault::SourceFault(device, _) => Some(Culprit::Staying(device)),
+        _ => None,
+    }
+}
+
+// The image of the member that a command fails, removes or rebuilds, or of the device that it adds or takes
+// back.
 fn named_by<'a>(action: Action<'a>, names: &[&'a str]) -> Option<&'a str> {
     match action {
         Action::Perform(ArrayTask::Fail(member), _) => names.get(member as usize).copied(),
         Action::Remove(member) => names.get(member as usize).copied(),
+        Action::Rebuild(member) => names.get(member as usize).copied(),
         Action::Add(device) => Some(device),
+        Action::ReAdd(device) => Some(device),
         _ => None,
     }
 }
@@ -75,7 +102,7 @@ fn named_by<'a>(action: Action<'a>, names: &[&'a str]) -> Option<&'a str> {
 // The image at a place among all of them: one that joins comes after the others.
 fn image_at<'a>(place: usize, action: Action<'a>, names: &[&'a str]) -> Option<&'a str> {
     match action {
-        Action::Add(device) if place == names.len() => Some(device),
+        Action::Add(device) | Action::ReAdd(device) if place == names.len() => Some(device),
         _ => names.get(place).copied(),
     }
 }

@@ -43,7 +43,8 @@ pub enum CommandFault {
     #[error("{0}")]
     Rebuild(RebuildFault),
     /// No member has the index that the command names; or the array's data are not read or written, it is
-    /// not resynchronised or stopped, its member is not failed or removed, or none is added.
+    /// not resynchronised or stopped, its member is not failed, removed or rebuilt, or none is added or taken
+    /// back.
     #[error("{0}")]
     Data(DataFault),
     /// The report can't be written.

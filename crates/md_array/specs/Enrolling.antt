@@ -1,5 +1,5 @@
 -- A member that was rebuilt comes into sync: its marks are stored, its log, and last its superblock (this project's own order).
-use Rattle.std.specs.Prelude.{◌≡◌, ◌≢◌, ◌⊎◌, ℕ, ◌+◌, ◌*◌, ◌<◌, ◌≤◌, true, false, List, [], ◌∷◌, ◌++◌, if◌then◌else◌, length, slice_get, Some, None}
+use Rattle.std.specs.Prelude.{◌≡◌, ◌≢◌, ◌⊎◌, ⊤, ℕ, ◌+◌, ◌*◌, ◌<◌, ◌≤◌, true, false, List, [], ◌∷◌, ◌++◌, if◌then◌else◌, length, slice_get, Some, None, Result, MatchResult}
 use Rattle.md_device.specs.Splice.{part}
 use Rattle.md_super.specs.declared.superblock.Superblock.{Superblock}
 use Rattle.md_super.specs.Log.{has_bad_block_log}
@@ -9,12 +9,13 @@ use Rattle.md_bitmap.specs.Chunks.{InChunk}
 use Rattle.md_bitmap.specs.Marks.{Bitmap, is_set}
 use Rattle.md_badblocks.specs.declared.run.Run.{Run}
 use Rattle.md_badblocks.specs.Log.{log_bytes}
-use Rattle.md_members.specs.Areas.{bitmap_sectors}
+use Rattle.md_members.specs.Areas.{IsPlaced, bitmap_sectors, has_bitmap}
+use Rattle.md_members.specs.Members.{sectors_of}
 use Rattle.md_members.specs.Reading.{BitmapStartsAt}
 use Rattle.md_model.specs.Content.{Content}
 use Rattle.md_writes.specs.Bitmaps.{bitmap_writes}
 use Rattle.md_writes.specs.Writes.{DoesWrites, FailsInWrites, Write}
-use Rattle.md_kept_members.specs.Enrolling.{log_room}
+use Rattle.md_kept_members.specs.Enrolling.{HasRoomFor, log_room}
 use Rattle.md_kept_members.specs.View.{MemberView}
 use Rattle.md_faults.specs.declared.enrol_fault.EnrolFault.{EnrolFault}
 use Rattle.md_faults.specs.declared.enrol_fault.EnrolFault.TheVariants.{Halted, NoRole, EventsFull, LogFull, TargetFault, NoMemory}
@@ -27,6 +28,7 @@ use Rattle.md_state.specs.Members.{IsInSync, IsMember}
 use Rattle.md_state.specs.Missing.{is_missing, is_rebuilt}
 use Rattle.md_state.specs.Trying.{Refuses}
 use Rattle.md_state.specs.View.{ArrayView, Disk, MirrorView, of_disks}
+use Rattle.md_array.specs.ReadAsKept.{AreReadAsKept}
 use Rattle.md_array.specs.Recording.{IsReadable, write_of}
 use Rattle.md_array.specs.Worlds.{AreHonest, from_super}
 
@@ -59,6 +61,14 @@ pub record MayEnrol (k : ℕ) (copied orphans : Bitmap) (v : MirrorView) : Type 
   pub holds : AreHonest v.disks → HoldsCopied v.disks v.array k copied  -- what a device holds that isn't honest, no caller can know
 
 -- ---- what is written
+-- A member's parts lie on a device, and its log has room for its list: all of it but its data may be stored there.
+pub record IsStorable (n : MemberView) (content : List ℕ) : Type 0 where
+  pub long : 16 ≤ sectors_of content
+  pub has : has_bitmap n.superblock ≡ true
+  pub placed : IsPlaced (sectors_of content) n.superblock (bitmap_sectors n.stored.chunks)
+  pub few_chunks : n.stored.chunks ≤ 1048576
+  pub room : HasRoomFor n.superblock n.bad
+
 -- a list is stored in the log that a superblock names, where it names one
 abbrev pub log_writes : Superblock → List Run → List Write
 log_writes own list =
@@ -122,3 +132,8 @@ RefusesEnrol k copied orphans old new EventsFull = Refuses old new (RefusesRole 
 RefusesEnrol k copied orphans old new (LogFull j) = Refuses old new ((j ≡ k) × ((role : ℕ) × MayTakeRole k old.array role) × HasFullLog k copied orphans old.array)
 RefusesEnrol k copied orphans old new TargetFault = FailsToEnrol k copied orphans old new
 RefusesEnrol k copied orphans old new NoMemory = Refuses old new ((role : ℕ) × MayTakeRole k old.array role)
+
+-- An opening would read of the devices what is kept of the members, as before, once it is in sync.
+abbrev pub EnrolReads : MirrorView → MirrorView → {T E : Type 0} → Result T E → Type 0
+EnrolReads old new result =
+    MatchResult result (λ _. AreHonest old.disks → (failed_at : ℕ) → AreReadAsKept old failed_at → AreReadAsKept new failed_at) (λ _. ⊤)

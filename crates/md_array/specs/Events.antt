@@ -1,6 +1,9 @@
 -- The steps as events of the model: what each makes of the world, where devices do what they answer.
-use Rattle.std.specs.Prelude.{◌≡◌, ◌⊎◌, ⊤, ℕ, true, List, [], ◌∷◌, ◌++◌, length, slice_get, None, Option, Some, Result, MatchResult}
+use Rattle.std.specs.Prelude.{◌≡◌, ◌≢◌, ◌⊎◌, ⊤, ℕ, ◌+◌, ◌*◌, ◌≤◌, true, List, [], ◌∷◌, ◌++◌, length, slice_get, None, Option, Some, Result, MatchResult}
 use Rattle.std.specs.List.{remove}
+use Rattle.md_device.specs.Splice.{part}
+use Rattle.md_super.specs.Log.{has_bad_block_log}
+use Rattle.md_members.specs.Areas.{bitmap_sectors}
 use Rattle.md_model.specs.Sectors.{put}
 use Rattle.md_model.specs.Devices.{Super}
 use Rattle.md_model.specs.Worlds.{Request}
@@ -13,16 +16,18 @@ use Rattle.md_faults.specs.declared.step_fault.StoreFault.{StoreFault}
 use Rattle.md_faults.specs.declared.step_fault.StoreFault.TheVariants.{MemberFailed}
 use Rattle.md_faults.specs.declared.step_fault.WriteMemberFault.{WriteMemberFault}
 use Rattle.md_faults.specs.declared.step_fault.WriteMemberFault.TheVariants as write_fault
-use Rattle.md_state.specs.View.{Disk, MirrorView, of_disks}
+use Rattle.md_state.specs.DeviceChanges.{IsLeftAlone, LeavesOn, StaysHonest}
+use Rattle.md_state.specs.View.{ArrayView, Disk, MirrorView, of_disks}
 use Rattle.md_state.specs.Members.{IsMember}
 use Rattle.md_array.specs.Consistency.{IsConsistent}
 use Rattle.md_writes.specs.Writes.{DoesWrites, Write}
 use Rattle.md_state.specs.CopyingData.{IsDone}
 use Rattle.md_state.specs.DiskWrites.{AtDevice, IsFailed, IsWritten}
 use Rattle.md_state.specs.Requests.{AreInFlight, among, request_of}
-use Rattle.md_array.specs.ReadAsKept.{AreReadAsKept}
+use Rattle.md_array.specs.Lending.{IsBesideMissing}
+use Rattle.md_array.specs.ReadAsKept.{AreReadAsKept, HasWidth}
 use Rattle.md_array.specs.Recording.{super_write}
-use Rattle.md_array.specs.Worlds.{AreHonest, world_of, geometry_of, super_in, block_on}
+use Rattle.md_array.specs.Worlds.{AreHonest, world_of, geometry_of, super_in, block_on, from_super}
 
 -- A device that had this superblock is written once, and stands behind the others then, none of which is used.
 pub record WritesLast (own : Super) (before after : List Disk) : Type 0 where
@@ -47,8 +52,39 @@ pub record ComesLast (before after : List Disk) : Type 0 where
   pub done : DoesWrites of_disks writes was now
   pub disks : after ≡ before ++ now ∷ []
 
--- The devices before and after an event: one is written at most, and once, but for a new one. The sectors of one write of a resync
--- are an event each. No call rebuilds a member yet.
+-- Device k alone was written: the others may have been read. What it holds then stands in this relation to what it held, and so does
+-- what a stop leaves of it.
+pub record IsChangedAlone (k : ℕ) (Related : List ℕ → List ℕ → Type 0) (before after : List Disk) : Type 0 where
+  pub as_many : length after ≡ length before
+  pub others : (j : ℕ) → j ≢ k → AtDevice j before after (λ d e. StaysHonest d e × IsLeftAlone d e)
+  pub stays : AtDevice k before after StaysHonest
+  pub size : AtDevice k before after (λ d e. length e.content ≡ length d.content)
+  pub changed : AtDevice k before after (λ d e. d.honest ≡ true → Related d.content e.content)
+  pub within : AtDevice k before after (λ d e. d.honest ≡ true → LeavesOn (Related d.content) d e)
+
+-- two contents of a member's device that are the same beside each chunk that it lacks
+pub record IsSameBesideMissing (a : ArrayView) (m : MemberView) (old new : List ℕ) : Type 0 where
+  pub size : length new ≡ length old
+  pub beside : (at n : ℕ) → IsBesideMissing a m at n → part new at n ≡ part old at n
+
+-- n bytes of a device lie beside an area of so many sectors from this one on
+abbrev pub IsBesideArea : ℕ → ℕ → ℕ → ℕ → Type 0
+IsBesideArea start sectors at n = (at + n ≤ 512 * start) ⊎ (512 * (start + sectors) ≤ at)
+
+-- they lie beside the bitmap of a member, and beside its log
+pub record IsBesideMarks (m : MemberView) (at n : ℕ) : Type 0 where
+  pub bitmap : IsBesideArea (from_super m.superblock.bitmap_offset) (bitmap_sectors m.stored.chunks) at n
+  pub log : has_bad_block_log m.superblock ≡ true → IsBesideArea (from_super m.superblock.bblog_offset) m.superblock.bblog_size at n
+
+-- Two contents of a member's device that are the same but for its bitmap and its log. The header of the bitmap tells of chunks as wide.
+pub record IsSameBesideMarks (a : ArrayView) (m : MemberView) (old new : List ℕ) : Type 0 where
+  pub size : length new ≡ length old
+  pub beside : (at n : ℕ) → IsBesideMarks m at n → part new at n ≡ part old at n
+  pub width : HasWidth a.chunks.sectors m.superblock old → HasWidth a.chunks.sectors m.superblock new
+
+-- The devices before and after an event: one is written at most, and once, but for a new one, and for one that is filled or prepared. The
+-- sectors of one write of a resync are an event each. Of the write by which a member comes into sync, no stop is told here: those of its
+-- call are told with the writes before it.
 abbrev pub WritesOnce : Event → List Disk → List Disk → Type 0
 WritesOnce (Event.Record k) before after = (w : Write) × IsWritten k w before after
 WritesOnce (Event.StoreMarks k b) before after = (w : Write) × (length w.bytes ≡ 512) × IsWritten k w before after
@@ -68,10 +104,10 @@ WritesOnce (Event.Begin n p) before after = after ≡ before
 WritesOnce (Event.Finish n) before after = after ≡ before
 WritesOnce (Event.ClearIdle c) before after = after ≡ before
 WritesOnce (Event.Fail k) before after = after ≡ before
-WritesOnce (Event.Fill k) before after = ⊥
-WritesOnce (Event.Prepare k) before after = ⊥
-WritesOnce (Event.RecordTargetFails k) before after = ⊥
-WritesOnce (Event.Enrol k role listed) before after = ⊥
+WritesOnce (Event.Fill k) before after = (a : ArrayView) × (m : MemberView) × IsChangedAlone k (IsSameBesideMissing a m) before after
+WritesOnce (Event.Prepare k) before after = (a : ArrayView) × (m : MemberView) × IsChangedAlone k (IsSameBesideMarks a m) before after
+WritesOnce (Event.RecordTargetFails k) before after = (w : Write) × IsFailed k w before after
+WritesOnce (Event.Enrol k role listed) before after = (w : Write) × IsDone k w before after
 
 -- By the event the mirror goes from its world with these requests in flight to that with those. A content that the members in
 -- sync held before it, they hold after it, changed as the event says; and who was written of a request in flight has its bytes.

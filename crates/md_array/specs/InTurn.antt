@@ -2,6 +2,7 @@
 use Rattle.std.specs.Prelude.{◌≡◌, ◌≢◌, ℕ, ◌<◌, ◌⊎◌, true, false, List, [], ◌∷◌, Option, Some, None}
 use Rattle.md_model.specs.Sectors.{block_of}
 use Rattle.md_model.specs.Worlds.{Request}
+use Rattle.md_model.specs.Content.{Content}
 use Rattle.md_model.specs.Events.{Event}
 use Rattle.md_bitmap.specs.Marks.{is_set}
 use Rattle.md_requests.specs.Pending.{PendingView}
@@ -20,6 +21,9 @@ use Rattle.md_state.specs.WritingMember.{FailsToWrite, HaltsWritingTo, IsNotDue,
 use Rattle.md_state.specs.Requests.{request_of}
 use Rattle.md_state.specs.CopyingData.{CopiesSector, FailsToCopy, HaltsCopying}
 use Rattle.md_array.specs.Recording.{FailsToRecord, HaltsRecording, Records, super_write}
+use Rattle.md_array.specs.Enrolments.{DidEnrol, IsHeldBy, Prepares}
+use Rattle.md_array.specs.Filling.{Fills}
+use Rattle.md_array.specs.RecordingTarget.{FailsOnTarget}
 use Rattle.md_array.specs.NotingResynced.{BecomesResynced, NotesResynced}
 use Rattle.md_array.specs.Adding.{Adds, add_event}
 use Rattle.md_array.specs.ReAdding.{ReAdds, re_add_event}
@@ -30,10 +34,14 @@ use Rattle.md_array.specs.Worlds.{AreHonest}
 abbrev pub Requests : Type 0
 Requests = ℕ → Option Request
 
--- what is asked of the device, where the event is a superblock's write that failed
+-- What is asked of the devices: where the event is a superblock's write that failed, that it left the old one, the new one or none; where
+-- a member comes into sync, that some content is held.
 abbrev pub LeftWhole : MirrorView → Event → MirrorView → Type 0
 LeftWhole old (Event.RecordFails k) new =
     (m : MemberView) → IsMember old.array k m → AtDevice k old.disks new.disks (IsOldNewOrNone (super_write old.array m).bytes)
+LeftWhole old (Event.RecordTargetFails k) new =
+    (m : MemberView) → IsMember old.array k m → AtDevice k old.disks new.disks (IsOldNewOrNone (super_write old.array m).bytes)
+LeftWhole old (Event.Enrol k role listed) new = (content : Content) × IsHeldBy k listed content old
 LeftWhole old e new = Unit {0}
 
 -- Right before the superblock of a member in sync comes the first sector of its bitmap.
@@ -90,8 +98,8 @@ pub record DidAdd (e : Event) (old new : MirrorView) : Type 0 where
   pub adds : Adds index device old new
   pub event : e ≡ add_event index device old new adds
 
--- What the step's own contract says of it, whatever its device is, and what requests are in flight after it. No call rebuilds a member
--- yet.
+-- What the step's own contract says of it, whatever its device is, and what requests are in flight after it. A member is filled by
+-- `give_back`, from the devices that were lent on.
 abbrev pub Did : MirrorView → Requests → Event → MirrorView → Requests → Type 0
 Did old before (Event.Begin n r) new after =
     (sector : ℕ) × (bytes : List ℕ) × (p : PendingView) × IsUnder n p after × IsPut n (Some r) before after × Begins sector bytes old new p
@@ -114,10 +122,10 @@ Did old before (Event.Copy from k s) new after = (after ≡ before) × CopiesSec
 Did old before (Event.CopyFails k c) new after = (after ≡ before) × FailsToCopy k c old new
 Did old before Event.Resynced new after = (after ≡ before) × BecomesResynced old new
 Did old before Event.Unresynced new after = (after ≡ before) × NotesResynced false old new
-Did old before (Event.Fill k) new after = ⊥
-Did old before (Event.Prepare k) new after = ⊥
-Did old before (Event.RecordTargetFails k) new after = ⊥
-Did old before (Event.Enrol k role listed) new after = ⊥
+Did old before (Event.Fill k) new after = (after ≡ before) × Fills k old new
+Did old before (Event.Prepare k) new after = (after ≡ before) × Prepares k old new
+Did old before (Event.RecordTargetFails k) new after = (after ≡ before) × FailsOnTarget k old new
+Did old before (Event.Enrol k role listed) new after = (after ≡ before) × DidEnrol (Event.Enrol k role listed) old new
 
 -- From this mirror, with these requests in flight, the events were done one after another, the first of them after this one, and
 -- then it holds of where they lead. What each step did is said of any devices. It is an event of the model where they do what they

@@ -32,7 +32,11 @@ pub mod Adding
 pub mod ReAdding
 -- The devices move out, for a rebuild or a check, and come back (this project's own).
 pub mod Lending
+-- A member that is being rebuilt gets data, while its device is lent (this project's own).
+pub mod Filling
 -- The superblock of a member that is rebuilt is stored, whose failure leaves the member as it was (this project's own).
 pub mod RecordingTarget
 -- A member that was rebuilt comes into sync: its marks are stored, its log, and last its superblock (this project's own order).
 pub mod Enrolling
+-- An enrolment as events: the member is prepared, and then it comes into sync by one write (this project's own).
+pub mod Enrolments

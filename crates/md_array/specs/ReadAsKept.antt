@@ -1,9 +1,10 @@
 -- What an opening would read of the members' devices is what the mirror keeps of them.
-use Rattle.std.specs.Prelude.{◌≡◌, ◌⊎◌, ℕ, ◌/◌, ◌<◌, ◌≤◌, false, List, slice_get, Some}
+use Rattle.std.specs.Prelude.{◌≡◌, ◌⊎◌, ℕ, ◌/◌, ◌<◌, ◌≤◌, true, false, List, slice_get, Some}
 use Rattle.md_format.specs.Fields.{number_at}
 use Rattle.md_super.specs.declared.superblock.Superblock.{Superblock}
 use Rattle.md_super.specs.Faults.{NoFault}
 use Rattle.md_super.specs.Format.{IsSuper}
+use Rattle.md_members.specs.Members.{reads_log}
 use Rattle.md_kept_members.specs.View.{MemberView}
 use Rattle.md_assembly.specs.States.{is_recorded}
 use Rattle.md_state.specs.Members.{IsMember}
@@ -16,7 +17,7 @@ pub record IsSuperOn (content : List ℕ) (v : Superblock) : Type 0 where
   pub sound : NoFault (block_on content)
 
 -- It is of the array, and no newer. It places a member's parts where the own fields that are kept do, and its log lists the
--- same sectors.
+-- same sectors, by the same shift where it is read.
 pub record IsOwnSuper (shared own : Superblock) (content : List ℕ) (v : Superblock) : Type 0 where
   pub set_uuid : v.set_uuid ≡ shared.set_uuid
   pub size : v.size ≡ shared.size
@@ -25,6 +26,7 @@ pub record IsOwnSuper (shared own : Superblock) (content : List ℕ) (v : Superb
   pub bitmap_offset : v.bitmap_offset ≡ own.bitmap_offset
   pub bblog_size : v.bblog_size ≡ own.bblog_size
   pub bblog_offset : v.bblog_offset ≡ own.bblog_offset
+  pub bblog_shift : reads_log v ≡ true → v.bblog_shift ≡ own.bblog_shift
   pub listed : (sector : ℕ) → is_listed v content sector ≡ is_listed own content sector
   pub no_newer : v.events ≤ shared.events
 

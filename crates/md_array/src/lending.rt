@@ -3,6 +3,7 @@ ghost use Rattle.std.specs.Prelude.{◌≡◌, ℕ, List, [], map};
 ghost use Rattle.md_state.specs.MakingClean.{IsIdle};
 ghost use Rattle.md_state.specs.View.{Disk, MirrorView, disk_of};
 ghost use Rattle.md_array.specs.Consistency.{IsConsistent};
+ghost use Rattle.md_array.specs.Filling.{FillHappens};
 ghost use Rattle.md_array.specs.Lending.{AreBack, lent};
 ghost use Rattle.md_array.specs.ReadAsKept.{AreReadAsKept};
 
@@ -24,7 +25,8 @@ impl<D: Device + Drop> Mirror<D> {
     }
 
     /// The devices come back, in the order in which they were lent. Data in missing chunks of members that
-    /// are being rebuilt may have changed, and nothing else. It takes no memory.
+    /// are being rebuilt may have changed, and nothing else. Where one of them alone was written, that is the
+    /// model's event. It takes no memory.
     pub fn give_back(&mut self, devices: Vec<D>)
         requires out { self.old.disks ≡ [] }
         requires back { (before : List Disk) × AreBack self.old before (map (disk_of D.Device) devices.items) }
@@ -32,6 +34,7 @@ impl<D: Device + Drop> Mirror<D> {
         ensures sound { IsConsistent self.new }
         ensures read { (before : List Disk) (failed_at : ℕ) → AreBack self.old before (map (disk_of D.Device) devices.items)
             → AreReadAsKept (record self.old { disks = before }) failed_at → AreReadAsKept self.new failed_at }
+        ensures event { FillHappens self.old self.new }
     {
         self.devices = devices;
     }

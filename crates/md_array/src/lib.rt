@@ -5,6 +5,7 @@ mod adding;
 mod beginning;
 mod clearing_marks;
 mod copying_data;
+mod enrolling;
 mod failing_members;
 mod fault;
 mod finishing;
@@ -28,8 +29,8 @@ mod writing_member;
 
 pub use fault::OpenFault;
 pub use md_faults::{
-    AddFault, BeginFault, CleanFault, ClearFault, CopyFault, FailFault, FinishFault, ReAddFault,
-    RemoveFault, StoreFault, TargetFault, WriteMemberFault,
+    AddFault, BeginFault, CleanFault, ClearFault, CopyFault, EnrolFault, FailFault, FinishFault,
+    ReAddFault, RemoveFault, StoreFault, TargetFault, WriteMemberFault,
 };
 pub use md_requests::Pending;
 pub use mirror::Mirror;

@@ -1,10 +1,12 @@
 -- No task wins or loses a device.
-use Rattle.std.proofs.Common.{length, Result, Ok, Err, ap}
+use Rattle.std.proofs.Common.{ℕ, length, Result, Ok, Err, MatchResult, ap}
 use Rattle.md_commands.proofs.DeviceCounts.{AsMany, done_fail, done_resync, done_write, fails_as_many, reads_as_many, resyncs_as_many, stops_as_many, writes_as_many, stopped, read_readied}
+use Rattle.md_commands.proofs.RebuildCounts.{done_rebuild, rebuilds_as_many}
 use Rattle.md_commands.specs.declared.fault.DataFault.{DataFault}
 use Rattle.md_commands.specs.declared.source.Source.{Ghosts as SourceGhosts}
 use Rattle.md_commands.specs.Failing.{RefusesToFail}
 use Rattle.md_commands.specs.Reading.{RefusesToRead}
+use Rattle.md_commands.specs.Rebuilding.{RebuildsArray, RefusesToRebuild}
 use Rattle.md_commands.specs.Resyncing.{RefusesToResync}
 use Rattle.md_commands.specs.Stopping.{RefusesToStop}
 use Rattle.md_commands.specs.Writing.{RefusesToWrite}
@@ -47,3 +49,9 @@ module _ {R S : Type 0} (r : SourceGhosts R) (s : SinkGhosts S) (opened left : M
   as_many (task.Fail k) (Err f) h = of_data (RefusesToFail s k opened left old.output new.output) f h.1 (fails_as_many s k opened left old.output new.output)
   as_many task.Stop (Ok v) h = stopped opened left h.1.stops
   as_many task.Stop (Err f) h = of_data (RefusesToStop s opened left old.output new.output) f h.1 (stops_as_many s opened left old.output new.output)
+
+-- nor does a rebuild
+pub rebuilt_as_many : {S : Type 0} (s : SinkGhosts S) (k : ℕ) (opened left : MirrorView) (old new : S) (result : Result (Unit {0}) CommandFault)
+    → MatchResult result (λ _. RebuildsArray s k opened left old new) (OfData (RefusesToRebuild s k opened left old new)) → AsMany opened left
+rebuilt_as_many s k opened left old new (Ok v) h = done_rebuild s k opened left old new h
+rebuilt_as_many s k opened left old new (Err f) h = of_data (RefusesToRebuild s k opened left old new) f h (rebuilds_as_many s k opened left old new)

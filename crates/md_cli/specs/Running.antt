@@ -10,17 +10,20 @@ use Rattle.md_advice.specs.declared.fault.CommandFault.TheVariants as fault
 use Rattle.md_advice.specs.declared.option_fault.OptionFault.{OptionFault}
 use Rattle.md_words.specs.declared.report.Report.{Report}
 use Rattle.md_words.specs.declared.array_task.ArrayTask.{ArrayTask}
-use Rattle.md_words.specs.Asked.{Ask, Options, examines, creates, performs, removes, adds}
+use Rattle.md_words.specs.Asked.{Ask, Options, examines, creates, performs, removes, adds, re_adds, rebuilds}
 use Rattle.md_commands.specs.declared.source.Source.{Ghosts as SourceGhosts}
 use Rattle.md_examine.specs.declared.sink.Sink.{Ghosts as SinkGhosts}
-use Rattle.md_cli.specs.Adding.{AddsToDevices}
 use Rattle.md_cli.specs.Arrays.{KeepsImages, LooksAtDevices, OpensDevices, UsesImages, ViewsImages}
 use Rattle.md_cli.specs.Creating.{CreatesOn}
 use Rattle.md_cli.specs.Examining.{ExaminesOne}
 use Rattle.md_images.specs.Images.{allows}
 use Rattle.md_cli.specs.Performing.{Streams, access_of}
 use Rattle.md_cli.specs.Planning.{IsPlan, option_fault}
+use Rattle.md_cli.specs.Joining.{JoinsDevices}
+use Rattle.md_cli.specs.Rebuilding.{RebuildsDevices}
 use Rattle.md_cli.specs.Removing.{RemovesFromDevices}
+use Rattle.md_cli.specs.declared.joining.Joining.{Joining}
+use Rattle.md_cli.specs.declared.joining.Joining.TheVariants.{Added, ReAdded}
 use Rattle.md_images.specs.Taking.{image_list}
 
 -- the status of a command: done, or refused
@@ -64,9 +67,14 @@ module _ {I D S : Type 0} (g : DeviceGhosts D) (s : SinkGhosts S) (known : I →
       UsesImages g (RemovesFromDevices s k) (after ≡ before) (known before) (may changeable Change before) (device_at before) (device_at after) (image_list false words) old new result
 
   -- the image under a name joins an array; among the images it counts after the others
-  abbrev pub AddsToArray : Text → List Text → I → I → S → S → Result (Unit {0}) CommandFault → Type 0
-  AddsToArray name words before after old new result =
-      UsesImages g (AddsToDevices s) (after ≡ before) (known before) (may changeable Change before) (device_at before) (device_at after) (image_list false (words ++ name ∷ [])) old new result
+  abbrev pub JoinsArray : Joining → Text → List Text → I → I → S → S → Result (Unit {0}) CommandFault → Type 0
+  JoinsArray joining name words before after old new result =
+      UsesImages g (JoinsDevices s joining) (after ≡ before) (known before) (may changeable Change before) (device_at before) (device_at after) (image_list false (words ++ name ∷ [])) old new result
+
+  -- a member gets what it lacks
+  abbrev pub RebuildsInArray : ℕ → List Text → I → I → S → S → Result (Unit {0}) CommandFault → Type 0
+  RebuildsInArray k words before after old new result =
+      UsesImages g (RebuildsDevices s k) (after ≡ before) (known before) (may changeable Change before) (device_at before) (device_at after) (image_list false words) old new result
 
 module _ {I D R S : Type 0} (g : DeviceGhosts D) (r : SourceGhosts R) (s : SinkGhosts S) (known : I → Bool) (device_at : I → Text → Option D) (changeable asked : I → Text → Bool) where
   -- a task with an array, whose images may only be looked at or not: if so, each of them stays as it is
@@ -84,7 +92,11 @@ module _ {I D R S : Type 0} (g : DeviceGhosts D) (r : SourceGhosts R) (s : SinkG
   Does (removes k) words before after old new result =
       (new.input ≡ old.input) × RemovesFromArray g s known device_at changeable k words before after old.output new.output result
   Does (adds name) words before after old new result =
-      (new.input ≡ old.input) × AddsToArray g s known device_at changeable name words before after old.output new.output result
+      (new.input ≡ old.input) × JoinsArray g s known device_at changeable Added name words before after old.output new.output result
+  Does (re_adds name) words before after old new result =
+      (new.input ≡ old.input) × JoinsArray g s known device_at changeable ReAdded name words before after old.output new.output result
+  Does (rebuilds k) words before after old new result =
+      (new.input ≡ old.input) × RebuildsInArray g s known device_at changeable k words before after old.output new.output result
 
   -- the command's own answer, whose status this is
   pub record DoesCommand (ask : Ask) (words : List Text) (before after : I) (old new : Streams R S) (status : ℕ) : Type 0 where

@@ -1,10 +1,10 @@
 //! The commands of the program, over images that are found by name.
 #![tactic(auto)]
 
-mod adding;
 mod arrays;
 mod creating;
 mod examining;
+mod joining;
 mod laying_out;
 mod looking;
 mod marks_notice;
@@ -13,6 +13,7 @@ mod output;
 mod performing;
 mod planning;
 mod rebuild_plan;
+mod rebuilding;
 mod removing;
 mod running;
 mod showing;

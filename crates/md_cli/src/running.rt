@@ -6,21 +6,24 @@ ghost use Rattle.md_cli.specs.Performing.{streams};
 ghost use Rattle.md_cli.specs.Running.{Does, DoesCommand, IsIdle, MakesArray, PerformsOnArray, status_of};
 ghost use Rattle.md_words.specs.Words.{mdcli};
 
-use crate::adding::add_to_images;
 use crate::arrays::perform_on_images;
 use crate::creating::create_images;
 use crate::examining::examine_images;
+use crate::joining::{Joining, join_images};
 use crate::looking::look_at_images;
 use crate::messages::Messages;
 use crate::planning::plan;
+use crate::rebuilding::rebuild_on_images;
 use crate::removing::remove_from_images;
 use md_advice::{CommandFault, advise, tell_lost_content};
-use md_commands::Source;
+use md_commands::{Source, Watch};
 use md_examine::Sink;
 use md_images::Images;
 use md_words::{Action, ArrayTask, CreateOptions, parse};
 use std::alloc::Global;
 use std::io::Write;
+use std::sync::Wait;
+use std::thread::Threads;
 
 /// Does what the words ask for; the first is the program's name. The status is 0 where it is done,
 /// 1 where it is refused and 2 where the words are not taken, or ask for help.
@@ -31,13 +34,17 @@ use std::io::Write;
 /// `input` is read by `write` alone. A refusal's line goes to `err`, as `mdcli: BadImage 0`; so does the
 /// line of advice after it, where that is asked for, and the line that what an added image held is lost; a
 /// line for each image on which marks were stored; and the parser's text. No clause speaks of what is written to `err`, nor of whether that can be written.
-pub fn run<'a, I: Images, R: Source, S: Sink, E: Write>(
+///
+/// `watch` is told of a rebuild, by `rebuild` and `re-add`, whose workers `rt` starts.
+pub fn run<'a, I: Images, R: Source, S: Sink, E: Write, W: Watch + Sync, T: Threads + Wait + Sync>(
+    rt: &T,
     alloc: Global,
     words: &'a [&'a str],
     images: &mut I,
     input: &mut R,
     out: &mut S,
     err: &mut E,
+    watch: &W,
     messages: Messages,
 ) -> u8
     ensures refused { fault_of mdcli (map (λ s. s.now) words.entry.now) ≢ [] → (result ≡ 2) × IsIdle images.old images.new (streams input.old out.old) (streams input.new out.new) }
@@ -54,12 +61,23 @@ pub fn run<'a, I: Images, R: Source, S: Sink, E: Write>(
         }
     };
     let names = request.images.as_slice();
-    let outcome = act(alloc, request.action, images, names, input, out, err);
+    let outcome = act(
+        rt,
+        alloc,
+        request.action,
+        images,
+        names,
+        input,
+        out,
+        err,
+        watch,
+    );
     answer(outcome, request.action, names, messages, err)
 }
 
 // Does a command on the images that are named.
-fn act<I: Images, R: Source, S: Sink, E: Write>(
+fn act<I: Images, R: Source, S: Sink, E: Write, W: Watch + Sync, T: Threads + Wait + Sync>(
+    rt: &T,
     alloc: Global,
     action: Action<'_>,
     images: &mut I,
@@ -67,6 +85,7 @@ fn act<I: Images, R: Source, S: Sink, E: Write>(
     input: &mut R,
     out: &mut S,
     err: &mut E,
+    watch: &W,
 ) -> Result<(), CommandFault>
     ensures gives { Does I.Dev.Device R.Source S.Sink I.known I.device_at I.changeable I.asked (ask_of action.entry) (map (λ s. s.now) names.now) images.old images.new (streams input.old out.old) (streams input.new out.new) result }
     ensures flushed { IfOk result (λ _. S.is_flushed out.new) }
@@ -78,7 +97,31 @@ fn act<I: Images, R: Source, S: Sink, E: Write>(
             perform_on_array(alloc, task, readonly, images, names, input, out, err)
         }
         Action::Remove(member) => remove_from_images(alloc, member, images, names, out, err),
-        Action::Add(device) => add_to_images(alloc, device, images, names, out, err),
+        Action::Add(device) => join_images(
+            rt,
+            alloc,
+            Joining::Added,
+            device,
+            images,
+            names,
+            watch,
+            out,
+            err,
+        ),
+        Action::ReAdd(device) => join_images(
+            rt,
+            alloc,
+            Joining::ReAdded,
+            device,
+            images,
+            names,
+            watch,
+            out,
+            err,
+        ),
+        Action::Rebuild(member) => {
+            rebuild_on_images(rt, alloc, member, images, names, watch, out, err)
+        }
     }
 }
 

@@ -1,4 +1,4 @@
--- Only `add` wins a device, and only `remove` loses one.
+-- Of the commands that don't rebuild, only `add` wins a device, and only `remove` loses one.
 use Rattle.std.proofs.Common.{◌≡◌, ◌∙◌, ◌⊎◌, inl, inr, ⊎_elim, ℕ, ◌+◌, Bool, true, false, List, [], ◌∷◌, ◌++◌, length, Option, Some, None, Result, Ok, Err, MatchResult, refl, sym, ap}
 use Rattle.std.proofs.lemmas.List.{length-append}
 use Rattle.std.proofs.lemmas.List.Edits.{length-remove}
@@ -51,18 +51,19 @@ use Rattle.md_commands.specs.Writing.{RefusesToWrite, WritesReadied}
 abbrev pub AsMany : MirrorView → MirrorView → Type 0
 AsMany old new = length new.disks ≡ length old.disks
 
-same : (old new : MirrorView) → new ≡ old → AsMany old new
+pub same : (old new : MirrorView) → new ≡ old → AsMany old new
 same old new e = ap (λ (v : MirrorView). length v.disks) e
 
 refused : (old new : MirrorView) (Reason : Type 0) → Refuses old new Reason → AsMany old new
 refused old new Reason r = same old new r.unchanged
 
 -- ---- events
--- no member leaves or comes in by one of this kind
-record KeepsMembers (IsOf : Event → Type 0) : Type 0 where
-  removes : (k : ℕ) → IsOf (Event.Remove k) → ⊥
-  adds : (d : ℕ) (left : Stored) → IsOf (Event.Add d left) → ⊥
-  re_adds : (own : Super) (device left : Stored) → IsOf (Event.ReAdd own device left) → ⊥
+-- no member leaves, comes in, or comes into sync by one of this kind
+pub record KeepsMembers (IsOf : Event → Type 0) : Type 0 where
+  pub removes : (k : ℕ) → IsOf (Event.Remove k) → ⊥
+  pub adds : (d : ℕ) (left : Stored) → IsOf (Event.Add d left) → ⊥
+  pub re_adds : (own : Super) (device left : Stored) → IsOf (Event.ReAdd own device left) → ⊥
+  pub enrols : (k role : ℕ) (listed : ℕ → Bool) → IsOf (Event.Enrol k role listed) → ⊥
 
 did : (IsOf : Event → Type 0) → KeepsMembers IsOf → (e : Event) (old new : MirrorView) (before after : Requests) → IsOf e → Did old before e new after → AsMany old new
 did IsOf keeps (Event.Begin n p) old new before after of h = ap length h.5.disks
@@ -83,12 +84,12 @@ did IsOf keeps Event.MakeClean old new before after of h = ap length h.1.disks
 did IsOf keeps (Event.Remove k) old new before after of h = absurd (keeps.removes k of)
 did IsOf keeps (Event.Add d left) old new before after of h = absurd (keeps.adds d left of)
 did IsOf keeps (Event.ReAdd own device left) old new before after of h = absurd (keeps.re_adds own device left of)
-did IsOf keeps (Event.Fill k) old new before after of h = absurd h
-did IsOf keeps (Event.Prepare k) old new before after of h = absurd h
-did IsOf keeps (Event.RecordTargetFails k) old new before after of h = absurd h
-did IsOf keeps (Event.Enrol k role listed) old new before after of h = absurd h
+did IsOf keeps (Event.Fill k) old new before after of h = h.1.disks.as_many
+did IsOf keeps (Event.Prepare k) old new before after of h = h.1.disks.as_many
+did IsOf keeps (Event.RecordTargetFails k) old new before after of h = h.1.leaves.disks.tried.as_many
+did IsOf keeps (Event.Enrol k role listed) old new before after of h = absurd (keeps.enrols k role listed of)
 
-halts : (e : Event) (old new : MirrorView) (before : Requests) → HaltsAt old before e new → AsMany old new
+pub halts : (e : Event) (old new : MirrorView) (before : Requests) → HaltsAt old before e new → AsMany old new
 halts (Event.RecordFails k) old new before h = h.halts.disks.tried.as_many
 halts (Event.StoreMarksFails k b) old new before h = h.halts.disks.tried.as_many
 halts (Event.WriteMemberFails n k) old new before h = h.3.halts.disks.tried.as_many
@@ -97,7 +98,7 @@ halts e old new before h = absurd h
 
 -- ---- lists of events
 module _ (IsOf : Event → Type 0) (keeps : KeepsMembers IsOf) where
-  led : (es : List Event) (previous : Option Event) (old new : MirrorView) (before after : Requests) → AllOf IsOf es → Leads previous old before es new after → AsMany old new
+  pub led : (es : List Event) (previous : Option Event) (old new : MirrorView) (before after : Requests) → AllOf IsOf es → Leads previous old before es new after → AsMany old new
   led [] previous old new before after all t = same old new (sym t.0)
   led (e ∷ es) previous old new before after all t = led es (Some e) t.0 new t.1 after all.1 t.5 ∙ did IsOf keeps e old t.0 before t.1 all.0 t.3
 
@@ -127,22 +128,23 @@ keeps_or_ends IsOf keeps = record {
   removes = λ k. ⊎_elim (λ (of : IsOf (Event.Remove k)). keeps.removes k of) (λ (no : ⊥). no);
   adds = λ d left. ⊎_elim (λ (of : IsOf (Event.Add d left)). keeps.adds d left of) (λ (no : ⊥). no);
   re_adds = λ own device left. ⊎_elim (λ (of : IsOf (Event.ReAdd own device left)). keeps.re_adds own device left of) (λ (no : ⊥). no);
+  enrols = λ k role listed. ⊎_elim (λ (of : IsOf (Event.Enrol k role listed)). keeps.enrols k role listed of) (λ (no : ⊥). no);
 }
 
 stopping_keeps : KeepsMembers IsStopping
-stopping_keeps = record { removes = λ k of. of; adds = λ d left of. of; re_adds = λ own device left of. of }
+stopping_keeps = record { removes = λ k of. of; adds = λ d left of. of; re_adds = λ own device left of. of; enrols = λ k role listed of. of }
 
 resync_keeps : KeepsMembers IsOfResync
-resync_keeps = record { removes = λ k of. of; adds = λ d left of. of; re_adds = λ own device left of. of }
+resync_keeps = record { removes = λ k of. of; adds = λ d left of. of; re_adds = λ own device left of. of; enrols = λ k role listed of. of }
 
 request_keeps : (chunks : Chunks) (p : PendingView) → KeepsMembers (IsOfRequest chunks p)
-request_keeps chunks p = record { removes = λ k of. of; adds = λ d left of. of; re_adds = λ own device left of. of }
+request_keeps chunks p = record { removes = λ k of. of; adds = λ d left of. of; re_adds = λ own device left of. of; enrols = λ k role listed of. of }
 
 -- no request of the model
-nothing : Requests
+pub nothing : Requests
 nothing n = None
 
-none_in_flight : (a : ArrayView) → AreInFlight a nothing
+pub none_in_flight : (a : ArrayView) → AreInFlight a nothing
 unfolding nothing
 none_in_flight a n p is = absurd (none-some p is)
 
@@ -204,20 +206,20 @@ not_written begin.NumbersSpent sector bytes old new h = refused old new _ h
 not_written begin.NoMemory sector bytes old new h = refused old new _ h
 
 -- ---- the commands
-readied : (old new : MirrorView) → ResyncsIfNeeded old new → AsMany old new
+pub readied : (old new : MirrorView) → ResyncsIfNeeded old new → AsMany old new
 readied old new r = by (needs_resync old.array) refl
   where
     by : (needs : Bool) → needs_resync old.array ≡ needs → AsMany old new
     by true is = resynced old new (r.resynced is)
     by false is = same old new (r.untouched is)
 
-not_readied : (fault : ResyncFault) (old new : MirrorView) → RefusesNeededResync old new fault → AsMany old new
+pub not_readied : (fault : ResyncFault) (old new : MirrorView) → RefusesNeededResync old new fault → AsMany old new
 not_readied fault old new r = not_resynced fault old new r.refused
 
 pub stopped_after : (Through : MirrorView → Type 0) (old new : MirrorView) → ((mid : MirrorView) → Through mid → AsMany old mid) → StopsAfter Through new → AsMany old new
 stopped_after Through old new through s = stopped s.mid new s.stops ∙ through s.mid s.through
 
-fails_after : (Through : MirrorView → Type 0) (old new : MirrorView) (fault : StopFault) → ((mid : MirrorView) → Through mid → AsMany old mid) → FailsToStop Through new fault → AsMany old new
+pub fails_after : (Through : MirrorView → Type 0) (old new : MirrorView) (fault : StopFault) → ((mid : MirrorView) → Through mid → AsMany old mid) → FailsToStop Through new fault → AsMany old new
 fails_after Through old new fault through s = not_stopped fault s.mid new s.refused ∙ through s.mid s.through
 
 pub read_readied : (sector count : ℕ) (bytes : List ℕ) (old new : MirrorView) → ReadsWhenReady sector count bytes old new → AsMany old new

@@ -6,10 +6,14 @@ pub mod Failing
 pub mod Input
 -- What a command puts out.
 pub mod Output
+-- The command that takes a device back.
+pub mod ReAdding
 -- The command that reads an array.
 pub mod Reading
 -- The input of a write is read.
 pub mod ReadingInput
+-- The command that rebuilds a member.
+pub mod Rebuilding
 -- The command that removes a member.
 pub mod Removing
 -- An array is resynced: by a command of its own, or because another one needs it.

@@ -1,6 +1,7 @@
 // Why a command on an opened array is refused.
 use crate::source::SourceFault;
-use md_array::{AddFault, BeginFault, FailFault, RemoveFault};
+use md_array::{AddFault, BeginFault, FailFault, ReAddFault, RemoveFault};
+use md_copy::RebuildFault;
 use md_examine::SinkFault;
 use md_metadata::StopFault;
 use md_read::UnreadFault;
@@ -36,6 +37,12 @@ pub enum DataFault {
     /// The device is not added.
     #[error("{0}")]
     Add(AddFault),
+    /// The device is not taken back.
+    #[error("{0}")]
+    ReAdd(ReAddFault),
+    /// The member is not rebuilt.
+    #[error("{0}")]
+    Rebuild(RebuildFault),
     /// The array is not resynchronised.
     #[error("{0}")]
     Resync(ResyncFault),
@@ -105,6 +112,17 @@ impl From<RemoveFault> for DataFault {
 
     fn from(fault: RemoveFault) -> DataFault {
         DataFault::Remove(fault)
+    }
+}
+
+impl From<RebuildFault> for DataFault {
+    ghost use Rattle.std.specs.Prelude.{◌≡◌};
+    ghost use Rattle.md_commands.specs.declared.fault.DataFault.TheVariants.{Rebuild};
+
+    ghost from_gives = { λ fault e. e ≡ Rebuild fault };
+
+    fn from(fault: RebuildFault) -> DataFault {
+        DataFault::Rebuild(fault)
     }
 }
 

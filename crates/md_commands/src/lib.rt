@@ -1,5 +1,5 @@
-//! What commands do with an opened array: stop it, read it, write to it, resynchronise it, fail, remove or add
-//! a member. Images, names and words are no matter of this crate: it has a mirror, an input and an output.
+//! What commands do with an opened array: stop it, read it, write to it, resynchronise it, fail, remove, add,
+//! re-add or rebuild a member. Images, names and words are no matter of this crate: it has a mirror, an input and an output.
 #![tactic(auto)]
 
 mod adding;
@@ -9,19 +9,26 @@ mod fault;
 mod input;
 mod named_member;
 mod output;
+mod re_adding;
 mod reading;
+mod rebuilding;
 mod removing;
 mod resyncing;
 mod source;
 mod stopping;
+mod watch;
 mod writing;
 
 pub use adding::add_device;
 pub use failing::fail_member;
 pub use fault::DataFault;
+pub use md_copy::Gate;
+pub use re_adding::re_add_device;
 pub use reading::read_array;
+pub use rebuilding::rebuild_member;
 pub use removing::remove_member;
 pub use resyncing::resync_array;
 pub use source::{Input, Source, SourceFault};
 pub use stopping::stop_array;
+pub use watch::Watch;
 pub use writing::write_array;

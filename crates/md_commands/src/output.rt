@@ -1,13 +1,15 @@
 // What a command puts out.
-ghost use Rattle.std.specs.Prelude.{MatchResult};
+ghost use Rattle.std.specs.Prelude.{MatchResult, length};
+ghost use Rattle.md_report.specs.RebuiltReport.{rebuilt_text};
 ghost use Rattle.md_report.specs.SummaryReport.{summary_text};
 ghost use Rattle.md_commands.specs.Output.{FailsOutput, PutsOut};
 
 use crate::fault::DataFault;
 use md_array::Mirror;
+use md_copy::Rebuilt;
 use md_device::Device;
 use md_examine::Sink;
-use md_report::summary;
+use md_report::{rebuilt_report, summary};
 
 /// Puts out these bytes, and passes on what the output holds back.
 pub(crate) fn put_out<S: Sink>(out: &mut S, bytes: &[u8]) -> Result<(), DataFault>
@@ -26,6 +28,20 @@ pub(crate) fn put_summary<D: Device + Drop, S: Sink>(
     ensures { MatchResult result (λ _. PutsOut S.Sink out.old out.new (summary_text mirror.now.array)) (FailsOutput S.Sink out.new) }
 {
     summary(out, mirror)?;
+    out.flush()?;
+    Ok(())
+}
+
+/// Puts out what was rebuilt: the plan of each pass, and a line on the member with this index.
+pub(crate) fn put_rebuilt<S: Sink>(
+    rebuilt: &Rebuilt,
+    member: u32,
+    out: &mut S,
+) -> Result<(), DataFault>
+    ensures { MatchResult result (λ _. PutsOut S.Sink out.old out.new (rebuilt_text member rebuilt.now.passes rebuilt.now.plans.items (length rebuilt.now.orphans.items))) (FailsOutput S.Sink out.new) }
+{
+    let plans = rebuilt.plans.as_slice();
+    rebuilt_report(out, member, rebuilt.passes, plans, rebuilt.orphans.len())?;
     out.flush()?;
     Ok(())
 }

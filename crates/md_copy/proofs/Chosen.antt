@@ -10,7 +10,7 @@ use Rattle.md_assembly.specs.States.{is_in_sync_as}
 use Rattle.md_cert.specs.declared.slots.Slot.{Slot}
 use Rattle.md_kept_members.proofs.Members.Indices.{cases_more}
 use Rattle.md_state.specs.View.{ArrayView, MirrorView}
-use Rattle.md_copy.specs.declared.source.Source.{Source}
+use Rattle.md_pass.specs.declared.source.Source.{Source}
 use Rattle.md_copy.specs.RebuildSources.{IsSource}
 use Rattle.md_copy.specs.Sources.{IsInSyncAs}
 use Rattle.md_copy.proofs.Planned.{IsAllowed}

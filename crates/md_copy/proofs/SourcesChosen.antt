@@ -14,14 +14,14 @@ use Rattle.md_kept_members.specs.View.{MemberView}
 use Rattle.md_state.specs.View.{ArrayView, Disk, MirrorView}
 use Rattle.md_state.specs.Members.{IsMember, IsPermitted}
 use Rattle.md_array.specs.Consistency.{IsConsistent}
-use Rattle.md_copy.specs.declared.source.Source.{Source}
+use Rattle.md_pass.specs.declared.source.Source.{Source}
 use Rattle.md_copy.specs.RebuildSources.{AreSources, IsServedBy, IsSource, IsSourceAt, place_beside}
 use Rattle.md_copy.specs.Targets.{IsTarget, MayBeRebuilt}
 use Rattle.md_copy.proofs.Beside.{beside_is, beside_one, beside_within}
 use Rattle.md_copy.proofs.Planned.{IsAllowed}
 use Rattle.md_copy.proofs.Served.{in_sync_as}
 
-takes_as : (role : ℕ) (state : MemberState) → is_in_sync_as role state ≡ true → takes_role role state ≡ true
+pub takes_as : (role : ℕ) (state : MemberState) → is_in_sync_as role state ≡ true → takes_role role state ≡ true
 takes_as role (InSync own) is = is
 takes_as role (Recovering own) is = absurd cc
 takes_as role (Stale own) is = is
@@ -91,7 +91,7 @@ module _ (v : MirrorView) (sound : IsConsistent v) (target : ℕ) (within : targ
       let m_is : m ≡ n = cc in
       one_role s.role t.role n.state (subst (λ (x : MemberView). is_in_sync_as s.role x.state ≡ true) m_is is.in_sync) also.in_sync
 
-  served_by : (slot : Slot) (s : Source) → IsSource v target s → s.role ≡ slot.source → IsPermitted v.array slot.chunk slot.source → IsServedBy v target slot s
+  pub served_by : (slot : Slot) (s : Source) → IsSource v target s → s.role ≡ slot.source → IsPermitted v.array slot.chunk slot.source → IsServedBy v target slot s
   served_by slot s (k, m, is) role (j, n, at, in_sync, unlisted) =
       let takes = takes_as slot.source m.state (subst (λ r. is_in_sync_as r m.state ≡ true) role is.in_sync) in
       let one : j ≡ k = sound.roles.one_each j k slot.source n m at is.listed (takes_as slot.source n.state in_sync) takes in

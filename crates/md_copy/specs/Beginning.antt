@@ -5,7 +5,7 @@ use Rattle.md_state.specs.View.{ArrayView}
 use Rattle.md_state.specs.MakingClean.{IsIdle, first_number}
 use Rattle.md_state.specs.Rising.{HasSpentEvents}
 use Rattle.md_copy.specs.declared.fault.RebuildFault.{RebuildFault}
-use Rattle.md_copy.specs.declared.fault.RebuildFault.TheVariants.{Halted, NotSpare, Dirty, InFlight, NoMemory, EventsFull}
+use Rattle.md_copy.specs.declared.fault.RebuildFault.TheVariants.{Halted, NotSpare, Dirty, InFlight, LogFull, NoMemory, TargetFault, MetadataFault, EventsFull, SourceFault}
 use Rattle.md_copy.specs.Targets.{IsTarget}
 
 -- the mirror runs, and the member may be rebuilt
@@ -43,14 +43,18 @@ pub record IsSpent (a : ArrayView) (m : MemberView) : Type 0 where
   pub idle : IsIdle a
   pub spent : HasSpentEvents a
 
--- no check gives NoMemory
+-- no check gives another fault
 abbrev pub CannotRebuild : ArrayView → MemberView → RebuildFault → Type 0
 CannotRebuild a m Halted = a.halted ≡ true
 CannotRebuild a m NotSpare = LacksTarget a m
 CannotRebuild a m Dirty = IsDirty a m
 CannotRebuild a m (InFlight number) = IsBusy number a m
+CannotRebuild a m (LogFull k) = ⊥
 CannotRebuild a m NoMemory = ⊥
+CannotRebuild a m TargetFault = ⊥
+CannotRebuild a m (MetadataFault k) = ⊥
 CannotRebuild a m EventsFull = IsSpent a m
+CannotRebuild a m (SourceFault k chunk) = ⊥
 
 -- why there is no table of what the member lacks: it may not be rebuilt; or it may, and memory was refused
 abbrev pub RefusesTable : ArrayView → MemberView → RebuildFault → Type 0

@@ -6,3 +6,13 @@ pub mod Targets
 pub mod Beginning
 -- The sources of a plan: the members from which its chunks are read.
 pub mod RebuildSources
+-- What the members have to know is stored before a rebuild, and after it (this project's own order).
+pub mod Storing
+-- A pass before it begins: its plan, its sources, and the sets of the chunks that it copies and of those that nobody has.
+pub mod Preparing
+-- The target gets its chunks, each from a member that serves it. No other device is written.
+pub mod Filling
+-- The target comes into sync after a pass, or it does not.
+pub mod Enrolled
+-- A rebuild in one pass, step by step (this project's own).
+pub mod Rebuilding

@@ -1,7 +1,6 @@
 -- The sources of a plan: the members from which its chunks are read.
-use Rattle.std.specs.Prelude.{◌≡◌, ◌≢◌, ℕ, ◌+◌, ◌-◌, ◌<◌, true, cond, nat_lt, List, length, remove, All, slice_index_or}
-use Rattle.std.specs.List.{AllPairs, Any}
-use Rattle.md_bitmap.specs.declared.chunks.Chunks.{Chunks}
+use Rattle.std.specs.Prelude.{◌≡◌, ◌≢◌, ℕ, ◌+◌, ◌-◌, true, cond, nat_lt, List, remove, All, slice_index_or}
+use Rattle.std.specs.List.{Any}
 use Rattle.md_bitmap.specs.Chunks.{InChunk}
 use Rattle.md_badblocks.specs.Runs.{IsBad}
 use Rattle.md_cert.specs.declared.plan.Plan.{Plan}
@@ -9,12 +8,12 @@ use Rattle.md_cert.specs.declared.plan.Certificate.{Certificate}
 use Rattle.md_cert.specs.declared.slots.Slot.{Slot}
 use Rattle.md_cert.specs.declared.table.Row.{Row}
 use Rattle.md_cert.specs.Plans.{IsCertified}
-use Rattle.md_collect.specs.Places.{HasRoom}
+use Rattle.md_pass.specs.Sources.{MayRead}
 use Rattle.md_assembly.specs.States.{is_in_sync_as}
 use Rattle.md_kept_members.specs.View.{MemberView}
-use Rattle.md_state.specs.View.{ArrayView, Disk, MirrorView}
+use Rattle.md_state.specs.View.{ArrayView, Disk, MirrorView, of_disks}
 use Rattle.md_state.specs.Members.{IsInSync, IsMember}
-use Rattle.md_copy.specs.declared.source.Source.{Source}
+use Rattle.md_pass.specs.declared.source.Source.{Source}
 use Rattle.md_copy.specs.Sources.{IsTableOf}
 
 -- a plan of the chunks that the member lacks
@@ -41,15 +40,6 @@ pub record IsSourceAt (v : MirrorView) (target k : ℕ) (m : MemberView) (s : So
 abbrev pub IsSource : MirrorView → ℕ → Source → Type 0
 IsSource v target s = (k : ℕ) × (m : MemberView) × IsSourceAt v target k m s
 
--- What a pass asks of its sources and of the devices among which they stand: the sources that a plan's slots name, by rising
--- roles, each with a place of its own, and with room for the array's data.
-pub record MayRead (chunks : Chunks) (slots : List Slot) (sources : List Source) (devices : List Disk) : Type 0 where
-  pub within : All (λ s. s.place < length devices) sources
-  pub room : All (λ s. (d : Disk) → HasRoom (slice_index_or devices s.place d).content s.offset chunks) sources
-  pub apart : AllPairs (λ a b. a.place ≢ b.place) sources
-  pub rising : AllPairs (λ a b. a.role < b.role) sources
-  pub serves : All (λ slot. Any (λ s. s.role ≡ slot.source) sources) slots
-
 -- member k is in sync and lists no sector of the chunk
 pub record Serves (a : ArrayView) (k : ℕ) (m : MemberView) (chunk : ℕ) : Type 0 where
   pub in_sync : IsInSync a k m
@@ -70,4 +60,4 @@ pub record AreSources (v : MirrorView) (target : ℕ) (slots : List Slot) (sourc
   pub named : All (λ s. Any (λ slot. slot.source ≡ s.role) slots) sources
   -- and no slot without its source, which is one alone, since no two have one role
   pub served : All (λ slot. Any (IsServedBy v target slot) sources) slots
-  pub may_read : MayRead v.array.chunks slots sources (remove v.disks target)
+  pub may_read : MayRead of_disks v.array.chunks slots sources (remove v.disks target)

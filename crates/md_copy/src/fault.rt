@@ -2,8 +2,8 @@
 use std::alloc::AllocError;
 use thiserror::Error;
 
-/// Why a member is not rebuilt, in the order in which it is looked for: all but NoMemory before any device
-/// is used. A message is the fault's name and its value, one space between them.
+/// Why a member is not rebuilt. The first four, and EventsFull, are looked for before any device is used,
+/// in this order. A message is the fault's name and its values, one space between them.
 #[derive(Clone, Copy, Debug, PartialEq, Eq, Error)]
 pub enum RebuildFault {
     /// The mirror is halted.
@@ -18,12 +18,25 @@ pub enum RebuildFault {
     /// The request of this number is in flight. It is the first in the list.
     #[error("InFlight {0}")]
     InFlight(u64),
+    /// The log of this member has less room than its list would need.
+    #[error("LogFull {0}")]
+    LogFull(usize),
     /// Memory was refused.
     #[error("NoMemory")]
     NoMemory,
+    /// The member could not be written. It is what it was.
+    #[error("TargetFault")]
+    TargetFault,
+    /// A mark or a superblock could not be stored on this member, which is faulty now, or has halted the
+    /// mirror.
+    #[error("MetadataFault {0}")]
+    MetadataFault(usize),
     /// The event count has to rise and can't.
     #[error("EventsFull")]
     EventsFull,
+    /// This member could not be read in this chunk.
+    #[error("SourceFault {0} {1}")]
+    SourceFault(usize, u32),
 }
 
 impl From<AllocError> for RebuildFault {

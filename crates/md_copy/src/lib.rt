@@ -2,13 +2,23 @@
 #![tactic(auto)]
 
 mod checking;
+mod enrol_filled;
 mod fault;
+mod filling;
 mod in_sync;
 mod listed;
+mod one_pass;
+mod preparing;
 mod rebuild_table;
-mod source;
+mod rebuilding;
+mod rebuilt;
+mod settling;
 mod sources;
+mod storing;
 mod target;
 
 pub use fault::RebuildFault;
+pub use md_pass::Gate;
 pub use rebuild_table::table;
+pub use rebuilding::rebuild;
+pub use rebuilt::Rebuilt;

@@ -9,10 +9,10 @@ ghost use Rattle.md_copy.specs.RebuildSources.{AreSources, IsPlanOf, IsSource, p
 ghost use Rattle.md_copy.specs.Sources.{IsInSyncAs};
 ghost use Rattle.md_copy.specs.Targets.{IsTarget};
 
-use crate::source::Source;
 use md_array::Mirror;
 use md_cert::{Plan, Slot};
 use md_device::Device;
+use md_pass::Source;
 use std::alloc::{AllocError, Global};
 
 /// The sources of a plan of the chunks that the target lacks: of each role that has a slot, by rising
@@ -72,8 +72,8 @@ fn place_beside(target: usize, k: usize) -> usize
     if target < k { k - 1 } else { k }
 }
 
-// The index of the member that is in sync in the role.
-fn member_in<D: Device + Drop>(mirror: &Mirror<D>, role: u8) -> usize
+/// The index of the member that is in sync in the role.
+pub(crate) fn member_in<D: Device + Drop>(mirror: &Mirror<D>, role: u8) -> usize
     requires { IsInSyncAs mirror.now.array role }
     ensures within { result < length mirror.now.array.members }
     ensures in_sync { (m : MemberView) → IsMember mirror.now.array result m

@@ -1,9 +1,13 @@
 -- What a stop leaves.
 
+-- What a stop leaves where one device alone is written: of a member that is rebuilt, what another such change leaves at its end.
+pub mod AloneChanged
 -- What a stop leaves within the write of an event: devices that the event might leave at its end, or that a torn write leaves.
 pub mod AsFailed
 -- What a stop within a step leaves.
 pub mod AtSteps
+-- A member that came into sync, and what a stop within that call leaves of it, once its superblock is written.
+pub mod Enrolled
 -- A superblock that ends within its first sector is read by that sector.
 pub mod FirstSector
 -- What a stop leaves within a call is what one leaves between two calls, or in the midst of a write of data.

@@ -1,6 +1,7 @@
 -- What a stop leaves of a mirror's devices: it comes between two calls or within one, of which its own contract says what may be
 -- left (`MayAllBeLeft`).
 use Rattle.std.specs.Prelude.{◌≡◌, ◌⊎◌, ℕ, ◌<◌, true, List, [], ◌∷◌, ◌++◌, length, map, Option, slice_get, Some}
+use Rattle.md_bitmap.specs.Marks.{Bitmap}
 use Rattle.md_members.specs.Areas.{bitmap_sectors}
 use Rattle.md_model.specs.Worlds.{Request}
 use Rattle.md_requests.specs.Pending.{PendingView}
@@ -12,9 +13,15 @@ use Rattle.md_state.specs.Requests.{IsPending, among}
 use Rattle.md_state.specs.StoringMarks.{StoresMarkSector}
 use Rattle.md_state.specs.WritingMember.{FailsToWrite, HaltsWritingTo, WritesTo}
 use Rattle.md_array.specs.Events.{IsOldNewOrNone}
+use Rattle.md_array.specs.Consistency.{IsConsistent}
+use Rattle.md_array.specs.Enrolling.{Enrols, MayEnrol}
+use Rattle.md_array.specs.Enrolments.{Prepares}
+use Rattle.md_array.specs.Filling.{Fills}
+use Rattle.md_array.specs.ReadAsKept.{AreReadAsKept}
 use Rattle.md_array.specs.ReAdding.{ReAdds}
 use Rattle.md_array.specs.Recording.{FailsToRecord, HaltsRecording, Records, super_write}
-use Rattle.md_array.specs.Worlds.{block_on}
+use Rattle.md_array.specs.RecordingTarget.{LeavesUnrecorded}
+use Rattle.md_array.specs.Worlds.{AreHonest, block_on}
 use Rattle.md_laws.specs.Runs.{Moment}
 use Rattle.md_laws.specs.StopsReadAs.{EndsInFirstSector, ReadsAs}
 use Rattle.md_laws.specs.StopsWithin.{MayAllBeLeft}
@@ -39,11 +46,12 @@ pub record IsLeftWriting (t : Moment) (left : List Disk) : Type 0 where
   pub call : WritesTo on t.mirror next request then ⊎ (FailsToWrite on t.mirror next request then ⊎ HaltsWritingTo on t.mirror next request then)
   pub within : IsLeftWithin t next left
 
--- Within `record`, whatever comes of the write, where it left the old superblock, the new one or none: a premise on such stops.
+-- Within `record` or `record_target`, whatever comes of the write, where it left the old superblock, the new one or none: a premise on
+-- such stops.
 pub record IsLeftRecording (t : Moment) (left : List Disk) : Type 0 where
   pub on : ℕ
   pub next : MirrorView
-  pub call : Records on t.mirror next ⊎ (FailsToRecord on t.mirror next ⊎ HaltsRecording on t.mirror next)
+  pub call : Records on t.mirror next ⊎ (FailsToRecord on t.mirror next ⊎ (HaltsRecording on t.mirror next ⊎ LeavesUnrecorded on t.mirror next))
   pub within : IsLeftWithin t next left
   pub super : (m : MemberView) → IsMember t.mirror.array on m → AtDevice on t.mirror.disks left (IsOldNewOrNone (super_write t.mirror.array m).bytes)
 
@@ -66,6 +74,32 @@ pub record IsLeftStoring (t : Moment) (left : List Disk) : Type 0 where
   pub call : StoresMarkSector on block t.mirror next
   pub within : IsLeftWithin t next left
 
+-- While the devices are lent to a rebuild of one member, which writes its data in chunks that it lacks: its contract says what the devices
+-- are when they come back, and what a stop leaves until then.
+pub record IsLeftFilling (t : Moment) (left : List Disk) : Type 0 where
+  pub on : ℕ
+  pub next : MirrorView
+  pub call : Fills on t.mirror next
+  pub within : IsLeftWithin t next left
+
+-- While the bitmap and the log of a member are stored, before its superblock.
+pub record IsLeftPreparing (t : Moment) (left : List Disk) : Type 0 where
+  pub on : ℕ
+  pub next : MirrorView
+  pub call : Prepares on t.mirror next
+  pub within : IsLeftWithin t next left
+
+-- Within `enrol`, as long as the superblock of the member stands as before: its bitmap and its log are being stored.
+pub record IsLeftEnrolling (t : Moment) (left : List Disk) : Type 0 where
+  pub on : ℕ
+  pub copied : Bitmap
+  pub orphans : Bitmap
+  pub may : MayEnrol on copied orphans t.mirror
+  pub next : MirrorView
+  pub call : Enrols on copied orphans t.mirror next
+  pub within : IsLeftWithin t next left
+  pub super : AtDevice on t.mirror.disks left (λ d e. block_on e.content ≡ block_on d.content)
+
 -- Within the `re_add` after which t is, where the superblock of the device that it takes back reads as after the call.
 pub record IsLeftTakingBack (t : Moment) (left : List Disk) : Type 0 where
   pub on : ℕ
@@ -76,6 +110,20 @@ pub record IsLeftTakingBack (t : Moment) (left : List Disk) : Type 0 where
   pub within : MayAllBeLeft (before.disks ++ device ∷ []) t.mirror.disks (contents_of left)
   pub reads : AtDevice (length before.disks) t.mirror.disks left (λ now e. ReadsAs (block_on e.content) (block_on now.content))
 
+-- Within the `enrol` after which t is, where the superblock of the member stands as after the call.
+pub record IsLeftEnrolled (t : Moment) (left : List Disk) : Type 0 where
+  pub on : ℕ
+  pub copied : Bitmap
+  pub orphans : Bitmap
+  pub before : MirrorView
+  pub sound : IsConsistent before
+  pub honest : AreHonest before.disks
+  pub failed_at : ℕ
+  pub read : AreReadAsKept before failed_at
+  pub call : Enrols on copied orphans before t.mirror
+  pub within : MayAllBeLeft before.disks t.mirror.disks (contents_of left)
+  pub super : AtDevice on t.mirror.disks left (λ now e. block_on e.content ≡ block_on now.content)
+
 -- What a stop leaves at t, or within a call from t. A call that is refused, and one that only changes memory (`begin`, `finish`,
 -- `clear_idle`, `make_clean`, `note_resynced`, `fail`), leave what was there (`stops_at_steps`); so does `remove`, and after it the
 -- device that it handed back is none of these. So do `re_add` and `add`, and until they are done the device that comes in or comes
@@ -84,4 +132,7 @@ pub record IsLeftTakingBack (t : Moment) (left : List Disk) : Type 0 where
 abbrev pub IsLeft : Moment → List Disk → Type 0
 IsLeft t left =
     (contents_of left ≡ contents_of t.mirror.disks)
-    ⊎ (IsLeftStoring t left ⊎ (IsLeftWriting t left ⊎ (IsLeftRecording t left ⊎ (IsLeftRecordingShort t left ⊎ IsLeftTakingBack t left))))
+    ⊎ (IsLeftStoring t left
+    ⊎ (IsLeftWriting t left
+    ⊎ (IsLeftRecording t left
+    ⊎ (IsLeftRecordingShort t left ⊎ (IsLeftTakingBack t left ⊎ (IsLeftFilling t left ⊎ (IsLeftPreparing t left ⊎ (IsLeftEnrolling t left ⊎ IsLeftEnrolled t left))))))))

@@ -1,6 +1,7 @@
 -- What a stop within a call leaves of a mirror's devices.
 use Rattle.std.specs.Prelude.{◌≡◌, ◌≢◌, ◌⊎◌, ℕ, true, List, [], ◌∷◌, ◌++◌, drop, length, map, slice_get, Some}
 use Rattle.std.specs.List.{insert}
+use Rattle.md_bitmap.specs.Marks.{Bitmap}
 use Rattle.md_device.specs.Device.{held, written}
 use Rattle.md_create.specs.Layout.{IsHalfLaidOut}
 use Rattle.md_writes.specs.Writes.{IsAnyIn, IsCutShort, Write, after as content_after}
@@ -16,7 +17,10 @@ use Rattle.md_state.specs.DiskWrites.{IsFailed, IsTried, IsWritten}
 use Rattle.md_state.specs.Removing.{Removes}
 use Rattle.md_state.specs.Trying.{FailsWriting}
 use Rattle.md_array.specs.Adding.{Adds, FailsToAdd, RefusesAdd}
-use Rattle.md_array.specs.Events.{ComesLast, WritesOnce}
+use Rattle.md_array.specs.Enrolling.{Enrols, FailsToEnrol}
+use Rattle.md_array.specs.Enrolments.{Prepares}
+use Rattle.md_array.specs.Events.{ComesLast, IsSameBesideMarks, IsSameBesideMissing, WritesOnce}
+use Rattle.md_array.specs.Filling.{Fills}
 use Rattle.md_array.specs.ReAdding.{FailsToReAdd, ReAdds, RefusesReAdd}
 use Rattle.md_array.specs.Recording.{super_write, write_of}
 use Rattle.md_array.specs.Worlds.{AreHonest}
@@ -121,6 +125,32 @@ StopsAsFailed =
     (k : ℕ) (w : Write) (old new : MirrorView) (left : List (List ℕ)) → AreHonest old.disks → FailsWriting k w old new → MayAllBeLeft old.disks new.disks left
     → (other : MirrorView) × FailsWriting k w old other × (map (λ d. d.content) other.disks ≡ left)
 
+-- So it is within a filling: another one might leave that at its end.
+abbrev pub StopsAsFilled : Type 0
+StopsAsFilled =
+    (k : ℕ) (old new : MirrorView) (left : List (List ℕ)) → AreHonest old.disks → Fills k old new → MayAllBeLeft old.disks new.disks left
+    → (other : MirrorView) × Fills k old other × (map (λ d. d.content) other.disks ≡ left)
+
+-- and within a preparing
+abbrev pub StopsAsPrepared : Type 0
+StopsAsPrepared =
+    (k : ℕ) (old new : MirrorView) (left : List (List ℕ)) → AreHonest old.disks → Prepares k old new → MayAllBeLeft old.disks new.disks left
+    → (other : MirrorView) × Prepares k old other × (map (λ d. d.content) other.disks ≡ left)
+
+-- A stop at any moment of `enrol` leaves every other device as it was, and that of the member with the first of its writes done and the
+-- next one cut short;
+abbrev pub StopsAtEnrol : Type 0
+StopsAtEnrol =
+    (k : ℕ) (copied orphans : Bitmap) (old new : MirrorView) (left : List (List ℕ)) → AreHonest old.disks → (r : Enrols k copied orphans old new)
+    → MayAllBeLeft old.disks new.disks left → IsLeftBut k (λ was c. IsCutShort was r.writes c) old.disks left
+
+-- where one of them fails, with those before it done, or cut short, or with any bytes in its range.
+abbrev pub StopsAtFailedEnrol : Type 0
+StopsAtFailedEnrol =
+    (k : ℕ) (copied orphans : Bitmap) (old new : MirrorView) (left : List (List ℕ)) → AreHonest old.disks → FailsToEnrol k copied orphans old new
+    → MayAllBeLeft old.disks new.disks left
+    → IsLeftBut k (λ was c. (done : List Write) × (tried : Write) × IsLeftFailing done tried was c) old.disks left
+
 -- What it leaves within one that is done, are devices of which k alone was written, in the write's range: as of a torn write of
 -- data.
 abbrev pub StopsAsTried : Type 0
@@ -150,8 +180,9 @@ abbrev pub IsLeftJoining : (before after : List Disk) → ComesLast before after
 IsLeftJoining before after w left = IsLeftBut (length before) (λ was c. IsCutShort was w.writes c) (before ++ w.was ∷ []) left
 
 -- What a stop leaves at a moment of the call of an event: what was there before it or what is after it, or its one write cut short.
--- Of a copy nothing is said here, as one write does many (`StoppedCopies`). Of a new device several writes are made. No call rebuilds a
--- member yet.
+-- Of a copy nothing is said here, as one write does many (`StoppedCopies`). Of a new device several writes are made. A member
+-- that is filled is left as before it beside the chunks that it lacks, and one that is prepared, beside its bitmap and its log. Of the
+-- write by which a member comes into sync nothing is said here: its call makes others before it (`StopsAtEnrol`).
 abbrev pub IsLeftBy : (e : Event) (before after : List Disk) → WritesOnce e before after → List (List ℕ) → Type 0
 IsLeftBy (Event.Record k) before after once left = (w : Write) × IsWritten k w before after × IsLeftBut k (λ old c. IsCutShort old (w ∷ []) c) before left
 IsLeftBy (Event.WriteMember n k) before after once left = (w : Write) × IsWritten k w before after × IsLeftBut k (λ old c. IsCutShort old (w ∷ []) c) before left
@@ -172,10 +203,10 @@ IsLeftBy (Event.Begin n p) before after w left = left ≡ map (λ d. d.content) 
 IsLeftBy (Event.Finish n) before after w left = left ≡ map (λ d. d.content) before
 IsLeftBy (Event.ClearIdle c) before after w left = left ≡ map (λ d. d.content) before
 IsLeftBy (Event.Fail k) before after w left = left ≡ map (λ d. d.content) before
-IsLeftBy (Event.Fill k) before after w left = ⊥
-IsLeftBy (Event.Prepare k) before after w left = ⊥
-IsLeftBy (Event.RecordTargetFails k) before after w left = ⊥
-IsLeftBy (Event.Enrol k role listed) before after w left = ⊥
+IsLeftBy (Event.Fill k) before after once left = IsLeftBut k (IsSameBesideMissing once.0 once.1) before left
+IsLeftBy (Event.Prepare k) before after once left = IsLeftBut k (IsSameBesideMarks once.0 once.1) before left
+IsLeftBy (Event.RecordTargetFails k) before after once left = (w : Write) × IsFailed k w before after × IsLeftBut k (IsAnyIn w) before left
+IsLeftBy (Event.Enrol k role listed) before after w left = Unit {0}
 
 abbrev pub StopsAtEvents : Type 0
 StopsAtEvents =

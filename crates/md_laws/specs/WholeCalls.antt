@@ -1,5 +1,6 @@
 -- What is done by a call that is a list of events.
 use Rattle.std.specs.Prelude.{◌≡◌, ℕ, true, List, [], ◌∷◌, ◌++◌, Option}
+use Rattle.md_bitmap.specs.Marks.{Bitmap}
 use Rattle.md_model.specs.Events.{Event}
 use Rattle.md_state.specs.FailingMembers.{FailsMember}
 use Rattle.md_state.specs.Removing.{Removes}
@@ -7,8 +8,12 @@ use Rattle.md_state.specs.Requests.{AreInFlight}
 use Rattle.md_state.specs.View.{Disk, MirrorView}
 use Rattle.md_array.specs.Adding.{Adds, add_event}
 use Rattle.md_array.specs.Consistency.{IsConsistent}
+use Rattle.md_array.specs.Enrolling.{Enrols, MayEnrol}
+use Rattle.md_array.specs.Enrolments.{EndsBelow, Prepares, enrol_event}
+use Rattle.md_array.specs.Filling.{Fills}
 use Rattle.md_array.specs.InTurn.{AllLeftWhole, Leads, Requests}
 use Rattle.md_array.specs.ReAdding.{ReAdds, re_add_event}
+use Rattle.md_array.specs.RecordingTarget.{FailsOnTarget}
 use Rattle.md_array.specs.Worlds.{AreHonest}
 use Rattle.md_laws.specs.Runs.{MirrorRun, Moment}
 
@@ -48,3 +53,30 @@ ReAddIsACall =
     (k : ℕ) (device : Disk) (old new : MirrorView) → IsConsistent old → device.honest ≡ true → (r : ReAdds k device old new)
     → (previous : Option Event) (requests : Requests) → AreInFlight old.array requests
     → Leads previous old requests (re_add_event k device old new r ∷ []) new requests
+
+-- A rebuild is in the list too: data that is given to one member while the devices are lent,
+abbrev pub FillIsACall : Type 0
+FillIsACall =
+    (k : ℕ) (old new : MirrorView) → IsConsistent old → Fills k old new
+    → (previous : Option Event) (requests : Requests) → AreInFlight old.array requests → Leads previous old requests (Event.Fill k ∷ []) new requests
+
+-- a write of its superblock that failed,
+abbrev pub TargetFailureIsACall : Type 0
+TargetFailureIsACall =
+    (k : ℕ) (old new : MirrorView) → IsConsistent old → FailsOnTarget k old new
+    → (previous : Option Event) (requests : Requests) → AreInFlight old.array requests → Leads previous old requests (Event.RecordTargetFails k ∷ []) new requests
+
+-- its bitmap and its log stored, in part or whole,
+abbrev pub PrepareIsACall : Type 0
+PrepareIsACall =
+    (k : ℕ) (old new : MirrorView) → IsConsistent old → Prepares k old new
+    → (previous : Option Event) (requests : Requests) → AreInFlight old.array requests → Leads previous old requests (Event.Prepare k ∷ []) new requests
+
+-- and `enrol`: it is prepared, and then it comes into sync, if its data ends below sector 2^54 of its device. That is an event of the model
+-- where some content is held: by the members in sync, and by the new one in the chunks that it did not lack.
+abbrev pub EnrolIsACall : Type 0
+EnrolIsACall =
+    (k : ℕ) (copied orphans : Bitmap) (old new : MirrorView) → IsConsistent old → IsConsistent new → MayEnrol k copied orphans old → EndsBelow old k
+    → (r : Enrols k copied orphans old new)
+    → (previous : Option Event) (requests : Requests) → AreInFlight old.array requests
+    → Leads previous old requests (Event.Prepare k ∷ enrol_event r ∷ []) new requests

@@ -18,7 +18,7 @@ ghost use Rattle.md_laws.specs.Lives.{AtEachMoment, ContentGoesAlong, FindsInSyn
 ghost use Rattle.md_laws.specs.Returning.{StartsAgain};
 ghost use Rattle.md_laws.specs.Runs.{HasContent};
 ghost use Rattle.md_laws.specs.StopsReadAs.{ReadsAtAdd, ReadsAtReAdd};
-ghost use Rattle.md_laws.specs.StopsWithin.{StopsAsFailed, StopsAsTried, StopsAtAdd, StopsAtEvents, StopsAtFailedAdd, StopsAtFailedReAdd, StopsAtFailure, StopsAtReAdd, StopsAtRefusedAdd, StopsAtRefusedReAdd, StopsAtRemoval, StopsAtSector, StopsAtWrite, StopsInMemory, StopsUndivided};
+ghost use Rattle.md_laws.specs.StopsWithin.{StopsAsFailed, StopsAsFilled, StopsAsPrepared, StopsAsTried, StopsAtAdd, StopsAtEnrol, StopsAtEvents, StopsAtFailedAdd, StopsAtFailedEnrol, StopsAtFailedReAdd, StopsAtFailure, StopsAtReAdd, StopsAtRefusedAdd, StopsAtRefusedReAdd, StopsAtRemoval, StopsAtSector, StopsAtWrite, StopsInMemory, StopsUndivided};
 
 /// A mirror that was opened from devices that do what they answer is an opened world of the model, by
 /// the array's superblock: the opening stored all marks where the bitmap was not accepted, and nothing
@@ -49,7 +49,9 @@ pub fn opening()
 /// own contract gives (`IsLeft`): of its write each sector as before or as written, or any bytes in its range
 /// where the write fails. A stop within `record` left the old superblock, the new one or none that can be
 /// decoded: a premise, unless the write is done and neither superblock has more than 128 roles. A device that comes in
-/// counts as left only where it is as after the call. Of one that comes back it is enough that its superblock reads so. Nothing is said of a stop within a write of marks, or of a copy, that fails.
+/// counts as left only where it is as after the call. Of one that comes back it is enough that its superblock reads so. A member that is
+/// rebuilt counts as left at any moment of its filling, and of `enrol` where its superblock stands as before or as after. Nothing is said of a stop
+/// within a write of marks, or of a copy, that fails, or within an `enrol` that fails.
 ///
 /// An opening after a stop is of devices that were left, in any order, some of them missing (`IsReopened`). Beside
 /// them may be further ones, which the opening before left out (`IsFurther`): they are not found in sync. Its
@@ -76,7 +78,8 @@ pub fn every_run()
 
     // There is a content that the members in sync hold at the first opening; any such content goes along the
     // life, and they hold what it becomes. Only the end of a request changes it, and a resync or an opening in
-    // chunks that each of them has marked.
+    // chunks that each of them has marked. Of each member that comes into sync it is asked that it holds the content in
+    // the chunks that it did not lack (`MirrorLifeTells`): only one that was re-added has such chunks.
     ensures has_content { HasContent }
     ensures content_along { ContentGoesAlong }
     ensures keeps_content { KeepsContent }
@@ -119,8 +122,8 @@ pub fn half_opening()
     ensures as_left { StaysAsLeft }
 {}
 
-/// What a stop at any moment of a step leaves, where the step makes a write to one device, or none, or lays a new one
-/// out. Each event is of such a step (`Does`). A superblock of at most 128 roles ends within its first sector, which is
+/// What a stop at any moment of a step leaves, where the step makes a write to one device, or none, lays a new one
+/// out, or fills, prepares or enrols a member that is rebuilt. Each event is of such a step (`Does`). A superblock of at most 128 roles ends within its first sector, which is
 /// written whole or not at all. So that of a device that comes back then reads as before the call or as after it; and one
 /// that comes in is as after the call, or has the wipe of its old superblock cut short, or zeros in place of one.
 pub fn stops_at_steps()
@@ -134,14 +137,19 @@ pub fn stops_at_steps()
     ensures add_read { ReadsAtAdd }
     ensures failed_add { StopsAtFailedAdd }
     ensures refused_add { StopsAtRefusedAdd }
+    ensures enrol { StopsAtEnrol }
+    ensures failed_enrol { StopsAtFailedEnrol }
     ensures written { StopsAtWrite }
     ensures sector { StopsAtSector }
     ensures failed { StopsAtFailure }
 
     // So a stop within the call of an event is before it, after it, or within its one write; and what it leaves
-    // within a write, the same write might leave that failed, or was torn.
+    // within a write, the same write might leave that failed, or was torn. What it leaves while a member is
+    // filled or prepared, another filling or preparing might leave.
     ensures event { StopsAtEvents }
     ensures as_failed { StopsAsFailed }
     ensures as_tried { StopsAsTried }
+    ensures as_filled { StopsAsFilled }
+    ensures as_prepared { StopsAsPrepared }
     ensures undivided { StopsUndivided }
 {}

@@ -2,7 +2,7 @@
 
 ghost use Rattle.md_laws.specs.StoppedCopies.{StopsAtCopies};
 ghost use Rattle.md_laws.specs.ReadInTurn.{ReadingCallsAreRuns};
-ghost use Rattle.md_laws.specs.WholeCalls.{AddIsACall, CallsAreRuns, FailIsACall, ReAddIsACall, RemoveIsACall, RunsGoOn};
+ghost use Rattle.md_laws.specs.WholeCalls.{AddIsACall, CallsAreRuns, EnrolIsACall, FailIsACall, FillIsACall, PrepareIsACall, ReAddIsACall, RemoveIsACall, RunsGoOn, TargetFailureIsACall};
 
 /// A call that is a list of events (`Leads`) is a run of the mirror, from any moment of its life on, and
 /// goes on with the run before it. So `every_run` speaks of it. It is asked that devices do what they
@@ -27,8 +27,18 @@ pub fn joining_calls()
     ensures re_add { ReAddIsACall }
 {}
 
+/// A rebuild is in the list: what its worker gives to one member while the devices are lent, a superblock of that member that
+/// could not be stored, and `enrol`, which is two events: the member is prepared, and comes into sync by the write of its
+/// superblock. It is asked that the member's data ends below sector 2^54, from which no list goes on.
+pub fn rebuilding_calls()
+    ensures fill { FillIsACall }
+    ensures target { TargetFailureIsACall }
+    ensures prepare { PrepareIsACall }
+    ensures enrol { EnrolIsACall }
+{}
+
 /// So is a call that reads devices before its events and after the last (`LeadsReading`), and writes no
-/// superblock that fails.
+/// superblock that fails, and enrols no member.
 pub fn every_reading_call()
     ensures { ReadingCallsAreRuns }
 {}

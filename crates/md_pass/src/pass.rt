@@ -76,6 +76,7 @@ pub fn copy_pass<D: Device + Drop + Send, G: Gate + Sync, R: Threads + Wait + Sy
         → FailsToGive D.Device plan.now.slots sources.now devices.old.items devices.new.items role chunk }
 
     ensures devices { AreOnlyRead D.Device devices.old.items devices.new.items }
+    ensures capacity { vec_capacity devices.old ≤ vec_capacity devices.new }
     ensures target { KeepsBeside D.Device (copy_of plan.now.slots chunks offset) target.old target.new }
 {
     let slots = plan.slots.as_slice();
@@ -146,6 +147,7 @@ fn copy_readings<
         devices.old.items devices.new.items role chunk }
 
     ensures devices { AreOnlyRead D.Device devices.old.items devices.new.items }
+    ensures capacity { vec_capacity devices.old ≤ vec_capacity devices.new }
     ensures target { KeepsBeside D.Device (copying collector.old) target.old target.new }
 {
     let turns = turns_of(readings.as_slice());

@@ -21,6 +21,7 @@ pub(crate) fn put_back<D: Device + Drop, L: Ledger, M: Ledger>(
 
     ensures back { AreTaken devices.new.items places.now (map (λ lane. lane.device) lanes.old.items) devices.old.items }
     ensures count { length devices.new.items ≡ length devices.old.items + length places.now }
+    ensures capacity { vec_capacity devices.old ≤ vec_capacity devices.new }
     ensures none { lanes.new.items ≡ [] }
     ensures left { result.left ≡ rest.left + sum_by (λ lane. lane.share.left) lanes.old.items }
     ensures failed { result.failed ≡ rest.failed + sum_by (λ lane. lane.share.failed) lanes.old.items }

@@ -4,3 +4,5 @@ pub mod SummaryReport
 pub mod DetailReport
 -- The report of a rebuild's plan, as text, in a form of this project's own.
 pub mod PlanReport
+-- The report of a rebuild, as text, in a form of this project's own.
+pub mod RebuiltReport

@@ -1,11 +1,14 @@
-//! The reports on a whole array, as text: a mirror in short and in detail, and the plan of a rebuild.
+//! The reports on a whole array, as text: a mirror in short and in detail, the plan of a rebuild, and a
+//! rebuild that is done.
 #![tactic(auto)]
 
 mod detail_report;
 mod member_lines;
 mod plan_lines;
+mod rebuilt_lines;
 mod summary_report;
 
 pub use detail_report::detail;
 pub use plan_lines::plan_report;
+pub use rebuilt_lines::rebuilt_report;
 pub use summary_report::summary;

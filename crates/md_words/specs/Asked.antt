@@ -32,6 +32,8 @@ pub data Ask : Type 0 where
   performs : ArrayTask → Bool → Ask  -- whether no image may be changed
   removes : ℕ → Ask  -- the member with this index leaves the array
   adds : Text → Ask  -- the image under this name joins it
+  re_adds : Text → Ask  -- the image under this name, which left it, comes back and gets what it lacks
+  rebuilds : ℕ → Ask  -- the member with this index gets what it lacks
 
 -- whether the text is a number: one decimal digit or more, and nothing else
 abbrev pub is_number : Text → Bool
@@ -101,6 +103,8 @@ asks_of name rows =
     if bytes_eq name (codes "create") then creates (options_in rows)
     else if bytes_eq name (codes "remove") then removes (number_in 32 (codes "member") rows)
     else if bytes_eq name (codes "add") then adds (text_in (codes "device") rows)
+    else if bytes_eq name (codes "re-add") then re_adds (text_in (codes "device") rows)
+    else if bytes_eq name (codes "rebuild") then rebuilds (number_in 32 (codes "member") rows)
     else asks_by name (is_readonly rows) (task_of name rows) (change_of name rows)
 
 abbrev pub asks_in : Option (Text × List Row) → Ask
@@ -138,3 +142,5 @@ ask_of (action.Create options) = creates (options_of options)
 ask_of (action.Perform task readonly) = performs task readonly
 ask_of (action.Remove k) = removes k
 ask_of (action.Add device) = adds device.now
+ask_of (action.ReAdd device) = re_adds device.now
+ask_of (action.Rebuild k) = rebuilds k

@@ -96,7 +96,7 @@ with_version a = record a { top = record a.top { has_version = true } }
 abbrev pub required_command : App → App
 required_command a = record a { top = record a.top { subcommand_required = true } }
 
--- the commands on one image, those that make an array or show it, those on its data, and those by which its members change
+-- the commands on one image, those that make an array or show it, those on its data, and those by which members change
 abbrev pub with_examine_commands : App → App
 with_examine_commands a =
     with_subcommand
@@ -123,6 +123,13 @@ with_member_commands a =
     (with_subcommand (with_subcommand a (member_app (codes "fail")).top) (member_app (codes "remove")).top)
     (device_app (codes "add")).top
 
+-- the commands by which a member gets the data that it lacks
+abbrev pub with_rebuild_commands : App → App
+with_rebuild_commands a = with_subcommand (with_subcommand a (device_app (codes "re-add")).top) (member_app (codes "rebuild")).top
+
 -- the whole command line
 unfoldable pub mdcli : App
-mdcli = with_member_commands (with_data_commands (with_array_commands (with_examine_commands (required_command (with_version (new_app (codes "mdcli")))))))
+mdcli =
+    with_rebuild_commands
+    (with_member_commands
+    (with_data_commands (with_array_commands (with_examine_commands (required_command (with_version (new_app (codes "mdcli"))))))))

@@ -2,7 +2,7 @@
 ghost use Rattle.std.specs.Prelude.{◌≡◌, IfOk, false};
 ghost use Rattle.clap.specs.Words.{app_of, rule_of};
 ghost use Rattle.clap.specs.declared.builder.command.Command.TheViews.{out-Command as fields_of};
-ghost use Rattle.md_words.specs.Words.{create_app, array_app, bare_app, device_app, flag_rule, image_rule, mdcli, member_app, plan_app, read_app, required, u32_rule, u64_rule, with_images, with_member, with_optional, with_required, with_sector, value_rule, with_array_commands, with_data_commands, with_device, with_examine_commands, with_member_commands, write_app};
+ghost use Rattle.md_words.specs.Words.{create_app, array_app, bare_app, device_app, flag_rule, image_rule, mdcli, member_app, plan_app, read_app, required, u32_rule, u64_rule, with_images, with_member, with_optional, with_required, with_sector, value_rule, with_array_commands, with_data_commands, with_device, with_examine_commands, with_member_commands, with_rebuild_commands, write_app};
 
 use crate::help;
 use clap::builder::ValueParserFactory;
@@ -362,6 +362,25 @@ fn member_commands<'a>(alloc: Global, program: Command<'a>) -> Result<Command<'a
         .subcommand(add)
 }
 
+// The commands by which a member gets the data that it lacks.
+fn rebuild_commands<'a>(alloc: Global, program: Command<'a>) -> Result<Command<'a>, AllocError>
+    ensures { IfOk result (λ c. app_of c ≡ with_rebuild_commands (app_of program.entry)) }
+{
+    let re_add = device_command(
+        alloc,
+        "re-add",
+        "Takes an image back that left the array, rebuilds what it lacks, and stops the array",
+        help::RE_ADD,
+    )?;
+    let rebuild = member_command(
+        alloc,
+        "rebuild",
+        "Rebuilds a member from all others at once by its plan, and stops the array",
+        help::REBUILD,
+    )?;
+    program.subcommand(re_add)?.subcommand(rebuild)
+}
+
 // The commands on one image.
 fn examine_commands<'a>(alloc: Global, program: Command<'a>) -> Result<Command<'a>, AllocError>
     ensures { IfOk result (λ c. app_of c ≡ with_examine_commands (app_of program.entry)) }
@@ -401,5 +420,6 @@ pub(crate) fn command_line<'a>(alloc: Global) -> Result<Command<'a>, AllocError>
     let program = examine_commands(alloc, program)?;
     let program = array_commands(alloc, program)?;
     let program = data_commands(alloc, program)?;
-    member_commands(alloc, program)
+    let program = member_commands(alloc, program)?;
+    rebuild_commands(alloc, program)
 }

@@ -138,6 +138,12 @@ fn action_of<'a>(name: &str, found: &ArgMatches<'a>) -> Action<'a>
     if name == "add" {
         return Action::Add(text_of(found, "device"));
     }
+    if name == "re-add" {
+        return Action::ReAdd(text_of(found, "device"));
+    }
+    if name == "rebuild" {
+        return Action::Rebuild(member_of(found));
+    }
     if let Some(task) = task_of(name, found) {
         return Action::Perform(task, is_readonly(found));
     }

@@ -15,6 +15,11 @@ pub enum Action<'a> {
     /// The image under this name, which is none of those listed, joins the array that the images make, which
     /// is stopped then.
     Add(&'a str),
+    /// The image under this name, which is none of those listed, left the array that the images make. It comes
+    /// back, and gets what it lacks; the array is stopped then.
+    ReAdd(&'a str),
+    /// The member with this index gets what it lacks of the array that the images make, which is stopped then.
+    Rebuild(u32),
 }
 
 /// An action, and the image words.

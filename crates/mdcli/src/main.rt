@@ -2,6 +2,7 @@
 #![tactic(auto)]
 
 mod cleared;
+mod copying;
 mod files;
 mod progress;
 mod watched;
@@ -50,12 +51,14 @@ fn main(rt: HostRuntime) -> ExitCode {
     let mut input = Input::new(rt.stdin());
     let out = Cleared::new(io::writer(&rt), &progress);
     let status = run(
+        &rt,
         rt.alloc(),
         words.as_slice(),
         &mut FileImages::new(&rt, &progress),
         &mut input,
         &mut Buffered::new(rt.alloc(), Output::new(out)),
         &mut Cleared::new(err, &progress),
+        &progress,
         messages,
     );
     progress.clear();
@@ -70,6 +73,7 @@ fn watched_task(alloc: Global, words: &[&str]) -> Option<WatchedTask> {
             Some(WatchedTask::Read(count.saturating_mul(512)))
         }
         Action::Perform(ArrayTask::Resync, _) => Some(WatchedTask::Resync),
+        Action::Rebuild(_) | Action::ReAdd(_) => Some(WatchedTask::Rebuild),
         _ => None,
     }
 }

@@ -1,5 +1,9 @@
 // What a command that takes long shows of its progress.
+use crate::copying::Copying;
+use md_commands::{Gate, Watch};
+use std::alloc::AllocError;
 use std::io::Write;
+use std::string::String;
 use std::sync::atomic::{AtomicBool, AtomicU64, Ordering};
 use std::time::Instant;
 
@@ -11,8 +15,8 @@ const MIB: u64 = 1 << 20;
 // Goes to the first column, and clears the line.
 const CLEAR: &str = "\r\u{1b}[K";
 
-/// A line on a terminal that says how much a command has read of its images and written to them. It is
-/// drawn on standard error, at most ten times a second.
+/// A line on a terminal that says how much a command has read of its images and written to them, or how far
+/// a rebuild is. It is drawn on standard error, at most ten times a second.
 #[derive(Drop)]
 pub struct Progress<'a> {
     rt: &'a HostRuntime,
@@ -21,6 +25,7 @@ pub struct Progress<'a> {
     began: Option<Instant>,
     read: AtomicU64,
     written: AtomicU64,
+    copying: Copying,
     // In milliseconds after the beginning, when the line may be drawn again.
     due: AtomicU64,
     is_shown: AtomicBool,
@@ -32,6 +37,8 @@ pub enum WatchedTask {
     /// So many bytes of the array are read.
     Read(u64),
     Resync,
+    /// Chunks are copied to a member.
+    Rebuild,
 }
 
 impl<'a> Progress<'a> {
@@ -42,6 +49,7 @@ impl<'a> Progress<'a> {
             began: Instant::now(rt).ok(),
             read: AtomicU64::new(0),
             written: AtomicU64::new(0),
+            copying: Copying::new(),
             due: AtomicU64::new(0),
             is_shown: AtomicBool::new(false),
         }
@@ -70,16 +78,27 @@ impl<'a> Progress<'a> {
         let Some(task) = self.task else {
             return;
         };
+        if self.is_early(task) {
+            return;
+        }
         let Some(now) = self.milliseconds() else {
             return;
         };
-        if now < self.due.load(Ordering::SeqCst) {
+        let due = self.due.load(Ordering::SeqCst);
+        let next = now.saturating_add(MILLISECONDS);
+        // Of several workers that come here at once one draws.
+        let order = Ordering::SeqCst;
+        if now < due || self.due.compare_exchange(due, next, order, order).is_err() {
             return;
         }
-        self.due
-            .store(now.saturating_add(MILLISECONDS), Ordering::SeqCst);
         self.is_shown.store(true, Ordering::SeqCst);
-        self.draw(task);
+        self.draw(task, now);
+    }
+
+    // Before a rebuild begins little but metadata is read, unless a resync comes first.
+    fn is_early(&self, task: WatchedTask) -> bool {
+        let is_rebuild = matches!(task, WatchedTask::Rebuild);
+        is_rebuild && !self.copying.has_begun() && self.read.load(Ordering::SeqCst) < MIB
     }
 
     fn milliseconds(&self) -> Option<u64> {
@@ -94,9 +113,15 @@ impl<'a> Progress<'a> {
     }
 
     // The line goes out in one write.
-    fn draw(&self, task: WatchedTask) {
+    fn draw(&self, task: WatchedTask, now: u64) {
+        if let Ok(line) = self.line(task, now) {
+            let _ = self.rt.stderr().write_all(line.as_bytes());
+        }
+    }
+
+    fn line(&self, task: WatchedTask, now: u64) -> Result<String, AllocError> {
         let read = self.read.load(Ordering::SeqCst);
-        let line = match task {
+        match task {
             WatchedTask::Read(bytes) => {
                 format!(in self.rt.alloc();
                     "{CLEAR}read: {} of {} MiB",
@@ -104,17 +129,40 @@ impl<'a> Progress<'a> {
                     bytes / MIB
                 )
             }
-            WatchedTask::Resync => {
-                let written = self.written.load(Ordering::SeqCst);
-                format!(in self.rt.alloc();
-                    "{CLEAR}resync: {} MiB read, {} MiB written",
-                    read / MIB,
-                    written / MIB
-                )
-            }
-        };
-        if let Ok(line) = line {
-            let _ = self.rt.stderr().write_all(line.as_bytes());
+            WatchedTask::Resync => self.traffic("resync", read),
+            WatchedTask::Rebuild => match self.copying.line(self.rt.alloc(), now, read) {
+                Some(far) => format!(in self.rt.alloc(); "{CLEAR}rebuild: {}", far?),
+                None => self.traffic("rebuild", read),
+            },
         }
+    }
+
+    // How much was read and written.
+    fn traffic(&self, what: &str, read: u64) -> Result<String, AllocError> {
+        let written = self.written.load(Ordering::SeqCst);
+        format!(in self.rt.alloc();
+            "{CLEAR}{what}: {} MiB read, {} MiB written",
+            read / MIB,
+            written / MIB
+        )
+    }
+}
+
+impl<'a> Gate for Progress<'a> {
+    fn before_read(&self, _source: u8, _chunk: u32) {}
+
+    fn after_read(&self, _source: u8, _chunk: u32) {
+        self.copying.count();
+        self.draw_if_due();
+    }
+}
+
+impl<'a> Watch for Progress<'a> {
+    fn begins(&self, chunks: u32) {
+        let Some(now) = self.milliseconds() else {
+            return;
+        };
+        let read = self.read.load(Ordering::SeqCst);
+        self.copying.begin(chunks, now, read);
     }
 }

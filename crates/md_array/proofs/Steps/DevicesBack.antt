@@ -60,7 +60,7 @@ unrebuilt (Stale role) h = absurd cc
 unrebuilt Spare h = absurd cc
 unrebuilt Faulty h = absurd cc
 
-same_super : (m : MemberView) (d e : Disk) → e.content ≡ d.content → HasSuper m d → HasSuper m e
+pub same_super : (m : MemberView) (d e : Disk) → e.content ≡ d.content → HasSuper m d → HasSuper m e
 same_super m d e same has = record {
   super = has.super;
   is = ap (λ (c : List ℕ). super_in (block_on c)) same ∙ has.is;
@@ -108,7 +108,7 @@ module _ (old : MirrorView) (before after : List Disk) (b : AreBack old before a
 
   module _ (m : MemberView) (d e : Disk) (back : ComesBack a m d e) (has : HasParts a m d.content) where
     -- bytes that lie beside the data are as they were
-    beside : (at n : ℕ) → (at + n ≤ 512 * m.superblock.data_offset) ⊎ (512 * (m.superblock.data_offset + a.chunks.size) ≤ at) → part e.content at n ≡ part d.content at n
+    pub beside : (at n : ℕ) → (at + n ≤ 512 * m.superblock.data_offset) ⊎ (512 * (m.superblock.data_offset + a.chunks.size) ≤ at) → part e.content at n ≡ part d.content at n
     beside at n out = back.beside at n (λ c low missing.
         beside_data a.chunks m.superblock.data_offset at n c
         (chunk_starts_inside a.chunks.size a.chunks.sectors c b.consistent.chunks.wide (subst (λ (x : ℕ). c < x) b.consistent.chunks.count low)) out)
@@ -116,22 +116,22 @@ module _ (old : MirrorView) (before after : List Disk) (b : AreBack old before a
     holds : a.chunks.size ≤ m.superblock.data_size
     holds = subst (λ (x : ℕ). x ≤ m.superblock.data_size) has.size has.placed.data_holds
 
-    in_area : (x : Area) (start : ℕ) → x.start ≡ pos start → AreApart (data_area m.superblock) x → (at n : ℕ) → 512 * start ≤ at → at + n ≤ 512 * (start + x.sectors)
+    pub in_area : (x : Area) (start : ℕ) → x.start ≡ pos start → AreApart (data_area m.superblock) x → (at n : ℕ) → 512 * start ≤ at → at + n ≤ 512 * (start + x.sectors)
         → part e.content at n ≡ part d.content at n
     in_area x start is apart at n from to = beside at n
         (within_either (512 * start) (512 * (start + x.sectors)) at n (512 * m.superblock.data_offset) (512 * (m.superblock.data_offset + a.chunks.size)) from to
         (apart_from_data m.superblock x start a.chunks.size is holds apart))
 
-    block_back : block_on e.content ≡ block_on d.content
+    pub block_back : block_on e.content ≡ block_on d.content
     block_back = in_area super_area 8 refl (apart_either_way super_area (data_area m.superblock) has.placed.data_apart) 4096 4096 (omega arith) (omega arith)
 
-    log_back : IsLogKept m.superblock d.content e.content
+    pub log_back : IsLogKept m.superblock d.content e.content
     log_back there =
         let log = has.placed.log there in
         in_area (log_area m.superblock) (from_super m.superblock.bblog_offset) (sector_at_is (log_area m.superblock).start log.within.from) log.from_data
         (512 * from_super m.superblock.bblog_offset) (512 * m.superblock.bblog_size) (omega arith) (omega arith)
 
-    header_back : header_on e.content (from_super m.superblock.bitmap_offset) ≡ header_on d.content (from_super m.superblock.bitmap_offset)
+    pub header_back : header_on e.content (from_super m.superblock.bitmap_offset) ≡ header_on d.content (from_super m.superblock.bitmap_offset)
     header_back =
         let width : ℕ = bitmap_sectors m.stored.chunks in
         let some = div_ceil_times (256 + div_ceil m.stored.chunks 8) 512 (omega arith) in

@@ -94,6 +94,7 @@ module _ (a : ArrayView) (number sectors : ℕ) (laid : NewMember) (spare : IsSp
           bitmap_offset = ap (λ (x : Superblock). x.bitmap_offset) same;
           bblog_size = ap (λ (x : Superblock). x.bblog_size) same;
           bblog_offset = ap (λ (x : Superblock). x.bblog_offset) same;
+          bblog_shift = λ _. ap (λ (x : Superblock). x.bblog_shift) same;
           listed = λ sector. same_log u v now sector
               (ap (λ (x : Superblock). x.feature_map) same) (ap (λ (x : Superblock). x.bblog_shift) same) (ap (λ (x : Superblock). x.bblog_size) same) (ap (λ (x : Superblock). x.bblog_offset) same);
           no_newer = let events : u.events ≡ a.shared.events + 1 = ap (λ (x : Superblock). x.events) same ∙ s.events in omega arith;

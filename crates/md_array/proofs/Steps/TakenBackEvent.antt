@@ -50,7 +50,7 @@ use Rattle.md_array.proofs.Worlds.Risen.{full_as_told, risen_role}
 use Rattle.md_array.proofs.Worlds.Shown.{at_is, at_past, by_member}
 use Rattle.md_array.proofs.Worlds.Supers.{device_super}
 
-takes_own : (s : MemberState) → is_active s ≡ true → (role : ℕ) × (takes_role role s ≡ true)
+pub takes_own : (s : MemberState) → is_active s ≡ true → (role : ℕ) × (takes_role role s ≡ true)
 takes_own (InSync role) e = (role, eq-eqb role role refl)
 takes_own (Recovering role) e = (role, eq-eqb role role refl)
 takes_own (Stale role) e = absurd cc

@@ -24,7 +24,7 @@ in_run run sector = (
 )
 
 -- the test of a sector, and the set that runs stand for
-bad_from_test : (runs : List Run) (sector : ℕ) → lies_in runs sector ≡ true → IsBad runs sector
+pub bad_from_test : (runs : List Run) (sector : ℕ) → lies_in runs sector ≡ true → IsBad runs sector
 bad_from_test [] sector e = absurd cc
 bad_from_test (run ∷ runs) sector e = one_of (nat_le run.start sector && nat_lt sector (run.start + run.len)) (in_run run sector).0 (bad_from_test runs sector) e
   where
@@ -32,7 +32,7 @@ bad_from_test (run ∷ runs) sector e = one_of (nat_le run.start sector && nat_l
     one_of true p q h = inl (p refl)
     one_of false p q h = inr (q h)
 
-test_from_bad : (runs : List Run) (sector : ℕ) → IsBad runs sector → lies_in runs sector ≡ true
+pub test_from_bad : (runs : List Run) (sector : ℕ) → IsBad runs sector → lies_in runs sector ≡ true
 test_from_bad [] sector h = absurd h
 test_from_bad (run ∷ runs) sector (inl here) = ap (λ b. b || lies_in runs sector) ((in_run run sector).1 here)
 test_from_bad (run ∷ runs) sector (inr later) = rw (test_from_bad runs sector later) (or-true (nat_le run.start sector && nat_lt sector (run.start + run.len)))
@@ -81,7 +81,7 @@ listed_is_bad content v (run ∷ runs) sector (inl log) =
     )
 listed_is_bad content v (run ∷ runs) sector (inr none) = let empty = none.1 in absurd cc
 
-same_test : {P : Type 0} (a b : Bool) → (a ≡ true ↔ P) → (b ≡ true ↔ P) → a ≡ b
+pub same_test : {P : Type 0} (a b : Bool) → (a ≡ true ↔ P) → (b ≡ true ↔ P) → a ≡ b
 same_test a b f g = by_test b
     (λ is. f.1 (g.0 is) ∙ sym is)
     (λ isnt. by_test a (λ is. absurd (true≢false (sym (g.1 (f.0 is)) ∙ isnt))) (λ neither. neither ∙ sym isnt))

@@ -82,7 +82,7 @@ module _ (a : ArrayView) (m : MemberView) (role : ℕ) (small : m.superblock.dev
   entries_are : entries_with a number ≡ max (length a.shared.roles) (number + 1)
   entries_are = grind (arith, nat_tests)
 
-  count_roles : length b.shared.roles ≡ entries_with a number
+  pub count_roles : length b.shared.roles ≡ entries_with a number
   count_roles = length-map-range_with_len (role_after a number role) 0 (entries_with a number)
 
   pub role_joined : (d : ℕ) → role_in b.shared d ≡ put number role (role_in up.shared) d
@@ -254,7 +254,7 @@ module _ (a : ArrayView) (m : MemberView) (role : ℕ) (small : m.superblock.dev
   stored_joined (Some x) None = refl
   stored_joined (Some x) (Some d) = refl
 
-  grew : (n : ℕ) → cond (nat_lt number 1920) (max n (number + 1)) n ≡ cond (nat_lt number n || leb 1920 number) n (number + 1)
+  pub grew : (n : ℕ) → cond (nat_lt number 1920) (max n (number + 1)) n ≡ cond (nat_lt number n || leb 1920 number) n (number + 1)
   grew n = grind (arith, nat_tests)
 
   turned : (n e : ℕ) → (eqb n e || false) ≡ eqb e n

@@ -19,7 +19,7 @@ use Rattle.md_array.proofs.Worlds.Supers.{super_shown}
 use Rattle.md_array.proofs.General.Tests.{and_same}
 
 -- ---- by the superblock that is read there
-bit_read : (own v : Superblock) (content : List ℕ) → IsSuper (block_on content) v → NoFault (block_on content) → reads_log_on own content ≡ (has_bad_blocks v && has_bad_block_log own)
+pub bit_read : (own v : Superblock) (content : List ℕ) → IsSuper (block_on content) v → NoFault (block_on content) → reads_log_on own content ≡ (has_bad_blocks v && has_bad_block_log own)
 bit_read own v content fields sound =
     ap (λ o. list_bit own (block_on content) o && has_bad_block_log own) (super_shown (block_on content) v fields sound)
     ∙ (λ i. not (bit_and (sym fields.feature_map i) 8 == 0) && has_bad_block_log own)

@@ -32,25 +32,28 @@ pub apart_either_way : (a b : Area) → AreApart a b → AreApart b a
 apart_either_way a b (inl before) = inr before
 apart_either_way a b (inr behind) = inl behind
 
-apart : (p q : ℤ) (s start m n : ℕ) → p ≡ pos s → q ≡ pos start → ((p +ℤ pos m) ≤ℤ q) ⊎ ((q +ℤ pos n) ≤ℤ p) → (s + m ≤ start) ⊎ (start + n ≤ s)
+pub apart : (p q : ℤ) (s start m n : ℕ) → p ≡ pos s → q ≡ pos start → ((p +ℤ pos m) ≤ℤ q) ⊎ ((q +ℤ pos n) ≤ℤ p) → (s + m ≤ start) ⊎ (start + n ≤ s)
 apart p q s start m n e f (inl h) = inl (omega (arith, ints))
 apart p q s start m n e f (inr h) = inr (omega (arith, ints))
 
--- one byte outside of what may differ
-pub byte_stays : (at n p : ℕ) (old new : List ℕ) → SameOutside at n old new → (p < at) ⊎ (at + n ≤ p) → slice_index new p ≡ slice_index old p
-byte_stays at n p old new same where_is =
+-- one byte
+pub byte_of_part : (p : ℕ) (old new : List ℕ) → part new p 1 ≡ part old p 1 → slice_index new p ≡ slice_index old p
+byte_of_part p old new same =
     let whole : p + 0 ≡ p = omega arith in
     let one : (xs : List ℕ) → slice_index (part xs p 1) 0 ≡ slice_index xs p = λ xs. slice_index-part xs p 1 0 (omega arith) ∙ ap (slice_index xs) whole in
-    sym (one new)
-    ∙ ap (λ (xs : List ℕ). slice_index xs 0) (elim where_is [
+    sym (one new) ∙ ap (λ (xs : List ℕ). slice_index xs 0) same ∙ one old
+
+-- one outside of what may differ
+pub byte_stays : (at n p : ℕ) (old new : List ℕ) → SameOutside at n old new → (p < at) ⊎ (at + n ≤ p) → slice_index new p ≡ slice_index old p
+byte_stays at n p old new same where_is =
+    byte_of_part p old new (elim where_is [
       | inl before ↦ part_before same p 1 (omega arith)
       | inr behind ↦ part_after same p 1 (omega arith)
     ])
-    ∙ one old
 
 -- the area that is written, from this sector on
 module _ (written : Area) (start : ℕ) (at : written.start ≡ pos start) (old new : List ℕ) (same : SameOutside (512 * start) (512 * written.sectors) old new) where
-  stays : (a : Area) (s : ℕ) → a.start ≡ pos s → AreApart a written → (i m : ℕ) → 512 * s ≤ i → i + m ≤ 512 * (s + a.sectors) → part new i m ≡ part old i m
+  pub stays : (a : Area) (s : ℕ) → a.start ≡ pos s → AreApart a written → (i m : ℕ) → 512 * s ≤ i → i + m ≤ 512 * (s + a.sectors) → part new i m ≡ part old i m
   stays a s e h i m from to =
       elim (apart a.start written.start s start a.sectors written.sectors e at h) [
         | inl before ↦ part_before same i m (omega arith)

@@ -42,7 +42,7 @@ parts_of v c k d m at_disk at_member =
       count = c.chunks.member_count k m at_member;
     }
 
-same_if : {A : Type 0} (b : Bool) (x y z : A) → (b ≡ true → x ≡ y) → cond b x z ≡ cond b y z
+pub same_if : {A : Type 0} (b : Bool) (x y z : A) → (b ≡ true → x ≡ y) → cond b x z ≡ cond b y z
 same_if true x y z h = h refl
 same_if false x y z h = refl
 

@@ -36,7 +36,7 @@ log_kept_as v own old new size offset kept there =
     ∙ kept (sym same ∙ there)
     ∙ sym (λ i. part old (512 * from_super (offset i)) (512 * size i))
 
-super_was : (old new : List ℕ) (v : Superblock) → block_on new ≡ block_on old → IsSuperOn new v → IsSuperOn old v
+pub super_was : (old new : List ℕ) (v : Superblock) → block_on new ≡ block_on old → IsSuperOn new v → IsSuperOn old v
 super_was old new v block on = record { fields = subst (λ (b : List ℕ). IsSuper b v) block on.fields; sound = subst NoFault block on.sound }
 
 -- where what is read there was read before
@@ -51,6 +51,7 @@ own_stays_as shared own old new reads log has v on =
       bitmap_offset = was.bitmap_offset;
       bblog_size = was.bblog_size;
       bblog_offset = was.bblog_offset;
+      bblog_shift = was.bblog_shift;
       listed = λ sector.
           let there = reads v on in
           listed_read_both v old new (log_kept_as v own old new was.bblog_size was.bblog_offset log) sector v there.fields there.sound on.fields on.sound
@@ -95,6 +96,7 @@ own_written_as a m content r reads v on =
       bitmap_offset = spelled.bitmap_offset ∙ sym own.bitmap_offset;
       bblog_size = spelled.bblog_size ∙ sym own.bblog_size;
       bblog_offset = spelled.bblog_offset ∙ sym own.bblog_offset;
+      bblog_shift = λ _. spelled.bblog_shift ∙ sym own.bblog_shift;
       listed = λ sector. same_log v m.superblock content sector
           (spelled.feature_map ∙ sym own.feature_map) (spelled.bblog_shift ∙ sym own.bblog_shift) (spelled.bblog_size ∙ sym own.bblog_size) (spelled.bblog_offset ∙ sym own.bblog_offset);
       no_newer = let same : v.events ≡ a.shared.events = spelled.events ∙ sym own.events in omega arith;
@@ -127,6 +129,7 @@ own_in a b m n content same like has =
       bitmap_offset = was.bitmap_offset;
       bblog_size = was.bblog_size;
       bblog_offset = was.bblog_offset;
+      bblog_shift = was.bblog_shift;
       listed = was.listed;
       no_newer = let low = was.no_newer in omega arith;
     })

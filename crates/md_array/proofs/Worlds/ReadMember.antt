@@ -1,6 +1,7 @@
 -- The device of a member that was read, beside what is kept of it.
-use Rattle.std.proofs.Common.{◌≡◌, ℕ, ◌*◌, ◌/◌, ◌<◌, ◌≤◌, true, nat_lt, List, Some, refl, sym, ap, ◌∙◌, subst, arith, ◌&&◌}
+use Rattle.std.proofs.Common.{◌≡◌, ℕ, ◌*◌, ◌/◌, ◌<◌, ◌≤◌, true, not, ◌==◌, bit_and, pos, if◌then◌else◌, nat_lt, List, Some, refl, sym, ap, ◌∙◌, subst, arith, ◌&&◌}
 use Rattle.std.specs.Int.{div_ceil}
+use Rattle.std.specs.Ordering.{int_eq}
 use Rattle.std.proofs.lemmas.Grind.{div_ceil_times}
 use Rattle.md_super.specs.declared.superblock.Superblock.{Superblock}
 use Rattle.md_super.specs.Faults.{NoFault}
@@ -10,6 +11,7 @@ use Rattle.md_members.specs.declared.info.MemberInfo.{MemberInfo}
 use Rattle.md_members.specs.Areas.{BitmapIsPlaced, IsPlaced, bitmap_sectors}
 use Rattle.md_members.specs.Reading.{BitmapStartsAt, chunks_of}
 use Rattle.md_members.specs.Members as members
+use Rattle.md_members.specs.Members.{reads_log}
 use Rattle.md_members.specs.Members.{IsAccepted, sectors_of}
 use Rattle.md_assembly.specs.States.{is_recorded, state_of}
 use Rattle.md_model.specs.Devices.{is_accepted}
@@ -145,6 +147,14 @@ module _ (a : ArrayView) (m : MemberView) (info : MemberInfo) (content : List �
         bitmap_offset = spelled.bitmap_offset ∙ sym info_on.bitmap_offset ∙ sym (ap (λ (x : Superblock). x.bitmap_offset) kept);
         bblog_size = spelled.bblog_size ∙ sym info_on.bblog_size ∙ sym (ap (λ (x : Superblock). x.bblog_size) kept);
         bblog_offset = spelled.bblog_offset ∙ sym info_on.bblog_offset ∙ sym (ap (λ (x : Superblock). x.bblog_offset) kept);
+        bblog_shift = λ reads.
+            let features : v.feature_map ≡ info.superblock.feature_map = spelled.feature_map ∙ sym info_on.feature_map in
+            let size : v.bblog_size ≡ info.superblock.bblog_size = spelled.bblog_size ∙ sym info_on.bblog_size in
+            let offset : v.bblog_offset ≡ info.superblock.bblog_offset = spelled.bblog_offset ∙ sym info_on.bblog_offset in
+            let same : reads_log v ≡ reads_log info.superblock = λ i. not (bit_and (features i) 8 == 0) && (not (size i == 0) && not (int_eq (offset i) (pos 0))) in
+            spelled.bblog_shift ∙ sym info_on.bblog_shift
+            ∙ sym (ap (λ b. if b then info.superblock.bblog_shift else 0) (sym same ∙ reads))
+            ∙ sym (ap (λ (x : Superblock). x.bblog_shift) kept);
         listed = λ sector.
             same_log v info.superblock content sector
             (spelled.feature_map ∙ sym info_on.feature_map) (spelled.bblog_shift ∙ sym info_on.bblog_shift) (spelled.bblog_size ∙ sym info_on.bblog_size) (spelled.bblog_offset ∙ sym info_on.bblog_offset)

@@ -5,7 +5,11 @@ use Rattle.md_state.specs.View.{MirrorView}
 use Rattle.md_array.specs.InTurn.{AllLeftWhole, InTurn, Requests}
 use Rattle.md_array.specs.Worlds.{AreHonest}
 use Rattle.md_laws.specs.Runs.{MirrorRun, Moment, then_as}
-use Rattle.md_laws.specs.WholeCalls.{AddIsACall, CallsAreRuns, FailIsACall, ReAddIsACall, RemoveIsACall, RunsGoOn}
+use Rattle.md_laws.specs.WholeCalls.{AddIsACall, CallsAreRuns, EnrolIsACall, FailIsACall, FillIsACall, PrepareIsACall, ReAddIsACall, RemoveIsACall, RunsGoOn, TargetFailureIsACall}
+use Rattle.md_array.proofs.Rebuilding.EnrolledEvent.{enrol_leads}
+use Rattle.md_array.proofs.Rebuilding.FilledEvent.{fill_happens}
+use Rattle.md_array.proofs.Rebuilding.PreparedEvent.{prepare_happens}
+use Rattle.md_array.proofs.Rebuilding.TargetEvent.{target_fails_happens}
 use Rattle.md_array.proofs.Steps.MemberFailed.{fail_happens}
 use Rattle.md_array.proofs.Steps.MemberRemoved.{remove_happens}
 use Rattle.md_array.proofs.Steps.SpareEvent.{add_happens}
@@ -45,3 +49,21 @@ re_add_is_a_call k device old new sound own r previous requests listed =
 pub add_is_a_call : AddIsACall
 add_is_a_call k device old new sound own r previous requests listed =
     (new, requests, tt, (refl, record { index = k; device = device; adds = r; event = refl }), λ honest whole. add_happens k device old new sound r own honest requests listed, (refl, refl))
+
+-- ---- a rebuild
+pub fill_is_a_call : FillIsACall
+fill_is_a_call k old new sound fills previous requests listed =
+    (new, requests, tt, (refl, fills), λ honest whole. fill_happens k old new sound fills honest requests listed, (refl, refl))
+
+pub target_failure_is_a_call : TargetFailureIsACall
+target_failure_is_a_call k old new sound fails previous requests listed =
+    let m = fails.leaves.member in
+    let at = fails.leaves.may.at in
+    (new, requests, tt, (refl, fails), λ honest whole. target_fails_happens k old new sound fails m at (whole m at) honest requests listed, (refl, refl))
+
+pub prepare_is_a_call : PrepareIsACall
+prepare_is_a_call k old new sound prepares previous requests listed =
+    (new, requests, tt, (refl, prepares), λ honest whole. prepare_happens k old new sound prepares honest requests listed, (refl, refl))
+
+pub enrol_is_a_call : EnrolIsACall
+enrol_is_a_call k copied orphans old new before after may ends r previous requests listed = enrol_leads k copied orphans old new before after may ends r previous requests listed

@@ -10,36 +10,10 @@ use Rattle.md_model.proofs.Content.ContentAlong.{after_event}
 use Rattle.md_model.proofs.Content.ContentLives.{IsHeld, held_opened}
 use Rattle.md_model.proofs.Content.Contents.{holds_step}
 use Rattle.md_model.proofs.Steps.Keeps.{kept_step}
-use Rattle.md_state.specs.View.{Disk, MirrorView}
-use Rattle.md_array.specs.Events.{WritesOnce}
+use Rattle.md_state.specs.View.{MirrorView}
 use Rattle.md_array.specs.Worlds.{geometry_of, none_in_flight, super_of, world_of}
-use Rattle.md_laws.specs.Runs.{MirrorRun, MirrorRunWith, Moment, history_of, opened_as, then_as}
+use Rattle.md_laws.specs.Runs.{MirrorRun, MirrorRunTells, MirrorRunWith, Moment, history_of, opened_as, then_as}
 use Rattle.md_laws.proofs.Runs.Rests.{history_rests, rests_does}
-
--- no member is enrolled by any of these
-no_enrolment : (e : Event) (before after : List Disk) → WritesOnce e before after → (g : Geometry) (world : World) (a : Content) → Tells g e world a
-no_enrolment (Event.Begin n p) before after w g world a = tt
-no_enrolment (Event.Record k) before after w g world a = tt
-no_enrolment (Event.StoreMarks k b) before after w g world a = tt
-no_enrolment (Event.WriteMember n k) before after w g world a = tt
-no_enrolment (Event.Finish n) before after w g world a = tt
-no_enrolment (Event.ClearIdle c) before after w g world a = tt
-no_enrolment (Event.Fail k) before after w g world a = tt
-no_enrolment (Event.RecordFails k) before after w g world a = tt
-no_enrolment (Event.StoreMarksFails k b) before after w g world a = tt
-no_enrolment (Event.WriteMemberFails n k) before after w g world a = tt
-no_enrolment (Event.CopyFails k c) before after w g world a = tt
-no_enrolment (Event.Copy from k s) before after w g world a = tt
-no_enrolment Event.Resynced before after w g world a = tt
-no_enrolment Event.Unresynced before after w g world a = tt
-no_enrolment Event.MakeClean before after w g world a = tt
-no_enrolment (Event.Remove k) before after w g world a = tt
-no_enrolment (Event.Add d left) before after w g world a = tt
-no_enrolment (Event.ReAdd own device left) before after w g world a = tt
-no_enrolment (Event.Fill k) before after w g world a = tt
-no_enrolment (Event.Prepare k) before after w g world a = tt
-no_enrolment (Event.RecordTargetFails k) before after w g world a = tt
-no_enrolment (Event.Enrol k role listed) before after w g world a = absurd w
 
 module _ (m : MirrorView) (start : runs.IsStart (geometry_of m.array) (super_of m.array.shared) (world_of m none_in_flight)) where
   abbrev g : Geometry
@@ -52,24 +26,25 @@ module _ (m : MirrorView) (start : runs.IsStart (geometry_of m.array) (super_of 
   first = world_of m none_in_flight
 
   along : (es : List Event) (t : Moment) (a : Content) (last : Moment) → geometry_of t.mirror.array ≡ g → IsHeld g opened (history_of t) a
-      → MirrorRun t es last → (b : Content) × MirrorRunWith t a es last b × IsHeld g opened (history_of last) b
-  along [] t a last same held r = (a, (r, refl), subst (λ h. IsHeld g opened h a) (sym (history_rests t last r)) held)
-  along (e ∷ es) t a last same held r =
+      → (r : MirrorRun t es last) → MirrorRunTells t a es last r → (b : Content) × MirrorRunWith t a es last b × IsHeld g opened (history_of last) b
+  along [] t a last same held r told = (a, (r, refl), subst (λ h. IsHeld g opened h a) (sym (history_rests t last r)) held)
+  along (e ∷ es) t a last same held r told =
       let h = history_of t in
       let w = world_of r.0 r.1 in
       let leads = rests_does t.mirror r.0 t.requests r.1 e r.2 in
       let s = subst (λ x. Step x h.now e w) same leads.step in
-      let c = after_event g start.small opened h e w a held (no_enrolment e r.2.mid.disks r.0.disks r.2.does.writes g h.now a) s.1 in
+      let c = after_event g start.small opened h e w a held (subst (λ x. Tells x e h.now a) same told.0) s.1 in
       let next = then_as t e r.0 r.1 in
+      let becomes = subst (λ x. Becomes x e h.now a c.0) (sym same) c.1 in
       let more = along es next c.0 last (leads.geometry ∙ same)
       (record { kept = kept_step g start.small opened h e w held.kept s; holds = holds_step g a c.0 h.now e w held.kept.tracked held.holds s c.1 })
-      r.3 in
-      (more.0, (r.0, r.1, c.0, r.2, subst (λ x. Becomes x e h.now a c.0) (sym same) c.1, more.1), more.2)
+      r.3 (told.1 c.0 becomes) in
+      (more.0, (r.0, r.1, c.0, r.2, becomes, more.1), more.2)
 
   -- from the opening on
-  pub content_along : (es : List Event) (a : Content) (last : Moment) → Holds g a first → MirrorRun (opened_as m) es last
-      → (b : Content) × MirrorRunWith (opened_as m) a es last b × IsHeld g opened (history_of last) b
-  content_along es a last holds r = along es (opened_as m) a last refl (held_opened g opened first a start holds) r
+  pub content_along : (es : List Event) (a : Content) (last : Moment) → Holds g a first → (r : MirrorRun (opened_as m) es last)
+      → MirrorRunTells (opened_as m) a es last r → (b : Content) × MirrorRunWith (opened_as m) a es last b × IsHeld g opened (history_of last) b
+  content_along es a last holds r told = along es (opened_as m) a last refl (held_opened g opened first a start holds) r told
 
   pub held : (es : List Event) (t : Moment) (a : Content) (last : Moment) (b : Content) → geometry_of t.mirror.array ≡ g → IsHeld g opened (history_of t) a
       → MirrorRunWith t a es last b → IsHeld g opened (history_of last) b

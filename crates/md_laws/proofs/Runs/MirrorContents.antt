@@ -13,7 +13,7 @@ use Rattle.md_model.proofs.Lives.Lives.{start_again}
 use Rattle.md_model.proofs.Content.Picked.{has_content_again}
 use Rattle.md_state.specs.View.{Disk, MirrorView}
 use Rattle.md_array.specs.Worlds.{geometry_of, none_in_flight, super_of, world_of}
-use Rattle.md_laws.specs.Lives.{ContentGoesAlong, IsReopened, KeepsContent, MirrorLife, MirrorLifeWith}
+use Rattle.md_laws.specs.Lives.{ContentGoesAlong, IsReopened, KeepsContent, MirrorLife, MirrorLifeTells, MirrorLifeWith}
 use Rattle.md_laws.specs.Runs.{HasContent, IsStart, MirrorRun, Moment, history_of, opened_as}
 use Rattle.md_laws.proofs.Runs.MirrorLives.{left, reopens}
 use Rattle.md_laws.proofs.Runs.Moments.{IsSoundAt, geometry_kept, run_keeps, sound_when_opened}
@@ -79,17 +79,17 @@ module _ (m : MirrorView) (begins : Begins m) (es : List Event) (t : Moment) (r 
 
 -- ---- lives
 life_along : (m : MirrorView) (a : Content) → Begins m → Holds (geometry_of m.array) a (world_of m none_in_flight)
-    → (es : List Event) (rest : List (List Event)) (final : MirrorView) (last : Moment) → MirrorLife m es rest final last
-    → (b : Content) × MirrorLifeWith m a es rest final last b
-life_along m a begins holds es [] final last life =
-    let x = run.content_along m begins.start es a last holds life.1 in
+    → (es : List Event) (rest : List (List Event)) (final : MirrorView) (last : Moment) (life : MirrorLife m es rest final last)
+    → MirrorLifeTells m a es rest final last life → (b : Content) × MirrorLifeWith m a es rest final last b
+life_along m a begins holds es [] final last life told =
+    let x = run.content_along m begins.start es a last holds life.1 told in
     (x.0, (life.0, x.1))
-life_along m a begins holds es (more ∷ rest) final last life =
+life_along m a begins holds es (more ∷ rest) final last life told =
     let t = life.0 in
     let next = life.1 in
-    let x = run.content_along m begins.start es a t holds life.2 in
+    let x = run.content_along m begins.start es a t holds life.2 told.0 in
     let d = content_again m begins es t life.2 next life.3 x.0 x.2 in
-    let y = life_along next d.0 (begins_again m begins es t life.2 next life.3 x.0 x.2) d.1.holds more rest final last life.4 in
+    let y = life_along next d.0 (begins_again m begins es t life.2 next life.3 x.0 x.2) d.1.holds more rest final last life.4 (told.1 x.0 d.0 x.1 d.1) in
     (y.0, (t, next, x.0, d.0, x.1, life.3, d.1, y.1))
 
 life_held : (m : MirrorView) (a : Content) → Begins m → Holds (geometry_of m.array) a (world_of m none_in_flight)

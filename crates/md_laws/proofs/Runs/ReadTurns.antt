@@ -56,8 +56,8 @@ left_whole (Event.Add d left) old new is = tt
 left_whole (Event.ReAdd own device left) old new is = tt
 left_whole (Event.Fill k) old new is = tt
 left_whole (Event.Prepare k) old new is = tt
-left_whole (Event.RecordTargetFails k) old new is = tt
-left_whole (Event.Enrol k role listed) old new is = tt
+left_whole (Event.RecordTargetFails k) old new is = absurd is
+left_whole (Event.Enrol k role listed) old new is = absurd is
 
 -- a call's events go on with a mirror's run
 pub read_run : (es : List Event) (previous : Option Event) (h : Moment) (Then : MirrorView → Requests → Type 0) → ReadInTurn previous h.mirror h.requests es Then

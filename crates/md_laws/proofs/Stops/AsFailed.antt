@@ -1,9 +1,9 @@
 -- What a stop leaves within the write of an event: devices that the event might leave at its end, or that a torn write leaves.
-use Rattle.std.proofs.Common.{◌≡◌, ◌≢◌, ◌∙◌, ◌⊎◌, ⊎_elim, inl, inr, ℕ, zero, suc, ◌*◌, ◌<◌, List, [], ◌∷◌, ◌++◌, length, map, slice_get, Some, sym, ap, refl, subst, arith}
+use Rattle.std.proofs.Common.{◌≡◌, ◌≢◌, ◌∙◌, ◌⊎◌, ⊎_elim, inl, inr, ℕ, ◌*◌, ◌<◌, List, [], ◌∷◌, ◌++◌, length, map, slice_get, Some, sym, ap, refl, subst, arith}
 use Rattle.std.specs.List.{insert}
 use Rattle.std.proofs.lemmas.Bool.{cases_lt}
 use Rattle.std.proofs.lemmas.List.{length-map}
-use Rattle.std.proofs.lemmas.Option.{none-some, same_Some, slice_get_past, slice_get_within}
+use Rattle.std.proofs.lemmas.Option.{same_Some, slice_get_past, slice_get_within}
 use Rattle.md_device.specs.Splice.{SameOutside, spliced}
 use Rattle.md_device.specs.Device.{held, written}
 use Rattle.md_device.specs.Stops.{IsMixed}
@@ -16,40 +16,15 @@ use Rattle.md_model.proofs.Puts.{by_same}
 use Rattle.md_state.specs.DeviceChanges.{LeavesOn, StaysHonest}
 use Rattle.md_state.specs.DiskWrites.{IsFailed, IsTried, IsWritten}
 use Rattle.md_state.specs.View.{Disk}
+use Rattle.md_array.specs.Events.{IsSameBesideMarks, IsSameBesideMissing}
 use Rattle.md_array.specs.Worlds.{AreHonest}
 use Rattle.md_laws.specs.StopsWithin.{IsLeftBut, MayAllBeLeft, StopsAsFailed, StopsAsTried, StopsAtEvents, StopsUndivided}
 use Rattle.md_array.proofs.General.Indices.{got_in_map}
 use Rattle.md_array.proofs.Steps.WrittenLast.{honest_last}
 use Rattle.md_laws.proofs.Stops.AtSteps.{put_back, same_lists, stops_at_failure, stops_at_sector, stops_at_write, stops_in_memory}
+use Rattle.md_laws.proofs.Stops.AloneChanged.{contents_with, got_with, left_alone, long_with, with_contents}
 use Rattle.md_laws.proofs.Stops.WithinAdd.{cut_none, left_of_new}
 use Rattle.md_assembly.proofs.Indices.{got_same, got_within}
-
--- devices with these contents in place of theirs
-abbrev with_contents : List Disk → List (List ℕ) → List Disk
-with_contents [] cs = []
-with_contents (d ∷ ds) [] = d ∷ ds
-with_contents (d ∷ ds) (c ∷ cs) = record d { content = c } ∷ with_contents ds cs
-
-long_with : (ds : List Disk) (cs : List (List ℕ)) → length (with_contents ds cs) ≡ length ds
-long_with [] cs = refl
-long_with (d ∷ ds) [] = refl
-long_with (d ∷ ds) (c ∷ cs) = let rest = long_with ds cs in omega arith
-
-contents_with : (ds : List Disk) (cs : List (List ℕ)) → length cs ≡ length ds → map (λ (d : Disk). d.content) (with_contents ds cs) ≡ cs
-contents_with [] [] long = refl
-contents_with [] (c ∷ cs) long = absurd (omega arith)
-contents_with (d ∷ ds) [] long = absurd (omega arith)
-contents_with (d ∷ ds) (c ∷ cs) long = ap (λ (xs : List (List ℕ)). c ∷ xs) (contents_with ds cs (omega arith))
-
-got_with : (ds : List Disk) (cs : List (List ℕ)) (k : ℕ) (d : Disk) (c : List ℕ) → slice_get ds k ≡ Some d → slice_get cs k ≡ Some c
-    → slice_get (with_contents ds cs) k ≡ Some (record d { content = c })
-got_with [] cs k d c at is = absurd (none-some d at)
-got_with (x ∷ ds) [] k d c at is = absurd (none-some c is)
-got_with (x ∷ ds) (y ∷ cs) zero d c at is =
-    let a : x ≡ d = same_Some x d at in
-    let b : y ≡ c = same_Some y c is in
-    λ i. Some (record (a i) { content = b i })
-got_with (x ∷ ds) (y ∷ cs) (suc k) d c at is = got_with ds cs k d c at is
 
 module _ (k : ℕ) (w : Write) (before after : List Disk) (left : List (List ℕ)) (P : List ℕ → List ℕ → Type 0) (tried : IsTried k w before after) (but : IsLeftBut k P before left) where
   abbrev found : List Disk
@@ -247,7 +222,9 @@ stops_at_events (Event.Begin n p) before after left honest writes may = in_memor
 stops_at_events (Event.Finish n) before after left honest writes may = in_memory before after left writes may
 stops_at_events (Event.ClearIdle c) before after left honest writes may = in_memory before after left writes may
 stops_at_events (Event.Fail k) before after left honest writes may = in_memory before after left writes may
-stops_at_events (Event.Fill k) before after left honest writes may = absurd writes
-stops_at_events (Event.Prepare k) before after left honest writes may = absurd writes
-stops_at_events (Event.RecordTargetFails k) before after left honest writes may = absurd writes
-stops_at_events (Event.Enrol k role listed) before after left honest writes may = absurd writes
+stops_at_events (Event.Fill k) before after left honest writes may =
+    left_alone k (IsSameBesideMissing writes.0 writes.1) before after left (λ c. record { size = refl; beside = λ at n _. refl }) honest writes.2 may
+stops_at_events (Event.Prepare k) before after left honest writes may =
+    left_alone k (IsSameBesideMarks writes.0 writes.1) before after left (λ c. record { size = refl; beside = λ at n _. refl; width = λ width. width }) honest writes.2 may
+stops_at_events (Event.RecordTargetFails k) before after left honest writes may = (writes.0, writes.1, stops_at_failure k writes.0 before after left honest writes.1 may)
+stops_at_events (Event.Enrol k role listed) before after left honest writes may = tt

@@ -11,7 +11,7 @@ use Rattle.md_members.specs.Areas.{BitmapIsPlaced, IsPlaced, bitmap_sectors}
 use Rattle.md_members.specs.Members.{sectors_of}
 use Rattle.md_bitmap.proofs.Blocks.{length-bitmap_sector}
 use Rattle.md_writes.specs.Writes.{IsCutShort, Write}
-use Rattle.md_model.specs.Content.{Content}
+use Rattle.md_model.specs.Content.{Becomes, Content}
 use Rattle.md_model.specs.Devices.{Stored, Super}
 use Rattle.md_model.specs.Events.{Event}
 use Rattle.md_model.specs.Stops as stops
@@ -28,13 +28,18 @@ use Rattle.md_state.specs.Requests.{among, request_of}
 use Rattle.md_state.specs.DiskWrites.{IsFailed, IsTried, IsWritten}
 use Rattle.md_state.specs.StoringMarks.{StoresMarkSector}
 use Rattle.md_state.specs.WritingMember.{MayWrite, data_write}
+use Rattle.md_array.specs.Enrolments.{Prepares}
+use Rattle.md_array.specs.Events.{Does}
+use Rattle.md_array.specs.Filling.{Fills}
 use Rattle.md_array.specs.ReadAsKept.{HasOwnSuper, IsReadAsKept}
 use Rattle.md_array.specs.Recording.{MayRecord, Records, super_write}
 use Rattle.md_array.specs.Worlds.{block_on, geometry_of, is_listed, stored_of, stored_on, super_in, super_of, world_of}
 use Rattle.md_laws.specs.StopsWithin.{MayAllBeLeft}
-use Rattle.md_laws.specs.Left.{IsLeft, IsLeftRecording, IsLeftRecordingShort, IsLeftTakingBack, IsLeftWriting, contents_of}
+use Rattle.md_laws.specs.Left.{IsLeft, IsLeftEnrolled, IsLeftEnrolling, IsLeftFilling, IsLeftPreparing, IsLeftRecording, IsLeftRecordingShort, IsLeftTakingBack, IsLeftWriting, contents_of}
 use Rattle.md_laws.specs.Runs.{MirrorRun, MirrorRunWith, Moment, history_of, then_as}
 use Rattle.md_laws.specs.StopsReadAs.{ReadsAs}
+use Rattle.md_array.proofs.Rebuilding.FilledEvent.{fill_happens}
+use Rattle.md_array.proofs.Rebuilding.PreparedEvent.{prepare_happens}
 use Rattle.md_array.proofs.Steps.DataWritten.{may_write}
 use Rattle.md_array.proofs.Steps.InFlight.{inside_of, not_touched, whole_of}
 use Rattle.md_array.proofs.Steps.MarkSectors.{read_marked, store_marks_happens}
@@ -45,11 +50,13 @@ use Rattle.md_array.proofs.Worlds.ReadAsKept.{own_stays_as, own_written_as, read
 use Rattle.md_array.proofs.Steps.SuperRecorded.{lists_alike, record_happens}
 use Rattle.md_array.proofs.General.Indices.{at_set_same, got_in_map, got_other}
 use Rattle.md_array.proofs.Worlds.Supers.{super_shown}
-use Rattle.md_laws.proofs.Stops.LeftContents.{got_like, read_changed, read_in, read_same}
+use Rattle.md_laws.proofs.Stops.LeftContents.{got_content, got_like, read_changed, read_in, read_same}
 use Rattle.md_laws.proofs.Runs.Moments.{IsSoundAt}
 use Rattle.md_laws.proofs.Stops.FirstSector.{cut_reads, reads_same}
 use Rattle.md_laws.proofs.Stops.AsFailed.{failed_as_tried, left_as_tried, stops_as_tried, stops_at_events}
+use Rattle.md_laws.proofs.Stops.AloneChanged.{left_prepared, stops_as_filled, stops_as_prepared, stops_at_enrol}
 use Rattle.md_laws.proofs.Stops.AtSteps.{stops_at_write}
+use Rattle.md_laws.proofs.Stops.Enrolled.{left_since, may_record_new}
 use Rattle.md_laws.proofs.Stops.TakenBack.{left_after, may_record_again}
 use Rattle.md_laws.proofs.Runs.Rests.{at_once, at_rest}
 use Rattle.md_assembly.proofs.Indices.{got_within, got_same}
@@ -480,7 +487,11 @@ module _ (t : Moment) (at : IsSoundAt t) where
         | inr other ↦
             elim other [
               | inl fails ↦ whole (failed fails.member fails.may fails.fails.disks) refl
-              | inr halts ↦ whole (failed halts.member halts.may halts.halts.disks) refl
+              | inr further ↦
+                  elim further [
+                    | inl halts ↦ whole (failed halts.member halts.may halts.halts.disks) refl
+                    | inr leaves ↦ whole (failed leaves.member leaves.may leaves.disks) refl
+                  ]
             ]
       ]
 
@@ -516,10 +527,88 @@ module _ (t : Moment) (at : IsSoundAt t) where
       sorted_like t f.0 left f.2
       (unrecorded k m may f.0 f.1 d.0 e.0 d.1 e.1 (inl (subst (λ (c : List ℕ). ReadsAs (block_on c) (block_on d.0.content)) x.2 (l.reads d.0 x.0 d.1 x.1))))
 
+  -- after an event of a member that is rebuilt, which changes nothing in memory
+  changed : (e : Event) (mid : MirrorView) (does : Does v t.requests e mid t.requests) → mid.array ≡ a
+      → ((x : Content) → Becomes (geometry_of a) e (world_of v t.requests) x x)
+      → ((j : ℕ) → worlds.IsInSync (world_of mid t.requests) j → worlds.IsInSync (world_of v t.requests) j)
+      → (then_as t e mid t.requests).failed_at ≡ t.failed_at → ((n : ℕ) → (then_as t e mid t.requests).away n ≡ t.away n)
+      → IsSorted t mid.disks
+  changed e mid does same becomes in_sync counted away = record {
+    events = e ∷ [];
+    few = omega arith;
+    moment = then_as t e mid t.requests;
+    run = (mid, t.requests, at_once v mid t.requests t.requests e does, at_rest (then_as t e mid t.requests));
+    still = λ x. (mid, t.requests, x, at_once v mid t.requests t.requests e does, becomes x, (at_rest (then_as t e mid t.requests), refl));
+    counted = counted;
+    away = away;
+    in_sync = in_sync;
+    cut = (world_of mid t.requests).stored;
+    is_cut = inl refl;
+    read = λ j. inl (ap (λ (x : ArrayView). read_in x mid.disks j) (sym same));
+    device = λ j x n there is.
+        let is_there : IsMember mid.array j n = subst (λ (y : ArrayView). IsMember y j n) (sym same) is in
+        subst (λ (y : ArrayView). IsLeftDevice y n t.failed_at x.content) same
+        (record { parts = parts_of mid does.sound j x n there is_there; read = subst (λ at. IsReadAsKept mid.array n at x.content) counted (does.read t.failed_at at.read j x n there is_there) });
+  }
+
+  -- within a filling: after one that leaves no more than this
+  filled : (k : ℕ) (mid : MirrorView) → Fills k v mid → IsSorted t mid.disks
+  filled k mid fills =
+      let does = fill_happens k v mid at.sound fills at.honest t.requests at.in_flight in
+      changed (Event.Fill k) mid does fills.array (λ _. refl) (λ j on. subst (λ (w : World). worlds.IsInSync w j) does.step.1.3 on) refl (λ _. refl)
+
+  -- and so within a preparing
+  prepared : (k : ℕ) (mid : MirrorView) → Prepares k v mid → IsSorted t mid.disks
+  prepared k mid prepares =
+      let does = prepare_happens k v mid at.sound prepares at.honest t.requests at.in_flight in
+      changed (Event.Prepare k) mid does prepares.array (λ _. refl) (λ j on. subst (λ (w : World). worlds.IsInSync w j) does.step.1.3 on) refl (λ _. refl)
+
+  preparing : (left : List Disk) → IsLeftPreparing t left → IsSorted t left
+  preparing left l =
+      let f = stops_as_prepared l.on v l.next (contents_of left) at.honest l.call l.within in
+      sorted_like t f.0.disks left f.2 (prepared l.on f.0 f.1)
+
+  -- and within `enrol`, before the superblock is written
+  enrolling : (left : List Disk) → IsLeftEnrolling t left → IsSorted t left
+  enrolling left l =
+      let but = stops_at_enrol l.on l.copied l.orphans v l.next (contents_of left) at.honest l.call l.within in
+      let x = left_prepared l.on l.copied l.orphans v l.next at.sound l.call l.may (contents_of left) but
+      (λ d e was is.
+      let found = got_content left l.on e is in
+      ap block_on (sym found.2) ∙ l.super d found.0 was found.1) in
+      sorted_like t x.0.disks left x.2 (prepared l.on x.0 x.1)
+
+  filling : (left : List Disk) → IsLeftFilling t left → IsSorted t left
+  filling left l =
+      let f = stops_as_filled l.on v l.next (contents_of left) at.honest l.call l.within in
+      sorted_like t f.0.disks left f.2 (filled l.on f.0 f.1)
+
+  -- where the superblock stands as after `enrol`, it is a stop after it
+  enrolled : (left : List Disk) → IsLeftEnrolled t left → IsSorted t left
+  enrolled left l =
+      let m = l.call.member in
+      let may = may_record_new l.on l.copied l.orphans l.before v l.sound at.sound l.call l.honest l.failed_at l.read in
+      let but = stops_at_enrol l.on l.copied l.orphans l.before v (contents_of left) l.honest l.call l.within in
+      let since = left_since l.on l.copied l.orphans l.before v l.sound at.sound l.call l.honest l.failed_at l.read (contents_of left) but
+      (λ e x is found. let y = got_content left l.on x found in ap block_on (sym y.2) ∙ l.super e y.0 is y.1) in
+      let f = left_as_tried l.on (super_write a m) v.disks (contents_of left) since in
+      let low = slice_get_within a.members l.on m may.at in
+      let as_many = at.sound.fits.as_many in
+      let many = f.1.as_many in
+      let d = got_within v.disks l.on (omega arith) in
+      let e = got_within f.0 l.on (omega arith) in
+      let x = got_like left f.0 (sym f.2) l.on e.0 e.1 in
+      sorted_like t f.0 left f.2
+      (unrecorded l.on m may f.0 f.1 d.0 e.0 d.1 e.1 (inl (reads_same (block_on e.0.content) (block_on d.0.content) (ap block_on (sym x.2) ∙ l.super d.0 x.0 d.1 x.1))))
+
   pub sorted : (left : List Disk) → IsLeft t left → IsSorted t left
   sorted left (inl same) = sorted_like t v.disks left (sym same) between
   sorted left (inr (inl l)) = stored_sorted l.on l.block l.inside l.next l.call left l.within
   sorted left (inr (inr (inl l))) = writing left l
   sorted left (inr (inr (inr (inl l)))) = recording left l
   sorted left (inr (inr (inr (inr (inl l))))) = recording_short left l
-  sorted left (inr (inr (inr (inr (inr l))))) = taking_back left l
+  sorted left (inr (inr (inr (inr (inr (inl l)))))) = taking_back left l
+  sorted left (inr (inr (inr (inr (inr (inr (inl l))))))) = filling left l
+  sorted left (inr (inr (inr (inr (inr (inr (inr (inl l)))))))) = preparing left l
+  sorted left (inr (inr (inr (inr (inr (inr (inr (inr (inl l))))))))) = enrolling left l
+  sorted left (inr (inr (inr (inr (inr (inr (inr (inr (inr l))))))))) = enrolled left l

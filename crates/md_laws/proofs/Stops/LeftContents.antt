@@ -55,3 +55,12 @@ pub read_changed : (a : ArrayView) (k : ℕ) (m n : MemberView) → IsMember a k
 read_changed a k m n at same disks j =
     same_parts a k n (slice_get (set a.members k n) j) (slice_get disks j)
     ∙ read_kept (λ o. stored_on a o (slice_get disks j)) a.members k m n at (same_own a m n (slice_get disks j) same) j
+
+-- what was left of a device is that device's
+pub got_content : (left : List Disk) (k : ℕ) (c : List ℕ) → slice_get (contents_of left) k ≡ Some c → (x : Disk) × (slice_get left k ≡ Some x) × (x.content ≡ c)
+got_content left k c is =
+    let low = slice_get_within (contents_of left) k c is in
+    let long = length-map left (λ (d : Disk). d.content) in
+    let x = got_within left k (omega arith) in
+    let at : slice_get (contents_of left) k ≡ Some x.0.content = slice_get-map (λ (d : Disk). d.content) left k ∙ ap (option_map (λ (d : Disk). d.content)) x.1 in
+    (x.0, x.1, same_Some x.0.content c (sym at ∙ is))

@@ -2,6 +2,8 @@ use Rattle.std.proofs.Common.{List, map, sym, ap, subst}
 use Rattle.md_state.specs.View.{Disk, MirrorView, disk_of}
 use Rattle.md_array.specs.Consistency.{IsConsistent}
 use Rattle.md_array.specs.ReadAsKept.{AreReadAsKept}
+use Rattle.md_array.specs.Filling.{FillHappens}
+use Rattle.md_array.proofs.Rebuilding.FilledEvent.{fill_happens}
 use Rattle.md_array.proofs.Steps.DevicesBack.{back_is_consistent, back_is_read}
 use Rattle.md_array.proofs.mirror.Mirror.give_back.Goals as goal
 
@@ -16,3 +18,9 @@ returns-clause-read g c before failed_at back are =
     let after : List Disk = map (disk_of g.D.Device) c.args.devices.items in
     let same = ap (λ (v : MirrorView). record v { disks = after }) c.self.view_is in
     subst (λ (v : MirrorView). AreReadAsKept v failed_at) (sym same) (back_is_read c.args.self.now before after back failed_at are)
+
+pub returns-clause-event : goal.returns-clause-event
+returns-clause-event g c =
+    let after : List Disk = map (disk_of g.D.Device) c.args.devices.items in
+    let same = ap (λ (v : MirrorView). record v { disks = after }) c.self.view_is in
+    subst (FillHappens c.args.self.now) (sym same) (λ before k back fills. fill_happens k (record c.args.self.now { disks = before }) (record c.args.self.now { disks = after }) back.consistent fills)

@@ -9,9 +9,10 @@ use Rattle.md_state.specs.Requests.{IsPending}
 use Rattle.md_state.specs.View.{ArrayView, MirrorView, disk_of}
 use Rattle.md_array.specs.Consistency.{IsConsistent}
 use Rattle.md_array.specs.Recording.{IsReadable, MayRecord, Records, super_write, write_of}
-use Rattle.md_array.specs.RecordingTarget.{LeavesUnrecorded}
+use Rattle.md_array.specs.RecordingTarget.{LeavesUnrecorded, TargetFails}
 use Rattle.md_array.specs.declared.mirror.Mirror.TheInside.{Inside}
 use Rattle.md_state.proofs.Members.At.{member_read}
+use Rattle.md_array.proofs.Rebuilding.TargetEvent.{target_fails_happens}
 use Rattle.md_array.proofs.General.Answered.{err_of, ok_of}
 use Rattle.md_array.proofs.Steps.OneWrite.{fits_now, fits_there, is_failed, is_written, within_devices, within_members}
 use Rattle.md_array.proofs.Steps.SuperRecorded.{record_happens, recorded_is_consistent, recorded_is_pending}
@@ -96,7 +97,8 @@ returns-then-is_err g c =
     } in
     record {
       gives = subst (λ (old : MirrorView). LeavesUnrecorded c.args.k old new) c.self.view_is left;
-      event = tt;
+      event = subst (λ (old : MirrorView). TargetFails c.args.k old new) c.self.view_is
+          (target_fails_happens c.args.k was new (subst IsConsistent (sym c.self.view_is) c.requires.sound) (record { leaves = left; rebuilt = rebuilt g at }));
       sound = unrecorded_is_consistent c.args.k was new (subst IsConsistent (sym c.self.view_is) c.requires.sound) left (rebuilt g at);
       pending = λ p is. unrecorded_is_pending c.args.k was new left p (subst (λ (v : MirrorView). IsPending v.array p) (sym c.self.view_is) is);
     }

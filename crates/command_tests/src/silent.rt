@@ -1,0 +1,15 @@
+// A rebuild that nobody watches.
+use md_commands::{Gate, Watch};
+
+/// Is told of a rebuild, and says nothing of it.
+pub(crate) struct Silent;
+
+impl Gate for Silent {
+    fn before_read(&self, _source: u8, _chunk: u32) {}
+
+    fn after_read(&self, _source: u8, _chunk: u32) {}
+}
+
+impl Watch for Silent {
+    fn begins(&self, _chunks: u32) {}
+}

@@ -1,0 +1,34 @@
+-- Members that are rebuilt: what is stored of them, what their events keep, and that they are the model's.
+
+-- What one device of a member that is rebuilt holds changes, and nothing in memory: the mirror stays consistent, and so its world.
+pub mod OneDevice
+-- A member that is rebuilt gets data in chunks that it lacks: that is the model's event.
+pub mod FilledEvent
+-- The superblock of a member that is rebuilt could not be stored: where the write left the old one, the new one or none, that is the
+-- model's event.
+pub mod TargetEvent
+-- The bitmap and the log of a member that is rebuilt are stored: that is the model's event.
+pub mod PreparedEvent
+-- What stands on a device once all of a member but its data is stored there.
+pub mod MemberStored
+-- The list of a member that comes into sync is what its log lists, once the log is stored.
+pub mod LogListed
+-- An array with a member that came into sync: what holds of it in memory, and of the member's device.
+pub mod EnrolledArray
+-- A member that was rebuilt comes into sync: the mirror stays consistent, and an opening reads what is kept.
+pub mod MemberEnrolled
+-- A member doesn't come into sync: a write failed, or it was refused. The mirror stays consistent.
+pub mod EnrolUnstored
+-- What `enrol` answers, by what was stored on the device.
+pub mod EnrolAnswered
+-- The mirror in the midst of an enrolment: marks and log are stored, and the superblock is not.
+pub mod InBetween
+-- A member that comes into sync holds what the members in sync hold, in each sector that it does not list then.
+pub mod HeldContent
+-- A member comes into sync by the write of its superblock: its device and the array's world then.
+pub mod EnrolledWorld
+-- A member is prepared, and comes into sync by the write of its superblock: those are the model's events.
+pub mod EnrolledEvent
+-- What a stop leaves of a member's device within the writes of an enrolment: its bitmap and its log have changed at most, or all of them are
+-- stored, and the superblock has changed at most.
+pub mod CutBefore

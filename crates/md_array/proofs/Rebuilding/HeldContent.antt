@@ -1,0 +1,173 @@
+-- A member that comes into sync holds what the members in sync hold, in each sector that it does not list then.
+use Rattle.std.proofs.Common.{◌≡◌, ◌≢◌, ℕ, ◌+◌, ◌*◌, ◌/◌, ◌<◌, ◌≤◌, inl, inr, Bool, true, false, true≢false, cond, not, ◌&&◌, eqb, nat_lt, List, ◌∷◌, length, set, slice_get, Some, refl, sym, ap, ◌∙◌, subst, arith, eq-eqb, ne_eqb, lt-ltb}
+use Rattle.std.specs.Int.{div_ceil}
+use Rattle.std.specs.List.{list_any}
+use Rattle.std.proofs.lemmas.Bool.{and_from, and_parts, cases_lt}
+use Rattle.std.proofs.lemmas.Nat.{div_below, le-div}
+use Rattle.std.proofs.lemmas.Grind.{div_ceil_times}
+use Rattle.std.proofs.lemmas.Option.{same_Some}
+use Rattle.md_assembly.specs.States.{is_in_sync}
+use Rattle.md_assembly.proofs.Indices.{got_same}
+use Rattle.md_badblocks.specs.declared.run.Run.{Run}
+use Rattle.md_badblocks.specs.Runs.{IsBad}
+use Rattle.md_bitmap.specs.Chunks.{InChunk}
+use Rattle.md_bitmap.specs.Marks.{Bitmap, is_set}
+use Rattle.md_device.specs.Splice.{part}
+use Rattle.md_kept_members.specs.Enrolling.{IsOf}
+use Rattle.md_kept_members.specs.View.{MemberView}
+use Rattle.md_model.specs.Content.{Content}
+use Rattle.md_model.proofs.Cases.{by_test}
+use Rattle.md_model.proofs.Puts.{by_same}
+use Rattle.md_state.specs.CopyingData.{Lists}
+use Rattle.md_state.specs.Members.{IsInSync}
+use Rattle.md_state.specs.Missing.{is_missing}
+use Rattle.md_state.specs.View.{ArrayView, Disk, MirrorView}
+use Rattle.md_super.specs.declared.superblock.Superblock.{Superblock}
+use Rattle.md_array.specs.Consistency.{IsConsistent}
+use Rattle.md_array.specs.Enrolling.{Enrols, HasContent, MayEnrol}
+use Rattle.md_array.specs.Enrolments.{EndsBelow, IsHeldBy, lists_of}
+use Rattle.md_array.specs.Worlds.{AreHonest, lies_in}
+use Rattle.md_array.proofs.General.Indices.{any_at, at_any, got_other}
+use Rattle.md_array.proofs.Rebuilding.InBetween.{may_rebuild_it, superblock, then_at, then_beside, then_disk}
+use Rattle.md_array.proofs.Rebuilding.PreparedEvent.{sector_kept}
+use Rattle.md_array.proofs.Steps.DevicesBack.{unrebuilt}
+use Rattle.md_array.proofs.Worlds.Bad.{bad_from_test, test_from_bad}
+use Rattle.md_array.proofs.Worlds.PartsApart.{parts_of}
+
+not-false : (b : Bool) → not b ≡ true → b ≡ false
+not-false true h = absurd cc
+not-false false h = refl
+
+false-not : (b : Bool) → b ≡ false → not b ≡ true
+false-not true h = absurd cc
+false-not false h = refl
+
+-- the chunk of a sector
+pub its_chunk : (size width s : ℕ) → 0 < width → s < size → InChunk width size (s / width) s
+its_chunk size width s wide inside = record {
+  from = elim (cases_lt s (s / width * width)) [
+    | inl low ↦ let less : s / width < s / width = div_below s width (s / width) wide low in absurd (omega arith)
+    | inr reaches ↦ reaches
+  ];
+  below = elim (cases_lt s ((s / width + 1) * width)) [
+    | inl low ↦ low
+    | inr past ↦ let more : s / width + 1 ≤ s / width = le-div (s / width + 1) s width wide past in absurd (omega arith)
+  ];
+  within = inside;
+}
+
+module _ (k : ℕ) (copied orphans : Bitmap) (old new : MirrorView) (c : IsConsistent old) (r : Enrols k copied orphans old new) (may : MayEnrol k copied orphans old) (ends : EndsBelow old k)
+    (honest : AreHonest old.disks) (d : Disk) (was : slice_get old.disks k ≡ Some d) where
+  abbrev array : ArrayView
+  array = old.array
+
+  abbrev it : MemberView
+  it = r.comes.member
+
+  abbrev then : Disk
+  then = then_disk k copied orphans old new c r d was
+
+  abbrev now : List Disk
+  now = set old.disks k then
+
+  abbrev chunk : ℕ → ℕ
+  chunk s = s / array.chunks.sectors
+
+  abbrev at : ℕ → ℕ
+  at s = 512 * (it.superblock.data_offset + s)
+
+  abbrev listed : ℕ → Bool
+  listed = lists_of array r.member
+
+  is_it : may.member ≡ it
+  is_it = got_same array.members k may.member it may.at r.comes.at
+
+  pub chunk_low : (s : ℕ) → s < array.chunks.size → chunk s < array.marks.chunks
+  chunk_low s low =
+      let bounds = div_ceil_times array.chunks.size array.chunks.sectors c.chunks.wide in
+      subst (λ (x : ℕ). chunk s < x) (sym c.chunks.count) (div_below s array.chunks.sectors (div_ceil array.chunks.size array.chunks.sectors) c.chunks.wide (omega (arith, bounds.0)))
+
+  -- a member in sync is another one
+  pub another : (j : ℕ) (y : MemberView) → IsInSync array j y → j ≢ k
+  another j y on here =
+      let same : y ≡ it = same_Some y it (sym on.member ∙ ap (slice_get array.members) here ∙ r.comes.at) in
+      let rebuilt = (may_rebuild_it k copied orphans old new c r may).rebuilt in
+      true≢false (sym rebuilt ∙ unrebuilt it.state (sym (ap (λ (x : MemberView). is_in_sync x.state) same) ∙ on.in_sync))
+
+  -- a sector of an orphan is listed
+  orphan_listed : (s : ℕ) → s < array.chunks.size → is_set orphans.bytes (chunk s) ≡ true → listed s ≡ true
+  orphan_listed s low set =
+      let below : chunk s < orphans.chunks = subst (λ (x : ℕ). chunk s < x) (sym may.orphan_chunks) (chunk_low s low) in
+      let bound = ends it r.comes.at in
+      let of : IsOf array.chunks it.superblock.data_offset orphans (it.superblock.data_offset + s) =
+      record { chunk = chunk s; early = below; in_set = set; of_chunk = record { at = s; inside = its_chunk array.chunks.size array.chunks.sectors s c.chunks.wide low; is = refl } } in
+      let bad : IsBad r.comes.list (it.superblock.data_offset + s) = (r.comes.list_is.bad (it.superblock.data_offset + s)).1 (inr (of, omega arith)) in
+      let there : IsBad r.member.bad (r.member.superblock.data_offset + s) =
+      subst (λ (v : Superblock). IsBad r.member.bad (v.data_offset + s)) (sym (superblock k copied orphans old new c r)) (subst (λ (runs : List Run). IsBad runs (it.superblock.data_offset + s)) (sym r.comes.comes.bad) bad) in
+      and_from (nat_lt s array.chunks.size) (lies_in r.member.bad (r.member.superblock.data_offset + s)) (lt-ltb s array.chunks.size low) (test_from_bad r.member.bad (r.member.superblock.data_offset + s) there)
+
+  -- the chunk of one that it lacked and does not list was copied
+  was_copied : (s : ℕ) → s < array.chunks.size → is_missing array it (chunk s) ≡ true → listed s ≡ false → is_set copied.bytes (chunk s) ≡ true
+  was_copied s low missing unlisted =
+      elim (may.cover (chunk s) (chunk_low s low) (subst (λ (x : MemberView). is_missing array x (chunk s) ≡ true) (sym is_it) missing)) [
+        | inl is ↦ is
+        | inr orphan ↦ absurd (true≢false (sym (orphan_listed s low orphan) ∙ unlisted))
+      ]
+
+  -- there it holds any content that the members in sync hold
+  holds_copied : (content : Content) → HasContent old.disks array content → (s : ℕ) → s < array.chunks.size → is_missing array it (chunk s) ≡ true → listed s ≡ false
+      → part d.content (at s) 512 ≡ content s
+  holds_copied content has s low missing unlisted =
+      may.holds honest content has d it was r.comes.at (chunk s) s (subst (λ (x : ℕ). chunk s < x) (sym may.copied_chunks) (chunk_low s low)) (was_copied s low missing unlisted)
+      (its_chunk array.chunks.size array.chunks.sectors s c.chunks.wide low)
+
+  -- ---- some member in sync does not list it either
+  abbrev has_it : ℕ → MemberView → Bool
+  has_it s y = is_in_sync y.state && not (lies_in y.bad (y.superblock.data_offset + s))
+
+  other_content : Content → ℕ → Content
+  other_content content s t = cond (eqb t s) (0 ∷ content s) (content t)
+
+  unlike : (xs : List ℕ) → xs ≡ 0 ∷ xs → ⊥
+  unlike xs e = let same = ap (λ (ys : List ℕ). length ys) e in omega arith
+
+  not_alone : (content : Content) → HasContent old.disks array content → (s : ℕ) → list_any (has_it s) array.members ≡ false → HasContent old.disks array (other_content content s)
+  unfolding other_content
+  not_alone content has s none = record {
+    held = λ j z y there on t low unlisted. by_same t s
+        (λ here. absurd (true≢false (sym (any_at (has_it s) array.members j y on.member
+        (and_from (is_in_sync y.state) (not (lies_in y.bad (y.superblock.data_offset + s))) on.in_sync
+        (false-not (lies_in y.bad (y.superblock.data_offset + s)) (by_test (lies_in y.bad (y.superblock.data_offset + s))
+        (λ lies. absurd (unlisted (subst (λ (i : ℕ). Lists y i) (sym here) (bad_from_test y.bad (y.superblock.data_offset + s) lies))))
+        (λ off. off))))) ∙ none)))
+        (λ apart. has.held j z y there on t low unlisted ∙ sym (ap (λ b. cond b (0 ∷ content s) (content t)) (ne_eqb t s apart)));
+  }
+
+  pub one_has_it : (content : Content) → HasContent old.disks array content → (s : ℕ) → s < array.chunks.size → is_missing array it (chunk s) ≡ true → listed s ≡ false
+      → (j : ℕ) × (y : MemberView) × IsInSync array j y × (lies_in y.bad (y.superblock.data_offset + s) ≡ false)
+  unfolding other_content
+  one_has_it content has s low missing unlisted = by_test (list_any (has_it s) array.members)
+      (λ some.
+      let x = at_any (has_it s) array.members some in
+      let p = and_parts (is_in_sync x.1.state) (not (lies_in x.1.bad (x.1.superblock.data_offset + s))) x.3 in
+      (x.0, x.1, record { member = x.2; in_sync = p.0 }, not-false (lies_in x.1.bad (x.1.superblock.data_offset + s)) p.1))
+      (λ none.
+      let one = holds_copied content has s low missing unlisted in
+      let other = holds_copied (other_content content s) (not_alone content has s none) s low missing unlisted in
+      absurd (unlike (content s) (sym one ∙ other ∙ ap (λ b. cond b (0 ∷ content s) (content s)) (eq-eqb s s refl))))
+
+  -- ---- in the midst
+  pub had_content : (content : Content) → HasContent now array content → HasContent old.disks array content
+  had_content content has = record {
+    held = λ j z y there on s low unlisted.
+        has.held j z y (got_other old.disks k j then (another j y on) ∙ there) on s low unlisted;
+  }
+
+  pub then_sector : (s : ℕ) → s < array.chunks.size → part then.content (at s) 512 ≡ part d.content (at s) 512
+  then_sector = sector_kept array it d.content then.content (parts_of old c k d it was r.comes.at) (then_beside k copied orphans old new c r d was)
+
+  pub it_holds : (content : Content) → IsHeldBy k listed content (record old { disks = now }) → (s : ℕ) → s < array.chunks.size → listed s ≡ false
+      → part then.content (at s) 512 ≡ content s
+  it_holds content held s low unlisted = by_test (is_missing array it (chunk s))
+      (λ missing. then_sector s low ∙ holds_copied content (had_content content held.in_sync) s low missing unlisted)
+      (λ had. held.told then it (then_at k copied orphans old new c r d was) r.comes.at s low had unlisted)

@@ -1,0 +1,68 @@
+-- The list of a member that comes into sync is what its log lists, once the log is stored.
+use Rattle.std.proofs.Common.{◌≡◌, ℕ, ◌+◌, ◌*◌, ◌^◌, ◌/◌, ◌<◌, ◌↔◌, Bool, true, cond, not, ◌&&◌, ◌==◌, nat_lt, pos, ltb-true, lt-ltb, true≢false, List, [], ◌∷◌, sym, ap, ◌∙◌, arith}
+use Rattle.std.specs.Ordering.{int_eq}
+use Rattle.std.proofs.lemmas.Bool.{and_from, and_parts}
+use Rattle.md_device.specs.Splice.{part}
+use Rattle.md_super.specs.declared.superblock.Superblock.{Superblock}
+use Rattle.md_super.specs.Log.{has_bad_block_log}
+use Rattle.md_badblocks.specs.declared.run.Run.{Run}
+use Rattle.md_badblocks.specs.Log.{log_bytes, named_runs}
+use Rattle.md_badblocks.specs.Runs.{IsBad, IsCanonical}
+use Rattle.md_badblocks.proofs.Written.{log_read}
+use Rattle.md_members.specs.Areas.{has_bad_blocks}
+use Rattle.md_members.specs.Members.{reads_log}
+use Rattle.md_model.proofs.Cases.{by_test}
+use Rattle.md_kept_members.specs.Enrolling.{HasRoomFor, in_sync_superblock, log_room}
+use Rattle.md_array.specs.Worlds.{from_super, is_listed_next, is_logged, lies_in}
+use Rattle.md_array.proofs.Worlds.Bad.{bad_from_test, test_from_bad}
+use Rattle.md_array.proofs.Rebuilding.MemberStored.{none_bad, some_bad}
+use Rattle.std.proofs.lemmas.List.Sums.{sum_by-cons}
+use Rattle.md_badblocks.specs.Runs.{entry_count}
+
+-- ---- its list is what its log lists
+-- a list that has an entry has a log
+has_log : (v : Superblock) (run : Run) (runs : List Run) → IsCanonical (run ∷ runs) → HasRoomFor v (run ∷ runs) → has_bad_block_log v ≡ true
+has_log v run runs canonical room = by_test (has_bad_block_log v) (λ is. is)
+    (λ none.
+    let some : 0 < run.len = canonical.1 in
+    let entry : 0 < (run.len + 511) / 512 = omega arith in
+    let empty : log_room v ≡ 0 = ap (λ (b : Bool). cond b (64 * v.bblog_size) 0) none in
+    let count = sum_by-cons entry_count run runs in
+    absurd (let fits = room in omega arith))
+
+pub listed_enrolled : (v : Superblock) (list : List Run) (content : List ℕ) → IsCanonical list → HasRoomFor v list
+    → (has_bad_block_log v ≡ true → part content (512 * from_super v.bblog_offset) (512 * v.bblog_size) ≡ log_bytes list (log_room v))
+    → (sector : ℕ) → is_listed_next (in_sync_superblock list v) content sector ≡ true ↔ IsBad list sector
+unfolding is_listed_next
+listed_enrolled v [] content canonical room log sector = (
+  (λ e.
+      let own = in_sync_superblock [] v in
+      absurd (true≢false (sym (and_parts (has_bad_blocks own) (has_bad_block_log v) (and_parts (reads_log own) _ e).0).0 ∙ none_bad v))),
+  (λ h. absurd h),
+)
+listed_enrolled v (run ∷ runs) content canonical room log sector =
+    let list : List Run = run ∷ runs in
+    let own = in_sync_superblock list v in
+    let there = has_log v run runs canonical room in
+    let reads : reads_log own ≡ true = and_from (has_bad_blocks own) (has_bad_block_log v) (some_bad run runs v) there in
+    let named = (log_read list (log_room v) canonical).named sector in
+    let of : List ℕ → Bool = λ area. nat_lt sector (2 ^ 54) && lies_in (named_runs 0 area) sector in
+    let same : is_logged content (from_super v.bblog_offset) v.bblog_size 0 sector ≡ of (log_bytes list (log_room v)) = ap of (log there) in
+    let written = named_runs 0 (log_bytes list (log_room v)) in (
+      (λ e.
+          let p = and_parts (nat_lt sector (2 ^ 54)) (lies_in written sector) (sym same ∙ (and_parts (reads_log own) _ e).1) in
+          named.1 (bad_from_test written sector p.1, ltb-true sector (2 ^ 54) p.0)),
+      (λ h.
+          let p = named.0 h in
+          and_from (reads_log own) _ reads (same ∙ and_from (nat_lt sector (2 ^ 54)) (lies_in written sector) (lt-ltb sector (2 ^ 54) p.1) (test_from_bad written sector p.0))),
+    )
+
+-- a log is the same by any superblock that places it so
+pub logged : (v own : Superblock) (list bad : List Run) → own.bblog_size ≡ v.bblog_size → own.bblog_offset ≡ v.bblog_offset → bad ≡ list → (content : List ℕ)
+    → (has_bad_block_log own ≡ true → part content (512 * from_super own.bblog_offset) (512 * own.bblog_size) ≡ log_bytes bad (log_room own))
+    → has_bad_block_log v ≡ true → part content (512 * from_super v.bblog_offset) (512 * v.bblog_size) ≡ log_bytes list (log_room v)
+logged v own list bad size offset same content log has =
+    let there : has_bad_block_log own ≡ has_bad_block_log v = λ i. not (size i == 0) && not (int_eq (offset i) (pos 0)) in
+    (λ i. part content (512 * from_super (sym offset i)) (512 * sym size i))
+    ∙ log (there ∙ has)
+    ∙ (λ i. log_bytes (same i) (cond (there i) (64 * size i) 0))

@@ -1,0 +1,54 @@
+-- What the commands that rebuild answer: the parts of it together.
+use Rattle.std.proofs.Common.{ℕ, Option, Result, Ok, Err, MatchResult, refl, sym, subst, length}
+use Rattle.md_copy.specs.declared.rebuilt.Rebuilt.{Rebuilt}
+use Rattle.md_examine.specs.declared.sink.Sink.{Ghosts}
+use Rattle.md_report.specs.RebuiltReport.{rebuilt_text}
+use Rattle.md_state.specs.View.{Disk, MirrorView}
+use Rattle.md_commands.specs.declared.fault.DataFault.{DataFault}
+use Rattle.md_commands.specs.declared.fault.DataFault.TheVariants.{OutputFault, ReAdd, Rebuild, Resync, Stop}
+use Rattle.md_commands.specs.Failing.{HasMember}
+use Rattle.md_commands.specs.Output.{FailsOutput, PutsOut}
+use Rattle.md_commands.specs.ReAdding.{ComesBackReadied, RebuildsMember, ReAddsDevice, RefusesRebuilding, RefusesToReAdd}
+use Rattle.md_commands.specs.Rebuilding.{RebuildsArray, RebuildsReadied, RefusesReadied, RefusesToRebuild}
+use Rattle.md_commands.specs.Stopping.{RefusesToStop, StopsAfter, StopsArray, StopsArrayAfter}
+
+module _ {S : Type 0} (s : Ghosts S) (k : ℕ) (old new : MirrorView) (before : S) where
+  pub not_rebuilt : HasMember old.array k → (fault : DataFault) → RefusesReadied k old new fault → RefusesToRebuild s k old new before before fault
+  not_rebuilt member (Resync fault) h = record { member = member; refused = h; unwritten = refl }
+  not_rebuilt member (Rebuild fault) h = record { member = member; refused = h; unwritten = refl }
+  not_rebuilt member (Stop fault) h = record { member = member; refused = h; unwritten = refl }
+  not_rebuilt member fault h = absurd h
+
+  pub rebuilt_or_not : (after : S) (told : Rebuilt) → StopsAfter (RebuildsReadied k told old) new → (result : Result (Unit {0}) DataFault)
+      → MatchResult result (λ _. PutsOut s before after (rebuilt_text k told.passes told.plans.items (length told.orphans.items))) (FailsOutput s after)
+      → MatchResult result (λ _. RebuildsArray s k old new before after) (RefusesToRebuild s k old new before after)
+  rebuilt_or_not after told done (Ok x) shown = record { told = told; done = done; shown = shown }
+  rebuilt_or_not after told done (Err fault) fails =
+      subst (λ (f : DataFault). RefusesToRebuild s k old new before after f) (sym fails.is) (record { told = told; done = done; failed = fails.failed })
+
+-- a member that came back is rebuilt, and the array stopped, or not
+module _ {S : Type 0} (s : Ghosts S) (k : ℕ) (old mid new : MirrorView) (before after : S) where
+  pub shown_or_not : RebuildsMember k old mid → (result : Result (Unit {0}) DataFault)
+      → MatchResult result (λ _. StopsArray s mid new before after) (RefusesToStop s mid new before after)
+      → MatchResult result (λ _. StopsArrayAfter s (RebuildsMember k old) new before after) (RefusesRebuilding s k old new before after)
+  shown_or_not rebuilds (Ok x) h = record { mid = mid; through = rebuilds; stops = h }
+  shown_or_not rebuilds (Err (Rebuild fault)) h = absurd h
+  shown_or_not rebuilds (Err fault) h = record { mid = mid; through = rebuilds; refused = h }
+
+module _ {S : Type 0} (s : Ghosts S) (k : ℕ) (device : Disk) (given : Option Disk) (old joined new : MirrorView) (before after : S) where
+  pub re_added_or_not : ComesBackReadied k device old joined → (result : Result (Unit {0}) DataFault)
+      → MatchResult result (λ _. StopsArrayAfter s (RebuildsMember k joined) new before after) (RefusesRebuilding s k joined new before after)
+      → MatchResult result (λ _. StopsArrayAfter s (ReAddsDevice device old) new before after) (RefusesToReAdd s device given old new before after)
+  re_added_or_not comes (Ok x) h = record {
+    mid = h.mid;
+    through = record { k = k; joined = joined; comes = comes; rebuilds = h.through };
+    stops = h.stops;
+  }
+  re_added_or_not comes (Err (Rebuild fault)) h = (record { k = k; joined = joined; comes = comes; refused = h.0 }, h.1)
+  re_added_or_not comes (Err (Resync fault)) h = absurd h.refused
+  re_added_or_not comes (Err (ReAdd fault)) h = absurd h.refused
+  re_added_or_not comes (Err fault) h = record {
+    mid = h.mid;
+    through = record { k = k; joined = joined; comes = comes; rebuilds = h.through };
+    refused = h.refused;
+  }

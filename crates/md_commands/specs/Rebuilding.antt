@@ -1,0 +1,61 @@
+-- The command that rebuilds a member.
+use Rattle.std.specs.Prelude.{◌≡◌, ℕ, true, length}
+use Rattle.md_copy.specs.declared.fault.RebuildFault.{RebuildFault}
+use Rattle.md_copy.specs.declared.rebuilt.Rebuilt.{Rebuilt}
+use Rattle.md_copy.specs.Rebuilding.{Rebuilds, RefusesRebuild}
+use Rattle.md_examine.specs.declared.sink.Sink.{Ghosts}
+use Rattle.md_report.specs.RebuiltReport.{rebuilt_text}
+use Rattle.md_state.specs.Trying.{Refuses}
+use Rattle.md_state.specs.View.{MirrorView}
+use Rattle.md_commands.specs.declared.fault.DataFault.{DataFault}
+use Rattle.md_commands.specs.declared.fault.DataFault.TheVariants.{BadMember, OutputFault, Rebuild, Resync, Stop}
+use Rattle.md_commands.specs.Failing.{HasMember, LacksMember}
+use Rattle.md_commands.specs.Output.{PutsOut}
+use Rattle.md_commands.specs.Resyncing.{RefusesNeededResync, ResyncsIfNeeded}
+use Rattle.md_commands.specs.Stopping.{FailsToStop, StopsAfter}
+
+-- the array is resynced where it has to be, and then member k is rebuilt, and this is told of it
+pub record RebuildsReadied (k : ℕ) (told : Rebuilt) (old new : MirrorView) : Type 0 where
+  pub ready : MirrorView
+  pub readied : ResyncsIfNeeded old ready
+  pub rebuilds : Rebuilds k told ready new
+
+-- it is not rebuilt
+pub record FailsToRebuild (k : ℕ) (old new : MirrorView) (fault : RebuildFault) : Type 0 where
+  pub ready : MirrorView
+  pub readied : ResyncsIfNeeded old ready
+  pub refused : RefusesRebuild k ready new fault
+
+-- it is not, or the array is not stopped after it
+abbrev pub RefusesReadied : ℕ → MirrorView → MirrorView → DataFault → Type 0
+RefusesReadied k old new (Resync fault) = RefusesNeededResync old new fault
+RefusesReadied k old new (Rebuild fault) = FailsToRebuild k old new fault
+RefusesReadied k old new (Stop fault) = FailsToStop (λ mid. (told : Rebuilt) × RebuildsReadied k told old mid) new fault
+RefusesReadied k old new fault = ⊥
+
+module _ {S : Type 0} (s : Ghosts S) (k : ℕ) (old new : MirrorView) (before after : S) where
+  -- the array is stopped, and then what was done is shown
+  pub record RebuildsArray : Type 0 where
+    pub told : Rebuilt
+    pub done : StopsAfter (RebuildsReadied k told old) new
+    pub shown : PutsOut s before after (rebuilt_text k told.passes told.plans.items (length told.orphans.items))
+
+  -- all is done, and the output failed
+  pub record RebuildsInVain : Type 0 where
+    pub told : Rebuilt
+    pub done : StopsAfter (RebuildsReadied k told old) new
+    pub failed : s.failed after ≡ true
+
+  -- the array has a member k, it is not rebuilt or the array not stopped, and nothing is put out
+  pub record FailsUnshown (fault : DataFault) : Type 0 where
+    pub member : HasMember old.array k
+    pub refused : RefusesReadied k old new fault
+    pub unwritten : after ≡ before
+
+  abbrev pub RefusesToRebuild : DataFault → Type 0
+  RefusesToRebuild BadMember = Refuses old new (LacksMember old.array k) × (after ≡ before)
+  RefusesToRebuild (Resync fault) = FailsUnshown (Resync fault)
+  RefusesToRebuild (Rebuild fault) = FailsUnshown (Rebuild fault)
+  RefusesToRebuild (Stop fault) = FailsUnshown (Stop fault)
+  RefusesToRebuild OutputFault = RebuildsInVain
+  RefusesToRebuild fault = ⊥

@@ -1,0 +1,76 @@
+// The command that takes a device back.
+ghost use Rattle.std.specs.Prelude.{◌≡◌, ◌<◌, MatchResult, length, option_map};
+ghost use Rattle.md_requests.specs.Pending.{PendingView};
+ghost use Rattle.md_state.specs.Requests.{IsPending};
+ghost use Rattle.md_state.specs.View.{disk_of};
+ghost use Rattle.md_array.specs.Consistency.{IsConsistent};
+ghost use Rattle.md_commands.specs.Adding.{KeepsDevice};
+ghost use Rattle.md_commands.specs.ReAdding.{ReAddsDevice, RebuildsMember, RefusesRebuilding, RefusesToReAdd};
+ghost use Rattle.md_commands.specs.Stopping.{StopsArrayAfter};
+
+use crate::fault::DataFault;
+use crate::rebuilding::rebuild_watched;
+use crate::resyncing::resync_if_needed;
+use crate::stopping::stop_array;
+use crate::watch::Watch;
+use md_array::Mirror;
+use md_device::Device;
+use md_examine::Sink;
+use std::alloc::Global;
+use std::sync::Wait;
+use std::thread::Threads;
+
+/// Takes a device back that left this array, rebuilds it, then stops the array, and puts out what it is in one
+/// line. It gets the marked chunks: all else of its data is taken for the array's. A degraded array that is not
+/// resynced is resynced first. A device that does not come back is handed back: as it was, unless a write to it
+/// failed, which is `ReAdd` with `WriteFault`. One that came back is the mirror's, its last, also where it is not
+/// rebuilt, or the array not stopped or shown after that.
+///
+///     let mut out = Output::new(rt.stdout());
+///     let (device, re_added) = re_add_device(&rt, rt.alloc(), &mut mirror, device, &watch, &mut out);
+///     re_added?; // it has put out `in sync 2 of 2, events 8, marked 0`
+pub fn re_add_device<D: Device + Drop + Send, W: Watch + Sync, S: Sink, T: Threads + Wait + Sync>(
+    rt: &T,
+    alloc: Global,
+    mirror: &mut Mirror<D>,
+    device: D,
+    watch: &W,
+    out: &mut S,
+) -> (Option<D>, Result<(), DataFault>)
+    requires sound { IsConsistent mirror.old }
+    ensures gives { MatchResult result.1 (λ _. StopsArrayAfter S.Sink (ReAddsDevice (disk_of D.Device device) mirror.old) mirror.new out.old out.new) (RefusesToReAdd S.Sink (disk_of D.Device device) (option_map (disk_of D.Device) result.0) mirror.old mirror.new out.old out.new) }
+    ensures device { KeepsDevice mirror.old.disks mirror.new.disks (option_map (disk_of D.Device) result.0) }
+    ensures sound { IsConsistent mirror.new }
+    ensures pending { (p : PendingView) → IsPending mirror.old.array p → IsPending mirror.new.array p }
+{
+    if let Err(fault) = resync_if_needed(alloc, mirror) {
+        return (Some(device), Err(DataFault::Resync(fault)));
+    }
+    match mirror.re_add(alloc, device) {
+        Ok(k) => {
+            let shown = rebuild_and_show(rt, alloc, mirror, k, watch, out);
+            (None, shown)
+        }
+        Err((device, fault)) => (Some(device), Err(DataFault::ReAdd(fault))),
+    }
+}
+
+// Rebuilds member k, stops the array, and shows it.
+fn rebuild_and_show<D: Device + Drop + Send, W: Watch + Sync, S: Sink, T: Threads + Wait + Sync>(
+    rt: &T,
+    alloc: Global,
+    mirror: &mut Mirror<D>,
+    k: usize,
+    watch: &W,
+    out: &mut S,
+) -> Result<(), DataFault>
+    requires member { k < length mirror.old.array.members }
+    requires sound { IsConsistent mirror.old }
+    ensures gives { MatchResult result (λ _. StopsArrayAfter S.Sink (RebuildsMember k mirror.old) mirror.new out.old out.new) (RefusesRebuilding S.Sink k mirror.old mirror.new out.old out.new) }
+    ensures sound { IsConsistent mirror.new }
+    ensures pending { (p : PendingView) → IsPending mirror.old.array p → IsPending mirror.new.array p }
+{
+    let rebuilt = rebuild_watched(rt, alloc, mirror, k, watch)?;
+    drop(rebuilt);
+    stop_array(mirror, out)
+}

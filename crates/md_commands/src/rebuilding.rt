@@ -1,0 +1,89 @@
+// The command that rebuilds a member.
+ghost use Rattle.std.specs.Prelude.{◌≡◌, ◌<◌, MatchResult, length};
+ghost use Rattle.md_requests.specs.Pending.{PendingView};
+ghost use Rattle.md_state.specs.Requests.{IsPending};
+ghost use Rattle.md_array.specs.Consistency.{IsConsistent};
+ghost use Rattle.md_copy.specs.Rebuilding.{Rebuilds, RefusesRebuild};
+ghost use Rattle.md_commands.specs.Rebuilding.{RebuildsArray, RebuildsReadied, RefusesReadied, RefusesToRebuild};
+ghost use Rattle.md_commands.specs.Stopping.{StopsAfter};
+
+use crate::fault::DataFault;
+use crate::named_member::named_member;
+use crate::output::put_rebuilt;
+use crate::resyncing::resync_if_needed;
+use crate::watch::Watch;
+use md_array::Mirror;
+use md_copy::{RebuildFault, Rebuilt, rebuild};
+use md_device::Device;
+use md_examine::Sink;
+use md_metadata::stop;
+use std::alloc::Global;
+use std::sync::Wait;
+use std::thread::Threads;
+
+/// Rebuilds the member with this index from all others at once, then stops the array, and puts out the plan of
+/// each pass and how many passes and orphans there were. A degraded array that is not resynced is resynced
+/// first. `watch` is told how many chunks the member lacks, and of each read.
+///
+/// In memory stands one chunk of the array for each member that is read.
+///
+///     let mut out = Output::new(rt.stdout());
+///     rebuild_member(&rt, rt.alloc(), &mut mirror, 2, &watch, &mut out)?; // ends with `rebuilt member 2, passes 1, orphans 0`
+pub fn rebuild_member<D: Device + Drop + Send, W: Watch + Sync, S: Sink, T: Threads + Wait + Sync>(
+    rt: &T,
+    alloc: Global,
+    mirror: &mut Mirror<D>,
+    member: u32,
+    watch: &W,
+    out: &mut S,
+) -> Result<(), DataFault>
+    requires sound { IsConsistent mirror.old }
+    ensures gives { MatchResult result (λ _. RebuildsArray S.Sink member mirror.old mirror.new out.old out.new) (RefusesToRebuild S.Sink member mirror.old mirror.new out.old out.new) }
+    ensures sound { IsConsistent mirror.new }
+    ensures pending { (p : PendingView) → IsPending mirror.old.array p → IsPending mirror.new.array p }
+{
+    let k = named_member(mirror, member)?;
+    let rebuilt = rebuild_and_stop(rt, alloc, mirror, k, watch)?;
+    put_rebuilt(&rebuilt, member, out)
+}
+
+// Rebuilds member k, after a resync where it is needed, and stops the array.
+fn rebuild_and_stop<D: Device + Drop + Send, W: Watch + Sync, T: Threads + Wait + Sync>(
+    rt: &T,
+    alloc: Global,
+    mirror: &mut Mirror<D>,
+    k: usize,
+    watch: &W,
+) -> Result<Rebuilt, DataFault>
+    requires member { k < length mirror.old.array.members }
+    requires sound { IsConsistent mirror.old }
+    ensures gives { MatchResult result (λ rebuilt. StopsAfter (RebuildsReadied k rebuilt mirror.old) mirror.new) (RefusesReadied k mirror.old mirror.new) }
+    ensures sound { IsConsistent mirror.new }
+    ensures pending { (p : PendingView) → IsPending mirror.old.array p → IsPending mirror.new.array p }
+{
+    resync_if_needed(alloc, mirror)?;
+    let rebuilt = rebuild_watched(rt, alloc, mirror, k, watch)?;
+    stop(mirror)?;
+    Ok(rebuilt)
+}
+
+/// Rebuilds member k. `watch` is told how many chunks it lacks, where there is memory to say so, and of each
+/// read.
+pub(crate) fn rebuild_watched<D: Device + Drop + Send, W: Watch + Sync, T: Threads + Wait + Sync>(
+    rt: &T,
+    alloc: Global,
+    mirror: &mut Mirror<D>,
+    k: usize,
+    watch: &W,
+) -> Result<Rebuilt, RebuildFault>
+    requires member { k < length mirror.old.array.members }
+    requires sound { IsConsistent mirror.old }
+    ensures gives { MatchResult result (λ rebuilt. Rebuilds k rebuilt mirror.old mirror.new) (RefusesRebuild k mirror.old mirror.new) }
+    ensures sound { IsConsistent mirror.new }
+    ensures pending { (p : PendingView) → IsPending mirror.old.array p → IsPending mirror.new.array p }
+{
+    if let Ok(missing) = mirror.missing(alloc, k) {
+        watch.begins(missing.count());
+    }
+    rebuild(rt, alloc, mirror, k, watch)
+}

@@ -1,0 +1,131 @@
+-- A pass over devices, as it is seen of the mirror that has lent them.
+use Rattle.std.proofs.Common.{◌≡◌, ◌≢◌, ◌∙◌, ℕ, ◌<◌, true, List, length, map, remove, get_or, slice_get, slice_index_or, Some, All, sym, ap, subst, arith}
+use Rattle.std.proofs.lemmas.List.{length-map}
+use Rattle.std.proofs.lemmas.Option.{get_or_from_slice_get, slice_get-get_or, slice_get_within}
+use Rattle.md_assembly.specs.States.{is_in_sync_as}
+use Rattle.md_bitmap.specs.declared.chunks.Chunks.{Chunks}
+use Rattle.md_cert.specs.declared.slots.Slot.{Slot}
+use Rattle.md_collect.specs.Places.{HasRoom, chunk_on}
+use Rattle.md_collect.specs.Reading.{Fails}
+use Rattle.md_collect.specs.Reports.{Copying}
+use Rattle.md_device.specs.declared.device.Device.{Ghosts}
+use Rattle.md_pass.specs.Beside.{KeepsBeside}
+use Rattle.md_pass.specs.Lanes.{AreOnlyRead, OnlyRead}
+use Rattle.md_pass.specs.Sources.{AreCopied, MayRead, copy_of}
+use Rattle.md_pass.specs.declared.source.Source.{Source}
+use Rattle.md_state.specs.View.{Disk, MirrorView, disk_of, of_disks}
+use Rattle.md_state.specs.DiskWrites.{AtDevice}
+use Rattle.md_copy.specs.Filling.{IsCopiedSlot}
+use Rattle.md_copy.specs.RebuildSources.{AreSources, place_beside}
+use Rattle.md_copy.proofs.Beside.{beside_is, beside_within}
+use Rattle.md_copy.proofs.Lists.{got_of, mapped_at, mapped_from, removed_of}
+
+module _ {D : Type 0} (g : Ghosts D) where
+  abbrev pub seen : List D → List Disk
+  seen devices = map (disk_of g) devices
+
+  -- ---- one device
+  read_seen : (d e : D) → OnlyRead g d e → OnlyRead of_disks (disk_of g d) (disk_of g e)
+  read_seen d e r = record { content_kept = r.content_kept; honest_kept = r.honest_kept; counted = r.counted; stops = r.stops }
+
+  kept_seen : (copy : Copying) (d e : D) → KeepsBeside g copy d e → KeepsBeside of_disks copy (disk_of g d) (disk_of g e)
+  kept_seen copy d e k = record { same = k.same; honest_kept = k.honest_kept; counted = k.counted; stops = k.stops }
+
+  -- ---- what a pass may read
+  pub may_read_of : (chunks : Chunks) (slots : List Slot) (sources : List Source) (devices : List D) (target : ℕ) → MayRead of_disks chunks slots sources (remove (seen devices) target)
+      → MayRead g chunks slots sources (remove devices target)
+  may_read_of chunks slots sources devices target may =
+      let same = removed_of (disk_of g) devices target in
+      let many = length-map (remove devices target) (disk_of g) in
+      let length_is : length (remove (seen devices) target) ≡ length (remove devices target) = ap length same ∙ many in
+      record {
+        within = λ k d below. (let low = may.within k d below in subst (λ n. (get_or sources k d).place < n) length_is low);
+        room = λ k s below d.
+            (let place = (get_or sources k s).place in
+            let is : get_or (remove (seen devices) target) place (disk_of g d) ≡ disk_of g (get_or (remove devices target) place d) = ap (λ xs. get_or xs place (disk_of g d)) same ∙ got_of (disk_of g) (remove devices target) place d in
+            subst (λ (e : Disk). HasRoom e.content (get_or sources k s).offset chunks) is (may.room k s below (disk_of g d)));
+        apart = may.apart;
+        rising = may.rising;
+        serves = may.serves;
+      }
+
+  -- ---- after a pass
+  module _ (olds news : List D) (target : ℕ) (within : target < length olds) (as_many : length news ≡ length olds) where
+    beside_old : (j : ℕ) (x : D) → j ≢ target → slice_get olds j ≡ Some x → (d : D) → get_or (remove olds target) (place_beside target j) d ≡ x
+    beside_old j x other at d = beside_is olds target j d within other ∙ get_or_from_slice_get olds j x d at
+
+    beside_new : (j : ℕ) (y : D) → j ≢ target → slice_get news j ≡ Some y → (d : D) → get_or (remove news target) (place_beside target j) d ≡ y
+    beside_new j y other at d = beside_is news target j d (omega (arith, within, as_many)) other ∙ get_or_from_slice_get news j y d at
+
+    pub others_read : AreOnlyRead g (remove olds target) (remove news target)
+        → (j : ℕ) (d e : Disk) → j ≢ target → slice_get (seen olds) j ≡ Some d → slice_get (seen news) j ≡ Some e → OnlyRead of_disks d e
+    others_read reads j d e other at_d at_e =
+        let x = mapped_from (disk_of g) olds j d at_d in
+        let y = mapped_from (disk_of g) news j e at_e in
+        let low = slice_get_within olds j x.from x.at in
+        let one = reads.each (place_beside target j) x.from (beside_within olds target j within low other) in
+        let both = subst (λ (z : D). OnlyRead g z y.from) (beside_old j x.from other x.at x.from) (subst (OnlyRead g (get_or (remove olds target) (place_beside target j) x.from)) (beside_new j y.from other y.at x.from) one) in
+        subst (λ (z : Disk). OnlyRead of_disks z e) x.is (subst (OnlyRead of_disks (disk_of g x.from)) y.is (read_seen x.from y.from both))
+
+    pub target_kept : (copy : Copying) → ((d : D) → KeepsBeside g copy (slice_index_or olds target d) (slice_index_or news target d))
+        → AtDevice target (seen olds) (seen news) (KeepsBeside of_disks copy)
+    target_kept copy keeps d e at_d at_e =
+        let x = mapped_from (disk_of g) olds target d at_d in
+        let y = mapped_from (disk_of g) news target e at_e in
+        let both = subst (λ (z : D). KeepsBeside g copy z y.from) (get_or_from_slice_get olds target x.from x.from x.at)
+        (subst (KeepsBeside g copy (get_or olds target x.from)) (get_or_from_slice_get news target y.from x.from y.at) (keeps x.from)) in
+        subst (λ (z : Disk). KeepsBeside of_disks copy z e) x.is (subst (KeepsBeside of_disks copy (disk_of g x.from)) y.is (kept_seen copy x.from y.from both))
+
+    pub target_fails : ((d : D) → Fails g (slice_index_or olds target d) (slice_index_or news target d)) → (d e : Disk) → slice_get (seen olds) target ≡ Some d → slice_get (seen news) target ≡ Some e → Fails of_disks d e
+    target_fails fails d e at_d at_e =
+        let x = mapped_from (disk_of g) olds target d at_d in
+        let y = mapped_from (disk_of g) news target e at_e in
+        let both = subst (λ (z : D). Fails g z y.from) (get_or_from_slice_get olds target x.from x.from x.at)
+        (subst (Fails g (get_or olds target x.from)) (get_or_from_slice_get news target y.from x.from y.at) (fails x.from)) in
+        subst (λ (z : Disk). Fails of_disks z e) x.is (subst (Fails of_disks (disk_of g x.from)) y.is both)
+
+    pub other_fails : (j : ℕ) → j ≢ target → ((d : D) → Fails g (slice_index_or (remove olds target) (place_beside target j) d) (slice_index_or (remove news target) (place_beside target j) d))
+        → (d e : Disk) → slice_get (seen olds) j ≡ Some d → slice_get (seen news) j ≡ Some e → Fails of_disks d e
+    other_fails j other fails d e at_d at_e =
+        let x = mapped_from (disk_of g) olds j d at_d in
+        let y = mapped_from (disk_of g) news j e at_e in
+        let both = subst (λ (z : D). Fails g z y.from) (beside_old j x.from other x.at x.from)
+        (subst (Fails g (get_or (remove olds target) (place_beside target j) x.from)) (beside_new j y.from other y.at x.from) (fails x.from)) in
+        subst (λ (z : Disk). Fails of_disks z e) x.is (subst (Fails of_disks (disk_of g x.from)) y.is both)
+
+    -- a slot was copied
+    module _ (v w : MirrorView) (v_is : v.disks ≡ seen olds) (w_is : w.disks ≡ seen news) (offset : ℕ) (slots : List Slot) (sources : List Source) (are : AreSources v target slots sources) where
+      pub slot_copied : ((d : D) → AreCopied g (copy_of slots v.array.chunks offset) sources (remove olds target) (slice_index_or olds target d) (slice_index_or news target d))
+          → All (IsCopiedSlot target offset v w) slots
+      slot_copied copied k d below =
+          let slot = get_or slots k d in
+          let found = are.served k d below in
+          let by = found.4 in
+          let s = found.1 in
+          record {
+            at = by.at;
+            member = by.member;
+            other = by.is.other;
+            role = subst (λ r. is_in_sync_as r by.member.state ≡ true) by.role by.is.in_sync;
+            serves = by.serves;
+            same = λ honest from to at_from at_to.
+                (let x = mapped_from (disk_of g) olds by.at from (ap (λ xs. slice_get xs by.at) (sym v_is) ∙ at_from) in
+                let y = mapped_from (disk_of g) news target to (ap (λ xs. slice_get xs target) (sym w_is) ∙ at_to) in
+                let t = get_or olds target x.from in
+                let at_t = slice_get-get_or olds target x.from within in
+                let t_honest : g.honest t ≡ true = honest target (disk_of g t) (ap (λ xs. slice_get xs target) v_is ∙ mapped_at (disk_of g) olds target t at_t) in
+                let x_honest : g.honest x.from ≡ true = honest by.at (disk_of g x.from) (ap (λ xs. slice_get xs by.at) v_is ∙ mapped_at (disk_of g) olds by.at x.from x.at) in
+                let place : get_or (remove olds target) s.place x.from ≡ x.from = ap (λ n. get_or (remove olds target) n x.from) by.is.place ∙ beside_old by.at x.from by.is.other x.at x.from in
+                let role : (get_or sources found.0 s).role ≡ slot.source = ap (λ (z : Source). z.role) found.3 ∙ by.role in
+                let holds = copied x.from k d below found.0 s found.2 role in
+                let source_is = found.3 in
+                let at_place : get_or (remove olds target) (get_or sources found.0 s).place x.from ≡ x.from = ap (λ (z : Source). get_or (remove olds target) z.place x.from) source_is ∙ place in
+                let same = holds x.from t_honest (ap g.honest at_place ∙ x_honest) in
+                let new_is : get_or news target x.from ≡ y.from = get_or_from_slice_get news target y.from x.from y.at in
+                ap (λ (z : Disk). chunk_on z.content offset v.array.chunks slot.chunk) (sym y.is)
+                ∙ ap (λ (z : D). chunk_on (g.content z) offset v.array.chunks slot.chunk) (sym new_is)
+                ∙ same
+                ∙ ap (λ (z : D). chunk_on (g.content z) (get_or sources found.0 s).offset v.array.chunks slot.chunk) at_place
+                ∙ ap (λ n. chunk_on (g.content x.from) n v.array.chunks slot.chunk) (ap (λ (z : Source). z.offset) source_is ∙ by.is.offset)
+                ∙ ap (λ (z : Disk). chunk_on z.content by.member.superblock.data_offset v.array.chunks slot.chunk) x.is);
+          }

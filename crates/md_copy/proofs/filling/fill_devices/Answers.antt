@@ -1,0 +1,119 @@
+use Rattle.std.proofs.Common.{◌≡◌, ◌∙◌, List, ap, get_or, refl, remove, slice_get, slice_index_or, subst, sym}
+use Rattle.std.proofs.lemmas.Option.{slice_get-get_or}
+use Rattle.md_assembly.proofs.Indices.{got_within}
+use Rattle.md_bitmap.specs.declared.chunks.Chunks.{Chunks}
+use Rattle.md_collect.specs.Collecting.{ArePlanned}
+use Rattle.md_collect.specs.Places.{HasRoom}
+use Rattle.md_kept_members.specs.View.{MemberView}
+use Rattle.md_pass.specs.Beside.{KeepsBeside}
+use Rattle.md_pass.specs.Sources.{AreCopied, MayRead, copy_of}
+use Rattle.md_pass.proofs.PassSources.{on_ok}
+use Rattle.md_state.specs.View.{Disk, MirrorView, disk_of, of_disks}
+use Rattle.md_array.specs.Lending.{AreBack}
+use Rattle.md_super.specs.declared.superblock.Superblock.{Superblock}
+use Rattle.md_copy.proofs.Carried.{may_read_of, seen, slot_copied, target_fails}
+use Rattle.md_copy.proofs.LentBack.{are_planned, back, fails_in_role, filling, within}
+use Rattle.md_copy.proofs.Lists.{mapped_at}
+use Rattle.md_copy.proofs.Observed.{field_of}
+use Rattle.md_copy.proofs.SourcesChosen.{has_room}
+use Rattle.md_copy.proofs.filling.fill_devices.Goals as goal
+
+pub copy_beside-result-requires-clause-planned : goal.copy_beside-result-requires-clause-planned
+copy_beside-result-requires-clause-planned g c κs bounds =
+    let v = c.args.mirror.now in
+    let at = got_within v.array.members c.args.target c.requires.within in
+    let olds = c.lend-devices.result.items in
+    subst (λ (x : Chunks). ArePlanned x c.args.plan.now.slots) (sym c.chunks-chunks.ensures)
+    (are_planned g.D.Device v c.requires.sound c.args.target c.requires.within at.0 at.1 (c.requires.target at.0 at.1) c.args.plan.now (c.requires.planned at.0 at.1) olds olds (sym c.lend-devices.ensures.devices) refl)
+
+pub copy_beside-result-requires-clause-sources : goal.copy_beside-result-requires-clause-sources
+copy_beside-result-requires-clause-sources g c κs bounds =
+    let slots = c.args.plan.now.slots in
+    let sources = c.args.sources.now in
+    may_read_of g.D.Device c.chunks-chunks.result slots sources c.lend-devices.result.items c.args.target
+    (subst (λ (x : Chunks). MayRead of_disks x slots sources (remove (seen g.D.Device c.lend-devices.result.items) c.args.target)) (sym c.chunks-chunks.ensures)
+    (subst (λ (xs : List Disk). MayRead of_disks c.args.mirror.now.array.chunks slots sources (remove xs c.args.target)) (sym c.lend-devices.ensures.devices) c.requires.sources.may_read))
+
+pub copy_beside-result-requires-clause-room : goal.copy_beside-result-requires-clause-room
+copy_beside-result-requires-clause-room g c κs bounds d =
+    let v = c.args.mirror.now in
+    let olds = c.lend-devices.result.items in
+    let v_is : v.disks ≡ seen g.D.Device olds = sym c.lend-devices.ensures.devices in
+    let at = got_within v.array.members c.args.target c.requires.within in
+    let low = within g.D.Device v c.requires.sound c.args.target c.requires.within at.0 at.1 (c.requires.target at.0 at.1) c.args.plan.now (c.requires.planned at.0 at.1) olds olds v_is refl in
+    let own = field_of (λ (m : MemberView). m.superblock) _ at.0 _ at.1 c.own.ensures in
+    let there = ap (λ (xs : List Disk). slice_get xs c.args.target) v_is ∙ mapped_at (disk_of g.D.Device) olds c.args.target (get_or olds c.args.target d) (slice_get-get_or olds c.args.target d low) in
+    let room = has_room v c.requires.sound c.args.target at.0 (disk_of g.D.Device (get_or olds c.args.target d)) at.1 there in
+    subst (λ (x : Chunks). HasRoom (g.D.Device.content (get_or olds c.args.target d)) c.own.result.now.data_offset x) (sym c.chunks-chunks.ensures)
+    (subst (λ (b : Superblock). HasRoom (g.D.Device.content (get_or olds c.args.target d)) b.data_offset v.array.chunks) own room)
+
+pub give_back-requires-clause-back : goal.give_back-requires-clause-back
+give_back-requires-clause-back g c =
+    let v = c.args.mirror.now in
+    let slots = c.args.plan.now.slots in
+    let olds = c.lend-devices.result.items in
+    let news = c.copy_beside-result.new.devices.items in
+    let target = c.args.target in
+    let at = got_within v.array.members target c.requires.within in
+    let own = field_of (λ (m : MemberView). m.superblock) _ at.0 _ at.1 c.own.ensures in
+    let keeps = λ (d : g.row.D.Denot). subst (λ (b : Superblock). KeepsBeside g.D.Device (copy_of slots v.array.chunks b.data_offset) (slice_index_or olds target d) (slice_index_or news target d)) (sym own)
+    (subst (λ (x : Chunks). KeepsBeside g.D.Device (copy_of slots x c.own.result.now.data_offset) (slice_index_or olds target d) (slice_index_or news target d)) c.chunks-chunks.ensures (c.copy_beside-result.ensures.target d)) in (
+      v.disks,
+      subst (λ (x : MirrorView). AreBack x v.disks (seen g.D.Device news)) (sym c.lend-devices.ensures.out)
+          (back g.D.Device v c.requires.sound target c.requires.within at.0 at.1 (c.requires.target at.0 at.1) c.args.plan.now (c.requires.planned at.0 at.1) olds news (sym c.lend-devices.ensures.devices) c.copy_beside-result.ensures.as_many
+          c.copy_beside-result.ensures.others keeps c.requires.idle),
+    )
+
+pub returns-clause-filling : goal.returns-clause-filling
+returns-clause-filling g c m at =
+    let v = c.args.mirror.now in
+    let slots = c.args.plan.now.slots in
+    let olds = c.lend-devices.result.items in
+    let news = c.copy_beside-result.new.devices.items in
+    let target = c.args.target in
+    let own = field_of (λ (m : MemberView). m.superblock) _ m _ at c.own.ensures in
+    let keeps = λ (d : g.row.D.Denot). subst (λ (b : Superblock). KeepsBeside g.D.Device (copy_of slots v.array.chunks b.data_offset) (slice_index_or olds target d) (slice_index_or news target d)) (sym own)
+    (subst (λ (x : Chunks). KeepsBeside g.D.Device (copy_of slots x c.own.result.now.data_offset) (slice_index_or olds target d) (slice_index_or news target d)) c.chunks-chunks.ensures (c.copy_beside-result.ensures.target d)) in
+    filling g.D.Device v c.requires.sound target c.requires.within m at (c.requires.target m at) c.args.plan.now (c.requires.planned m at) olds news (sym c.lend-devices.ensures.devices) c.copy_beside-result.ensures.as_many
+    c.copy_beside-result.ensures.others keeps c.give_back.new.self
+    (ap (λ (x : MirrorView). x.array) c.give_back.ensures.in_place ∙ ap (λ (x : MirrorView). x.array) c.lend-devices.ensures.out) (ap (λ (x : MirrorView). x.disks) c.give_back.ensures.in_place)
+
+pub returns-clause-copied : goal.returns-clause-copied
+returns-clause-copied g c =
+    let v = c.args.mirror.now in
+    let slots = c.args.plan.now.slots in
+    let sources = c.args.sources.now in
+    let olds = c.lend-devices.result.items in
+    let news = c.copy_beside-result.new.devices.items in
+    let target = c.args.target in
+    on_ok c.copy_beside-result.result
+    (λ done m at.
+    let own = field_of (λ (m : MemberView). m.superblock) _ m _ at c.own.ensures in
+    let v_is : v.disks ≡ seen g.D.Device olds = sym c.lend-devices.ensures.devices in
+    let low = within g.D.Device v c.requires.sound target c.requires.within m at (c.requires.target m at) c.args.plan.now (c.requires.planned m at) olds news v_is c.copy_beside-result.ensures.as_many in
+    let copied = λ (d : g.row.D.Denot). subst (λ (b : Superblock). AreCopied g.D.Device (copy_of slots v.array.chunks b.data_offset) sources (remove olds target) (slice_index_or olds target d) (slice_index_or news target d)) (sym own)
+    (subst (λ (x : Chunks). AreCopied g.D.Device (copy_of slots x c.own.result.now.data_offset) sources (remove olds target) (slice_index_or olds target d) (slice_index_or news target d)) c.chunks-chunks.ensures (done d)) in
+    slot_copied g.D.Device olds news target low c.copy_beside-result.ensures.as_many v c.give_back.new.self v_is (ap (λ (x : MirrorView). x.disks) c.give_back.ensures.in_place) m.superblock.data_offset slots sources c.requires.sources copied)
+    c.copy_beside-result.ensures.copied
+
+pub returns-clause-target_fault : goal.returns-clause-target_fault
+returns-clause-target_fault g c e honest d f at_d at_f =
+    let v = c.args.mirror.now in
+    let olds = c.lend-devices.result.items in
+    let news = c.copy_beside-result.new.devices.items in
+    let target = c.args.target in
+    let at = got_within v.array.members target c.requires.within in
+    let v_is : v.disks ≡ seen g.D.Device olds = sym c.lend-devices.ensures.devices in
+    let low = within g.D.Device v c.requires.sound target c.requires.within at.0 at.1 (c.requires.target at.0 at.1) c.args.plan.now (c.requires.planned at.0 at.1) olds news v_is c.copy_beside-result.ensures.as_many in
+    target_fails g.D.Device olds news target low c.copy_beside-result.ensures.as_many (c.copy_beside-result.ensures.target_fault e) d f
+    (ap (λ (xs : List Disk). slice_get xs target) (sym v_is) ∙ at_d) (ap (λ (x : MirrorView). slice_get x.disks target) (sym c.give_back.ensures.in_place) ∙ at_f) (honest target d at_d)
+
+pub returns-clause-source_fault : goal.returns-clause-source_fault
+returns-clause-source_fault g c role chunk e =
+    let v = c.args.mirror.now in
+    let olds = c.lend-devices.result.items in
+    let news = c.copy_beside-result.new.devices.items in
+    let target = c.args.target in
+    let at = got_within v.array.members target c.requires.within in
+    fails_in_role g.D.Device v c.requires.sound target c.requires.within at.0 at.1 (c.requires.target at.0 at.1) c.args.plan.now (c.requires.planned at.0 at.1) olds news (sym c.lend-devices.ensures.devices) c.copy_beside-result.ensures.as_many
+    c.give_back.new.self (ap (λ (x : MirrorView). x.disks) c.give_back.ensures.in_place) c.args.sources.now role chunk c.requires.sources (c.copy_beside-result.ensures.source_fault role chunk e)

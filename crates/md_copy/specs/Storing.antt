@@ -1,0 +1,52 @@
+-- What the members have to know is stored before a rebuild, and after it (this project's own order).
+use Rattle.std.specs.Prelude.{◌≡◌, ◌⊎◌, ℕ, false}
+use Rattle.md_kept_members.specs.View.{MemberView}
+use Rattle.md_state.specs.Members.{AllInSync, IsInSync}
+use Rattle.md_state.specs.View.{MirrorView}
+use Rattle.md_array.specs.Consistency.{IsConsistent}
+use Rattle.md_array.specs.RecordingTarget.{LeavesUnrecorded}
+use Rattle.md_metadata.specs.Going.{GoesOn, HaltsAfter, only_others}
+use Rattle.md_metadata.specs.Storing.{AllRecorded, HasAllMarks, IsStoring, LosesStoring, Stores}
+use Rattle.md_copy.specs.declared.fault.RebuildFault.{RebuildFault}
+use Rattle.md_copy.specs.declared.fault.RebuildFault.TheVariants.{MetadataFault, TargetFault}
+
+-- Each member in sync has all marks of memory stored, and no superblock is due. Nothing failed.
+pub record StoresFirst (old new : MirrorView) : Type 0 where
+  pub stores : Stores IsStoring old new
+  pub marks : AllInSync new.array (HasAllMarks old.array.marks)
+  pub recorded : AllRecorded new.array
+
+-- After something was stored a write failed on a member that can't be made faulty, and the mirror is halted. The member that is named
+-- is in sync.
+pub record HaltsStoring (k : ℕ) (old new : MirrorView) : Type 0 where
+  pub halts : HaltsAfter only_others only_others IsStoring old new
+  pub member : MemberView
+  pub in_sync : IsInSync new.array k member
+
+-- A write to member k failed, and that was the end: it is faulty, or the mirror is halted.
+abbrev pub StopsAt : ℕ → MirrorView → MirrorView → Type 0
+StopsAt k old new = LosesStoring IsStoring k old new ⊎ HaltsStoring k old new
+
+-- The superblock of the target could not be stored. In memory it is as it was, its record due.
+pub record FailsOnTarget (target : ℕ) (old new : MirrorView) : Type 0 where
+  pub mid : MirrorView
+  pub stores : Stores IsStoring old mid
+  pub fails : LeavesUnrecorded target mid new
+  pub sound : IsConsistent new
+
+-- why it is not all stored: a member fails, or the target's superblock is not stored
+abbrev pub StoringStops : ℕ → MirrorView → MirrorView → RebuildFault → Type 0
+StoringStops target old new (MetadataFault k) = StopsAt k old new
+StoringStops target old new TargetFault = FailsOnTarget target old new
+StoringStops target old new fault = ⊥
+
+-- ---- after a rebuild
+-- All that was due is stored. Members may have failed on the way, and the others have stored that too.
+pub record SettlesAll (old new : MirrorView) : Type 0 where
+  pub goes : GoesOn only_others only_others IsStoring old new
+  pub recorded : AllRecorded new.array
+  pub running : new.array.halted ≡ false
+
+-- or a write failed that halted the mirror
+abbrev pub Settles : MirrorView → MirrorView → Type 0
+Settles old new = SettlesAll old new ⊎ HaltsAfter only_others only_others IsStoring old new

@@ -1,0 +1,69 @@
+// A pass over the devices of a mirror, among which the target's stands.
+ghost use Rattle.std.specs.Prelude.{◌≡◌, ◌<◌, ◌≤◌, ℕ, length, remove, slice_index_or, Err, OnOk};
+ghost use Rattle.std.specs.Int.{div_ceil};
+ghost use Rattle.md_collect.specs.Collecting.{ArePlanned};
+ghost use Rattle.md_collect.specs.Places.{HasRoom};
+ghost use Rattle.md_collect.specs.Reading.{Fails};
+ghost use Rattle.md_pass.specs.Beside.{KeepsBeside};
+ghost use Rattle.md_pass.specs.Lanes.{AreOnlyRead};
+ghost use Rattle.md_pass.specs.Sources.{AreCopied, AreMarked, FailsToGive, MayRead, copy_of};
+
+use md_bitmap::{Chunks, Marks};
+use md_cert::Plan;
+use md_device::Device;
+use md_pass::{BoardCounts, Gate, PassFault, Source, copy_pass};
+use std::alloc::Global;
+use std::sync::Wait;
+use std::thread::Threads;
+
+/// One pass over the devices. The target's is out of the list meanwhile, and comes back to its place
+/// whatever the answer is.
+pub(crate) fn copy_beside<D: Device + Drop + Send, G: Gate + Sync, R: Threads + Wait + Sync>(
+    rt: &R,
+    alloc: Global,
+    gate: &G,
+    plan: &Plan,
+    chunks: Chunks,
+    sources: &[Source],
+    devices: &mut Vec<D>,
+    target: usize,
+    offset: u64,
+    copied: &mut Marks,
+) -> Result<BoardCounts, PassFault>
+    requires within { target < length devices.old.items }
+    requires planned { ArePlanned chunks plan.now.slots }
+    requires sources { MayRead D.Device chunks plan.now.slots sources.now (remove devices.old.items target) }
+    requires room { (d : D) → HasRoom (D.content (slice_index_or devices.old.items target d)) offset chunks }
+    requires marks { copied.old.chunks ≡ div_ceil chunks.size chunks.sectors }
+
+    ensures marked { OnOk result (AreMarked plan.now.slots copied.old copied.new) }
+    ensures copied { OnOk result ((d : D) → AreCopied D.Device (copy_of plan.now.slots chunks offset) sources.now
+        (remove devices.old.items target) (slice_index_or devices.old.items target d) (slice_index_or devices.new.items target d)) }
+    ensures target_fault { result ≡ Err PassFault.TargetFault
+        → (d : D) → Fails D.Device (slice_index_or devices.old.items target d) (slice_index_or devices.new.items target d) }
+    ensures source_fault { (role chunk : ℕ) → result ≡ Err (PassFault.SourceFault role chunk)
+        → FailsToGive D.Device plan.now.slots sources.now (remove devices.old.items target) (remove devices.new.items target) role chunk }
+
+    ensures as_many { length devices.new.items ≡ length devices.old.items }
+    ensures others { AreOnlyRead D.Device (remove devices.old.items target) (remove devices.new.items target) }
+    ensures target { (d : D) → KeepsBeside D.Device (copy_of plan.now.slots chunks offset)
+        (slice_index_or devices.old.items target d) (slice_index_or devices.new.items target d) }
+{
+    let mut device = devices.remove(target);
+    let result = copy_pass(
+        rt,
+        alloc,
+        gate,
+        plan,
+        chunks,
+        sources,
+        devices,
+        &mut device,
+        offset,
+        copied,
+    );
+    if devices.insert(target, device).is_err() {
+        unreachable!();
+    }
+    result
+}
