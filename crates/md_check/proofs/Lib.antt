@@ -1,0 +1,16 @@
+-- Sectors of a buffer of which a part was read.
+mod SectorsRead
+-- A sector lies in one chunk.
+mod ChunkSectors
+-- Sets of chunks in which members differ, as more sectors are looked at.
+mod Differing
+-- Lists that lose their first element, one after another.
+mod TakenInTurn
+-- Sets of runs that are built run by run.
+mod RunByRun
+-- Windows that were read: what the buffers show is what the devices show.
+mod WindowsRead
+-- Seats stand for the members of a mirror.
+mod SeatedMembers
+-- What was read of a sector is compared with the first that shows it.
+mod WindowCompared

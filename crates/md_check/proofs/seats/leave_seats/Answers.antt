@@ -1,0 +1,32 @@
+use Rattle.std.proofs.Common.{◌≡◌, ◌∙◌, ◌+◌, ◌<◌, ◌++◌, ◌∷◌, [], suc, List, length, map, take, ap, arith, length-append, length-drop, take_all}
+use Rattle.md_pass.proofs.LaneMaking.{first_is, rest_is}
+use Rattle.md_check.specs.declared.seat.Seat.{Seat}
+use Rattle.md_check.proofs.TakenInTurn.{left_next}
+use Rattle.md_check.proofs.seats.leave_seats.Goals as goal
+
+pub remove-requires : goal.remove-requires
+remove-requires g c =
+    let inv = c.loop-k.invariant in
+    let all = c.args.seats.now.items in
+    omega (arith, c.loop-k-test.true, c.len-k-end.ensures, ap length inv.seats, length-drop c.loop-k._k all)
+
+pub loop-k-preserved : goal.loop-k-preserved
+loop-k-preserved g c =
+    let inv = c.loop-k.invariant in
+    let all = c.args.seats.now.items in
+    let k = c.loop-k._k in
+    let seat = c.remove.result in
+    let low : k < length all = omega (arith, c.loop-k-test.true, c.len-k-end.ensures) in
+    record {
+      seats = rest_is all c.loop-k.seats.items c.remove.new.self.items k inv.seats c.remove.ensures.items;
+      devices = c.push_reserved.ensures.items ∙ ap (λ xs. xs ++ (c.device_of.result ∷ [])) inv.devices ∙ ap (λ d. map (λ (s : Seat _). s.device) (take k all) ++ (d ∷ [])) c.device_of.ensures
+          ∙ left_next (λ (s : Seat _). s.device) all k seat low (first_is all c.loop-k.seats.items k seat seat inv.seats low c.remove.ensures.value)
+          ∙ ap (λ n. map (λ (s : Seat _). s.device) (take n all)) (let e : suc k ≡ k + 1 = omega arith in e);
+      count = ap length c.push_reserved.ensures.items ∙ length-append c.loop-k.devices.items (c.device_of.result ∷ []) ∙ ap (λ n. n + 1) inv.count;
+      room = c.push_reserved.ensures.capacity ∙ inv.room;
+    }
+
+pub returns : goal.returns
+returns g c =
+    let all = c.args.seats.now.items in
+    c.loop-k.invariant.devices ∙ ap (λ (xs : List (Seat _)). map (λ (s : Seat _). s.device) xs) (take_all c.loop-k._k all (omega (arith, c.loop-k-test.false, c.len-k-end.ensures)))

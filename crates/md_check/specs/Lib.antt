@@ -1,0 +1,12 @@
+-- What members show in the sectors of an array, and the chunks in which two of them differ.
+pub mod Differences
+-- Seats: a member's device each, with what is read of it in a window.
+pub mod Seats
+-- What a worker reads of its seat's member.
+pub mod Readings
+-- What a member's worker has to know of it, made before its device is lent.
+pub mod Plans
+-- Mismatches: the chunks in which two members in sync differ in a sector that neither lists.
+pub mod Mismatches
+-- The members of a mirror are compared: what comes of it, and why it is refused.
+pub mod Checking

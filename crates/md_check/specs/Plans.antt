@@ -1,0 +1,29 @@
+-- What a member's worker has to know of it, made before its device is lent.
+use Rattle.std.specs.Prelude.{◌≡◌, ℕ, ◌+◌, ◌↔◌, is_some, List, length, slice_get, Some}
+use Rattle.md_badblocks.specs.Runs.{IsBad}
+use Rattle.md_assembly.specs.States.{is_in_sync}
+use Rattle.md_kept_members.specs.View.{MemberView}
+use Rattle.md_state.specs.Members.{IsMember}
+use Rattle.md_state.specs.View.{ArrayView}
+use Rattle.md_check.specs.declared.seat.Seat.{Seat}
+use Rattle.md_check.specs.declared.order.Order.{Order}
+
+-- the order for a member's worker, with room for so many bytes
+pub record IsOrderFor (m : MemberView) (room : ℕ) (order : Order) : Type 0 where
+  pub reads : is_some order.role ≡ is_in_sync m.state
+  pub offset : order.offset ≡ m.superblock.data_offset
+  pub listed : (s : ℕ) → IsBad order.listed s ↔ IsBad m.bad (m.superblock.data_offset + s)
+  pub room_is : length order.bytes.items ≡ room
+
+-- one for each member, in their order
+pub record AreOrders (a : ArrayView) (room : ℕ) (orders : List Order) : Type 0 where
+  pub as_many : length orders ≡ length a.members
+  pub each : (k : ℕ) (m : MemberView) (order : Order) → IsMember a k m → slice_get orders k ≡ Some order → IsOrderFor m room order
+
+-- the seat of a device whose worker has this order
+pub record IsSeatOf {D : Type 0} (order : Order) (device : D) (seat : Seat D) : Type 0 where
+  pub device_is : seat.device ≡ device
+  pub role : seat.role ≡ order.role
+  pub offset : seat.offset ≡ order.offset
+  pub listed : seat.listed ≡ order.listed
+  pub bytes : seat.bytes ≡ order.bytes

@@ -1,0 +1,18 @@
+//! Whether the members in sync agree: each is read by a worker of its own, and the chunks in which two differ are
+//! counted. Nothing is written.
+#![tactic(auto)]
+
+mod check;
+mod compare;
+mod fault;
+mod lent;
+mod listed;
+mod order;
+mod reading;
+mod seat;
+mod seats;
+mod turn;
+
+pub use check::check_array;
+pub use fault::CheckFault;
+pub use md_pass::Gate;
