@@ -66,10 +66,7 @@ fn three_members(rt: HostRuntime) -> Result<(), Fail> {
 fn one_member(rt: HostRuntime) -> Result<(), Fail> {
     let alloc = rt.alloc();
     let gate = Counting::new();
-    let alone = Member {
-        bad: 0,
-        ..plain(0)
-    };
+    let alone = Member { bad: 0, ..plain(0) };
     let mut mirror = mirror_of(alloc, 2, &[alone])?;
     assert_eq!(rt; check_array(&rt, alloc, &mut mirror, &gate), Ok(0));
     assert!(rt; gate.sums() == [0; 4]);
@@ -82,7 +79,10 @@ fn request_in_flight(rt: HostRuntime) -> Result<(), Fail> {
     let gate = Counting::new();
     let mut mirror = mirror_of(alloc, 2, &[plain(0), plain(1)])?;
     let _pending = mirror.begin(8, &[1u8; 512])?;
-    assert_eq!(rt; check_array(&rt, alloc, &mut mirror, &gate), Err(CheckFault::InFlight(0)));
+    assert_eq!(rt;
+        check_array(&rt, alloc, &mut mirror, &gate),
+        Err(CheckFault::InFlight(0))
+    );
     assert!(rt; gate.sums() == [0; 4]);
     Ok(())
 }

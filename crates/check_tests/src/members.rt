@@ -1,5 +1,5 @@
 // Members of the vault's array of 64 sectors, whose chunks have 8.
-ghost use Rattle.std.specs.Prelude.{IfOk};
+ghost use Rattle.std.specs.Prelude.{◌≡◌, ◌*◌, IfOk, length};
 ghost use Rattle.md_array.specs.Consistency.{IsConsistent};
 
 use example_members::{bitmap, member_image, open, put, sealed, vault};
@@ -63,17 +63,34 @@ fn log_of(member: &Member) -> [u8; 4096] {
     log
 }
 
+// Puts the member's number into each byte of a sector of the array, if there is such a sector.
+fn change(device: &mut MemDevice, sector: u64, number: u8) -> Result<(), Fail>
+    requires { length device.old ≡ 512 * 2112 }
+    ensures { length device.new ≡ 512 * 2112 }
+{
+    if sector < 64 {
+        device.write(DATA + sector, &[number; 512])?;
+    }
+    Ok(())
+}
+
+fn change_all(device: &mut MemDevice, member: &Member) -> Result<(), Fail>
+    requires { length device.old ≡ 512 * 2112 }
+    ensures { length device.new ≡ 512 * 2112 }
+{
+    for sector in member.changed {
+        change(device, sector, member.number)?;
+    }
+    Ok(())
+}
+
 fn device_of(alloc: Global, member: &Member, raid_disks: u8) -> Result<MemDevice, Fail> {
     let mut marks = bitmap();
     put(&mut marks, 256, &[0]);
     let mut device = member_image(alloc, &superblock_of(member, raid_disks), &marks)?;
     device.write(LOG, &log_of(member))?;
     device.write(DATA, &[7; WHOLE])?;
-    for sector in member.changed {
-        if sector < 64 {
-            device.write(DATA + sector, &[member.number; 512])?;
-        }
-    }
+    change_all(&mut device, member)?;
     Ok(device)
 }
 

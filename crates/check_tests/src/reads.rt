@@ -47,10 +47,7 @@ fn listed_sectors(rt: HostRuntime) -> Result<(), Fail> {
 fn read_that_fails(rt: HostRuntime) -> Result<(), Fail> {
     let alloc = rt.alloc();
     let gate = Counting::new();
-    let other = Member {
-        bad: 8,
-        ..plain(1)
-    };
+    let other = Member { bad: 8, ..plain(1) };
     let mut mirror = mirror_of(alloc, 2, &[plain(0), other])?;
     assert_eq!(rt;
         check_array(&rt, alloc, &mut mirror, &gate),
