@@ -9,6 +9,7 @@ pub mod Lists
 pub mod Observed
 pub mod PlanChunks
 pub mod Planned
+pub mod RebuiltMember
 pub mod Returned
 pub mod Rows
 pub mod Served

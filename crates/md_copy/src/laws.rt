@@ -1,0 +1,15 @@
+//! What holds of every rebuild by its steps. The functions do nothing: their contracts are the theorems.
+ghost use Rattle.std.specs.Prelude.{ℕ};
+ghost use Rattle.md_bitmap.specs.Marks.{Bitmap};
+ghost use Rattle.md_plan.specs.declared.planner.Planned.{Planned};
+ghost use Rattle.md_state.specs.View.{MirrorView};
+ghost use Rattle.md_copy.specs.Rebuilding.{RebuildsBy};
+ghost use Rattle.md_copy.specs.Rebuilt.{IsRebuiltInSync};
+
+/// From the moment at which what is due is stored to that at which the target is in sync: whatever the steps
+/// of a rebuild, its target is rebuilt.
+pub fn rebuilt_member()
+    ensures { (target : ℕ) (planned : Planned) (copied orphans : Bitmap) (old new : MirrorView)
+        → (by : RebuildsBy target planned copied orphans old new)
+        → IsRebuiltInSync target copied orphans by.fills.stored by.enrolled }
+{}
