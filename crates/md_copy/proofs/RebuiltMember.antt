@@ -25,7 +25,7 @@ use Rattle.md_state.specs.View.{ArrayView, Disk, MirrorView}
 use Rattle.md_array.specs.Consistency.{IsConsistent}
 use Rattle.md_array.specs.Enrolling.{HasContent, KeepsData}
 use Rattle.md_array.specs.Worlds.{AreHonest}
-use Rattle.md_array.proofs.General.Indices.{at_set_same}
+use Rattle.md_array.proofs.General.Indices.{at_set_same, got_in_map, got_other}
 use Rattle.md_copy.specs.Filling.{Fills, IsFilling}
 use Rattle.md_copy.specs.Preparing.{is_in}
 use Rattle.md_copy.specs.Rebuilding.{RebuildsBy}
@@ -92,7 +92,7 @@ module _ (target : ℕ) (planned : Planned) (copied orphans : Bitmap) (old new :
   abbrev m : MemberView
   m = by.fills.begins.now
 
-  at : IsMember a target m
+  pub at : IsMember a target m
   at = by.fills.begins.there
 
   sound : IsConsistent v
@@ -122,16 +122,16 @@ module _ (target : ℕ) (planned : Planned) (copied orphans : Bitmap) (old new :
   was_is : by.enrols.comes.member ≡ m
   was_is = same_Some by.enrols.comes.member m (sym by.enrols.comes.at ∙ ap (λ (b : ArrayView). slice_get b.members target) a_is ∙ at)
 
-  now_there : IsMember x.array target by.enrols.member
+  pub now_there : IsMember x.array target by.enrols.member
   now_there =
       let low = slice_get_within w.array.members target by.enrols.comes.member by.enrols.comes.at in
       let many = length-map w.array.members made_due in
       ap (λ (b : ArrayView). slice_get b.members target) by.enrols.array ∙ at_set_same (map made_due w.array.members) target by.enrols.member (omega (arith, low, many))
 
-  in_sync_now : is_in_sync by.enrols.member.state ≡ true
+  pub in_sync_now : is_in_sync by.enrols.member.state ≡ true
   in_sync_now = ap is_in_sync by.enrols.comes.comes.state
 
-  list_now : IsListAfter a.chunks m copied orphans by.enrols.member.bad
+  pub list_now : IsListAfter a.chunks m copied orphans by.enrols.member.bad
   list_now =
       let c = by.enrols.comes in
       subst (λ (b : ArrayView). IsListAfter b.chunks m copied orphans by.enrols.member.bad) a_is
@@ -139,10 +139,10 @@ module _ (target : ℕ) (planned : Planned) (copied orphans : Bitmap) (old new :
       (subst (IsListAfter w.array.chunks c.member copied orphans) (sym c.comes.bad) c.list_is))
 
   -- ---- which chunks
-  marks_is : w.array.marks ≡ a.marks
+  pub marks_is : w.array.marks ≡ a.marks
   marks_is = ap (λ (b : ArrayView). b.marks) a_is
 
-  missing_of : (c : ℕ) → c < a.marks.chunks → (is_set copied.bytes c ≡ true) ⊎ (is_set orphans.bytes c ≡ true) → state.is_missing a m c ≡ true
+  pub missing_of : (c : ℕ) → c < a.marks.chunks → (is_set copied.bytes c ≡ true) ⊎ (is_set orphans.bytes c ≡ true) → state.is_missing a m c ≡ true
   missing_of c low either =
       let there = by.fills.may.only c (subst (λ (b : Bitmap). c < b.chunks) (sym marks_is) low) either in
       ap (λ (b : ArrayView). state.is_missing b m c) (sym a_is) ∙ ap (λ (n : MemberView). state.is_missing w.array n c) (sym member_is) ∙ there
@@ -156,7 +156,7 @@ module _ (target : ℕ) (planned : Planned) (copied orphans : Bitmap) (old new :
   orphan_same : (c : ℕ) → is_set orphans.bytes c ≡ is_in (orphans_of plan_of.rows) c
   orphan_same c = by.fills.sets.orphans_are.bits c ∙ ap (λ xs. is_in xs c) by.fills.begins.plan.orphans
 
-  served : (c : ℕ) → is_set copied.bytes c ≡ true → IsServed a target c
+  pub served : (c : ℕ) → is_set copied.bytes c ≡ true → IsServed a target c
   served c set =
       let slots = planned.plan.slots in
       let hit = Any-from_list_any (λ (slot : Slot). slot.chunk == c) slots (sym (by.fills.sets.copied_are.bits c) ∙ set) in
@@ -165,7 +165,7 @@ module _ (target : ℕ) (planned : Planned) (copied orphans : Bitmap) (old new :
       let one = by.fills.fills.copied hit.0 hit.1 hit.2 in
       (one.at, one.member, one.other, subst (Serves a one.at one.member) chunk_is one.serves)
 
-  unserved : (c : ℕ) → is_set orphans.bytes c ≡ true → IsServed a target c → ⊥
+  pub unserved : (c : ℕ) → is_set orphans.bytes c ≡ true → IsServed a target c → ⊥
   unserved c set by_other =
       let serves = by_other.3 in
       let role = role_of_sync by_other.1.state serves.in_sync.in_sync in
@@ -180,10 +180,10 @@ module _ (target : ℕ) (planned : Planned) (copied orphans : Bitmap) (old new :
     | inr orphan ↦ inr (orphan_same c ∙ orphan)
   ]
 
-  copied_if : (c : ℕ) → c < a.marks.chunks → (state.is_missing a m c ≡ true) × IsServed a target c → is_set copied.bytes c ≡ true
+  pub copied_if : (c : ℕ) → c < a.marks.chunks → (state.is_missing a m c ≡ true) × IsServed a target c → is_set copied.bytes c ≡ true
   copied_if c low h = elim (either_set c low h.0) [ | inl set ↦ set | inr orphan ↦ absurd (unserved c orphan h.1) ]
 
-  orphan_if : (c : ℕ) → c < a.marks.chunks → (state.is_missing a m c ≡ true) × (IsServed a target c → ⊥) → is_set orphans.bytes c ≡ true
+  pub orphan_if : (c : ℕ) → c < a.marks.chunks → (state.is_missing a m c ≡ true) × (IsServed a target c → ⊥) → is_set orphans.bytes c ≡ true
   orphan_if c low h = elim (either_set c low h.0) [ | inl set ↦ absurd (h.1 (served c set)) | inr orphan ↦ orphan ]
 
   -- ---- its data
@@ -194,7 +194,7 @@ module _ (target : ℕ) (planned : Planned) (copied orphans : Bitmap) (old new :
       (get_or w.disks target e, slice_get-get_or w.disks target e (omega (arith, low, many)))
 
   -- its data area is where it was
-  area_same : (by.enrols.member.superblock.data_offset ≡ m.superblock.data_offset) × (by.enrols.member.superblock.data_size ≡ m.superblock.data_size)
+  pub area_same : (by.enrols.member.superblock.data_offset ≡ m.superblock.data_offset) × (by.enrols.member.superblock.data_size ≡ m.superblock.data_size)
   area_same =
       let c = by.enrols.comes in
       (
@@ -208,14 +208,14 @@ module _ (target : ℕ) (planned : Planned) (copied orphans : Bitmap) (old new :
       let size = area_same.1 in
       (by.enrols.disks.change d e at_d at_e).1 i n (omega (arith, offset, from)) (omega (arith, offset, size, to))
 
-  size_within : (d : Disk) → slice_get v.disks target ≡ Some d → a.chunks.size ≤ m.superblock.data_size
+  pub size_within : (d : Disk) → slice_get v.disks target ≡ Some d → a.chunks.size ≤ m.superblock.data_size
   size_within d at_d =
       let fits = (sound.fits.each target d m at_d at).placed.data_holds in
       let same = sound.chunks.size in
       let own = sound.chunks.member_size target m at in
       omega (arith, fits, same, own)
 
-  holds_then : AreHonest v.disks → (content : Content) → HasContent v.disks a content → (e : Disk) → slice_get x.disks target ≡ Some e
+  pub holds_then : AreHonest v.disks → (content : Content) → HasContent v.disks a content → (e : Disk) → slice_get x.disks target ≡ Some e
       → (c s : ℕ) → c < a.marks.chunks → is_set copied.bytes c ≡ true → InChunk a.chunks.sectors a.chunks.size c s
       → part e.content (512 * (m.superblock.data_offset + s)) 512 ≡ content s
   holds_then honest content has e at_e c s low set inside =
@@ -231,35 +231,42 @@ module _ (target : ℕ) (planned : Planned) (copied orphans : Bitmap) (old new :
       ∙ by.fills.may.holds (honest_then target m planned v w filling honest) content (content_then target m planned v w filling out content has) f.0 m f.1 at_w c s
       (omega (arith, low, chunks, marks)) set inside_w
 
-  beside_then : (d e : Disk) → slice_get v.disks target ≡ Some d → slice_get x.disks target ≡ Some e
+  pub beside_then : (d e : Disk) → slice_get v.disks target ≡ Some d → slice_get x.disks target ≡ Some e
       → (i n : ℕ) → IsBesideCopied a m copied i n → part e.content i n ≡ part d.content i n
   beside_then d e at_d at_e i n h =
       let f = filled_of e at_e in
       kept_enrolling f.0 e f.1 at_e i n h.from h.to
       ∙ (filling.on_target d f.0 at_d f.1).same.beside i n (λ c planned. h.beside c (by.fills.sets.copied_are.bits c ∙ planned))
 
-  others_then : (j : ℕ) (d e : Disk) (n : MemberView) → j ≢ target → slice_get v.disks j ≡ Some d → slice_get x.disks j ≡ Some e → IsMember a j n → KeepsData n d e
+  pub others_then : (j : ℕ) (d e : Disk) (n : MemberView) → j ≢ target → slice_get v.disks j ≡ Some d → slice_get x.disks j ≡ Some e → IsMember a j n → KeepsData n d e
   others_then j d e n other at_d at_e at_n i k from to =
       let at_w : slice_get w.disks j ≡ Some e = sym (by.enrols.disks.others j other) ∙ at_e in
       ap (λ xs. part xs i k) (filling.others j d e other at_d at_w).content_kept
 
+  -- another member is what it was, and its superblock is due
+  pub others_members : (j : ℕ) (n : MemberView) → j ≢ target → IsMember a j n → IsMember x.array j (made_due n)
+  others_members j n other there =
+      ap (λ (b : ArrayView). slice_get b.members j) by.enrols.array
+      ∙ got_other (map made_due w.array.members) target j by.enrols.member other
+      ∙ got_in_map made_due w.array.members j n (ap (λ (b : ArrayView). slice_get b.members j) a_is ∙ there)
+
   -- ---- all of it
-  pub rebuilt_in_sync : IsRebuiltInSync target copied orphans v x
-  rebuilt_in_sync = record {
-    rebuilt = record {
-      member = m;
-      at = at;
-      now = by.enrols.member;
-      there = now_there;
-      state = inl in_sync_now;
-      copied_chunks = by.fills.may.copied_chunks ∙ ap (λ (b : Bitmap). b.chunks) marks_is;
-      orphan_chunks = by.fills.may.orphan_chunks ∙ ap (λ (b : Bitmap). b.chunks) marks_is;
-      copied_are = λ c low. (λ set. (missing_of c low (inl set), served c set), copied_if c low);
-      orphans_are = λ c low. (λ set. (missing_of c low (inr set), unserved c set), orphan_if c low);
-      holds = holds_then;
-      bad = list_now;
-      beside = beside_then;
-      others = others_then;
-    };
-    in_sync = in_sync_now;
+  abbrev pub rebuilt_then : IsRebuilt target copied orphans v x
+  rebuilt_then = record {
+    member = m;
+    at = at;
+    now = by.enrols.member;
+    there = now_there;
+    state = inl in_sync_now;
+    copied_chunks = by.fills.may.copied_chunks ∙ ap (λ (b : Bitmap). b.chunks) marks_is;
+    orphan_chunks = by.fills.may.orphan_chunks ∙ ap (λ (b : Bitmap). b.chunks) marks_is;
+    copied_are = λ c low. (λ set. (missing_of c low (inl set), served c set), copied_if c low);
+    orphans_are = λ c low. (λ set. (missing_of c low (inr set), unserved c set), orphan_if c low);
+    holds = holds_then;
+    bad = list_now;
+    beside = beside_then;
+    others = others_then;
   }
+
+  pub rebuilt_in_sync : IsRebuiltInSync target copied orphans v x
+  rebuilt_in_sync = record { rebuilt = rebuilt_then; in_sync = in_sync_now }

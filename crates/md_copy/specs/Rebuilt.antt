@@ -14,6 +14,13 @@ use Rattle.md_state.specs.View.{ArrayView, Disk, MirrorView}
 use Rattle.md_array.specs.Enrolling.{HasContent, KeepsData}
 use Rattle.md_array.specs.Lending.{IsBesideChunk}
 use Rattle.md_array.specs.Worlds.{AreHonest}
+use Rattle.md_array.specs.InTurn.{HaltsAt, Requests}
+use Rattle.md_metadata.specs.Storing.{IsStoring}
+use Rattle.md_model.specs.Events.{Event}
+use Rattle.md_pass.specs.Beside.{has_chunk}
+use Rattle.md_plan.specs.declared.planner.Planned.{Planned}
+use Rattle.md_copy.specs.declared.rebuilt.Rebuilt.{Rebuilt}
+use Rattle.md_copy.specs.Preparing.{Tells, is_in}
 use Rattle.md_copy.specs.RebuildSources.{Serves}
 
 -- some other member is in sync and lists no sector of the chunk
@@ -59,3 +66,23 @@ pub record IsRebuilt (target : ℕ) (copied orphans : Bitmap) (old new : MirrorV
 pub record IsRebuiltInSync (target : ℕ) (copied orphans : Bitmap) (old new : MirrorView) : Type 0 where
   pub rebuilt : IsRebuilt target copied orphans old new
   pub in_sync : is_in_sync rebuilt.now.state ≡ true
+
+-- ---- the whole call
+-- The write of a mark or of a superblock failed on a member that can't be made faulty, and the mirror is halted.
+pub record HaltsFrom (last new : MirrorView) : Type 0 where
+  pub failing : Event
+  pub of : IsStoring failing
+  pub halts : (others : Requests) → HaltsAt last others failing new
+
+-- It is rebuilt at the end of the call, or where a write that failed halted the mirror after it came into sync, right before that write.
+-- Its chunks are those that are told of.
+pub record HasRebuilt (target : ℕ) (told : Rebuilt) (old new : MirrorView) : Type 0 where
+  pub planned : Planned
+  pub tells : Tells planned told
+  pub copied : Bitmap
+  pub orphans : Bitmap
+  pub copied_told : (c : ℕ) → is_set copied.bytes c ≡ has_chunk planned.plan.slots c
+  pub orphans_told : (c : ℕ) → is_set orphans.bytes c ≡ is_in told.orphans.items c
+  pub last : MirrorView
+  pub ends : (last ≡ new) ⊎ HaltsFrom last new
+  pub rebuilt : IsRebuilt target copied orphans old last
