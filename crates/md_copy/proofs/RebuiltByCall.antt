@@ -1,5 +1,5 @@
 -- What a rebuild makes of the target from before the call to after it: what is stored before and after leaves all data as they are.
-use Rattle.std.proofs.Common.{◌≡◌, ◌≢◌, ◌∙◌, ◌⊎◌, ◌↔◌, ℕ, ◌+◌, ◌*◌, ◌<◌, ◌≤◌, true, get_or, slice_get, Some, refl, sym, ap, subst, arith, inl, inr}
+use Rattle.std.proofs.Common.{◌≡◌, ◌∙◌, ◌⊎◌, ℕ, ◌+◌, ◌*◌, ◌<◌, ◌≤◌, true, get_or, slice_get, Some, refl, sym, ap, subst, arith, inl, inr}
 use Rattle.std.proofs.lemmas.Option.{same_Some, slice_get-get_or, slice_get_within}
 use Rattle.md_device.specs.Splice.{part}
 use Rattle.md_assembly.specs.declared.state.MemberState.TheVariants.{Faulty}
@@ -29,7 +29,7 @@ use Rattle.md_copy.specs.RebuildSources.{Serves}
 use Rattle.md_copy.specs.Rebuilt.{HaltsFrom, HasRebuilt, IsBesideCopied, IsRebuilt, IsServed}
 use Rattle.md_copy.specs.Storing.{Settles, StoresFirst}
 use Rattle.md_copy.proofs.RebuiltMember.{area_same, in_sync_now, list_now, now_there, others_members, rebuilt_then, size_within}
-use Rattle.md_copy.proofs.StoringKeeps.{HavePlaces, KeepsAll, device_before, device_then, member_then, places_of, same_area, storing_keeps}
+use Rattle.md_copy.proofs.StoringKeeps.{KeepsAll, device_before, device_then, member_then, places_of, same_area, storing_keeps}
 
 -- ---- after it came into sync
 module _ (target : ℕ) (planned : Planned) (copied orphans : Bitmap) (old new : MirrorView) (by : RebuildsBy target planned copied orphans old new)
@@ -168,11 +168,15 @@ module _ (target : ℕ) (copied orphans : Bitmap) (old v y : MirrorView) (first 
   served_then : (c : ℕ) → IsServed old.array target c → IsServed v.array target c
   served_then c h =
       let serves = h.3 in
-      let n = then_is h.0 h.1 serves.in_sync.member in
-      (h.0, n.0, h.2, record {
-        in_sync = record { member = n.1; in_sync = ap (λ (z : MemberView). is_in_sync z.state) n.2 ∙ serves.in_sync.in_sync };
-        unlisted = λ q inside bad. serves.unlisted q (subst (λ (k : Chunks). InChunk k.sectors k.size c q) chunks_is inside) (subst (λ (z : MemberView). IsBad z.bad (z.superblock.data_offset + q)) n.2 bad);
-      })
+      let n = then_is h.0 h.1 serves.in_sync.member in (
+        h.0,
+        n.0,
+        h.2,
+        record {
+          in_sync = record { member = n.1; in_sync = ap (λ (z : MemberView). is_in_sync z.state) n.2 ∙ serves.in_sync.in_sync };
+          unlisted = λ q inside bad. serves.unlisted q (subst (λ (k : Chunks). InChunk k.sectors k.size c q) chunks_is inside) (subst (λ (z : MemberView). IsBad z.bad (z.superblock.data_offset + q)) n.2 bad);
+        },
+      )
 
   -- ---- what members in sync held, they hold
   honest_then : AreHonest old.disks → AreHonest v.disks
@@ -210,7 +214,7 @@ module _ (target : ℕ) (copied orphans : Bitmap) (old v y : MirrorView) (first 
   list_before : IsListAfter old.array.chunks s.before copied orphans r.now.bad
   list_before =
       let l : IsListAfter old.array.chunks (stored_as s.before r.member) copied orphans r.now.bad =
-          subst (λ (k : Chunks). IsListAfter k (stored_as s.before r.member) copied orphans r.now.bad) chunks_is (subst (λ (z : MemberView). IsListAfter v.array.chunks z copied orphans r.now.bad) s.same r.bad) in
+      subst (λ (k : Chunks). IsListAfter k (stored_as s.before r.member) copied orphans r.now.bad) chunks_is (subst (λ (z : MemberView). IsListAfter v.array.chunks z copied orphans r.now.bad) s.same r.bad) in
       record { canonical = l.canonical; bad = l.bad }
 
   beside_as : (i l : ℕ) → IsBesideCopied old.array s.before copied i l → IsBesideCopied v.array r.member copied i l

@@ -1,5 +1,5 @@
 -- What the steps of a rebuild make of the target, in plain terms.
-use Rattle.std.proofs.Common.{◌≡◌, ◌≢◌, ◌∙◌, ◌⊎◌, ℕ, ◌+◌, ◌*◌, ◌<◌, ◌≤◌, ◌==◌, true, false, List, length, get_or, map, slice_get, Some, refl, sym, ap, subst, arith, inl, inr}
+use Rattle.std.proofs.Common.{◌≡◌, ◌≢◌, ◌∙◌, ◌⊎◌, ℕ, ◌+◌, ◌*◌, ◌<◌, ◌≤◌, ◌==◌, true, get_or, map, slice_get, Some, refl, sym, ap, subst, arith, inl, inr}
 use Rattle.std.proofs.lemmas.Bool.{both_ways, cases_eq, eq-eqb, eqb-true}
 use Rattle.std.proofs.lemmas.List.{length-map}
 use Rattle.std.proofs.lemmas.List.Folds.{Any-from_list_any}
@@ -12,11 +12,10 @@ use Rattle.md_bitmap.specs.Chunks.{InChunk}
 use Rattle.md_bitmap.specs.Marks.{Bitmap, is_set}
 use Rattle.md_cert.specs.declared.slots.Slot.{Slot}
 use Rattle.md_cert.specs.Tables.{orphans_of}
-use Rattle.md_kept_members.specs.Enrolling.{IsListAfter, in_sync_superblock}
+use Rattle.md_kept_members.specs.Enrolling.{IsListAfter}
 use Rattle.md_kept_members.specs.Members.{made_due}
 use Rattle.md_kept_members.specs.View.{MemberView}
 use Rattle.md_model.specs.Content.{Content}
-use Rattle.md_pass.specs.Beside.{has_chunk}
 use Rattle.md_plan.specs.declared.planner.Planned.{Planned}
 use Rattle.md_state.specs.Members.{IsInSync, IsMember}
 use Rattle.md_state.specs.Missing as state
@@ -26,7 +25,7 @@ use Rattle.md_array.specs.Consistency.{IsConsistent}
 use Rattle.md_array.specs.Enrolling.{HasContent, KeepsData}
 use Rattle.md_array.specs.Worlds.{AreHonest}
 use Rattle.md_array.proofs.General.Indices.{at_set_same, got_in_map, got_other}
-use Rattle.md_copy.specs.Filling.{Fills, IsFilling}
+use Rattle.md_copy.specs.Filling.{IsFilling}
 use Rattle.md_copy.specs.Preparing.{is_in}
 use Rattle.md_copy.specs.Rebuilding.{RebuildsBy}
 use Rattle.md_copy.specs.RebuildSources.{IsPlanOf, Serves}
@@ -181,10 +180,10 @@ module _ (target : ℕ) (planned : Planned) (copied orphans : Bitmap) (old new :
   ]
 
   pub copied_if : (c : ℕ) → c < a.marks.chunks → (state.is_missing a m c ≡ true) × IsServed a target c → is_set copied.bytes c ≡ true
-  copied_if c low h = elim (either_set c low h.0) [ | inl set ↦ set | inr orphan ↦ absurd (unserved c orphan h.1) ]
+  copied_if c low h = elim (either_set c low h.0) [ inl set ↦ set | inr orphan ↦ absurd (unserved c orphan h.1) ]
 
   pub orphan_if : (c : ℕ) → c < a.marks.chunks → (state.is_missing a m c ≡ true) × (IsServed a target c → ⊥) → is_set orphans.bytes c ≡ true
-  orphan_if c low h = elim (either_set c low h.0) [ | inl set ↦ absurd (h.1 (served c set)) | inr orphan ↦ orphan ]
+  orphan_if c low h = elim (either_set c low h.0) [ inl set ↦ absurd (h.1 (served c set)) | inr orphan ↦ orphan ]
 
   -- ---- its data
   filled_of : (e : Disk) → slice_get x.disks target ≡ Some e → (d : Disk) × (slice_get w.disks target ≡ Some d)
@@ -196,8 +195,7 @@ module _ (target : ℕ) (planned : Planned) (copied orphans : Bitmap) (old new :
   -- its data area is where it was
   pub area_same : (by.enrols.member.superblock.data_offset ≡ m.superblock.data_offset) × (by.enrols.member.superblock.data_size ≡ m.superblock.data_size)
   area_same =
-      let c = by.enrols.comes in
-      (
+      let c = by.enrols.comes in (
         ap (λ y. y.data_offset) c.comes.superblock ∙ ap (λ (n : MemberView). n.superblock.data_offset) was_is,
         ap (λ y. y.data_size) c.comes.superblock ∙ ap (λ (n : MemberView). n.superblock.data_size) was_is,
       )

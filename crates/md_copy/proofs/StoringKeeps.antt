@@ -1,5 +1,5 @@
 -- Where marks and superblocks are stored, whatever fails, the data of all members are as before.
-use Rattle.std.proofs.Common.{◌≡◌, ◌≢◌, ◌∙◌, ◌⊎◌, ℕ, ◌+◌, ◌*◌, ◌/◌, ◌<◌, ◌≤◌, true, false, List, [], ◌∷◌, length, length-set, get_or, map, set, slice_get, Option, Some, None, pos, refl, sym, ap, subst, arith, inl, inr}
+use Rattle.std.proofs.Common.{◌≡◌, ◌∙◌, ◌⊎◌, ℕ, ◌+◌, ◌*◌, ◌/◌, ◌<◌, true, false, List, [], ◌∷◌, length, length-set, get_or, map, set, slice_get, Option, Some, None, pos, refl, sym, ap, subst, arith, inl, inr}
 use Rattle.std.proofs.lemmas.Bool.{cases_eq, cases_lt}
 use Rattle.std.proofs.lemmas.Int.{ints}
 use Rattle.std.proofs.lemmas.List.{length-map}
@@ -15,7 +15,7 @@ use Rattle.md_writes.specs.Writes.{Write}
 use Rattle.md_kept_members.specs.Members.{made_due}
 use Rattle.md_kept_members.specs.View.{MemberView}
 use Rattle.md_assembly.specs.declared.state.MemberState.TheVariants.{Faulty}
-use Rattle.md_state.specs.DiskWrites.{AtDevice, IsTried}
+use Rattle.md_state.specs.DiskWrites.{IsTried}
 use Rattle.md_state.specs.Members.{IsInSync, IsMember}
 use Rattle.md_state.specs.Rising.{Fails, made_faulty}
 use Rattle.md_state.specs.StoringMarks.{IsMarkWrite}
@@ -23,7 +23,7 @@ use Rattle.md_state.specs.View.{ArrayView, Disk, MirrorView}
 use Rattle.md_array.specs.Consistency.{IsConsistent}
 use Rattle.md_array.specs.Enrolling.{KeepsData}
 use Rattle.md_array.specs.InTurn.{AllOf, Did, IsInOrder, IsSectorDue, Leads, Requests}
-use Rattle.md_array.specs.Recording.{IsReadable, super_write}
+use Rattle.md_array.specs.Recording.{super_write}
 use Rattle.md_array.proofs.General.Indices.{at_map}
 use Rattle.md_array.proofs.General.Replaced.{of_set}
 use Rattle.md_array.proofs.Worlds.Outside.{LiesIn, apart_either_way, apart_from_part, stays}
@@ -72,7 +72,7 @@ same_then l m n x y = record {
   bad = y.bad ∙ x.bad;
   stored_chunks = y.stored_chunks ∙ x.stored_chunks;
   state = elim y.state [
-    | inl same ↦ elim x.state [ | inl first ↦ inl (same ∙ first) | inr faulty ↦ inr (same ∙ faulty) ]
+    | inl same ↦ elim x.state [ inl first ↦ inl (same ∙ first) | inr faulty ↦ inr (same ∙ faulty) ]
     | inr faulty ↦ inr faulty
   ];
 }
@@ -209,7 +209,7 @@ beside_marks a m block w d e place write low outside i l from to =
     let long : length w.bytes ≡ 512 = ap (λ (x : Write). length x.bytes) write.is ∙ length-bitmap_sector write.header a.marks block in
     let sector : w.sector ≡ start + block = ap (λ (x : Write). x.sector) write.is in
     let same : SameOutside (512 * (start + block)) 512 d.content e.content =
-        subst (λ n. SameOutside (512 * (start + block)) n d.content e.content) long (subst (λ s. SameOutside (512 * s) (length w.bytes) d.content e.content) sector outside) in
+    subst (λ n. SameOutside (512 * (start + block)) n d.content e.content) long (subst (λ s. SameOutside (512 * s) (length w.bytes) d.content e.content) sector outside) in
     let area : Area = record { start = pos (start + block); sectors = 1 } in
     let whole = bitmap_area m.superblock (bitmap_sectors m.stored.chunks) in
     let lies : LiesIn whole area = record { from = omega (arith, ints, starts); to = omega (arith, ints, starts, low) } in
