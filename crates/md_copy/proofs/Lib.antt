@@ -9,10 +9,13 @@ pub mod Lists
 pub mod Observed
 pub mod PlanChunks
 pub mod Planned
+pub mod RebuiltByCall
+pub mod RebuiltMember
 pub mod Returned
 pub mod Rows
 pub mod Served
 pub mod SetsMade
 pub mod SourcesChosen
 pub mod StepsOfRebuild
+pub mod StoringKeeps
 pub mod StoredFirst

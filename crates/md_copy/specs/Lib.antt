@@ -16,3 +16,5 @@ pub mod Filling
 pub mod Enrolled
 -- A rebuild in one pass, step by step (this project's own).
 pub mod Rebuilding
+-- What a rebuild makes of its target, in plain terms, whatever the steps were (this project's own).
+pub mod Rebuilt

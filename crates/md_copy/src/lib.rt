@@ -6,6 +6,7 @@ mod enrol_filled;
 mod fault;
 mod filling;
 mod in_sync;
+pub mod laws;
 mod listed;
 mod one_pass;
 mod preparing;
