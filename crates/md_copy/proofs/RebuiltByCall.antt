@@ -102,11 +102,14 @@ module _ (target : ℕ) (planned : Planned) (copied orphans : Bitmap) (old new :
       elim (keeps.state target by.enrols.member then_there.0 d.0 e.0 n_there then_there.1 d.1 e.1) [
         | inl same ↦ inl (ap is_in_sync same ∙ in_sync_now target planned copied orphans old new by)
         | inr failed ↦
-            inr (failed.0, λ honest b f at_b at_f.
-                (let c = counted_then b d.0 at_b d.1 in
-                let first = c.1 in
-                let less = failed.1 (c.0 ∙ honest target b at_b) in
-                subst (λ (z : Disk). b.failures < z.failures) (sym (same_Some f e.0 (sym at_f ∙ e.1))) (omega (arith, first, less))))
+            inr (
+              failed.0,
+              λ honest b f at_b at_f.
+                  (let c = counted_then b d.0 at_b d.1 in
+                  let first = c.1 in
+                  let less = failed.1 (c.0 ∙ honest target b at_b) in
+                  subst (λ (z : Disk). b.failures < z.failures) (sym (same_Some f e.0 (sym at_f ∙ e.1))) (omega (arith, first, less))),
+            )
       ]
 
   holds_then : AreHonest v.disks → (content : Content) → HasContent v.disks a content → (e : Disk) → slice_get y.disks target ≡ Some e
@@ -260,11 +263,14 @@ module _ (target : ℕ) (copied orphans : Bitmap) (old v y : MirrorView) (first 
     state = elim r.state [
       | inl in_sync ↦ inl in_sync
       | inr failed ↦
-          inr (failed.0, λ honest d e at_d at_e.
-              (let on = device_then old v first_keeps target d at_d in
-              let counted = first_keeps.counted target d on.0 at_d on.1 in
-              let less = failed.1 (honest_then honest) on.0 e on.1 at_e in
-              omega (arith, counted, less)))
+          inr (
+            failed.0,
+            λ honest d e at_d at_e.
+                (let on = device_then old v first_keeps target d at_d in
+                let counted = first_keeps.counted target d on.0 at_d on.1 in
+                let less = failed.1 (honest_then honest) on.0 e on.1 at_e in
+                omega (arith, counted, less)),
+          )
     ];
     copied_chunks = r.copied_chunks ∙ ap (λ (b : Bitmap). b.chunks) marks_is;
     orphan_chunks = r.orphan_chunks ∙ ap (λ (b : Bitmap). b.chunks) marks_is;

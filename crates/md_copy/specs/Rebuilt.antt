@@ -57,7 +57,8 @@ pub record IsRebuilt (target : ℕ) (copied orphans : Bitmap) (old new : MirrorV
       → (is_set orphans.bytes c ≡ true) ↔ ((is_missing old.array member c ≡ true) × (IsServed old.array target c → ⊥))
   -- whatever content the members in sync held
   pub holds : AreHonest old.disks → (content : Content) → HasContent old.disks old.array content
-      → (e : Disk) → slice_get new.disks target ≡ Some e → (c s : ℕ) → c < old.array.marks.chunks → is_set copied.bytes c ≡ true → InChunk old.array.chunks.sectors old.array.chunks.size c s
+      → (e : Disk) → slice_get new.disks target ≡ Some e → (c s : ℕ) → c < old.array.marks.chunks
+      → is_set copied.bytes c ≡ true → InChunk old.array.chunks.sectors old.array.chunks.size c s
       → part e.content (512 * (member.superblock.data_offset + s)) 512 ≡ content s
   pub bad : IsListAfter old.array.chunks member copied orphans now.bad
   pub beside : (d e : Disk) → slice_get old.disks target ≡ Some d → slice_get new.disks target ≡ Some e
