@@ -1,5 +1,5 @@
 -- What a rebuild makes of the target from before the call to after it: what is stored before and after leaves all data as they are.
-use Rattle.std.proofs.Common.{◌≡◌, ◌∙◌, ◌⊎◌, ℕ, ◌+◌, ◌*◌, ◌<◌, ◌≤◌, true, get_or, slice_get, Some, refl, sym, ap, subst, arith, inl, inr}
+use Rattle.std.proofs.Common.{◌≡◌, ◌∙◌, ◌⊎◌, ℕ, ◌+◌, ◌*◌, ◌<◌, ◌≤◌, true, [], get_or, slice_get, Some, refl, sym, ap, subst, arith, inl, inr}
 use Rattle.std.proofs.lemmas.Option.{same_Some, slice_get-get_or, slice_get_within}
 use Rattle.md_device.specs.Splice.{part}
 use Rattle.md_assembly.specs.declared.state.MemberState.TheVariants.{Faulty}
@@ -13,6 +13,7 @@ use Rattle.md_kept_members.specs.Members.{made_due}
 use Rattle.md_kept_members.specs.View.{MemberView}
 use Rattle.md_model.specs.Content.{Content}
 use Rattle.md_plan.specs.declared.planner.Planned.{Planned}
+use Rattle.md_state.specs.DeviceChanges.{FailsAt}
 use Rattle.md_state.specs.Members.{IsInSync, IsMember}
 use Rattle.md_state.specs.Missing.{is_missing}
 use Rattle.md_state.specs.View.{ArrayView, Disk, MirrorView}
@@ -28,7 +29,7 @@ use Rattle.md_copy.specs.Rebuilding.{Rebuilds, RebuildsBy}
 use Rattle.md_copy.specs.RebuildSources.{Serves}
 use Rattle.md_copy.specs.Rebuilt.{HaltsFrom, HasRebuilt, IsBesideCopied, IsRebuilt, IsServed}
 use Rattle.md_copy.specs.Storing.{Settles, StoresFirst}
-use Rattle.md_copy.proofs.RebuiltMember.{area_same, in_sync_now, list_now, now_there, others_members, rebuilt_then, size_within}
+use Rattle.md_copy.proofs.RebuiltMember.{area_same, in_sync_now, is_there, list_now, now_there, others_members, rebuilt_then, size_within}
 use Rattle.md_copy.proofs.StoringKeeps.{KeepsAll, device_before, device_then, member_then, places_of, same_area, storing_keeps}
 
 -- ---- after it came into sync
@@ -68,11 +69,48 @@ module _ (target : ℕ) (planned : Planned) (copied orphans : Bitmap) (old new :
       let size = area.1 in
       data_kept target d e by.enrols.member at_d at_e n_there i l (omega (arith, offset, from)) (omega (arith, offset, size, to))
 
-  state_then : (is_in_sync then_there.0.state ≡ true) ⊎ (then_there.0.state ≡ Faulty)
-  state_then = elim (keeps.each target by.enrols.member then_there.0 n_there then_there.1).state [
-    | inl same ↦ inl (ap is_in_sync same ∙ in_sync_now target planned copied orphans old new by)
-    | inr faulty ↦ inr faulty
-  ]
+  -- a device was there before, and no call on it is uncounted
+  device_was : (d : Disk) → slice_get x.disks target ≡ Some d → (b : Disk) × (slice_get v.disks target ≡ Some b)
+  device_was d at_d =
+      let low = slice_get_within x.disks target d at_d in
+      let many = by.enrols.disks.as_many in
+      let before = by.fills.fills.filling.as_many in
+      (get_or v.disks target d, slice_get-get_or v.disks target d (omega (arith, low, many, before)))
+
+  counted_then : (b d : Disk) → slice_get v.disks target ≡ Some b → slice_get x.disks target ≡ Some d → (d.honest ≡ b.honest) × (b.failures ≤ d.failures)
+  counted_then b d at_b at_d =
+      let c = is_there target m planned v by.filled by.fills.fills.filling target b at_b in
+      let filled = by.fills.fills.filling.on_target b c.0 at_b c.1 in
+      let stored = (by.enrols.disks.change c.0 d c.1 at_d).0.kept in
+      let first = filled.counted in
+      let second = stored.counted in
+      (stored.honest_kept ∙ filled.honest_kept, omega (arith, first, second))
+
+  x_disk : (d : Disk) × (slice_get x.disks target ≡ Some d)
+  x_disk =
+      let none : Disk = record { content = []; honest = true; failures = 0; stops = [] } in
+      let low = slice_get_within a.members target m by.fills.begins.there in
+      let fits = by.fills.begins.first.stores.goes.sound.fits.as_many in
+      let before = by.fills.fills.filling.as_many in
+      let many = by.enrols.disks.as_many in
+      (get_or x.disks target none, slice_get-get_or x.disks target none (omega (arith, low, fits, before, many)))
+
+  state_then : (is_in_sync then_there.0.state ≡ true) ⊎ ((then_there.0.state ≡ Faulty) × (AreHonest v.disks → FailsAt v.disks y.disks target))
+  state_then =
+      let d = x_disk in
+      let e = device_then x y keeps target d.0 d.1 in
+      elim (keeps.state target by.enrols.member then_there.0 d.0 e.0 n_there then_there.1 d.1 e.1) [
+        | inl same ↦ inl (ap is_in_sync same ∙ in_sync_now target planned copied orphans old new by)
+        | inr failed ↦
+            inr (
+              failed.0,
+              λ honest b f at_b at_f.
+                  (let c = counted_then b d.0 at_b d.1 in
+                  let first = c.1 in
+                  let less = failed.1 (c.0 ∙ honest target b at_b) in
+                  subst (λ (z : Disk). b.failures < z.failures) (sym (same_Some f e.0 (sym at_f ∙ e.1))) (omega (arith, first, less))),
+            )
+      ]
 
   holds_then : AreHonest v.disks → (content : Content) → HasContent v.disks a content → (e : Disk) → slice_get y.disks target ≡ Some e
       → (c s : ℕ) → c < a.marks.chunks → is_set copied.bytes c ≡ true → InChunk a.chunks.sectors a.chunks.size c s
@@ -83,13 +121,6 @@ module _ (target : ℕ) (planned : Planned) (copied orphans : Bitmap) (old new :
       let was = device_was d.0 d.1 in
       let size = size_within target planned copied orphans old new by was.0 was.1 in
       target_kept d.0 e d.1 at_e (512 * (m.superblock.data_offset + s)) 512 (omega arith) (omega (arith, within, size)) ∙ r.holds honest content has d.0 d.1 c s low set inside
-    where
-      device_was : (d : Disk) → slice_get x.disks target ≡ Some d → (b : Disk) × (slice_get v.disks target ≡ Some b)
-      device_was d at_d =
-          let low = slice_get_within x.disks target d at_d in
-          let many = by.enrols.disks.as_many in
-          let before = by.fills.fills.filling.as_many in
-          (get_or v.disks target d, slice_get-get_or v.disks target d (omega (arith, low, many, before)))
 
   pub rebuilt_on : IsRebuilt target copied orphans v y
   rebuilt_on = record {
@@ -229,7 +260,18 @@ module _ (target : ℕ) (copied orphans : Bitmap) (old v y : MirrorView) (first 
     at = s.member;
     now = r.now;
     there = r.there;
-    state = r.state;
+    state = elim r.state [
+      | inl in_sync ↦ inl in_sync
+      | inr failed ↦
+          inr (
+            failed.0,
+            λ honest d e at_d at_e.
+                (let on = device_then old v first_keeps target d at_d in
+                let counted = first_keeps.counted target d on.0 at_d on.1 in
+                let less = failed.1 (honest_then honest) on.0 e on.1 at_e in
+                omega (arith, counted, less)),
+          )
+    ];
     copied_chunks = r.copied_chunks ∙ ap (λ (b : Bitmap). b.chunks) marks_is;
     orphan_chunks = r.orphan_chunks ∙ ap (λ (b : Bitmap). b.chunks) marks_is;
     copied_are = λ c low. (

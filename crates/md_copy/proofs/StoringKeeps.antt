@@ -1,5 +1,5 @@
 -- Where marks and superblocks are stored, whatever fails, the data of all members are as before.
-use Rattle.std.proofs.Common.{◌≡◌, ◌∙◌, ◌⊎◌, ℕ, ◌+◌, ◌*◌, ◌/◌, ◌<◌, true, false, List, [], ◌∷◌, length, length-set, get_or, map, set, slice_get, Option, Some, None, pos, refl, sym, ap, subst, arith, inl, inr}
+use Rattle.std.proofs.Common.{◌≡◌, ◌∙◌, ◌⊎◌, ℕ, ◌+◌, ◌*◌, ◌/◌, ◌<◌, ◌≤◌, true, false, List, [], ◌∷◌, length, length-set, get_or, map, set, slice_get, Option, Some, None, pos, refl, sym, ap, subst, arith, inl, inr}
 use Rattle.std.proofs.lemmas.Bool.{cases_eq, cases_lt}
 use Rattle.std.proofs.lemmas.Int.{ints}
 use Rattle.std.proofs.lemmas.List.{length-map}
@@ -15,7 +15,7 @@ use Rattle.md_writes.specs.Writes.{Write}
 use Rattle.md_kept_members.specs.Members.{made_due}
 use Rattle.md_kept_members.specs.View.{MemberView}
 use Rattle.md_assembly.specs.declared.state.MemberState.TheVariants.{Faulty}
-use Rattle.md_state.specs.DiskWrites.{IsTried}
+use Rattle.md_state.specs.DiskWrites.{AtDevice, IsTried}
 use Rattle.md_state.specs.Members.{IsInSync, IsMember}
 use Rattle.md_state.specs.Rising.{Fails, made_faulty}
 use Rattle.md_state.specs.StoringMarks.{IsMarkWrite}
@@ -48,12 +48,15 @@ places_of v sound = record {
 }
 
 -- ---- what stays
--- A member is what it was, but for what is stored of it; or it failed.
+-- A member is what it was, but for its state and what is stored of it.
 pub record IsSameMember (m n : MemberView) : Type 0 where
   pub superblock : n.superblock ≡ m.superblock
   pub bad : n.bad ≡ m.bad
   pub stored_chunks : n.stored.chunks ≡ m.stored.chunks
-  pub state : (n.state ≡ m.state) ⊎ (n.state ≡ Faulty)
+
+-- its state is what it was, or it is faulty, and a call on its device failed
+abbrev pub IsSameOrFailed : MemberView → MemberView → Disk → Disk → Type 0
+IsSameOrFailed m n d e = (n.state ≡ m.state) ⊎ ((n.state ≡ Faulty) × (d.honest ≡ true → d.failures < e.failures))
 
 -- The members and their data are. Of the data it is said where the parts of the members have their places at the end, and so before.
 pub record KeepsAll (old new : MirrorView) : Type 0 where
@@ -65,16 +68,14 @@ pub record KeepsAll (old new : MirrorView) : Type 0 where
   pub long : (k : ℕ) (d e : Disk) → slice_get old.disks k ≡ Some d → slice_get new.disks k ≡ Some e → length e.content ≡ length d.content
   pub area : HavePlaces new → (k : ℕ) (d e : Disk) (m : MemberView) → slice_get old.disks k ≡ Some d → slice_get new.disks k ≡ Some e → IsMember old.array k m → KeepsData m d e
   pub each : (k : ℕ) (m n : MemberView) → IsMember old.array k m → IsMember new.array k n → IsSameMember m n
+  pub counted : (k : ℕ) (d e : Disk) → slice_get old.disks k ≡ Some d → slice_get new.disks k ≡ Some e → d.failures ≤ e.failures
+  pub state : (k : ℕ) (m n : MemberView) (d e : Disk) → IsMember old.array k m → IsMember new.array k n → slice_get old.disks k ≡ Some d → slice_get new.disks k ≡ Some e → IsSameOrFailed m n d e
 
 pub same_then : (l m n : MemberView) → IsSameMember l m → IsSameMember m n → IsSameMember l n
 same_then l m n x y = record {
   superblock = y.superblock ∙ x.superblock;
   bad = y.bad ∙ x.bad;
   stored_chunks = y.stored_chunks ∙ x.stored_chunks;
-  state = elim y.state [
-    | inl same ↦ elim x.state [ inl first ↦ inl (same ∙ first) | inr faulty ↦ inr (same ∙ faulty) ]
-    | inr faulty ↦ inr faulty
-  ];
 }
 
 pub keeps_none : (v : MirrorView) → KeepsAll v v
@@ -88,7 +89,9 @@ keeps_none v = record {
   area = λ places k d e m at_d at_e at_m i n from to. ap (λ (x : Disk). part x.content i n) (same_Some e d (sym at_e ∙ at_d));
   each = λ k m n at_m at_n.
       (let same : n ≡ m = same_Some n m (sym at_n ∙ at_m) in
-      record { superblock = ap (λ (x : MemberView). x.superblock) same; bad = ap (λ (x : MemberView). x.bad) same; stored_chunks = ap (λ (x : MemberView). x.stored.chunks) same; state = inl (ap (λ (x : MemberView). x.state) same) });
+      record { superblock = ap (λ (x : MemberView). x.superblock) same; bad = ap (λ (x : MemberView). x.bad) same; stored_chunks = ap (λ (x : MemberView). x.stored.chunks) same });
+  counted = λ k d e at_d at_e. subst (λ (x : Disk). d.failures ≤ x.failures) (sym (same_Some e d (sym at_e ∙ at_d))) (omega arith);
+  state = λ k m n d e at_m at_n at_d at_e. inl (ap (λ (x : MemberView). x.state) (same_Some n m (sym at_n ∙ at_m)));
 }
 
 -- a device or a member that was there is there
@@ -156,6 +159,24 @@ keeps_then old mid new x y = record {
       let n = member_then old mid x k m at_m in
       same_area m n.0 e.0 f (x.each k m n.0 at_m n.1).superblock (y.area places k e.0 f n.0 e.1 at_f n.1) i l from to ∙ x.area (places_before mid new y places) k d e.0 m at_d e.1 at_m i l from to);
   each = λ k m o at_m at_o. (let n = member_then old mid x k m at_m in same_then m n.0 o (x.each k m n.0 at_m n.1) (y.each k n.0 o n.1 at_o));
+  counted = λ k d f at_d at_f.
+      (let e = device_then old mid x k d at_d in
+      let first = x.counted k d e.0 at_d e.1 in
+      let second = y.counted k e.0 f e.1 at_f in
+      omega (arith, first, second));
+  state = λ k m o d f at_m at_o at_d at_f.
+      (let e = device_then old mid x k d at_d in
+      let n = member_then old mid x k m at_m in
+      let first = x.counted k d e.0 at_d e.1 in
+      let second = y.counted k e.0 f e.1 at_f in
+      elim (y.state k n.0 o e.0 f n.1 at_o e.1 at_f) [
+        | inr failed ↦ inr (failed.0, λ honest. (let less = failed.1 (x.honest k d e.0 at_d e.1 ∙ honest) in omega (arith, first, less)))
+        | inl same ↦
+            elim (x.state k m n.0 d e.0 at_m n.1 at_d e.1) [
+              | inl was ↦ inl (same ∙ was)
+              | inr failed ↦ inr (same ∙ failed.0, λ honest. (let less = failed.1 honest in omega (arith, second, less)))
+            ]
+      ]);
 }
 
 -- ---- one write
@@ -164,8 +185,9 @@ pub keeps_write : (k : ℕ) (w : Write) (m : MemberView) (old new : MirrorView) 
     → ((d e : Disk) → HasPlace m d → m.stored.chunks ≡ old.array.marks.chunks → SameOutside (512 * w.sector) (length w.bytes) d.content e.content → KeepsData m d e)
     → length new.array.members ≡ length old.array.members → new.array.chunks ≡ old.array.chunks → new.array.marks ≡ old.array.marks
     → ((j : ℕ) (l n : MemberView) → IsMember old.array j l → IsMember new.array j n → IsSameMember l n)
+    → ((j : ℕ) (l n : MemberView) (d e : Disk) → IsMember old.array j l → IsMember new.array j n → slice_get old.disks j ≡ Some d → slice_get new.disks j ≡ Some e → IsSameOrFailed l n d e)
     → KeepsAll old new
-keeps_write k w m old new tried at beside members chunks marks each = record {
+keeps_write k w m old new tried at beside members chunks marks each state = record {
   as_many = tried.as_many;
   members = members;
   chunks = chunks;
@@ -193,6 +215,11 @@ keeps_write k w m old new tried at beside members chunks marks each = record {
     | inr other ↦ ap (λ (x : Disk). part x.content i l) (same_Some e d (sym at_e ∙ tried.others j other ∙ at_d))
   ];
   each = each;
+  counted = λ j d e at_d at_e. elim (cases_eq j k) [
+    | inl here ↦ (tried.stays d e (sym (ap (slice_get old.disks) here) ∙ at_d) (sym (ap (slice_get new.disks) here) ∙ at_e)).counted
+    | inr other ↦ subst (λ (x : Disk). d.failures ≤ x.failures) (sym (same_Some e d (sym at_e ∙ tried.others j other ∙ at_d))) (omega arith)
+  ];
+  state = state;
 }
 
 pub beside_super : (a : ArrayView) (m : MemberView) (d e : Disk) → HasPlace m d → length (super_write a m).bytes ≡ 4096
@@ -226,7 +253,15 @@ set_same a b k m n at is same j x y at_x at_y =
     (λ other there. is_same x y (same_Some y x (sym there ∙ at_x)))
   where
     is_same : (x y : MemberView) → y ≡ x → IsSameMember x y
-    is_same x y e = record { superblock = ap (λ (z : MemberView). z.superblock) e; bad = ap (λ (z : MemberView). z.bad) e; stored_chunks = ap (λ (z : MemberView). z.stored.chunks) e; state = inl (ap (λ (z : MemberView). z.state) e) }
+    is_same x y e = record { superblock = ap (λ (z : MemberView). z.superblock) e; bad = ap (λ (z : MemberView). z.bad) e; stored_chunks = ap (λ (z : MemberView). z.stored.chunks) e }
+
+-- nor is its state another
+pub set_state : (a b : ArrayView) (k : ℕ) (m n : MemberView) → IsMember a k m → b.members ≡ set a.members k n → n.state ≡ m.state
+    → (j : ℕ) (x y : MemberView) → IsMember a j x → IsMember b j y → y.state ≡ x.state
+set_state a b k m n at is same j x y at_x at_y =
+    of_set a.members k j n y (ap (λ (xs : List MemberView). slice_get xs j) (sym is) ∙ at_y)
+    (λ here now. (let was : m ≡ x = same_Some m x (sym at ∙ sym (ap (slice_get a.members) here) ∙ at_x) in ap (λ (z : MemberView). z.state) now ∙ same ∙ ap (λ (z : MemberView). z.state) was))
+    (λ other there. ap (λ (z : MemberView). z.state) (same_Some y x (sym there ∙ at_x)))
 
 -- one of them failed, and the others are due
 pub fails_same : (k : ℕ) (a b : ArrayView) → Fails k a b → (j : ℕ) (x y : MemberView) → IsMember a j x → IsMember b j y → IsSameMember x y
@@ -238,12 +273,19 @@ fails_same k a b f j x y at_x at_y =
       superblock = ap (λ (z : MemberView). z.superblock) now ∙ ap (λ (z : MemberView). z.superblock) was;
       bad = ap (λ (z : MemberView). z.bad) now ∙ ap (λ (z : MemberView). z.bad) was;
       stored_chunks = ap (λ (z : MemberView). z.stored.chunks) now ∙ ap (λ (z : MemberView). z.stored.chunks) was;
-      state = inr (ap (λ (z : MemberView). z.state) now);
     }))
     (λ other there. (let found = at_map made_due a.members j y there in
     let was : found.0 ≡ x = same_Some found.0 x (sym found.1 ∙ at_x) in
     let now : y ≡ made_due x = found.2 ∙ ap made_due was in
-    record { superblock = ap (λ (z : MemberView). z.superblock) now; bad = ap (λ (z : MemberView). z.bad) now; stored_chunks = ap (λ (z : MemberView). z.stored.chunks) now; state = inl (ap (λ (z : MemberView). z.state) now) }))
+    record { superblock = ap (λ (z : MemberView). z.superblock) now; bad = ap (λ (z : MemberView). z.bad) now; stored_chunks = ap (λ (z : MemberView). z.stored.chunks) now }))
+
+pub fails_state : (k : ℕ) (a b : ArrayView) (before after : List Disk) → Fails k a b → AtDevice k before after (λ d e. d.honest ≡ true → d.failures < e.failures)
+    → (j : ℕ) (x y : MemberView) (d e : Disk) → IsMember a j x → IsMember b j y → slice_get before j ≡ Some d → slice_get after j ≡ Some e → IsSameOrFailed x y d e
+fails_state k a b before after f failed j x y d e at_x at_y at_d at_e =
+    of_set (map made_due a.members) k j (made_faulty f.member) y (ap (λ (c : ArrayView). slice_get c.members j) (sym f.array) ∙ at_y)
+    (λ here now. inr (ap (λ (z : MemberView). z.state) now, failed d e (sym (ap (slice_get before) here) ∙ at_d) (sym (ap (slice_get after) here) ∙ at_e)))
+    (λ other there. (let found = at_map made_due a.members j y there in
+    inl (ap (λ (z : MemberView). z.state) found.2 ∙ ap (λ (z : MemberView). z.state) (same_Some found.0 x (sym found.1 ∙ at_x)))))
 
 pub fails_many : (k : ℕ) (a b : ArrayView) → Fails k a b → length b.members ≡ length a.members
 fails_many k a b f = ap (λ (c : ArrayView). length c.members) f.array ∙ length-set (map made_due a.members) k (made_faulty f.member) ∙ length-map a.members made_due
@@ -273,7 +315,8 @@ module _ (mid next : MirrorView) (before between : Requests) (previous : Option 
       (ap (λ (b : ArrayView). b.chunks) r.array)
       (ap (λ (b : ArrayView). b.marks) r.array)
       (set_same mid.array next.array k m (record m { due = false }) r.may.at (ap (λ (b : ArrayView). b.members) r.array)
-      (record { superblock = refl; bad = refl; stored_chunks = refl; state = inl refl }))
+      (record { superblock = refl; bad = refl; stored_chunks = refl }))
+      (λ j x y d e at_x at_y at_d at_e. inl (set_state mid.array next.array k m (record m { due = false }) r.may.at (ap (λ (b : ArrayView). b.members) r.array) refl j x y at_x at_y))
   keeps_event (Event.StoreMarks k b) of order did =
       let r = did.1 in
       let m = r.member in
@@ -284,7 +327,8 @@ module _ (mid next : MirrorView) (before between : Requests) (previous : Option 
       (ap (λ (b : ArrayView). b.chunks) r.array)
       (ap (λ (b : ArrayView). b.marks) r.array)
       (set_same mid.array next.array k m n r.may.in_sync.member (ap (λ (b : ArrayView). b.members) r.array)
-      (record { superblock = refl; bad = refl; stored_chunks = r.has_stored.chunks; state = inl refl }))
+      (record { superblock = refl; bad = refl; stored_chunks = r.has_stored.chunks }))
+      (λ j x y d e at_x at_y at_d at_e. inl (set_state mid.array next.array k m n r.may.in_sync.member (ap (λ (b : ArrayView). b.members) r.array) refl j x y at_x at_y))
   keeps_event (Event.RecordFails k) of order did =
       let r = did.1 in
       let m = r.member in
@@ -294,6 +338,7 @@ module _ (mid next : MirrorView) (before between : Requests) (previous : Option 
       (ap (λ (b : ArrayView). b.chunks) r.fails.array.array)
       (ap (λ (b : ArrayView). b.marks) r.fails.array.array)
       (fails_same k mid.array next.array r.fails.array)
+      (fails_state k mid.array next.array mid.disks next.disks r.fails.array r.fails.disks.failed)
   keeps_event (Event.StoreMarksFails k b) of order did =
       let r = did.1 in
       let m = r.member in
@@ -303,6 +348,7 @@ module _ (mid next : MirrorView) (before between : Requests) (previous : Option 
       (ap (λ (b : ArrayView). b.chunks) r.fails.array.array)
       (ap (λ (b : ArrayView). b.marks) r.fails.array.array)
       (fails_same k mid.array next.array r.fails.array)
+      (fails_state k mid.array next.array mid.disks next.disks r.fails.array r.fails.disks.failed)
   keeps_event (Event.Begin n p) of order did = absurd of
   keeps_event (Event.WriteMember n k) of order did = absurd of
   keeps_event (Event.Finish n) of order did = absurd of

@@ -8,6 +8,7 @@ use Rattle.md_device.specs.Splice.{part}
 use Rattle.md_kept_members.specs.Enrolling.{IsListAfter}
 use Rattle.md_kept_members.specs.View.{MemberView}
 use Rattle.md_model.specs.Content.{Content}
+use Rattle.md_state.specs.DeviceChanges.{FailsAt}
 use Rattle.md_state.specs.Members.{IsMember}
 use Rattle.md_state.specs.Missing.{is_missing}
 use Rattle.md_state.specs.View.{ArrayView, Disk, MirrorView}
@@ -36,8 +37,8 @@ pub record IsBesideCopied (a : ArrayView) (m : MemberView) (copied : Bitmap) (at
 -- the data of all other members are as before
 abbrev pub OthersKeepData : ℕ → MirrorView → MirrorView → Type 0
 OthersKeepData target old new =
-    (j : ℕ) (d e : Disk) (m : MemberView) → j ≢ target → slice_get old.disks j ≡ Some d → slice_get new.disks j ≡ Some e → IsMember old.array j m
-    → KeepsData m d e
+    (j : ℕ) (d e : Disk) (m : MemberView) → j ≢ target → slice_get old.disks j ≡ Some d → slice_get new.disks j ≡ Some e
+    → IsMember old.array j m → KeepsData m d e
 
 -- Of the chunks that the target lacked, those are copied that another member could give, and it holds the array's content there; it
 -- lists the others, the orphans. Beside the copied chunks its data are as before, and so are those of all other members.
@@ -46,7 +47,8 @@ pub record IsRebuilt (target : ℕ) (copied orphans : Bitmap) (old new : MirrorV
   pub at : IsMember old.array target member
   pub now : MemberView
   pub there : IsMember new.array target now
-  pub state : (is_in_sync now.state ≡ true) ⊎ (now.state ≡ Faulty)  -- a write to it may have failed once it was in sync
+  -- a write to it may have failed once it was in sync
+  pub state : (is_in_sync now.state ≡ true) ⊎ ((now.state ≡ Faulty) × (AreHonest old.disks → FailsAt old.disks new.disks target))
   pub copied_chunks : copied.chunks ≡ old.array.marks.chunks
   pub orphan_chunks : orphans.chunks ≡ old.array.marks.chunks
   pub copied_are : (c : ℕ) → c < old.array.marks.chunks
@@ -54,8 +56,9 @@ pub record IsRebuilt (target : ℕ) (copied orphans : Bitmap) (old new : MirrorV
   pub orphans_are : (c : ℕ) → c < old.array.marks.chunks
       → (is_set orphans.bytes c ≡ true) ↔ ((is_missing old.array member c ≡ true) × (IsServed old.array target c → ⊥))
   -- whatever content the members in sync held
-  pub holds : AreHonest old.disks → (content : Content) → HasContent old.disks old.array content → (e : Disk) → slice_get new.disks target ≡ Some e
-      → (c s : ℕ) → c < old.array.marks.chunks → is_set copied.bytes c ≡ true → InChunk old.array.chunks.sectors old.array.chunks.size c s
+  pub holds : AreHonest old.disks → (content : Content) → HasContent old.disks old.array content
+      → (e : Disk) → slice_get new.disks target ≡ Some e → (c s : ℕ) → c < old.array.marks.chunks
+      → is_set copied.bytes c ≡ true → InChunk old.array.chunks.sectors old.array.chunks.size c s
       → part e.content (512 * (member.superblock.data_offset + s)) 512 ≡ content s
   pub bad : IsListAfter old.array.chunks member copied orphans now.bad
   pub beside : (d e : Disk) → slice_get old.disks target ≡ Some d → slice_get new.disks target ≡ Some e

@@ -17,5 +17,6 @@ pub fn rebuilt_member()
 
 /// From before the call to after it.
 pub fn rebuilt_by_call()
-    ensures { (target : ℕ) (told : Rebuilt) (old new : MirrorView) → Rebuilds target told old new → HasRebuilt target told old new }
+    ensures { (target : ℕ) (told : Rebuilt) (old new : MirrorView)
+        → Rebuilds target told old new → HasRebuilt target told old new }
 {}
