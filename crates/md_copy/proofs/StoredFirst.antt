@@ -59,9 +59,9 @@ module _ (mid new : MirrorView) where
   serves_still sound e h = (let s = sound.roles.serving h.running in (s.0, s.1, in_sync_still h.halts.array s.0 s.1 s.2))
 
   -- where the count could rise, it is the only one
-  only_one : (HasSpentEvents mid.array → ⊥) → (e : Event) → HaltedBy e mid new → (k : ℕ) (m : MemberView) → IsInSync new.array k m → IsFailureOf k e
+  only_one : (HasSpentEvents mid.array → ⊥) → (e : Event) → (h : HaltedBy e mid new) → (k : ℕ) (m : MemberView) → IsInSync new.array k m → k ≡ h.by
   only_one unspent e h k m in_sync = elim h.halts.cannot [
-    | inl only ↦ h.named k (sym (only k m (in_sync_then h.halts.array k m in_sync)))
+    | inl only ↦ only k m (in_sync_then h.halts.array k m in_sync)
     | inr spent ↦ absurd (unspent spent)
   ]
 
@@ -102,6 +102,7 @@ module _ (target : ℕ) (old new : MirrorView) (unspent : HasSpentEvents old.arr
       let by = halted_by e.mid new e.failing e.of (e.halts (λ n. None)) in
       let then = in_sync_then e.mid new by.halts.array k m in_sync in
       let s : StaysReady old.array e.mid.array k m = h.ready.each k m then.member in
+      let only = only_one e.mid new (unspent_still old.array e.mid.array h.ready unspent) e.failing by in
       record {
         other = not_target k s.before (was_in_sync old.array e.mid.array k m s then);
         ends = inr (record {
@@ -109,11 +110,12 @@ module _ (target : ℕ) (old new : MirrorView) (unspent : HasSpentEvents old.arr
           stores = record { goes = e.goes; unfailing = h.unfailing; ready = h.ready };
           failing = e.failing;
           of = e.of;
-          named = only_one e.mid new (unspent_still old.array e.mid.array h.ready unspent) e.failing by k m in_sync;
+          named = by.named k (sym (only k m in_sync));
           halts = e.halts;
           sound = e.sound;
           member = m;
           in_sync = in_sync;
+          alone = λ j n is. only j n is ∙ sym (only k m in_sync);
         });
       }
 
@@ -168,6 +170,7 @@ module _ (target : ℕ) (old mid new : MirrorView) (g : Stores IsStoring old mid
         sound = s.sound;
         member = s.member;
         in_sync = s.in_sync;
+        alone = s.alone;
       })
     ];
   }

@@ -22,7 +22,7 @@ pub record StoresFirst (old new : MirrorView) : Type 0 where
   pub marks : AllInSync new.array (HasAllMarks old.array.marks)
   pub recorded : AllRecorded new.array
 
--- After something was stored, and nothing failed, a write to member k failed. It is in sync, and can't be made faulty, so that the mirror
+-- After something was stored, and nothing failed, a write to member k failed. It is in sync, and no other member is, so that the mirror
 -- is halted.
 pub record HaltsAtMember (k : ℕ) (old new : MirrorView) : Type 0 where
   pub mid : MirrorView
@@ -34,6 +34,7 @@ pub record HaltsAtMember (k : ℕ) (old new : MirrorView) : Type 0 where
   pub sound : IsConsistent new
   pub member : MemberView
   pub in_sync : IsInSync new.array k member
+  pub alone : (j : ℕ) (n : MemberView) → IsInSync new.array j n → j ≡ k
 
 -- A write to member k failed, which is not the target, and that was the end: it is faulty, or the mirror is halted.
 pub record StopsAt (target k : ℕ) (old new : MirrorView) : Type 0 where
