@@ -49,6 +49,15 @@ either_way false in_sync marked out = ap not out
 pub missing_same : (a : ArrayView) (m : MemberView) (c : ℕ) → is_rebuilt m.state ≡ true → state.is_missing a m c ≡ is_missing a m c
 missing_same a m c is = either_way m.re_added (is_in_sync m.state) (is_set a.marks.bytes c) (rebuilt_out m.state is)
 
+-- a chunk of a plan is one that the member lacks
+pub planned_missing : (v : MirrorView) (sound : IsConsistent v) (member : MemberView) (rebuilt : is_rebuilt member.state ≡ true) (plan : Plan) (is_plan : IsPlanOf v.array member plan)
+    → (c : ℕ) → has_chunk plan.slots c ≡ true → (c < v.array.marks.chunks) × (state.is_missing v.array member c ≡ true)
+planned_missing v sound member rebuilt plan is_plan c planned =
+    let given = planned_given v.array member plan is_plan c planned in
+    let under = given.lacks.low in
+    let count = sound.chunks.count in
+    (omega (arith, under, count), missing_same v.array member c rebuilt ∙ given.lacks.missing)
+
 -- ---- one device
 comes_target : (a : ArrayView) (m : MemberView) (slots : List Slot) (d e : Disk) → is_rebuilt m.state ≡ true
     → ((c : ℕ) → has_chunk slots c ≡ true → (c < a.marks.chunks) × (state.is_missing a m c ≡ true))
@@ -72,13 +81,6 @@ module _ {D : Type 0} (g : Ghosts D) (v : MirrorView) (sound : IsConsistent v) (
     (is_plan : IsPlanOf v.array member plan) (olds news : List D) (v_is : v.disks ≡ seen g olds) (as_many : length news ≡ length olds) where
   pub within : target < length olds
   within = let fits = sound.fits.as_many in let many = ap length v_is in let mapped = length-map olds (disk_of g) in omega (arith, low, fits, many, mapped)
-
-  lacks : (c : ℕ) → has_chunk plan.slots c ≡ true → (c < v.array.marks.chunks) × (state.is_missing v.array member c ≡ true)
-  lacks c planned =
-      let given = planned_given v.array member plan is_plan c planned in
-      let under = given.lacks.low in
-      let count = sound.chunks.count in
-      (omega (arith, under, count), missing_same v.array member c rebuilt ∙ given.lacks.missing)
 
   pub are_planned : ArePlanned v.array.chunks plan.slots
   are_planned = record {
@@ -112,7 +114,7 @@ module _ {D : Type 0} (g : Ghosts D) (v : MirrorView) (sound : IsConsistent v) (
                   | inl here ↦
                       let is : member ≡ m = same_Some member m (sym at ∙ ap (slice_get v.array.members) (sym here) ∙ at_m) in
                       let one = f.on_target d e (ap (slice_get v.disks) (sym here) ∙ at_d) (ap (slice_get (seen g news)) (sym here) ∙ at_e) in
-                      subst (λ (x : MemberView). ComesBack v.array x d e) is (comes_target v.array member plan.slots d e rebuilt lacks one)
+                      subst (λ (x : MemberView). ComesBack v.array x d e) is (comes_target v.array member plan.slots d e rebuilt (planned_missing v sound member rebuilt plan is_plan) one)
                   | inr other ↦ comes_other v.array m d e (f.others k d e other at_d at_e)
                 ];
           };

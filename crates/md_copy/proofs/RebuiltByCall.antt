@@ -295,11 +295,11 @@ module _ (target : ℕ) (copied orphans : Bitmap) (old v y : MirrorView) (first 
   }
 
 -- ---- the whole call
-record IsLast (enrolled last new : MirrorView) : Type 0 where
+pub record IsLast (enrolled last new : MirrorView) : Type 0 where
   pub goes : GoesOn only_others only_others IsStoring enrolled last
   pub ends : (last ≡ new) ⊎ HaltsFrom last new
 
-last_of : (enrolled new : MirrorView) → Settles enrolled new → (last : MirrorView) × IsLast enrolled last new
+pub last_of : (enrolled new : MirrorView) → Settles enrolled new → (last : MirrorView) × IsLast enrolled last new
 last_of enrolled new (inl all) = (new, record { goes = all.goes; ends = inl refl })
 last_of enrolled new (inr halts) = (halts.mid, record { goes = halts.goes; ends = inr (record { failing = halts.failing; of = halts.of; halts = halts.halts }) })
 

@@ -25,7 +25,9 @@ store_first-requires-clause-unspent g c =
     (c.in_default.ensures at.0 at.1).unspent
 
 pub returns-in-Err-store_first-clause-gives : goal.returns-in-Err-store_first-clause-gives
-returns-in-Err-store_first-clause-gives g c = refused_storing c.args.target c.args.mirror.now c.store_first.new.mirror c.in-Err-store_first.fault c.in-Err-store_first.ensures
+returns-in-Err-store_first-clause-gives g c =
+    let at = got_within c.args.mirror.now.array.members c.args.target c.requires.within in
+    refused_storing c.args.target c.args.mirror.now c.store_first.new.mirror at.0 at.1 (c.in_default.ensures at.0 at.1) c.in-Err-store_first.fault c.in-Err-store_first.ensures
 
 pub returns-in-Err-store_first-clause-sound : goal.returns-in-Err-store_first-clause-sound
 returns-in-Err-store_first-clause-sound g c = stops_sound c.args.target c.args.mirror.now c.store_first.new.mirror c.in-Err-store_first.fault c.in-Err-store_first.ensures
@@ -77,10 +79,10 @@ pub returns-in-Err-enrol_filled-clause-gives : goal.returns-in-Err-enrol_filled-
 returns-in-Err-enrol_filled-clause-gives g c =
     let at = got_within c.args.mirror.now.array.members c.args.target c.requires.within in
     refused_filled c.args.target c.args.mirror.now c.store_first.new.mirror c.in_default.ensures c.in_default-store_first.ensures at.0 at.1 c.in-Ok.pass c.in-Ok.ensures.prepared c.fill.new.pass c.fill.new.mirror
-    c.in_default-fill.ensures.gives c.enrol_filled.new.mirror c.in-Err-enrol_filled.fault c.in-Err-enrol_filled.ensures.gives
+    c.in_default-fill.ensures.gives c.in_default-fill.ensures.sound c.enrol_filled.new.mirror c.in-Err-enrol_filled.fault c.in-Err-enrol_filled.ensures.gives
 
 pub returns-clause-gives : goal.returns-clause-gives
 returns-clause-gives g c =
     let at = got_within c.args.mirror.now.array.members c.args.target c.requires.within in
     rebuilds c.args.target c.args.mirror.now c.store_first.new.mirror c.in_default.ensures c.in_default-store_first.ensures at.0 at.1 c.in-Ok.pass c.in-Ok.ensures.prepared c.fill.new.pass c.fill.new.mirror
-    c.in_default-fill.ensures.gives c.enrol_filled.new.mirror c.settle.new.mirror c.in_default-enrol_filled.ensures.gives c.settle.ensures.settles
+    c.in_default-fill.ensures.gives c.in_default-fill.ensures.sound c.enrol_filled.new.mirror c.settle.new.mirror c.in_default-enrol_filled.ensures.gives c.in_default-enrol_filled.ensures.sound c.settle.ensures.settles
