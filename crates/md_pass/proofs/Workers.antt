@@ -26,7 +26,7 @@ failed_or_not true = refl
 failed_or_not false = refl
 
 -- an element of a list with one more at its end
-pushed : {X : Type 0} (P : ℕ → X → Type 0) (xs : List X) (x : X) → ((i : ℕ) (d : X) → i < length xs → P i (get_or xs i d)) → P (length xs) x → (i : ℕ) (d : X) → i < length (xs ++ x ∷ []) → P i (get_or (xs ++ x ∷ []) i d)
+pub pushed : {X : Type 0} (P : ℕ → X → Type 0) (xs : List X) (x : X) → ((i : ℕ) (d : X) → i < length xs → P i (get_or xs i d)) → P (length xs) x → (i : ℕ) (d : X) → i < length (xs ++ x ∷ []) → P i (get_or (xs ++ x ∷ []) i d)
 pushed P xs x each last i d below =
     elim (cases_lt i (length xs)) [
       | inl before ↦ subst (P i) (sym (get_or_append_left xs (x ∷ []) d i before)) (each i d before)

@@ -5,11 +5,12 @@ use Rattle.md_collect.specs.Collecting.{copying}
 use Rattle.md_pass.specs.declared.fault.PassFault.TheVariants.{SourceFault}
 use Rattle.md_pass.specs.declared.lane.Lane.{Lane}
 use Rattle.md_pass.specs.Beside.{KeepsBeside}
+use Rattle.md_pass.specs.Lanes.{IsReady}
 use Rattle.md_pass.specs.Settling.{books}
 use Rattle.md_pass.specs.Passes.{IsPassing}
 use Rattle.md_pass.proofs.Besides.{keeps_then}
 use Rattle.md_pass.proofs.Workers.{chunks_kept}
-use Rattle.md_pass.proofs.Rounds.{all_done, next_done, sources_read, turned}
+use Rattle.md_pass.proofs.Rounds.{all_done, all_ready, next_done, sources_read, turned}
 use Rattle.md_pass.proofs.turns.run_turns.Goals as goal
 
 pub returns-then-is_starved-clause-sources : goal.returns-then-is_starved-clause-sources
@@ -17,6 +18,12 @@ returns-then-is_starved-clause-sources g c =
     let inv = c.loop-turn.invariant in
     let same : c.loop-turn.collector.chunks ≡ c.args.chunks = ap (λ (v : Copying). v.chunks) inv.passing.books.same_copy ∙ sym c.requires.chunks in
     sources_read c.turn.new.lanes.items (turned c.turn.new.lanes.items inv.passing inv.taken c.turn.ensures.len (λ k d below. rw same (c.turn.ensures.worked k d below))) refl (λ k d below. refl)
+
+pub turn-requires-after_bounds : goal.turn-requires-after_bounds
+turn-requires-after_bounds g c κs within =
+    let inv = c.loop-turn.invariant in
+    let same : c.loop-turn.collector.chunks ≡ c.args.chunks = ap (λ (v : Copying). v.chunks) inv.passing.books.same_copy ∙ sym c.requires.chunks in
+    subst (λ v. All (λ (lane : Lane _ _ _). IsReady g.D.Device v lane) c.loop-turn.lanes.items) same (all_ready inv.passing inv.taken)
 
 pub settle_all-requires : goal.settle_all-requires
 settle_all-requires g c =
