@@ -73,8 +73,7 @@ module _ {D L M : Type 0} {g : Ghosts D} {th : Bool} where
       let n : length lane.reports ≡ suc (length rest) = ap length e in
       let within = way.read.within in
       let at : get_or lane.reports 0 r ≡ r = ap (λ rs. get_or rs 0 r) e in
-      let is = way.read.each 0 r (omega (arith, n)) in
-      (
+      let is = way.read.each 0 r (omega (arith, n)) in (
         omega (arith, within, n),
         subst (λ x. IsReport g first.device lane.device first.offset now.collector.chunks (slice_index first.chunks.items lane.done) first.role x) at
             (subst (λ i. IsReport g first.device lane.device first.offset now.collector.chunks (slice_index first.chunks.items i) first.role (get_or lane.reports 0 r)) (let z : lane.done + 0 ≡ lane.done = omega arith in z) is),
@@ -152,7 +151,7 @@ module _ {D L M : Type 0} {g : Ghosts D} {th : Bool} where
             let n : length taken.reports ≡ suc (length rest) = ap length e in
             let next : taken.done + suc i ≡ taken.done + 1 + i = omega arith in
             subst (λ k. IsReport g first.device taken.device first.offset old.collector.chunks (slice_index first.chunks.items k) first.role (get_or rest i x)) next
-                (subst (λ rs. IsReport g first.device taken.device first.offset old.collector.chunks (slice_index first.chunks.items (taken.done + suc i)) first.role (get_or rs (suc i) x)) e (read.each (suc i) x (omega (arith, n, below))))
+            (subst (λ rs. IsReport g first.device taken.device first.offset old.collector.chunks (slice_index first.chunks.items (taken.done + suc i)) first.role (get_or rs (suc i) x)) e (read.each (suc i) x (omega (arith, n, below))))
 
     -- and so does the lane itself
     pub same_stays : (first : Lane D L M) → IsTaken th old new taken taken' r rest → Changes old new r.chunk

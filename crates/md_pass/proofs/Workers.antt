@@ -153,11 +153,17 @@ module _ {D L M : Type 0} {g : Ghosts D} {chunks : Chunks} where
         parts = read.parts ∙ before.parts;
       }
 
--- of a worker that found memory: some slot was read, if there was one
-pub some_read : {D L M : Type 0} {g : Ghosts D} (chunks : Chunks) (lane new : Lane D L M) (more : Bool) → GoesOn g chunks lane new more → more ≡ false → new.starved ≡ false → (length lane.chunks.items ≤ slots_read lane) × (length new.reports ≡ length lane.reports)
-some_read chunks lane new true goes e fed = absurd cc
-some_read chunks lane new false goes e fed = (goes.next.why fed, ap length goes.next.reports)
+-- after a step of a worker
+module _ {D L M : Type 0} {g : Ghosts D} (chunks : Chunks) (lane new : Lane D L M) where
+  pub one_more_read : (more : Bool) → GoesOn g chunks lane new more → more ≡ true → (length new.reports ≡ length lane.reports + 1) × (new.starved ≡ lane.starved)
+  one_more_read false goes e = absurd cc
+  one_more_read true goes e = (ap length goes.next.reports ∙ (let n = length-append lane.reports (goes.next.report ∷ []) in omega (arith, n)), goes.next.starved)
 
-pub one_read : {D L M : Type 0} {g : Ghosts D} (chunks : Chunks) (lane new : Lane D L M) (more : Bool) → GoesOn g chunks lane new more → more ≡ true → (length new.reports ≡ length lane.reports + 1) × (new.starved ≡ lane.starved)
-one_read chunks lane new false goes e = absurd cc
-one_read chunks lane new true goes e = (ap length goes.next.reports ∙ (let n = length-append lane.reports (goes.next.report ∷ []) in omega (arith, n)), goes.next.starved)
+  pub none_more_read : (more : Bool) → GoesOn g chunks lane new more → more ≡ false → length new.reports ≡ length lane.reports
+  none_more_read true goes e = absurd cc
+  none_more_read false goes e = ap length goes.next.reports
+
+  -- where memory was found, all slots were read
+  pub none_left : (more : Bool) → GoesOn g chunks lane new more → more ≡ false → new.starved ≡ false → length lane.chunks.items ≤ slots_read lane
+  none_left true goes e fed = absurd cc
+  none_left false goes e fed = goes.next.why fed

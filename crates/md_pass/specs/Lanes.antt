@@ -6,6 +6,7 @@ use Rattle.md_collect.specs.Places.{IsChunk, HasRoom, bytes_of}
 use Rattle.md_collect.specs.Reading.{IsChunkOf, Fails, LeavesContent}
 use Rattle.md_collect.specs.Reports.{ReportView}
 use Rattle.md_pass.specs.declared.lane.Lane.{Lane}
+use Rattle.md_pass.specs.Batches.{batch_of}
 use Rattle.md_pass.specs.Tally.{noted}
 
 module _ {D : Type 0} (g : Ghosts D) where
@@ -63,10 +64,12 @@ module _ {D L M : Type 0} (g : Ghosts D) where
     pub none_waits : lane.reports ≡ []
     pub none_failed : lane.share.failed ≡ 0
 
-  -- a lane before and after its worker: some of its slots were read, unless there was none or memory was refused
+  -- A lane before and after its worker: its next slots were read, no more than a batch has, and at least one unless there was none or memory was
+  -- refused.
   pub record HasWorked (chunks : Chunks) (old new : Lane D L M) : Type 0 where
     pub read : HasRead chunks old new
     pub done : new.done ≡ old.done
+    pub few : length new.reports ≤ batch_of chunks
     pub some : new.starved ≡ false → old.done < length old.chunks.items → 0 < length new.reports
 
   -- the next slot was read, and noted on the share

@@ -1,7 +1,7 @@
 use Rattle.std.proofs.Common.{◌≡◌, false, true, Bool, length, ap, refl, ◌∙◌, arith, subst}
 use Rattle.md_pass.specs.declared.lane.Lane.{Lane}
 use Rattle.md_pass.specs.Lanes.{GoesOn, IsRead, IsReady, HasRead}
-use Rattle.md_pass.proofs.Workers.{chunks_kept, may_go_on, none_read, one_read, read_anew, ready_anew, some_read, went_on}
+use Rattle.md_pass.proofs.Workers.{chunks_kept, may_go_on, none_left, none_more_read, none_read, one_more_read, read_anew, ready_anew, went_on}
 use Rattle.md_pass.proofs.lane.work.Goals as goal
 
 pub loop-slot-init : goal.loop-slot-init
@@ -18,7 +18,7 @@ read_next-requires g c = may_go_on (record c.args.lane.now { starved = false }) 
 pub loop-slot-preserved : goal.loop-slot-preserved
 loop-slot-preserved g c =
     let inv = c.loop-slot.invariant in
-    let one = one_read c.args.chunks c.loop-slot.lane c.read_next.new.lane c.read_next.result c.read_next.ensures c.if-not-read_next.false in
+    let one = one_more_read c.args.chunks c.loop-slot.lane c.read_next.new.lane c.read_next.result c.read_next.ensures c.if-not-read_next.false in
     record {
       read = went_on (record c.args.lane.now { starved = false }) c.loop-slot.lane c.read_next.new.lane c.read_next.result inv.read c.read_next.ensures;
       done = ap (λ (l : Lane _ _ _). l.done) c.read_next.ensures.kept ∙ inv.done;
@@ -34,10 +34,14 @@ returns-then-not-read_next g c =
     record {
       read = read_anew c.args.lane.now c.read_next.new.lane now;
       done = done;
+      few =
+          let n = none_more_read c.args.chunks c.loop-slot.lane c.read_next.new.lane c.read_next.result c.read_next.ensures c.if-not-read_next.true in
+          omega (arith, n, inv.count, c.loop-slot-test.true, c.batch_of-slot-end.ensures);
       some = λ fed more.
-          let all = some_read c.args.chunks c.loop-slot.lane c.read_next.new.lane c.read_next.result c.read_next.ensures c.if-not-read_next.true fed in
+          let past = none_left c.args.chunks c.loop-slot.lane c.read_next.new.lane c.read_next.result c.read_next.ensures c.if-not-read_next.true fed in
+          let same = none_more_read c.args.chunks c.loop-slot.lane c.read_next.new.lane c.read_next.result c.read_next.ensures c.if-not-read_next.true in
           let n = ap (λ (v : _). length v.items) (chunks_kept inv.read) in
-          omega (arith, all.0, all.1, n, inv.done, more);
+          omega (arith, past, same, n, inv.done, more);
     }
 
 pub returns : goal.returns
@@ -46,5 +50,6 @@ returns g c =
     record {
       read = read_anew c.args.lane.now c.loop-slot.lane inv.read;
       done = inv.done;
+      few = omega (arith, inv.count, c.loop-slot.auto._slot-end, c.batch_of-slot-end.ensures);
       some = λ fed more. omega (arith, inv.count, c.loop-slot-test.false, c.batch_of-slot-end.ensures);
     }

@@ -47,14 +47,14 @@ pub returns-in_err-settle_round-clause-target : goal.returns-in_err-settle_round
 returns-in_err-settle_round-clause-target g c =
     let inv = c.loop-round.invariant in
     keeps_then (copying c.args.collector.now) c.args.target.now c.loop-round.target c.settle_round.new.target inv.target
-        (subst (λ v. KeepsBeside g.D.Device v c.loop-round.target c.settle_round.new.target) inv.copy c.settle_round.ensures.target)
+    (subst (λ v. KeepsBeside g.D.Device v c.loop-round.target c.settle_round.new.target) inv.copy c.settle_round.ensures.target)
 
 pub returns-clause-taken : goal.returns-clause-taken
 returns-clause-taken g c =
     let inv = c.loop-round.invariant in
     let most = subst (λ (xs : List (Lane _ _ _)). All (λ (lane : Lane _ _ _). length lane.reports ≤ c.most_waiting-round-end.result) xs) c.as_slice.ensures.value c.most_waiting-round-end.ensures in
     λ k d below.
-        let here : k < length c.args.lanes.now.items = omega (arith, inv.len, below) in
-        let all = most k d here in
-        let left = inv.taken k d here in
-        none_left (get_or c.loop-round.lanes.items k d).reports (omega (arith, all, left, c.loop-round-test.false))
+    let here : k < length c.args.lanes.now.items = omega (arith, inv.len, below) in
+    let all = most k d here in
+    let left = inv.taken k d here in
+    none_left (get_or c.loop-round.lanes.items k d).reports (omega (arith, all, left, c.loop-round-test.false))
