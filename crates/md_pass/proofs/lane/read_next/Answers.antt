@@ -1,0 +1,46 @@
+use Rattle.std.proofs.Common.{◌≡◌, not, ap, Some, None, refl, sym, ◌∙◌, arith, rules}
+use Rattle.std.specs.List.{slice_get}
+use Rattle.std.proofs.lemmas.Option.{slice_get_cases}
+use Rattle.md_pass.specs.Lanes.{slots_read}
+use Rattle.md_pass.specs.Tally.{noted}
+use Rattle.md_pass.proofs.OnlyReads.{not_read, reads_only, reads_report}
+use Rattle.md_pass.proofs.Workers.{some_at, none_at}
+use Rattle.md_pass.proofs.lane.read_next.Goals as goal
+
+pub returns-in_default : goal.returns-in_default
+returns-in_default g c =
+    let lane = c.args.lane.now in
+    let none : slice_get lane.chunks.items (slots_read lane) ≡ None = search rules in
+    record { kept = refl; only_read = not_read lane.device; next = record { reports = refl; share = refl; why = λ fed. none_at lane.chunks.items (slots_read lane) none } }
+
+pub read_chunk_into-answer-requires-clause-chunk : goal.read_chunk_into-answer-requires-clause-chunk
+read_chunk_into-answer-requires-clause-chunk g c =
+    let lane = c.args.lane.now in
+    let some : slice_get lane.chunks.items (slots_read lane) ≡ Some c.in-Some.chunk = search rules in
+    let there = some_at lane.chunks.items (slots_read lane) c.in-Some.chunk some in
+    rw there.1 (c.requires.chunk (slots_read lane) there.0)
+
+pub note-requires : goal.note-requires
+note-requires g c =
+    let lane = c.args.lane.now in
+    let some : slice_get lane.chunks.items (slots_read lane) ≡ Some c.in-Some.chunk = search rules in
+    let there = some_at lane.chunks.items (slots_read lane) c.in-Some.chunk some in
+    omega (arith, c.requires.left, there.0)
+
+pub returns : goal.returns
+returns g c =
+    let lane = c.args.lane.now in
+    let some : slice_get lane.chunks.items (slots_read lane) ≡ Some c.in-Some.chunk = search rules in
+    let there = some_at lane.chunks.items (slots_read lane) c.in-Some.chunk some in
+    record {
+      kept = refl;
+      only_read = reads_only c.read_chunk_into-answer.ensures.gives;
+      next = record {
+        within = there.0;
+        report = c.in-Ok.report;
+        reports = search rules;
+        share = c.note.ensures ∙ ap (λ b. noted lane.share (not b)) c.is_failed-delivered.ensures;
+        starved = refl;
+        is = rw (← there.1) (reads_report c.read_chunk_into-answer.result c.in-Ok.report c.in-Ok.is c.read_chunk_into-answer.ensures.gives);
+      };
+    }
