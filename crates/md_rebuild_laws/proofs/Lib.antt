@@ -1,0 +1,3 @@
+pub mod HeldOnDisks
+pub mod RebuiltHolds
+pub mod StoppedRebuilds

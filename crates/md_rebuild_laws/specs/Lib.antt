@@ -1,0 +1,4 @@
+-- What a rebuild makes of its target in the life of a mirror.
+pub mod RebuiltInLife
+-- What a stop within a rebuild leaves.
+pub mod StoppedRebuilds
