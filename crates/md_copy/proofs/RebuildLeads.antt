@@ -154,7 +154,7 @@ module _ (target : ℕ) (planned : Planned) (old stored : MirrorView) (b : Begin
   pub now_rebuilt : is_rebuilt b.now.state ≡ true
   now_rebuilt = target_rebuilt stored.array b.now (target_then target old stored may_all b.first b.now b.there)
 
-  plan_of : IsPlanOf stored.array b.now planned.plan
+  pub plan_of : IsPlanOf stored.array b.now planned.plan
   plan_of = record { rows = b.plan.rows; table = b.plan.table; certificate = planned.certificate; certified = b.plan.certified }
 
   pub filled : (new : MirrorView) → IsFilling target b.now planned.plan.slots stored new → array.Fills target stored new

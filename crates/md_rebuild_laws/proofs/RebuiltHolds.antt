@@ -13,8 +13,11 @@ use Rattle.md_device.specs.Splice.{part}
 use Rattle.md_kept_members.specs.Enrolling.{IsOf}
 use Rattle.md_kept_members.specs.View.{MemberView}
 use Rattle.md_model.specs.Content.{Content, Holds}
+use Rattle.md_model.specs.Devices.{Super}
 use Rattle.md_model.specs.Events.{Event}
+use Rattle.md_model.specs.Sectors.{Geometry}
 use Rattle.md_model.proofs.Cases.{by_test}
+use Rattle.md_plan.specs.declared.planner.Planned.{Planned}
 use Rattle.md_state.specs.Members.{IsMember}
 use Rattle.md_state.specs.Missing.{is_missing}
 use Rattle.md_state.specs.View.{ArrayView, Disk, MirrorView}
@@ -26,9 +29,9 @@ use Rattle.md_array.specs.Worlds.{AreHonest, geometry_of, none_in_flight, world_
 use Rattle.md_array.proofs.Rebuilding.HeldContent.{its_chunk}
 use Rattle.md_laws.specs.Lives.{MirrorLifeWith}
 use Rattle.md_laws.specs.Runs.{IsStart, Moment}
-use Rattle.md_laws.proofs.Runs.MirrorContents.{life_held_at}
+use Rattle.md_laws.proofs.Runs.MirrorContents.{IsHeldAt, life_held_at}
 use Rattle.md_copy.specs.declared.rebuilt.Rebuilt.{Rebuilt}
-use Rattle.md_copy.specs.Rebuilding.{Rebuilds}
+use Rattle.md_copy.specs.Rebuilding.{Begins, Rebuilds}
 use Rattle.md_copy.specs.Rebuilt.{HasRebuilt, IsBesideCopied, IsRebuilt}
 use Rattle.md_copy.proofs.RebuiltByCall.{has_rebuilt}
 use Rattle.md_rebuild_laws.specs.RebuiltInLife.{CopiesContent, HeldWhatItHad, RebuildsContent}
@@ -36,7 +39,7 @@ use Rattle.md_rebuild_laws.proofs.HeldOnDisks.{has_content}
 
 -- ---- chunks
 -- a sector lies in one chunk alone
-one_chunk : (width size b c s : ℕ) → InChunk width size b s → InChunk width size c s → b ≡ c
+pub one_chunk : (width size b c s : ℕ) → InChunk width size b s → InChunk width size c s → b ≡ c
 one_chunk width size b c s x y =
     elim (cases_lt b c) [
       | inl less ↦ let up = mul-le (b + 1) width c width (omega arith) (omega arith) in let high = x.below in let low = y.from in absurd (omega (arith, up, high, low))
@@ -47,7 +50,7 @@ one_chunk width size b c s x y =
     ]
 
 -- beside each other one
-beside_other : (a : ArrayView) (offset b c s : ℕ) → InChunk a.chunks.sectors a.chunks.size c s → (b ≡ c → ⊥) → IsBesideChunk a.chunks offset (512 * (offset + s)) 512 b
+pub beside_other : (a : ArrayView) (offset b c s : ℕ) → InChunk a.chunks.sectors a.chunks.size c s → (b ≡ c → ⊥) → IsBesideChunk a.chunks offset (512 * (offset + s)) 512 b
 beside_other a offset b c s inside other =
     let width = a.chunks.sectors in
     let from = inside.from in
@@ -128,6 +131,12 @@ module _ (target : ℕ) (copied orphans : Bitmap) (old last : MirrorView) (sound
         (λ uncopied. by_test (is_missing a m c) (λ missing. absurd (lacked uncopied missing)) (stayed uncopied))
 
 -- ---- at a moment of a life
+-- where a rebuild may begin
+pub held_at_begin : {g : Geometry} {opened : Super} {b : Content} (t : Moment) → IsHeldAt g opened t b → (planned : Planned) (target : ℕ) {stored : MirrorView} → Begins target planned t.mirror stored
+    → HasContent t.mirror.disks t.mirror.array b
+held_at_begin {g} {opened} {b} t at planned target begins =
+    has_content t at.sound begins.may.idle begins.may.settled.resynced b (subst (λ g. Holds g b (world_of t.mirror t.requests)) (sym at.geometry) at.held.holds)
+
 module _ (before : List Disk) (m : MirrorView) (a : Content) (start : IsStart before m) (holds : Holds (geometry_of m.array) a (world_of m none_in_flight)) (es : List Event) (rest : List (List Event)) (final : MirrorView)
     (last : Moment) (b : Content) (life : MirrorLifeWith m a es rest final last b) (target : ℕ) (told : Rebuilt) (new : MirrorView) (h : Rebuilds target told last.mirror new) where
   abbrev r : HasRebuilt target told last.mirror new
@@ -140,10 +149,7 @@ module _ (before : List Disk) (m : MirrorView) (a : Content) (start : IsStart be
   honest_there = (life_held_at before m a start holds es rest final last b life).sound.honest
 
   has_it : HasContent last.mirror.disks last.mirror.array b
-  has_it =
-      let t = life_held_at before m a start holds es rest final last b life in
-      let may = h.by.fills.begins.may in
-      has_content last t.sound may.idle may.settled.resynced b (subst (λ g. Holds g b (world_of last.mirror last.requests)) (sym t.geometry) t.held.holds)
+  has_it = held_at_begin last (life_held_at before m a start holds es rest final last b life) h.planned target h.by.fills.begins
 
   pub copies_there : (r : HasRebuilt target told last.mirror new) × ((e : Disk) → slice_get r.last.disks target ≡ Some e → (c s : ℕ) → c < last.mirror.array.marks.chunks → is_set r.copied.bytes c ≡ true
       → InChunk last.mirror.array.chunks.sectors last.mirror.array.chunks.size c s → part e.content (512 * (r.rebuilt.member.superblock.data_offset + s)) 512 ≡ b s)

@@ -13,7 +13,7 @@ use Rattle.md_state.specs.Requests.{AreInFlight}
 use Rattle.md_state.specs.View.{ArrayView, Disk, MirrorView}
 use Rattle.md_array.specs.Consistency.{IsConsistent}
 use Rattle.md_array.specs.Enrolling.{Enrols, FailsToEnrol, MayEnrol}
-use Rattle.md_array.specs.Enrolments.{EndsBelow, IsHeldBy, Prepares, lists_of, prepared}
+use Rattle.md_array.specs.Enrolments.{EndsBelow, IsHeldBy, Prepares, enrol_event, lists_of, prepared}
 use Rattle.md_array.specs.Filling.{Fills}
 use Rattle.md_array.specs.InTurn.{AllLeftWhole, AllOf, Did, InTurn, IsInOrder, Leads, LeftWhole, Requests}
 use Rattle.md_array.specs.ReadAsKept.{AreReadAsKept}
@@ -25,37 +25,34 @@ use Rattle.md_laws.specs.ReadInTurn.{IsNoFailedRecord}
 use Rattle.md_laws.specs.Runs.{IsStart, MirrorRun, Moment, then_as}
 use Rattle.md_laws.specs.StopsWithin.{MayAllBeLeft}
 use Rattle.md_laws.proofs.Runs.CallRuns.{call_is_run}
+use Rattle.md_laws.proofs.Runs.MirrorContents.{life_held_at}
 use Rattle.md_laws.proofs.Runs.Moments.{IsSoundAt, life_keeps, run_keeps, run_then, sound_when_opened}
 use Rattle.md_laws.proofs.Runs.Rests.{at_once, at_rest}
-use Rattle.md_metadata.specs.Going.{GoesOn, LeadsBy, only_others}
+use Rattle.md_metadata.specs.Going.{GoesOn, only_others}
 use Rattle.md_metadata.specs.Storing.{IsNoFailure, IsStoring}
 use Rattle.md_copy.specs.Filling.{IsFilling}
 use Rattle.md_copy.specs.RebuildEvents.{FailsAtMarks, IsBeforeEnrol, IsOfRebuild}
 use Rattle.md_copy.specs.Rebuilding.{Begins, FillsBy}
 use Rattle.md_copy.proofs.LentBack.{rebuilt_out}
-use Rattle.md_copy.proofs.RebuildLeads.{before_of, enrolling_leads, filled, filled_leads, now_rebuilt, storing_before}
+use Rattle.md_copy.proofs.RebuildLeads.{LeadsIn, before_of, ends_then, filled, filled_leads, filling_events, now_rebuilt, storing_before}
 use Rattle.md_copy.proofs.StoringKeeps.{due_within}
 use Rattle.md_copy.proofs.UnfinishedEnrol.{prepares}
+use Rattle.md_rebuild_laws.proofs.EnrolledRun.{at_end, enrolled_run}
+use Rattle.md_rebuild_laws.proofs.HeldAtEnrol.{is_held}
+use Rattle.md_rebuild_laws.proofs.RebuiltHolds.{held_at_begin}
 use Rattle.md_rebuild_laws.specs.StoppedRebuilds.{IsLeftWhole, IsStopAfter, IsStopBefore, StopsEnrolled, StopsEnrolling, StopsFilling, StopsIn, StopsStoring, StopsUnenrolled}
 
 -- ---- a run that a call makes
 -- it ends where the call says
-record Reaches (t : Moment) (es : List Event) (new : MirrorView) : Type 0 where
-  at : Moment
-  run : MirrorRun t es at
-  there : at.mirror ≡ new
-  requests : at.requests ≡ t.requests
+pub record Reaches (t : Moment) (es : List Event) (new : MirrorView) : Type 0 where
+  pub at : Moment
+  pub run : MirrorRun t es at
+  pub there : at.mirror ≡ new
+  pub requests : at.requests ≡ t.requests
 
 reaches : (es : List Event) (t : Moment) (new : MirrorView) (leads : Leads None t.mirror t.requests es new t.requests) → AreHonest t.mirror.disks
     → AllLeftWhole es None t.mirror t.requests (λ m r. (m ≡ new) × (r ≡ t.requests)) leads → Reaches t es new
 reaches es t new leads honest whole = let r = call_is_run es None t new t.requests leads honest whole in record { at = r.0; run = r.1; there = r.2.0; requests = r.2.1 }
-
--- the same, from a moment at which this mirror is
-enrolment : (t : Moment) (old : MirrorView) (there : t.mirror ≡ old) (es : List Event) (new : MirrorView) (leads : Leads None old t.requests es new t.requests) → AreHonest old.disks
-    → AllLeftWhole es None old t.requests (λ m r. (m ≡ new) × (r ≡ t.requests)) leads → Reaches t es new
-enrolment t old there es new =
-    subst (λ (x : MirrorView). (leads : Leads None x t.requests es new t.requests) → AreHonest x.disks → AllLeftWhole es None x t.requests (λ m r. (m ≡ new) × (r ≡ t.requests)) leads → Reaches t es new)
-    there (reaches es t new)
 
 -- of some events nothing is asked
 whole_of : (es : List Event) (previous : Option Event) (old : MirrorView) (before : Requests) (Then : MirrorView → Requests → Type 0) (turn : InTurn previous old before es Then)
@@ -70,10 +67,12 @@ whole_of (e ∷ es) previous old before Then turn all = (one e all.0, whole_of e
     one e of = tt
 
 unfailing_records : (es : List Event) → AllOf IsStoring es → AllOf IsNoFailure es → AllOf IsNoFailedRecord es
-unfailing_records [] of no = tt
-unfailing_records (Event.Record k ∷ es) of no = (tt, unfailing_records es of.1 no.1)
-unfailing_records (Event.StoreMarks k b ∷ es) of no = (tt, unfailing_records es of.1 no.1)
-unfailing_records (e ∷ es) of no = absurd (no.0)
+unfailing_records [] of none = tt
+unfailing_records (Event.Record k ∷ es) of none = (tt, unfailing_records es of.1 none.1)
+unfailing_records (Event.StoreMarks k b ∷ es) of none = (tt, unfailing_records es of.1 none.1)
+unfailing_records (Event.RecordFails k ∷ es) of none = absurd none.0
+unfailing_records (Event.StoreMarksFails k b ∷ es) of none = absurd none.0
+unfailing_records (e ∷ es) of none = absurd of.0
 
 -- ---- while marks and superblocks are stored
 within_storing : (e : Event) (previous : Option Event) (t : Moment) (mid : MirrorView) (between : Requests) → IsStoring e → IsInOrder previous t.mirror.array e → Did t.mirror t.requests e mid between
@@ -92,11 +91,11 @@ stops_in : (es : List Event) (previous : Option Event) (t : Moment) (Then : Mirr
     → AllLeftWhole es previous t.mirror t.requests Then turn → (left : List Disk) → StopsIn es previous t.mirror t.requests Then turn left → IsStopAfter IsStoring t left
 stops_in [] previous t Then turn of honest whole left stop = absurd stop
 stops_in (e ∷ es) previous t Then turn of honest whole left (inl here) =
-    record { events = []; steps = tt; at = t; run = at_rest t; left = within_storing e previous t turn.0 turn.1 of.0 turn.2 turn.3 left here.0 here.1 }
+    record { events = []; steps = tt; at = t; run = at_rest t; is_left = within_storing e previous t turn.0 turn.1 of.0 turn.2 turn.3 left here.0 here.1 }
 stops_in (e ∷ es) previous t Then turn of honest whole left (inr later) =
     let does = turn.4 honest whole.0 in
     let rest = stops_in es (Some e) (then_as t e turn.0 turn.1) Then turn.5 of.1 does.honest whole.1 left later in
-    record { events = e ∷ rest.events; steps = (of.0, rest.steps); at = rest.at; run = (turn.0, turn.1, at_once t.mirror turn.0 t.requests turn.1 e does, rest.run); left = rest.left }
+    record { events = e ∷ rest.events; steps = (of.0, rest.steps); at = rest.at; run = (turn.0, turn.1, at_once t.mirror turn.0 t.requests turn.1 e does, rest.run); is_left = rest.is_left }
 
 -- ---- at a moment of a life
 module _ (t : Moment) (sound : IsSoundAt t) where
@@ -131,7 +130,7 @@ module _ (t : Moment) (sound : IsSoundAt t) where
             steps = kinds;
             at = at;
             run = begun.run;
-            left = inr (inr (inr (inr (inr (inr (inl (record {
+            is_left = inr (inr (inr (inr (inr (inr (inl (record {
               on = target;
               next = new;
               call = subst (λ (x : MirrorView). Fills target x new) there (filled target planned t.mirror stored b new f);
@@ -146,17 +145,16 @@ module _ (t : Moment) (sound : IsSoundAt t) where
     abbrev b : Begins target planned t.mirror by.stored
     b = by.begins
 
-    lead : LeadsBy (IsBeforeEnrol target) t.mirror filled
-    lead = filled_leads target planned copied orphans t.mirror filled by
+    abbrev pub list : List Event
+    list = filling_events target planned copied orphans t.mirror filled by
 
-    -- the same events
-    abbrev list : List Event
-    list = b.first.stores.goes.events ++ Event.Fill target ∷ []
+    pub lead : LeadsIn (IsBeforeEnrol target) list t.mirror filled
+    lead = filled_leads target planned copied orphans t.mirror filled by
 
     filled_quiet : AllOf IsNoFailedRecord list
     filled_quiet = all_on IsNoFailedRecord b.first.stores.goes.events (Event.Fill target ∷ []) (quiet target planned by.stored b) (tt, tt)
 
-    full : Reaches t list filled
+    pub full : Reaches t list filled
     full =
         let leads = lead.leads None t.requests sound.in_flight in
         reaches list t filled leads sound.honest (whole_of list None t.mirror t.requests (λ m r. (m ≡ filled) × (r ≡ t.requests)) leads filled_quiet)
@@ -174,7 +172,7 @@ module _ (t : Moment) (sound : IsSoundAt t) where
             steps = lead.steps;
             at = full.at;
             run = full.run;
-            left = inr (inr (inr (inr (inr (inr (inr (inr (inl (record {
+            is_left = inr (inr (inr (inr (inr (inr (inr (inr (inl (record {
               on = target;
               copied = copied;
               orphans = orphans;
@@ -197,7 +195,7 @@ module _ (t : Moment) (sound : IsSoundAt t) where
             steps = lead.steps;
             at = full.at;
             run = full.run;
-            left = inr (inr (inr (inr (inr (inr (inr (inl (record {
+            is_left = inr (inr (inr (inr (inr (inr (inr (inl (record {
               on = target;
               next = new;
               call = subst (λ (x : MirrorView). Prepares target x new) there (prepares target copied orphans filled new by.sound f by.may at_marks);
@@ -208,36 +206,47 @@ module _ (t : Moment) (sound : IsSoundAt t) where
         }
 
     -- ---- once it is
-    pub enrolled_stop : (new : MirrorView) (r : Enrols target copied orphans filled new) → IsConsistent new → EndsBelow t.mirror target → (content : Content) → IsHeldBy target (lists_of filled.array r.member) content (prepared r)
-        → (left : List Disk) → MayAllBeLeft filled.disks new.disks (contents_of left) → AtDevice target new.disks left (λ d e. block_on e.content ≡ block_on d.content)
-        → IsStopAfter (IsOfRebuild target) t left
-    enrolled_stop new r consistent ends content held left within super =
-        let mid = full.at in
-        let then = enrolling_leads target planned copied orphans t.mirror filled by ends new consistent r in
-        let sound_mid : IsSoundAt mid = run_keeps list t mid full.run sound in
-        let in_flight : AreInFlight filled.array mid.requests = subst (λ (x : MirrorView). AreInFlight x.array mid.requests) full.there sound_mid.in_flight in
-        let leads : Leads None filled mid.requests then.events new mid.requests = then.leads None mid.requests in_flight in
-        let honest : AreHonest filled.disks = subst (λ (x : MirrorView). AreHonest x.disks) full.there sound_mid.honest in
-        let last = enrolment mid filled full.there then.events new leads honest (tt, ((content, held), tt)) in
-        record {
-          events = list ++ then.events;
-          steps = all_on (IsOfRebuild target) list then.events (all_such (IsBeforeEnrol target) (IsOfRebuild target) (before_of target) list lead.steps) then.steps;
-          at = last.at;
-          run = run_then list then.events t mid last.at full.run last.run;
-          left = inr (inr (inr (inr (inr (inr (inr (inr (inr (record {
-            on = target;
-            copied = copied;
-            orphans = orphans;
-            before = filled;
-            sound = by.sound;
-            honest = honest;
-            failed_at = mid.failed_at;
-            read = subst (λ (x : MirrorView). AreReadAsKept x mid.failed_at) full.there sound_mid.read;
-            call = subst (Enrols target copied orphans filled) (sym last.there) r;
-            within = subst (λ (x : MirrorView). MayAllBeLeft filled.disks x.disks (contents_of left)) (sym last.there) within;
-            super = subst (λ (x : MirrorView). AtDevice target x.disks left (λ d e. block_on e.content ≡ block_on d.content)) (sym last.there) super;
-          })))))))));
-        }
+    sound_mid : IsSoundAt full.at
+    sound_mid = run_keeps list t full.at full.run sound
+
+    pub honest_mid : AreHonest filled.disks
+    honest_mid = subst (λ (x : MirrorView). AreHonest x.disks) full.there sound_mid.honest
+
+    pub in_flight_mid : AreInFlight filled.array full.at.requests
+    in_flight_mid = subst (λ (x : MirrorView). AreInFlight x.array full.at.requests) full.there sound_mid.in_flight
+
+    pub ends_mid : EndsBelow t.mirror target → EndsBelow filled target
+    ends_mid = ends_then target planned t.mirror by.stored b filled by.fills.filling.array
+
+    module _ (new : MirrorView) (r : Enrols target copied orphans filled new) (consistent : IsConsistent new) (ends : EndsBelow t.mirror target) (content : Content)
+        (held : IsHeldBy target (lists_of filled.array r.member) content (prepared r)) where
+      abbrev more : List Event
+      more = Event.Prepare target ∷ enrol_event r ∷ []
+
+      abbrev last : Moment
+      last = at_end target copied orphans filled new by.sound consistent r by.may (ends_mid ends) honest_mid content held full.at full.there in_flight_mid
+
+      pub enrolled_stop : (left : List Disk) → MayAllBeLeft filled.disks new.disks (contents_of left) → AtDevice target new.disks left (λ d e. block_on e.content ≡ block_on d.content)
+          → IsStopAfter (IsOfRebuild target) t left
+      enrolled_stop left within super = record {
+        events = list ++ more;
+        steps = all_on (IsOfRebuild target) list more (all_such (IsBeforeEnrol target) (IsOfRebuild target) (before_of target) list lead.steps) (refl, (refl, tt));
+        at = last;
+        run = run_then list more t full.at last full.run (enrolled_run target copied orphans filled new by.sound consistent r by.may (ends_mid ends) honest_mid content held full.at full.there in_flight_mid);
+        is_left = inr (inr (inr (inr (inr (inr (inr (inr (inr (record {
+          on = target;
+          copied = copied;
+          orphans = orphans;
+          before = filled;
+          sound = by.sound;
+          honest = honest_mid;
+          failed_at = full.at.failed_at;
+          read = subst (λ (x : MirrorView). AreReadAsKept x full.at.failed_at) full.there sound_mid.read;
+          call = r;
+          within = within;
+          super = super;
+        })))))))));
+      }
 
 -- ---- in lives
 sound_at : (before : List Disk) (m : MirrorView) → IsStart before m → (es : List Event) (rest : List (List Event)) (final : MirrorView) (t : Moment) → MirrorLife m es rest final t → IsSoundAt t
@@ -260,5 +269,7 @@ stops_unenrolled before m start es rest final t life target planned copied orpha
     unenrolled_stop t (sound_at before m start es rest final t life) target planned copied orphans filled by new f at_marks left within
 
 pub stops_enrolled : StopsEnrolled
-stops_enrolled before m start es rest final t life target planned copied orphans filled new by r consistent ends content held left within super =
-    enrolled_stop t (sound_at before m start es rest final t life) target planned copied orphans filled by new r consistent ends content held left within super
+stops_enrolled before m a start holds es rest final t b life target planned copied orphans filled new by r consistent had ends left within super =
+    let at = life_held_at before m a start holds es rest final t b life in
+    let held = is_held target planned copied orphans t.mirror filled new by r ends at.sound.honest b (held_at_begin t at planned target by.begins) had in
+    enrolled_stop t at.sound target planned copied orphans filled by new r consistent ends b held left within super

@@ -2,3 +2,5 @@
 pub mod RebuiltInLife
 -- What a stop within a rebuild leaves.
 pub mod StoppedRebuilds
+-- A rebuild in the life of a mirror is a run.
+pub mod RebuildRuns

@@ -4,7 +4,6 @@ use Rattle.std.specs.Prelude.{◌≡◌, ◌⊎◌, ℕ, false, List, [], ◌∷
 use Rattle.md_assembly.specs.States.{is_in_sync}
 use Rattle.md_bitmap.specs.Marks.{Bitmap}
 use Rattle.md_kept_members.specs.View.{MemberView}
-use Rattle.md_model.specs.Content.{Content}
 use Rattle.md_model.specs.Events.{Event}
 use Rattle.md_plan.specs.declared.planner.Planned.{Planned}
 use Rattle.md_state.specs.DiskWrites.{AtDevice}
@@ -13,7 +12,7 @@ use Rattle.md_state.specs.Requests.{AreInFlight}
 use Rattle.md_state.specs.View.{Disk, MirrorView}
 use Rattle.md_array.specs.Consistency.{IsConsistent}
 use Rattle.md_array.specs.Enrolling.{Enrols, FailsToEnrol}
-use Rattle.md_array.specs.Enrolments.{EndsBelow, IsHeldBy, lists_of, prepared}
+use Rattle.md_array.specs.Enrolments.{EndsBelow}
 use Rattle.md_array.specs.Events.{IsOldNewOrNone}
 use Rattle.md_array.specs.InTurn.{AllLeftWhole, AllOf, InTurn, Requests}
 use Rattle.md_array.specs.Recording.{super_write}
@@ -27,6 +26,8 @@ use Rattle.md_metadata.specs.Storing.{IsStoring}
 use Rattle.md_copy.specs.Filling.{IsFilling}
 use Rattle.md_copy.specs.RebuildEvents.{FailsAtMarks, IsBeforeEnrol, IsOfRebuild}
 use Rattle.md_copy.specs.Rebuilding.{Begins, FillsBy}
+use Rattle.md_rebuild_laws.specs.RebuildRuns.{AtMomentsWith}
+use Rattle.md_rebuild_laws.specs.RebuiltInLife.{HeldWhatItHad}
 
 -- It holds at each moment of each life.
 abbrev pub AtMoments : (Moment → Type 0) → Type 0
@@ -42,7 +43,7 @@ pub record IsStopAfter (Of : Event → Type 0) (t : Moment) (left : List Disk) :
   pub steps : AllOf Of events
   pub at : Moment
   pub run : MirrorRun t events at
-  pub left : IsLeft at left
+  pub is_left : IsLeft at left
 
 -- So it is, and the target is not in sync yet.
 pub record IsStopBefore (target : ℕ) (t : Moment) (left : List Disk) : Type 0 where
@@ -98,11 +99,11 @@ StopsUnenrolled =
     → (f : FailsToEnrol target copied orphans filled new) → FailsAtMarks f
     → (left : List Disk) → MayAllBeLeft filled.disks new.disks (contents_of left) → IsStopBefore target t left))
 
--- Where its superblock stands as after it, the target is in sync. It is asked that some content is held, as at each enrolment.
+-- Where its superblock stands as after it, the target is in sync. Of the target it is asked that it held the content where it lacked nothing.
 abbrev pub StopsEnrolled : Type 0
 StopsEnrolled =
-    AtMoments (λ t.
+    AtMomentsWith (λ t content.
     ((target : ℕ) (planned : Planned) (copied orphans : Bitmap) (filled new : MirrorView) → FillsBy target planned copied orphans t.mirror filled
-    → (r : Enrols target copied orphans filled new) → IsConsistent new → EndsBelow t.mirror target → (content : Content) → IsHeldBy target (lists_of filled.array r.member) content (prepared r)
+    → Enrols target copied orphans filled new → IsConsistent new → HeldWhatItHad target content t.mirror → EndsBelow t.mirror target
     → (left : List Disk) → MayAllBeLeft filled.disks new.disks (contents_of left) → AtDevice target new.disks left (λ d e. block_on e.content ≡ block_on d.content)
     → IsStopAfter (IsOfRebuild target) t left))

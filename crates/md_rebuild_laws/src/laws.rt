@@ -1,5 +1,6 @@
 //! What holds of a rebuild in the life of a mirror. The functions do nothing: their contracts are the theorems.
 
+ghost use Rattle.md_rebuild_laws.specs.RebuildRuns.{RebuildIsARun};
 ghost use Rattle.md_rebuild_laws.specs.RebuiltInLife.{CopiesContent, RebuildsContent};
 ghost use Rattle.md_rebuild_laws.specs.StoppedRebuilds.{StopsEnrolled, StopsEnrolling, StopsFilling, StopsStoring, StopsUnenrolled};
 
@@ -10,6 +11,12 @@ ghost use Rattle.md_rebuild_laws.specs.StoppedRebuilds.{StopsEnrolled, StopsEnro
 pub fn rebuilt_in_life()
     ensures copies { CopiesContent }
     ensures content { RebuildsContent }
+{}
+
+/// A rebuild that is done is a run of the mirror, from any moment of a life on, up to the mirror in which its
+/// target is in sync; what is stored after that are events too (`md_copy::laws::rebuild_events`).
+pub fn rebuild_runs()
+    ensures { RebuildIsARun }
 {}
 
 /// What a stop at any moment within a rebuild leaves, is what a stop of a run leaves: so an opening finds of it what
