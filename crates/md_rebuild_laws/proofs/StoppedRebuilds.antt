@@ -1,7 +1,8 @@
 -- A stop within a rebuild is a stop of a run.
-use Rattle.std.proofs.Common.{◌≡◌, ◌⊎◌, ◌∙◌, ℕ, false, List, [], ◌∷◌, ◌++◌, Option, Some, None, inl, inr, refl, sym, ap, subst, slice_get}
-use Rattle.std.proofs.lemmas.Option.{same_Some}
+use Rattle.std.proofs.Common.{◌≡◌, ◌⊎◌, ◌∙◌, ℕ, false, List, [], ◌∷◌, ◌++◌, Option, Some, None, inl, inr, refl, sym, ap, subst, arith, slice_get, ◌<◌}
+use Rattle.std.proofs.lemmas.Option.{same_Some, slice_get_within}
 use Rattle.md_assembly.specs.States.{is_in_sync}
+use Rattle.md_assembly.proofs.Indices.{got_within}
 use Rattle.md_bitmap.specs.Marks.{Bitmap}
 use Rattle.md_kept_members.specs.View.{MemberView}
 use Rattle.md_model.specs.Content.{Content}
@@ -16,6 +17,7 @@ use Rattle.md_array.specs.Enrolling.{Enrols, FailsToEnrol, MayEnrol}
 use Rattle.md_array.specs.Enrolments.{EndsBelow, IsHeldBy, Prepares, enrol_event, lists_of, prepared}
 use Rattle.md_array.specs.Filling.{Fills}
 use Rattle.md_array.specs.InTurn.{AllLeftWhole, AllOf, Did, InTurn, IsInOrder, Leads, LeftWhole, Requests}
+use Rattle.md_array.specs.RecordingTarget.{LeavesUnrecorded}
 use Rattle.md_array.specs.ReadAsKept.{AreReadAsKept}
 use Rattle.md_array.specs.Worlds.{AreHonest, block_on}
 use Rattle.md_array.proofs.Steps.Turns.{all_on, all_such}
@@ -29,18 +31,20 @@ use Rattle.md_laws.proofs.Runs.MirrorContents.{life_held_at}
 use Rattle.md_laws.proofs.Runs.Moments.{IsSoundAt, life_keeps, run_keeps, run_then, sound_when_opened}
 use Rattle.md_laws.proofs.Runs.Rests.{at_once, at_rest}
 use Rattle.md_metadata.specs.Going.{GoesOn, only_others}
-use Rattle.md_metadata.specs.Storing.{IsNoFailure, IsStoring}
+use Rattle.md_metadata.specs.Storing.{IsNoFailure, IsStoring, StaysReady}
 use Rattle.md_copy.specs.Filling.{IsFilling}
+use Rattle.md_copy.specs.Storing.{FailsOnTarget}
 use Rattle.md_copy.specs.RebuildEvents.{FailsAtMarks, IsBeforeEnrol, IsOfRebuild}
-use Rattle.md_copy.specs.Rebuilding.{Begins, FillsBy}
+use Rattle.md_copy.specs.Rebuilding.{Begins, EndsStoring, FillsBy}
+use Rattle.md_copy.proofs.EnrolReady.{target_rebuilt}
 use Rattle.md_copy.proofs.LentBack.{rebuilt_out}
 use Rattle.md_copy.proofs.RebuildLeads.{LeadsIn, before_of, ends_then, filled, filled_leads, filling_events, now_rebuilt, storing_before}
-use Rattle.md_copy.proofs.StoringKeeps.{due_within}
+use Rattle.md_copy.proofs.StoringKeeps.{KeepsAll, device_then, due_within, keeps_event, keeps_none, keeps_then}
 use Rattle.md_copy.proofs.UnfinishedEnrol.{prepares}
 use Rattle.md_rebuild_laws.proofs.EnrolledRun.{at_end, enrolled_run}
 use Rattle.md_rebuild_laws.proofs.HeldAtEnrol.{is_held}
 use Rattle.md_rebuild_laws.proofs.RebuiltHolds.{held_at_begin}
-use Rattle.md_rebuild_laws.specs.StoppedRebuilds.{IsLeftWhole, IsStopAfter, IsStopBefore, StopsEnrolled, StopsEnrolling, StopsFilling, StopsIn, StopsStoring, StopsUnenrolled}
+use Rattle.md_rebuild_laws.specs.StoppedRebuilds.{IsLeftWhole, IsStopAfter, IsStopBefore, StopsEnrolled, StopsEnrolling, StopsFilling, StopsIn, StopsStoring, StopsUnenrolled, StopsUnrecorded}
 
 -- ---- a run that a call makes
 -- it ends where the call says
@@ -87,18 +91,81 @@ within_storing (Event.StoreMarks k b) previous t mid between of order did left w
 within_storing (Event.StoreMarksFails k b) previous t mid between of order did left within whole = absurd whole
 within_storing e previous t mid between of order did left within whole = absurd of
 
+-- a stop of such a run, and what the run keeps
+record StopsKeeping (t : Moment) (left : List Disk) : Type 0 where
+  after : IsStopAfter IsStoring t left
+  keeps : KeepsAll t.mirror after.at.mirror
+
 stops_in : (es : List Event) (previous : Option Event) (t : Moment) (Then : MirrorView → Requests → Type 0) (turn : InTurn previous t.mirror t.requests es Then) → AllOf IsStoring es → AreHonest t.mirror.disks
-    → AllLeftWhole es previous t.mirror t.requests Then turn → (left : List Disk) → StopsIn es previous t.mirror t.requests Then turn left → IsStopAfter IsStoring t left
+    → AllLeftWhole es previous t.mirror t.requests Then turn → (left : List Disk) → StopsIn es previous t.mirror t.requests Then turn left → StopsKeeping t left
 stops_in [] previous t Then turn of honest whole left stop = absurd stop
-stops_in (e ∷ es) previous t Then turn of honest whole left (inl here) =
-    record { events = []; steps = tt; at = t; run = at_rest t; is_left = within_storing e previous t turn.0 turn.1 of.0 turn.2 turn.3 left here.0 here.1 }
+stops_in (e ∷ es) previous t Then turn of honest whole left (inl here) = record {
+  after = record { events = []; steps = tt; at = t; run = at_rest t; is_left = within_storing e previous t turn.0 turn.1 of.0 turn.2 turn.3 left here.0 here.1 };
+  keeps = keeps_none t.mirror;
+}
 stops_in (e ∷ es) previous t Then turn of honest whole left (inr later) =
     let does = turn.4 honest whole.0 in
     let rest = stops_in es (Some e) (then_as t e turn.0 turn.1) Then turn.5 of.1 does.honest whole.1 left later in
-    record { events = e ∷ rest.events; steps = (of.0, rest.steps); at = rest.at; run = (turn.0, turn.1, at_once t.mirror turn.0 t.requests turn.1 e does, rest.run); is_left = rest.is_left }
+    let x = rest.after in
+    record {
+      after = record { events = e ∷ x.events; steps = (of.0, x.steps); at = x.at; run = (turn.0, turn.1, at_once t.mirror turn.0 t.requests turn.1 e does, x.run); is_left = x.is_left };
+      keeps = keeps_then t.mirror turn.0 x.at.mirror (keeps_event t.mirror turn.0 t.requests turn.1 previous e of.0 turn.2 turn.3) rest.keeps;
+    }
+
+-- who is out of sync stays so
+stays_out : (old new : MirrorView) → IsConsistent old → KeepsAll old new → (k : ℕ) (m n : MemberView) → IsMember old.array k m → IsMember new.array k n → is_in_sync m.state ≡ false → is_in_sync n.state ≡ false
+stays_out old new sound keeps k m n at_m at_n out =
+    let low = slice_get_within old.array.members k m at_m in
+    let many = sound.fits.as_many in
+    let d = got_within old.disks k (omega arith) in
+    let e = device_then old new keeps k d.0 d.1 in
+    elim (keeps.state k m n d.0 e.0 at_m at_n d.1 e.1) [
+      | inl same ↦ ap is_in_sync same ∙ out
+      | inr failed ↦ ap is_in_sync failed.0
+    ]
 
 -- ---- at a moment of a life
 module _ (t : Moment) (sound : IsSoundAt t) where
+  -- ---- while the target's superblock is stored
+  module _ (target : ℕ) (new : MirrorView) (e : EndsStoring target t.mirror (FailsOnTarget target t.mirror new)) where
+    abbrev why : FailsOnTarget target t.mirror new
+    why = e.why
+
+    abbrev first : GoesOn only_others only_others IsStoring t.mirror why.mid
+    first = why.stores.goes
+
+    first_done : Reaches t first.events why.mid
+    first_done =
+        let leads = first.leads None t.requests sound.in_flight in
+        reaches first.events t why.mid leads sound.honest (whole_of first.events None t.mirror t.requests (λ m r. (m ≡ why.mid) × (r ≡ t.requests)) leads (unfailing_records first.events first.steps why.stores.unfailing))
+
+    out_first : (m : MemberView) → IsMember why.mid.array target m → is_in_sync m.state ≡ false
+    out_first m at =
+        let s : StaysReady t.mirror.array why.mid.array target m = why.stores.ready.each target m at in
+        let was : s.before ≡ e.member = same_Some s.before e.member (sym s.member ∙ e.at) in
+        let rebuilt = target_rebuilt t.mirror.array e.member e.may.settled.has_target.target in
+        ap (λ (x : MemberView). is_in_sync x.state) s.same ∙ ap (λ (x : MemberView). is_in_sync x.state) was ∙ rebuilt_out e.member.state rebuilt
+
+    pub unrecorded_stop : (left : List Disk) → MayAllBeLeft why.mid.disks new.disks (contents_of left) → IsLeftWhole (Event.Record target) why.mid left → IsStopBefore target t left
+    unrecorded_stop left within whole =
+        let there = sym first_done.there in
+        record {
+          after = record {
+            events = first.events;
+            steps = all_such IsStoring (IsBeforeEnrol target) (storing_before target) first.events first.steps;
+            at = first_done.at;
+            run = first_done.run;
+            is_left = inr (inr (inr (inl (record {
+              on = target;
+              next = new;
+              call = inr (inr (inr (subst (λ (x : MirrorView). LeavesUnrecorded target x new) there why.fails)));
+              within = subst (λ (x : MirrorView). MayAllBeLeft x.disks new.disks (contents_of left)) there within;
+              super = subst (λ (x : MirrorView). IsLeftWhole (Event.Record target) x left) there whole;
+            }))));
+          };
+          out = subst (λ (x : MirrorView). (m : MemberView) → IsMember x.array target m → is_in_sync m.state ≡ false) there out_first;
+        }
+
   -- ---- while the target gets its chunks
   module _ (target : ℕ) (planned : Planned) (stored : MirrorView) (b : Begins target planned t.mirror stored) where
     abbrev goes : GoesOn only_others only_others IsStoring t.mirror stored
@@ -255,7 +322,11 @@ sound_at before m start es rest final t life = life_keeps m es rest final t (sou
 pub stops_storing : StopsStoring
 stops_storing before m start es rest final t life new g in_flight whole left stop =
     let sound = sound_at before m start es rest final t life in
-    stops_in g.events None t (λ m r. (m ≡ new) × (r ≡ t.requests)) (g.leads None t.requests in_flight) g.steps sound.honest whole left stop
+    let x = stops_in g.events None t (λ m r. (m ≡ new) × (r ≡ t.requests)) (g.leads None t.requests in_flight) g.steps sound.honest whole left stop in
+    record { after = x.after; out = stays_out t.mirror x.after.at.mirror sound.sound x.keeps }
+
+pub stops_unrecorded : StopsUnrecorded
+stops_unrecorded before m start es rest final t life target new e left within whole = unrecorded_stop t (sound_at before m start es rest final t life) target new e left within whole
 
 pub stops_filling : StopsFilling
 stops_filling before m start es rest final t life target planned stored new b f left within = filling_stop t (sound_at before m start es rest final t life) target planned stored b new f left within

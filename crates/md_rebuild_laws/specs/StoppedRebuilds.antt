@@ -24,8 +24,9 @@ use Rattle.md_laws.specs.StopsWithin.{MayAllBeLeft}
 use Rattle.md_metadata.specs.Going.{GoesOn, only_others}
 use Rattle.md_metadata.specs.Storing.{IsStoring}
 use Rattle.md_copy.specs.Filling.{IsFilling}
+use Rattle.md_copy.specs.Storing.{FailsOnTarget}
 use Rattle.md_copy.specs.RebuildEvents.{FailsAtMarks, IsBeforeEnrol, IsOfRebuild}
-use Rattle.md_copy.specs.Rebuilding.{Begins, FillsBy}
+use Rattle.md_copy.specs.Rebuilding.{Begins, EndsStoring, FillsBy}
 use Rattle.md_rebuild_laws.specs.RebuildRuns.{AtMomentsWith}
 use Rattle.md_rebuild_laws.specs.RebuiltInLife.{HeldWhatItHad}
 
@@ -50,6 +51,11 @@ pub record IsStopBefore (target : ℕ) (t : Moment) (left : List Disk) : Type 0 
   pub after : IsStopAfter (IsBeforeEnrol target) t left
   pub out : (m : MemberView) → IsMember after.at.mirror.array target m → is_in_sync m.state ≡ false
 
+-- So it is, of events by which marks and superblocks are stored, and who was out of sync is so still.
+pub record IsStopStoring (t : Moment) (left : List Disk) : Type 0 where
+  pub after : IsStopAfter IsStoring t left
+  pub out : (k : ℕ) (m n : MemberView) → IsMember t.mirror.array k m → IsMember after.at.mirror.array k n → is_in_sync m.state ≡ false → is_in_sync n.state ≡ false
+
 -- ---- while marks and superblocks are stored
 -- What is asked of a stop within one of these events: a superblock that was being stored was left as it was, as it is written, or as one
 -- that can't be decoded. Of a write of marks that fails nothing is said.
@@ -72,7 +78,14 @@ StopsStoring =
     ((new : MirrorView) (g : GoesOn only_others only_others IsStoring t.mirror new) (in_flight : AreInFlight t.mirror.array t.requests)
     → AllLeftWhole g.events None t.mirror t.requests (λ m r. (m ≡ new) × (r ≡ t.requests)) (g.leads None t.requests in_flight)
     → (left : List Disk) → StopsIn g.events None t.mirror t.requests (λ m r. (m ≡ new) × (r ≡ t.requests)) (g.leads None t.requests in_flight) left
-    → IsStopAfter IsStoring t left))
+    → IsStopStoring t left))
+
+-- the superblock of the target could not be stored: it was left as it was, as it is written, or as one that can't be decoded
+abbrev pub StopsUnrecorded : Type 0
+StopsUnrecorded =
+    AtMoments (λ t.
+    ((target : ℕ) (new : MirrorView) (e : EndsStoring target t.mirror (FailsOnTarget target t.mirror new))
+    → (left : List Disk) → MayAllBeLeft e.why.mid.disks new.disks (contents_of left) → IsLeftWhole (Event.Record target) e.why.mid left → IsStopBefore target t left))
 
 -- ---- while the target gets its chunks, whatever comes of it
 abbrev pub StopsFilling : Type 0

@@ -2,7 +2,7 @@
 
 ghost use Rattle.md_rebuild_laws.specs.RebuildRuns.{RebuildIsARun};
 ghost use Rattle.md_rebuild_laws.specs.RebuiltInLife.{CopiesContent, RebuildsContent};
-ghost use Rattle.md_rebuild_laws.specs.StoppedRebuilds.{StopsEnrolled, StopsEnrolling, StopsFilling, StopsStoring, StopsUnenrolled};
+ghost use Rattle.md_rebuild_laws.specs.StoppedRebuilds.{StopsEnrolled, StopsEnrolling, StopsFilling, StopsStoring, StopsUnenrolled, StopsUnrecorded};
 
 /// A mirror was opened from devices that do what they answer, whose stored marks covered what they differ in,
 /// and has come to any moment of its life. A rebuild then gives the new member the content that the life has
@@ -24,6 +24,7 @@ pub fn rebuild_runs()
 /// sync; where it stands, the enrolment is done.
 pub fn stopped_rebuilds()
     ensures storing { StopsStoring }
+    ensures unrecorded { StopsUnrecorded }
     ensures filling { StopsFilling }
     ensures enrolling { StopsEnrolling }
     ensures unenrolled { StopsUnenrolled }
