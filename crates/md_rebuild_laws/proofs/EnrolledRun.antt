@@ -1,17 +1,15 @@
 -- An enrolment at a moment of a run, by two events: the content stays what it is.
-use Rattle.std.proofs.Common.{◌≡◌, ◌∙◌, ℕ, ◌+◌, ◌*◌, ◌<◌, Bool, false, cond, nat_lt, set, List, [], ◌∷◌, slice_get, Some, refl, sym, ap, subst, arith}
+use Rattle.std.proofs.Common.{◌≡◌, ◌∙◌, ℕ, ◌+◌, ◌*◌, cond, set, [], ◌∷◌, slice_get, Some, refl, sym, ap, subst, arith}
 use Rattle.std.proofs.lemmas.Option.{slice_get_within}
 use Rattle.md_assembly.proofs.Indices.{got_within}
 use Rattle.md_bitmap.specs.Marks.{Bitmap}
 use Rattle.md_device.specs.Splice.{part}
-use Rattle.md_kept_members.specs.View.{MemberView}
 use Rattle.md_model.specs.Content.{Becomes, Content}
 use Rattle.md_model.specs.Devices.{Stored}
 use Rattle.md_model.specs.Events.{Event}
-use Rattle.md_model.specs.Worlds.{World}
 use Rattle.md_model.proofs.Cases.{below-nat_lt}
 use Rattle.md_state.specs.Requests.{AreInFlight}
-use Rattle.md_state.specs.View.{ArrayView, Disk, MirrorView}
+use Rattle.md_state.specs.View.{Disk, MirrorView}
 use Rattle.md_array.specs.Consistency.{IsConsistent}
 use Rattle.md_array.specs.Enrolling.{Enrols, MayEnrol}
 use Rattle.md_array.specs.Enrolments.{EndsBelow, IsHeldBy, Prepares, enrol_event, lists_of, prepared}

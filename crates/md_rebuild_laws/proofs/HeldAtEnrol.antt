@@ -1,6 +1,6 @@
 -- What the members in sync hold, and the target where it lacks nothing, they hold once the target is filled and prepared: some content is
 -- held, as an enrolment asks.
-use Rattle.std.proofs.Common.{◌≡◌, ◌≢◌, ◌∙◌, ℕ, ◌+◌, ◌*◌, ◌/◌, ◌^◌, ◌<◌, ◌≤◌, inl, inr, Bool, true, false, true≢false, nat_lt, set, List, slice_get, Some, refl, sym, ap, subst, arith, lt-ltb}
+use Rattle.std.proofs.Common.{◌≡◌, ◌≢◌, ◌∙◌, ℕ, ◌+◌, ◌*◌, ◌/◌, ◌<◌, inl, false, true≢false, nat_lt, set, List, slice_get, Some, sym, ap, subst, arith, lt-ltb}
 use Rattle.std.specs.Int.{div_ceil}
 use Rattle.std.proofs.lemmas.Bool.{and_from}
 use Rattle.std.proofs.lemmas.Grind.{div_ceil_times}
@@ -17,13 +17,11 @@ use Rattle.md_device.specs.Splice.{part}
 use Rattle.md_kept_members.specs.Enrolling.{IsOf}
 use Rattle.md_kept_members.specs.View.{MemberView}
 use Rattle.md_model.specs.Content.{Content}
-use Rattle.md_pass.specs.Beside.{has_chunk}
 use Rattle.md_plan.specs.declared.planner.Planned.{Planned}
 use Rattle.md_state.specs.Members.{IsInSync, IsMember}
 use Rattle.md_state.specs.Missing.{is_missing}
 use Rattle.md_state.specs.View.{ArrayView, Disk, MirrorView}
 use Rattle.md_super.specs.declared.superblock.Superblock.{Superblock}
-use Rattle.md_array.specs.Consistency.{IsConsistent}
 use Rattle.md_array.specs.Enrolling.{Enrols, HasContent}
 use Rattle.md_array.specs.Enrolments.{EndsBelow, IsHeldBy, lists_of, prepared}
 use Rattle.md_array.specs.Worlds.{AreHonest, lies_in}
@@ -38,7 +36,6 @@ use Rattle.md_copy.proofs.LentBack.{planned_missing, rebuilt_out}
 use Rattle.md_copy.proofs.RebuildLeads.{ends_then, now_rebuilt, plan_of}
 use Rattle.md_copy.proofs.RebuiltByCall as call
 use Rattle.md_copy.proofs.RebuiltMember as pass
-use Rattle.md_copy.proofs.StoringKeeps.{device_before}
 use Rattle.md_rebuild_laws.specs.RebuiltInLife.{HeldWhatItHad}
 use Rattle.md_rebuild_laws.proofs.RebuiltHolds.{beside_other, one_chunk}
 

@@ -1,12 +1,11 @@
 -- What the members in sync hold of the content in the model's world, they hold on their devices.
-use Rattle.std.proofs.Common.{◌≡◌, ◌∙◌, ℕ, ◌+◌, ◌*◌, ◌<◌, inl, Bool, true, false, cond, ◌&&◌, nat_lt, List, [], slice_get, Option, Some, None, sym, ap}
+use Rattle.std.proofs.Common.{◌≡◌, ◌∙◌, ℕ, ◌+◌, ◌*◌, ◌<◌, inl, true, false, cond, ◌&&◌, [], slice_get, Some, sym, ap}
 use Rattle.md_device.specs.Splice.{part}
 use Rattle.md_kept_members.specs.View.{MemberView}
 use Rattle.md_model.specs.Content.{Content, Holds}
 use Rattle.md_model.specs.Devices.{Stored}
-use Rattle.md_model.specs.Worlds.{IsQuiet, Request, World}
+use Rattle.md_model.specs.Worlds.{IsQuiet, World}
 use Rattle.md_model.proofs.Cases.{below-nat_lt, by_test}
-use Rattle.md_requests.specs.declared.extent.Extent.{Extent}
 use Rattle.md_state.specs.CopyingData.{Lists}
 use Rattle.md_state.specs.MakingClean.{IsIdle}
 use Rattle.md_state.specs.Members.{IsInSync}

@@ -1,5 +1,5 @@
 -- A rebuild in the life of a mirror is a run, along which the content stays.
-use Rattle.std.proofs.Common.{◌≡◌, ℕ, List, [], ◌∷◌, ◌++◌, refl, subst}
+use Rattle.std.proofs.Common.{ℕ, List, [], ◌∷◌, ◌++◌, refl, subst}
 use Rattle.md_bitmap.specs.Marks.{Bitmap}
 use Rattle.md_model.specs.Content.{Becomes, Content}
 use Rattle.md_model.specs.Events.{Event}
