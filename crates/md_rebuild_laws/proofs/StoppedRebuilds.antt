@@ -27,7 +27,6 @@ use Rattle.md_laws.specs.ReadInTurn.{IsNoFailedRecord}
 use Rattle.md_laws.specs.Runs.{IsStart, MirrorRun, Moment, then_as}
 use Rattle.md_laws.specs.StopsWithin.{MayAllBeLeft}
 use Rattle.md_laws.proofs.Runs.CallRuns.{call_is_run}
-use Rattle.md_laws.proofs.Runs.MirrorContents.{life_held_at}
 use Rattle.md_laws.proofs.Runs.Moments.{IsSoundAt, life_keeps, run_keeps, run_then, sound_when_opened}
 use Rattle.md_laws.proofs.Runs.Rests.{at_once, at_rest}
 use Rattle.md_metadata.specs.Going.{GoesOn, only_others}
@@ -41,10 +40,7 @@ use Rattle.md_copy.proofs.LentBack.{rebuilt_out}
 use Rattle.md_copy.proofs.RebuildLeads.{LeadsIn, before_of, ends_then, filled, filled_leads, filling_events, now_rebuilt, storing_before}
 use Rattle.md_copy.proofs.StoringKeeps.{KeepsAll, device_then, due_within, keeps_event, keeps_none, keeps_then}
 use Rattle.md_copy.proofs.UnfinishedEnrol.{prepares}
-use Rattle.md_rebuild_laws.proofs.EnrolledRun.{at_end, enrolled_run}
-use Rattle.md_rebuild_laws.proofs.HeldAtEnrol.{is_held}
-use Rattle.md_rebuild_laws.proofs.RebuiltHolds.{held_at_begin}
-use Rattle.md_rebuild_laws.specs.StoppedRebuilds.{IsLeftWhole, IsStopAfter, IsStopBefore, StopsEnrolled, StopsEnrolling, StopsFilling, StopsIn, StopsStoring, StopsUnenrolled, StopsUnrecorded}
+use Rattle.md_rebuild_laws.specs.StoppedRebuilds.{IsLeftWhole, IsStopAfter, IsStopBefore, StopsEnrolling, StopsFilling, StopsIn, StopsStoring, StopsUnenrolled, StopsUnrecorded}
 
 -- ---- a run that a call makes
 -- it ends where the call says
@@ -92,11 +88,11 @@ within_storing (Event.StoreMarksFails k b) previous t mid between of order did l
 within_storing e previous t mid between of order did left within whole = absurd of
 
 -- a stop of such a run, and what the run keeps
-record StopsKeeping (t : Moment) (left : List Disk) : Type 0 where
-  after : IsStopAfter IsStoring t left
-  keeps : KeepsAll t.mirror after.at.mirror
+pub record StopsKeeping (t : Moment) (left : List Disk) : Type 0 where
+  pub after : IsStopAfter IsStoring t left
+  pub keeps : KeepsAll t.mirror after.at.mirror
 
-stops_in : (es : List Event) (previous : Option Event) (t : Moment) (Then : MirrorView → Requests → Type 0) (turn : InTurn previous t.mirror t.requests es Then) → AllOf IsStoring es → AreHonest t.mirror.disks
+pub stops_in : (es : List Event) (previous : Option Event) (t : Moment) (Then : MirrorView → Requests → Type 0) (turn : InTurn previous t.mirror t.requests es Then) → AllOf IsStoring es → AreHonest t.mirror.disks
     → AllLeftWhole es previous t.mirror t.requests Then turn → (left : List Disk) → StopsIn es previous t.mirror t.requests Then turn left → StopsKeeping t left
 stops_in [] previous t Then turn of honest whole left stop = absurd stop
 stops_in (e ∷ es) previous t Then turn of honest whole left (inl here) = record {
@@ -273,7 +269,7 @@ module _ (t : Moment) (sound : IsSoundAt t) where
         }
 
     -- ---- once it is
-    sound_mid : IsSoundAt full.at
+    pub sound_mid : IsSoundAt full.at
     sound_mid = run_keeps list t full.at full.run sound
 
     pub honest_mid : AreHonest filled.disks
@@ -284,36 +280,6 @@ module _ (t : Moment) (sound : IsSoundAt t) where
 
     pub ends_mid : EndsBelow t.mirror target → EndsBelow filled target
     ends_mid = ends_then target planned t.mirror by.stored b filled by.fills.filling.array
-
-    module _ (new : MirrorView) (r : Enrols target copied orphans filled new) (consistent : IsConsistent new) (ends : EndsBelow t.mirror target) (content : Content)
-        (held : IsHeldBy target (lists_of filled.array r.member) content (prepared r)) where
-      abbrev more : List Event
-      more = Event.Prepare target ∷ enrol_event r ∷ []
-
-      abbrev last : Moment
-      last = at_end target copied orphans filled new by.sound consistent r by.may (ends_mid ends) honest_mid content held full.at full.there in_flight_mid
-
-      pub enrolled_stop : (left : List Disk) → MayAllBeLeft filled.disks new.disks (contents_of left) → AtDevice target new.disks left (λ d e. block_on e.content ≡ block_on d.content)
-          → IsStopAfter (IsOfRebuild target) t left
-      enrolled_stop left within super = record {
-        events = list ++ more;
-        steps = all_on (IsOfRebuild target) list more (all_such (IsBeforeEnrol target) (IsOfRebuild target) (before_of target) list lead.steps) (refl, (refl, tt));
-        at = last;
-        run = run_then list more t full.at last full.run (enrolled_run target copied orphans filled new by.sound consistent r by.may (ends_mid ends) honest_mid content held full.at full.there in_flight_mid);
-        is_left = inr (inr (inr (inr (inr (inr (inr (inr (inr (record {
-          on = target;
-          copied = copied;
-          orphans = orphans;
-          before = filled;
-          sound = by.sound;
-          honest = honest_mid;
-          failed_at = full.at.failed_at;
-          read = subst (λ (x : MirrorView). AreReadAsKept x full.at.failed_at) full.there sound_mid.read;
-          call = r;
-          within = within;
-          super = super;
-        })))))))));
-      }
 
 -- ---- in lives
 sound_at : (before : List Disk) (m : MirrorView) → IsStart before m → (es : List Event) (rest : List (List Event)) (final : MirrorView) (t : Moment) → MirrorLife m es rest final t → IsSoundAt t
@@ -338,9 +304,3 @@ stops_enrolling before m start es rest final t life target planned copied orphan
 pub stops_unenrolled : StopsUnenrolled
 stops_unenrolled before m start es rest final t life target planned copied orphans filled new by f at_marks left within =
     unenrolled_stop t (sound_at before m start es rest final t life) target planned copied orphans filled by new f at_marks left within
-
-pub stops_enrolled : StopsEnrolled
-stops_enrolled before m a start holds es rest final t b life target planned copied orphans filled new by r consistent had ends left within super =
-    let at = life_held_at before m a start holds es rest final t b life in
-    let held = is_held target planned copied orphans t.mirror filled new by r ends at.sound.honest b (held_at_begin t at planned target by.begins) had in
-    enrolled_stop t at.sound target planned copied orphans filled by new r consistent ends b held left within super

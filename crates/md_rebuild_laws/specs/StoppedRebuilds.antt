@@ -4,6 +4,7 @@ use Rattle.std.specs.Prelude.{◌≡◌, ◌⊎◌, ℕ, false, List, [], ◌∷
 use Rattle.md_assembly.specs.States.{is_in_sync}
 use Rattle.md_bitmap.specs.Marks.{Bitmap}
 use Rattle.md_kept_members.specs.View.{MemberView}
+use Rattle.md_model.specs.Content.{Content}
 use Rattle.md_model.specs.Events.{Event}
 use Rattle.md_plan.specs.declared.planner.Planned.{Planned}
 use Rattle.md_state.specs.DiskWrites.{AtDevice}
@@ -19,14 +20,15 @@ use Rattle.md_array.specs.Recording.{super_write}
 use Rattle.md_array.specs.Worlds.{block_on}
 use Rattle.md_laws.specs.Left.{IsLeft, contents_of}
 use Rattle.md_laws.specs.Lives.{MirrorLife}
-use Rattle.md_laws.specs.Runs.{IsStart, MirrorRun, Moment}
+use Rattle.md_laws.specs.Runs.{IsStart, MirrorRun, MirrorRunWith, Moment}
 use Rattle.md_laws.specs.StopsWithin.{MayAllBeLeft}
 use Rattle.md_metadata.specs.Going.{GoesOn, only_others}
 use Rattle.md_metadata.specs.Storing.{IsStoring}
+use Rattle.md_copy.specs.declared.rebuilt.Rebuilt.{Rebuilt}
 use Rattle.md_copy.specs.Filling.{IsFilling}
 use Rattle.md_copy.specs.Storing.{FailsOnTarget}
 use Rattle.md_copy.specs.RebuildEvents.{FailsAtMarks, IsBeforeEnrol, IsOfRebuild}
-use Rattle.md_copy.specs.Rebuilding.{Begins, EndsStoring, FillsBy}
+use Rattle.md_copy.specs.Rebuilding.{Begins, EndsStoring, FillsBy, Rebuilds}
 use Rattle.md_rebuild_laws.specs.RebuildRuns.{AtMomentsWith}
 use Rattle.md_rebuild_laws.specs.RebuiltInLife.{HeldWhatItHad}
 
@@ -50,6 +52,11 @@ pub record IsStopAfter (Of : Event → Type 0) (t : Moment) (left : List Disk) :
 pub record IsStopBefore (target : ℕ) (t : Moment) (left : List Disk) : Type 0 where
   pub after : IsStopAfter (IsBeforeEnrol target) t left
   pub out : (m : MemberView) → IsMember after.at.mirror.array target m → is_in_sync m.state ≡ false
+
+-- So it is of a run in which the target came into sync, and the content stays what it was: the members in sync hold it, and the target is one of them.
+pub record IsStopEnrolled (target : ℕ) (t : Moment) (content : Content) (left : List Disk) : Type 0 where
+  pub after : IsStopAfter (IsOfRebuild target) t left
+  pub content_stays : MirrorRunWith t content after.events after.at content
 
 -- So it is, of events by which marks and superblocks are stored, and who was out of sync is so still.
 pub record IsStopStoring (t : Moment) (left : List Disk) : Type 0 where
@@ -119,4 +126,14 @@ StopsEnrolled =
     ((target : ℕ) (planned : Planned) (copied orphans : Bitmap) (filled new : MirrorView) → FillsBy target planned copied orphans t.mirror filled
     → Enrols target copied orphans filled new → IsConsistent new → HeldWhatItHad target content t.mirror → EndsBelow t.mirror target
     → (left : List Disk) → MayAllBeLeft filled.disks new.disks (contents_of left) → AtDevice target new.disks left (λ d e. block_on e.content ≡ block_on d.content)
-    → IsStopAfter (IsOfRebuild target) t left))
+    → IsStopEnrolled target t content left))
+
+-- so it is while marks and superblocks are stored after that
+abbrev pub StopsSettling : Type 0
+StopsSettling =
+    AtMomentsWith (λ t content.
+    ((target : ℕ) (told : Rebuilt) (new : MirrorView) (h : Rebuilds target told t.mirror new) → HeldWhatItHad target content t.mirror → EndsBelow t.mirror target
+    → (settled : MirrorView) (g : GoesOn only_others only_others IsStoring h.by.enrolled settled) (in_flight : AreInFlight h.by.enrolled.array t.requests)
+    → AllLeftWhole g.events None h.by.enrolled t.requests (λ m r. (m ≡ settled) × (r ≡ t.requests)) (g.leads None t.requests in_flight)
+    → (left : List Disk) → StopsIn g.events None h.by.enrolled t.requests (λ m r. (m ≡ settled) × (r ≡ t.requests)) (g.leads None t.requests in_flight) left
+    → IsStopEnrolled target t content left))

@@ -2,7 +2,7 @@
 
 ghost use Rattle.md_rebuild_laws.specs.RebuildRuns.{RebuildIsARun};
 ghost use Rattle.md_rebuild_laws.specs.RebuiltInLife.{CopiesContent, RebuildsContent};
-ghost use Rattle.md_rebuild_laws.specs.StoppedRebuilds.{StopsEnrolled, StopsEnrolling, StopsFilling, StopsStoring, StopsUnenrolled, StopsUnrecorded};
+ghost use Rattle.md_rebuild_laws.specs.StoppedRebuilds.{StopsEnrolled, StopsEnrolling, StopsFilling, StopsSettling, StopsStoring, StopsUnenrolled, StopsUnrecorded};
 
 /// A mirror was opened from devices that do what they answer, whose stored marks covered what they differ in,
 /// and has come to any moment of its life. A rebuild then gives the new member the content that the life has
@@ -29,4 +29,5 @@ pub fn stopped_rebuilds()
     ensures enrolling { StopsEnrolling }
     ensures unenrolled { StopsUnenrolled }
     ensures enrolled { StopsEnrolled }
+    ensures settling { StopsSettling }
 {}
