@@ -122,7 +122,7 @@ module _ {D : Type 0} (g : Ghosts D) (v : MirrorView) (sound : IsConsistent v) (
 
   -- a source failed
   pub fails_in_role : (w : MirrorView) → w.disks ≡ seen g news → (sources : List Source) (role chunk : ℕ) → AreSources v target plan.slots sources
-      → FailsToGive g plan.slots sources (remove olds target) (remove news target) role chunk → FailsInRole target role chunk v w
+      → FailsToGive g plan.slots sources (remove olds target) (remove news target) role chunk → FailsInRole target plan.slots role chunk v w
   fails_in_role w w_is sources role chunk are fails =
       let hit = Any-from_list_any (λ (slot : Slot). slot.chunk == chunk && slot.source == role) plan.slots fails.planned in
       let tests = and_parts (hit.1.chunk == chunk) (hit.1.source == role) hit.4 in
@@ -135,13 +135,13 @@ module _ {D : Type 0} (g : Ghosts D) (v : MirrorView) (sound : IsConsistent v) (
       let source = subst (IsSource v target) found.3 (are.each found.0 found.1 found.2) in
       let by : IsServedBy v target slot s = served_by v sound target low slot s source (found.4.0 ∙ sym source_is) may.permitted in
       record {
+        planned = fails.planned;
         at = by.at;
         member = by.member;
         other = by.is.other;
         in_role = subst (λ r. is_in_sync_as r by.member.state ≡ true) found.4.0 by.is.in_sync;
         serves = subst (λ c. Serves v.array by.at by.member c) chunk_is by.serves;
-        failed = λ honest d e at_d at_e.
+        failed = λ d e at_d at_e.
             (let failing = subst (λ n. (x : D) → Fails g (slice_index_or (remove olds target) n x) (slice_index_or (remove news target) n x)) by.is.place found.4.1 in
-            other_fails g olds news target within as_many by.at by.is.other failing d e (ap (λ xs. slice_get xs by.at) (sym v_is) ∙ at_d) (ap (λ xs. slice_get xs by.at) (sym w_is) ∙ at_e)
-            (honest by.at d at_d));
+            other_fails g olds news target within as_many by.at by.is.other failing d e (ap (λ xs. slice_get xs by.at) (sym v_is) ∙ at_d) (ap (λ xs. slice_get xs by.at) (sym w_is) ∙ at_e));
       }

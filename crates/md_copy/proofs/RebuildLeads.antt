@@ -275,13 +275,15 @@ module _ (target : ℕ) where
   none old new sound same = leads_there old new (subst (LeadsIn Before [] old) (sym same) (none_lead Before old sound))
 
   -- what is due was not all stored
-  stops : (k : ℕ) (old new : MirrorView) → StopsAt k old new → LeadsOrHalts Before old new
-  stops k old new (inl lost) = leads_there old new (storing_leads target old new lost.loses.goes)
-  stops k old new (inr h) = record {
-    last = h.halts.mid;
-    ends = inr (record { failing = h.halts.failing; of = h.halts.of; halts = h.halts.halts });
-    leads = leads_by (storing_leads target old h.halts.mid h.halts.goes);
-  }
+  stops : (k : ℕ) (old new : MirrorView) → StopsAt target k old new → LeadsOrHalts Before old new
+  stops k old new h = elim h.ends [
+    | inl lost ↦ leads_there old new (storing_leads target old new lost.loses.goes)
+    | inr at ↦ record {
+      last = at.mid;
+      ends = inr (record { failing = at.failing; of = at.of; halts = at.halts });
+      leads = leads_by (storing_leads target old at.mid at.stores.goes);
+    }
+  ]
 
   unrecorded : (old new : MirrorView) → EndsStoring target old (FailsOnTarget target old new) → LeadsOrHalts Before old new
   unrecorded old new e =

@@ -8,15 +8,16 @@ use Rattle.md_badblocks.specs.Runs.{IsBad}
 use Rattle.md_bitmap.specs.Chunks.{InChunk}
 use Rattle.md_bitmap.specs.declared.chunks.Chunks.{Chunks}
 use Rattle.md_bitmap.specs.Marks.{Bitmap, is_set}
+use Rattle.md_collect.specs.Reading.{Fails}
 use Rattle.md_kept_members.specs.Enrolling.{IsListAfter}
 use Rattle.md_kept_members.specs.Members.{made_due}
 use Rattle.md_kept_members.specs.View.{MemberView}
 use Rattle.md_model.specs.Content.{Content}
 use Rattle.md_plan.specs.declared.planner.Planned.{Planned}
-use Rattle.md_state.specs.DeviceChanges.{FailsAt}
+use Rattle.md_state.specs.DiskWrites.{AtDevice}
 use Rattle.md_state.specs.Members.{IsInSync, IsMember}
 use Rattle.md_state.specs.Missing.{is_missing}
-use Rattle.md_state.specs.View.{ArrayView, Disk, MirrorView}
+use Rattle.md_state.specs.View.{ArrayView, Disk, MirrorView, of_disks}
 use Rattle.md_array.specs.Consistency.{IsConsistent}
 use Rattle.md_array.specs.Enrolling.{HasContent, KeepsData}
 use Rattle.md_array.specs.Lending.{IsBesideChunk}
@@ -95,7 +96,7 @@ module _ (target : ℕ) (planned : Planned) (copied orphans : Bitmap) (old new :
       let many = by.enrols.disks.as_many in
       (get_or x.disks target none, slice_get-get_or x.disks target none (omega (arith, low, fits, before, many)))
 
-  state_then : (is_in_sync then_there.0.state ≡ true) ⊎ ((then_there.0.state ≡ Faulty) × (AreHonest v.disks → FailsAt v.disks y.disks target))
+  state_then : (is_in_sync then_there.0.state ≡ true) ⊎ ((then_there.0.state ≡ Faulty) × AtDevice target v.disks y.disks (Fails of_disks))
   state_then =
       let d = x_disk in
       let e = device_then x y keeps target d.0 d.1 in
@@ -104,10 +105,10 @@ module _ (target : ℕ) (planned : Planned) (copied orphans : Bitmap) (old new :
         | inr failed ↦
             inr (
               failed.0,
-              λ honest b f at_b at_f.
+              λ b f at_b at_f honest.
                   (let c = counted_then b d.0 at_b d.1 in
                   let first = c.1 in
-                  let less = failed.1 (c.0 ∙ honest target b at_b) in
+                  let less = failed.1 (c.0 ∙ honest) in
                   subst (λ (z : Disk). b.failures < z.failures) (sym (same_Some f e.0 (sym at_f ∙ e.1))) (omega (arith, first, less))),
             )
       ]
@@ -277,10 +278,10 @@ module _ (old v : MirrorView) (first : StoresFirst old v) where
         | inr failed ↦
             inr (
               failed.0,
-              λ honest d e at_d at_e.
+              λ d e at_d at_e honest.
                   (let on = device_then old v first_keeps target d at_d in
                   let counted = first_keeps.counted target d on.0 at_d on.1 in
-                  let less = failed.1 (honest_then honest) on.0 e on.1 at_e in
+                  let less = failed.1 on.0 e on.1 at_e (first_keeps.honest target d on.0 at_d on.1 ∙ honest) in
                   omega (arith, counted, less)),
             )
       ];

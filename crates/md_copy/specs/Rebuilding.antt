@@ -104,7 +104,7 @@ RefusesRebuild target old new NotSpare = RefusesAtOnce target NotSpare old new
 RefusesRebuild target old new Dirty = RefusesAtOnce target Dirty old new
 RefusesRebuild target old new (InFlight number) = RefusesAtOnce target (InFlight number) old new
 RefusesRebuild target old new EventsFull = RefusesAtOnce target EventsFull old new
-RefusesRebuild target old new (MetadataFault k) = EndsStoring target old (StopsAt k old new)
+RefusesRebuild target old new (MetadataFault k) = EndsStoring target old (StopsAt target k old new)
 RefusesRebuild target old new TargetFault =
     EndsStoring target old (FailsOnTarget target old new) ⊎ (EndsInPass target TargetFault old new ⊎ EndsFilled target old new (λ copied orphans filled. FailsToEnrol target copied orphans filled new))
 RefusesRebuild target old new NoMemory =

@@ -53,7 +53,8 @@ pub record IsStopBefore (target : ℕ) (t : Moment) (left : List Disk) : Type 0 
   pub after : IsStopAfter (IsBeforeEnrol target) t left
   pub out : (m : MemberView) → IsMember after.at.mirror.array target m → is_in_sync m.state ≡ false
 
--- So it is of a run in which the target came into sync, and the content stays what it was: the members in sync hold it, and the target is one of them.
+-- So it is of a run in which the target came into sync, and the content stays what it was: the members in sync hold it, and the target is one
+-- of them.
 pub record IsStopEnrolled (target : ℕ) (t : Moment) (content : Content) (left : List Disk) : Type 0 where
   pub after : IsStopAfter (IsOfRebuild target) t left
   pub content_stays : MirrorRunWith t content after.events after.at content

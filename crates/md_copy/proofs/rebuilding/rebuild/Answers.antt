@@ -19,6 +19,11 @@ store_first-requires-clause-running g c =
 pub store_first-requires-clause-target : goal.store_first-requires-clause-target
 store_first-requires-clause-target g c m at = target_rebuilt c.args.mirror.now.array m (c.in_default.ensures m at).settled.has_target.target
 
+pub store_first-requires-clause-unspent : goal.store_first-requires-clause-unspent
+store_first-requires-clause-unspent g c =
+    let at = got_within c.args.mirror.now.array.members c.args.target c.requires.within in
+    (c.in_default.ensures at.0 at.1).unspent
+
 pub returns-in-Err-store_first-clause-gives : goal.returns-in-Err-store_first-clause-gives
 returns-in-Err-store_first-clause-gives g c =
     let at = got_within c.args.mirror.now.array.members c.args.target c.requires.within in
