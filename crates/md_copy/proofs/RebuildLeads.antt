@@ -1,14 +1,13 @@
 -- A rebuild is a list of events of the array's model, one part after another.
-use Rattle.std.proofs.Common.{◌≡◌, ◌∙◌, ◌⊎◌, ℕ, ◌+◌, ◌<◌, ◌≤◌, ◌^◌, true, Option, List, [], ◌∷◌, ◌++◌, slice_get, Some, refl, sym, ap, subst, inl, inr}
+use Rattle.std.proofs.Common.{◌≡◌, ◌∙◌, ℕ, ◌+◌, ◌<◌, ◌≤◌, ◌^◌, true, Option, List, [], ◌∷◌, ◌++◌, slice_get, refl, sym, ap, subst, inl, inr}
 use Rattle.std.proofs.lemmas.Option.{same_Some}
 use Rattle.md_bitmap.specs.Marks.{Bitmap}
 use Rattle.md_bitmap.specs.declared.chunks.Chunks.{Chunks}
 use Rattle.md_cert.specs.declared.slots.Slot.{Slot}
 use Rattle.md_device.proofs.Leaving.{leaves_less}
-use Rattle.md_device.specs.Splice.{part}
 use Rattle.md_kept_members.specs.View.{MemberView}
 use Rattle.md_model.specs.Events.{Event}
-use Rattle.md_pass.specs.Beside.{KeepsBeside, SameBeside, has_chunk}
+use Rattle.md_pass.specs.Beside.{SameBeside, has_chunk}
 use Rattle.md_pass.specs.Sources.{copy_of}
 use Rattle.md_plan.specs.declared.planner.Planned.{Planned}
 use Rattle.md_inflight.specs.Inflight.{InflightList, lookup}
@@ -19,7 +18,7 @@ use Rattle.md_state.specs.Members.{IsMember}
 use Rattle.md_state.specs.Missing as state
 use Rattle.md_state.specs.Missing.{is_rebuilt}
 use Rattle.md_state.specs.Requests.{AreInFlight, IsPending}
-use Rattle.md_state.specs.View.{ArrayView, Disk, MirrorView, of_disks}
+use Rattle.md_state.specs.View.{ArrayView, MirrorView}
 use Rattle.md_array.specs.Consistency.{IsConsistent}
 use Rattle.md_array.specs.Enrolling.{Enrols, FailsToEnrol}
 use Rattle.md_array.specs.Enrolments.{EndsBelow, enrol_event, lists_of}

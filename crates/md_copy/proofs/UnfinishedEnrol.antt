@@ -1,28 +1,27 @@
 -- Where a write of the target's bitmap or of its log failed, nothing changed beside the two.
-use Rattle.std.proofs.Common.{◌≡◌, ◌≢◌, ◌∙◌, ◌⊎◌, ℕ, zero, suc, ◌+◌, ◌-◌, ◌*◌, ◌<◌, ◌≤◌, min, true, false, if◌then◌else◌, List, [], ◌∷◌, ◌++◌, length, append_assoc, slice_get, slice_index_or, Some, refl, sym, ap, subst, arith, inl, inr}
+use Rattle.std.proofs.Common.{◌≡◌, ◌≢◌, ◌∙◌, ◌⊎◌, ℕ, zero, suc, ◌+◌, ◌*◌, ◌<◌, ◌≤◌, true, false, if◌then◌else◌, List, [], ◌∷◌, ◌++◌, length, append_assoc, slice_get, slice_index_or, Some, refl, sym, ap, subst, arith, inl, inr}
 use Rattle.std.specs.Int.{div_ceil}
 use Rattle.std.proofs.lemmas.Grind.{div_ceil_times}
 use Rattle.std.proofs.lemmas.List.{append-nil}
 use Rattle.std.proofs.lemmas.Option.{same_Some}
 use Rattle.md_assembly.proofs.Indices.{got_same}
 use Rattle.md_badblocks.specs.Log.{log_bytes}
-use Rattle.md_bitmap.specs.declared.header.BitmapHeader.{BitmapHeader}
 use Rattle.md_bitmap.specs.Marks.{Bitmap}
 use Rattle.md_bitmap.proofs.Blocks.{length-bitmap_sector}
 use Rattle.md_device.specs.Device.{written}
-use Rattle.md_device.specs.Splice.{SameOutside, part}
+use Rattle.md_device.specs.Splice.{part}
 use Rattle.md_device.proofs.Leaving.{leaves_none}
 use Rattle.md_device.proofs.Splices.{spliced_outside}
-use Rattle.md_kept_members.specs.Enrolling.{HasRoomFor, in_sync_superblock, log_room}
+use Rattle.md_kept_members.specs.Enrolling.{in_sync_superblock, log_room}
 use Rattle.md_kept_members.specs.View.{MemberView}
 use Rattle.md_members.specs.Areas.{bitmap_area, bitmap_sectors, log_area}
 use Rattle.md_state.specs.DeviceChanges.{IsLeftAlone, StaysHonest}
 use Rattle.md_state.specs.Enrolling.{enrolled}
 use Rattle.md_state.specs.Missing.{is_rebuilt}
-use Rattle.md_state.specs.View.{ArrayView, Disk, MirrorView, of_disks}
+use Rattle.md_state.specs.View.{Disk, MirrorView, of_disks}
 use Rattle.md_super.specs.declared.superblock.Superblock.{Superblock}
 use Rattle.md_super.specs.Log.{has_bad_block_log}
-use Rattle.md_writes.specs.Bitmaps.{bitmap_run, bitmap_runs, bitmap_write, bitmap_writes, run_sectors, runs_of}
+use Rattle.md_writes.specs.Bitmaps.{bitmap_runs, bitmap_write, bitmap_writes, runs_of}
 use Rattle.md_writes.specs.Writes.{FailsInWrites, IsAnyIn, IsCutShort, IsNextMixed, Write, after}
 use Rattle.md_writes.proofs.Frames.{outside_around, outside_none}
 use Rattle.md_writes.proofs.Sectors.{length-bitmap_run, runs_from}

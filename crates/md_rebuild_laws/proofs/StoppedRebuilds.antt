@@ -1,11 +1,10 @@
 -- A stop within a rebuild is a stop of a run.
-use Rattle.std.proofs.Common.{◌≡◌, ◌∙◌, ℕ, false, List, [], ◌∷◌, ◌++◌, Option, Some, None, inl, inr, refl, sym, ap, subst, arith, slice_get}
+use Rattle.std.proofs.Common.{◌≡◌, ◌∙◌, ℕ, false, List, [], ◌∷◌, Option, Some, None, inl, inr, sym, ap, subst, arith, slice_get}
 use Rattle.std.proofs.lemmas.Option.{same_Some, slice_get_within}
 use Rattle.md_assembly.specs.States.{is_in_sync}
 use Rattle.md_assembly.proofs.Indices.{got_within}
 use Rattle.md_bitmap.specs.Marks.{Bitmap}
 use Rattle.md_kept_members.specs.View.{MemberView}
-use Rattle.md_model.specs.Content.{Content}
 use Rattle.md_model.specs.Events.{Event}
 use Rattle.md_plan.specs.declared.planner.Planned.{Planned}
 use Rattle.md_state.specs.DiskWrites.{AtDevice}
@@ -14,11 +13,10 @@ use Rattle.md_state.specs.Requests.{AreInFlight}
 use Rattle.md_state.specs.View.{ArrayView, Disk, MirrorView}
 use Rattle.md_array.specs.Consistency.{IsConsistent}
 use Rattle.md_array.specs.Enrolling.{Enrols, FailsToEnrol, MayEnrol}
-use Rattle.md_array.specs.Enrolments.{EndsBelow, IsHeldBy, Prepares, enrol_event, lists_of, prepared}
+use Rattle.md_array.specs.Enrolments.{EndsBelow, Prepares}
 use Rattle.md_array.specs.Filling.{Fills}
 use Rattle.md_array.specs.InTurn.{AllLeftWhole, AllOf, Did, InTurn, IsInOrder, Leads, LeftWhole, Requests}
 use Rattle.md_array.specs.RecordingTarget.{LeavesUnrecorded}
-use Rattle.md_array.specs.ReadAsKept.{AreReadAsKept}
 use Rattle.md_array.specs.Worlds.{AreHonest, block_on}
 use Rattle.md_array.proofs.Steps.Turns.{all_on, all_such}
 use Rattle.md_laws.specs.Left.{IsLeft, contents_of}
@@ -27,17 +25,17 @@ use Rattle.md_laws.specs.ReadInTurn.{IsNoFailedRecord}
 use Rattle.md_laws.specs.Runs.{IsStart, MirrorRun, Moment, then_as}
 use Rattle.md_laws.specs.StopsWithin.{MayAllBeLeft}
 use Rattle.md_laws.proofs.Runs.CallRuns.{call_is_run}
-use Rattle.md_laws.proofs.Runs.Moments.{IsSoundAt, life_keeps, run_keeps, run_then, sound_when_opened}
+use Rattle.md_laws.proofs.Runs.Moments.{IsSoundAt, life_keeps, run_keeps, sound_when_opened}
 use Rattle.md_laws.proofs.Runs.Rests.{at_once, at_rest}
 use Rattle.md_metadata.specs.Going.{GoesOn, only_others}
 use Rattle.md_metadata.specs.Storing.{IsNoFailure, IsStoring, StaysReady}
 use Rattle.md_copy.specs.Filling.{IsFilling}
 use Rattle.md_copy.specs.Storing.{FailsOnTarget}
-use Rattle.md_copy.specs.RebuildEvents.{FailsAtMarks, IsBeforeEnrol, IsOfRebuild}
+use Rattle.md_copy.specs.RebuildEvents.{FailsAtMarks, IsBeforeEnrol}
 use Rattle.md_copy.specs.Rebuilding.{Begins, EndsStoring, FillsBy}
 use Rattle.md_copy.proofs.EnrolReady.{target_rebuilt}
 use Rattle.md_copy.proofs.LentBack.{rebuilt_out}
-use Rattle.md_copy.proofs.RebuildLeads.{LeadsIn, before_of, ends_then, filled, filled_leads, filling_events, now_rebuilt, storing_before}
+use Rattle.md_copy.proofs.RebuildLeads.{LeadsIn, ends_then, filled, filled_leads, filling_events, now_rebuilt, storing_before}
 use Rattle.md_copy.proofs.StoringKeeps.{KeepsAll, device_then, due_within, keeps_event, keeps_none, keeps_then}
 use Rattle.md_copy.proofs.UnfinishedEnrol.{prepares}
 use Rattle.md_rebuild_laws.specs.StoppedRebuilds.{IsLeftWhole, IsStopAfter, IsStopBefore, StopsEnrolling, StopsFilling, StopsIn, StopsStoring, StopsUnenrolled, StopsUnrecorded}
