@@ -1,0 +1,6 @@
+pub mod HeldOnDisks
+pub mod RebuiltHolds
+pub mod StoppedRebuilds
+pub mod HeldAtEnrol
+pub mod EnrolledRun
+pub mod RebuildRun
