@@ -1,5 +1,5 @@
 -- A pass ends: devices are back in their list.
-use Rattle.std.proofs.Common.{◌≡◌, ℕ, suc, ◌-◌, ◌<◌, ◌||◌, ◌==◌, Bool, true, false, [], ◌∷◌, List, length, map, count_by, sum_by, get_or, slice_index, Contains, refl, ap, sym, ◌∙◌, arith, subst}
+use Rattle.std.proofs.Common.{◌≡◌, ℕ, suc, ◌<◌, ◌||◌, ◌==◌, Bool, true, false, [], ◌∷◌, List, length, map, count_by, sum_by, get_or, slice_index, Contains, refl, ap, sym, ◌∙◌, arith, subst}
 use Rattle.std.specs.List.{All, Any}
 use Rattle.std.proofs.lemmas.List.{get_or-map, length-map}
 use Rattle.std.proofs.lemmas.List.Sums.{sum_by-cons}

@@ -1,5 +1,5 @@
 -- A turn of a pass.
-use Rattle.std.proofs.Common.{◌≡◌, ℕ, ◌+◌, ◌<◌, ◌≤◌, [], min, Bool, true, false, inl, inr, List, length, count_by, get_or, refl, ap, sym, ◌∙◌, arith, subst}
+use Rattle.std.proofs.Common.{◌≡◌, ℕ, ◌+◌, ◌<◌, ◌≤◌, [], min, Bool, false, inl, inr, List, length, count_by, get_or, ap, sym, ◌∙◌, arith, subst}
 use Rattle.std.specs.List.{All}
 use Rattle.std.proofs.lemmas.Bool.{cases_lt}
 use Rattle.md_device.specs.declared.device.Device.{Ghosts}

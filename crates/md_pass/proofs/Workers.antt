@@ -1,5 +1,5 @@
 -- What a worker leaves of its lane.
-use Rattle.std.proofs.Common.{◌≡◌, ℕ, ◌+◌, ◌-◌, ◌<◌, ◌≤◌, ◌++◌, ◌∷◌, [], Bool, true, false, inl, inr, List, length, Some, None, count_by, slice_index, get_or, not, cond, refl, ap, sym, ◌∙◌, arith, subst, length-append}
+use Rattle.std.proofs.Common.{◌≡◌, ℕ, ◌+◌, ◌<◌, ◌≤◌, ◌++◌, ◌∷◌, [], Bool, true, false, inl, inr, List, length, Some, None, count_by, slice_index, get_or, not, cond, refl, ap, sym, ◌∙◌, arith, subst, length-append}
 use Rattle.std.specs.List.{slice_get}
 use Rattle.std.proofs.lemmas.Bool.{cases_lt}
 use Rattle.std.proofs.lemmas.Option.{slice_get_cases}
@@ -11,7 +11,7 @@ use Rattle.md_device.specs.declared.device.Device.{Ghosts}
 use Rattle.md_bitmap.specs.declared.chunks.Chunks.{Chunks}
 use Rattle.md_collect.specs.Reports.{ReportView}
 use Rattle.md_pass.specs.declared.lane.Lane.{Lane}
-use Rattle.md_pass.specs.Tally.{Tally, noted}
+use Rattle.md_pass.specs.Tally.{Tally}
 use Rattle.md_pass.specs.Lanes.{GoesOn, HasRead, IsRead, IsReady, IsReport, IsUnread, MayGoOn, OnlyRead, is_failed, slots_read}
 use Rattle.md_pass.proofs.OnlyReads.{not_read, read_then}
 

@@ -1,6 +1,5 @@
-use Rattle.std.proofs.Common.{◌≡◌, false, true, Bool, length, ap, refl, ◌∙◌, arith, subst}
+use Rattle.std.proofs.Common.{◌≡◌, false, length, ap, refl, ◌∙◌, arith}
 use Rattle.md_pass.specs.declared.lane.Lane.{Lane}
-use Rattle.md_pass.specs.Lanes.{GoesOn, IsRead, IsReady, HasRead}
 use Rattle.md_pass.proofs.Workers.{chunks_kept, may_go_on, none_left, none_more_read, none_read, one_more_read, read_anew, ready_anew, went_on}
 use Rattle.md_pass.proofs.lane.work.Goals as goal
 

@@ -6,7 +6,7 @@ use Rattle.md_pass.specs.declared.lane.Lane.{Lane}
 use Rattle.md_pass.specs.Beside.{KeepsBeside}
 use Rattle.md_pass.specs.Settling.{books}
 use Rattle.md_pass.specs.Passes.{IsPassing}
-use Rattle.md_pass.proofs.Besides.{fails_later, keeps_then}
+use Rattle.md_pass.proofs.Besides.{keeps_then}
 use Rattle.md_pass.proofs.Rounds.{fails_in}
 use Rattle.md_pass.proofs.Sweeps.{goes_on, none_left}
 use Rattle.md_pass.proofs.settle.settle_all.Goals as goal
