@@ -28,7 +28,7 @@ use Rattle.md_array.specs.Worlds as worlds
 use Rattle.md_check.specs.declared.lent.Missed.{Missed}
 use Rattle.md_check.specs.declared.order.Order.{Order}
 use Rattle.md_check.specs.declared.seat.Seat.{Seat}
-use Rattle.md_check.specs.Checking.{Checks, FailsChecking, MarksMembers, ReadsInSync}
+use Rattle.md_check.specs.Checking.{Checks, FailsChecking, MarksMembers, UsesInSync}
 use Rattle.md_check.specs.Differences.{AreDifferent}
 use Rattle.md_check.specs.Mismatches.{Mismatches, Shows}
 use Rattle.md_check.specs.Plans.{AreOrders, IsSeatOf}
@@ -78,7 +78,8 @@ no_mark b t f = cc
 pub marks_alone : (v : MirrorView) (marks : Bitmap) → IsAlone v.array → ((c : ℕ) → is_set marks.bytes c ≡ false) → MarksMembers marks marks v v
 marks_alone v marks alone none = record {
   chunks = refl;
-  reads = record { rests = rests_alone v; others = λ k m at away. refl; alone = λ _. refl };
+  rests = rests_alone v;
+  uses = record { others = λ k m at away. refl; alone = λ _. refl };
   unfailing = λ k d e at there. ap (λ (x : Disk). x.failures) (got_same v.disks k e d there at);
   bits = λ honest c. (λ e. absurd (no_mark (is_set marks.bytes c) e (none c)), λ m. absurd (alone_same v.disks v.array c alone m));
 }
@@ -88,7 +89,8 @@ pub checks : (old new : MirrorView) (before after : Bitmap) (n : ℕ) → IsCons
     → n ≡ count_set after.bytes after.chunks → Checks old new n
 checks old new before after n sound idle many marks is = record {
   idle = idle;
-  reads = marks.reads;
+  rests = marks.rests;
+  uses = marks.uses;
   unfailing = marks.unfailing;
   counts = λ honest. record { set = after; chunks = marks.chunks ∙ many ∙ sym sound.chunks.count; bits = marks.bits honest; is = is };
 }
@@ -251,7 +253,7 @@ module _ {D : Type 0} (g : Ghosts D) (old : MirrorView) (sound : IsConsistent ol
         slice_get-map (disk_of g) (map (λ (s : Seat D). s.device) news) k ∙ ap (option_map (disk_of g)) (slice_get-map (λ (s : Seat D). s.device) news k ∙ ap (option_map (λ (s : Seat D). s.device)) new.1) in
         record { seat = seat.0; new = new.0; seat_at = seat.1; new_at = new.1; was = first.disk_is; now = got_same after k e (disk_of g new.0.device) there mapped; only = it.only_read; unused = it.unused }
 
-    pub untouched : IsUntouched old.disks after
+    untouched : IsUntouched old.disks after
     untouched = record {
       same = record {
         as_many = after_many;
@@ -307,12 +309,11 @@ module _ {D : Type 0} (g : Ghosts D) (old : MirrorView) (sound : IsConsistent ol
         let same : e.0 ≡ d.0 = w.now ∙ ap (disk_of g) (w.unused (is.reads ∙ away)) ∙ sym w.was in
         e.1 ∙ ap Some same ∙ sym d.1
 
-    pub reads_in_sync : (new : MirrorView) → (IsAlone old.array → ⊥) → new ≡ record old { disks = after } → ReadsInSync old new
-    reads_in_sync new two is = record {
-      rests = rw is (record { array = refl; disks = untouched });
-      others = rw is others_stay;
-      alone = λ one. absurd (two one);
-    }
+    pub rests_with : (new : MirrorView) → new ≡ record old { disks = after } → Rests old new
+    rests_with new is = rw is (record { array = refl; disks = untouched })
+
+    pub uses_in_sync : (new : MirrorView) → (IsAlone old.array → ⊥) → new ≡ record old { disks = after } → UsesInSync old new
+    uses_in_sync new two is = record { others = rw is others_stay; alone = λ one. absurd (two one) }
 
     pub fails_checking : (new : MirrorView) (missed : Missed) → IsIdle old.array → (IsAlone old.array → ⊥) → new ≡ record old { disks = after } → MissesIn g old.array.chunks seats news missed → FailsChecking old new missed.member missed.chunk
     fails_checking new missed idle two is misses =
@@ -325,7 +326,8 @@ module _ {D : Type 0} (g : Ghosts D) (old : MirrorView) (sound : IsConsistent ol
         let miss = misses.misses seat.0 in
         record {
           idle = idle;
-          reads = reads_in_sync new two is;
+          rests = rests_with new is;
+          uses = uses_in_sync new two is;
           member = m.0;
           in_sync = record { member = m.1; in_sync = sym its.reads ∙ ap (λ (s : Seat D). is_some s.role) (sym at) ∙ miss.reads };
           sector = miss.read.sector;

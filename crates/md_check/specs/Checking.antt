@@ -17,23 +17,24 @@ use Rattle.md_check.specs.declared.fault.CheckFault.{CheckFault}
 use Rattle.md_check.specs.declared.fault.CheckFault.TheVariants.{Halted, InFlight, NoMemory, ReadFault}
 use Rattle.md_check.specs.Mismatches.{CountsMismatches, Mismatches}
 
--- Nothing was written. Of members that are not in sync no device was used, and none at all where one member is in sync.
-pub record ReadsInSync (old new : MirrorView) : Type 0 where
-  pub rests : Rests old new
+-- Of members that are not in sync no device was used, and none at all where one member is in sync.
+pub record UsesInSync (old new : MirrorView) : Type 0 where
   pub others : (k : ℕ) (m : MemberView) → IsMember old.array k m → is_in_sync m.state ≡ false → slice_get new.disks k ≡ slice_get old.disks k
   pub alone : IsAlone old.array → new ≡ old
 
--- The count is that of the mirror before. Nothing was in flight, and no read failed.
+-- The count is that of the mirror before. Nothing was written, nothing was in flight, and no read failed.
 pub record Checks (old new : MirrorView) (count : ℕ) : Type 0 where
   pub idle : IsIdle old.array
-  pub reads : ReadsInSync old new
+  pub rests : Rests old new
+  pub uses : UsesInSync old new
   pub unfailing : EachPair (λ _ d e. e.failures ≡ d.failures) old.disks new.disks
   pub counts : AreHonest old.disks → CountsMismatches old.disks old.array count
 
 -- the marks, of which there were none, are the chunks in which members in sync differ
 pub record MarksMembers (before after : Bitmap) (old new : MirrorView) : Type 0 where
   pub chunks : after.chunks ≡ before.chunks
-  pub reads : ReadsInSync old new
+  pub rests : Rests old new
+  pub uses : UsesInSync old new
   pub unfailing : EachPair (λ _ d e. e.failures ≡ d.failures) old.disks new.disks
   pub bits : AreHonest old.disks → (c : ℕ) → (is_set after.bytes c ≡ true) ↔ Mismatches old.disks old.array c
 
@@ -41,7 +42,8 @@ pub record MarksMembers (before after : Bitmap) (old new : MirrorView) : Type 0 
 -- does not list each sector.
 pub record FailsChecking (old new : MirrorView) (j c : ℕ) : Type 0 where
   pub idle : IsIdle old.array
-  pub reads : ReadsInSync old new
+  pub rests : Rests old new
+  pub uses : UsesInSync old new
   pub member : MemberView
   pub in_sync : IsInSync old.array j member
   pub sector : ℕ

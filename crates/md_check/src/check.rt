@@ -26,7 +26,8 @@ use std::thread::Threads;
 ///
 /// Each member in sync is read by a worker of its own, about 1 MiB at a time and each chunk by itself; the
 /// gate is called round each read, `source` being the member's role. All memory is taken before a device
-/// is used. Nothing is written.
+/// is used. Nothing is written. The first window in which a read fails ends the check: the error names the
+/// first member that could not be read there, and the chunk.
 pub fn check_array<D: Device + Drop + Send, G: Gate + Sync, R: Threads + Sync>(
     rt: &R,
     alloc: Global,

@@ -88,7 +88,7 @@ fn read_window<D: Device, G: Gate>(
 }
 
 // Reads a run of sectors from the first on, of one chunk and none of them listed; or passes over the first,
-// if it is listed. The answer is how many sectors that is.
+// if it is listed. The answer is how many sectors that is; the error, after a read that failed, their chunk.
 fn read_front<D: Device, G: Gate>(
     gate: &G,
     device: &mut D,
@@ -107,7 +107,7 @@ fn read_front<D: Device, G: Gate>(
     ensures gave { IfOk result (λ n. D.honest device.old ≡ true
         → HasUnlisted (D.content device.old) offset listed.now sector n buf.new) }
     ensures unfailing { OnOk result (D.failures device.new ≡ D.failures device.old) }
-    ensures missed { IfErr result (λ c. IsToRead chunks listed.now sector (length buf.old / 512) c) }
+    ensures missed { IfErr result (λ c. IsToRead chunks listed.now sector 1 c) }
     ensures failed { OnErr result (Fails D.Device device.old device.new) }
 {
     let chunk = chunks.chunk_of(sector);

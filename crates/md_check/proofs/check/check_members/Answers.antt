@@ -6,7 +6,7 @@ use Rattle.md_check.specs.declared.seat.Seat.{Seat}
 use Rattle.md_check.specs.Differences.{AreDifferent}
 use Rattle.md_check.specs.Readings.{MissesIn}
 use Rattle.md_check.specs.Seats.{IsSeated, SeatShows, on_device}
-use Rattle.md_check.proofs.SeatedMembers.{all_seated, come_back, fails_checking, honest_seats, mismatches, none_failed, reads_in_sync, rooms}
+use Rattle.md_check.proofs.SeatedMembers.{all_seated, come_back, fails_checking, honest_seats, mismatches, none_failed, rests_with, rooms, uses_in_sync}
 use Rattle.md_check.proofs.check.check_members.Goals as goal
 
 pub check_lent-answer-requires-clause-seated : goal.check_lent-answer-requires-clause-seated
@@ -42,7 +42,9 @@ returns-in-Ok-clause-gives g c =
     let none = none_failed g.D.Device old c.requires.sound (512 * c.min.result) c.lend-devices.result.items c.in_ok-orders.orders.items seats c.lend-devices.ensures.devices c.in_ok-orders.ensures c.seats_of.ensures.len c.seats_of.ensures.seats news c.in-Ok.ensures.read c.in-Ok.ensures.unfailing in
     record {
       chunks = c.in-Ok.ensures.chunks;
-      reads = reads_in_sync g.D.Device old c.requires.sound (512 * c.min.result) c.lend-devices.result.items c.in_ok-orders.orders.items seats c.lend-devices.ensures.devices c.in_ok-orders.ensures c.seats_of.ensures.len c.seats_of.ensures.seats news c.in-Ok.ensures.read
+      rests = rests_with g.D.Device old c.requires.sound (512 * c.min.result) c.lend-devices.result.items c.in_ok-orders.orders.items seats c.lend-devices.ensures.devices c.in_ok-orders.ensures c.seats_of.ensures.len c.seats_of.ensures.seats news c.in-Ok.ensures.read
+          c.give_back.new.self is;
+      uses = uses_in_sync g.D.Device old c.requires.sound (512 * c.min.result) c.lend-devices.result.items c.in_ok-orders.orders.items seats c.lend-devices.ensures.devices c.in_ok-orders.ensures c.seats_of.ensures.len c.seats_of.ensures.seats news c.in-Ok.ensures.read
           c.give_back.new.self c.requires.two is;
       unfailing = rw is none;
       bits = λ honest.
