@@ -4,3 +4,4 @@ pub mod StoppedRebuilds
 pub mod HeldAtEnrol
 pub mod EnrolledRun
 pub mod RebuildRun
+pub mod HeldBefore

@@ -1,7 +1,7 @@
 //! What holds of a rebuild in the life of a mirror. The functions do nothing: their contracts are the theorems.
 
 ghost use Rattle.md_rebuild_laws.specs.RebuildRuns.{RebuildIsARun};
-ghost use Rattle.md_rebuild_laws.specs.RebuiltInLife.{CopiesContent, RebuildsContent};
+ghost use Rattle.md_rebuild_laws.specs.RebuiltInLife.{CopiesContent, RebuildsContent, SpareHadNothing, TakenBackHeldIt};
 ghost use Rattle.md_rebuild_laws.specs.StoppedRebuilds.{StopsEnrolled, StopsEnrolling, StopsFilling, StopsSettling, StopsStoring, StopsUnenrolled, StopsUnrecorded};
 
 /// A mirror was opened from devices that do what they answer, whose stored marks covered what they differ in,
@@ -11,6 +11,13 @@ ghost use Rattle.md_rebuild_laws.specs.StoppedRebuilds.{StopsEnrolled, StopsEnro
 pub fn rebuilt_in_life()
     ensures copies { CopiesContent }
     ensures content { RebuildsContent }
+{}
+
+/// When a member held the content where it lacked nothing. A spare lacks everything. One that was taken back did, if
+/// the device that left lies behind by what is marked, as `md_laws::laws::leaving_members` says of one that failed.
+pub fn held_before()
+    ensures spare { SpareHadNothing }
+    ensures taken_back { TakenBackHeldIt }
 {}
 
 /// A rebuild that is done is a run of the mirror, from any moment of a life on, up to the mirror in which its
