@@ -63,7 +63,7 @@ fn first_missed<D>(seats: &[Seat<D>]) -> Option<Missed>
     ensures { MatchOption result
         (All (λ seat. seat.missed ≡ None) seats.now)
         (λ missed. (missed.member < length seats.now) × ((d : _) → (slice_index_or seats.now missed.member d).missed ≡ Some missed.chunk)
-            × ((k : ℕ) (d : _) → k < missed.member → (slice_index_or seats.now k d).missed ≡ None)) }
+        × ((k : ℕ) (d : _) → k < missed.member → (slice_index_or seats.now k d).missed ≡ None)) }
 {
     for k in 0..seats.len() {
         if let Some(chunk) = seats[k].missed {
