@@ -29,12 +29,12 @@ use Rattle.md_metadata.specs.Storing.{IsStoring}
 use Rattle.md_copy.specs.RebuildEvents.{IsBeforeEnrol, IsOfRebuild}
 use Rattle.md_copy.specs.Rebuilding.{FillsBy}
 use Rattle.md_copy.proofs.RebuildLeads.{before_of, storing_before}
-use Rattle.md_rebuild_laws.specs.RebuildRuns.{RebuildIsARun, RunsTo}
+use Rattle.md_rebuild_laws.specs.RebuildRuns.{RebuildIsARun, RebuildRunsOn, RunsTo}
 use Rattle.md_rebuild_laws.specs.StoppedRebuilds.{IsStopEnrolled, StopsEnrolled, StopsIn, StopsSettling}
 use Rattle.md_rebuild_laws.proofs.EnrolledRun.{at_end, enrolled_run_with}
 use Rattle.md_rebuild_laws.proofs.HeldAtEnrol.{is_held}
 use Rattle.md_rebuild_laws.proofs.RebuiltHolds.{held_at_begin}
-use Rattle.md_rebuild_laws.proofs.StoppedRebuilds.{ends_mid, full, honest_mid, in_flight_mid, lead, list, sound_mid, stops_in}
+use Rattle.md_rebuild_laws.proofs.StoppedRebuilds.{ends_mid, full, honest_mid, in_flight_mid, lead, list, reaches, sound_mid, stops_in}
 
 -- ---- the content
 -- along these events it stays
@@ -141,6 +141,18 @@ module _ (t : Moment) (sound : IsSoundAt t) (target : ℕ) (planned : Planned) (
     abbrev turn : InTurn None new t.requests g.events Then
     turn = g.leads None t.requests in_flight
 
+    pub settled_run : AllLeftWhole g.events None new t.requests Then turn → RunsTo (IsOfRebuild target) t content settled
+    settled_run whole =
+        let x = reaches g.events then settled turn honest_then whole in
+        let others = all_such IsStoring (IsBeforeEnrol target) (storing_before target) g.events g.steps in
+        record {
+          events = events ++ g.events;
+          steps = all_on (IsOfRebuild target) events g.events steps (all_such (IsBeforeEnrol target) (IsOfRebuild target) (before_of target) g.events others);
+          at = x.at;
+          run = run_with_then events g.events t then x.at content content content run_then_with (stays_along target g.events then content x.at others x.run);
+          there = x.there;
+        }
+
     pub settling_stop : AllLeftWhole g.events None new t.requests Then turn → (left : List Disk) → StopsIn g.events None new t.requests Then turn left → IsStopEnrolled target t content left
     settling_stop whole left stop =
         let x = (stops_in g.events None then Then turn g.steps honest_then whole left stop).after in
@@ -177,3 +189,10 @@ stops_settling before m a start holds es rest final t b life target told new h h
     let by = h.by.fills in
     let held = is_held target h.planned h.copied h.orphans t.mirror h.by.filled h.by.enrolled by h.by.enrols ends at.sound.honest b (held_at_begin t at h.planned target by.begins) had in
     settling_stop t at.sound target h.planned h.copied h.orphans h.by.filled by h.by.enrolled h.by.enrols h.by.sound ends b held settled g in_flight whole left stop
+
+pub rebuild_runs_on : RebuildRunsOn
+rebuild_runs_on before m a start holds es rest final t b life target told new h had ends settled g in_flight whole =
+    let at = life_held_at before m a start holds es rest final t b life in
+    let by = h.by.fills in
+    let held = is_held target h.planned h.copied h.orphans t.mirror h.by.filled h.by.enrolled by h.by.enrols ends at.sound.honest b (held_at_begin t at h.planned target by.begins) had in
+    settled_run t at.sound target h.planned h.copied h.orphans h.by.filled by h.by.enrolled h.by.enrols h.by.sound ends b held settled g in_flight whole

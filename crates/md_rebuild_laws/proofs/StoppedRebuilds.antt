@@ -48,7 +48,7 @@ pub record Reaches (t : Moment) (es : List Event) (new : MirrorView) : Type 0 wh
   pub there : at.mirror ≡ new
   pub requests : at.requests ≡ t.requests
 
-reaches : (es : List Event) (t : Moment) (new : MirrorView) (leads : Leads None t.mirror t.requests es new t.requests) → AreHonest t.mirror.disks
+pub reaches : (es : List Event) (t : Moment) (new : MirrorView) (leads : Leads None t.mirror t.requests es new t.requests) → AreHonest t.mirror.disks
     → AllLeftWhole es None t.mirror t.requests (λ m r. (m ≡ new) × (r ≡ t.requests)) leads → Reaches t es new
 reaches es t new leads honest whole = let r = call_is_run es None t new t.requests leads honest whole in record { at = r.0; run = r.1; there = r.2.0; requests = r.2.1 }
 

@@ -1,13 +1,16 @@
 -- A rebuild in the life of a mirror is a run.
-use Rattle.std.specs.Prelude.{◌≡◌, ℕ, List}
+use Rattle.std.specs.Prelude.{◌≡◌, ℕ, List, None}
 use Rattle.md_model.specs.Content.{Content, Holds}
 use Rattle.md_model.specs.Events.{Event}
+use Rattle.md_state.specs.Requests.{AreInFlight}
 use Rattle.md_state.specs.View.{Disk, MirrorView}
 use Rattle.md_array.specs.Enrolments.{EndsBelow}
-use Rattle.md_array.specs.InTurn.{AllOf}
+use Rattle.md_array.specs.InTurn.{AllLeftWhole, AllOf}
 use Rattle.md_array.specs.Worlds.{geometry_of, none_in_flight, world_of}
 use Rattle.md_laws.specs.Lives.{MirrorLifeWith}
 use Rattle.md_laws.specs.Runs.{IsStart, MirrorRunWith, Moment}
+use Rattle.md_metadata.specs.Going.{GoesOn, only_others}
+use Rattle.md_metadata.specs.Storing.{IsStoring}
 use Rattle.md_copy.specs.declared.rebuilt.Rebuilt.{Rebuilt}
 use Rattle.md_copy.specs.RebuildEvents.{IsOfRebuild}
 use Rattle.md_copy.specs.Rebuilding.{Rebuilds}
@@ -34,3 +37,13 @@ RebuildIsARun =
     AtMomentsWith (λ t content.
     ((target : ℕ) (told : Rebuilt) (new : MirrorView) (h : Rebuilds target told t.mirror new) → HeldWhatItHad target content t.mirror → EndsBelow t.mirror target
     → RunsTo (IsOfRebuild target) t content h.by.enrolled))
+
+-- So it is to the end of the call, where what is due then is stored: by these events, of which each write of a superblock that failed left the
+-- old superblock, the new one or none.
+abbrev pub RebuildRunsOn : Type 0
+RebuildRunsOn =
+    AtMomentsWith (λ t content.
+    ((target : ℕ) (told : Rebuilt) (new : MirrorView) (h : Rebuilds target told t.mirror new) → HeldWhatItHad target content t.mirror → EndsBelow t.mirror target
+    → (settled : MirrorView) (g : GoesOn only_others only_others IsStoring h.by.enrolled settled) (in_flight : AreInFlight h.by.enrolled.array t.requests)
+    → AllLeftWhole g.events None h.by.enrolled t.requests (λ m r. (m ≡ settled) × (r ≡ t.requests)) (g.leads None t.requests in_flight)
+    → RunsTo (IsOfRebuild target) t content settled))

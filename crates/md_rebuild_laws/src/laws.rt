@@ -1,6 +1,6 @@
 //! What holds of a rebuild in the life of a mirror. The functions do nothing: their contracts are the theorems.
 
-ghost use Rattle.md_rebuild_laws.specs.RebuildRuns.{RebuildIsARun};
+ghost use Rattle.md_rebuild_laws.specs.RebuildRuns.{RebuildIsARun, RebuildRunsOn};
 ghost use Rattle.md_rebuild_laws.specs.RebuiltInLife.{CopiesContent, RebuildsContent, SpareHadNothing, TakenBackHeldIt};
 ghost use Rattle.md_rebuild_laws.specs.StoppedRebuilds.{StopsEnrolled, StopsEnrolling, StopsFilling, StopsSettling, StopsStoring, StopsUnenrolled, StopsUnrecorded};
 
@@ -20,10 +20,11 @@ pub fn held_before()
     ensures taken_back { TakenBackHeldIt }
 {}
 
-/// A rebuild that is done is a run of the mirror, from any moment of a life on, up to the mirror in which its
-/// target is in sync; what is stored after that are events too (`md_copy::laws::rebuild_events`).
+/// A rebuild that is done is a run of the mirror, from any moment of a life on, and the content stays what it was:
+/// up to the mirror in which its target is in sync, and on to the end of the call.
 pub fn rebuild_runs()
-    ensures { RebuildIsARun }
+    ensures enrolled { RebuildIsARun }
+    ensures settled { RebuildRunsOn }
 {}
 
 /// What a stop at any moment within a rebuild leaves, is what a stop of a run leaves: so an opening finds of it what
