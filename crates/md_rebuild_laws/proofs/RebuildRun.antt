@@ -1,5 +1,5 @@
 -- A rebuild in the life of a mirror is a run, along which the content stays.
-use Rattle.std.proofs.Common.{◌≡◌, ℕ, List, [], ◌∷◌, ◌++◌, None, inr, refl, subst}
+use Rattle.std.proofs.Common.{◌≡◌, ℕ, List, [], ◌∷◌, ◌++◌, None, inl, inr, refl, subst}
 use Rattle.md_bitmap.specs.Marks.{Bitmap}
 use Rattle.md_model.specs.Content.{Becomes, Content}
 use Rattle.md_model.specs.Events.{Event}
@@ -30,11 +30,11 @@ use Rattle.md_copy.specs.RebuildEvents.{IsBeforeEnrol, IsOfRebuild}
 use Rattle.md_copy.specs.Rebuilding.{FillsBy}
 use Rattle.md_copy.proofs.RebuildLeads.{before_of, storing_before}
 use Rattle.md_rebuild_laws.specs.RebuildRuns.{RebuildIsARun, RebuildRunsOn, RunsTo}
-use Rattle.md_rebuild_laws.specs.StoppedRebuilds.{IsStopEnrolled, StopsEnrolled, StopsIn, StopsSettling}
+use Rattle.md_rebuild_laws.specs.StoppedRebuilds.{IsStopEnrolled, StopsEnrolled, StopsIn, StopsInRebuild, StopsSettling}
 use Rattle.md_rebuild_laws.proofs.EnrolledRun.{at_end, enrolled_run_with}
 use Rattle.md_rebuild_laws.proofs.HeldAtEnrol.{is_held}
 use Rattle.md_rebuild_laws.proofs.RebuiltHolds.{held_at_begin}
-use Rattle.md_rebuild_laws.proofs.StoppedRebuilds.{ends_mid, full, honest_mid, in_flight_mid, lead, list, reaches, sound_mid, stops_in}
+use Rattle.md_rebuild_laws.proofs.StoppedRebuilds.{ends_mid, enrolling_stop, filling_stop, first_stop, full, honest_mid, in_flight_mid, lead, list, reaches, sound_mid, stops_in}
 
 -- ---- the content
 -- along these events it stays
@@ -196,3 +196,19 @@ rebuild_runs_on before m a start holds es rest final t b life target told new h 
     let by = h.by.fills in
     let held = is_held target h.planned h.copied h.orphans t.mirror h.by.filled h.by.enrolled by h.by.enrols ends at.sound.honest b (held_at_begin t at h.planned target by.begins) had in
     settled_run t at.sound target h.planned h.copied h.orphans h.by.filled by h.by.enrolled h.by.enrols h.by.sound ends b held settled g in_flight whole
+
+-- ---- within all of it
+pub stops_in_rebuild : StopsInRebuild
+stops_in_rebuild before m a start holds es rest final t b life target told new h had ends in_flight left stop =
+    let at = life_held_at before m a start holds es rest final t b life in
+    let by = h.by.fills in
+    let begins = by.begins in
+    elim stop [
+      | inl first ↦ inl (first_stop t at.sound target h.planned by.stored begins in_flight left first)
+      | inr (inl pass) ↦ inl (filling_stop t at.sound target h.planned by.stored begins h.by.filled by.fills.filling left pass)
+      | inr (inr (inl enrols)) ↦ elim enrols.1 [
+        | inl as_before ↦ inl (enrolling_stop t at.sound target h.planned h.copied h.orphans h.by.filled by h.by.enrolled h.by.enrols left enrols.0 as_before)
+        | inr as_after ↦ inr (stops_enrolled before m a start holds es rest final t b life target h.planned h.copied h.orphans h.by.filled h.by.enrolled by h.by.enrols h.by.sound had ends left enrols.0 as_after)
+      ]
+      | inr (inr (inr settles)) ↦ inr (stops_settling before m a start holds es rest final t b life target told new h had ends settles.0 settles.1 settles.2 settles.3 left settles.4)
+    ]

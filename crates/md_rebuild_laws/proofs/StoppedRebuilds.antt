@@ -181,6 +181,25 @@ module _ (t : Moment) (sound : IsSoundAt t) where
         let one : m ≡ b.now = same_Some m b.now (sym at ∙ ap (λ (a : ArrayView). slice_get a.members target) same ∙ b.there) in
         ap (λ (x : MemberView). is_in_sync x.state) one ∙ rebuilt_out b.now.state (now_rebuilt target planned t.mirror stored b)
 
+    -- while what is due is stored
+    pub first_stop : (in_flight : AreInFlight t.mirror.array t.requests) (left : List Disk)
+        → StopsIn goes.events None t.mirror t.requests (λ m r. (m ≡ stored) × (r ≡ t.requests)) (goes.leads None t.requests in_flight) left → IsStopBefore target t left
+    first_stop in_flight left stop =
+        let leads = goes.leads None t.requests in_flight in
+        let Then : MirrorView → Requests → Type 0 = λ m r. (m ≡ stored) × (r ≡ t.requests) in
+        let x = stops_in goes.events None t Then leads goes.steps sound.honest (whole_of goes.events None t.mirror t.requests Then leads quiet) left stop in
+        let was = rebuilt_out b.member.state (target_rebuilt t.mirror.array b.member b.may.settled.has_target.target) in
+        record {
+          after = record {
+            events = x.after.events;
+            steps = all_such IsStoring (IsBeforeEnrol target) (storing_before target) x.after.events x.after.steps;
+            at = x.after.at;
+            run = x.after.run;
+            is_left = x.after.is_left;
+          };
+          out = λ n at. stays_out t.mirror x.after.at.mirror sound.sound x.keeps target b.member n b.at at was;
+        }
+
     pub filling_stop : (new : MirrorView) → IsFilling target b.now planned.plan.slots stored new → (left : List Disk) → MayAllBeLeft stored.disks new.disks (contents_of left) → IsStopBefore target t left
     filling_stop new f left within =
         let at = begun.at in

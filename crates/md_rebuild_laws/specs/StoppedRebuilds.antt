@@ -138,3 +138,27 @@ StopsSettling =
     → AllLeftWhole g.events None h.by.enrolled t.requests (λ m r. (m ≡ settled) × (r ≡ t.requests)) (g.leads None t.requests in_flight)
     → (left : List Disk) → StopsIn g.events None h.by.enrolled t.requests (λ m r. (m ≡ settled) × (r ≡ t.requests)) (g.leads None t.requests in_flight) left
     → IsStopEnrolled target t content left))
+
+-- ---- within all of a rebuild that is done
+-- a stop within its enrolment left the target's superblock as it was before it, or as it is after it
+abbrev pub IsSuperWhole : ℕ → MirrorView → MirrorView → List Disk → Type 0
+IsSuperWhole target old new left =
+    AtDevice target old.disks left (λ d e. block_on e.content ≡ block_on d.content) ⊎ AtDevice target new.disks left (λ d e. block_on e.content ≡ block_on d.content)
+
+-- The stop came while what is due was stored, while the pass was made, while the target came into sync, or while what was due then was stored.
+abbrev pub StopsWithin : (target : ℕ) (told : Rebuilt) (old new : MirrorView) → Rebuilds target told old new → (requests : Requests) → AreInFlight old.array requests → List Disk → Type 0
+StopsWithin target told old new h requests in_flight left =
+    StopsIn h.by.fills.begins.first.stores.goes.events None old requests (λ m r. (m ≡ h.by.fills.stored) × (r ≡ requests)) (h.by.fills.begins.first.stores.goes.leads None requests in_flight) left
+    ⊎ (MayAllBeLeft h.by.fills.stored.disks h.by.filled.disks (contents_of left)
+    ⊎ ((MayAllBeLeft h.by.filled.disks h.by.enrolled.disks (contents_of left) × IsSuperWhole target h.by.filled h.by.enrolled left)
+    ⊎ ((settled : MirrorView) × (g : GoesOn only_others only_others IsStoring h.by.enrolled settled) × (then : AreInFlight h.by.enrolled.array requests)
+    × AllLeftWhole g.events None h.by.enrolled requests (λ m r. (m ≡ settled) × (r ≡ requests)) (g.leads None requests then)
+    × StopsIn g.events None h.by.enrolled requests (λ m r. (m ≡ settled) × (r ≡ requests)) (g.leads None requests then) left)))
+
+-- Whenever it came, the target is not in sync yet, or the enrolment is done and the members in sync hold the content.
+abbrev pub StopsInRebuild : Type 0
+StopsInRebuild =
+    AtMomentsWith (λ t content.
+    ((target : ℕ) (told : Rebuilt) (new : MirrorView) (h : Rebuilds target told t.mirror new) → HeldWhatItHad target content t.mirror → EndsBelow t.mirror target
+    → (in_flight : AreInFlight t.mirror.array t.requests) (left : List Disk) → StopsWithin target told t.mirror new h t.requests in_flight left
+    → IsStopBefore target t left ⊎ IsStopEnrolled target t content left))

@@ -2,7 +2,7 @@
 
 ghost use Rattle.md_rebuild_laws.specs.RebuildRuns.{RebuildIsARun, RebuildRunsOn};
 ghost use Rattle.md_rebuild_laws.specs.RebuiltInLife.{CopiesContent, RebuildsContent, SpareHadNothing, TakenBackHeldIt};
-ghost use Rattle.md_rebuild_laws.specs.StoppedRebuilds.{StopsEnrolled, StopsEnrolling, StopsFilling, StopsSettling, StopsStoring, StopsUnenrolled, StopsUnrecorded};
+ghost use Rattle.md_rebuild_laws.specs.StoppedRebuilds.{StopsEnrolled, StopsEnrolling, StopsFilling, StopsInRebuild, StopsSettling, StopsStoring, StopsUnenrolled, StopsUnrecorded};
 
 /// A mirror was opened from devices that do what they answer, whose stored marks covered what they differ in,
 /// and has come to any moment of its life. A rebuild then gives the new member the content that the life has
@@ -38,4 +38,7 @@ pub fn stopped_rebuilds()
     ensures unenrolled { StopsUnenrolled }
     ensures enrolled { StopsEnrolled }
     ensures settling { StopsSettling }
+
+    // So of a rebuild that is done, whenever the stop came.
+    ensures done { StopsInRebuild }
 {}

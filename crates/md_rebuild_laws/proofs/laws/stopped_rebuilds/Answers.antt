@@ -1,4 +1,4 @@
-use Rattle.md_rebuild_laws.proofs.RebuildRun.{stops_enrolled, stops_settling}
+use Rattle.md_rebuild_laws.proofs.RebuildRun.{stops_enrolled, stops_in_rebuild, stops_settling}
 use Rattle.md_rebuild_laws.proofs.StoppedRebuilds.{stops_enrolling, stops_filling, stops_storing, stops_unenrolled, stops_unrecorded}
 use Rattle.md_rebuild_laws.proofs.laws.stopped_rebuilds.Goals as goal
 
@@ -11,4 +11,5 @@ returns c = record {
   unenrolled = stops_unenrolled;
   enrolled = stops_enrolled;
   settling = stops_settling;
+  done = stops_in_rebuild;
 }
