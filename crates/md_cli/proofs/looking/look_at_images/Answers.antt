@@ -1,7 +1,10 @@
-use Rattle.std.proofs.Common.{◌≡◌, ◌∙◌, Bool, true, List, Option, refl, ap}
+use Rattle.std.proofs.Common.{◌≡◌, ◌∙◌, Bool, true, false, List, Option, Err, map, refl, ap, subst, inr, rules}
+use Rattle.md_device.specs.declared.access.Access.TheVariants.{Look}
+use Rattle.md_advice.specs.Faults.{of_images}
+use Rattle.md_images.specs.Images.{allows}
 use Rattle.md_images.specs.declared.fault.ImagesFault.{ImagesFault}
 use Rattle.md_images.specs.declared.fault.ImagesFault.TheVariants.{BadImage, NoMemory}
-use Rattle.md_images.specs.Taking.{RefusesImages, Text, Word}
+use Rattle.md_images.specs.Taking.{RefusesImages, Text, Word, image_list, word_of}
 use Rattle.md_images.proofs.Taken.{restored}
 use Rattle.md_cli.proofs.looking.look_at_images.Goals as goal
 
@@ -9,6 +12,21 @@ use Rattle.md_cli.proofs.looking.look_at_images.Goals as goal
 as_before : {D Unchanged : Type 0} (known : Bool) (allowed : Text → Bool) (before after : Text → Option D) (words : List Word) (fault : ImagesFault) → RefusesImages Unchanged known allowed before after words fault → (Unchanged → (name : Text) → after name ≡ before name) → known ≡ true → (name : Text) → after name ≡ before name
 as_before known allowed before after words (BadImage index why) h same is name = h.1 is name
 as_before known allowed before after words NoMemory h same is name = same h name
+
+pub returns-in_err-devices-clause-gives : goal.returns-in_err-devices-clause-gives
+returns-in_err-devices-clause-gives g c =
+    let fault = c.in_err-devices.field-0.0 in
+    let is : c.from_residual.result ≡ Err (of_images fault) = search rules in
+    let words_are : map word_of c.as_slice-words.result.now ≡ image_list false (map (λ s. s.now) c.args.names.now) = ap (map word_of) c.as_slice-words.ensures.value ∙ c.in-Ok.ensures in
+    let at = g.I.Images.device_at in
+    inr (record {
+      fault = fault;
+      is = is;
+      refused =
+          subst (λ (words : List Word). RefusesImages (c.take_images.new.images ≡ c.args.images.now) (g.I.Images.known c.args.images.now) (λ n. allows Look (g.I.Images.changeable c.args.images.now n)) (at c.args.images.now) (at c.take_images.new.images) words fault)
+          words_are c.in_err-devices.ensures.gives;
+      unwritten = refl;
+    })
 
 pub returns-in_err-devices-clause-kept : goal.returns-in_err-devices-clause-kept
 returns-in_err-devices-clause-kept g c = λ is name. (
