@@ -9,7 +9,7 @@ use Rattle.md_words.specs.Words.{mdcli}
 use Rattle.md_words.specs.declared.options.CreateOptions.{CreateOptions}
 use Rattle.md_words.specs.declared.report.Report.{Report}
 use Rattle.md_words.specs.declared.array_task.ArrayTask.{ArrayTask}
-use Rattle.md_words.specs.declared.array_task.ArrayTask.TheVariants.{Summary, Detail, Plan, Read, Write, Resync, Fail, Stop}
+use Rattle.md_words.specs.declared.array_task.ArrayTask.TheVariants.{Summary, Detail, Plan, Read, Check, Write, Resync, Fail, Stop}
 use Rattle.md_words.specs.declared.report.Report.TheVariants.{Superblock, Bitmap, BadBlocks}
 use Rattle.md_words.specs.declared.request.Action.{Action}
 use Rattle.md_words.specs.declared.request.Action.TheVariants as action
@@ -80,6 +80,7 @@ task_of name rows =
     else if bytes_eq name (codes "detail") then Some Detail
     else if bytes_eq name (codes "plan") then Some (Plan (number_in 32 (codes "member") rows))
     else if bytes_eq name (codes "read") then Some (Read (number_in 64 (codes "sector") rows) (number_in 64 (codes "count") rows))
+    else if bytes_eq name (codes "check") then Some Check
     else None
 
 -- and where it may not be asked so

@@ -33,7 +33,7 @@ by_default value r = record r { defaults = value ∷ [] }
 abbrev pub bare_app : Text → App
 bare_app name = with_rule (new_app name) image_rule
 
--- one that shows an array, the plan of a rebuild, or sectors, and that may be asked to change no image
+-- one that shows an array, the plan of a rebuild, or sectors, or compares the members, and that may be asked to change no image
 abbrev pub with_images : App → App
 with_images a = with_rule (with_rule a (flag_rule (codes "readonly"))) image_rule
 
@@ -114,7 +114,9 @@ with_array_commands a =
 abbrev pub with_data_commands : App → App
 with_data_commands a =
     with_subcommand
-    (with_subcommand (with_subcommand (with_subcommand a read_app.top) write_app.top) (bare_app (codes "resync")).top)
+    (with_subcommand
+    (with_subcommand (with_subcommand (with_subcommand a read_app.top) write_app.top) (array_app (codes "check")).top)
+    (bare_app (codes "resync")).top)
     (bare_app (codes "stop")).top
 
 abbrev pub with_member_commands : App → App

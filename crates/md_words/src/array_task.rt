@@ -11,6 +11,8 @@ pub enum ArrayTask {
     Plan(u32),
     /// Puts out so many sectors, from this one on.
     Read { sector: u64, count: u64 },
+    /// Counts the chunks in which its members in sync differ.
+    Check,
     /// Writes the input, from this sector on.
     Write { sector: u64 },
     /// Makes the members in sync agree, and stops it.

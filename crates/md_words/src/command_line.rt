@@ -87,18 +87,19 @@ fn array_images<'a>(alloc: Global, command: Command<'a>) -> Result<Command<'a>, 
     command.arg(readonly)?.arg(image_arg(alloc))
 }
 
-// A command that shows an array.
+// A command that shows an array, or compares its members.
 fn array_command<'a>(
     alloc: Global,
     name: &'a str,
     about: &'a str,
+    after_help: &'a str,
 ) -> Result<Command<'a>, AllocError>
     ensures app { IfOk result (λ c. app_of c ≡ array_app name.entry.now) }
     ensures local { IfOk result (λ c. (fields_of c).has_globals ≡ false) }
 {
     let command = Command::new(alloc, name)
         .about(about)
-        .after_help(help::ARRAY);
+        .after_help(after_help);
     array_images(alloc, command)
 }
 
@@ -295,11 +296,13 @@ fn array_commands<'a>(alloc: Global, program: Command<'a>) -> Result<Command<'a>
         alloc,
         "assemble",
         "Shows in a line what array the images make; may store marks",
+        help::ARRAY,
     )?;
     let detail = array_command(
         alloc,
         "detail",
         "Shows the array that the images make; may store marks",
+        help::ARRAY,
     )?;
     let plan = plan_command(alloc)?;
     program
@@ -315,6 +318,12 @@ fn data_commands<'a>(alloc: Global, program: Command<'a>) -> Result<Command<'a>,
 {
     let read = read_command(alloc)?;
     let write = write_command(alloc)?;
+    let check = array_command(
+        alloc,
+        "check",
+        "Counts the chunks in which members in sync differ; may store marks",
+        help::CHECK,
+    )?;
     let resync = bare_command(
         alloc,
         "resync",
@@ -330,6 +339,7 @@ fn data_commands<'a>(alloc: Global, program: Command<'a>) -> Result<Command<'a>,
     program
         .subcommand(read)?
         .subcommand(write)?
+        .subcommand(check)?
         .subcommand(resync)?
         .subcommand(stop)
 }

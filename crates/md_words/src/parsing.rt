@@ -102,6 +102,9 @@ fn task_of(name: &str, found: &ArgMatches<'_>) -> Option<ArrayTask>
         let count = number_of(found, "count");
         return Some(ArrayTask::Read { sector, count });
     }
+    if name == "check" {
+        return Some(ArrayTask::Check);
+    }
     None
 }
 
