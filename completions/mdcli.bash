@@ -2,14 +2,14 @@
 # SPDX-License-Identifier: MIT OR Apache-2.0
 
 _mdcli_commands() {
-  printf '%s\n' examine examine-bitmap examine-badblocks assemble detail plan read write resync fail remove add re-add rebuild stop create help
+  printf '%s\n' examine examine-bitmap examine-badblocks assemble detail plan read check write resync fail remove add re-add rebuild stop create help
 }
 
 # The options of a command, beside --help. A value follows one that ends in =.
 _mdcli_options() {
   case $1 in
     create) printf '%s\n' --level= --raid-devices= --uuid= --name= --bitmap-chunk= --size= --time= --assume-clean ;;
-    assemble | detail) printf '%s\n' --readonly ;;
+    assemble | detail | check) printf '%s\n' --readonly ;;
     plan) printf '%s\n' --member= --readonly ;;
     fail | remove | rebuild) printf '%s\n' --member= ;;
     add | re-add) printf '%s\n' --device= ;;

@@ -12,6 +12,7 @@ complete -c mdcli -n __fish_use_subcommand -a assemble -d 'Show in a line what a
 complete -c mdcli -n __fish_use_subcommand -a detail -d 'Show the array that the images make'
 complete -c mdcli -n __fish_use_subcommand -a plan -d "Show the plan of a member's rebuild"
 complete -c mdcli -n __fish_use_subcommand -a read -d 'Write sectors of the array to standard output'
+complete -c mdcli -n __fish_use_subcommand -a check -d 'Compare the members in sync'
 complete -c mdcli -n __fish_use_subcommand -a write -d 'Write standard input to the array'
 complete -c mdcli -n __fish_use_subcommand -a resync -d 'Make the members in sync agree'
 complete -c mdcli -n __fish_use_subcommand -a fail -d 'Make a member faulty'
@@ -25,7 +26,7 @@ complete -c mdcli -n __fish_use_subcommand -a help -d 'Show the help of a comman
 
 complete -c mdcli -n 'not __fish_use_subcommand; and not __fish_seen_subcommand_from help' -F
 
-complete -c mdcli -n '__fish_seen_subcommand_from assemble detail plan read' -l readonly -d 'Change no image'
+complete -c mdcli -n '__fish_seen_subcommand_from assemble detail plan read check' -l readonly -d 'Change no image'
 
 complete -c mdcli -n '__fish_seen_subcommand_from plan fail remove rebuild' -l member -x -d 'The member, by its place among the images, from 0'
 

@@ -189,6 +189,8 @@ WRITTEN = "in sync 2 of 2, events 3, marked 0\n"
 MARKED = "in sync 1 of 2, events 10, marked 8\n"
 FAILED = "in sync 1 of 2, events 4, marked 0\n"
 ALONE = "in sync 1 of 2, events 6, marked 1\n"
+AGREE = "mismatched chunks: 0\n"
+DIFFER = "mismatched chunks: 1\n"
 STORED = "mdcli: a: its bitmap did not tell of the array, so all chunks are marked in it now\n"
 
 PLAN = (
@@ -316,9 +318,15 @@ CASES = [
         {"a": OUT_OF_DATE},
         [
             Step("assemble --readonly a", MARKED),
+            Step("check --readonly a", AGREE),
             Step("assemble a", MARKED, told=STORED, changes="a"),
             Step("assemble a", MARKED),
         ],
+    ),
+    (
+        "a bitmap that is out of date is marked by a check too",
+        {"a": OUT_OF_DATE},
+        [Step("check a", AGREE, told=STORED, changes="a"), Step("check a", AGREE)],
     ),
     (
         "data is written, read and resynced, and the array is stopped",
@@ -328,6 +336,7 @@ CASES = [
             Step("read --sector 8 --count 2 a b", BLANK),
             Step("write --sector 8 a b", WRITTEN, changes="a b", given=DATA),
             Step("read --sector 8 --count 2 b a", DATA.decode()),
+            Step("check b a", AGREE),
             Step("resync a b", WRITTEN),
             Step("stop a b", WRITTEN),
         ],
@@ -339,7 +348,37 @@ CASES = [
             create("raid1", 2, 4, "a b", output="in sync 2 of 2, events 1, marked 8\n", changes="a b"),
             Step("read --sector 0 --count 1 a b", fault="NotResynced"),
             Step("write --sector 0 a b", fault="NotResynced", given=DATA),
+            Made("b", "b", lambda image: members.with_data(image, 8, DATA)),
+            Step("check a b", DIFFER),
             Step("resync a b", "in sync 2 of 2, events 2, marked 0\n", changes="a b"),
+            Step("check a b", AGREE),
+        ],
+    ),
+    (
+        "members are compared",
+        TWO,
+        [
+            create("raid1", 2, 4, "--assume-clean a b", output=CLEAN, changes="a b"),
+            Step("check a b", AGREE),
+            Made("b", "b", lambda image: members.with_data(image, 8, DATA[:SECTOR])),
+            Step("check a b", DIFFER),
+            Step("check --readonly b a", DIFFER),
+            # In a further chunk the member lists the sector that differs as bad.
+            Made("b", "b", lambda image: members.with_bad_blocks(members.with_data(image, 43, DATA[:SECTOR]), [(2048 + 43, 1)])),
+            Step("check a b", DIFFER),
+            Made("b", "b", lambda image: members.with_bad_blocks(image, [(2048 + 8, 1), (2048 + 43, 1)])),
+            Step("check a b", AGREE),
+            Step("check b", AGREE),
+        ],
+    ),
+    (
+        "no members to compare",
+        TWO,
+        [
+            Step("check a b", fault="Member 0 Super Magic"),
+            Step("check a a", fault="BadImage 1"),
+            Step("check --readonly a c", fault="BadImage 1"),
+            Step("check", fault="Assemble Empty"),
         ],
     ),
     (
@@ -435,6 +474,7 @@ CASES = [
             Step("remove --member 1 a b", ALONE),
             Step("re-add --device b a", "in sync 2 of 2, events 8, marked 0\n", changes="a b"),
             Holds("b", "a", as_role(1, 1)),
+            Step("check a b", AGREE),
             Step("read --sector 16 --count 1 b", DATA[SECTOR:].decode()),
             Step("detail b a", DETAIL_AFTER_RE_ADD),
         ],
@@ -476,6 +516,11 @@ CASES = [
             Step("write --sector 8 a b c", "in sync 2 of 3, events 4, marked 1\n", changes="a b c", given=DATA[:SECTOR]),
             Step("rebuild --member 2 a b c", REBUILT, changes="a b c"),
             Holds("c", "a", as_role(2, 3)),
+            Step("check a b c", AGREE),
+            Made("c", "c", lambda image: members.with_data(image, 63, DATA[:SECTOR])),
+            Step("check a b c", DIFFER),
+            Step("check a b", AGREE),
+            Made("c", "a", as_role(2, 3)),
             Step("read --sector 8 --count 1 c", DATA[:SECTOR].decode()),
             Step("stop a b c", "in sync 3 of 3, events 5, marked 0\n"),
             Step("rebuild --member 2 a b c", fault="NotSpare"),

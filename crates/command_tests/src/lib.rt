@@ -1,4 +1,4 @@
-//! Tests of commands on images in memory that fail or are protected, of a rebuild, of reports, and of
+//! Tests of commands on images in memory that fail or are protected, of a rebuild and a check, of reports, and of
 //! where these go.
 #![tactic(auto)]
 
@@ -10,6 +10,8 @@ mod commands;
 mod devices;
 #[cfg(test)]
 mod faults_in_memory;
+#[cfg(test)]
+mod member_checks;
 #[cfg(test)]
 mod plan_reports;
 #[cfg(test)]

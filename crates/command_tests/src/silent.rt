@@ -1,7 +1,7 @@
-// A rebuild that nobody watches.
+// A rebuild or a check that nobody watches.
 use md_commands::{Gate, Watch};
 
-/// Is told of a rebuild, and says nothing of it.
+/// Is told of a rebuild or a check, and says nothing of it.
 pub(crate) struct Silent;
 
 impl Gate for Silent {
@@ -12,4 +12,6 @@ impl Gate for Silent {
 
 impl Watch for Silent {
     fn begins(&self, _chunks: u32) {}
+
+    fn begins_check(&self, _sectors: u64) {}
 }

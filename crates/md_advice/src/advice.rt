@@ -3,6 +3,7 @@ use crate::fault::CommandFault;
 use crate::option_fault::OptionFault;
 use md_array::{AddFault, BeginFault, FailFault, OpenFault, ReAddFault, RemoveFault};
 use md_assembly::AssembleFault;
+use md_check::CheckFault;
 use md_commands::DataFault;
 use md_copy::RebuildFault;
 use md_create::CreateFault;
@@ -85,6 +86,7 @@ fn data_advice(fault: DataFault) -> &'static str {
         DataFault::ReAdd(fault) => re_add_advice(fault),
         DataFault::Rebuild(fault) => rebuild_advice(fault),
         DataFault::Resync(fault) => resync_advice(fault),
+        DataFault::Check(fault) => check_advice(fault),
         DataFault::Read(fault) => read_advice(fault),
         DataFault::Write(fault) => write_advice(fault),
         DataFault::Stop(fault) => stop_advice(fault),
@@ -151,6 +153,15 @@ fn resync_advice(fault: ResyncFault) -> &'static str {
         ResyncFault::Halted => SEE_DEVICE,
         ResyncFault::InFlight(_) => AGAIN,
         ResyncFault::NoMemory => MORE_MEMORY,
+    }
+}
+
+fn check_advice(fault: CheckFault) -> &'static str {
+    match fault {
+        CheckFault::ReadFault(_, _) => COPY_DISK,
+        CheckFault::Halted => SEE_DEVICE,
+        CheckFault::InFlight(_) => AGAIN,
+        CheckFault::NoMemory => MORE_MEMORY,
     }
 }
 

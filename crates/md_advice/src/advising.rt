@@ -3,6 +3,7 @@ use crate::advice::advice;
 use crate::fault::CommandFault;
 use md_array::{AddFault, OpenFault, ReAddFault};
 use md_assembly::AssembleFault;
+use md_check::CheckFault;
 use md_commands::DataFault;
 use md_copy::RebuildFault;
 use md_device::ImageFault;
@@ -54,6 +55,7 @@ fn culprit_of_data(fault: DataFault) -> Option<Culprit> {
     match fault {
         DataFault::Resync(ResyncFault::ReadFault(device, _)) => Some(Culprit::Device(device)),
         DataFault::Resync(ResyncFault::MemberFailed(device)) => Some(Culprit::Device(device)),
+        DataFault::Check(CheckFault::ReadFault(device, _)) => Some(Culprit::Device(device)),
         DataFault::Stop(StopFault::MemberFailed(device)) => Some(Culprit::Staying(device)),
         DataFault::Fail(_) => Some(Culprit::Named),
         DataFault::Remove(_) => Some(Culprit::Named),

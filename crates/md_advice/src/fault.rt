@@ -42,9 +42,9 @@ pub enum CommandFault {
     /// No rebuild of the member is planned.
     #[error("{0}")]
     Rebuild(RebuildFault),
-    /// No member has the index that the command names; or the array's data are not read or written, it is
-    /// not resynchronised or stopped, its member is not failed, removed or rebuilt, or none is added or taken
-    /// back.
+    /// No member has the index that the command names; or the array's data are not read or written, its
+    /// members are not compared, it is not resynchronised or stopped, its member is not failed, removed or
+    /// rebuilt, or none is added or taken back.
     #[error("{0}")]
     Data(DataFault),
     /// The report can't be written.

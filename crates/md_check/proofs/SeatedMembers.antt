@@ -17,7 +17,7 @@ use Rattle.md_assembly.specs.States.{is_in_sync}
 use Rattle.md_assembly.proofs.Indices.{got_same, got_within}
 use Rattle.md_kept_members.specs.View.{MemberView}
 use Rattle.md_pass.specs.Lanes.{OnlyRead}
-use Rattle.md_state.specs.DeviceChanges.{IsUntouched, LeavesAsWas, StaysHonest}
+use Rattle.md_state.specs.DeviceChanges.{EachPair, IsUntouched, LeavesAsWas, StaysHonest}
 use Rattle.md_state.specs.MakingClean.{IsIdle}
 use Rattle.md_state.specs.Members.{IsAlone, IsMember}
 use Rattle.md_state.specs.Rests.{Rests}
@@ -28,12 +28,12 @@ use Rattle.md_array.specs.Worlds as worlds
 use Rattle.md_check.specs.declared.lent.Missed.{Missed}
 use Rattle.md_check.specs.declared.order.Order.{Order}
 use Rattle.md_check.specs.declared.seat.Seat.{Seat}
-use Rattle.md_check.specs.Checking.{Checks, FailsChecking, MarksMembers}
+use Rattle.md_check.specs.Checking.{Checks, FailsChecking, MarksMembers, UsesInSync}
 use Rattle.md_check.specs.Differences.{AreDifferent}
 use Rattle.md_check.specs.Mismatches.{Mismatches, Shows}
 use Rattle.md_check.specs.Plans.{AreOrders, IsSeatOf}
 use Rattle.md_check.specs.Readings.{MissesChunk, MissesIn}
-use Rattle.md_check.specs.Seats.{AreHonest, AreSeatsRead, IsSeated, SeatShows, on_device}
+use Rattle.md_check.specs.Seats.{AreHonest, AreSeatsRead, HaveNotFailed, IsSeated, OnlySeatRead, SeatShows, on_device}
 use Rattle.md_check.proofs.Differing.{differ_as}
 
 -- where at most one member is in sync no two differ
@@ -79,6 +79,8 @@ pub marks_alone : (v : MirrorView) (marks : Bitmap) → IsAlone v.array → ((c 
 marks_alone v marks alone none = record {
   chunks = refl;
   rests = rests_alone v;
+  uses = record { others = λ k m at away. refl; alone = λ _. refl };
+  unfailing = λ k d e at there. ap (λ (x : Disk). x.failures) (got_same v.disks k e d there at);
   bits = λ honest c. (λ e. absurd (no_mark (is_set marks.bytes c) e (none c)), λ m. absurd (alone_same v.disks v.array c alone m));
 }
 
@@ -88,6 +90,8 @@ pub checks : (old new : MirrorView) (before after : Bitmap) (n : ℕ) → IsCons
 checks old new before after n sound idle many marks is = record {
   idle = idle;
   rests = marks.rests;
+  uses = marks.uses;
+  unfailing = marks.unfailing;
   counts = λ honest. record { set = after; chunks = marks.chunks ∙ many ∙ sym sound.chunks.count; bits = marks.bits honest; is = is };
 }
 
@@ -220,6 +224,11 @@ module _ {D : Type 0} (g : Ghosts D) (old : MirrorView) (sound : IsConsistent ol
     after_many : length after ≡ length old.disks
     after_many = length-map (map (λ (s : Seat D). s.device) news) (disk_of g) ∙ length-map news (λ (s : Seat D). s.device) ∙ read.as_many ∙ sym disks_many
 
+    -- seats by their indices
+    both_at : (k : ℕ) (seat new : Seat D) (P : Seat D → Seat D → Type 0) → slice_get seats k ≡ Some seat → slice_get news k ≡ Some new → P (get_or seats k seat) (get_or news k seat) → P seat new
+    both_at k seat new P at there p =
+        subst (λ (s : Seat D). P seat s) (get_or_from_slice_get news k new seat there) (subst (λ (s : Seat D). P s (get_or news k seat)) (get_or_from_slice_get seats k seat seat at) p)
+
     -- the device of member k before and after
     record WasRead (k : ℕ) (d e : Disk) : Type 0 where
       seat : Seat D
@@ -229,6 +238,7 @@ module _ {D : Type 0} (g : Ghosts D) (old : MirrorView) (sound : IsConsistent ol
       was : d ≡ disk_of g seat.device
       now : e ≡ disk_of g new.device
       only : OnlyRead g seat.device new.device
+      unused : is_some seat.role ≡ false → new.device ≡ seat.device
 
     was_read : (k : ℕ) (d e : Disk) → slice_get old.disks k ≡ Some d → slice_get after k ≡ Some e → WasRead k d e
     was_read k d e at there =
@@ -238,14 +248,12 @@ module _ {D : Type 0} (g : Ghosts D) (old : MirrorView) (sound : IsConsistent ol
         let new = got_within news k (omega (arith, read.as_many, within)) in
         let m = member_at k within in
         let first = stands k seat.0 d m.0 seat.1 at m.1 in
-        let one : OnlyRead g (get_or seats k seat.0).device (get_or news k seat.0).device = (read.each k seat.0 within).only_read in
-        let two : OnlyRead g seat.0.device (get_or news k seat.0).device = subst (λ (s : Seat D). OnlyRead g s.device (get_or news k seat.0).device) (get_or_from_slice_get seats k seat.0 seat.0 seat.1) one in
-        let it : OnlyRead g seat.0.device new.0.device = subst (λ (s : Seat D). OnlyRead g seat.0.device s.device) (get_or_from_slice_get news k new.0 seat.0 new.1) two in
+        let it = both_at k seat.0 new.0 (OnlySeatRead g) seat.1 new.1 (read.each k seat.0 within) in
         let mapped : slice_get after k ≡ Some (disk_of g new.0.device) =
         slice_get-map (disk_of g) (map (λ (s : Seat D). s.device) news) k ∙ ap (option_map (disk_of g)) (slice_get-map (λ (s : Seat D). s.device) news k ∙ ap (option_map (λ (s : Seat D). s.device)) new.1) in
-        record { seat = seat.0; new = new.0; seat_at = seat.1; new_at = new.1; was = first.disk_is; now = got_same after k e (disk_of g new.0.device) there mapped; only = it }
+        record { seat = seat.0; new = new.0; seat_at = seat.1; new_at = new.1; was = first.disk_is; now = got_same after k e (disk_of g new.0.device) there mapped; only = it.only_read; unused = it.unused }
 
-    pub untouched : IsUntouched old.disks after
+    untouched : IsUntouched old.disks after
     untouched = record {
       same = record {
         as_many = after_many;
@@ -270,20 +278,45 @@ module _ {D : Type 0} (g : Ghosts D) (old : MirrorView) (sound : IsConsistent ol
       };
     }
 
-    failed_at : (k chunk : ℕ) → ((x : Seat D) → MissesChunk g old.array.chunks (get_or seats k x) (get_or news k x) chunk)
+    failed_at : (k chunk : ℕ) → ((x : Seat D) → MissesChunk g old.array.chunks 0 old.array.chunks.size (get_or seats k x) (get_or news k x) chunk)
         → (d e : Disk) → slice_get old.disks k ≡ Some d → slice_get after k ≡ Some e → d.honest ≡ true → d.failures < e.failures
     failed_at k chunk misses d e here there honest =
         let w = was_read k d e here there in
-        let one = (misses w.seat).fails in
-        let two = subst (λ (s : Seat D). Fails g s.device (get_or news k w.seat).device) (get_or_from_slice_get seats k w.seat w.seat w.seat_at) one in
-        let three = subst (λ (s : Seat D). Fails g w.seat.device s.device) (get_or_from_slice_get news k w.new w.seat w.new_at) two in
-        let up = three (sym (ap (λ (x : Disk). x.honest) w.was) ∙ honest) in
+        let it = both_at k w.seat w.new (λ a b. Fails g a.device b.device) w.seat_at w.new_at (misses w.seat).fails in
+        let up = it (sym (ap (λ (x : Disk). x.honest) w.was) ∙ honest) in
         let before : d.failures ≡ g.failures w.seat.device = ap (λ (x : Disk). x.failures) w.was in
         let after_it : e.failures ≡ g.failures w.new.device = ap (λ (x : Disk). x.failures) w.now in
         omega (arith, up, before, after_it)
 
-    pub fails_checking : (new : MirrorView) (missed : Missed) → IsIdle old.array → new ≡ record old { disks = after } → MissesIn g old.array.chunks seats news missed → FailsChecking old new missed.member missed.chunk
-    fails_checking new missed idle is misses =
+    -- no device of the first n counted a failure
+    pub not_failed : (n : ℕ) → HaveNotFailed g n seats news → EachPair (λ k d e. k < n → e.failures ≡ d.failures) old.disks after
+    not_failed n none k d e here there below =
+        let w = was_read k d e here there in
+        let it = both_at k w.seat w.new (λ a b. g.failures b.device ≡ g.failures a.device) w.seat_at w.new_at (none k w.seat below) in
+        ap (λ (x : Disk). x.failures) w.now ∙ it ∙ sym (ap (λ (x : Disk). x.failures) w.was)
+
+    pub none_failed : HaveNotFailed g (length seats) seats news → EachPair (λ _ d e. e.failures ≡ d.failures) old.disks after
+    none_failed none k d e here there = not_failed (length seats) none k d e here there (let low = slice_get_within old.disks k d here in omega (arith, disks_many, low))
+
+    others_stay : (k : ℕ) (m : MemberView) → IsMember old.array k m → is_in_sync m.state ≡ false → slice_get after k ≡ slice_get old.disks k
+    others_stay k m at away =
+        let low = slice_get_within old.array.members k m at in
+        let within : k < length seats = omega (arith, members_many, low) in
+        let d = disk_at k within in
+        let e = got_within after k (omega (arith, after_many, disks_many, within)) in
+        let w = was_read k d.0 e.0 d.1 e.1 in
+        let is = stands k w.seat d.0 m w.seat_at d.1 at in
+        let same : e.0 ≡ d.0 = w.now ∙ ap (disk_of g) (w.unused (is.reads ∙ away)) ∙ sym w.was in
+        e.1 ∙ ap Some same ∙ sym d.1
+
+    pub rests_with : (new : MirrorView) → new ≡ record old { disks = after } → Rests old new
+    rests_with new is = rw is (record { array = refl; disks = untouched })
+
+    pub uses_in_sync : (new : MirrorView) → (IsAlone old.array → ⊥) → new ≡ record old { disks = after } → UsesInSync old new
+    uses_in_sync new two is = record { others = rw is others_stay; alone = λ one. absurd (two one) }
+
+    pub fails_checking : (new : MirrorView) (missed : Missed) → IsIdle old.array → (IsAlone old.array → ⊥) → new ≡ record old { disks = after } → MissesIn g old.array.chunks seats news missed → FailsChecking old new missed.member missed.chunk
+    fails_checking new missed idle two is misses =
         let k = missed.member in
         let m = member_at k misses.within in
         let disk = disk_at k misses.within in
@@ -293,9 +326,13 @@ module _ {D : Type 0} (g : Ghosts D) (old : MirrorView) (sound : IsConsistent ol
         let miss = misses.misses seat.0 in
         record {
           idle = idle;
-          rests = rw is (record { array = refl; disks = untouched });
+          rests = rests_with new is;
+          uses = uses_in_sync new two is;
           member = m.0;
           in_sync = record { member = m.1; in_sync = sym its.reads ∙ ap (λ (s : Seat D). is_some s.role) (sym at) ∙ miss.reads };
-          chunk = miss.chunk;
+          sector = miss.read.sector;
+          inside = miss.read.inside;
+          unlisted = λ bad. miss.read.unlisted (subst (λ (s : Seat D). IsBad s.listed miss.read.sector) (sym at) ((its.listed miss.read.sector).1 bad));
           failed = rw is (λ d e here there honest. failed_at k missed.chunk misses.misses d e here there honest);
+          earlier = rw is (not_failed k misses.earlier);
         }

@@ -12,9 +12,19 @@ use Rattle.md_pass.proofs.OnlyReads.{not_read, read_then}
 use Rattle.md_check.specs.declared.seat.Seat.{Seat}
 use Rattle.md_check.specs.declared.lent.Missed.{Missed}
 use Rattle.md_check.specs.Differences.{DifferIn}
-use Rattle.md_check.specs.Readings.{HasRead, MissesIn}
-use Rattle.md_check.specs.Seats.{AreHonest, AreSeatsRead, IsSeated, OnlySeatRead, SeatShows, in_window, on_device}
+use Rattle.md_check.specs.Readings.{HasRead, IsToRead, MissesIn}
+use Rattle.md_check.specs.Seats.{AreHonest, AreSeatsRead, HaveNotFailed, IsSeated, OnlySeatRead, SeatShows, in_window, on_device}
 use Rattle.md_check.proofs.Differing.{differ_as}
+
+-- a chunk that is to be read in a window is to be read in the array
+read_at_all : {chunks : Chunks} {from sectors c : ℕ} (old first : List Run) → old ≡ first → IsToRead chunks old from sectors c → IsToRead chunks first 0 chunks.size c
+read_at_all old first same to = record {
+  sector = to.sector;
+  not_before = omega arith;
+  before = let within = to.inside.within in omega arith;
+  inside = to.inside;
+  unlisted = subst (λ (runs : List Run). IsBad runs to.sector → ⊥) same to.unlisted;
+}
 
 module _ {D : Type 0} {g : Ghosts D} where
   role_kept : (old new : Seat D) → OnlySeatRead g old new → new.role ≡ old.role
@@ -30,10 +40,11 @@ module _ {D : Type 0} {g : Ghosts D} where
   seat_then a b c first second = record {
     kept = second.kept ∙ ap (λ (s : Seat D). record s { device = c.device; bytes = c.bytes; missed = c.missed }) first.kept;
     only_read = read_then first.only_read second.only_read;
+    unused = λ none. second.unused (ap is_some (role_kept a b first) ∙ none) ∙ first.unused none;
   }
 
   pub none_read : (seats : List (Seat D)) → AreSeatsRead g seats seats
-  none_read seats = record { as_many = refl; each = λ k d below. record { kept = refl; only_read = not_read (get_or seats k d).device } }
+  none_read seats = record { as_many = refl; each = λ k d below. record { kept = refl; only_read = not_read (get_or seats k d).device; unused = λ _. refl } }
 
   -- seats that were read, and in a turn again
   pub turn_read : {chunks : Chunks} {from sectors : ℕ} (firsts olds news : List (Seat D)) → AreSeatsRead g firsts olds → length news ≡ length olds
@@ -42,6 +53,12 @@ module _ {D : Type 0} {g : Ghosts D} where
     as_many = same ∙ so_far.as_many;
     each = λ k d below. seat_then (get_or firsts k d) (get_or olds k d) (get_or news k d) (so_far.each k d below) (has k d (let many = so_far.as_many in omega arith)).read;
   }
+
+  -- where no call has failed, nor in a turn of which these workers note nothing
+  pub turn_unfailing : {chunks : Chunks} {from sectors : ℕ} (n : ℕ) (firsts olds news : List (Seat D)) → n ≤ length olds
+      → ((k : ℕ) (d : Seat D) → k < length olds → HasRead g chunks from sectors (get_or olds k d) (get_or news k d)) → ((k : ℕ) (d : Seat D) → k < n → (get_or news k d).missed ≡ None)
+      → HaveNotFailed g n firsts olds → HaveNotFailed g n firsts news
+  turn_unfailing n firsts olds news few has none so_far k d below = (has k d (omega arith)).unfailing (none k d below) ∙ so_far k d below
 
   -- what a seat is still to be read for
   pub seated_still : (chunks : Chunks) (firsts olds : List (Seat D)) → AreSeatsRead g firsts olds → All (IsSeated g chunks) firsts → All (IsSeated g chunks) olds
@@ -53,10 +70,11 @@ module _ {D : Type 0} {g : Ghosts D} where
       rw (one.only_read.content_kept, offset_kept first old one) room
 
   -- the seat whose worker missed a chunk in a turn
-  pub misses_in : {chunks : Chunks} {from sectors : ℕ} (firsts olds news : List (Seat D)) (missed : Missed) → AreSeatsRead g firsts olds → length news ≡ length olds
+  pub misses_in : {chunks : Chunks} {from sectors : ℕ} (firsts olds news : List (Seat D)) (missed : Missed) → AreSeatsRead g firsts olds → HaveNotFailed g (length firsts) firsts olds → length news ≡ length olds
       → ((k : ℕ) (d : Seat D) → k < length olds → HasRead g chunks from sectors (get_or olds k d) (get_or news k d))
-      → missed.member < length news → ((d : Seat D) → (get_or news missed.member d).missed ≡ Option.Some missed.chunk) → MissesIn g chunks firsts news missed
-  misses_in firsts olds news missed so_far same has within noted =
+      → missed.member < length news → ((d : Seat D) → (get_or news missed.member d).missed ≡ Option.Some missed.chunk)
+      → ((k : ℕ) (d : Seat D) → k < missed.member → (get_or news k d).missed ≡ None) → MissesIn g chunks firsts news missed
+  misses_in firsts olds news missed so_far unfailing same has within noted first_noted =
       let k = missed.member in
       let many = so_far.as_many in
       let here : k < length olds = omega arith in
@@ -68,9 +86,10 @@ module _ {D : Type 0} {g : Ghosts D} where
             let m = (has k d here).missed missed.chunk (noted d) in
             record {
               reads = ap is_some (sym (role_kept (get_or firsts k d) (get_or olds k d) one)) ∙ m.reads;
-              chunk = m.chunk;
+              read = read_at_all (get_or olds k d).listed (get_or firsts k d).listed (listed_kept (get_or firsts k d) (get_or olds k d) one) m.read;
               fails = λ honest. let up = m.fails (one.only_read.honest_kept ∙ honest) in let before = one.only_read.counted in omega arith;
             };
+        earlier = turn_unfailing k firsts olds news (omega arith) has first_noted (λ j d below. unfailing j d (omega arith));
       }
 
   -- in a window that all have read, a buffer shows what the device shows

@@ -1,11 +1,14 @@
 -- The members of a mirror are compared: what comes of it, and why it is refused.
-use Rattle.std.specs.Prelude.{◌≡◌, ℕ, ◌<◌, ◌↔◌, true}
+use Rattle.std.specs.Prelude.{◌≡◌, ℕ, ◌+◌, ◌<◌, ◌↔◌, true, false, slice_get}
 use Rattle.md_bitmap.specs.Marks.{Bitmap, is_set}
-use Rattle.md_collect.specs.Places.{IsChunk}
+use Rattle.md_bitmap.specs.Chunks.{InChunk}
+use Rattle.md_badblocks.specs.Runs.{IsBad}
+use Rattle.md_assembly.specs.States.{is_in_sync}
 use Rattle.md_kept_members.specs.View.{MemberView}
+use Rattle.md_state.specs.DeviceChanges.{EachPair}
 use Rattle.md_state.specs.DiskWrites.{AtDevice}
 use Rattle.md_state.specs.MakingClean.{HasInFlight, IsIdle}
-use Rattle.md_state.specs.Members.{IsInSync}
+use Rattle.md_state.specs.Members.{IsAlone, IsInSync, IsMember}
 use Rattle.md_state.specs.Rests.{Rests}
 use Rattle.md_state.specs.Trying.{Refuses, RefusesHalted}
 use Rattle.md_state.specs.View.{MirrorView}
@@ -14,26 +17,40 @@ use Rattle.md_check.specs.declared.fault.CheckFault.{CheckFault}
 use Rattle.md_check.specs.declared.fault.CheckFault.TheVariants.{Halted, InFlight, NoMemory, ReadFault}
 use Rattle.md_check.specs.Mismatches.{CountsMismatches, Mismatches}
 
--- The count is that of the mirror before. Nothing was written, and nothing was in flight.
+-- Of members that are not in sync no device was used, and none at all where one member is in sync.
+pub record UsesInSync (old new : MirrorView) : Type 0 where
+  pub others : (k : ℕ) (m : MemberView) → IsMember old.array k m → is_in_sync m.state ≡ false → slice_get new.disks k ≡ slice_get old.disks k
+  pub alone : IsAlone old.array → new ≡ old
+
+-- The count is that of the mirror before. Nothing was written, nothing was in flight, and no read failed.
 pub record Checks (old new : MirrorView) (count : ℕ) : Type 0 where
   pub idle : IsIdle old.array
   pub rests : Rests old new
+  pub uses : UsesInSync old new
+  pub unfailing : EachPair (λ _ d e. e.failures ≡ d.failures) old.disks new.disks
   pub counts : AreHonest old.disks → CountsMismatches old.disks old.array count
 
 -- the marks, of which there were none, are the chunks in which members in sync differ
 pub record MarksMembers (before after : Bitmap) (old new : MirrorView) : Type 0 where
   pub chunks : after.chunks ≡ before.chunks
   pub rests : Rests old new
+  pub uses : UsesInSync old new
+  pub unfailing : EachPair (λ _ d e. e.failures ≡ d.failures) old.disks new.disks
   pub bits : AreHonest old.disks → (c : ℕ) → (is_set after.bytes c ≡ true) ↔ Mismatches old.disks old.array c
 
--- member j is in sync, and its device counts one failure more or several: a chunk of it could not be read
+-- Member j is in sync, and the first whose device counts one failure more or several: it could not be read in a chunk of which it
+-- does not list each sector.
 pub record FailsChecking (old new : MirrorView) (j c : ℕ) : Type 0 where
   pub idle : IsIdle old.array
   pub rests : Rests old new
+  pub uses : UsesInSync old new
   pub member : MemberView
   pub in_sync : IsInSync old.array j member
-  pub chunk : IsChunk old.array.chunks c
+  pub sector : ℕ
+  pub inside : InChunk old.array.chunks.sectors old.array.chunks.size c sector
+  pub unlisted : IsBad member.bad (member.superblock.data_offset + sector) → ⊥
   pub failed : AtDevice j old.disks new.disks (λ d e. d.honest ≡ true → d.failures < e.failures)
+  pub earlier : EachPair (λ k d e. k < j → e.failures ≡ d.failures) old.disks new.disks
 
 abbrev pub RefusesCheck : MirrorView → MirrorView → CheckFault → Type 0
 RefusesCheck old new Halted = RefusesHalted old new

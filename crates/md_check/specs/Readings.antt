@@ -1,26 +1,34 @@
 -- What a worker reads of its seat's member.
-use Rattle.std.specs.Prelude.{◌≡◌, ℕ, ◌+◌, ◌*◌, ◌<◌, true, is_some, List, length, slice_index_or, Some, None}
+use Rattle.std.specs.Prelude.{◌≡◌, ℕ, ◌+◌, ◌*◌, ◌<◌, ◌≤◌, true, is_some, List, length, slice_index_or, Some, None}
 use Rattle.md_device.specs.Device.{held}
 use Rattle.md_device.specs.declared.device.Device.{Ghosts}
 use Rattle.md_bitmap.specs.declared.chunks.Chunks.{Chunks}
+use Rattle.md_bitmap.specs.Chunks.{InChunk}
 use Rattle.md_badblocks.specs.declared.run.Run.{Run}
 use Rattle.md_badblocks.specs.Runs.{IsBad}
-use Rattle.md_collect.specs.Places.{IsChunk}
 use Rattle.md_collect.specs.Reading.{Fails}
 use Rattle.md_check.specs.declared.seat.Seat.{Seat}
 use Rattle.md_check.specs.declared.lent.Missed.{Missed}
-use Rattle.md_check.specs.Seats.{OnlySeatRead}
+use Rattle.md_check.specs.Seats.{HasNotFailed, HaveNotFailed, OnlySeatRead}
 
 -- In each of n sectors of the array from this one on that is not listed, the bytes are those of a member whose data start at this
 -- sector of its device.
 abbrev pub HasUnlisted : List ℕ → ℕ → List Run → ℕ → ℕ → List ℕ → Type 0
 HasUnlisted content offset listed sector n bytes = (i : ℕ) → i < n → (IsBad listed (sector + i) → ⊥) → held bytes i 512 ≡ held content (offset + (sector + i)) 512
 
+-- the chunk has one of n sectors from this one on that is not listed
+pub record IsToRead (chunks : Chunks) (listed : List Run) (from n c : ℕ) : Type 0 where
+  pub sector : ℕ
+  pub not_before : from ≤ sector
+  pub before : sector < from + n
+  pub inside : InChunk chunks.sectors chunks.size c sector
+  pub unlisted : IsBad listed sector → ⊥
+
 module _ {D : Type 0} (g : Ghosts D) where
-  -- the member is read, and a chunk of it could not be
-  pub record MissesChunk (chunks : Chunks) (old new : Seat D) (c : ℕ) : Type 0 where
+  -- the member is read, and could not be in a chunk that has one of these n sectors, which it does not list
+  pub record MissesChunk (chunks : Chunks) (from n : ℕ) (old new : Seat D) (c : ℕ) : Type 0 where
     pub reads : is_some old.role ≡ true
-    pub chunk : IsChunk chunks c
+    pub read : IsToRead chunks old.listed from n c
     pub fails : Fails g old.device new.device
 
   -- a seat before and after its worker read a window: this many sectors from this one on
@@ -29,9 +37,11 @@ module _ {D : Type 0} (g : Ghosts D) where
     pub size : length new.bytes.items ≡ 512 * sectors
     pub gave : new.missed ≡ None → is_some old.role ≡ true → g.honest old.device ≡ true
         → HasUnlisted (g.content old.device) old.offset old.listed from sectors new.bytes.items
-    pub missed : (c : ℕ) → new.missed ≡ Some c → MissesChunk chunks old new c
+    pub missed : (c : ℕ) → new.missed ≡ Some c → MissesChunk chunks from sectors old new c
+    pub unfailing : new.missed ≡ None → HasNotFailed g old new
 
-  -- this is so of the seat that is named
+  -- this is so of the seat that is named, and of none before it
   pub record MissesIn (chunks : Chunks) (olds news : List (Seat D)) (missed : Missed) : Type 0 where
     pub within : missed.member < length olds
-    pub misses : (d : Seat D) → MissesChunk chunks (slice_index_or olds missed.member d) (slice_index_or news missed.member d) missed.chunk
+    pub misses : (d : Seat D) → MissesChunk chunks 0 chunks.size (slice_index_or olds missed.member d) (slice_index_or news missed.member d) missed.chunk
+    pub earlier : HaveNotFailed g missed.member olds news

@@ -1,5 +1,5 @@
 -- Seats: a member's device each, with what is read of it in a window.
-use Rattle.std.specs.Prelude.{◌≡◌, ℕ, ◌+◌, ◌-◌, ◌<◌, true, is_some, List, length, slice_get, slice_index_or, Some}
+use Rattle.std.specs.Prelude.{◌≡◌, ℕ, ◌+◌, ◌-◌, ◌<◌, true, false, is_some, List, length, slice_get, slice_index_or, Some}
 use Rattle.md_device.specs.Device.{held}
 use Rattle.md_device.specs.declared.device.Device.{Ghosts}
 use Rattle.md_bitmap.specs.declared.chunks.Chunks.{Chunks}
@@ -34,10 +34,19 @@ module _ {D : Type 0} (g : Ghosts D) where
   abbrev pub AreHonest : List (Seat D) → Type 0
   AreHonest seats = (k : ℕ) (d : Seat D) → k < length seats → g.honest (slice_index_or seats k d).device ≡ true
 
-  -- a seat before and after its device was read, or not used
+  -- a seat before and after its device was read; that of a member that is not in sync was not used
   pub record OnlySeatRead (old new : Seat D) : Type 0 where
     pub kept : new ≡ record old { device = new.device; bytes = new.bytes; missed = new.missed }
     pub only_read : OnlyRead g old.device new.device
+    pub unused : is_some old.role ≡ false → new.device ≡ old.device
+
+  -- no call on a device has failed
+  abbrev pub HasNotFailed : Seat D → Seat D → Type 0
+  HasNotFailed old new = g.failures new.device ≡ g.failures old.device
+
+  -- nor on any of the first n
+  abbrev pub HaveNotFailed : ℕ → List (Seat D) → List (Seat D) → Type 0
+  HaveNotFailed n olds news = (k : ℕ) (d : Seat D) → k < n → HasNotFailed (slice_index_or olds k d) (slice_index_or news k d)
 
   pub record AreSeatsRead (olds news : List (Seat D)) : Type 0 where
     pub as_many : length news ≡ length olds

@@ -26,7 +26,8 @@ use std::thread::Threads;
 ///
 /// Each member in sync is read by a worker of its own, about 1 MiB at a time and each chunk by itself; the
 /// gate is called round each read, `source` being the member's role. All memory is taken before a device
-/// is used. Nothing is written.
+/// is used. Nothing is written. The first window in which a read fails ends the check: the error names the
+/// first member that could not be read there, and the chunk.
 pub fn check_array<D: Device + Drop + Send, G: Gate + Sync, R: Threads + Sync>(
     rt: &R,
     alloc: Global,
@@ -52,7 +53,8 @@ pub fn check_array<D: Device + Drop + Send, G: Gate + Sync, R: Threads + Sync>(
 
 // Whether two members are in sync.
 fn has_two_in_sync<D: Device + Drop>(mirror: &Mirror<D>) -> bool
-    ensures { result ≡ false → IsAlone mirror.now.array }
+    ensures one { result ≡ false → IsAlone mirror.now.array }
+    ensures two { result ≡ true → IsAlone mirror.now.array → ⊥ }
 {
     let mut one = false;
     for k in 0..mirror.members() {
@@ -76,6 +78,7 @@ fn check_members<D: Device + Drop + Send, G: Gate + Sync, R: Threads + Sync>(
 ) -> Result<(), CheckFault>
     requires sound { IsConsistent mirror.old }
     requires idle { IsIdle mirror.old.array }
+    requires two { IsAlone mirror.old.array → ⊥ }
     requires marks { marks.old.chunks ≡ div_ceil mirror.old.array.chunks.size mirror.old.array.chunks.sectors }
     requires none { (c : ℕ) → is_set marks.old.bytes c ≡ false }
     ensures gives { MatchResult result (λ _. MarksMembers marks.old marks.new mirror.old mirror.new) (RefusesCheck mirror.old mirror.new) }

@@ -5,7 +5,7 @@ ghost use Rattle.std.specs.List.{All};
 ghost use Rattle.md_bitmap.specs.Marks.{is_set};
 ghost use Rattle.md_check.specs.Differences.{AreDifferent};
 ghost use Rattle.md_check.specs.Readings.{MissesIn};
-ghost use Rattle.md_check.specs.Seats.{AreHonest, AreSeatsRead, IsSeated, SeatShows, on_device};
+ghost use Rattle.md_check.specs.Seats.{AreHonest, AreSeatsRead, HaveNotFailed, IsSeated, SeatShows, on_device};
 
 use crate::compare::mark_window;
 use crate::seat::Seat;
@@ -41,6 +41,7 @@ pub(crate) fn check_lent<D: Device + Send, G: Gate + Sync, R: Threads + Sync>(
     ensures chunks { marks.new.chunks ≡ marks.old.chunks }
     ensures different { OnOk result (AreHonest D.Device seats.old.items
         → AreDifferent (SeatShows (on_device D.Device) seats.old.items) chunks chunks.size marks.new) }
+    ensures unfailing { OnOk result (HaveNotFailed D.Device (length seats.old.items) seats.old.items seats.new.items) }
     ensures missed { IfErr result (λ missed. MissesIn D.Device chunks seats.old.items seats.new.items missed) }
     ensures read { AreSeatsRead D.Device seats.old.items seats.new.items }
 {
@@ -61,7 +62,8 @@ pub(crate) fn check_lent<D: Device + Send, G: Gate + Sync, R: Threads + Sync>(
 fn first_missed<D>(seats: &[Seat<D>]) -> Option<Missed>
     ensures { MatchOption result
         (All (λ seat. seat.missed ≡ None) seats.now)
-        (λ missed. (missed.member < length seats.now) × ((d : _) → (slice_index_or seats.now missed.member d).missed ≡ Some missed.chunk)) }
+        (λ missed. (missed.member < length seats.now) × ((d : _) → (slice_index_or seats.now missed.member d).missed ≡ Some missed.chunk)
+        × ((k : ℕ) (d : _) → k < missed.member → (slice_index_or seats.now k d).missed ≡ None)) }
 {
     for k in 0..seats.len() {
         if let Some(chunk) = seats[k].missed {

@@ -2,10 +2,10 @@
 ghost use Rattle.std.specs.Prelude.{◌≡◌, ◌+◌, ◌*◌, ◌/◌, ◌%◌, ◌<◌, ◌≤◌, ℕ, IfErr, IfOk, OnErr, OnOk, length, true};
 ghost use Rattle.md_device.specs.Device.{held};
 ghost use Rattle.md_badblocks.specs.Runs.{IsBad};
-ghost use Rattle.md_collect.specs.Places.{HasRoom, IsChunk};
+ghost use Rattle.md_collect.specs.Places.{HasRoom};
 ghost use Rattle.md_collect.specs.Reading.{Fails};
 ghost use Rattle.md_pass.specs.Lanes.{OnlyRead};
-ghost use Rattle.md_check.specs.Readings.{HasRead, HasUnlisted};
+ghost use Rattle.md_check.specs.Readings.{HasRead, HasUnlisted, IsToRead};
 ghost use Rattle.md_check.specs.Seats.{IsSeated};
 
 use crate::seat::Seat;
@@ -65,7 +65,9 @@ fn read_window<D: Device, G: Gate>(
     ensures only_read { OnlyRead D.Device device.old device.new }
     ensures gave { OnOk result (D.honest device.old ≡ true
         → HasUnlisted (D.content device.old) offset listed.now from (length buf.old / 512) buf.new) }
-    ensures missed { IfErr result (λ c. IsChunk chunks c × Fails D.Device device.old device.new) }
+    ensures unfailing { OnOk result (D.failures device.new ≡ D.failures device.old) }
+    ensures missed { IfErr result (λ c. IsToRead chunks listed.now from (length buf.old / 512) c) }
+    ensures failed { OnErr result (Fails D.Device device.old device.new) }
 {
     let mut done = 0;
     while done < buf.len() {
@@ -86,7 +88,7 @@ fn read_window<D: Device, G: Gate>(
 }
 
 // Reads a run of sectors from the first on, of one chunk and none of them listed; or passes over the first,
-// if it is listed. The answer is how many sectors that is.
+// if it is listed. The answer is how many sectors that is; the error, after a read that failed, their chunk.
 fn read_front<D: Device, G: Gate>(
     gate: &G,
     device: &mut D,
@@ -104,7 +106,9 @@ fn read_front<D: Device, G: Gate>(
     ensures passed { IfOk result (λ n. (0 < n) × (n ≤ length buf.old / 512)) }
     ensures gave { IfOk result (λ n. D.honest device.old ≡ true
         → HasUnlisted (D.content device.old) offset listed.now sector n buf.new) }
-    ensures missed { IfErr result (λ c. IsChunk chunks c × Fails D.Device device.old device.new) }
+    ensures unfailing { OnOk result (D.failures device.new ≡ D.failures device.old) }
+    ensures missed { IfErr result (λ c. IsToRead chunks listed.now sector 1 c) }
+    ensures failed { OnErr result (Fails D.Device device.old device.new) }
 {
     let chunk = chunks.chunk_of(sector);
     let (start, sectors) = chunks.range(chunk);
@@ -149,6 +153,7 @@ fn read_run<D: Device>(
     ensures only_read { OnlyRead D.Device device.old device.new }
     ensures gave { OnOk result (D.honest device.old ≡ true
         → buf.new ≡ held (D.content device.old) (offset + sector) (length buf.old)) }
+    ensures unfailing { OnOk result (D.failures device.new ≡ D.failures device.old) }
     ensures failed { OnErr result (Fails D.Device device.old device.new) }
 {
     let _limit = device.sectors();

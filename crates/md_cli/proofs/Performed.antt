@@ -1,9 +1,10 @@
 -- No task wins or loses a device.
 use Rattle.std.proofs.Common.{ℕ, length, Result, Ok, Err, MatchResult, ap}
-use Rattle.md_commands.proofs.DeviceCounts.{AsMany, done_fail, done_resync, done_write, fails_as_many, reads_as_many, resyncs_as_many, stops_as_many, writes_as_many, stopped, read_readied}
+use Rattle.md_commands.proofs.DeviceCounts.{AsMany, checks_as_many, done_check, done_fail, done_resync, done_write, fails_as_many, reads_as_many, resyncs_as_many, stops_as_many, writes_as_many, stopped, read_readied}
 use Rattle.md_commands.proofs.RebuildCounts.{done_rebuild, rebuilds_as_many}
 use Rattle.md_commands.specs.declared.fault.DataFault.{DataFault}
 use Rattle.md_commands.specs.declared.source.Source.{Ghosts as SourceGhosts}
+use Rattle.md_commands.specs.Checking.{RefusesToCheck}
 use Rattle.md_commands.specs.Failing.{RefusesToFail}
 use Rattle.md_commands.specs.Reading.{RefusesToRead}
 use Rattle.md_commands.specs.Rebuilding.{RebuildsArray, RefusesToRebuild}
@@ -40,6 +41,8 @@ module _ {R S : Type 0} (r : SourceGhosts R) (s : SinkGhosts S) (opened left : M
   as_many (task.Read sector count) (Ok v) h = read_readied sector count h.1.bytes opened left h.1.reads
   as_many (task.Read sector count) (Err f) h =
       of_data (RefusesToRead s sector count opened left old.output new.output) f h.1 (reads_as_many s opened left old.output new.output sector count)
+  as_many task.Check (Ok v) h = done_check s opened left old.output new.output h.1
+  as_many task.Check (Err f) h = of_data (RefusesToCheck s opened left old.output new.output) f h.1 (checks_as_many s opened left old.output new.output)
   as_many (task.Write sector) (Ok v) h = done_write sector h.bytes opened left h.done
   as_many (task.Write sector) (Err f) h =
       of_data (RefusesToWrite r s sector opened left old.input new.input old.output new.output) f h (writes_as_many s opened left old.output new.output r sector old.input new.input)

@@ -2,6 +2,7 @@
 use Rattle.std.specs.Prelude.{◌≡◌, Result, MatchResult}
 use Rattle.md_commands.specs.declared.fault.DataFault.{DataFault}
 use Rattle.md_commands.specs.declared.source.Source.{Ghosts as SourceGhosts}
+use Rattle.md_commands.specs.Checking.{ChecksMembers, RefusesToCheck}
 use Rattle.md_commands.specs.Failing.{RefusesToFail}
 use Rattle.md_commands.specs.Reading.{ReadsArray, RefusesToRead}
 use Rattle.md_commands.specs.Resyncing.{RefusesToResync, ResyncsArray}
@@ -15,7 +16,7 @@ use Rattle.md_report.specs.SummaryReport.{summary_text}
 use Rattle.md_state.specs.FailingMembers.{FailsMember}
 use Rattle.md_state.specs.View.{MirrorView}
 use Rattle.md_words.specs.declared.array_task.ArrayTask.{ArrayTask}
-use Rattle.md_words.specs.declared.array_task.ArrayTask.TheVariants.{Summary, Detail, Plan, Read, Write, Resync, Fail, Stop}
+use Rattle.md_words.specs.declared.array_task.ArrayTask.TheVariants.{Summary, Detail, Plan, Read, Check, Write, Resync, Fail, Stop}
 use Rattle.md_advice.specs.declared.fault.CommandFault.{CommandFault}
 use Rattle.md_advice.specs.declared.fault.CommandFault.TheVariants.{Data}
 use Rattle.md_cli.specs.Reports.{ShowsPlan, ShowsText}
@@ -34,6 +35,7 @@ access_of Summary = ChangeOrLook
 access_of Detail = ChangeOrLook
 access_of (Plan k) = ChangeOrLook
 access_of (Read sector count) = ChangeOrLook
+access_of Check = ChangeOrLook
 access_of (Write sector) = Change
 access_of Resync = Change
 access_of (Fail k) = Change
@@ -54,6 +56,9 @@ module _ {R S : Type 0} (r : SourceGhosts R) (s : SinkGhosts S) where
   Performs (Read sector count) opened left old new result =
       (new.input ≡ old.input)
       × MatchResult result (λ _. ReadsArray s sector count opened left old.output new.output) (OfData (RefusesToRead s sector count opened left old.output new.output))
+  Performs Check opened left old new result =
+      (new.input ≡ old.input)
+      × MatchResult result (λ _. ChecksMembers s opened left old.output new.output) (OfData (RefusesToCheck s opened left old.output new.output))
   Performs (Write sector) opened left old new result =
       MatchResult result (λ _. WritesArray r s sector opened left old.input new.input old.output new.output)
       (OfData (RefusesToWrite r s sector opened left old.input new.input old.output new.output))

@@ -10,21 +10,30 @@ use crate::marks_notice::tell_stored_marks;
 use crate::performing::{access_of, perform};
 use md_advice::CommandFault;
 use md_array::Mirror;
-use md_commands::Source;
+use md_commands::{Source, Watch};
 use md_device::Device;
 use md_examine::Sink;
 use md_images::{Images, image_list, put_back, take_images};
 use md_words::ArrayTask;
 use std::alloc::Global;
 use std::io::Write;
+use std::thread::Threads;
 
 /// Opens devices as a mirror and does a task with it. They come back in their order.
-pub(crate) fn perform_on_devices<D: Device + Drop, R: Source, S: Sink>(
+pub(crate) fn perform_on_devices<
+    D: Device + Drop + Send,
+    R: Source,
+    S: Sink,
+    W: Watch + Sync,
+    T: Threads + Sync,
+>(
+    rt: &T,
     alloc: Global,
     task: ArrayTask,
     devices: Vec<D>,
     input: &mut R,
     out: &mut S,
+    watch: &W,
 ) -> (Vec<D>, Result<(), CommandFault>)
     ensures as_many { length result.0.items ≡ length devices.items }
     ensures gives { OpensDevices R.Source S.Sink task (map (disk_of D.Device) devices.items) (map (disk_of D.Device) result.0.items) (streams input.old out.old) (streams input.new out.new) result.1 }
@@ -32,7 +41,7 @@ pub(crate) fn perform_on_devices<D: Device + Drop, R: Source, S: Sink>(
 {
     match Mirror::open(alloc, devices) {
         Ok(mut mirror) => {
-            let done = perform(alloc, task, &mut mirror, input, out);
+            let done = perform(rt, alloc, task, &mut mirror, input, out, watch);
             (mirror.into_devices(), done)
         }
         Err((devices, fault)) => (devices, Err(CommandFault::Open(fault))),
@@ -40,7 +49,15 @@ pub(crate) fn perform_on_devices<D: Device + Drop, R: Source, S: Sink>(
 }
 
 // The same for the images of these names. Where the opening stored marks, `err` is told on which.
-fn perform_and_tell<D: Device + Drop, R: Source, S: Sink, E: Write>(
+fn perform_and_tell<
+    D: Device + Drop + Send,
+    R: Source,
+    S: Sink,
+    E: Write,
+    W: Watch + Sync,
+    T: Threads + Sync,
+>(
+    rt: &T,
     alloc: Global,
     task: ArrayTask,
     devices: Vec<D>,
@@ -48,6 +65,7 @@ fn perform_and_tell<D: Device + Drop, R: Source, S: Sink, E: Write>(
     input: &mut R,
     out: &mut S,
     err: &mut E,
+    watch: &W,
 ) -> (Vec<D>, Result<(), CommandFault>)
     ensures as_many { length result.0.items ≡ length devices.items }
     ensures gives { OpensDevices R.Source S.Sink task (map (disk_of D.Device) devices.items) (map (disk_of D.Device) result.0.items) (streams input.old out.old) (streams input.new out.new) result.1 }
@@ -56,7 +74,7 @@ fn perform_and_tell<D: Device + Drop, R: Source, S: Sink, E: Write>(
     match Mirror::open(alloc, devices) {
         Ok(mut mirror) => {
             tell_stored_marks(&mirror, names, err);
-            let done = perform(alloc, task, &mut mirror, input, out);
+            let done = perform(rt, alloc, task, &mut mirror, input, out, watch);
             (mirror.into_devices(), done)
         }
         Err((devices, fault)) => (devices, Err(CommandFault::Open(fault))),
@@ -65,7 +83,15 @@ fn perform_and_tell<D: Device + Drop, R: Source, S: Sink, E: Write>(
 
 /// Does a task with the array that images make, and puts them back. Where opening it stored marks, `err`
 /// is told on which images.
-pub(crate) fn perform_on_images<I: Images, R: Source, S: Sink, E: Write>(
+pub(crate) fn perform_on_images<
+    I: Images,
+    R: Source,
+    S: Sink,
+    E: Write,
+    W: Watch + Sync,
+    T: Threads + Sync,
+>(
+    rt: &T,
     alloc: Global,
     task: ArrayTask,
     images: &mut I,
@@ -73,6 +99,7 @@ pub(crate) fn perform_on_images<I: Images, R: Source, S: Sink, E: Write>(
     input: &mut R,
     out: &mut S,
     err: &mut E,
+    watch: &W,
 ) -> Result<(), CommandFault>
     ensures gives { UsesImages I.Dev.Device (OpensDevices R.Source S.Sink task) (images.new ≡ images.old) (I.known images.old) (λ n. allows (access_of task) (I.changeable images.old n)) (I.device_at images.old) (I.device_at images.new) (image_list false (map (λ s. s.now) names.now)) (streams input.old out.old) (streams input.new out.new) result }
     ensures flushed { IfOk result (λ _. S.is_flushed out.new) }
@@ -82,7 +109,9 @@ pub(crate) fn perform_on_images<I: Images, R: Source, S: Sink, E: Write>(
     };
     let words = list.as_slice();
     let devices = take_images(alloc, access_of(task), images, words)?;
-    let (devices, result) = perform_and_tell(alloc, task, devices, names, input, out, err);
+    let (devices, result) = perform_and_tell(
+        rt, alloc, task, devices, names, input, out, err, watch,
+    );
     put_back(images, words, devices);
     result
 }

@@ -6,31 +6,46 @@ ghost use Rattle.md_cli.specs.Performing.{Performs, access_of, streams};
 use crate::showing::{show_detail, show_plan, show_summary};
 use md_advice::CommandFault;
 use md_array::Mirror;
-use md_commands::{Source, fail_member, read_array, resync_array, stop_array, write_array};
+use md_commands::{
+    Source, Watch, check_members, fail_member, read_array, resync_array, stop_array, write_array,
+};
 use md_device::{Access, Device};
 use md_examine::Sink;
 use md_words::ArrayTask;
 use std::alloc::Global;
+use std::thread::Threads;
 
 /// How the images of an array are opened for a task.
 pub(crate) fn access_of(task: ArrayTask) -> Access
     ensures { result ≡ access_of task }
 {
     match task {
-        ArrayTask::Summary | ArrayTask::Detail | ArrayTask::Plan(_) | ArrayTask::Read { .. } =>
-            Access::ChangeOrLook,
+        ArrayTask::Summary
+        | ArrayTask::Detail
+        | ArrayTask::Plan(_)
+        | ArrayTask::Read { .. }
+        | ArrayTask::Check => Access::ChangeOrLook,
         ArrayTask::Write { .. } | ArrayTask::Resync | ArrayTask::Fail(_) | ArrayTask::Stop =>
             Access::Change,
     }
 }
 
-/// Does a task with an opened array. The input is read by `Write` alone.
-pub(crate) fn perform<D: Device + Drop, R: Source, S: Sink>(
+/// Does a task with an opened array. The input is read by `Write` alone. `Check` alone starts threads, and
+/// tells `watch` of its reads.
+pub(crate) fn perform<
+    D: Device + Drop + Send,
+    R: Source,
+    S: Sink,
+    W: Watch + Sync,
+    T: Threads + Sync,
+>(
+    rt: &T,
     alloc: Global,
     task: ArrayTask,
     mirror: &mut Mirror<D>,
     input: &mut R,
     out: &mut S,
+    watch: &W,
 ) -> Result<(), CommandFault>
     requires sound { IsConsistent mirror.old }
     ensures performs { Performs R.Source S.Sink task mirror.old mirror.new (streams input.old out.old) (streams input.new out.new) result }
@@ -41,6 +56,7 @@ pub(crate) fn perform<D: Device + Drop, R: Source, S: Sink>(
         ArrayTask::Detail => show_detail(mirror, out),
         ArrayTask::Plan(member) => show_plan(alloc, member, mirror, out),
         ArrayTask::Read { sector, count } => Ok(read_array(alloc, mirror, sector, count, out)?),
+        ArrayTask::Check => Ok(check_members(rt, alloc, mirror, watch, out)?),
         ArrayTask::Write { sector } => Ok(write_array(alloc, mirror, sector, input, out)?),
         ArrayTask::Resync => Ok(resync_array(alloc, mirror, out)?),
         ArrayTask::Fail(member) => Ok(fail_member(mirror, member, out)?),

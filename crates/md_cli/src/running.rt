@@ -35,7 +35,7 @@ use std::thread::Threads;
 /// line of advice after it, where that is asked for, and the line that what an added image held is lost; a
 /// line for each image on which marks were stored; and the parser's text. No clause speaks of what is written to `err`, nor of whether that can be written.
 ///
-/// `watch` is told of a rebuild, by `rebuild` and `re-add`, whose workers `rt` starts.
+/// `watch` is told of a rebuild, by `rebuild` and `re-add`, and of a check, whose workers `rt` starts.
 pub fn run<'a, I: Images, R: Source, S: Sink, E: Write, W: Watch + Sync, T: Threads + Wait + Sync>(
     rt: &T,
     alloc: Global,
@@ -94,7 +94,9 @@ fn act<I: Images, R: Source, S: Sink, E: Write, W: Watch + Sync, T: Threads + Wa
         Action::Examine(report) => examine_images(alloc, report, images, names, out),
         Action::Create(options) => create_array(alloc, options, images, names, out),
         Action::Perform(task, readonly) => {
-            perform_on_array(alloc, task, readonly, images, names, input, out, err)
+            perform_on_array(
+                rt, alloc, task, readonly, images, names, input, out, err, watch,
+            )
         }
         Action::Remove(member) => remove_from_images(alloc, member, images, names, out, err),
         Action::Add(device) => join_images(
@@ -126,7 +128,8 @@ fn act<I: Images, R: Source, S: Sink, E: Write, W: Watch + Sync, T: Threads + Wa
 }
 
 // Does a task with an array.
-fn perform_on_array<I: Images, R: Source, S: Sink, E: Write>(
+fn perform_on_array<I: Images, R: Source, S: Sink, E: Write, W: Watch + Sync, T: Threads + Sync>(
+    rt: &T,
     alloc: Global,
     task: ArrayTask,
     readonly: bool,
@@ -135,14 +138,15 @@ fn perform_on_array<I: Images, R: Source, S: Sink, E: Write>(
     input: &mut R,
     out: &mut S,
     err: &mut E,
+    watch: &W,
 ) -> Result<(), CommandFault>
     ensures gives { PerformsOnArray I.Dev.Device R.Source S.Sink I.known I.device_at I.changeable I.asked task readonly (map (λ s. s.now) names.now) images.old images.new (streams input.old out.old) (streams input.new out.new) result }
     ensures flushed { IfOk result (λ _. S.is_flushed out.new) }
 {
     if readonly {
-        return look_at_images(alloc, task, images, names, input, out);
+        return look_at_images(rt, alloc, task, images, names, input, out, watch);
     }
-    perform_on_images(alloc, task, images, names, input, out, err)
+    perform_on_images(rt, alloc, task, images, names, input, out, err, watch)
 }
 
 // Makes an array. No image is touched before the options are accepted.

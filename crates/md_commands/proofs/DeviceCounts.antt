@@ -28,6 +28,9 @@ use Rattle.md_metadata.specs.declared.stop_fault.StopFault.{StopFault}
 use Rattle.md_metadata.specs.declared.stop_fault.StopFault.TheVariants as stop
 use Rattle.md_metadata.specs.Going.{LeadsBy}
 use Rattle.md_metadata.specs.Stopping.{IsStopping, RefusesStop, Stops}
+use Rattle.md_check.specs.declared.fault.CheckFault.{CheckFault}
+use Rattle.md_check.specs.declared.fault.CheckFault.TheVariants as check
+use Rattle.md_check.specs.Checking.{RefusesCheck}
 use Rattle.md_read.specs.declared.fault.UnreadFault.{UnreadFault}
 use Rattle.md_read.specs.declared.fault.UnreadFault.TheVariants as unread
 use Rattle.md_resync.specs.declared.fault.ResyncFault.{ResyncFault}
@@ -37,9 +40,10 @@ use Rattle.md_write.specs.Progress.{IsOfRequest}
 use Rattle.md_write.specs.Writing.{RefusesWrite, Writes, events_of}
 use Rattle.md_examine.specs.declared.sink.Sink.{Ghosts as SinkGhosts}
 use Rattle.md_commands.specs.declared.fault.DataFault.{DataFault}
-use Rattle.md_commands.specs.declared.fault.DataFault.TheVariants.{BadLength, BadMember, Fail, InputFault, NoMemory, OutOfRange, OutputFault, Read, Remove, Resync, Stop, Write}
+use Rattle.md_commands.specs.declared.fault.DataFault.TheVariants.{BadLength, BadMember, Check, Fail, InputFault, NoMemory, OutOfRange, OutputFault, Read, Remove, Resync, Stop, Write}
 use Rattle.md_commands.specs.declared.source.Source.{Ghosts as SourceGhosts}
 use Rattle.md_commands.specs.Adding.{KeepsDevice}
+use Rattle.md_commands.specs.Checking.{ChecksMembers, RefusesToCheck}
 use Rattle.md_commands.specs.Failing.{RefusesToFail}
 use Rattle.md_commands.specs.Reading.{ReadsWhenReady, RefusesSectorsOf, RefusesToRead}
 use Rattle.md_commands.specs.Removing.{HandsBack, RefusesRemoving}
@@ -231,6 +235,12 @@ not_read_of unread.OutOfRange sector count old new h = refused old new _ h
 not_read_of unread.NotResynced sector count old new h = refused old new _ h
 not_read_of (unread.Unreadable s) sector count old new h = h.fails.refused.1.rests.disks.same.as_many ∙ readied old h.ready h.readied
 
+not_checked : (fault : CheckFault) (old new : MirrorView) → RefusesCheck old new fault → AsMany old new
+not_checked check.Halted old new h = refused old new _ h
+not_checked (check.InFlight n) old new h = refused old new _ h
+not_checked (check.ReadFault j c) old new h = h.rests.disks.same.as_many
+not_checked check.NoMemory old new h = refused old new _ h
+
 wrote_readied : (sector : ℕ) (bytes : List ℕ) (old new : MirrorView) → WritesReadied sector bytes old new → AsMany old new
 wrote_readied sector bytes old new w = wrote sector bytes w.ready new w.writes ∙ readied old w.ready w.readied
 
@@ -252,6 +262,14 @@ module _ {S : Type 0} (s : SinkGhosts S) (old new : MirrorView) (before after : 
   reads_as_many sector count NoMemory h = readied old new h.0.readied
   reads_as_many sector count OutputFault h = read_readied sector count h.bytes old new h.reads
   reads_as_many sector count fault h = absurd h
+
+  pub done_check : ChecksMembers s old new before after → AsMany old new
+  done_check h = h.checks.rests.disks.same.as_many
+
+  pub checks_as_many : (fault : DataFault) → RefusesToCheck s old new before after fault → AsMany old new
+  checks_as_many (Check fault) h = not_checked fault old new h.0
+  checks_as_many OutputFault h = h.checks.rests.disks.same.as_many
+  checks_as_many fault h = absurd h
 
   module _ {I : Type 0} (i : SourceGhosts I) (sector : ℕ) (input rest : I) where
     pub writes_as_many : (fault : DataFault) → RefusesToWrite i s sector old new input rest before after fault → AsMany old new

@@ -1,3 +1,4 @@
+pub mod Checked
 pub mod DeviceCounts
 pub mod ReadReadied
 pub mod RebuildCounts

@@ -61,9 +61,9 @@ not_rebuilt rebuild.Dirty k old new h = same old new h.unchanged
 not_rebuilt (rebuild.InFlight number) k old new h = same old new h.unchanged
 not_rebuilt rebuild.EventsFull k old new h = same old new h.unchanged
 not_rebuilt (rebuild.MetadataFault j) k old new h =
-    ⊎_elim (λ lost. gone_on old new lost.loses.goes) (λ halted. halted_after old new halted.halts) h
+    ⊎_elim (λ lost. gone_on old new lost.loses.goes) (λ at. halts at.failing at.mid new nothing (at.halts nothing) ∙ gone_on old at.mid at.stores.goes) h.why.ends
 not_rebuilt rebuild.TargetFault k old new h =
-    ⊎_elim (λ f. f.fails.disks.tried.as_many ∙ gone_on old f.mid f.stores.goes)
+    ⊎_elim (λ f. f.why.fails.disks.tried.as_many ∙ gone_on old f.why.mid f.why.stores.goes)
     (λ rest. ⊎_elim (λ e. in_pass rebuild.TargetFault k old new e) (λ e. when_filled k old new _ (λ copied orphans mid why. why.disks.as_many) e) rest)
     h
 not_rebuilt rebuild.NoMemory k old new h =

@@ -1,4 +1,4 @@
--- A rebuild leaves each request in flight: it is refused where there is one, but for what it has stored.
+-- A rebuild leaves each request in flight: where there is one it is refused, and does nothing.
 use Rattle.std.proofs.Common.{◌≡◌, ⊎_elim, ℕ, Some, None, Result, Ok, Err, MatchResult, sym, subst}
 use Rattle.md_requests.specs.Pending.{PendingView, extent_of}
 use Rattle.md_state.specs.MakingClean.{IsIdle}
@@ -26,14 +26,14 @@ not_rebuilt rebuild.NotSpare k old new p h is = unchanged old new p h.unchanged 
 not_rebuilt rebuild.Dirty k old new p h is = unchanged old new p h.unchanged is
 not_rebuilt (rebuild.InFlight number) k old new p h is = unchanged old new p h.unchanged is
 not_rebuilt rebuild.EventsFull k old new p h is = unchanged old new p h.unchanged is
-not_rebuilt (rebuild.MetadataFault j) k old new p h is = ⊎_elim (λ lost. lost.loses.goes.pending p is) (λ halted. halted.halts.pending p is) h
+not_rebuilt (rebuild.MetadataFault j) k old new p h is = absurd (none_pending old.array p h.may.idle is)
 not_rebuilt rebuild.TargetFault k old new p h is =
-    ⊎_elim (λ f. subst (λ (a : ArrayView). IsPending a p) (sym f.fails.array) (f.stores.goes.pending p is))
+    ⊎_elim (λ f. absurd (none_pending old.array p f.may.idle is))
     (λ rest.
     ⊎_elim (λ e. absurd (none_pending old.array p e.begins.may.idle is)) (λ e. absurd (none_pending old.array p e.fills.begins.may.idle is)) rest)
     h
 not_rebuilt rebuild.NoMemory k old new p h is =
-    ⊎_elim (λ n. n.first.stores.goes.pending p is)
+    ⊎_elim (λ n. absurd (none_pending old.array p n.may.idle is))
     (λ rest.
     ⊎_elim (λ e. absurd (none_pending old.array p e.begins.may.idle is)) (λ e. absurd (none_pending old.array p e.fills.begins.may.idle is)) rest)
     h

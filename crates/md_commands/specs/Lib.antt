@@ -1,5 +1,7 @@
 -- The command that adds a device.
 pub mod Adding
+-- The command that compares the members in sync.
+pub mod Checking
 -- The command that fails a member.
 pub mod Failing
 -- What callers see of a reader as a source.

@@ -1,6 +1,7 @@
 // Why a command on an opened array is refused.
 use crate::source::SourceFault;
 use md_array::{AddFault, BeginFault, FailFault, ReAddFault, RemoveFault};
+use md_check::CheckFault;
 use md_copy::RebuildFault;
 use md_examine::SinkFault;
 use md_metadata::StopFault;
@@ -46,6 +47,9 @@ pub enum DataFault {
     /// The array is not resynchronised.
     #[error("{0}")]
     Resync(ResyncFault),
+    /// Its members are not compared.
+    #[error("{0}")]
+    Check(CheckFault),
     /// Its sectors are not read.
     #[error("{0}")]
     Read(UnreadFault),
@@ -134,6 +138,17 @@ impl From<ResyncFault> for DataFault {
 
     fn from(fault: ResyncFault) -> DataFault {
         DataFault::Resync(fault)
+    }
+}
+
+impl From<CheckFault> for DataFault {
+    ghost use Rattle.std.specs.Prelude.{◌≡◌};
+    ghost use Rattle.md_commands.specs.declared.fault.DataFault.TheVariants.{Check};
+
+    ghost from_gives = { λ fault e. e ≡ Check fault };
+
+    fn from(fault: CheckFault) -> DataFault {
+        DataFault::Check(fault)
     }
 }
 

@@ -1,9 +1,10 @@
-//! What commands do with an opened array: stop it, read it, write to it, resynchronise it, fail, remove, add,
-//! re-add or rebuild a member. Images, names and words are no matter of this crate: it has a mirror, an input and an output.
+//! What commands do with an opened array: stop it, read it, write to it, compare its members, resynchronise it,
+//! fail, remove, add, re-add or rebuild a member. Images, names and words are no matter of this crate: it has a mirror, an input and an output.
 #![tactic(auto)]
 
 mod adding;
 mod buffer;
+mod checking;
 mod failing;
 mod fault;
 mod input;
@@ -20,6 +21,7 @@ mod watch;
 mod writing;
 
 pub use adding::add_device;
+pub use checking::check_members;
 pub use failing::fail_member;
 pub use fault::DataFault;
 pub use md_copy::Gate;

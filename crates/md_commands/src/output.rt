@@ -1,5 +1,6 @@
 // What a command puts out.
 ghost use Rattle.std.specs.Prelude.{MatchResult, length};
+ghost use Rattle.md_report.specs.CheckReport.{check_text};
 ghost use Rattle.md_report.specs.RebuiltReport.{rebuilt_text};
 ghost use Rattle.md_report.specs.SummaryReport.{summary_text};
 ghost use Rattle.md_commands.specs.Output.{FailsOutput, PutsOut};
@@ -9,7 +10,7 @@ use md_array::Mirror;
 use md_copy::Rebuilt;
 use md_device::Device;
 use md_examine::Sink;
-use md_report::{rebuilt_report, summary};
+use md_report::{check_report, rebuilt_report, summary};
 
 /// Puts out these bytes, and passes on what the output holds back.
 pub(crate) fn put_out<S: Sink>(out: &mut S, bytes: &[u8]) -> Result<(), DataFault>
@@ -42,6 +43,15 @@ pub(crate) fn put_rebuilt<S: Sink>(
 {
     let plans = rebuilt.plans.as_slice();
     rebuilt_report(out, member, rebuilt.passes, plans, rebuilt.orphans.len())?;
+    out.flush()?;
+    Ok(())
+}
+
+/// Puts out in how many chunks members in sync differ.
+pub(crate) fn put_checked<S: Sink>(mismatched: u32, out: &mut S) -> Result<(), DataFault>
+    ensures { MatchResult result (λ _. PutsOut S.Sink out.old out.new (check_text mismatched)) (FailsOutput S.Sink out.new) }
+{
+    check_report(out, mismatched)?;
     out.flush()?;
     Ok(())
 }

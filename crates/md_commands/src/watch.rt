@@ -1,8 +1,14 @@
-// What is told of a rebuild.
+// What is told of a rebuild and of a check.
 use md_copy::Gate;
 
-/// Is told of a rebuild, so that its progress can be shown: what it has to do, and as a gate of each read.
+/// Is told of a rebuild, or of a check, so that its progress can be shown: what it has to do, and as a gate of
+/// each read.
 pub trait Watch: Gate {
-    /// The member lacks so many chunks. Not each of them need be read: some may be on no other member.
+    /// The member that is rebuilt lacks so many chunks. Not each of them need be read: some may be on no other
+    /// member.
     fn begins(&self, chunks: u32);
+
+    /// The members in sync that are compared have so many sectors of the array in all. Not each of them need be
+    /// read: some may be listed as bad, and a single member is not read.
+    fn begins_check(&self, sectors: u64);
 }

@@ -3,6 +3,7 @@ use Rattle.std.proofs.Common.{ℕ, refl, sym, subst, inl, inr}
 use Rattle.md_kept_members.specs.View.{MemberView}
 use Rattle.md_state.specs.Members.{IsMember}
 use Rattle.md_state.specs.View.{MirrorView}
+use Rattle.md_array.specs.Consistency.{IsConsistent}
 use Rattle.md_array.specs.Enrolling.{Enrols}
 use Rattle.md_copy.specs.declared.fault.RebuildFault.{RebuildFault}
 use Rattle.md_copy.specs.declared.fault.RebuildFault.TheVariants.{Halted, NotSpare, Dirty, InFlight, LogFull, NoMemory, TargetFault, MetadataFault, EventsFull, SourceFault}
@@ -29,17 +30,18 @@ refused_at_once target v m at EventsFull h = record { unchanged = refl; member =
 refused_at_once target v m at (SourceFault k chunk) h = absurd h
 
 -- ---- by what is stored first
-pub refused_storing : (target : ℕ) (old new : MirrorView) (fault : RebuildFault) → StoringStops target old new fault → RefusesRebuild target old new fault
-refused_storing target old new Halted h = absurd h
-refused_storing target old new NotSpare h = absurd h
-refused_storing target old new Dirty h = absurd h
-refused_storing target old new (InFlight n) h = absurd h
-refused_storing target old new (LogFull k) h = absurd h
-refused_storing target old new NoMemory h = absurd h
-refused_storing target old new TargetFault h = inl h
-refused_storing target old new (MetadataFault k) h = h
-refused_storing target old new EventsFull h = absurd h
-refused_storing target old new (SourceFault k chunk) h = absurd h
+pub refused_storing : (target : ℕ) (old new : MirrorView) (member : MemberView) → IsMember old.array target member → MayRebuild old.array member → (fault : RebuildFault) → StoringStops target old new fault
+    → RefusesRebuild target old new fault
+refused_storing target old new member at may Halted h = absurd h
+refused_storing target old new member at may NotSpare h = absurd h
+refused_storing target old new member at may Dirty h = absurd h
+refused_storing target old new member at may (InFlight n) h = absurd h
+refused_storing target old new member at may (LogFull k) h = absurd h
+refused_storing target old new member at may NoMemory h = absurd h
+refused_storing target old new member at may TargetFault h = inl (record { member = member; at = at; may = may; why = h })
+refused_storing target old new member at may (MetadataFault k) h = record { member = member; at = at; may = may; why = h }
+refused_storing target old new member at may EventsFull h = absurd h
+refused_storing target old new member at may (SourceFault k chunk) h = absurd h
 
 module _ (target : ℕ) (old stored : MirrorView) (may : (m : MemberView) → IsMember old.array target m → MayRebuild old.array m) (first : StoresFirst old stored) (member : MemberView) (at : IsMember old.array target member) where
   -- ---- for want of memory
@@ -69,26 +71,26 @@ module _ (target : ℕ) (old stored : MirrorView) (may : (m : MemberView) → Is
     refused_filling new EventsFull h = absurd (h p).why
     refused_filling new (SourceFault k chunk) h = record { planned = p.planned; stored = stored; begins = begins target old stored may first member at before before p; fails = h p }
 
-    module _ (after : Pass) (filled : MirrorView) (f : FillsPass target before after stored filled) where
+    module _ (after : Pass) (filled : MirrorView) (f : FillsPass target before after stored filled) (sound : IsConsistent filled) where
       -- ---- at its coming into sync
       pub refused_filled : (new : MirrorView) (fault : RebuildFault) → RefusesFilled target after.copied after.orphans filled new fault → RefusesRebuild target old new fault
       refused_filled new Halted h = absurd h
       refused_filled new NotSpare h = absurd h
       refused_filled new Dirty h = absurd h
       refused_filled new (InFlight n) h = absurd h
-      refused_filled new (LogFull k) h = (h.0, record { planned = p.planned; copied = after.copied; orphans = after.orphans; filled = filled; fills = fills_by target old stored may first member at before after p filled f; why = h.1 })
-      refused_filled new NoMemory h = inr (inr (record { planned = p.planned; copied = after.copied; orphans = after.orphans; filled = filled; fills = fills_by target old stored may first member at before after p filled f; why = h }))
-      refused_filled new TargetFault h = inr (inr (record { planned = p.planned; copied = after.copied; orphans = after.orphans; filled = filled; fills = fills_by target old stored may first member at before after p filled f; why = h }))
+      refused_filled new (LogFull k) h = (h.0, record { planned = p.planned; copied = after.copied; orphans = after.orphans; filled = filled; fills = fills_by target old stored may first member at before after p filled f sound; why = h.1 })
+      refused_filled new NoMemory h = inr (inr (record { planned = p.planned; copied = after.copied; orphans = after.orphans; filled = filled; fills = fills_by target old stored may first member at before after p filled f sound; why = h }))
+      refused_filled new TargetFault h = inr (inr (record { planned = p.planned; copied = after.copied; orphans = after.orphans; filled = filled; fills = fills_by target old stored may first member at before after p filled f sound; why = h }))
       refused_filled new (MetadataFault k) h = absurd h
       refused_filled new EventsFull h = absurd h
       refused_filled new (SourceFault k chunk) h = absurd h
 
       -- ---- to its end
-      pub rebuilds : (enrolled new : MirrorView) → Enrols target after.copied after.orphans filled enrolled → Settles enrolled new → Rebuilds target after.told old new
-      rebuilds enrolled new enrols settles = record {
+      pub rebuilds : (enrolled new : MirrorView) → Enrols target after.copied after.orphans filled enrolled → IsConsistent enrolled → Settles enrolled new → Rebuilds target after.told old new
+      rebuilds enrolled new enrols enrolled_sound settles = record {
         planned = p.planned;
         tells = subst (λ (x : Pass). Tells p.planned x.told) (sym f.kept) p.tells;
         copied = after.copied;
         orphans = after.orphans;
-        by = record { filled = filled; fills = fills_by target old stored may first member at before after p filled f; enrolled = enrolled; enrols = enrols; settles = settles };
+        by = record { filled = filled; fills = fills_by target old stored may first member at before after p filled f sound; enrolled = enrolled; enrols = enrols; sound = enrolled_sound; settles = settles };
       }

@@ -1,7 +1,7 @@
 -- A pass over devices, as it is seen of the mirror that has lent them.
 use Rattle.std.proofs.Common.{◌≡◌, ◌≢◌, ◌∙◌, ℕ, ◌<◌, true, List, length, map, remove, get_or, slice_get, slice_index_or, Some, All, sym, ap, subst, arith}
 use Rattle.std.proofs.lemmas.List.{length-map}
-use Rattle.std.proofs.lemmas.Option.{get_or_from_slice_get, slice_get-get_or, slice_get_within}
+use Rattle.std.proofs.lemmas.Option.{get_or_from_slice_get, same_Some, slice_get-get_or, slice_get_within}
 use Rattle.md_assembly.specs.States.{is_in_sync_as}
 use Rattle.md_bitmap.specs.declared.chunks.Chunks.{Chunks}
 use Rattle.md_cert.specs.declared.slots.Slot.{Slot}
@@ -108,13 +108,14 @@ module _ {D : Type 0} (g : Ghosts D) where
             other = by.is.other;
             role = subst (λ r. is_in_sync_as r by.member.state ≡ true) by.role by.is.in_sync;
             serves = by.serves;
-            same = λ honest from to at_from at_to.
+            same = λ was from to at_was at_from at_to was_honest from_honest.
                 (let x = mapped_from (disk_of g) olds by.at from (ap (λ xs. slice_get xs by.at) (sym v_is) ∙ at_from) in
                 let y = mapped_from (disk_of g) news target to (ap (λ xs. slice_get xs target) (sym w_is) ∙ at_to) in
                 let t = get_or olds target x.from in
                 let at_t = slice_get-get_or olds target x.from within in
-                let t_honest : g.honest t ≡ true = honest target (disk_of g t) (ap (λ xs. slice_get xs target) v_is ∙ mapped_at (disk_of g) olds target t at_t) in
-                let x_honest : g.honest x.from ≡ true = honest by.at (disk_of g x.from) (ap (λ xs. slice_get xs by.at) v_is ∙ mapped_at (disk_of g) olds by.at x.from x.at) in
+                let was_is : disk_of g t ≡ was = same_Some (disk_of g t) was (sym (ap (λ xs. slice_get xs target) v_is ∙ mapped_at (disk_of g) olds target t at_t) ∙ at_was) in
+                let t_honest : g.honest t ≡ true = ap (λ (z : Disk). z.honest) was_is ∙ was_honest in
+                let x_honest : g.honest x.from ≡ true = ap (λ (z : Disk). z.honest) x.is ∙ from_honest in
                 let place : get_or (remove olds target) s.place x.from ≡ x.from = ap (λ n. get_or (remove olds target) n x.from) by.is.place ∙ beside_old by.at x.from by.is.other x.at x.from in
                 let role : (get_or sources found.0 s).role ≡ slot.source = ap (λ (z : Source). z.role) found.3 ∙ by.role in
                 let holds = copied x.from k d below found.0 s found.2 role in

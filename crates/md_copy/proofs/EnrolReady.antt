@@ -127,7 +127,9 @@ module _ (target : ℕ) (m : MemberView) (slots : List Slot) (v w : MirrorView) 
       let j = one.at in
       let from = device_of sound j one.member one.serves.in_sync e in
       let to = is_there j from.0 from.1 in
-      let same = one.same (honest_before honest) from.0 e from.1 at_e in
+      let was = was_there target e at_e in
+      let before = honest_before honest in
+      let same = one.same was.0 from.0 e was.1 from.1 at_e (before target was.0 was.1) (before j from.0 from.1) in
       let sector = same_sector e.content from.0.content m.superblock.data_offset one.member.superblock.data_offset v.array.chunks c s (subst (λ x. chunk_on e.content m.superblock.data_offset v.array.chunks x ≡ chunk_on from.0.content one.member.superblock.data_offset v.array.chunks x) chunk_is same) inside_v in
       let kept = (f.others j from.0 to.0 one.other from.1 to.1).content_kept in
       let in_sync : IsInSync w.array j one.member = subst (λ (a : ArrayView). IsInSync a j one.member) (sym a_is) one.serves.in_sync in

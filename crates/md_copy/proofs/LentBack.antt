@@ -49,6 +49,15 @@ either_way false in_sync marked out = ap not out
 pub missing_same : (a : ArrayView) (m : MemberView) (c : ℕ) → is_rebuilt m.state ≡ true → state.is_missing a m c ≡ is_missing a m c
 missing_same a m c is = either_way m.re_added (is_in_sync m.state) (is_set a.marks.bytes c) (rebuilt_out m.state is)
 
+-- a chunk of a plan is one that the member lacks
+pub planned_missing : (v : MirrorView) (sound : IsConsistent v) (member : MemberView) (rebuilt : is_rebuilt member.state ≡ true) (plan : Plan) (is_plan : IsPlanOf v.array member plan)
+    → (c : ℕ) → has_chunk plan.slots c ≡ true → (c < v.array.marks.chunks) × (state.is_missing v.array member c ≡ true)
+planned_missing v sound member rebuilt plan is_plan c planned =
+    let given = planned_given v.array member plan is_plan c planned in
+    let under = given.lacks.low in
+    let count = sound.chunks.count in
+    (omega (arith, under, count), missing_same v.array member c rebuilt ∙ given.lacks.missing)
+
 -- ---- one device
 comes_target : (a : ArrayView) (m : MemberView) (slots : List Slot) (d e : Disk) → is_rebuilt m.state ≡ true
     → ((c : ℕ) → has_chunk slots c ≡ true → (c < a.marks.chunks) × (state.is_missing a m c ≡ true))
@@ -72,13 +81,6 @@ module _ {D : Type 0} (g : Ghosts D) (v : MirrorView) (sound : IsConsistent v) (
     (is_plan : IsPlanOf v.array member plan) (olds news : List D) (v_is : v.disks ≡ seen g olds) (as_many : length news ≡ length olds) where
   pub within : target < length olds
   within = let fits = sound.fits.as_many in let many = ap length v_is in let mapped = length-map olds (disk_of g) in omega (arith, low, fits, many, mapped)
-
-  lacks : (c : ℕ) → has_chunk plan.slots c ≡ true → (c < v.array.marks.chunks) × (state.is_missing v.array member c ≡ true)
-  lacks c planned =
-      let given = planned_given v.array member plan is_plan c planned in
-      let under = given.lacks.low in
-      let count = sound.chunks.count in
-      (omega (arith, under, count), missing_same v.array member c rebuilt ∙ given.lacks.missing)
 
   pub are_planned : ArePlanned v.array.chunks plan.slots
   are_planned = record {
@@ -112,7 +114,7 @@ module _ {D : Type 0} (g : Ghosts D) (v : MirrorView) (sound : IsConsistent v) (
                   | inl here ↦
                       let is : member ≡ m = same_Some member m (sym at ∙ ap (slice_get v.array.members) (sym here) ∙ at_m) in
                       let one = f.on_target d e (ap (slice_get v.disks) (sym here) ∙ at_d) (ap (slice_get (seen g news)) (sym here) ∙ at_e) in
-                      subst (λ (x : MemberView). ComesBack v.array x d e) is (comes_target v.array member plan.slots d e rebuilt lacks one)
+                      subst (λ (x : MemberView). ComesBack v.array x d e) is (comes_target v.array member plan.slots d e rebuilt (planned_missing v sound member rebuilt plan is_plan) one)
                   | inr other ↦ comes_other v.array m d e (f.others k d e other at_d at_e)
                 ];
           };
@@ -120,7 +122,7 @@ module _ {D : Type 0} (g : Ghosts D) (v : MirrorView) (sound : IsConsistent v) (
 
   -- a source failed
   pub fails_in_role : (w : MirrorView) → w.disks ≡ seen g news → (sources : List Source) (role chunk : ℕ) → AreSources v target plan.slots sources
-      → FailsToGive g plan.slots sources (remove olds target) (remove news target) role chunk → FailsInRole target role chunk v w
+      → FailsToGive g plan.slots sources (remove olds target) (remove news target) role chunk → FailsInRole target plan.slots role chunk v w
   fails_in_role w w_is sources role chunk are fails =
       let hit = Any-from_list_any (λ (slot : Slot). slot.chunk == chunk && slot.source == role) plan.slots fails.planned in
       let tests = and_parts (hit.1.chunk == chunk) (hit.1.source == role) hit.4 in
@@ -133,13 +135,13 @@ module _ {D : Type 0} (g : Ghosts D) (v : MirrorView) (sound : IsConsistent v) (
       let source = subst (IsSource v target) found.3 (are.each found.0 found.1 found.2) in
       let by : IsServedBy v target slot s = served_by v sound target low slot s source (found.4.0 ∙ sym source_is) may.permitted in
       record {
+        planned = fails.planned;
         at = by.at;
         member = by.member;
         other = by.is.other;
         in_role = subst (λ r. is_in_sync_as r by.member.state ≡ true) found.4.0 by.is.in_sync;
         serves = subst (λ c. Serves v.array by.at by.member c) chunk_is by.serves;
-        failed = λ honest d e at_d at_e.
+        failed = λ d e at_d at_e.
             (let failing = subst (λ n. (x : D) → Fails g (slice_index_or (remove olds target) n x) (slice_index_or (remove news target) n x)) by.is.place found.4.1 in
-            other_fails g olds news target within as_many by.at by.is.other failing d e (ap (λ xs. slice_get xs by.at) (sym v_is) ∙ at_d) (ap (λ xs. slice_get xs by.at) (sym w_is) ∙ at_e)
-            (honest by.at d at_d));
+            other_fails g olds news target within as_many by.at by.is.other failing d e (ap (λ xs. slice_get xs by.at) (sym v_is) ∙ at_d) (ap (λ xs. slice_get xs by.at) (sym w_is) ∙ at_e));
       }

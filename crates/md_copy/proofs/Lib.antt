@@ -9,6 +9,7 @@ pub mod Lists
 pub mod Observed
 pub mod PlanChunks
 pub mod Planned
+pub mod RebuildLeads
 pub mod RebuiltByCall
 pub mod RebuiltMember
 pub mod Returned
@@ -19,3 +20,4 @@ pub mod SourcesChosen
 pub mod StepsOfRebuild
 pub mod StoringKeeps
 pub mod StoredFirst
+pub mod UnfinishedEnrol

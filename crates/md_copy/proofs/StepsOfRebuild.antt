@@ -9,6 +9,7 @@ use Rattle.md_state.specs.MakingClean.{IsIdle, first_number}
 use Rattle.md_state.specs.Members.{IsMember}
 use Rattle.md_state.specs.Rising.{HasSpentEvents}
 use Rattle.md_state.specs.View.{ArrayView, MirrorView}
+use Rattle.md_array.specs.Consistency.{IsConsistent}
 use Rattle.md_array.specs.Enrolling.{MayEnrol}
 use Rattle.md_metadata.specs.Storing.{AllStayReady, StaysReady}
 use Rattle.md_metadata.proofs.Going.{same_state}
@@ -82,8 +83,8 @@ module _ (target : ℕ) (old stored : MirrorView) (may : (m : MemberView) → Is
         pub may_filled : MayEnrol target after.copied after.orphans filled
         may_filled = may_enrol target before after stored filled first.stores.goes.sound p f resynced_then idle_then.none
 
-        pub fills_by : FillsBy target p.planned after.copied after.orphans old filled
-        fills_by = record {
+        pub fills_by : IsConsistent filled → FillsBy target p.planned after.copied after.orphans old filled
+        fills_by sound = record {
           stored = stored;
           begins = begins;
           fills = f.fills p;
@@ -95,4 +96,5 @@ module _ (target : ℕ) (old stored : MirrorView) (may : (m : MemberView) → Is
             };
           };
           may = may_filled;
+          sound = sound;
         }

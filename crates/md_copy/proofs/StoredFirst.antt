@@ -1,14 +1,17 @@
 -- What is stored before a rebuild and after it, part by part.
-use Rattle.std.proofs.Common.{◌≡◌, ◌∙◌, ℕ, true, false, slice_get, None, refl, sym, ap, subst, inl, inr}
+use Rattle.std.proofs.Common.{◌≡◌, ◌≢◌, ◌∙◌, ℕ, true, false, slice_get, None, refl, sym, ap, subst, inl, inr}
+use Rattle.std.proofs.lemmas.Bool.{both_ways}
 use Rattle.std.specs.Prelude.{Result, Ok, Err, MatchResult}
 use Rattle.md_model.specs.Events.{Event}
 use Rattle.md_faults.specs.declared.enrol_fault.TargetFault.{TargetFault as TargetFaults}
 use Rattle.md_faults.specs.declared.enrol_fault.TargetFault.TheVariants as why
+use Rattle.md_assembly.specs.States.{is_in_sync}
 use Rattle.md_kept_members.specs.View.{MemberView}
 use Rattle.md_requests.specs.Pending.{PendingView}
 use Rattle.md_state.specs.Members.{AllInSync, IsInSync, IsMember}
 use Rattle.md_state.specs.Missing.{is_rebuilt}
 use Rattle.md_state.specs.Requests.{IsPending}
+use Rattle.md_state.specs.Rising.{Halts, HasSpentEvents}
 use Rattle.md_state.specs.View.{ArrayView, MirrorView}
 use Rattle.md_state.specs.WritingMember.{IsNotDue}
 use Rattle.md_array.specs.Consistency.{IsConsistent}
@@ -18,48 +21,118 @@ use Rattle.md_array.specs.Recording.{Records}
 use Rattle.md_array.specs.RecordingTarget.{RefusesTarget}
 use Rattle.md_metadata.specs.declared.fault.PartFault.{PartFault}
 use Rattle.md_metadata.specs.declared.fault.PartFault.TheVariants as part
-use Rattle.md_metadata.specs.Going.{HaltsAfter, only_others}
-use Rattle.md_metadata.specs.Storing.{HasAllMarks, IsMarking, IsRecording, IsStoring, RecordsAll, RecordsAt, Stores, StoresAll, StoringFails}
-use Rattle.md_metadata.proofs.Going.{marking_stores, recording_stores, stops_on, stores_as, stores_nowhere, stores_on}
+use Rattle.md_metadata.specs.Storing.{AllStayReady, FailsInSync, HaltsStoring, HasAllMarks, IsFailureOf, IsMarking, IsRecording, IsStoring, RecordingFails, RecordsAll, RecordsAt, StaysReady, Stores, StoresAll, StoringFails}
+use Rattle.md_metadata.proofs.Going.{marking_stores, recording_stores, same_state, stops_on, stores_as, stores_nowhere, stores_on, was_in_sync}
 use Rattle.md_metadata.proofs.Steps.{record_stored}
 use Rattle.md_metadata.proofs.StoredMembers.{last_on}
 use Rattle.md_metadata.proofs.StoredRecords.{other_due, other_or_stops}
 use Rattle.md_metadata.proofs.StoredSectors.{all_marks_last}
 use Rattle.md_copy.specs.declared.fault.RebuildFault.{RebuildFault}
 use Rattle.md_copy.specs.declared.fault.RebuildFault.TheVariants.{Halted, NotSpare, Dirty, InFlight, LogFull, NoMemory, TargetFault, MetadataFault, EventsFull, SourceFault}
-use Rattle.md_copy.specs.Storing.{FailsOnTarget, StoresFirst, StoringStops}
+use Rattle.md_copy.specs.Storing.{FailsOnTarget, StopsAt, StoresFirst, StoringStops}
 use Rattle.md_copy.proofs.LentBack.{rebuilt_out}
 
 -- ---- who is in sync once the mirror is halted
-module _ (mid new : MirrorView) (sound : IsConsistent mid) where
-  still_serves : mid.array.halted ≡ false → new.array ≡ record mid.array { halted = true } → (k : ℕ) × (m : MemberView) × IsInSync new.array k m
-  still_serves running is =
-      let h = sound.roles.serving running in
-      (h.0, h.1, record { member = ap (λ (a : ArrayView). slice_get a.members h.0) is ∙ h.2.member; in_sync = h.2.in_sync })
+-- the member whose write halted the mirror, which ran until then
+record HaltedBy (e : Event) (mid new : MirrorView) : Type 0 where
+  by : ℕ
+  named : (k : ℕ) → by ≡ k → IsFailureOf k e
+  running : mid.array.halted ≡ false
+  halts : Halts by mid.array new.array
 
-  serves_at : (e : Event) → IsStoring e → HaltsAt mid (λ n. None) e new → (k : ℕ) × (m : MemberView) × IsInSync new.array k m
-  serves_at (Event.Record k) of h = absurd h
-  serves_at (Event.StoreMarks k b) of h = absurd h
-  serves_at (Event.RecordFails k) of h = still_serves h.may.running h.halts.array.array
-  serves_at (Event.StoreMarksFails k b) of h = still_serves h.may.running h.halts.array.array
-  serves_at e of h = absurd of
+module _ (mid new : MirrorView) where
+  halted_by : (e : Event) → IsStoring e → HaltsAt mid (λ n. None) e new → HaltedBy e mid new
+  halted_by (Event.Record k) of h = absurd h
+  halted_by (Event.StoreMarks k b) of h = absurd h
+  halted_by (Event.RecordFails k) of h = record { by = k; named = λ j same. same; running = h.may.running; halts = h.halts.array }
+  halted_by (Event.StoreMarksFails k b) of h = record { by = k; named = λ j same. same; running = h.may.running; halts = h.halts.array }
+  halted_by e of h = absurd of
+
+  -- the members are those before
+  in_sync_still : new.array ≡ record mid.array { halted = true } → (k : ℕ) (m : MemberView) → IsInSync mid.array k m → IsInSync new.array k m
+  in_sync_still is k m in_sync = record { member = ap (λ (a : ArrayView). slice_get a.members k) is ∙ in_sync.member; in_sync = in_sync.in_sync }
+
+  in_sync_then : new.array ≡ record mid.array { halted = true } → (k : ℕ) (m : MemberView) → IsInSync new.array k m → IsInSync mid.array k m
+  in_sync_then is k m in_sync = record { member = sym (ap (λ (a : ArrayView). slice_get a.members k) is) ∙ in_sync.member; in_sync = in_sync.in_sync }
+
+  serves_still : IsConsistent mid → (e : Event) → HaltedBy e mid new → (k : ℕ) × (m : MemberView) × IsInSync new.array k m
+  serves_still sound e h = (let s = sound.roles.serving h.running in (s.0, s.1, in_sync_still h.halts.array s.0 s.1 s.2))
+
+  -- where the count could rise, it is the only one
+  only_one : (HasSpentEvents mid.array → ⊥) → (e : Event) → (h : HaltedBy e mid new) → (k : ℕ) (m : MemberView) → IsInSync new.array k m → k ≡ h.by
+  only_one unspent e h k m in_sync = elim h.halts.cannot [
+    | inl only ↦ only k m (in_sync_then h.halts.array k m in_sync)
+    | inr spent ↦ absurd (unspent spent)
+  ]
+
+-- ---- what is stored leaves the count
+pub unspent_still : (a b : ArrayView) → AllStayReady a b → (HasSpentEvents a → ⊥) → HasSpentEvents b → ⊥
+unspent_still a b ready unspent spent = unspent (sym (ap (λ (x : ArrayView). x.shared.events) ready.others) ∙ spent)
+
+-- and who is rebuilt
+pub rebuilt_still : (target : ℕ) (a b : ArrayView) → AllStayReady a b → ((m : MemberView) → IsMember a target m → is_rebuilt m.state ≡ true) → (n : MemberView) → IsMember b target n → is_rebuilt n.state ≡ true
+rebuilt_still target a b ready rebuilt n at =
+    let s : StaysReady a b target n = ready.each target n at in
+    sym (ap is_rebuilt (same_state a b target n s)) ∙ rebuilt s.before s.member
 
 -- ---- a member that fails is named
-module _ (target : ℕ) (old new : MirrorView) where
-  pub halted_serves : HaltsAfter only_others only_others IsStoring old new → (k : ℕ) × (m : MemberView) × IsInSync new.array k m
-  halted_serves h = serves_at h.mid new h.goes.sound h.failing h.of (h.halts (λ n. None))
+pub halted_serves : (old new : MirrorView) → HaltsStoring IsStoring old new → (k : ℕ) × (m : MemberView) × IsInSync new.array k m
+halted_serves old new h =
+    let e = h.halts in
+    serves_still e.mid new e.goes.sound e.failing (halted_by e.mid new e.failing e.of (e.halts (λ n. None)))
 
-  pub fails_named : (fault : PartFault) → StoringFails IsStoring old new fault → (answer : RebuildFault) → ((k : ℕ) → fault ≡ part.MemberFailed k → answer ≡ MetadataFault k)
+pub serving_where_halted : (old new : MirrorView) (fault : PartFault) → StoringFails IsStoring old new fault → fault ≡ part.Halted → (k : ℕ) × (m : MemberView) × IsInSync new.array k m
+serving_where_halted old new part.Halted h e = halted_serves old new h
+serving_where_halted old new (part.MemberFailed k) h e = absurd cc
+
+module _ (target : ℕ) (old new : MirrorView) (unspent : HasSpentEvents old.array → ⊥) (rebuilt : (m : MemberView) → IsMember old.array target m → is_rebuilt m.state ≡ true) where
+  -- who is in sync is not the target
+  not_target : (k : ℕ) (m : MemberView) → IsInSync old.array k m → k ≢ target
+  not_target k m in_sync here =
+      both_ways (is_in_sync m.state) (rebuilt_out m.state (rebuilt m (ap (slice_get old.array.members) (sym here) ∙ in_sync.member))) in_sync.in_sync
+
+  pub in_sync_other : (fault : PartFault) → FailsInSync old.array fault → (k : ℕ) → fault ≡ part.MemberFailed k → k ≢ target
+  in_sync_other part.Halted is k e = absurd cc
+  in_sync_other (part.MemberFailed j) is k e = let same : j ≡ k = cc in subst (λ i. i ≢ target) same (not_target j is.0 is.1)
+
+  -- of those in sync the mirror is halted by the only one
+  halts_named : HaltsStoring IsStoring old new → (k : ℕ) (m : MemberView) → IsInSync new.array k m → StopsAt target k old new
+  halts_named h k m in_sync =
+      let e = h.halts in
+      let by = halted_by e.mid new e.failing e.of (e.halts (λ n. None)) in
+      let then = in_sync_then e.mid new by.halts.array k m in_sync in
+      let s : StaysReady old.array e.mid.array k m = h.ready.each k m then.member in
+      let only = only_one e.mid new (unspent_still old.array e.mid.array h.ready unspent) e.failing by in
+      record {
+        other = not_target k s.before (was_in_sync old.array e.mid.array k m s then);
+        ends = inr (record {
+          mid = e.mid;
+          stores = record { goes = e.goes; unfailing = h.unfailing; ready = h.ready };
+          failing = e.failing;
+          of = e.of;
+          named = by.named k (sym (only k m in_sync));
+          halts = e.halts;
+          sound = e.sound;
+          member = m;
+          in_sync = in_sync;
+          alone = λ j n is. only j n is ∙ sym (only k m in_sync);
+        });
+      }
+
+  pub fails_named : (fault : PartFault) → StoringFails IsStoring old new fault → ((k : ℕ) → fault ≡ part.MemberFailed k → k ≢ target) → (answer : RebuildFault)
+      → ((k : ℕ) → fault ≡ part.MemberFailed k → answer ≡ MetadataFault k)
       → (fault ≡ part.Halted → (k : ℕ) × (m : MemberView) × IsInSync new.array k m × (answer ≡ MetadataFault k)) → StoringStops target old new answer
-  fails_named part.Halted h answer failed halted =
+  fails_named part.Halted h other answer failed halted =
       let n = halted refl in
-      subst (StoringStops target old new) (sym n.3) (inr (record { halts = h; member = n.1; in_sync = n.2 }))
-  fails_named (part.MemberFailed k) h answer failed halted = subst (StoringStops target old new) (sym (failed k refl)) (inl h)
+      subst (StoringStops target old new) (sym n.3) (halts_named h n.0 n.1 n.2)
+  fails_named (part.MemberFailed k) h other answer failed halted = subst (StoringStops target old new) (sym (failed k refl)) (record { other = other k refl; ends = inl h })
 
-  pub serving_where_halted : (fault : PartFault) → StoringFails IsStoring old new fault → fault ≡ part.Halted → (k : ℕ) × (m : MemberView) × IsInSync new.array k m
-  serving_where_halted part.Halted h e = halted_serves h
-  serving_where_halted (part.MemberFailed k) h e = absurd cc
+-- a superblock was not stored on a member that is not the target
+pub recording_other : (k target : ℕ) (old new : MirrorView) (fault : PartFault) → k ≢ target → RecordingFails k old new fault → (j : ℕ) → fault ≡ part.MemberFailed j → j ≢ target
+recording_other k target old new part.Halted apart h j e = absurd cc
+recording_other k target old new (part.MemberFailed i) apart h j e = let same : i ≡ j = cc in subst (λ n. n ≢ target) (sym h.0 ∙ same) apart
 
+module _ (target : ℕ) (old new : MirrorView) where
   -- the mirror is consistent then
   pub stops_sound : (fault : RebuildFault) → StoringStops target old new fault → IsConsistent new
   stops_sound Halted h = absurd h
@@ -69,8 +142,7 @@ module _ (target : ℕ) (old new : MirrorView) where
   stops_sound (LogFull k) h = absurd h
   stops_sound NoMemory h = absurd h
   stops_sound TargetFault h = h.sound
-  stops_sound (MetadataFault k) (inl h) = h.loses.goes.sound
-  stops_sound (MetadataFault k) (inr h) = h.halts.sound
+  stops_sound (MetadataFault k) h = elim h.ends [ inl lost ↦ lost.loses.goes.sound | inr halted ↦ halted.sound ]
   stops_sound EventsFull h = absurd h
   stops_sound (SourceFault k chunk) h = absurd h
 
@@ -84,8 +156,24 @@ module _ (target : ℕ) (old mid new : MirrorView) (g : Stores IsStoring old mid
   stops_then (LogFull k) h = absurd h
   stops_then NoMemory h = absurd h
   stops_then TargetFault h = record { mid = h.mid; stores = stores_on IsStoring old mid h.mid g h.stores; fails = h.fails; sound = h.sound }
-  stops_then (MetadataFault k) (inl h) = inl (stops_on IsStoring old mid new (part.MemberFailed k) g h)
-  stops_then (MetadataFault k) (inr h) = inr (record { halts = stops_on IsStoring old mid new part.Halted g h.halts; member = h.member; in_sync = h.in_sync })
+  stops_then (MetadataFault k) h = record {
+    other = h.other;
+    ends = elim h.ends [
+      | inl lost ↦ inl (stops_on IsStoring old mid new (part.MemberFailed k) g lost)
+      | inr s ↦ inr (record {
+        mid = s.mid;
+        stores = stores_on IsStoring old mid s.mid g s.stores;
+        failing = s.failing;
+        of = s.of;
+        named = s.named;
+        halts = s.halts;
+        sound = s.sound;
+        member = s.member;
+        in_sync = s.in_sync;
+        alone = s.alone;
+      })
+    ];
+  }
   stops_then EventsFull h = absurd h
   stops_then (SourceFault k chunk) h = absurd h
 
@@ -120,6 +208,10 @@ first_stored old a b new marks records others =
     let third = stores_as IsRecording IsStoring recording_stores b new others.stores in
     let rest = stores_on IsStoring a b new second third in
     record {
+      marked = a;
+      marks_first = marks.stores;
+      all_marked = marks.done;
+      records_then = stores_on IsRecording a b new records.stores others.stores;
       stores = stores_on IsStoring old a new first rest;
       marks = λ k m in_sync. last_on IsStoring (HasAllMarks old.array.marks) old a new (all_marks_last old.array.marks) first.goes.array.marks marks.done rest k m in_sync;
       recorded = others.done;

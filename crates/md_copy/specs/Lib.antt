@@ -18,3 +18,5 @@ pub mod Enrolled
 pub mod Rebuilding
 -- What a rebuild makes of its target, in plain terms, whatever the steps were (this project's own).
 pub mod Rebuilt
+-- A rebuild as a list of events of the array's model (this project's own).
+pub mod RebuildEvents

@@ -7,6 +7,7 @@ use Rattle.md_pass.specs.Beside.{has_chunk}
 use Rattle.md_plan.specs.declared.planner.Planned.{Planned}
 use Rattle.md_state.specs.Members.{IsMember}
 use Rattle.md_state.specs.View.{MirrorView}
+use Rattle.md_array.specs.Consistency.{IsConsistent}
 use Rattle.md_array.specs.Enrolling.{Enrols, FailsToEnrol, MayEnrol}
 use Rattle.md_copy.specs.declared.fault.RebuildFault.{RebuildFault}
 use Rattle.md_copy.specs.declared.fault.RebuildFault.TheVariants.{Halted, NotSpare, Dirty, InFlight, LogFull, NoMemory, TargetFault, MetadataFault, EventsFull, SourceFault}
@@ -40,6 +41,7 @@ pub record FillsBy (target : ℕ) (planned : Planned) (copied orphans : Bitmap) 
   pub fills : Fills target begins.now planned.plan.slots stored filled
   pub sets : AreSets planned filled copied orphans
   pub may : MayEnrol target copied orphans filled
+  pub sound : IsConsistent filled
 
 -- all of it
 pub record RebuildsBy (target : ℕ) (planned : Planned) (copied orphans : Bitmap) (old new : MirrorView) : Type 0 where
@@ -47,6 +49,7 @@ pub record RebuildsBy (target : ℕ) (planned : Planned) (copied orphans : Bitma
   pub fills : FillsBy target planned copied orphans old filled
   pub enrolled : MirrorView
   pub enrols : Enrols target copied orphans filled enrolled
+  pub sound : IsConsistent enrolled
   pub settles : Settles enrolled new
 
 -- The member is rebuilt, and this is told of it.
@@ -64,6 +67,13 @@ pub record RefusesAtOnce (target : ℕ) (fault : RebuildFault) (old new : Mirror
   pub member : MemberView
   pub at : IsMember old.array target member
   pub cannot : CannotRebuild old.array member fault
+
+-- it might begin, and not all that was due is stored
+pub record EndsStoring (target : ℕ) (old : MirrorView) (Why : Type 0) : Type 0 where
+  pub member : MemberView
+  pub at : IsMember old.array target member
+  pub may : MayRebuild old.array member
+  pub why : Why
 
 -- the pass was not made: memory was refused for it
 pub record HasNoPass (target : ℕ) (old new : MirrorView) : Type 0 where
@@ -94,9 +104,9 @@ RefusesRebuild target old new NotSpare = RefusesAtOnce target NotSpare old new
 RefusesRebuild target old new Dirty = RefusesAtOnce target Dirty old new
 RefusesRebuild target old new (InFlight number) = RefusesAtOnce target (InFlight number) old new
 RefusesRebuild target old new EventsFull = RefusesAtOnce target EventsFull old new
-RefusesRebuild target old new (MetadataFault k) = StopsAt k old new
+RefusesRebuild target old new (MetadataFault k) = EndsStoring target old (StopsAt target k old new)
 RefusesRebuild target old new TargetFault =
-    FailsOnTarget target old new ⊎ (EndsInPass target TargetFault old new ⊎ EndsFilled target old new (λ copied orphans filled. FailsToEnrol target copied orphans filled new))
+    EndsStoring target old (FailsOnTarget target old new) ⊎ (EndsInPass target TargetFault old new ⊎ EndsFilled target old new (λ copied orphans filled. FailsToEnrol target copied orphans filled new))
 RefusesRebuild target old new NoMemory =
     HasNoPass target old new ⊎ (EndsInPass target NoMemory old new ⊎ EndsFilled target old new (λ copied orphans filled. new ≡ filled))
 RefusesRebuild target old new (SourceFault k chunk) = EndsInPass target (SourceFault k chunk) old new

@@ -4,14 +4,15 @@ use Rattle.md_assembly.specs.declared.state.MemberState.TheVariants.{Faulty}
 use Rattle.md_assembly.specs.States.{is_in_sync}
 use Rattle.md_bitmap.specs.Chunks.{InChunk}
 use Rattle.md_bitmap.specs.Marks.{Bitmap, is_set}
+use Rattle.md_collect.specs.Reading.{Fails}
 use Rattle.md_device.specs.Splice.{part}
 use Rattle.md_kept_members.specs.Enrolling.{IsListAfter}
 use Rattle.md_kept_members.specs.View.{MemberView}
 use Rattle.md_model.specs.Content.{Content}
-use Rattle.md_state.specs.DeviceChanges.{FailsAt}
+use Rattle.md_state.specs.DiskWrites.{AtDevice}
 use Rattle.md_state.specs.Members.{IsMember}
 use Rattle.md_state.specs.Missing.{is_missing}
-use Rattle.md_state.specs.View.{ArrayView, Disk, MirrorView}
+use Rattle.md_state.specs.View.{ArrayView, Disk, MirrorView, of_disks}
 use Rattle.md_array.specs.Enrolling.{HasContent, KeepsData}
 use Rattle.md_array.specs.Lending.{IsBesideChunk}
 use Rattle.md_array.specs.Worlds.{AreHonest}
@@ -48,7 +49,7 @@ pub record IsRebuilt (target : ℕ) (copied orphans : Bitmap) (old new : MirrorV
   pub now : MemberView
   pub there : IsMember new.array target now
   -- a write to it may have failed once it was in sync
-  pub state : (is_in_sync now.state ≡ true) ⊎ ((now.state ≡ Faulty) × (AreHonest old.disks → FailsAt old.disks new.disks target))
+  pub state : (is_in_sync now.state ≡ true) ⊎ ((now.state ≡ Faulty) × AtDevice target old.disks new.disks (Fails of_disks))
   pub copied_chunks : copied.chunks ≡ old.array.marks.chunks
   pub orphan_chunks : orphans.chunks ≡ old.array.marks.chunks
   pub copied_are : (c : ℕ) → c < old.array.marks.chunks

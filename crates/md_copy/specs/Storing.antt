@@ -1,31 +1,45 @@
 -- What the members have to know is stored before a rebuild, and after it (this project's own order).
-use Rattle.std.specs.Prelude.{◌≡◌, ◌⊎◌, ℕ, false}
+use Rattle.std.specs.Prelude.{◌≡◌, ◌≢◌, ◌⊎◌, ℕ, false}
+use Rattle.md_model.specs.Events.{Event}
 use Rattle.md_kept_members.specs.View.{MemberView}
 use Rattle.md_state.specs.Members.{AllInSync, IsInSync}
 use Rattle.md_state.specs.View.{MirrorView}
 use Rattle.md_array.specs.Consistency.{IsConsistent}
+use Rattle.md_array.specs.InTurn.{HaltsAt, Requests}
 use Rattle.md_array.specs.RecordingTarget.{LeavesUnrecorded}
 use Rattle.md_metadata.specs.Going.{GoesOn, HaltsAfter, only_others}
-use Rattle.md_metadata.specs.Storing.{AllRecorded, HasAllMarks, IsStoring, LosesStoring, Stores}
+use Rattle.md_metadata.specs.Storing.{AllRecorded, HasAllMarks, IsFailureOf, IsMarking, IsRecording, IsStoring, LosesStoring, Stores}
 use Rattle.md_copy.specs.declared.fault.RebuildFault.{RebuildFault}
 use Rattle.md_copy.specs.declared.fault.RebuildFault.TheVariants.{MetadataFault, TargetFault}
 
--- Each member in sync has all marks of memory stored, and no superblock is due. Nothing failed.
+-- First each member in sync has all marks of memory stored, and then each superblock that is due. Nothing failed.
 pub record StoresFirst (old new : MirrorView) : Type 0 where
+  pub marked : MirrorView
+  pub marks_first : Stores IsMarking old marked
+  pub all_marked : AllInSync marked.array (HasAllMarks old.array.marks)
+  pub records_then : Stores IsRecording marked new
   pub stores : Stores IsStoring old new
   pub marks : AllInSync new.array (HasAllMarks old.array.marks)
   pub recorded : AllRecorded new.array
 
--- After something was stored a write failed on a member that can't be made faulty, and the mirror is halted. The member that is named
--- is in sync.
-pub record HaltsStoring (k : ℕ) (old new : MirrorView) : Type 0 where
-  pub halts : HaltsAfter only_others only_others IsStoring old new
+-- After something was stored, and nothing failed, a write to member k failed. It is in sync, and no other member is, so that the mirror
+-- is halted.
+pub record HaltsAtMember (k : ℕ) (old new : MirrorView) : Type 0 where
+  pub mid : MirrorView
+  pub stores : Stores IsStoring old mid
+  pub failing : Event
+  pub of : IsStoring failing
+  pub named : IsFailureOf k failing
+  pub halts : (others : Requests) → HaltsAt mid others failing new
+  pub sound : IsConsistent new
   pub member : MemberView
   pub in_sync : IsInSync new.array k member
+  pub alone : (j : ℕ) (n : MemberView) → IsInSync new.array j n → j ≡ k
 
--- A write to member k failed, and that was the end: it is faulty, or the mirror is halted.
-abbrev pub StopsAt : ℕ → MirrorView → MirrorView → Type 0
-StopsAt k old new = LosesStoring IsStoring k old new ⊎ HaltsStoring k old new
+-- A write to member k failed, which is not the target, and that was the end: it is faulty, or the mirror is halted.
+pub record StopsAt (target k : ℕ) (old new : MirrorView) : Type 0 where
+  pub other : k ≢ target
+  pub ends : LosesStoring IsStoring k old new ⊎ HaltsAtMember k old new
 
 -- The superblock of the target could not be stored. In memory it is as it was, its record due.
 pub record FailsOnTarget (target : ℕ) (old new : MirrorView) : Type 0 where
@@ -36,7 +50,7 @@ pub record FailsOnTarget (target : ℕ) (old new : MirrorView) : Type 0 where
 
 -- why it is not all stored: a member fails, or the target's superblock is not stored
 abbrev pub StoringStops : ℕ → MirrorView → MirrorView → RebuildFault → Type 0
-StoringStops target old new (MetadataFault k) = StopsAt k old new
+StoringStops target old new (MetadataFault k) = StopsAt target k old new
 StoringStops target old new TargetFault = FailsOnTarget target old new
 StoringStops target old new fault = ⊥
 

@@ -1,14 +1,15 @@
 // The target gets its chunks.
 ghost use Rattle.std.specs.Prelude.{◌≡◌, ◌<◌, ℕ, All, Err, MatchResult, OnOk, length, true};
 ghost use Rattle.std.specs.Int.{div_ceil};
+ghost use Rattle.md_collect.specs.Reading.{Fails};
 ghost use Rattle.md_kept_members.specs.View.{MemberView};
 ghost use Rattle.md_pass.specs.Sources.{AreMarked};
+ghost use Rattle.md_state.specs.DiskWrites.{AtDevice};
 ghost use Rattle.md_state.specs.MakingClean.{IsIdle};
 ghost use Rattle.md_state.specs.Members.{IsMember};
 ghost use Rattle.md_state.specs.Missing.{is_rebuilt};
+ghost use Rattle.md_state.specs.View.{of_disks};
 ghost use Rattle.md_array.specs.Consistency.{IsConsistent};
-ghost use Rattle.md_array.specs.Worlds.{AreHonest};
-ghost use Rattle.md_state.specs.DeviceChanges.{FailsAt};
 ghost use Rattle.md_copy.specs.Filling.{FailsInRole, FailsPass, FillsPass, IsCopiedSlot, IsFilling};
 ghost use Rattle.md_copy.specs.Preparing.{IsPrepared};
 ghost use Rattle.md_copy.specs.RebuildSources.{AreSources, IsPlanOf};
@@ -89,9 +90,9 @@ fn fill_devices<D: Device + Drop + Send, G: Gate + Sync, R: Threads + Wait + Syn
         → All (IsCopiedSlot target m.superblock.data_offset mirror.old mirror.new) plan.now.slots) }
     ensures marked { OnOk result (AreMarked plan.now.slots copied.old copied.new) }
     ensures target_fault { result ≡ Err PassFault.TargetFault
-        → AreHonest mirror.old.disks → FailsAt mirror.old.disks mirror.new.disks target }
+        → AtDevice target mirror.old.disks mirror.new.disks (Fails of_disks) }
     ensures source_fault { (role chunk : ℕ) → result ≡ Err (PassFault.SourceFault role chunk)
-        → FailsInRole target role chunk mirror.old mirror.new }
+        → FailsInRole target plan.now.slots role chunk mirror.old mirror.new }
     ensures sound { IsConsistent mirror.new }
 {
     let chunks = mirror.chunks();

@@ -3,6 +3,7 @@ ghost use Rattle.std.specs.Prelude.{◌≡◌, ◌<◌, ℕ, MatchResult, false,
 ghost use Rattle.md_kept_members.specs.View.{MemberView};
 ghost use Rattle.md_state.specs.Members.{AllInSync, IsInSync, IsMember};
 ghost use Rattle.md_state.specs.Missing.{is_rebuilt};
+ghost use Rattle.md_state.specs.Rising.{HasSpentEvents};
 ghost use Rattle.md_state.specs.WritingMember.{IsNotDue};
 ghost use Rattle.md_array.specs.Consistency.{IsConsistent};
 ghost use Rattle.md_metadata.specs.Going.{HaltsAfter, only_others};
@@ -24,6 +25,7 @@ pub(crate) fn store_first<D: Device + Drop>(
     requires sound { IsConsistent mirror.old }
     requires running { mirror.old.array.halted ≡ false }
     requires target { (m : MemberView) → IsMember mirror.old.array target m → is_rebuilt m.state ≡ true }
+    requires unspent { HasSpentEvents mirror.old.array → ⊥ }
     ensures { MatchResult result (λ _. StoresFirst mirror.old mirror.new) (StoringStops target mirror.old mirror.new) }
 {
     if let Err(fault) = store_all_marks(mirror) {
@@ -44,6 +46,7 @@ fn store_out_of_sync<D: Device + Drop>(
     requires sound { IsConsistent mirror.old }
     requires running { mirror.old.array.halted ≡ false }
     requires target { (m : MemberView) → IsMember mirror.old.array target m → is_rebuilt m.state ≡ true }
+    requires unspent { HasSpentEvents mirror.old.array → ⊥ }
     requires recorded { AllInSync mirror.old.array IsNotDue }
     ensures { MatchResult result (λ _. RecordsAll mirror.old mirror.new) (StoringStops target mirror.old mirror.new) }
 {
@@ -66,6 +69,7 @@ fn store_if_due<D: Device + Drop>(
     requires sound { IsConsistent mirror.old }
     requires running { mirror.old.array.halted ≡ false }
     requires target { (m : MemberView) → IsMember mirror.old.array target m → is_rebuilt m.state ≡ true }
+    requires unspent { HasSpentEvents mirror.old.array → ⊥ }
     requires recorded { AllInSync mirror.old.array IsNotDue }
     ensures { MatchResult result (λ _. RecordsAt k mirror.old mirror.new) (StoringStops target mirror.old mirror.new) }
 {
@@ -98,7 +102,7 @@ fn store_target<D: Device + Drop>(mirror: &mut Mirror<D>, target: usize) -> Resu
     }
 }
 
-// The fault that names the member that failed. Where the mirror is halted, it is one that is in sync.
+// The fault that names the member that failed. Where the mirror is halted, no other one is in sync.
 fn named<D: Device + Drop>(mirror: &Mirror<D>, fault: PartFault) -> RebuildFault
     requires { fault ≡ PartFault.Halted → (k : ℕ) × (m : MemberView) × IsInSync mirror.now.array k m }
     ensures failed { (k : ℕ) → fault ≡ PartFault.MemberFailed k → result ≡ RebuildFault.MetadataFault k }

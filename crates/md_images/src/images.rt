@@ -7,7 +7,8 @@ use md_device::{Access, ImageFault};
 
 /// Devices that are taken out and put back under their names.
 pub trait Images {
-    type Dev: SharedRead + Drop + Send;
+    /// A device that workers may read: each has one of its own, or they share one that is only looked at.
+    type Dev: SharedRead + Drop + Send + Sync;
 
     /// Whether it is known which devices there are. It is not of files.
     ghost known: { Self → Bool };

@@ -98,7 +98,7 @@ impl<D> MemImages<D> {
     }
 }
 
-impl<D: SharedRead + Drop + Send> Images for MemImages<D> {
+impl<D: SharedRead + Drop + Send + Sync> Images for MemImages<D> {
     type Dev = D;
 
     ghost known = { λ _. true };

@@ -1,22 +1,23 @@
 -- Parts of a call, one after another.
-use Rattle.std.proofs.Common.{◌≡◌, ℕ, ◌<◌, List, Option, [], ◌∷◌, ◌++◌, Some, refl, sym, ap, ◌∙◌, subst, arith}
+use Rattle.std.proofs.Common.{◌≡◌, ℕ, ◌<◌, true, List, Option, [], ◌∷◌, ◌++◌, Some, refl, sym, ap, ◌∙◌, subst, arith}
 use Rattle.std.proofs.lemmas.List.{append_assoc}
 use Rattle.md_model.specs.Events.{Event}
 use Rattle.md_bitmap.specs.Marks.{Bitmap, is_set}
 use Rattle.md_inflight.specs.Inflight.{InflightList, lookup}
 use Rattle.md_requests.specs.declared.extent.Extent.{Extent}
+use Rattle.md_requests.specs.Pending.{PendingView}
 use Rattle.md_assembly.specs.States.{is_in_sync, is_recorded}
 use Rattle.md_kept_members.specs.View.{MemberView}
-use Rattle.md_state.specs.Members.{IsInSync}
+use Rattle.md_state.specs.Members.{IsInSync, IsMember}
 use Rattle.md_state.specs.View.{ArrayView, MirrorView}
-use Rattle.md_state.specs.Requests.{AreInFlight}
+use Rattle.md_state.specs.Requests.{AreInFlight, IsPending}
 use Rattle.md_array.specs.Consistency.{IsConsistent}
-use Rattle.md_array.specs.InTurn.{AllOf, InTurn, IsInOrder, Requests}
+use Rattle.md_array.specs.InTurn.{AllOf, HaltsAt, InTurn, IsInOrder, Requests}
 use Rattle.md_array.proofs.Steps.Turns.{all_on, all_such, turn_on, turn_then}
 use Rattle.md_metadata.specs.declared.fault.PartFault.{PartFault}
 use Rattle.md_metadata.specs.declared.fault.PartFault.TheVariants.{Halted, MemberFailed}
 use Rattle.md_metadata.specs.Going.{GoesOn, HaltsAfter, IsFaulty, IsSameArray, LosesMember, StepsBy, only_others, recorded_count}
-use Rattle.md_metadata.specs.Storing.{AllStayReady, FailsAtLast, IsFailureOf, IsMarking, IsNoFailure, IsRecording, IsSector, IsStoring, IsUpToDate, LosesStoring, SectorFails, StaysReady, Stores, StoresAll, StoringFails}
+use Rattle.md_metadata.specs.Storing.{AllStayReady, FailsAtLast, FailsInSync, HaltsStoring, IsFailureOf, IsMarking, IsNoFailure, IsRecording, IsSector, IsStoring, IsUpToDate, LosesStoring, SectorFails, StaysReady, Stores, StoresAll, StoringFails}
 
 pub same_refl : (a : ArrayView) → IsSameArray a a
 same_refl a = record { chunks = refl; marks = refl; as_many = refl; requests = refl; resynced = refl; fewer = omega arith }
@@ -155,6 +156,21 @@ kept_before a b k ready is =
     let s : StaysReady a b k is.member = ready.each k is.member is.at in
     record { member = s.before; at = s.member; recorded = ap is_recorded (same_state a b k is.member s) ∙ is.recorded }
 
+-- the member that failed was in sync before something was stored, too
+pub in_sync_before : (a b : ArrayView) (fault : PartFault) → AllStayReady a b → FailsInSync b fault → FailsInSync a fault
+in_sync_before a b Halted ready is = tt
+in_sync_before a b (MemberFailed k) ready is =
+    let s : StaysReady a b k is.0 = ready.each k is.0 is.1.member in
+    (s.before, was_in_sync a b k is.0 s is.1)
+
+-- who is in sync when a write of a sector fails
+pub sector_in_sync : (k block : ℕ) (old new : MirrorView) (fault : PartFault) → ((m : MemberView) → IsMember old.array k m → is_in_sync m.state ≡ true)
+    → SectorFails k block old new fault → FailsInSync old.array fault
+sector_in_sync k block old new Halted is h = tt
+sector_in_sync k block old new (MemberFailed j) is h =
+    let m = h.1.was.member in
+    (m, record { member = subst (λ (i : ℕ). IsMember old.array i m) (sym h.0) h.1.was.at; in_sync = is m h.1.was.at })
+
 -- ---- kinds of events
 module _ (Of Such : Event → Type 0) (widen : (e : Event) → Of e → Such e) where
   pub step_as : (F G : Requests → Requests) (e : Event) (old new : MirrorView) → StepsBy F G Of e old new → StepsBy F G Such e old new
@@ -181,13 +197,17 @@ module _ (Of Such : Event → Type 0) (widen : (e : Event) → Of e → Such e) 
     pub stops_as : (fault : PartFault) → StoringFails Of old new fault → StoringFails Such old new fault
     unfolding goes_as
     stops_as Halted h = record {
-      mid = h.mid;
-      goes = goes_as only_others only_others old h.mid h.goes;
-      failing = h.failing;
-      of = widen h.failing h.of;
-      halts = h.halts;
-      sound = h.sound;
-      pending = h.pending;
+      halts = record {
+        mid = h.halts.mid;
+        goes = goes_as only_others only_others old h.halts.mid h.halts.goes;
+        failing = h.halts.failing;
+        of = widen h.halts.failing h.halts.of;
+        halts = h.halts.halts;
+        sound = h.halts.sound;
+        pending = h.halts.pending;
+      };
+      unfailing = h.unfailing;
+      ready = h.ready;
     }
     stops_as (MemberFailed k) h = record {
       loses = record { goes = goes_as only_others only_others old new h.loses.goes; lost = h.loses.lost; halted = h.loses.halted };
@@ -244,6 +264,16 @@ module _ (Of : Event → Type 0) where
   unfolding goes_step
   stores_step e old new is s order ready = record { goes = goes_step only_others only_others Of e old new s order; unfailing = (is, tt); ready = ready }
 
+  -- the very first write halts the mirror
+  pub halts_first : (e : Event) (old new : MirrorView) → IsConsistent old → Of e → ((others : Requests) → HaltsAt old others e new) → IsConsistent new
+      → ((o : PendingView) → IsPending old.array o → IsPending new.array o) → HaltsStoring Of old new
+  unfolding goes_nowhere
+  halts_first e old new before is halts sound pending = record {
+    halts = record { mid = old; goes = goes_nowhere only_others Of old before; failing = e; of = is; halts = halts; sound = sound; pending = pending };
+    unfailing = tt;
+    ready = ready_refl old.array;
+  }
+
   -- the write of it failed
   pub step_loses : (k : ℕ) (e : Event) (old new : MirrorView) → IsFailureOf k e → StepsBy only_others only_others Of e old new → ((previous : Option Event) → IsInOrder previous old.array e)
       → recorded_count new.array < recorded_count old.array → new.array.halted ≡ old.array.halted → IsUpToDate old.array k → IsFaulty k new.array → LosesStoring Of k old new
@@ -293,6 +323,14 @@ module _ (Of : Event → Type 0) where
       faulty = h.faulty;
     }
 
+    halts_then : Stores Of old mid → HaltsStoring Of mid new → HaltsStoring Of old new
+    unfolding goes_on halts_on
+    halts_then g h = record {
+      halts = halts_on only_others only_others only_others Of old mid new g.goes h.halts;
+      unfailing = all_on IsNoFailure g.goes.events h.halts.goes.events g.unfailing h.unfailing;
+      ready = ready_on old.array mid.array h.halts.mid.array g.goes.array.marks g.ready h.ready;
+    }
+
     pub stops_on : (fault : PartFault) → Stores Of old mid → StoringFails Of mid new fault → StoringFails Of old new fault
-    stops_on Halted g h = halts_on only_others only_others only_others Of old mid new g.goes h
+    stops_on Halted g h = halts_then g h
     stops_on (MemberFailed k) g h = loses_then k g h

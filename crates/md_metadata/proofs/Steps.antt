@@ -27,10 +27,10 @@ use Rattle.md_array.proofs.General.Replaced.{of_set}
 use Rattle.md_array.proofs.General.Indices.{at_set_same}
 use Rattle.md_array.proofs.Worlds.States.{in_sync_recorded}
 use Rattle.md_metadata.specs.declared.fault.PartFault.TheVariants as part
-use Rattle.md_metadata.specs.Going.{HaltsAfter, IsFaulty, IsSameArray, LosesMember, StepsBy, only_others, recorded_count}
-use Rattle.md_metadata.specs.Storing.{AllStayReady, IsRecording, IsSector, RecordingFails, RecordsOn, SectorFails, StoresOn}
+use Rattle.md_metadata.specs.Going.{IsFaulty, IsSameArray, LosesMember, StepsBy, only_others, recorded_count}
+use Rattle.md_metadata.specs.Storing.{AllStayReady, HaltsStoring, IsRecording, IsSector, RecordingFails, RecordsOn, SectorFails, StoresOn}
 use Rattle.md_metadata.proofs.Counts.{count_map, set_alike, set_fewer}
-use Rattle.md_metadata.proofs.Going.{goes_nowhere, goes_step, step_loses}
+use Rattle.md_metadata.proofs.Going.{goes_step, halts_first, step_loses}
 
 -- ---- a member is changed
 module _ (a b : ArrayView) (k : ℕ) (m n : MemberView) (at : IsMember a k m) (like : n ≡ record m { stored = n.stored; due = n.due }) (is : b ≡ record a { members = set a.members k n }) where
@@ -170,17 +170,9 @@ module _ (old new : MirrorView) (k block : ℕ) (sound : IsConsistent new) (pend
             (faulty_after old.array new.array k f.fails.array used),
       )
 
-  pub sector_halts : old.array.halted ≡ false → IsConsistent old → RefusesMarkSector k block old new Halted → HaltsAfter only_others only_others (IsSector k block) old new
+  pub sector_halts : old.array.halted ≡ false → IsConsistent old → RefusesMarkSector k block old new Halted → HaltsStoring (IsSector k block) old new
   sector_halts run before (inl r) = never_halted old new run r
-  sector_halts run before (inr h) = record {
-    mid = old;
-    goes = goes_nowhere only_others (IsSector k block) old before;
-    failing = Event.StoreMarksFails k block;
-    of = (refl, refl);
-    halts = λ others. h;
-    sound = sound;
-    pending = pending;
-  }
+  sector_halts run before (inr h) = halts_first (IsSector k block) (Event.StoreMarksFails k block) old new before (refl, refl) (λ others. h) sound pending
 
 pub sector_refused : {P : Type 0} (old new : MirrorView) (k block : ℕ) → ((m : MemberView) → IsMember old.array k m → is_in_sync m.state ≡ true) → RefusesMarkSector k block old new NotActive → P
 sector_refused old new k block is r = absurd (let yes = is r.reason.member r.reason.at in let no = r.reason.out in cc)
@@ -220,17 +212,9 @@ module _ (old new : MirrorView) (k : ℕ) (sound : IsConsistent new) (pending : 
         },
       )
 
-  pub record_halts : old.array.halted ≡ false → IsConsistent old → RefusesRecord k old new Halted → HaltsAfter only_others only_others IsRecording old new
+  pub record_halts : old.array.halted ≡ false → IsConsistent old → RefusesRecord k old new Halted → HaltsStoring IsRecording old new
   record_halts run before (inl r) = never_halted old new run r
-  record_halts run before (inr h) = record {
-    mid = old;
-    goes = goes_nowhere only_others IsRecording old before;
-    failing = Event.RecordFails k;
-    of = tt;
-    halts = λ others. h;
-    sound = sound;
-    pending = pending;
-  }
+  record_halts run before (inr h) = halts_first IsRecording (Event.RecordFails k) old new before tt (λ others. h) sound pending
 
 pub record_refused : {P : Type 0} (old new : MirrorView) (k : ℕ) → ((m : MemberView) → IsMember old.array k m → is_recorded m.state ≡ true) → RefusesRecord k old new NotActive → P
 record_refused old new k is r = absurd (let yes = is r.reason.member r.reason.at in let no = r.reason.inactive in cc)

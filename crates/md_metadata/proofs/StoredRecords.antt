@@ -1,7 +1,7 @@
 -- Records are stored in their turn.
 use Rattle.std.proofs.Common.{◌+◌, ◌≤◌, length, ◌≡◌, ℕ, ◌<◌, true, slice_get, Option, Some, refl, sym, subst, ap, ◌∙◌, arith, inr}
 use Rattle.std.proofs.lemmas.Option.{slice_get_within}
-use Rattle.std.specs.Prelude.{Result, Ok, Err, MatchResult}
+use Rattle.std.specs.Prelude.{Result, Ok, Err, IfErr, MatchResult}
 use Rattle.md_model.specs.Events.{Event}
 use Rattle.md_model.proofs.Puts.{by_same}
 use Rattle.md_assembly.specs.States.{is_in_sync, is_recorded}
@@ -16,8 +16,8 @@ use Rattle.md_array.proofs.Worlds.States.{in_sync_recorded}
 use Rattle.md_metadata.specs.declared.fault.PartFault.{PartFault}
 use Rattle.md_metadata.specs.declared.fault.PartFault.TheVariants.{Halted, MemberFailed}
 use Rattle.md_metadata.specs.Going.{StepsBy, only_others}
-use Rattle.md_metadata.specs.Storing.{IsRecorded, IsRecording, IsSector, LosesStoring, RecordingFails, RecordsAll, RecordsAt, RecordsBelow, RecordsOn, StaysReady, StoresAt, StoresOn, StoringFails}
-use Rattle.md_metadata.proofs.Going.{first_records, goes_step, halts_on, kept_before, ready_on, same_state, step_as, step_loses, stores_nowhere, stores_on, stores_step, stores_two, two_lose, was_in_sync}
+use Rattle.md_metadata.specs.Storing.{FailsInSync, IsRecorded, IsRecording, IsSector, LosesStoring, RecordingFails, RecordsAll, RecordsAt, RecordsBelow, RecordsOn, StaysReady, StoresAt, StoresOn, StoringFails}
+use Rattle.md_metadata.proofs.Going.{first_records, kept_before, ready_on, same_state, step_as, step_loses, stops_on, stores_nowhere, stores_on, stores_step, stores_two, two_lose, was_in_sync}
 use Rattle.md_metadata.proofs.Steps.{now_at}
 
 -- the first sector comes before a record that is due
@@ -67,12 +67,19 @@ module _ (k : ℕ) (old mid : MirrorView) (s : StoresOn k 0 old mid) where
     stops_after (MemberFailed j) (at, l) = subst (λ (i : ℕ). LosesStoring IsRecording i old new) (sym at)
         (two_lose IsRecording old mid new k (Event.StoreMarks k 0) (Event.RecordFails k) tt refl header (λ previous. first) l.step second
         (let x = s.step.array.fewer in let y = l.lost in omega arith) (l.halted ∙ s.ready.halted) (kept_before old.array mid.array k s.ready l.was) l.faulty)
-    stops_after Halted h = halts_on only_others only_others only_others IsRecording old mid new (goes_step only_others only_others IsRecording (Event.StoreMarks k 0) old mid header (λ previous. first)) h
+    stops_after Halted h = stops_on IsRecording old mid new Halted (stores_step IsRecording (Event.StoreMarks k 0) old mid tt header (λ previous. first) s.ready) h
 
     pub recorded_or_stops : {T : Type 0} (result : Result T PartFault) → MatchResult result (λ _. RecordsOn k mid new) (RecordingFails k mid new)
         → MatchResult result (λ _. StoresAt IsRecording k IsNotDue old new) (StoringFails IsRecording old new)
     recorded_or_stops (Ok t) r = recorded_after r
     recorded_or_stops (Err fault) r = stops_after fault r
+
+-- who fails was in sync
+pub record_in_sync : (k : ℕ) (old mid new : MirrorView) → StoresOn k 0 old mid → {T : Type 0} (result : Result T PartFault)
+    → MatchResult result (λ _. RecordsOn k mid new) (RecordingFails k mid new) → IfErr result (FailsInSync old.array)
+record_in_sync k old mid new s (Ok t) r = tt
+record_in_sync k old mid new s (Err Halted) r = tt
+record_in_sync k old mid new s (Err (MemberFailed j)) r = (s.gives.member, subst (λ (i : ℕ). IsInSync old.array i s.gives.member) (sym r.0) s.gives.may.in_sync)
 
 -- ---- of a member that is not in sync
 module _ (k : ℕ) (old new : MirrorView) where

@@ -1,12 +1,13 @@
 -- All marks are stored, sector by sector and member by member.
 use Rattle.std.proofs.Common.{◌≡◌, ℕ, ◌+◌, ◌<◌, ◌≤◌, ◌↔◌, Bool, true, false, cond, eqb, nat_lt, ◌&&◌, refl, sym, ap, ◌∙◌, subst, arith, eq-eqb, inl}
 use Rattle.std.proofs.lemmas.Bool.{lt-ltb}
-use Rattle.std.specs.Prelude.{Result, Ok, Err, MatchResult}
+use Rattle.std.specs.Prelude.{Result, Ok, Err, IfErr, MatchResult}
 use Rattle.md_model.specs.Events.{Event}
 use Rattle.md_model.specs.Sectors.{block_of}
 use Rattle.md_model.proofs.Puts.{by_same}
 use Rattle.md_bitmap.specs.Marks.{Bitmap, is_set}
 use Rattle.md_bitmap.specs.Sectors.{bitmap_sectors}
+use Rattle.md_assembly.specs.States.{is_in_sync}
 use Rattle.md_kept_members.specs.View.{MemberView}
 use Rattle.md_state.specs.View.{ArrayView, MirrorView}
 use Rattle.md_state.specs.Members.{IsInSync, IsMember}
@@ -14,8 +15,8 @@ use Rattle.md_array.specs.Consistency.{IsConsistent}
 use Rattle.md_array.specs.InTurn.{HasSector, IsSectorDue}
 use Rattle.md_metadata.specs.declared.fault.PartFault.{PartFault}
 use Rattle.md_metadata.specs.Going.{StepsBy, only_others}
-use Rattle.md_metadata.specs.Storing.{HasAllMarks, IsMarking, IsSector, SectorFails, StaysReady, Stores, StoresAt, StoresOn, StoringFails}
-use Rattle.md_metadata.proofs.Going.{sector_marks, sector_stops, step_as, stops_as, stores_nowhere, stores_on, stores_step, was_in_sync}
+use Rattle.md_metadata.specs.Storing.{FailsInSync, HasAllMarks, IsMarking, IsSector, SectorFails, StaysReady, Stores, StoresAt, StoresOn, StoringFails}
+use Rattle.md_metadata.proofs.Going.{sector_in_sync, sector_marks, sector_stops, step_as, stops_as, stores_nowhere, stores_on, stores_step, was_in_sync}
 use Rattle.md_metadata.proofs.Steps.{now_at}
 use Rattle.md_metadata.proofs.StoredMembers.{IsLasting}
 
@@ -57,6 +58,12 @@ module _ (k block : ℕ) (old new : MirrorView) where
       → MatchResult result (λ _. StoresAt IsMarking k (HasSector old.array block) old new) (StoringFails IsMarking old new)
   sector_or_stops sound due (Ok t) s = sector_in sound due s
   sector_or_stops sound due (Err fault) s = stops_as (IsSector k block) IsMarking (sector_marks k block) old new fault (sector_stops k block old new fault s)
+
+-- who fails is in sync
+pub unlike_in_sync : (k block : ℕ) (old new : MirrorView) → ((m : MemberView) → IsMember old.array k m → is_in_sync m.state ≡ true)
+    → {T : Type 0} (result : Result T PartFault) → MatchResult result (λ _. StoresOn k block old new) (SectorFails k block old new) → IfErr result (FailsInSync old.array)
+unlike_in_sync k block old new is (Ok t) s = tt
+unlike_in_sync k block old new is (Err fault) s = sector_in_sync k block old new fault is s
 
 -- ---- the sectors of one member
 -- those before this one are stored

@@ -102,10 +102,21 @@ pub record LosesStoring (Of : Event → Type 0) (k : ℕ) (old new : MirrorView)
   pub last : FailsAtLast k loses.goes.events
   pub faulty : IsFaulty k new.array
 
+-- After something was stored, and nothing failed, a write failed on a member that can't be made faulty, and the mirror is halted.
+pub record HaltsStoring (Of : Event → Type 0) (old new : MirrorView) : Type 0 where
+  pub halts : HaltsAfter only_others only_others Of old new
+  pub unfailing : AllOf IsNoFailure halts.goes.events
+  pub ready : AllStayReady old.array halts.mid.array
+
 -- why they do not come to their end
 abbrev pub StoringFails : (Event → Type 0) → MirrorView → MirrorView → PartFault → Type 0
-StoringFails Of old new Halted = HaltsAfter only_others only_others Of old new
+StoringFails Of old new Halted = HaltsStoring Of old new
 StoringFails Of old new (MemberFailed k) = LosesStoring Of k old new
+
+-- the member that failed, if one did, was in sync
+abbrev pub FailsInSync : ArrayView → PartFault → Type 0
+FailsInSync a Halted = Unit {0}
+FailsInSync a (MemberFailed k) = (m : MemberView) × IsInSync a k m
 
 -- they came to their end: of member k it holds, if it is in sync
 pub record StoresAt (Of : Event → Type 0) (k : ℕ) (Done : MemberView → Type 0) (old new : MirrorView) : Type 0 where
@@ -150,7 +161,7 @@ pub record StoresOn (k block : ℕ) (old new : MirrorView) : Type 0 where
 
 -- or the write of it failed: that member is faulty, or the mirror is halted
 abbrev pub SectorFails : ℕ → ℕ → MirrorView → MirrorView → PartFault → Type 0
-SectorFails k block old new Halted = HaltsAfter only_others only_others (IsSector k block) old new
+SectorFails k block old new Halted = HaltsStoring (IsSector k block) old new
 SectorFails k block old new (MemberFailed j) = (j ≡ k) × LosesStoring (IsSector k block) k old new
 
 -- member k's superblock is stored
@@ -168,7 +179,7 @@ pub record LosesRecording (k : ℕ) (old new : MirrorView) : Type 0 where
   pub faulty : IsFaulty k new.array
 
 abbrev pub RecordingFails : ℕ → MirrorView → MirrorView → PartFault → Type 0
-RecordingFails k old new Halted = HaltsAfter only_others only_others IsRecording old new
+RecordingFails k old new Halted = HaltsStoring IsRecording old new
 RecordingFails k old new (MemberFailed j) = (j ≡ k) × LosesRecording k old new
 
 -- the member has all marks stored as these are

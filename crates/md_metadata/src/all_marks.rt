@@ -1,9 +1,9 @@
 // Storing all marks as they are in memory.
-ghost use Rattle.std.specs.Prelude.{◌≡◌, ◌<◌, MatchResult, length, false};
+ghost use Rattle.std.specs.Prelude.{◌≡◌, ◌<◌, IfErr, MatchResult, length, false};
 ghost use Rattle.md_members.specs.Areas.{bitmap_sectors};
 ghost use Rattle.md_array.specs.Consistency.{IsConsistent};
 ghost use Rattle.md_array.specs.InTurn.{HasSector};
-ghost use Rattle.md_metadata.specs.Storing.{HasAllMarks, IsMarking, StoresAll, StoresAt, StoringFails};
+ghost use Rattle.md_metadata.specs.Storing.{FailsInSync, HasAllMarks, IsMarking, StoresAll, StoresAt, StoringFails};
 
 use crate::fault::PartFault;
 use crate::sectors::store_sector;
@@ -21,7 +21,8 @@ fn store_unlike<D: Device + Drop>(
     requires block { block < bitmap_sectors mirror.old.array.marks.chunks }
     requires sound { IsConsistent mirror.old }
     requires running { mirror.old.array.halted ≡ false }
-    ensures { MatchResult result (λ _. StoresAt IsMarking k (HasSector mirror.old.array block) mirror.old mirror.new) (StoringFails IsMarking mirror.old mirror.new) }
+    ensures gives { MatchResult result (λ _. StoresAt IsMarking k (HasSector mirror.old.array block) mirror.old mirror.new) (StoringFails IsMarking mirror.old mirror.new) }
+    ensures in_sync { IfErr result (FailsInSync mirror.old.array) }
 {
     if !mirror.state(k).is_in_sync() || mirror.has_sector(k, block) {
         return Ok(());
@@ -34,7 +35,8 @@ fn store_member_marks<D: Device + Drop>(mirror: &mut Mirror<D>, k: usize) -> Res
     requires within { k < length mirror.old.array.members }
     requires sound { IsConsistent mirror.old }
     requires running { mirror.old.array.halted ≡ false }
-    ensures { MatchResult result (λ _. StoresAt IsMarking k (HasAllMarks mirror.old.array.marks) mirror.old mirror.new) (StoringFails IsMarking mirror.old mirror.new) }
+    ensures gives { MatchResult result (λ _. StoresAt IsMarking k (HasAllMarks mirror.old.array.marks) mirror.old mirror.new) (StoringFails IsMarking mirror.old mirror.new) }
+    ensures in_sync { IfErr result (FailsInSync mirror.old.array) }
 {
     for block in 0..sectors_of_bitmap(mirror.marks().chunks()) {
         if let Err(fault) = store_unlike(mirror, k, block) {
@@ -49,7 +51,8 @@ fn store_member_marks<D: Device + Drop>(mirror: &mut Mirror<D>, k: usize) -> Res
 pub fn store_all_marks<D: Device + Drop>(mirror: &mut Mirror<D>) -> Result<(), PartFault>
     requires sound { IsConsistent mirror.old }
     requires running { mirror.old.array.halted ≡ false }
-    ensures { MatchResult result (λ _. StoresAll IsMarking (HasAllMarks mirror.old.array.marks) mirror.old mirror.new) (StoringFails IsMarking mirror.old mirror.new) }
+    ensures gives { MatchResult result (λ _. StoresAll IsMarking (HasAllMarks mirror.old.array.marks) mirror.old mirror.new) (StoringFails IsMarking mirror.old mirror.new) }
+    ensures in_sync { IfErr result (FailsInSync mirror.old.array) }
 {
     for k in 0..mirror.members() {
         if let Err(fault) = store_member_marks(mirror, k) {

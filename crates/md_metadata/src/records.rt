@@ -1,12 +1,12 @@
 // Storing the superblocks that are due.
-ghost use Rattle.std.specs.Prelude.{◌≡◌, ◌<◌, ℕ, MatchResult, Some, length, true, false};
+ghost use Rattle.std.specs.Prelude.{◌≡◌, ◌<◌, ℕ, IfErr, MatchResult, Some, length, true, false};
 ghost use Rattle.md_model.specs.Events.{Event};
 ghost use Rattle.md_kept_members.specs.View.{MemberView};
 ghost use Rattle.md_assembly.specs.States.{is_recorded};
 ghost use Rattle.md_state.specs.Members.{AllInSync, IsInSync, IsMember};
 ghost use Rattle.md_state.specs.WritingMember.{IsNotDue};
 ghost use Rattle.md_array.specs.Consistency.{IsConsistent};
-ghost use Rattle.md_metadata.specs.Storing.{IsRecording, RecordingFails, RecordsAll, RecordsAt, RecordsOn, StoresAll, StoresAt, StoringFails};
+ghost use Rattle.md_metadata.specs.Storing.{FailsInSync, IsRecording, RecordingFails, RecordsAll, RecordsAt, RecordsOn, StoresAll, StoresAt, StoringFails};
 
 use crate::fault::PartFault;
 use crate::sectors::store_sector;
@@ -36,7 +36,8 @@ fn store_due_record<D: Device + Drop>(mirror: &mut Mirror<D>, k: usize) -> Resul
     requires sound { IsConsistent mirror.old }
     requires running { mirror.old.array.halted ≡ false }
     requires earlier { (j : ℕ) (m : MemberView) → j < k → IsInSync mirror.old.array j m → IsNotDue m }
-    ensures { MatchResult result (λ _. StoresAt IsRecording k IsNotDue mirror.old mirror.new) (StoringFails IsRecording mirror.old mirror.new) }
+    ensures gives { MatchResult result (λ _. StoresAt IsRecording k IsNotDue mirror.old mirror.new) (StoringFails IsRecording mirror.old mirror.new) }
+    ensures in_sync { IfErr result (FailsInSync mirror.old.array) }
 {
     if !mirror.state(k).is_in_sync() || !mirror.due(k) {
         return Ok(());
@@ -67,7 +68,8 @@ fn store_other_record<D: Device + Drop>(mirror: &mut Mirror<D>, k: usize) -> Res
 pub fn store_records<D: Device + Drop>(mirror: &mut Mirror<D>) -> Result<(), PartFault>
     requires sound { IsConsistent mirror.old }
     requires running { mirror.old.array.halted ≡ false }
-    ensures { MatchResult result (λ _. StoresAll IsRecording IsNotDue mirror.old mirror.new) (StoringFails IsRecording mirror.old mirror.new) }
+    ensures gives { MatchResult result (λ _. StoresAll IsRecording IsNotDue mirror.old mirror.new) (StoringFails IsRecording mirror.old mirror.new) }
+    ensures in_sync { IfErr result (FailsInSync mirror.old.array) }
 {
     for k in 0..mirror.members() {
         if let Err(fault) = store_due_record(mirror, k) {

@@ -1,5 +1,5 @@
 -- A pass ends: devices are back in their list.
-use Rattle.std.proofs.Common.{◌≡◌, ℕ, suc, ◌-◌, ◌<◌, ◌||◌, ◌==◌, Bool, true, false, [], ◌∷◌, List, length, map, sum_by, get_or, slice_index, Contains, None, refl, ap, sym, ◌∙◌, arith, subst}
+use Rattle.std.proofs.Common.{◌≡◌, ℕ, suc, ◌<◌, ◌||◌, ◌==◌, Bool, true, false, [], ◌∷◌, List, length, map, count_by, sum_by, get_or, slice_index, Contains, refl, ap, sym, ◌∙◌, arith, subst}
 use Rattle.std.specs.List.{All, Any}
 use Rattle.std.proofs.lemmas.List.{get_or-map, length-map}
 use Rattle.std.proofs.lemmas.List.Sums.{sum_by-cons}
@@ -16,12 +16,12 @@ use Rattle.md_pass.specs.declared.lane.Lane.{Lane}
 use Rattle.md_pass.specs.declared.reading.Reading.{Reading}
 use Rattle.md_pass.specs.declared.source.Source.{Source}
 use Rattle.md_pass.specs.Beside.{has_chunk}
-use Rattle.md_pass.specs.Lanes.{OnlyRead, AreOnlyRead}
+use Rattle.md_pass.specs.Lanes.{OnlyRead, AreOnlyRead, is_failed}
 use Rattle.md_pass.specs.Places.{AreInTurn, AreTaken}
 use Rattle.md_pass.specs.Readings.{IsLaneOf, IsOrderOf, slots_of}
 use Rattle.md_pass.specs.Settling.{Books}
 use Rattle.md_pass.specs.Sources.{AreMarked, FailsToGive, MayRead}
-use Rattle.md_pass.specs.Passes.{FailsIn, HasLanded, IsPassing, IsUnderWay, LanesOnlyRead, Waits}
+use Rattle.md_pass.specs.Passes.{FailsIn, HasLanded, IsPassing, IsUnderWay, LanesOnlyRead}
 use Rattle.md_pass.proofs.Departures.{related}
 use Rattle.md_pass.proofs.OnlyReads.{not_read}
 use Rattle.md_pass.proofs.Orders.{order_covers, order_planned}
@@ -80,7 +80,7 @@ module _ {D L M : Type 0} {g : Ghosts D} where
       sym (get_or-map (λ (l : Lane D L M). l.device) firsts k d e (omega (arith, t.same, below))) ∙ device_at devices devices (map (λ (l : Lane D L M). l.device) firsts) rest rs places t.may t.turn refl t.taken k e e s below
 
   -- a slot of source k has landed
-  slot_landed : {th : Bool} {start now : Books} {devices rest : List D} {places : List ℕ} {rs : List Reading} {firsts lanes : List (Lane D L M)} → HaveLeft g start devices rest places rs firsts → IsPassing g th firsts lanes start now → All (λ lane. (lane.done ≡ length lane.chunks.items) × (lane.report ≡ None)) lanes
+  slot_landed : {th : Bool} {start now : Books} {devices rest : List D} {places : List ℕ} {rs : List Reading} {firsts lanes : List (Lane D L M)} → HaveLeft g start devices rest places rs firsts → IsPassing g th firsts lanes start now → All (λ lane. (lane.done ≡ length lane.chunks.items) × (lane.reports ≡ [])) lanes
       → (slot : Slot) → Contains start.collector.slots slot → (k : ℕ) (s : Source) (d : Lane D L M) → k < length rs → (get_or (map (λ (r : Reading). r.source) rs) k s).role ≡ slot.source → HasLanded g th now (get_or firsts k d) slot.chunk
   slot_landed {th = th} {start = start} {now = now} {devices = devices} {rest = rest} {places = places} {rs = rs} {firsts = firsts} {lanes = lanes} t p done slot there k s d below role =
       let r = get_or rs k (reading_like d) in
@@ -89,10 +89,10 @@ module _ {D L M : Type 0} {g : Ghosts D} where
       let chunks : (get_or firsts k d).chunks ≡ r.chunks = (t.are k (reading_like d) d below).chunks in
       let here : k < length firsts = omega (arith, t.same, below) in
       let way = p.each k d here in
-      let whole : (get_or lanes k d).done ≡ length r.chunks.items = (done k d (omega (arith, p.as_many, here))).0 ∙ ap (λ (v : _). length v.items) (chunks_kept way ∙ chunks) in
+      let whole : (get_or lanes k d).done ≡ length r.chunks.items = (done k d (omega (arith, p.as_many, here))).0 ∙ ap (λ (v : _). length v.items) (chunks_kept way.read ∙ chunks) in
       subst (λ c. HasLanded g th now (get_or firsts k d) c) (ap (λ (v : _). slice_index v.items j) chunks ∙ at) (way.landed j (omega (arith, whole, within)))
 
-  pub all_marked : {th : Bool} {start now : Books} {devices rest : List D} {places : List ℕ} {rs : List Reading} {firsts lanes : List (Lane D L M)} → HaveLeft g start devices rest places rs firsts → IsPassing g th firsts lanes start now → All (λ lane. (lane.done ≡ length lane.chunks.items) × (lane.report ≡ None)) lanes → AreMarked start.collector.slots start.copied now.copied
+  pub all_marked : {th : Bool} {start now : Books} {devices rest : List D} {places : List ℕ} {rs : List Reading} {firsts lanes : List (Lane D L M)} → HaveLeft g start devices rest places rs firsts → IsPassing g th firsts lanes start now → All (λ lane. (lane.done ≡ length lane.chunks.items) × (lane.reports ≡ [])) lanes → AreMarked start.collector.slots start.copied now.copied
   all_marked {th = th} {start = start} {now = now} {devices = devices} {rest = rest} {places = places} {rs = rs} {firsts = firsts} {lanes = lanes} t p done = record { chunks = p.books.count; bits = λ c. p.books.marks c ∙ ap (λ b. b || is_set start.copied.bytes c) (same_tests _ _ (p.books.planned c) (reported c)) }
     where
       of_source : (slot : Slot) → Contains start.collector.slots slot → Any (λ s. s.role ≡ slot.source) (map (λ (r : Reading). r.source) rs) → (ls : List (Lane D L M)) → firsts ≡ ls → is_set now.collector.reported.bytes slot.chunk ≡ true
@@ -107,7 +107,7 @@ module _ {D L M : Type 0} {g : Ghosts D} where
           let served = subst (λ (x : Slot). Any (λ s. s.role ≡ x.source) (map (λ (r : Reading). r.source) rs)) at (t.may.serves i slot below) in
           subst (λ x. is_set now.collector.reported.bytes x ≡ true) (eqb-true slot.chunk c is) (of_source slot (i, below, at) served firsts refl)
 
-  pub all_copied : {th : Bool} {start now : Books} {devices rest : List D} {places : List ℕ} {rs : List Reading} {firsts lanes : List (Lane D L M)} → HaveLeft g start devices rest places rs firsts → IsPassing g th firsts lanes start now → All (λ lane. (lane.done ≡ length lane.chunks.items) × (lane.report ≡ None)) lanes
+  pub all_copied : {th : Bool} {start now : Books} {devices rest : List D} {places : List ℕ} {rs : List Reading} {firsts lanes : List (Lane D L M)} → HaveLeft g start devices rest places rs firsts → IsPassing g th firsts lanes start now → All (λ lane. (lane.done ≡ length lane.chunks.items) × (lane.reports ≡ [])) lanes
       → (i : ℕ) (slot : Slot) → i < length start.collector.slots → (k : ℕ) (s : Source) → k < length (map (λ (r : Reading). r.source) rs) → (get_or (map (λ (r : Reading). r.source) rs) k s).role ≡ (get_or start.collector.slots i slot).source
       → (e : D) → th ≡ true → g.honest (get_or devices (get_or (map (λ (r : Reading). r.source) rs) k s).place e) ≡ true
       → chunk_on now.target start.collector.offset start.collector.chunks (get_or start.collector.slots i slot).chunk
@@ -170,19 +170,23 @@ module _ {D L M : Type 0} {g : Ghosts D} where
           }
 
   -- the shares of lanes that are done
-  pub none_left : {th : Bool} {start now : Books} (firsts lanes : List (Lane D L M)) → IsPassing g th firsts lanes start now → All (λ lane. (lane.done ≡ length lane.chunks.items) × (lane.report ≡ None)) lanes
+  pub none_left : {th : Bool} {start now : Books} (firsts lanes : List (Lane D L M)) → IsPassing g th firsts lanes start now → All (λ lane. (lane.done ≡ length lane.chunks.items) × (lane.reports ≡ [])) lanes
       → (sum_by (λ (l : Lane D L M). l.share.left) lanes ≡ 0) × (sum_by (λ (l : Lane D L M). l.share.failed) lanes ≡ 0) × (sum_by (λ (l : Lane D L M). l.share.parts) lanes ≡ sum_by (λ (l : Lane D L M). l.share.parts) firsts)
   none_left {th = th} {now = now} firsts lanes p done = (
-    sum_none (λ (l : Lane D L M). l.share.left) lanes (λ k d below. let w = rest k d below in let z = (done k d below).0 in let e = ap (λ (v : _). length v.items) (chunks_kept (way k d below)) in w.0 ∙ (omega (arith, z, e))),
-    sum_none (λ (l : Lane D L M). l.share.failed) lanes (λ k d below. (rest k d below).1),
+    sum_none (λ (l : Lane D L M). l.share.left) lanes left,
+    sum_none (λ (l : Lane D L M). l.share.failed) lanes (λ k d below. (way k d below).read.failed ∙ ap (count_by is_failed) (done k d below).1),
     parts,
   )
     where
       way : (k : ℕ) (d : Lane D L M) → k < length lanes → IsUnderWay g th now (get_or firsts k d) (get_or lanes k d)
       way k d below = p.each k d (omega (arith, below, p.as_many))
 
-      rest : (k : ℕ) (d : Lane D L M) → k < length lanes → ((get_or lanes k d).share.left ≡ length (get_or firsts k d).chunks.items - (get_or lanes k d).done) × ((get_or lanes k d).share.failed ≡ 0)
-      rest k d below = subst (λ o. Waits g now.collector.chunks (get_or firsts k d) (get_or lanes k d) o) (done k d below).1 (way k d below).waits
+      left : (k : ℕ) (d : Lane D L M) → k < length lanes → (get_or lanes k d).share.left ≡ 0
+      left k d below =
+          let z = (done k d below).0 in
+          let none = ap length (done k d below).1 in
+          let e = ap (λ (v : _). length v.items) (chunks_kept (way k d below).read) in
+          (way k d below).read.left ∙ omega (arith, z, e, none)
 
       parts : sum_by (λ (l : Lane D L M). l.share.parts) lanes ≡ sum_by (λ (l : Lane D L M). l.share.parts) firsts
-      parts = same_sums (λ (l : Lane D L M). l.share.parts) lanes firsts p.as_many (λ k d below. (way k d below).parts)
+      parts = same_sums (λ (l : Lane D L M). l.share.parts) lanes firsts p.as_many (λ k d below. (way k d below).read.parts)

@@ -1,5 +1,5 @@
 -- A pass begins: devices have left for lanes.
-use Rattle.std.proofs.Common.{◌≡◌, ℕ, ◌<◌, ◌≤◌, ◌||◌, Bool, true, false, inl, inr, List, length, map, get_or, slice_index, refl, ap, sym, ◌∙◌, arith, subst}
+use Rattle.std.proofs.Common.{◌≡◌, ℕ, ◌<◌, ◌≤◌, ◌||◌, Bool, true, false, inl, inr, [], List, length, map, get_or, slice_index, refl, ap, sym, ◌∙◌, arith, subst}
 use Rattle.std.specs.List.{All}
 use Rattle.std.specs.Int.{div_ceil}
 use Rattle.std.proofs.lemmas.Bool.{cases_lt}
@@ -16,10 +16,11 @@ use Rattle.md_pass.specs.Places.{AreInTurn, AreTaken, FitPlaces, AreApart}
 use Rattle.md_pass.specs.Readings.{IsLaneOf, IsOrderOf}
 use Rattle.md_pass.specs.Settling.{Books}
 use Rattle.md_pass.specs.Sources.{MayRead}
-use Rattle.md_pass.specs.Passes.{HasBooks, IsFirst, IsUnderWay, IsPassing, Waits}
+use Rattle.md_pass.specs.Passes.{HasBooks, IsFirst, IsUnderWay, IsPassing}
 use Rattle.md_pass.proofs.InTurn.{taken_at, turns_fit}
-use Rattle.md_pass.proofs.OnlyReads.{not_read}
 use Rattle.md_pass.proofs.Orders.{one_slot, order_apart, order_chunk, order_planned, slot_at}
+use Rattle.md_pass.proofs.Rounds.{first_goes}
+use Rattle.md_pass.proofs.Workers.{none_read}
 
 no_source : Source
 no_source = record { place = 0; role = 0; offset = 0 }
@@ -92,18 +93,14 @@ still start fresh = record {
 
 -- a reading as long as the lane's
 pub reading_like : {D L M : Type 0} → Lane D L M → Reading
-reading_like lane = record { source = no_source; chunks = lane.chunks; spare = lane.spare }
+reading_like lane = record { source = no_source; chunks = lane.chunks; reports = []; none_waits = refl }
 
 module _ {D L M : Type 0} {g : Ghosts D} where
   begun : (th : Bool) (start : Books) (lane : Lane D L M) → IsFirst g start lane → IsUnderWay g th start lane lane
   begun th start lane first = record {
-    kept = refl;
-    only_read = not_read lane.device;
-    within = let z = first.none_done in omega (arith, z);
+    read = none_read lane (record { goes = first_goes start start.collector.chunks lane first refl; none_waits = first.none_waits; none_failed = first.none_failed });
     landed = λ j below. absurd (let z = first.none_done in omega (arith, z, below));
     waiting = λ j from below. first.unreported j below;
-    waits = subst (λ o. Waits g start.collector.chunks lane lane o) (sym first.none_waits) (first.left ∙ (let z = first.none_done in omega (arith, z)), first.none_failed);
-    parts = refl;
   }
 
   first_of : (start : Books) (r : Reading) (lane : Lane D L M) → IsFresh start.collector → ArePlanned start.collector.chunks start.collector.slots → IsOrderOf start.collector.slots r.source.role r.chunks.items → IsLaneOf r lane

@@ -1,5 +1,5 @@
 -- The collector takes the reports of all lanes.
-use Rattle.std.proofs.Common.{◌≡◌, ◌≢◌, ℕ, ◌+◌, ◌<◌, Bool, ◌⊎◌, inl, inr, List, length, set, Option, Some, None, slice_index, get_or, refl, ap, sym, ◌∙◌, arith, subst, length-set}
+use Rattle.std.proofs.Common.{◌≡◌, ◌≢◌, ℕ, suc, ◌+◌, ◌-◌, ◌<◌, ◌∷◌, [], Bool, ◌⊎◌, inl, inr, List, length, set, slice_index, get_or, refl, ap, sym, ◌∙◌, arith, subst, length-set}
 use Rattle.std.proofs.lemmas.List.{get_or_default, get_or-set_same, get_or-set_other}
 use Rattle.std.proofs.lemmas.Bool.{cases_lt}
 use Rattle.md_device.specs.declared.device.Device.{Ghosts}
@@ -9,7 +9,7 @@ use Rattle.md_pass.specs.declared.lane.Lane.{Lane}
 use Rattle.md_pass.specs.Settling.{Books, IsAllowed, IsTaken, IsSettled}
 use Rattle.md_pass.specs.Passes.{IsUnderWay, IsPassing, Goes}
 use Rattle.md_pass.proofs.Besides.{planned_has}
-use Rattle.md_pass.proofs.Settles.{Changes, allowed, books_more, other_stays, planned_by, same_stays, waits_for}
+use Rattle.md_pass.proofs.Settles.{Changes, allowed, books_more, first_waits, other_stays, planned_by, same_stays}
 
 pub same_or_other : (j k : ℕ) → (j ≡ k) ⊎ (j ≢ k)
 same_or_other j k =
@@ -45,17 +45,17 @@ module _ {D L M : Type 0} {g : Ghosts D} {th : Bool} {firsts lanes : List (Lane 
   allowed_at p k lane within is = allowed (p.begins k lane (omega (arith, p.as_many, within))) p.books p.covers (way_of p k lane lane within is)
 
   -- a report was taken, of lane k
-  taken_one : {new : Books} (k : ℕ) (lane lane' : Lane D L M) (r : ReportView) → IsPassing g th firsts lanes start old → k < length lanes → lane ≡ get_or lanes k lane
-      → lane.report ≡ Some r → IsTaken th old new lane lane' r → Changes old new r.chunk
+  taken_one : {new : Books} (k : ℕ) (lane lane' : Lane D L M) (r : ReportView) (rest : List ReportView) → IsPassing g th firsts lanes start old → k < length lanes → lane ≡ get_or lanes k lane
+      → lane.reports ≡ r ∷ rest → IsTaken th old new lane lane' r rest → Changes old new r.chunk
       → IsPassing g th firsts (set lanes k lane') start new
-  taken_one {new = new} k lane lane' r p within is e taken out =
+  taken_one {new = new} k lane lane' r rest p within is e taken out =
       let here : k < length firsts = omega (arith, p.as_many, within) in
       let first = get_or firsts k lane in
       let way = way_of p k lane lane within is in
       let begins = p.begins k lane here in
-      let a = waits_for r way e in
+      let (some, a) = first_waits r rest way e in
       let chunks : old.collector.chunks ≡ start.collector.chunks = ap (λ (c : Copying). c.chunks) p.books.same_copy in
-      let chunk : IsChunk old.collector.chunks r.chunk = rw (a.chunk_is, chunks) (begins.chunk lane.done a.some) in
+      let chunk : IsChunk old.collector.chunks r.chunk = rw (a.chunk_is, chunks) (begins.chunk lane.done some) in
       record {
         begins = p.begins;
         apart = p.apart;
@@ -68,20 +68,20 @@ module _ {D L M : Type 0} {g : Ghosts D} {th : Bool} {firsts lanes : List (Lane 
             (λ j' d' e' below' other. other_stays (get_or firsts j' d') (get_or lanes j' e') taken out
             (λ i wi eq.
             let same : get_or firsts k d' ≡ first = get_or_default firsts k d' lane here in
-            other (p.apart j' k i lane.done d' below' here wi (rw same a.some) (eq ∙ a.chunk_is ∙ ap (λ (f : Lane D L M). slice_index f.chunks.items lane.done) (sym same))).0)
+            other (p.apart j' k i lane.done d' below' here wi (rw same some) (eq ∙ a.chunk_is ∙ ap (λ (f : Lane D L M). slice_index f.chunks.items lane.done) (sym same))).0)
             (subst (λ l. IsUnderWay g th old (get_or firsts j' d') l) (get_or_default lanes j' d' e' (omega (arith, p.as_many, below'))) (p.each j' d' below')))
             j d d below;
-        books = books_more taken out p.books (planned_has start.collector.slots r.chunk r.source (planned_by r begins way e));
+        books = books_more taken out p.books (planned_has start.collector.slots r.chunk r.source (planned_by r rest begins way e));
       }
 
   pub settled_one : {new : Books} (k : ℕ) (lane lane' : Lane D L M) → IsPassing g th firsts lanes start old → k < length lanes → lane ≡ get_or lanes k lane
-      → IsSettled th old new lane lane' lane.report
+      → IsSettled th old new lane lane' lane.reports
       → IsPassing g th firsts (set lanes k lane') start new
-  settled_one {new = new} k lane lane' p within is settled = by lane.report refl settled
+  settled_one {new = new} k lane lane' p within is settled = by lane.reports refl settled
     where
-      by : (o : Option ReportView) → lane.report ≡ o → IsSettled th old new lane lane' o → IsPassing g th firsts (set lanes k lane') start new
-      by (Some r) e s = taken_one k lane lane' r p within is e s s.changes
-      by None e s =
+      by : (o : List ReportView) → lane.reports ≡ o → IsSettled th old new lane lane' o → IsPassing g th firsts (set lanes k lane') start new
+      by (r ∷ rest) e s = taken_one k lane lane' r rest p within is e s s.changes
+      by [] e s =
           record {
             begins = p.begins;
             apart = p.apart;
@@ -95,16 +95,21 @@ module _ {D L M : Type 0} {g : Ghosts D} {th : Bool} {firsts lanes : List (Lane 
             books = rw s.0 p.books;
           }
 
--- a lane before and after its report is taken
-pub goes_one : {D L M : Type 0} (th : Bool) (old new : Books) (lane lane' : Lane D L M) → IsSettled th old new lane lane' lane.report → Goes lane lane' × (lane'.report ≡ None)
-goes_one {D = D} {L = L} {M = M} th old new lane lane' is = by lane.report refl is
+-- a lane before and after the report that waits first is taken
+pub goes_one : {D L M : Type 0} (th : Bool) (old new : Books) (lane lane' : Lane D L M) → IsSettled th old new lane lane' lane.reports → Goes lane lane' × (length lane'.reports ≡ length lane.reports - 1)
+goes_one {D = D} {L = L} {M = M} th old new lane lane' is = by lane.reports refl is
   where
-    by : (o : Option ReportView) → lane.report ≡ o → IsSettled th old new lane lane' o → Goes lane lane' × (lane'.report ≡ None)
-    by None e s = (rw s.1 (record { starved = refl; done = refl }), ap (λ (l : Lane D L M). l.report) s.1 ∙ e)
-    by (Some r) e s =
-        let report : lane'.report ≡ None = ap (λ (l : Lane D L M). l.report) s.kept in
+    by : (o : List ReportView) → lane.reports ≡ o → IsSettled th old new lane lane' o → Goes lane lane' × (length lane'.reports ≡ length lane.reports - 1)
+    by [] e s = (rw s.1 (record { starved = refl; read = refl }), let n : length lane.reports ≡ 0 = ap length e in ap (λ (l : Lane D L M). length l.reports) s.1 ∙ omega (arith, n))
+    by (r ∷ rest) e s =
+        let one : length lane'.reports ≡ length rest = ap (λ (l : Lane D L M). length l.reports) s.kept in
+        let n : length lane.reports ≡ suc (length rest) = ap length e in
         let done : lane'.done ≡ lane.done + 1 = ap (λ (l : Lane D L M). l.done) s.kept in
-        (record { starved = ap (λ (l : Lane D L M). l.starved) s.kept; done = rw (report, e, done) (omega arith) }, report)
+        (record { starved = ap (λ (l : Lane D L M). l.starved) s.kept; read = omega (arith, one, n, done) }, omega (arith, one, n))
 
 pub goes_on : {D L M : Type 0} (a b c : Lane D L M) → Goes a b → Goes b c → Goes a c
-goes_on a b c first second = record { starved = second.starved ∙ first.starved; done = second.done ∙ first.done }
+goes_on a b c first second = record { starved = second.starved ∙ first.starved; read = second.read ∙ first.read }
+
+pub none_left : {X : Type 0} (xs : List X) → length xs ≡ 0 → xs ≡ []
+none_left [] none = refl
+none_left (x ∷ xs) none = absurd (omega (arith, none))

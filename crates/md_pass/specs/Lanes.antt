@@ -1,11 +1,12 @@
--- A lane: a source, and the chunks that it reads one after another. Before and after its worker reads one.
-use Rattle.std.specs.Prelude.{◌≡◌, ℕ, ◌-◌, ◌<◌, ◌≤◌, true, false, List, length, Option, Some, None, slice_get, slice_index, slice_index_or, not, is_none}
+-- A lane: a source, and the chunks that it reads one after another. Before and after its worker reads the next of them.
+use Rattle.std.specs.Prelude.{◌≡◌, ℕ, ◌+◌, ◌-◌, ◌<◌, ◌≤◌, ◌++◌, ◌∷◌, [], Bool, true, false, List, length, Some, None, count_by, slice_index, slice_index_or, not, is_none}
 use Rattle.md_device.specs.declared.device.Device.{Ghosts}
 use Rattle.md_bitmap.specs.declared.chunks.Chunks.{Chunks}
 use Rattle.md_collect.specs.Places.{IsChunk, HasRoom, bytes_of}
 use Rattle.md_collect.specs.Reading.{IsChunkOf, Fails, LeavesContent}
 use Rattle.md_collect.specs.Reports.{ReportView}
 use Rattle.md_pass.specs.declared.lane.Lane.{Lane}
+use Rattle.md_pass.specs.Batches.{batch_of}
 use Rattle.md_pass.specs.Tally.{noted}
 
 module _ {D : Type 0} (g : Ghosts D) where
@@ -29,26 +30,69 @@ module _ {D : Type 0} (g : Ghosts D) where
     pub delivered : (bytes : List ℕ) → r.bytes ≡ Some bytes → IsChunkOf g old offset chunks chunk bytes
     pub failed : r.bytes ≡ None → Fails g old new
 
+-- the source could not be read
+abbrev pub is_failed : ReportView → Bool
+is_failed r = is_none r.bytes
+
+-- how many of a lane's slots were read
+abbrev pub slots_read : {D L M : Type 0} → Lane D L M → ℕ
+slots_read lane = lane.done + length lane.reports
+
 module _ {D L M : Type 0} (g : Ghosts D) where
-  -- before a turn: no report waits, each slot is a chunk that lies on the device, and the share has the slots that are still to come
-  pub record IsReady (chunks : Chunks) (lane : Lane D L M) : Type 0 where
+  -- A lane since it was `first`: slots were read, and some of them settled. The reports of the others wait, in order. Its share has no slot more that
+  -- was read, and as failed those that wait and could not be read.
+  pub record HasRead (chunks : Chunks) (first lane : Lane D L M) : Type 0 where
+    pub kept : lane ≡ record first { device = lane.device; done = lane.done; share = lane.share; reports = lane.reports; starved = lane.starved }
+    pub only_read : OnlyRead g first.device lane.device
+    pub within : slots_read lane ≤ length first.chunks.items
+    pub each : (i : ℕ) (r : ReportView) → i < length lane.reports
+        → IsReport g first.device lane.device first.offset chunks (slice_index first.chunks.items (lane.done + i)) first.role (slice_index_or lane.reports i r)
+    pub left : lane.share.left ≡ length first.chunks.items - slots_read lane
+    pub failed : lane.share.failed ≡ count_by is_failed lane.reports
+    pub parts : lane.share.parts ≡ first.share.parts
+
+  -- its slots are chunks that lie on the device, and the share has those that were not read
+  pub record MayGoOn (chunks : Chunks) (lane : Lane D L M) : Type 0 where
     pub room : HasRoom (g.content lane.device) lane.offset chunks
     pub chunk : (j : ℕ) → j < length lane.chunks.items → IsChunk chunks (slice_index lane.chunks.items j)
-    pub taken : lane.report ≡ None
-    pub left : lane.share.left ≡ length lane.chunks.items - lane.done
+    pub within : slots_read lane ≤ length lane.chunks.items
+    pub left : lane.share.left ≡ length lane.chunks.items - slots_read lane
 
-  -- of a lane whose next slot is this chunk: its report, noted on its share; or nothing, where memory was refused
-  abbrev pub IsAnswered : Chunks → ℕ → Lane D L M → Lane D L M → Option ReportView → Type 0
-  IsAnswered chunks chunk old new None = (new.starved ≡ true) × (new.share ≡ old.share)
-  IsAnswered chunks chunk old new (Some r) =
-      (new.starved ≡ false) × (new.share ≡ noted old.share (not (is_none r.bytes))) × IsReport g old.device new.device old.offset chunks chunk old.role r
+  -- before a turn: no report waits
+  pub record IsReady (chunks : Chunks) (lane : Lane D L M) : Type 0 where
+    pub goes : MayGoOn chunks lane
+    pub none_waits : lane.reports ≡ []
+    pub none_failed : lane.share.failed ≡ 0
 
-  abbrev pub IsAnsweredAt : Chunks → Option ℕ → Lane D L M → Lane D L M → Type 0
-  IsAnsweredAt chunks None old new = (new.report ≡ None) × (new.starved ≡ false) × (new.share ≡ old.share)
-  IsAnsweredAt chunks (Some chunk) old new = IsAnswered chunks chunk old new new.report
-
-  -- a lane before and after its worker
+  -- A lane before and after its worker: its next slots were read, no more than a batch has, and at least one unless there was none or memory was
+  -- refused.
   pub record HasWorked (chunks : Chunks) (old new : Lane D L M) : Type 0 where
-    pub kept : new ≡ record old { device = new.device; share = new.share; report = new.report; spare = new.spare; starved = new.starved }
+    pub read : HasRead chunks old new
+    pub done : new.done ≡ old.done
+    pub few : length new.reports ≤ batch_of chunks
+    pub some : new.starved ≡ false → old.done < length old.chunks.items → 0 < length new.reports
+
+  -- the next slot was read, and noted on the share
+  pub record IsRead (chunks : Chunks) (old new : Lane D L M) : Type 0 where
+    pub within : slots_read old < length old.chunks.items
+    pub report : ReportView
+    pub reports : new.reports ≡ old.reports ++ report ∷ []
+    pub share : new.share ≡ noted old.share (not (is_failed report))
+    pub starved : new.starved ≡ old.starved
+    pub is : IsReport g old.device new.device old.offset chunks (slice_index old.chunks.items (slots_read old)) old.role report
+
+  -- there was none, or memory for it was refused
+  pub record IsUnread (old new : Lane D L M) : Type 0 where
+    pub reports : new.reports ≡ old.reports
+    pub share : new.share ≡ old.share
+    pub why : new.starved ≡ false → length old.chunks.items ≤ slots_read old
+
+  abbrev pub IsReadOrNot : Chunks → Lane D L M → Lane D L M → Bool → Type 0
+  IsReadOrNot chunks old new true = IsRead chunks old new
+  IsReadOrNot chunks old new false = IsUnread old new
+
+  -- a lane before and after its next slot was read, or was not
+  pub record GoesOn (chunks : Chunks) (old new : Lane D L M) (read : Bool) : Type 0 where
+    pub kept : new ≡ record old { device = new.device; share = new.share; reports = new.reports; starved = new.starved }
     pub only_read : OnlyRead g old.device new.device
-    pub answered : IsAnsweredAt chunks (slice_get old.chunks.items old.done) old new
+    pub next : IsReadOrNot chunks old new read

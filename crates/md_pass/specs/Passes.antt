@@ -1,15 +1,14 @@
 -- A pass: its lanes and its books, as it began and now.
-use Rattle.std.specs.Prelude.{◌≡◌, ℕ, ◌+◌, ◌-◌, ◌<◌, ◌≤◌, ◌||◌, Bool, true, false, List, length, Option, Some, None, is_some, cond, slice_index, slice_index_or}
+use Rattle.std.specs.Prelude.{◌≡◌, ℕ, ◌<◌, ◌≤◌, ◌||◌, Bool, true, false, [], List, length, slice_index, slice_index_or}
 use Rattle.md_device.specs.declared.device.Device.{Ghosts}
-use Rattle.md_bitmap.specs.declared.chunks.Chunks.{Chunks}
 use Rattle.md_bitmap.specs.Marks.{is_set}
-use Rattle.md_collect.specs.Places.{IsChunk, HasRoom, bytes_of, chunk_on}
-use Rattle.md_collect.specs.Reading.{IsChunkOf, Fails}
-use Rattle.md_collect.specs.Reports.{ReportView, is_planned}
+use Rattle.md_collect.specs.Places.{IsChunk, HasRoom, chunk_on}
+use Rattle.md_collect.specs.Reading.{Fails}
+use Rattle.md_collect.specs.Reports.{is_planned}
 use Rattle.md_collect.specs.Collecting.{copying}
 use Rattle.md_pass.specs.declared.lane.Lane.{Lane}
 use Rattle.md_pass.specs.Beside.{has_chunk}
-use Rattle.md_pass.specs.Lanes.{OnlyRead}
+use Rattle.md_pass.specs.Lanes.{HasRead, OnlyRead, slots_read}
 use Rattle.md_pass.specs.Settling.{Books}
 
 -- Books as a pass began, and now. What was reported since was planned, and was copied.
@@ -37,7 +36,7 @@ module _ {D L M : Type 0} (g : Ghosts D) where
     pub chunk : (j : ℕ) → j < length lane.chunks.items → IsChunk first.collector.chunks (slice_index lane.chunks.items j)
     pub unreported : (j : ℕ) → j < length lane.chunks.items → is_set first.collector.reported.bytes (slice_index lane.chunks.items j) ≡ false
     pub none_done : lane.done ≡ 0
-    pub none_waits : lane.report ≡ None
+    pub none_waits : lane.reports ≡ []
     pub left : lane.share.left ≡ length lane.chunks.items
     pub none_failed : lane.share.failed ≡ 0
 
@@ -47,30 +46,11 @@ module _ {D L M : Type 0} (g : Ghosts D) where
     pub holds : g.honest first.device ≡ true → honest ≡ true
         → chunk_on now.target now.collector.offset now.collector.chunks c ≡ chunk_on (g.content first.device) first.offset now.collector.chunks c
 
-  -- its next report waits, and its share has the slot no more
-  pub record Awaits (chunks : Chunks) (first lane : Lane D L M) (r : ReportView) : Type 0 where
-    pub some : lane.done < length first.chunks.items
-    pub chunk_is : r.chunk ≡ slice_index first.chunks.items lane.done
-    pub role_is : r.source ≡ first.role
-    pub whole : (bytes : List ℕ) → r.bytes ≡ Some bytes → length bytes ≡ bytes_of chunks r.chunk
-    pub delivered : (bytes : List ℕ) → r.bytes ≡ Some bytes → IsChunkOf g first.device first.offset chunks r.chunk bytes
-    pub failed : r.bytes ≡ None → Fails g first.device lane.device
-    pub left : lane.share.left ≡ length first.chunks.items - (lane.done + 1)
-    pub failures : lane.share.failed ≡ cond (is_some r.bytes) 0 1
-
-  abbrev pub Waits : Chunks → Lane D L M → Lane D L M → Option ReportView → Type 0
-  Waits chunks first lane None = (lane.share.left ≡ length first.chunks.items - lane.done) × (lane.share.failed ≡ 0)
-  Waits chunks first lane (Some r) = Awaits chunks first lane r
-
   -- a lane as the pass began, and now
   pub record IsUnderWay (honest : Bool) (now : Books) (first lane : Lane D L M) : Type 0 where
-    pub kept : lane ≡ record first { device = lane.device; done = lane.done; share = lane.share; report = lane.report; spare = lane.spare; starved = lane.starved }
-    pub only_read : OnlyRead g first.device lane.device
-    pub within : lane.done ≤ length first.chunks.items
+    pub read : HasRead g now.collector.chunks first lane
     pub landed : (j : ℕ) → j < lane.done → HasLanded honest now first (slice_index first.chunks.items j)
     pub waiting : (j : ℕ) → lane.done ≤ j → j < length first.chunks.items → is_set now.collector.reported.bytes (slice_index first.chunks.items j) ≡ false
-    pub waits : Waits now.collector.chunks first lane lane.report
-    pub parts : lane.share.parts ≡ first.share.parts
 
   -- a pass as it began, and now
   pub record IsPassing (honest : Bool) (firsts lanes : List (Lane D L M)) (first now : Books) : Type 0 where
@@ -95,11 +75,7 @@ module _ {D L M : Type 0} (g : Ghosts D) where
     pub chunk_is : (d : Lane D L M) → (j : ℕ) × (j < length (slice_index_or firsts at d).chunks.items) × (slice_index (slice_index_or firsts at d).chunks.items j ≡ chunk)
     pub fails : (d : Lane D L M) → Fails g (slice_index_or firsts at d).device (slice_index_or lanes at d).device
 
--- how many reports wait in a lane
-abbrev pub waiting : Option ReportView → ℕ
-waiting r = cond (is_some r) 1 0
-
--- a lane before and after its report was taken, if one waited
+-- a lane before and after some of its reports were taken
 pub record Goes {D L M : Type 0} (old new : Lane D L M) : Type 0 where
   pub starved : new.starved ≡ old.starved
-  pub done : new.done + waiting new.report ≡ old.done + waiting old.report
+  pub read : slots_read new ≡ slots_read old

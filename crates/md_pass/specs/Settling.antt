@@ -1,5 +1,5 @@
 -- What stands between two steps of a pass, and what becomes of it when a lane's report is taken.
-use Rattle.std.specs.Prelude.{◌≡◌, ℕ, ◌+◌, ◌<◌, ◌==◌, ◌||◌, Bool, true, List, length, Option, Some, None, slice_index_or}
+use Rattle.std.specs.Prelude.{◌≡◌, ℕ, ◌+◌, ◌<◌, ◌≤◌, ◌==◌, ◌||◌, ◌∷◌, [], Bool, true, List, length, Some, None, slice_index_or}
 use Rattle.md_bitmap.specs.Marks.{Bitmap, is_set}
 use Rattle.md_collect.specs.Places.{with_chunk}
 use Rattle.md_collect.specs.Reports.{ReportView}
@@ -7,6 +7,7 @@ use Rattle.md_collect.specs.Collecting.{CollectorView, refusal_of, IsCounted}
 use Rattle.md_collect.specs.Targets.{ChangesChunk}
 use Rattle.md_pass.specs.declared.lane.Lane.{Lane}
 use Rattle.md_pass.specs.Beside.{has_chunk}
+use Rattle.md_pass.specs.Lanes.{slots_read}
 
 -- the collector, what stands on the target, and the chunks that were copied
 pub record Books : Type 0 where
@@ -23,33 +24,34 @@ pub record IsMarked (chunk : ℕ) (old new : Bitmap) : Type 0 where
   pub bits : (c : ℕ) → is_set new.bytes c ≡ (c == chunk || is_set old.bytes c)
 
 module _ {D L M : Type 0} where
-  -- the collector will take the report that waits
+  -- the collector will take the report that waits first
   pub record IsAllowed (collector : CollectorView) (copied : Bitmap) (lane : Lane D L M) : Type 0 where
-    pub counts : (r : ReportView) → lane.report ≡ Some r → refusal_of collector r ≡ None
-    pub planned : (r : ReportView) → lane.report ≡ Some r → has_chunk collector.slots r.chunk ≡ true
-    pub chunk : (r : ReportView) → lane.report ≡ Some r → r.chunk < copied.chunks
-    pub waits : (r : ReportView) → lane.report ≡ Some r → lane.done < length lane.chunks.items
+    pub counts : (r : ReportView) (rest : List ReportView) → lane.reports ≡ r ∷ rest → refusal_of collector r ≡ None
+    pub planned : (r : ReportView) (rest : List ReportView) → lane.reports ≡ r ∷ rest → has_chunk collector.slots r.chunk ≡ true
+    pub chunk : (r : ReportView) (rest : List ReportView) → lane.reports ≡ r ∷ rest → r.chunk < copied.chunks
+    pub within : slots_read lane ≤ length lane.chunks.items
 
-  -- the report was taken: its bytes stand on the target
-  pub record IsTaken (honest : Bool) (old new : Books) (lane lane' : Lane D L M) (r : ReportView) : Type 0 where
+  -- it was taken: its bytes stand on the target
+  pub record IsTaken (honest : Bool) (old new : Books) (lane lane' : Lane D L M) (r : ReportView) (rest : List ReportView) : Type 0 where
     pub counted : IsCounted r.chunk old.collector new.collector
     pub marked : IsMarked r.chunk old.copied new.copied
     pub changes : ChangesChunk old.collector r.chunk old.target new.target
-    pub kept : lane' ≡ record lane { done = lane.done + 1; report = None; spare = lane'.spare }
+    pub kept : lane' ≡ record lane { done = lane.done + 1; reports = rest }
     pub bytes : List ℕ
     pub delivered : r.bytes ≡ Some bytes
     pub holds : honest ≡ true → new.target ≡ with_chunk old.target old.collector.offset old.collector.chunks r.chunk bytes
 
-  -- a lane and the books before and after its report is taken
-  abbrev pub IsSettled : Bool → Books → Books → Lane D L M → Lane D L M → Option ReportView → Type 0
-  IsSettled honest old new lane lane' None = (new ≡ old) × (lane' ≡ lane)
-  IsSettled honest old new lane lane' (Some r) = IsTaken honest old new lane lane' r
+  -- a lane and the books before and after the first of these reports is taken
+  abbrev pub IsSettled : Bool → Books → Books → Lane D L M → Lane D L M → List ReportView → Type 0
+  IsSettled honest old new lane lane' [] = (new ≡ old) × (lane' ≡ lane)
+  IsSettled honest old new lane lane' (r ∷ rest) = IsTaken honest old new lane lane' r rest
 
-  -- what waits says that the source could not be read in this chunk
+  -- what waits first says that the source could not be read in this chunk
   pub record HasFailed (role chunk : ℕ) (lane : Lane D L M) : Type 0 where
     pub role_is : lane.role ≡ role
     pub report : ReportView
-    pub waits : lane.report ≡ Some report
+    pub rest : List ReportView
+    pub waits : lane.reports ≡ report ∷ rest
     pub chunk_is : report.chunk ≡ chunk
     pub failed : report.bytes ≡ None
 

@@ -1,15 +1,16 @@
 // A source with the chunks that it reads, and the worker that reads the next of them.
-ghost use Rattle.std.specs.Prelude.{◌≡◌, ◌+◌, ◌-◌, ◌<◌, true, false, Some, None, ℕ, slice_get};
-ghost use Rattle.md_pass.specs.Lanes.{IsReady, HasWorked};
+ghost use Rattle.std.specs.Prelude.{◌≡◌, ◌<◌, ◌≤◌, length, slice_get};
+ghost use Rattle.md_pass.specs.Lanes.{GoesOn, HasWorked, IsReady, MayGoOn, slots_read};
 ghost use Rattle.md_pass.specs.Tally.{noted};
 
+use crate::batch::batch_of;
 use crate::board::{Board, Share};
 use crate::gate::Gate;
+use crate::reports::Reports;
 use md_bitmap::Chunks;
-use md_collect::{Report, read_chunk_into};
+use md_collect::read_chunk_into;
 use md_device::Device;
 use std::alloc::Global;
-use std::mem;
 use std::sync::ledger::Ledger;
 use std::sync::{Mutex, Wait};
 
@@ -27,10 +28,8 @@ pub(crate) struct Lane<D, L: Ledger, M: Ledger> {
     pub(crate) done: usize,
     /// Its share of the board.
     pub(crate) share: Share<L, M>,
-    /// What the collector has not yet taken.
-    pub(crate) report: Option<Report>,
-    /// The memory of the report before, for the next one.
-    pub(crate) spare: Vec<u8>,
+    /// What the collector has not yet taken: of the chunks that come next.
+    pub(crate) reports: Reports,
     /// Whether memory for the next chunk was refused.
     pub(crate) starved: bool,
 }
@@ -38,14 +37,15 @@ pub(crate) struct Lane<D, L: Ledger, M: Ledger> {
 impl<D, L: Ledger, M: Ledger> Lane<D, L, M> {
     // The chunk that it reads next, if there is one.
     fn next_chunk(&self) -> Option<u32>
-        ensures { result ≡ slice_get self.now.chunks.items self.now.done }
+        requires { slots_read self.now ≤ length self.now.chunks.items }
+        ensures { result ≡ slice_get self.now.chunks.items (slots_read self.now) }
     {
-        self.chunks.get(self.done).copied()
+        self.chunks.get(self.done + self.reports.len()).copied()
     }
 }
 
-/// Reads the lane's next chunk, if there is one, and notes it on the board. Neither the read nor the gate
-/// is under the board's lock. Where memory was refused nothing is read or noted.
+/// Reads the lane's next chunks, as many as a batch has or as there are, one after another. Where memory
+/// was refused it ends there.
 pub(crate) fn work<D: Device, G: Gate, L: Ledger, M: Ledger, R: Wait>(
     rt: &R,
     alloc: Global,
@@ -58,10 +58,30 @@ pub(crate) fn work<D: Device, G: Gate, L: Ledger, M: Ledger, R: Wait>(
     ensures { HasWorked D.Device chunks lane.old lane.new }
 {
     lane.starved = false;
+    for _slot in 0..batch_of(chunks) {
+        if !read_next(rt, alloc, gate, board, chunks, lane) {
+            return;
+        }
+    }
+}
+
+// Reads the lane's next chunk, if there is one, notes it on the board, and answers whether it did. Neither
+// the read nor the gate is under the board's lock. Where memory was refused nothing is noted.
+fn read_next<D: Device, G: Gate, L: Ledger, M: Ledger, R: Wait>(
+    rt: &R,
+    alloc: Global,
+    gate: &G,
+    board: &Mutex<Board<L, M>>,
+    chunks: Chunks,
+    lane: &mut Lane<D, L, M>,
+) -> bool
+    requires { MayGoOn D.Device chunks lane.old }
+    ensures { GoesOn D.Device chunks lane.old lane.new result }
+{
     let Some(chunk) = lane.next_chunk() else {
-        return;
+        return false;
     };
-    let spare = mem::replace(&mut lane.spare, Vec::new(alloc));
+    let spare = lane.reports.spare(alloc);
     gate.before_read(lane.role, chunk);
     let answer = read_chunk_into(
         alloc,
@@ -73,14 +93,17 @@ pub(crate) fn work<D: Device, G: Gate, L: Ledger, M: Ledger, R: Wait>(
         chunk,
     );
     gate.after_read(lane.role, chunk);
-    match answer {
-        Ok(report) => {
-            let delivered = !report.is_failed();
-            note(rt, board, &mut lane.share, delivered);
-            lane.report = Some(report);
-        }
-        Err(_) => lane.starved = true,
+    let Ok(report) = answer else {
+        lane.starved = true;
+        return false;
+    };
+    let delivered = !report.is_failed();
+    if lane.reports.push(report).is_err() {
+        lane.starved = true;
+        return false;
     }
+    note(rt, board, &mut lane.share, delivered);
+    true
 }
 
 // Notes a slot on the board, under its lock.

@@ -16,7 +16,8 @@ use crate::fault::PassFault;
 use crate::gate::Gate;
 use crate::places::places_in_turn;
 use crate::put_back::put_back;
-use crate::reading::{Reading, readings_of, turns_of};
+use crate::reading::Reading;
+use crate::readings::{readings_of, turns_of};
 use crate::source::Source;
 use crate::take_out::take_out;
 use crate::turns::run_turns;
@@ -41,14 +42,15 @@ pub struct BoardCounts {
 
 /// Copies the chunks of a plan to the target, whose data start at sector `offset` of its device.
 ///
-/// `devices` are all but the target's. In turn i each source that has an i-th slot, in the order of
-/// rounds, reads that chunk in a worker of its own; then the collector takes what they report, the lowest
-/// role first, and `copied` gets a mark for each chunk. All memory but that of a worker whose last chunk
-/// was shorter than the next is taken before a device leaves the list. The devices are back in their order
+/// `devices` are all but the target's. Each source reads the chunks of its slots in the order of rounds, in
+/// a worker of its own: in a turn those of 1 MiB, or one where a chunk is longer. Then the collector takes
+/// what they report, first that of each source's first chunk in the turn, the lowest role first, then that
+/// of the second, and `copied` gets a mark for each chunk. All memory but that of a worker that read a
+/// shorter chunk before is taken before a device leaves the list. The devices are back in their order
 /// whatever the answer is.
 ///
 /// A read that fails ends the pass with `SourceFault`, the role and the chunk; a write that fails ends it
-/// with `TargetFault`. After a fault the target may have any bytes in the chunks of the plan, and nothing
+/// with `TargetFault`. By then later chunks of the turn may have been read. After a fault the target may have any bytes in the chunks of the plan, and nothing
 /// is said of `copied`.
 pub fn copy_pass<D: Device + Drop + Send, G: Gate + Sync, R: Threads + Wait + Sync>(
     rt: &R,
@@ -80,9 +82,8 @@ pub fn copy_pass<D: Device + Drop + Send, G: Gate + Sync, R: Threads + Wait + Sy
     ensures target { KeepsBeside D.Device (copy_of plan.now.slots chunks offset) target.old target.new }
 {
     let slots = plan.slots.as_slice();
-    let longest = 512 * u64::from(chunks.sectors).min(chunks.size);
     let mut collector = Collector::new(alloc, plan, chunks, offset)?;
-    let mut readings = readings_of(alloc, slots, sources, longest as usize)?;
+    let mut readings = readings_of(alloc, slots, sources, chunks)?;
     let places = places_in_turn(alloc, readings.as_slice())?;
     copy_readings::<D, G, Brand, Brand, R>(
         rt,

@@ -1,4 +1,4 @@
-// A turn: each lane's worker reads a chunk.
+// A turn: each lane's worker reads chunks.
 ghost use Rattle.std.specs.Prelude.{◌≡◌, ◌+◌, ◌-◌, ◌<◌, ◌≤◌, length, ℕ, slice_index_or};
 ghost use Rattle.std.specs.List.{All};
 ghost use Rattle.md_pass.specs.Lanes.{IsReady, HasWorked};
@@ -14,7 +14,7 @@ use std::sync::{Mutex, Wait};
 use std::thread;
 use std::thread::Threads;
 
-/// Each lane reads its next chunk in a worker of its own: the list of lanes is halved until each thread has
+/// Each lane reads its next chunks in a worker of its own: the list of lanes is halved until each thread has
 /// one. With one lane no thread is started, and where the system starts none they go one after another.
 pub(crate) fn turn<
     D: Device + Send,

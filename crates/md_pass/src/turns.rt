@@ -1,5 +1,5 @@
 // All turns of a pass.
-ghost use Rattle.std.specs.Prelude.{◌≡◌, ◌+◌, ◌<◌, ◌≤◌, length, true, false, None, ℕ, Err, OnOk};
+ghost use Rattle.std.specs.Prelude.{◌≡◌, ◌+◌, ◌<◌, ◌≤◌, length, true, false, [], ℕ, Err, OnOk};
 ghost use Rattle.std.specs.List.{All};
 ghost use Rattle.md_collect.specs.Reading.{Fails};
 ghost use Rattle.md_collect.specs.Collecting.{copying};
@@ -21,7 +21,9 @@ use std::sync::ledger::Ledger;
 use std::sync::{Mutex, Wait};
 use std::thread::Threads;
 
-/// Goes turn by turn: the workers read a chunk of each lane, and then the collector takes their reports.
+/// Goes turn by turn until each lane has read all of its chunks: the workers read the next chunks of each
+/// lane, at least one, and then the collector takes their reports. So as many turns as a lane has chunks
+/// are enough.
 pub(crate) fn run_turns<
     D: Device + Send,
     G: Gate + Sync,
@@ -47,7 +49,7 @@ pub(crate) fn run_turns<
 
     ensures passed { OnOk result (IsPassing D.Device (D.honest target.old) lanes.old.items lanes.new.items
         (books collector.old (D.content target.old) copied.old) (books collector.new (D.content target.new) copied.new)) }
-    ensures done { OnOk result (All (λ lane. (lane.done ≡ length lane.chunks.items) × (lane.report ≡ None))
+    ensures done { OnOk result (All (λ lane. (lane.done ≡ length lane.chunks.items) × (lane.reports ≡ []))
         lanes.new.items) }
     ensures target_fault { result ≡ Err PassFault.TargetFault → Fails D.Device target.old target.new }
     ensures source_fault { (role chunk : ℕ) → result ≡ Err (PassFault.SourceFault role chunk)
@@ -57,6 +59,9 @@ pub(crate) fn run_turns<
     ensures target { KeepsBeside D.Device (copying collector.old) target.old target.new }
 {
     for _turn in 0..turns {
+        if are_done(lanes.as_slice()) {
+            return Ok(());
+        }
         turn(rt, alloc, gate, board, chunks, lanes);
         if is_starved(lanes.as_slice()) {
             return Err(PassFault::NoMemory);
@@ -76,4 +81,16 @@ fn is_starved<D, L: Ledger, M: Ledger>(lanes: &[Lane<D, L, M>]) -> bool
         }
     }
     false
+}
+
+// Whether each lane has all of its chunks settled.
+fn are_done<D, L: Ledger, M: Ledger>(lanes: &[Lane<D, L, M>]) -> bool
+    ensures { result ≡ true → All (λ lane. length lane.chunks.items ≤ lane.done) lanes.now }
+{
+    for lane in lanes {
+        if lane.done < lane.chunks.len() {
+            return false;
+        }
+    }
+    true
 }

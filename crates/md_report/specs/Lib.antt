@@ -6,3 +6,5 @@ pub mod DetailReport
 pub mod PlanReport
 -- The report of a rebuild, as text, in a form of this project's own.
 pub mod RebuiltReport
+-- The report of a check, as text, in a form of this project's own.
+pub mod CheckReport

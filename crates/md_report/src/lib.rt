@@ -1,13 +1,15 @@
-//! The reports on a whole array, as text: a mirror in short and in detail, the plan of a rebuild, and a
-//! rebuild that is done.
+//! The reports on a whole array, as text: a mirror in short and in detail, the plan of a rebuild, a rebuild
+//! that is done, and a check.
 #![tactic(auto)]
 
+mod check_line;
 mod detail_report;
 mod member_lines;
 mod plan_lines;
 mod rebuilt_lines;
 mod summary_report;
 
+pub use check_line::check_report;
 pub use detail_report::detail;
 pub use plan_lines::plan_report;
 pub use rebuilt_lines::rebuilt_report;

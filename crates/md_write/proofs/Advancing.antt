@@ -144,18 +144,20 @@ module _ (Kind : Event → Type 0) (p : PendingView) (old new : MirrorView) (is 
       halted = h.loses.halted;
       still = h.loses.goes.pending p is;
     }
-    storing_stops Halted h = record {
-      halts = record {
-        mid = h.mid;
-        goes = goes_beside h.mid h.goes;
-        failing = h.failing;
-        of = widen h.failing h.of;
-        halts = λ others. h.halts (among p others);
-        sound = h.sound;
-        pending = h.pending;
-      };
-      rounds =
-          let list = h.goes.events ++ h.failing ∷ [] in
-          left_at from to list (leave list (all_on Kind h.goes.events (h.failing ∷ []) h.goes.steps (h.of, tt)));
-      later = later_refl p;
-    }
+    storing_stops Halted s =
+        let h = s.halts in
+        record {
+          halts = record {
+            mid = h.mid;
+            goes = goes_beside h.mid h.goes;
+            failing = h.failing;
+            of = widen h.failing h.of;
+            halts = λ others. h.halts (among p others);
+            sound = h.sound;
+            pending = h.pending;
+          };
+          rounds =
+              let list = h.goes.events ++ h.failing ∷ [] in
+              left_at from to list (leave list (all_on Kind h.goes.events (h.failing ∷ []) h.goes.steps (h.of, tt)));
+          later = later_refl p;
+        }

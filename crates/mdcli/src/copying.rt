@@ -1,42 +1,34 @@
 // How far a rebuild is.
+use crate::pace::Pace;
 use std::alloc::{AllocError, Global};
 use std::string::String;
-use std::sync::atomic::{AtomicBool, AtomicU64, Ordering};
-
-const MIB: u64 = 1 << 20;
+use std::sync::atomic::{AtomicU64, Ordering};
 
 /// How far a rebuild is: the chunks that it has to copy, and how many are read. Its workers count at once.
 #[derive(Drop)]
 pub struct Copying {
-    has_begun: AtomicBool,
+    pace: Pace,
     chunks: AtomicU64,
     done: AtomicU64,
-    // In milliseconds after the program began, and in bytes that it had read by then.
-    began: AtomicU64,
-    read_before: AtomicU64,
 }
 
 impl Copying {
     pub fn new() -> Copying {
         Copying {
-            has_begun: AtomicBool::new(false),
+            pace: Pace::new(),
             chunks: AtomicU64::new(0),
             done: AtomicU64::new(0),
-            began: AtomicU64::new(0),
-            read_before: AtomicU64::new(0),
         }
     }
 
     /// So many chunks are to be copied from now on.
     pub fn begin(&self, chunks: u32, now: u64, read: u64) {
         self.chunks.store(chunks as u64, Ordering::SeqCst);
-        self.began.store(now, Ordering::SeqCst);
-        self.read_before.store(read, Ordering::SeqCst);
-        self.has_begun.store(true, Ordering::SeqCst);
+        self.pace.begin(now, read);
     }
 
     pub fn has_begun(&self) -> bool {
-        self.has_begun.load(Ordering::SeqCst)
+        self.pace.has_begun()
     }
 
     /// One more chunk is read.
@@ -55,12 +47,10 @@ impl Copying {
         if done == 0 {
             return Some(format!(in alloc; "0 of {chunks} chunks"));
         }
-        let elapsed = now.saturating_sub(self.began.load(Ordering::SeqCst)).max(1);
-        let copied = read.saturating_sub(self.read_before.load(Ordering::SeqCst));
-        let left = elapsed.saturating_mul(chunks - done) / done / 1000;
+        let left = self.pace.left(now, done, chunks);
         Some(format!(in alloc;
             "{done} of {chunks} chunks, {} MiB/s, {} min {} s left",
-            copied.saturating_mul(1000) / elapsed / MIB,
+            self.pace.speed(now, read),
             left / 60,
             left % 60
         ))

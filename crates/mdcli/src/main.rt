@@ -2,8 +2,10 @@
 #![tactic(auto)]
 
 mod cleared;
+mod comparing;
 mod copying;
 mod files;
+mod pace;
 mod progress;
 mod watched;
 
@@ -73,6 +75,7 @@ fn watched_task(alloc: Global, words: &[&str]) -> Option<WatchedTask> {
             Some(WatchedTask::Read(count.saturating_mul(512)))
         }
         Action::Perform(ArrayTask::Resync, _) => Some(WatchedTask::Resync),
+        Action::Perform(ArrayTask::Check, _) => Some(WatchedTask::Check),
         Action::Rebuild(_) | Action::ReAdd(_) => Some(WatchedTask::Rebuild),
         _ => None,
     }

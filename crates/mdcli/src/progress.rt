@@ -1,4 +1,5 @@
 // What a command that takes long shows of its progress.
+use crate::comparing::Comparing;
 use crate::copying::Copying;
 use md_commands::{Gate, Watch};
 use std::alloc::AllocError;
@@ -16,7 +17,7 @@ const MIB: u64 = 1 << 20;
 const CLEAR: &str = "\r\u{1b}[K";
 
 /// A line on a terminal that says how much a command has read of its images and written to them, or how far
-/// a rebuild is. It is drawn on standard error, at most ten times a second.
+/// a rebuild or a check is. It is drawn on standard error, at most ten times a second.
 #[derive(Drop)]
 pub struct Progress<'a> {
     rt: &'a HostRuntime,
@@ -26,6 +27,7 @@ pub struct Progress<'a> {
     read: AtomicU64,
     written: AtomicU64,
     copying: Copying,
+    comparing: Comparing,
     // In milliseconds after the beginning, when the line may be drawn again.
     due: AtomicU64,
     is_shown: AtomicBool,
@@ -39,6 +41,8 @@ pub enum WatchedTask {
     Resync,
     /// Chunks are copied to a member.
     Rebuild,
+    /// Members are compared.
+    Check,
 }
 
 impl<'a> Progress<'a> {
@@ -50,6 +54,7 @@ impl<'a> Progress<'a> {
             read: AtomicU64::new(0),
             written: AtomicU64::new(0),
             copying: Copying::new(),
+            comparing: Comparing::new(),
             due: AtomicU64::new(0),
             is_shown: AtomicBool::new(false),
         }
@@ -95,10 +100,15 @@ impl<'a> Progress<'a> {
         self.draw(task, now);
     }
 
-    // Before a rebuild begins little but metadata is read, unless a resync comes first.
+    // Before a check begins only metadata is read, and so it is before a rebuild, unless a resync comes first.
     fn is_early(&self, task: WatchedTask) -> bool {
-        let is_rebuild = matches!(task, WatchedTask::Rebuild);
-        is_rebuild && !self.copying.has_begun() && self.read.load(Ordering::SeqCst) < MIB
+        match task {
+            WatchedTask::Rebuild => {
+                !self.copying.has_begun() && self.read.load(Ordering::SeqCst) < MIB
+            }
+            WatchedTask::Check => !self.comparing.has_begun(),
+            WatchedTask::Read(_) | WatchedTask::Resync => false,
+        }
     }
 
     fn milliseconds(&self) -> Option<u64> {
@@ -134,6 +144,10 @@ impl<'a> Progress<'a> {
                 Some(far) => format!(in self.rt.alloc(); "{CLEAR}rebuild: {}", far?),
                 None => self.traffic("rebuild", read),
             },
+            WatchedTask::Check => {
+                let far = self.comparing.line(self.rt.alloc(), now, read)?;
+                format!(in self.rt.alloc(); "{CLEAR}check: {far}")
+            }
         }
     }
 
@@ -164,5 +178,13 @@ impl<'a> Watch for Progress<'a> {
         };
         let read = self.read.load(Ordering::SeqCst);
         self.copying.begin(chunks, now, read);
+    }
+
+    fn begins_check(&self, sectors: u64) {
+        let Some(now) = self.milliseconds() else {
+            return;
+        };
+        let read = self.read.load(Ordering::SeqCst);
+        self.comparing.begin(sectors, now, read);
     }
 }

@@ -4,7 +4,7 @@ ghost use Rattle.std.specs.Prelude.{◌≡◌, ◌+◌, ◌*◌, ◌%◌, ◌^�
 use crate::progress::Progress;
 use md_device::{Device, FileDevice, ReadFault, WriteFault};
 use md_images::SharedRead;
-use std::cell::RefCell;
+use std::sync::Mutex;
 
 // As much is read at once, so that progress is shown within a long read.
 const PIECE: usize = 16 << 20;
@@ -13,8 +13,9 @@ const PIECE: usize = 16 << 20;
 /// than the file's.
 #[derive(Drop)]
 pub struct WatchedFile<'a> {
-    // A file can be read while it is shared, though its device asks for a reference of its own.
-    device: RefCell<FileDevice>,
+    // A file can be read while it is shared, though its device asks for a reference of its own. A worker has a
+    // device to itself, so that the lock is always free.
+    device: Mutex<FileDevice>,
     sectors: u64,
     progress: &'a Progress<'a>,
     ghost limit: { sectors ≤ 2 ^ 54 },
@@ -24,7 +25,7 @@ impl<'a> WatchedFile<'a> {
     pub fn new(device: FileDevice, progress: &'a Progress<'a>) -> WatchedFile<'a> {
         WatchedFile {
             sectors: device.sectors(),
-            device: RefCell::new(device),
+            device: Mutex::new(device),
             progress,
         }
     }
@@ -48,10 +49,7 @@ impl<'a> Device for WatchedFile<'a> {
     }
 
     fn write(&mut self, sector: u64, bytes: &[u8]) -> Result<(), WriteFault> {
-        let Ok(mut device) = self.device.try_borrow_mut() else {
-            return Err(WriteFault);
-        };
-        let device = &mut *device;
+        let device = self.device.get_mut();
         if device.sectors() != self.sectors {
             return Err(WriteFault);
         }
@@ -63,11 +61,11 @@ impl<'a> Device for WatchedFile<'a> {
 
 impl<'a> SharedRead for WatchedFile<'a> {
     fn read_shared(&self, sector: u64, buf: &mut [u8]) -> Result<(), ReadFault> {
-        let Ok(mut device) = self.device.try_borrow_mut() else {
+        let Some(mut device) = self.device.try_lock() else {
             return Err(ReadFault);
         };
         let device = &mut *device;
-        // It is so: the device in the cell stays the same. But no contract says what a cell holds.
+        // It is so: the device behind the lock stays the same. But no contract says what is behind one.
         if device.sectors() != self.sectors {
             return Err(ReadFault);
         }

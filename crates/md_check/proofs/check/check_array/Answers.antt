@@ -22,6 +22,6 @@ returns-clause-gives g c =
           (subst (λ (v : MirrorView). MarksMembers before w.check_members.new.marks old v) (sym w.mirror-is) w.in_ok-check_members.ensures.gives)
       | else-has_two_in_sync w ↦
           subst (λ (m : Bitmap). MarksMembers before m old c.if-has_two_in_sync.mirror) (sym w.marks-is)
-          (subst (λ (v : MirrorView). MarksMembers before before old v) (sym w.mirror-is) (marks_alone old before (c.has_two_in_sync.ensures w.if-has_two_in_sync.false) c.in_ok-marks.ensures.bits))
+          (subst (λ (v : MirrorView). MarksMembers before before old v) (sym w.mirror-is) (marks_alone old before (c.has_two_in_sync.ensures.one w.if-has_two_in_sync.false) c.in_ok-marks.ensures.bits))
     ] in
     checks old c.if-has_two_in_sync.mirror before c.if-has_two_in_sync.marks c.count-2.result c.requires.sound idle many marks c.count-2.ensures

@@ -1,13 +1,12 @@
-use Rattle.std.proofs.Common.{◌≡◌, ◌∙◌, ◌*◌, map, refl, ap, sym, subst, arith}
+use Rattle.std.proofs.Common.{◌≡◌, ◌∙◌, ◌*◌, map, ap, sym, subst, arith}
 use Rattle.std.specs.List.{All}
 use Rattle.md_bitmap.specs.declared.chunks.Chunks.{Chunks}
-use Rattle.md_state.specs.Rests.{Rests}
 use Rattle.md_state.specs.View.{MirrorView, disk_of}
 use Rattle.md_check.specs.declared.seat.Seat.{Seat}
 use Rattle.md_check.specs.Differences.{AreDifferent}
 use Rattle.md_check.specs.Readings.{MissesIn}
 use Rattle.md_check.specs.Seats.{IsSeated, SeatShows, on_device}
-use Rattle.md_check.proofs.SeatedMembers.{all_seated, come_back, fails_checking, honest_seats, mismatches, rooms, untouched}
+use Rattle.md_check.proofs.SeatedMembers.{all_seated, come_back, fails_checking, honest_seats, mismatches, none_failed, rests_with, rooms, uses_in_sync}
 use Rattle.md_check.proofs.check.check_members.Goals as goal
 
 pub check_lent-answer-requires-clause-seated : goal.check_lent-answer-requires-clause-seated
@@ -40,10 +39,14 @@ returns-in-Ok-clause-gives g c =
     let is : c.give_back.new.self ≡ record old { disks = after } =
     c.give_back.ensures.in_place ∙ ap (λ (v : MirrorView). record v { disks = map (disk_of g.D.Device) c.leave_seats.new.devices.items }) c.lend-devices.ensures.out
     ∙ ap (λ xs. record old { disks = map (disk_of g.D.Device) xs }) c.leave_seats.ensures in
-    let here = untouched g.D.Device old c.requires.sound (512 * c.min.result) c.lend-devices.result.items c.in_ok-orders.orders.items seats c.lend-devices.ensures.devices c.in_ok-orders.ensures c.seats_of.ensures.len c.seats_of.ensures.seats news c.in-Ok.ensures.read in
+    let none = none_failed g.D.Device old c.requires.sound (512 * c.min.result) c.lend-devices.result.items c.in_ok-orders.orders.items seats c.lend-devices.ensures.devices c.in_ok-orders.ensures c.seats_of.ensures.len c.seats_of.ensures.seats news c.in-Ok.ensures.read c.in-Ok.ensures.unfailing in
     record {
       chunks = c.in-Ok.ensures.chunks;
-      rests = subst (λ (v : MirrorView). Rests old v) (sym is) (record { array = refl; disks = here });
+      rests = rests_with g.D.Device old c.requires.sound (512 * c.min.result) c.lend-devices.result.items c.in_ok-orders.orders.items seats c.lend-devices.ensures.devices c.in_ok-orders.ensures c.seats_of.ensures.len c.seats_of.ensures.seats news c.in-Ok.ensures.read
+          c.give_back.new.self is;
+      uses = uses_in_sync g.D.Device old c.requires.sound (512 * c.min.result) c.lend-devices.result.items c.in_ok-orders.orders.items seats c.lend-devices.ensures.devices c.in_ok-orders.ensures c.seats_of.ensures.len c.seats_of.ensures.seats news c.in-Ok.ensures.read
+          c.give_back.new.self c.requires.two is;
+      unfailing = rw is none;
       bits = λ honest.
           mismatches g.D.Device old c.requires.sound (512 * c.min.result) c.lend-devices.result.items c.in_ok-orders.orders.items seats c.lend-devices.ensures.devices c.in_ok-orders.ensures c.seats_of.ensures.len c.seats_of.ensures.seats c.check_lent-answer.new.marks
           (subst (λ (chunks : Chunks). AreDifferent (SeatShows (on_device g.D.Device) seats) chunks chunks.size c.check_lent-answer.new.marks) c.chunks-chunks.ensures
@@ -61,5 +64,5 @@ returns-clause-gives g c =
     c.give_back.ensures.in_place ∙ ap (λ (v : MirrorView). record v { disks = map (disk_of g.D.Device) c.leave_seats.new.devices.items }) c.lend-devices.ensures.out
     ∙ ap (λ xs. record old { disks = map (disk_of g.D.Device) xs }) c.leave_seats.ensures in
     fails_checking g.D.Device old c.requires.sound (512 * c.min.result) c.lend-devices.result.items c.in_ok-orders.orders.items seats c.lend-devices.ensures.devices c.in_ok-orders.ensures c.seats_of.ensures.len c.seats_of.ensures.seats news c.in-Err.ensures.read
-    c.give_back.new.self c.in-Err.missed c.requires.idle is
+    c.give_back.new.self c.in-Err.missed c.requires.idle c.requires.two is
     (subst (λ (chunks : Chunks). MissesIn g.D.Device chunks seats news c.in-Err.missed) c.chunks-chunks.ensures c.in-Err.ensures.missed)

@@ -1,4 +1,4 @@
-use Rattle.std.proofs.Common.{◌≡◌, ◌<◌, ℕ, false}
+use Rattle.std.proofs.Common.{◌≡◌, ◌<◌, ℕ, false, true}
 use Rattle.md_kept_members.specs.View.{MemberView}
 use Rattle.md_state.specs.Members.{IsInSync}
 use Rattle.md_check.proofs.check.has_two_in_sync.Given as goal
@@ -6,5 +6,6 @@ use Rattle.md_check.proofs.check.has_two_in_sync.Given as goal
 abbrev pub invariant-loop-k : goal.invariant-loop-k
 invariant-loop-k g l = record {
   none : l.one ≡ false → (i : ℕ) (m : MemberView) → i < l.k → IsInSync l.mirror.array i m → ⊥;
+  some : l.one ≡ true → (i : ℕ) × (m : MemberView) × (i < l.k) × IsInSync l.mirror.array i m;
   alone : (i j : ℕ) (m n : MemberView) → i < l.k → j < l.k → IsInSync l.mirror.array i m → IsInSync l.mirror.array j n → i ≡ j;
 }

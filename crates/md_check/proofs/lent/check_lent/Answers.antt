@@ -1,16 +1,17 @@
-use Rattle.std.proofs.Common.{◌≡◌, ◌∙◌, ◌+◌, ◌<◌, List, length, get_or, None, Some, refl, subst, arith}
+use Rattle.std.proofs.Common.{◌≡◌, ◌∙◌, ◌+◌, ◌<◌, ℕ, List, length, get_or, None, Some, refl, subst, arith}
 use Rattle.std.specs.List.{All}
 use Rattle.md_check.specs.declared.seat.Seat.{Seat}
 use Rattle.md_check.specs.Differences.{AddsDifferent, AreDifferent}
 use Rattle.md_check.specs.Seats.{SeatShows, in_window, on_device}
 use Rattle.md_check.proofs.Differing.{different_after, different_none}
-use Rattle.md_check.proofs.WindowsRead.{differ_in_window, differ_on_devices, misses_in, none_read, seated_still, turn_read}
+use Rattle.md_check.proofs.WindowsRead.{differ_in_window, differ_on_devices, misses_in, none_read, seated_still, turn_read, turn_unfailing}
 use Rattle.md_check.proofs.lent.check_lent.Goals as goal
 
 pub loop-from-init : goal.loop-from-init
 loop-from-init g c = record {
   few = omega arith;
   read = none_read c.args.seats.now.items;
+  unfailing = λ k d below. refl;
   room = λ k d below. let r = c.requires.room k d below in omega arith;
   count = refl;
   different = λ honest. different_none (SeatShows (on_device g.D.Device) c.args.seats.now.items) c.args.chunks c.args.marks.now c.requires.none;
@@ -43,11 +44,12 @@ returns-in-Some g c =
     let olds = c.loop-from.seats.items in
     let news = c.turn.new.seats.items in
     let missed = c.in-Some.missed in
-    let noted = subst (λ (xs : List (Seat _)). (missed.member < length xs) × ((d : Seat _) → (get_or xs missed.member d).missed ≡ Some missed.chunk)) c.as_slice.ensures.value c.in-Some.ensures in
+    let noted = subst (λ (xs : List (Seat _)). (missed.member < length xs) × ((d : Seat _) → (get_or xs missed.member d).missed ≡ Some missed.chunk) × ((k : ℕ) (d : Seat _) → k < missed.member → (get_or xs k d).missed ≡ None)) c.as_slice.ensures.value c.in-Some.ensures in
     record {
       chunks = inv.count;
       different = tt;
-      missed = misses_in firsts olds news missed inv.read c.turn.ensures.len c.turn.ensures.read noted.0 noted.1;
+      unfailing = tt;
+      missed = misses_in firsts olds news missed inv.read inv.unfailing c.turn.ensures.len c.turn.ensures.read noted.0 noted.1 noted.2;
       read = turn_read firsts olds news inv.read c.turn.ensures.len c.turn.ensures.read;
     }
 
@@ -67,6 +69,7 @@ loop-from-preserved g c =
     record {
       few = omega arith;
       read = turn_read firsts olds news inv.read c.turn.ensures.len c.turn.ensures.read;
+      unfailing = let many = inv.read.as_many in let as_many = c.turn.ensures.len in turn_unfailing (length firsts) firsts olds news (omega arith) c.turn.ensures.read (λ k d below. none k d (omega arith)) inv.unfailing;
       room = λ k d below. let size = (c.turn.ensures.read k d (let len = c.turn.ensures.len in omega arith)).size in omega arith;
       count = adds.chunks_kept ∙ inv.count;
       different = λ honest. different_after (SeatShows (on_device g.D.Device) firsts) (SeatShows (in_window from) news) c.args.chunks from (from + sectors) c.loop-from.marks c.mark_window.new.marks (omega arith) (inv.different honest) adds
@@ -83,6 +86,7 @@ returns g c =
     record {
       chunks = inv.count;
       different = λ honest. subst (λ n. AreDifferent (SeatShows (on_device g.D.Device) c.args.seats.now.items) c.args.chunks n c.loop-from.marks) end (inv.different honest);
+      unfailing = inv.unfailing;
       missed = tt;
       read = inv.read;
     }

@@ -27,6 +27,7 @@ loop-done-preserved g c =
       whole = omega arith;
       few = omega arith;
       only_read = read_then inv.only_read c.read_front.ensures.only_read;
+      unfailing = c.in_ok-passed.ensures.unfailing ∙ inv.unfailing;
       gave = λ honest.
           more_read content c.args.offset c.args.listed.now c.args.from done passed xs ys (omega arith) whole as_long fewer (inv.gave honest)
           (subst (λ (held_there : List ℕ). HasUnlisted held_there c.args.offset c.args.listed.now (c.args.from + done / 512) passed ys) inv.only_read.content_kept

@@ -12,5 +12,6 @@ invariant-loop-done g l = record {
   whole : l.done % 512 ≡ 0;
   few : l.done ≤ length l.fn.buf;
   only_read : OnlyRead g.D.Device l.fn.device l.device;
+  unfailing : g.D.Device.failures l.device ≡ g.D.Device.failures l.fn.device;
   gave : g.D.Device.honest l.fn.device ≡ true → HasUnlisted (g.D.Device.content l.fn.device) l.offset l.listed l.from (l.done / 512) l.buf;
 }

@@ -1,4 +1,5 @@
-use Rattle.std.proofs.Common.{rules, ◌≡◌, Err, subst, sym}
+use Rattle.std.proofs.Common.{rules, ◌≡◌, true, Err, subst, sym}
+use Rattle.md_collect.specs.Reports.{is_planned}
 use Rattle.md_pass.specs.declared.fault.PassFault.TheVariants.{SourceFault, TargetFault}
 use Rattle.md_plan.specs.declared.planner.Planned.{Planned}
 use Rattle.md_state.specs.Members.{IsMember}
@@ -22,7 +23,7 @@ returns-in-Err-TargetFault-clause-gives g c p =
     let plan_is : c.index.result.now ≡ p.planned = search rules in
     record {
       filling = subst (λ (x : Planned). IsFilling c.args.target p.member x.plan.slots c.args.mirror.now c.fill_devices-result.new.mirror) plan_is (c.fill_devices-result.ensures.filling p.member p.at);
-      why = λ honest. c.fill_devices-result.ensures.target_fault was honest;
+      why = c.fill_devices-result.ensures.target_fault was;
     }
 
 pub returns-in-Err-SourceFault-clause-gives : goal.returns-in-Err-SourceFault-clause-gives
@@ -40,5 +41,14 @@ returns-in-Err-SourceFault-clause-gives g c p =
     let plan_is : c.index.result.now ≡ p.planned = search rules in
     record {
       filling = subst (λ (x : Planned). IsFilling c.args.target p.member x.plan.slots c.args.mirror.now new) plan_is (c.fill_devices-result.ensures.filling p.member p.at);
-      why = subst (λ i. FailsToServe c.args.target i chunk c.args.mirror.now new) (sym one) (record { member = r.member; other = r.other; serves = r.serves; failed = r.failed });
+      why = subst (λ i. FailsToServe c.args.target p.planned.plan.slots i chunk c.args.mirror.now new) (sym one)
+          (record {
+            role = role;
+            planned = subst (λ (x : Planned). is_planned x.plan.slots chunk role ≡ true) plan_is r.planned;
+            member = r.member;
+            other = r.other;
+            in_role = r.in_role;
+            serves = r.serves;
+            failed = r.failed;
+          });
     }

@@ -97,7 +97,7 @@ returns-clause-copied g c =
     c.copy_beside-result.ensures.copied
 
 pub returns-clause-target_fault : goal.returns-clause-target_fault
-returns-clause-target_fault g c e honest d f at_d at_f =
+returns-clause-target_fault g c e d f at_d at_f =
     let v = c.args.mirror.now in
     let olds = c.lend-devices.result.items in
     let news = c.copy_beside-result.new.devices.items in
@@ -106,7 +106,7 @@ returns-clause-target_fault g c e honest d f at_d at_f =
     let v_is : v.disks ≡ seen g.D.Device olds = sym c.lend-devices.ensures.devices in
     let low = within g.D.Device v c.requires.sound target c.requires.within at.0 at.1 (c.requires.target at.0 at.1) c.args.plan.now (c.requires.planned at.0 at.1) olds news v_is c.copy_beside-result.ensures.as_many in
     target_fails g.D.Device olds news target low c.copy_beside-result.ensures.as_many (c.copy_beside-result.ensures.target_fault e) d f
-    (ap (λ (xs : List Disk). slice_get xs target) (sym v_is) ∙ at_d) (ap (λ (x : MirrorView). slice_get x.disks target) (sym c.give_back.ensures.in_place) ∙ at_f) (honest target d at_d)
+    (ap (λ (xs : List Disk). slice_get xs target) (sym v_is) ∙ at_d) (ap (λ (x : MirrorView). slice_get x.disks target) (sym c.give_back.ensures.in_place) ∙ at_f)
 
 pub returns-clause-source_fault : goal.returns-clause-source_fault
 returns-clause-source_fault g c role chunk e =

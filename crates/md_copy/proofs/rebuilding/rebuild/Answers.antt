@@ -19,8 +19,15 @@ store_first-requires-clause-running g c =
 pub store_first-requires-clause-target : goal.store_first-requires-clause-target
 store_first-requires-clause-target g c m at = target_rebuilt c.args.mirror.now.array m (c.in_default.ensures m at).settled.has_target.target
 
+pub store_first-requires-clause-unspent : goal.store_first-requires-clause-unspent
+store_first-requires-clause-unspent g c =
+    let at = got_within c.args.mirror.now.array.members c.args.target c.requires.within in
+    (c.in_default.ensures at.0 at.1).unspent
+
 pub returns-in-Err-store_first-clause-gives : goal.returns-in-Err-store_first-clause-gives
-returns-in-Err-store_first-clause-gives g c = refused_storing c.args.target c.args.mirror.now c.store_first.new.mirror c.in-Err-store_first.fault c.in-Err-store_first.ensures
+returns-in-Err-store_first-clause-gives g c =
+    let at = got_within c.args.mirror.now.array.members c.args.target c.requires.within in
+    refused_storing c.args.target c.args.mirror.now c.store_first.new.mirror at.0 at.1 (c.in_default.ensures at.0 at.1) c.in-Err-store_first.fault c.in-Err-store_first.ensures
 
 pub returns-in-Err-store_first-clause-sound : goal.returns-in-Err-store_first-clause-sound
 returns-in-Err-store_first-clause-sound g c = stops_sound c.args.target c.args.mirror.now c.store_first.new.mirror c.in-Err-store_first.fault c.in-Err-store_first.ensures
@@ -72,10 +79,10 @@ pub returns-in-Err-enrol_filled-clause-gives : goal.returns-in-Err-enrol_filled-
 returns-in-Err-enrol_filled-clause-gives g c =
     let at = got_within c.args.mirror.now.array.members c.args.target c.requires.within in
     refused_filled c.args.target c.args.mirror.now c.store_first.new.mirror c.in_default.ensures c.in_default-store_first.ensures at.0 at.1 c.in-Ok.pass c.in-Ok.ensures.prepared c.fill.new.pass c.fill.new.mirror
-    c.in_default-fill.ensures.gives c.enrol_filled.new.mirror c.in-Err-enrol_filled.fault c.in-Err-enrol_filled.ensures.gives
+    c.in_default-fill.ensures.gives c.in_default-fill.ensures.sound c.enrol_filled.new.mirror c.in-Err-enrol_filled.fault c.in-Err-enrol_filled.ensures.gives
 
 pub returns-clause-gives : goal.returns-clause-gives
 returns-clause-gives g c =
     let at = got_within c.args.mirror.now.array.members c.args.target c.requires.within in
     rebuilds c.args.target c.args.mirror.now c.store_first.new.mirror c.in_default.ensures c.in_default-store_first.ensures at.0 at.1 c.in-Ok.pass c.in-Ok.ensures.prepared c.fill.new.pass c.fill.new.mirror
-    c.in_default-fill.ensures.gives c.enrol_filled.new.mirror c.settle.new.mirror c.in_default-enrol_filled.ensures.gives c.settle.ensures.settles
+    c.in_default-fill.ensures.gives c.in_default-fill.ensures.sound c.enrol_filled.new.mirror c.settle.new.mirror c.in_default-enrol_filled.ensures.gives c.in_default-enrol_filled.ensures.sound c.settle.ensures.settles

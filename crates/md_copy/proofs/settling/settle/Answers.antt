@@ -26,7 +26,7 @@ returns-in-Err-Halted-clause-settles g c =
     let mid = c.loop.mirror in
     let new = c.store_due.new.mirror in
     let r = subst (StoringFails IsRecording mid new) c.in-Err-Halted.field-0-is c.in-Err-Halted.ensures in
-    inr (halts_on only_others only_others only_others IsStoring old mid new c.loop.invariant.goes (stops_as IsRecording IsStoring recording_stores mid new Halted r))
+    inr (halts_on only_others only_others only_others IsStoring old mid new c.loop.invariant.goes (stops_as IsRecording IsStoring recording_stores mid new Halted r).halts)
 
 pub loop-preserved : goal.loop-preserved
 loop-preserved g c =

@@ -4,7 +4,7 @@ use Rattle.md_metadata.specs.Storing.{IsRecording, IsStoring}
 use Rattle.md_metadata.proofs.Going.{recording_stores, stops_as}
 use Rattle.md_metadata.proofs.StoredRecords.{other_due, other_or_stops, recorded_nothing}
 use Rattle.md_state.proofs.Members.At.{told}
-use Rattle.md_copy.proofs.StoredFirst.{fails_named, serving_where_halted, stored_ok}
+use Rattle.md_copy.proofs.StoredFirst.{fails_named, recording_other, serving_where_halted, stored_ok}
 use Rattle.md_copy.proofs.storing.store_if_due.Goals as goal
 use Rattle.md_copy.proofs.storing.store_if_due.Goals.{then-is_in_sync-via-then-is_in_sync, then-is_in_sync-via-else-is_in_sync+then-not-is_recorded, then-is_in_sync-via-else-is_in_sync+else-not-is_recorded+then-not-due}
 
@@ -51,7 +51,7 @@ named-requires g c =
     (λ m at. let due = told (λ x. x.due) old.array k m c.due.result c.due.ensures at in let yes = c.if-not-due.false in cc)
     c.requires.recorded in
     let fails = stops_as IsRecording IsStoring recording_stores old new c.in-Err.fault (other_or_stops k old new order (failed c.in-Err.fault) c.in-Err.ensures) in
-    serving_where_halted c.args.target old new c.in-Err.fault fails
+    serving_where_halted old new c.in-Err.fault fails
 
 pub returns-in-Ok : goal.returns-in-Ok
 returns-in-Ok g c =
@@ -84,4 +84,5 @@ returns-in-Err g c =
     (λ m at. let due = told (λ x. x.due) old.array k m c.due.result c.due.ensures at in let yes = c.if-not-due.false in cc)
     c.requires.recorded in
     let fails = stops_as IsRecording IsStoring recording_stores old new c.in-Err.fault (other_or_stops k old new order (failed c.in-Err.fault) c.in-Err.ensures) in
-    fails_named c.args.target old new c.in-Err.fault fails c.named.result c.named.ensures.failed c.named.ensures.halted
+    fails_named c.args.target old new c.requires.unspent c.requires.target c.in-Err.fault fails
+    (recording_other k c.args.target old new c.in-Err.fault c.if-k-target.false c.in-Err.ensures) c.named.result c.named.ensures.failed c.named.ensures.halted

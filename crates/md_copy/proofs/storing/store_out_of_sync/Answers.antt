@@ -1,11 +1,10 @@
-use Rattle.std.proofs.Common.{◌∙◌, ap, arith, refl, sym}
-use Rattle.md_state.specs.Missing.{is_rebuilt}
+use Rattle.std.proofs.Common.{◌∙◌, arith, refl}
 use Rattle.md_state.specs.WritingMember.{IsNotDue}
-use Rattle.md_metadata.specs.Storing.{IsRecording, IsStoring, StaysReady}
-use Rattle.md_metadata.proofs.Going.{recording_stores, same_state, stores_as}
+use Rattle.md_metadata.specs.Storing.{IsRecording, IsStoring}
+use Rattle.md_metadata.proofs.Going.{recording_stores, stores_as}
 use Rattle.md_metadata.proofs.StoredMembers.{last_on, records_last}
 use Rattle.md_metadata.proofs.StoredRecords.{recorded_all, recorded_more, recorded_none}
-use Rattle.md_copy.proofs.StoredFirst.{stops_then}
+use Rattle.md_copy.proofs.StoredFirst.{rebuilt_still, stops_then, unspent_still}
 use Rattle.md_copy.proofs.storing.store_out_of_sync.Goals as goal
 
 pub loop-k-init : goal.loop-k-init
@@ -24,11 +23,10 @@ pub store_if_due-requires-clause-running : goal.store_if_due-requires-clause-run
 store_if_due-requires-clause-running g c = c.loop-k.invariant.stores.ready.halted ∙ c.requires.running
 
 pub store_if_due-requires-clause-target : goal.store_if_due-requires-clause-target
-store_if_due-requires-clause-target g c m at =
-    let old = c.args.mirror.now.array in
-    let mid = c.loop-k.mirror.array in
-    let s : StaysReady old mid c.args.target m = c.loop-k.invariant.stores.ready.each c.args.target m at in
-    sym (ap is_rebuilt (same_state old mid c.args.target m s)) ∙ c.requires.target s.before s.member
+store_if_due-requires-clause-target g c = rebuilt_still c.args.target c.args.mirror.now.array c.loop-k.mirror.array c.loop-k.invariant.stores.ready c.requires.target
+
+pub store_if_due-requires-clause-unspent : goal.store_if_due-requires-clause-unspent
+store_if_due-requires-clause-unspent g c = unspent_still c.args.mirror.now.array c.loop-k.mirror.array c.loop-k.invariant.stores.ready c.requires.unspent
 
 pub store_if_due-requires-clause-recorded : goal.store_if_due-requires-clause-recorded
 store_if_due-requires-clause-recorded g c =

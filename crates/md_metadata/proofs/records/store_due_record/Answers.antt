@@ -4,14 +4,14 @@ use Rattle.md_state.specs.Members.{IsMember}
 use Rattle.md_state.specs.WritingMember.{IsNotDue}
 use Rattle.md_state.proofs.Members.At.{told}
 use Rattle.md_metadata.specs.Storing.{IsRecording, IsSector}
-use Rattle.md_metadata.proofs.Going.{first_records, sector_stops, stops_as}
+use Rattle.md_metadata.proofs.Going.{first_records, sector_in_sync, sector_stops, stops_as}
 use Rattle.md_metadata.proofs.StoredMembers.{nothing_at}
-use Rattle.md_metadata.proofs.StoredRecords.{header_due, in_sync_due, recorded_or_stops, still_recorded}
+use Rattle.md_metadata.proofs.StoredRecords.{header_due, in_sync_due, record_in_sync, recorded_or_stops, still_recorded}
 use Rattle.md_metadata.proofs.records.store_due_record.Goals as goal
 use Rattle.md_metadata.proofs.records.store_due_record.Goals.{then-not-is_in_sync-via-then-not-is_in_sync, then-not-is_in_sync-via-else-not-is_in_sync+then-not-due}
 
-pub returns-then-not-is_in_sync : goal.returns-then-not-is_in_sync
-returns-then-not-is_in_sync g c =
+pub returns-then-not-is_in_sync-clause-gives : goal.returns-then-not-is_in_sync-clause-gives
+returns-then-not-is_in_sync-clause-gives g c =
     nothing_at IsRecording IsNotDue c.args.k c.args.mirror.now c.requires.sound
     (λ n in_sync.
     let state = told (λ m. m.state) c.args.mirror.now.array c.args.k n c.state.result c.state.ensures in_sync.member in
@@ -37,18 +37,28 @@ store_sector-requires-clause-due g c =
     header_due c.args.mirror.now.array c.args.k
     (λ m at. let due = told (λ x. x.due) c.args.mirror.now.array c.args.k m c.due.result c.due.ensures at in let yes = c.if-not-due.false in cc)
 
-pub returns-in-Err : goal.returns-in-Err
-returns-in-Err g c =
+pub returns-in-Err-clause-gives : goal.returns-in-Err-clause-gives
+returns-in-Err-clause-gives g c =
     let k = c.args.k in
     let old = c.args.mirror.now in
     let new = c.store_sector.new.mirror in
     stops_as (IsSector k 0) IsRecording (first_records k) old new c.in-Err.fault (sector_stops k 0 old new c.in-Err.fault c.in-Err.ensures)
 
+pub returns-in-Err-clause-in_sync : goal.returns-in-Err-clause-in_sync
+returns-in-Err-clause-in_sync g c =
+    sector_in_sync c.args.k 0 c.args.mirror.now c.store_sector.new.mirror c.in-Err.fault
+    (λ m at.
+    let state = told (λ x. x.state) c.args.mirror.now.array c.args.k m c.state.result c.state.ensures at in
+    let answer = c.is_in_sync.ensures in
+    let yes = c.if-not-is_in_sync.false in
+    cc)
+    c.in-Err.ensures
+
 pub store_record-requires-clause-active : goal.store_record-requires-clause-active
 store_record-requires-clause-active g c = still_recorded c.args.k c.args.mirror.now c.store_sector.new.mirror c.in_default.ensures
 
-pub returns : goal.returns
-returns g c =
+pub returns-clause-gives : goal.returns-clause-gives
+returns-clause-gives g c =
     let k = c.args.k in
     let old = c.args.mirror.now in
     let mid = c.store_sector.new.mirror in
@@ -56,3 +66,6 @@ returns g c =
     let due : (m : MemberView) → IsMember old.array k m → m.due ≡ true =
     λ m at. let told_due = told (λ x. x.due) old.array k m c.due.result c.due.ensures at in let yes = c.if-not-due.false in cc in
     recorded_or_stops k old mid s c.store_record.new.mirror (header_due old.array k due) (in_sync_due k old mid s due c.requires.earlier) c.store_record.result c.store_record.ensures
+
+pub returns-clause-in_sync : goal.returns-clause-in_sync
+returns-clause-in_sync g c = record_in_sync c.args.k c.args.mirror.now c.store_sector.new.mirror c.store_record.new.mirror c.in_default.ensures c.store_record.result c.store_record.ensures

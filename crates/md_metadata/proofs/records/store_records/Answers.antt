@@ -1,7 +1,7 @@
 use Rattle.std.proofs.Common.{◌∙◌, arith}
 use Rattle.md_state.specs.WritingMember.{IsNotDue}
 use Rattle.md_metadata.specs.Storing.{IsRecording}
-use Rattle.md_metadata.proofs.Going.{stops_on}
+use Rattle.md_metadata.proofs.Going.{in_sync_before, stops_on}
 use Rattle.md_metadata.proofs.StoredMembers.{below_all, below_more, below_none, records_last}
 use Rattle.md_metadata.proofs.records.store_records.Goals as goal
 
@@ -23,15 +23,18 @@ store_due_record-requires-clause-running g c = c.loop-k.invariant.stores.ready.h
 pub store_due_record-requires-clause-earlier : goal.store_due_record-requires-clause-earlier
 store_due_record-requires-clause-earlier g c = c.loop-k.invariant.done
 
-pub returns-in-Err : goal.returns-in-Err
-returns-in-Err g c = stops_on IsRecording c.args.mirror.now c.loop-k.mirror c.store_due_record.new.mirror c.in-Err.fault c.loop-k.invariant.stores c.in-Err.ensures
+pub returns-in-Err-clause-gives : goal.returns-in-Err-clause-gives
+returns-in-Err-clause-gives g c = stops_on IsRecording c.args.mirror.now c.loop-k.mirror c.store_due_record.new.mirror c.in-Err.fault c.loop-k.invariant.stores c.in-Err.ensures.gives
+
+pub returns-in-Err-clause-in_sync : goal.returns-in-Err-clause-in_sync
+returns-in-Err-clause-in_sync g c = in_sync_before c.args.mirror.now.array c.loop-k.mirror.array c.in-Err.fault c.loop-k.invariant.stores.ready c.in-Err.ensures.in_sync
 
 pub loop-k-preserved : goal.loop-k-preserved
 loop-k-preserved g c =
-    below_more IsRecording IsNotDue c.loop-k.k c.args.mirror.now c.loop-k.mirror c.store_due_record.new.mirror (records_last c.args.mirror.now.array.marks) c.loop-k.invariant c.in_default.ensures
+    below_more IsRecording IsNotDue c.loop-k.k c.args.mirror.now c.loop-k.mirror c.store_due_record.new.mirror (records_last c.args.mirror.now.array.marks) c.loop-k.invariant c.in_default.ensures.gives
 
-pub returns : goal.returns
-returns g c =
+pub returns-clause-gives : goal.returns-clause-gives
+returns-clause-gives g c =
     let past = c.loop-k-test.false in
     let count = c.members-k-end.ensures in
     let many = c.loop-k.invariant.stores.goes.array.as_many in

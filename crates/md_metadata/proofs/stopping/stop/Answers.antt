@@ -1,6 +1,5 @@
 use Rattle.std.proofs.Common.{Bool, subst, inr}
-use Rattle.md_metadata.specs.Going.{HaltsAfter, only_others}
-use Rattle.md_metadata.specs.Storing.{LosesStoring, StoringFails}
+use Rattle.md_metadata.specs.Storing.{HaltsStoring, LosesStoring, StoringFails}
 use Rattle.md_metadata.specs.Stopping.{IsStoringIf, StoresSettled}
 use Rattle.md_metadata.proofs.Stopped.{stop_fails, stop_halts, stops}
 use Rattle.md_metadata.proofs.stopping.stop.Goals as goal
@@ -22,7 +21,7 @@ returns-in-Err-Halted-clause-gives g c =
     let at = c.in-Err-Halted in
     let stopped = subst (StoringFails (IsStoringIf c.clears_marks-clears.result) d e) at.field-0-is at.ensures in
     inr (stop_halts old b d c.clear_if_full.ensures c.clean_if_active.ensures c.in_default.ensures e
-    (subst (λ (x : Bool). HaltsAfter only_others only_others (IsStoringIf x) d e) c.clears_marks-clears.ensures stopped))
+    (subst (λ (x : Bool). HaltsStoring (IsStoringIf x) d e) c.clears_marks-clears.ensures stopped).halts)
 
 pub returns-in-Err-MemberFailed-clause-gives : goal.returns-in-Err-MemberFailed-clause-gives
 returns-in-Err-MemberFailed-clause-gives g c =

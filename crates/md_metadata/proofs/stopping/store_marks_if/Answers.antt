@@ -14,4 +14,4 @@ pub returns : goal.returns
 returns g c =
     let out = c.if-not-clears.false in
     let clears : c.args.clears ≡ true = cc in
-    marks_or_stops c.args.clears c.args.mirror.now c.store_all_marks.new.mirror clears c.store_all_marks.result c.store_all_marks.ensures
+    marks_or_stops c.args.clears c.args.mirror.now c.store_all_marks.new.mirror clears c.store_all_marks.result c.store_all_marks.ensures.gives

@@ -1,23 +1,54 @@
-use Rattle.std.proofs.Common.{◌≡◌, not, ap, Some, None, refl, ◌∙◌, rules}
-use Rattle.std.specs.List.{slice_get}
-use Rattle.md_pass.specs.Tally.{noted}
-use Rattle.md_pass.proofs.OnlyReads.{not_read, reads_only, reads_report}
+use Rattle.std.proofs.Common.{◌≡◌, false, length, ap, refl, ◌∙◌, arith}
+use Rattle.md_pass.specs.declared.lane.Lane.{Lane}
+use Rattle.md_pass.proofs.Workers.{chunks_kept, may_go_on, none_left, none_more_read, none_read, one_more_read, read_anew, ready_anew, went_on}
 use Rattle.md_pass.proofs.lane.work.Goals as goal
 
-pub returns-in_default : goal.returns-in_default
-returns-in_default g c =
-    let lane = c.args.lane.now in
-    let none : slice_get lane.chunks.items lane.done ≡ None = search rules in
-    record { kept = refl; only_read = not_read lane.device; answered = rw none (c.requires.taken, refl, refl) }
+pub loop-slot-init : goal.loop-slot-init
+loop-slot-init g c = record {
+  read = none_read (record c.args.lane.now { starved = false }) (ready_anew c.args.lane.now c.requires);
+  done = refl;
+  fed = refl;
+  count = ap length c.requires.none_waits;
+}
 
-pub returns-in-Ok : goal.returns-in-Ok
-returns-in-Ok g c =
-    let lane = c.args.lane.now in
-    let some : slice_get lane.chunks.items lane.done ≡ Some c.in-Some.chunk = search rules in
-    record { kept = refl; only_read = reads_only c.read_chunk_into-answer.ensures.gives; answered = rw some (refl, c.note.ensures ∙ ap (λ b. noted lane.share (not b)) c.is_failed-delivered.ensures, reads_report c.read_chunk_into-answer.result c.in-Ok.report c.in-Ok.is c.read_chunk_into-answer.ensures.gives) }
+pub read_next-requires : goal.read_next-requires
+read_next-requires g c = may_go_on (record c.args.lane.now { starved = false }) c.loop-slot.lane (ready_anew c.args.lane.now c.requires).goes c.loop-slot.invariant.read
 
-pub returns-in-Err : goal.returns-in-Err
-returns-in-Err g c =
-    let lane = c.args.lane.now in
-    let some : slice_get lane.chunks.items lane.done ≡ Some c.in-Some.chunk = search rules in
-    record { kept = refl; only_read = reads_only c.read_chunk_into-answer.ensures.gives; answered = rw (some, c.requires.taken) (refl, refl) }
+pub loop-slot-preserved : goal.loop-slot-preserved
+loop-slot-preserved g c =
+    let inv = c.loop-slot.invariant in
+    let one = one_more_read c.args.chunks c.loop-slot.lane c.read_next.new.lane c.read_next.result c.read_next.ensures c.if-not-read_next.false in
+    record {
+      read = went_on (record c.args.lane.now { starved = false }) c.loop-slot.lane c.read_next.new.lane c.read_next.result inv.read c.read_next.ensures;
+      done = ap (λ (l : Lane _ _ _). l.done) c.read_next.ensures.kept ∙ inv.done;
+      fed = one.1 ∙ inv.fed;
+      count = omega (arith, one.0, inv.count);
+    }
+
+pub returns-then-not-read_next : goal.returns-then-not-read_next
+returns-then-not-read_next g c =
+    let inv = c.loop-slot.invariant in
+    let now = went_on (record c.args.lane.now { starved = false }) c.loop-slot.lane c.read_next.new.lane c.read_next.result inv.read c.read_next.ensures in
+    let done : c.read_next.new.lane.done ≡ c.args.lane.now.done = ap (λ (l : Lane _ _ _). l.done) c.read_next.ensures.kept ∙ inv.done in
+    record {
+      read = read_anew c.args.lane.now c.read_next.new.lane now;
+      done = done;
+      few =
+          let n = none_more_read c.args.chunks c.loop-slot.lane c.read_next.new.lane c.read_next.result c.read_next.ensures c.if-not-read_next.true in
+          omega (arith, n, inv.count, c.loop-slot-test.true, c.batch_of-slot-end.ensures);
+      some = λ fed more.
+          let past = none_left c.args.chunks c.loop-slot.lane c.read_next.new.lane c.read_next.result c.read_next.ensures c.if-not-read_next.true fed in
+          let same = none_more_read c.args.chunks c.loop-slot.lane c.read_next.new.lane c.read_next.result c.read_next.ensures c.if-not-read_next.true in
+          let n = ap (λ (v : _). length v.items) (chunks_kept inv.read) in
+          omega (arith, past, same, n, inv.done, more);
+    }
+
+pub returns : goal.returns
+returns g c =
+    let inv = c.loop-slot.invariant in
+    record {
+      read = read_anew c.args.lane.now c.loop-slot.lane inv.read;
+      done = inv.done;
+      few = omega (arith, inv.count, c.loop-slot.auto._slot-end, c.batch_of-slot-end.ensures);
+      some = λ fed more. omega (arith, inv.count, c.loop-slot-test.false, c.batch_of-slot-end.ensures);
+    }

@@ -1,73 +1,60 @@
-use Rattle.std.proofs.Common.{rules, ◌≡◌, ◌<◌, length, Bool, Err, get_or, ap, sym, ◌∙◌, arith, subst, length-set, inl, inr}
-use Rattle.std.proofs.lemmas.List.{get_or_default, get_or-set_same, get_or-set_other}
+use Rattle.std.proofs.Common.{rules, ◌≡◌, ◌<◌, ◌≤◌, ℕ, Bool, Err, List, length, get_or, ◌∙◌, arith, subst}
+use Rattle.std.specs.List.{All}
 use Rattle.md_collect.specs.Collecting.{copying}
 use Rattle.md_pass.specs.declared.fault.PassFault.TheVariants.{SourceFault}
 use Rattle.md_pass.specs.declared.lane.Lane.{Lane}
 use Rattle.md_pass.specs.Beside.{KeepsBeside}
-use Rattle.md_pass.specs.Settling.{books, HasFailed, IsSettled}
-use Rattle.md_pass.specs.Passes.{Goes}
+use Rattle.md_pass.specs.Settling.{books}
+use Rattle.md_pass.specs.Passes.{IsPassing}
 use Rattle.md_pass.proofs.Besides.{keeps_then}
-use Rattle.md_pass.proofs.Sweeps.{same_or_other, each_set, allowed_at, room_now, settled_one, goes_one, goes_on}
+use Rattle.md_pass.proofs.Rounds.{fails_in}
+use Rattle.md_pass.proofs.Sweeps.{goes_on, none_left}
 use Rattle.md_pass.proofs.settle.settle_all.Goals as goal
 
-pub settle-requires-clause-room : goal.settle-requires-clause-room
-settle-requires-clause-room g c = room_now (c.loop-k.invariant.passing c.requires.0 c.requires.1 c.requires.2)
+pub settle_round-requires : goal.settle_round-requires
+settle_round-requires g c =
+    let inv = c.loop-round.invariant in
+    (c.requires.0, c.requires.1, rw inv.target.honest_kept (inv.passing c.requires.0 c.requires.1 c.requires.2))
 
-pub settle-requires-clause-allowed : goal.settle-requires-clause-allowed
-settle-requires-clause-allowed g c =
-    let inv = c.loop-k.invariant in
-    let within : c.loop-k.k < length c.loop-k.lanes.items = omega (arith, inv.len, c.len-k-end.ensures, c.loop-k-test.true) in
-    allowed_at (inv.passing c.requires.0 c.requires.1 c.requires.2) c.loop-k.k c.index_mut.result.now within c.index_mut.ensures.value
-
-pub loop-k-preserved : goal.loop-k-preserved
-loop-k-preserved g c =
-    let inv = c.loop-k.invariant in
-    let lanes = c.loop-k.lanes.items in
-    let lane = c.index_mut.result.now in
-    let is = c.index_mut.ensures.value in
-    let new = c.settle.new.lane in
-    let within : c.loop-k.k < length lanes = omega (arith, inv.len, c.len-k-end.ensures, c.loop-k-test.true) in
-    let now = books c.loop-k.collector (g.D.Device.content c.loop-k.target) c.loop-k.copied in
-    let next = books c.settle.new.collector (g.D.Device.content c.settle.new.target) c.settle.new.copied in
-    let settled : IsSettled (g.D.Device.honest c.args.target.now) now next lane new lane.report
-    = subst (λ (b : Bool). IsSettled b now next lane new lane.report) inv.target.honest_kept c.in_ok-settle.ensures.ok in
-    let one = goes_one (g.D.Device.honest c.args.target.now) now next lane new settled in
-    let before : (d : Lane _ _ _) → get_or lanes c.loop-k.k d ≡ lane = λ d. get_or_default lanes c.loop-k.k d lane within ∙ sym is in
+pub loop-round-preserved : goal.loop-round-preserved
+loop-round-preserved g c =
+    let inv = c.loop-round.invariant in
+    let first = c.args.lanes.now.items in
+    let olds = c.loop-round.lanes.items in
+    let news = c.settle_round.new.lanes.items in
+    let next = books c.settle_round.new.collector (g.D.Device.content c.settle_round.new.target) c.settle_round.new.copied in
+    let here : (k : ℕ) → k < length first → k < length olds = λ k below. omega (arith, inv.len, below) in
     record {
-      len = length-set lanes c.loop-k.k new ∙ inv.len;
-      goes = λ j d below. each_set (λ a b. Goes a b) c.args.lanes.now.items lanes c.loop-k.k new within inv.len
-          (λ d'. goes_on (get_or c.args.lanes.now.items c.loop-k.k d') lane new (subst (λ l. Goes (get_or c.args.lanes.now.items c.loop-k.k d') l) (before d') (inv.goes c.loop-k.k d' (omega (arith, inv.len, within)))) one.0)
-          (λ j' d' e' below' other. subst (λ l. Goes (get_or c.args.lanes.now.items j' d') l) (get_or_default lanes j' d' e' (omega (arith, inv.len, below'))) (inv.goes j' d' below'))
-          j d d below;
-      devices = λ j d below.
-          elim (same_or_other j c.loop-k.k) [
-            | inl same ↦ rw (same, get_or-set_same lanes c.loop-k.k new d within) (c.settle.ensures.device ∙ ap (λ (l : Lane _ _ _). l.device) (sym (before d)) ∙ inv.devices c.loop-k.k d (omega (arith, inv.len, within)))
-            | inr other ↦ rw (get_or-set_other lanes c.loop-k.k j new d other) (inv.devices j d below)
-          ];
-      untouched = λ j d above. get_or-set_other lanes c.loop-k.k j new d (λ e. absurd (omega (arith, e, above))) ∙ inv.untouched j d (omega (arith, above));
-      taken = λ j d below.
-          elim (same_or_other j c.loop-k.k) [
-            | inl same ↦ rw (same, get_or-set_same lanes c.loop-k.k new d within) one.1
-            | inr other ↦ rw (get_or-set_other lanes c.loop-k.k j new d other) (inv.taken j d (omega (arith, below, other)))
-          ];
-      passing = λ firsts first p. settled_one c.loop-k.k lane new (inv.passing firsts first p) within is settled;
-      copy = c.settle.ensures.copy ∙ inv.copy;
-      target = keeps_then (copying c.args.collector.now) c.args.target.now c.loop-k.target c.settle.new.target inv.target (subst (λ v. KeepsBeside g.D.Device v c.loop-k.target c.settle.new.target) inv.copy c.settle.ensures.target);
+      len = c.settle_round.ensures.len ∙ inv.len;
+      goes = λ k d below. goes_on (get_or first k d) (get_or olds k d) (get_or news k d) (inv.goes k d below) (c.in_ok-settle_round.ensures.goes k d (here k below));
+      devices = λ k d below. c.settle_round.ensures.devices k d (here k below) ∙ inv.devices k d below;
+      taken = λ k d below. c.in_ok-settle_round.ensures.taken k d (here k below) ∙ (let e = inv.taken k d below in omega (arith, e));
+      passing = λ firsts start p.
+          subst (λ (b : Bool). IsPassing g.D.Device b firsts news start next) inv.target.honest_kept
+          (c.in_ok-settle_round.ensures.passing firsts start (rw inv.target.honest_kept (inv.passing firsts start p)));
+      copy = c.settle_round.ensures.copy ∙ inv.copy;
+      target = keeps_then (copying c.args.collector.now) c.args.target.now c.loop-round.target c.settle_round.new.target inv.target
+          (subst (λ v. KeepsBeside g.D.Device v c.loop-round.target c.settle_round.new.target) inv.copy c.settle_round.ensures.target);
     }
 
-pub returns-in_err-settle-clause-source_fault : goal.returns-in_err-settle-clause-source_fault
-returns-in_err-settle-clause-source_fault g c = λ role chunk e.
-    let inv = c.loop-k.invariant in
-    let within : c.loop-k.k < length c.loop-k.lanes.items = omega (arith, inv.len, c.len-k-end.ensures, c.loop-k-test.true) in
-    let was : c.settle.result ≡ Err (SourceFault role chunk) = search rules in
-    let failed = c.settle.ensures.source_fault role chunk was in
-    record {
-      at = c.loop-k.k;
-      within = omega (arith, inv.len, within);
-      there = λ d. subst (λ l. HasFailed role chunk l) (c.index_mut.ensures.value ∙ get_or_default c.loop-k.lanes.items c.loop-k.k c.index_mut.result.now d within ∙ inv.untouched c.loop-k.k d (omega arith)) failed;
-    }
+pub returns-in_err-settle_round-clause-source_fault : goal.returns-in_err-settle_round-clause-source_fault
+returns-in_err-settle_round-clause-source_fault g c = λ role chunk e firsts start p.
+    let inv = c.loop-round.invariant in
+    let was : c.settle_round.result ≡ Err (SourceFault role chunk) = search rules in
+    fails_in role chunk c.settle_round.new.lanes.items (inv.passing firsts start p) c.settle_round.ensures.devices (c.settle_round.ensures.source_fault role chunk was)
 
-pub returns-in_err-settle-clause-target : goal.returns-in_err-settle-clause-target
-returns-in_err-settle-clause-target g c =
-    let inv = c.loop-k.invariant in
-    keeps_then (copying c.args.collector.now) c.args.target.now c.loop-k.target c.settle.new.target inv.target (subst (λ v. KeepsBeside g.D.Device v c.loop-k.target c.settle.new.target) inv.copy c.settle.ensures.target)
+pub returns-in_err-settle_round-clause-target : goal.returns-in_err-settle_round-clause-target
+returns-in_err-settle_round-clause-target g c =
+    let inv = c.loop-round.invariant in
+    keeps_then (copying c.args.collector.now) c.args.target.now c.loop-round.target c.settle_round.new.target inv.target
+    (subst (λ v. KeepsBeside g.D.Device v c.loop-round.target c.settle_round.new.target) inv.copy c.settle_round.ensures.target)
+
+pub returns-clause-taken : goal.returns-clause-taken
+returns-clause-taken g c =
+    let inv = c.loop-round.invariant in
+    let most = subst (λ (xs : List (Lane _ _ _)). All (λ (lane : Lane _ _ _). length lane.reports ≤ c.most_waiting-round-end.result) xs) c.as_slice.ensures.value c.most_waiting-round-end.ensures in
+    λ k d below.
+    let here : k < length c.args.lanes.now.items = omega (arith, inv.len, below) in
+    let all = most k d here in
+    let left = inv.taken k d here in
+    none_left (get_or c.loop-round.lanes.items k d).reports (omega (arith, all, left, c.loop-round-test.false))

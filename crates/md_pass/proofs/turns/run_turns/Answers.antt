@@ -1,15 +1,16 @@
-use Rattle.std.proofs.Common.{rules, ◌≡◌, ◌<◌, Bool, Err, List, length, get_or, refl, ap, sym, ◌∙◌, arith, subst, false}
+use Rattle.std.proofs.Common.{rules, ◌≡◌, ◌<◌, ◌≤◌, Bool, Err, List, length, get_or, refl, ap, sym, ◌∙◌, arith, subst, false}
 use Rattle.std.specs.List.{All}
 use Rattle.md_collect.specs.Reports.{Copying}
 use Rattle.md_collect.specs.Collecting.{copying}
 use Rattle.md_pass.specs.declared.fault.PassFault.TheVariants.{SourceFault}
 use Rattle.md_pass.specs.declared.lane.Lane.{Lane}
 use Rattle.md_pass.specs.Beside.{KeepsBeside}
+use Rattle.md_pass.specs.Lanes.{IsReady}
 use Rattle.md_pass.specs.Settling.{books}
 use Rattle.md_pass.specs.Passes.{IsPassing}
 use Rattle.md_pass.proofs.Besides.{keeps_then}
 use Rattle.md_pass.proofs.Workers.{chunks_kept}
-use Rattle.md_pass.proofs.Rounds.{fails_in, next_done, sources_read, turned}
+use Rattle.md_pass.proofs.Rounds.{all_done, all_ready, next_done, sources_read, turned}
 use Rattle.md_pass.proofs.turns.run_turns.Goals as goal
 
 pub returns-then-is_starved-clause-sources : goal.returns-then-is_starved-clause-sources
@@ -17,6 +18,12 @@ returns-then-is_starved-clause-sources g c =
     let inv = c.loop-turn.invariant in
     let same : c.loop-turn.collector.chunks ≡ c.args.chunks = ap (λ (v : Copying). v.chunks) inv.passing.books.same_copy ∙ sym c.requires.chunks in
     sources_read c.turn.new.lanes.items (turned c.turn.new.lanes.items inv.passing inv.taken c.turn.ensures.len (λ k d below. rw same (c.turn.ensures.worked k d below))) refl (λ k d below. refl)
+
+pub turn-requires-after_bounds : goal.turn-requires-after_bounds
+turn-requires-after_bounds g c κs within =
+    let inv = c.loop-turn.invariant in
+    let same : c.loop-turn.collector.chunks ≡ c.args.chunks = ap (λ (v : Copying). v.chunks) inv.passing.books.same_copy ∙ sym c.requires.chunks in
+    subst (λ v. All (λ (lane : Lane _ _ _). IsReady g.D.Device v lane) c.loop-turn.lanes.items) same (all_ready inv.passing inv.taken)
 
 pub settle_all-requires : goal.settle_all-requires
 settle_all-requires g c =
@@ -32,8 +39,8 @@ returns-in_err-settle_all-clause-source_fault g c = λ role chunk e.
     let inv = c.loop-turn.invariant in
     let same : c.loop-turn.collector.chunks ≡ c.args.chunks = ap (λ (v : Copying). v.chunks) inv.passing.books.same_copy ∙ sym c.requires.chunks in
     let was : c.settle_all.result ≡ Err (SourceFault role chunk) = search rules in
-    fails_in role chunk c.settle_all.new.lanes.items (turned c.turn.new.lanes.items inv.passing inv.taken c.turn.ensures.len (λ k d below. rw same (c.turn.ensures.worked k d below)))
-    c.settle_all.ensures.devices (c.settle_all.ensures.source_fault role chunk was)
+    c.settle_all.ensures.source_fault role chunk was c.args.lanes.now.items (books c.args.collector.now (g.D.Device.content c.args.target.now) c.args.copied.now)
+    (rw inv.target.honest_kept (turned c.turn.new.lanes.items inv.passing inv.taken c.turn.ensures.len (λ k d below. rw same (c.turn.ensures.worked k d below))))
 
 pub returns-in_err-settle_all-clause-sources : goal.returns-in_err-settle_all-clause-sources
 returns-in_err-settle_all-clause-sources g c =
@@ -64,16 +71,34 @@ loop-turn-preserved g c =
     let next : IsPassing g.D.Device (g.D.Device.honest c.args.target.now) firsts news start (books c.settle_all.new.collector (g.D.Device.content c.settle_all.new.target) c.settle_all.new.copied)
     = subst (λ (b : Bool). IsPassing g.D.Device b firsts news start (books c.settle_all.new.collector (g.D.Device.content c.settle_all.new.target) c.settle_all.new.copied)) inv.target.honest_kept
     (c.in_ok-settle_all.ensures.passing firsts start (rw inv.target.honest_kept mid)) in
-    let fed : All (λ (lane : Lane _ _ _). lane.starved ≡ false) mids = subst (λ (xs : List (Lane _ _ _)). All (λ (lane : Lane _ _ _). lane.starved ≡ false) xs) c.as_slice.ensures.value (c.is_starved.ensures c.if-is_starved.false) in
+    let fed : All (λ (lane : Lane _ _ _). lane.starved ≡ false) mids = subst (λ (xs : List (Lane _ _ _)). All (λ (lane : Lane _ _ _). lane.starved ≡ false) xs) c.as_slice-in-loop-turn.ensures.value (c.is_starved.ensures c.if-is_starved.false) in
     record {
       passing = next;
       done = λ k d below.
           let here : k < length olds = omega (arith, below, next.as_many, inv.passing.as_many) in
           let between : k < length mids = omega (arith, here, c.turn.ensures.len) in
-          let kept : (get_or news k d).chunks ≡ (get_or olds k d).chunks = chunks_kept (next.each k d (omega (arith, below, next.as_many))) ∙ sym (chunks_kept (inv.passing.each k d (omega (arith, below, next.as_many)))) in
+          let kept : (get_or news k d).chunks ≡ (get_or olds k d).chunks = chunks_kept (next.each k d (omega (arith, below, next.as_many))).read ∙ sym (chunks_kept (inv.passing.each k d (omega (arith, below, next.as_many))).read) in
           next_done g.D.Device c.args.chunks c.loop-turn._turn (get_or olds k d) (get_or mids k d) (get_or news k d)
           (c.turn.ensures.worked k d here) (fed k d between) (c.in_ok-settle_all.ensures.goes k d between) (c.in_ok-settle_all.ensures.taken k d below) kept (inv.done k d here);
       taken = c.in_ok-settle_all.ensures.taken;
       target = keeps_then (copying c.args.collector.now) c.args.target.now c.loop-turn.target c.settle_all.new.target inv.target
           (subst (λ v. KeepsBeside g.D.Device v c.loop-turn.target c.settle_all.new.target) inv.passing.books.same_copy c.settle_all.ensures.target);
     }
+
+pub returns-then-are_done-clause-sources : goal.returns-then-are_done-clause-sources
+returns-then-are_done-clause-sources g c = sources_read c.loop-turn.lanes.items c.loop-turn.invariant.passing refl (λ k d below. refl)
+
+pub returns-then-are_done-clause-done : goal.returns-then-are_done-clause-done
+returns-then-are_done-clause-done g c =
+    let past = subst (λ (xs : List (Lane _ _ _)). All (λ (lane : Lane _ _ _). length lane.chunks.items ≤ lane.done) xs) c.as_slice.ensures.value (c.are_done.ensures c.if-are_done.true) in
+    all_done c.loop-turn.invariant.passing c.loop-turn.invariant.taken past
+
+pub returns-clause-done : goal.returns-clause-done
+returns-clause-done g c =
+    let inv = c.loop-turn.invariant in
+    all_done inv.passing inv.taken (λ k d below.
+    let here : k < length c.args.lanes.now.items = omega (arith, below, inv.passing.as_many) in
+    let n = ap (λ (v : _). length v.items) (chunks_kept (inv.passing.each k d here).read) in
+    let enough = c.requires.turns k d here in
+    let least = inv.done k d below in
+    omega (arith, n, enough, least, c.loop-turn-test.false))

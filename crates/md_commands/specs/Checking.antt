@@ -1,0 +1,28 @@
+-- The command that compares the members in sync.
+use Rattle.std.specs.Prelude.{◌≡◌, ℕ, true}
+use Rattle.md_check.specs.Checking.{Checks, RefusesCheck}
+use Rattle.md_examine.specs.declared.sink.Sink.{Ghosts}
+use Rattle.md_report.specs.CheckReport.{check_text}
+use Rattle.md_state.specs.View.{MirrorView}
+use Rattle.md_commands.specs.declared.fault.DataFault.{DataFault}
+use Rattle.md_commands.specs.declared.fault.DataFault.TheVariants.{Check, OutputFault}
+use Rattle.md_commands.specs.Output.{PutsOut}
+
+module _ {S : Type 0} (s : Ghosts S) where
+  -- they are compared, and in how many chunks two of them differ is shown
+  pub record ChecksMembers (old new : MirrorView) (before after : S) : Type 0 where
+    pub count : ℕ
+    pub checks : Checks old new count
+    pub shown : PutsOut s before after (check_text count)
+
+  -- they are compared, and the output failed
+  pub record ChecksInVain (old new : MirrorView) (after : S) : Type 0 where
+    pub count : ℕ
+    pub checks : Checks old new count
+    pub failed : s.failed after ≡ true
+
+  -- they are not compared, and nothing is put out; or they are, and the output failed
+  abbrev pub RefusesToCheck : MirrorView → MirrorView → S → S → DataFault → Type 0
+  RefusesToCheck old new before after (Check fault) = RefusesCheck old new fault × (after ≡ before)
+  RefusesToCheck old new before after OutputFault = ChecksInVain old new after
+  RefusesToCheck old new before after fault = ⊥

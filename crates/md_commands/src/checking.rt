@@ -1,0 +1,50 @@
+// The command that compares the members in sync.
+ghost use Rattle.std.specs.Prelude.{MatchResult};
+ghost use Rattle.md_requests.specs.Pending.{PendingView};
+ghost use Rattle.md_state.specs.Requests.{IsPending};
+ghost use Rattle.md_array.specs.Consistency.{IsConsistent};
+ghost use Rattle.md_commands.specs.Checking.{ChecksMembers, RefusesToCheck};
+
+use crate::fault::DataFault;
+use crate::output::put_checked;
+use crate::watch::Watch;
+use md_array::Mirror;
+use md_check::check_array;
+use md_device::Device;
+use md_examine::Sink;
+use std::alloc::Global;
+use std::thread::Threads;
+
+/// Counts the chunks in which two members in sync differ in a sector that neither lists as bad, and puts out
+/// how many they are in one line. Nothing is written, and the array may be one that is not resynced. `watch`
+/// is told how many sectors there are to read, and of each read.
+///
+///     let mut out = Output::new(rt.stdout());
+///     check_members(&rt, rt.alloc(), &mut mirror, &watch, &mut out)?; // puts out `mismatched chunks: 0`
+pub fn check_members<D: Device + Drop + Send, W: Watch + Sync, S: Sink, T: Threads + Sync>(
+    rt: &T,
+    alloc: Global,
+    mirror: &mut Mirror<D>,
+    watch: &W,
+    out: &mut S,
+) -> Result<(), DataFault>
+    requires sound { IsConsistent mirror.old }
+    ensures gives { MatchResult result (λ _. ChecksMembers S.Sink mirror.old mirror.new out.old out.new) (RefusesToCheck S.Sink mirror.old mirror.new out.old out.new) }
+    ensures sound { IsConsistent mirror.new }
+    ensures pending { (p : PendingView) → IsPending mirror.old.array p → IsPending mirror.new.array p }
+{
+    watch.begins_check(sectors_to_read(mirror));
+    let mismatched = check_array(rt, alloc, mirror, watch)?;
+    put_checked(mismatched, out)
+}
+
+// How many sectors a check reads where none is listed as bad: those of the array, on each member in sync.
+fn sectors_to_read<D: Device + Drop>(mirror: &Mirror<D>) -> u64 {
+    let mut sectors: u64 = 0;
+    for k in 0..mirror.members() {
+        if mirror.state(k).is_in_sync() {
+            sectors = sectors.saturating_add(mirror.chunks().size);
+        }
+    }
+    sectors
+}

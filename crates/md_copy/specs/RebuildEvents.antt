@@ -1,0 +1,84 @@
+-- A rebuild as a list of events of the array's model (this project's own).
+use Rattle.std.specs.Prelude.{◌≡◌, ◌≢◌, ◌⊎◌, ℕ, Bool, true, List, [], ◌∷◌, ◌++◌, slice_get, Some, All}
+use Rattle.std.proofs.Common.{inl, inr}
+use Rattle.md_bitmap.specs.Marks.{Bitmap}
+use Rattle.md_kept_members.specs.View.{MemberView}
+use Rattle.md_model.specs.Events.{Event}
+use Rattle.md_state.specs.View.{ArrayView, Disk, MirrorView}
+use Rattle.md_array.specs.Enrolling.{FailsToEnrol}
+use Rattle.md_array.specs.InTurn.{AllOf}
+use Rattle.md_array.specs.ReadAsKept.{HasWidth}
+use Rattle.md_metadata.specs.Going.{LeadsBy}
+use Rattle.md_metadata.specs.Storing.{IsNoFailure, IsStoring}
+use Rattle.md_copy.specs.declared.fault.RebuildFault.{RebuildFault}
+use Rattle.md_copy.specs.declared.fault.RebuildFault.TheVariants.{Halted, NotSpare, Dirty, InFlight, LogFull, NoMemory, TargetFault, MetadataFault, EventsFull, SourceFault}
+use Rattle.md_copy.specs.Rebuilding.{RefusesRebuild}
+use Rattle.md_copy.specs.Rebuilt.{HaltsFrom}
+
+-- ---- which events
+-- Marks and superblocks are stored; of the target data change, its bitmap and its log, or a write of its superblock fails.
+abbrev pub IsBeforeEnrol : ℕ → Event → Type 0
+IsBeforeEnrol target (Event.Record k) = Unit {0}
+IsBeforeEnrol target (Event.StoreMarks k b) = Unit {0}
+IsBeforeEnrol target (Event.RecordFails k) = Unit {0}
+IsBeforeEnrol target (Event.StoreMarksFails k b) = Unit {0}
+IsBeforeEnrol target (Event.Fill k) = k ≡ target
+IsBeforeEnrol target (Event.Prepare k) = k ≡ target
+IsBeforeEnrol target (Event.RecordTargetFails k) = k ≡ target
+IsBeforeEnrol target e = ⊥
+
+-- these, or the target comes into sync
+abbrev pub IsOfRebuild : ℕ → Event → Type 0
+IsOfRebuild target (Event.Enrol k role listed) = k ≡ target
+IsOfRebuild target e = IsBeforeEnrol target e
+
+-- in this order: what is due is stored, and nothing fails; the target is filled, prepared, and comes into sync; what is due then is stored
+pub record IsListOfRebuild (target : ℕ) (events : List Event) : Type 0 where
+  pub before : List Event
+  pub first : AllOf IsStoring before
+  pub unfailing : AllOf IsNoFailure before
+  pub role : ℕ
+  pub listed : ℕ → Bool
+  pub after : List Event
+  pub last : AllOf IsStoring after
+  pub list : events ≡ before ++ (Event.Fill target ∷ Event.Prepare target ∷ Event.Enrol target role listed ∷ after)
+
+-- ---- where they lead
+-- Events of a kind lead to the mirror after the call, or to the one right before a write that failed and halted it.
+pub record LeadsOrHalts (IsOf : Event → Type 0) (old new : MirrorView) : Type 0 where
+  pub last : MirrorView
+  pub ends : (last ≡ new) ⊎ HaltsFrom last new
+  pub leads : LeadsBy IsOf old last
+
+-- a rebuild that is done
+pub record RebuildLeads (target : ℕ) (old new : MirrorView) : Type 0 where
+  pub goes : LeadsOrHalts (IsOfRebuild target) old new
+  pub list : IsListOfRebuild target goes.leads.events
+
+-- ---- where `enrol` fails
+-- the header of the member's bitmap tells of chunks as wide as before
+abbrev pub KeepsWidth : ArrayView → MemberView → List ℕ → List ℕ → Type 0
+KeepsWidth a m old new = HasWidth a.chunks.sectors m.superblock old → HasWidth a.chunks.sectors m.superblock new
+
+-- The write that failed was not that of the superblock, which others were to come before: it was of the bitmap or of the log. It left the
+-- width in the header, and so did a stop.
+pub record FailsAtMarks {target : ℕ} {copied orphans : Bitmap} {old new : MirrorView} (f : FailsToEnrol target copied orphans old new) : Type 0 where
+  pub more : (d e : Disk) (at_d : slice_get old.disks target ≡ Some d) (at_e : slice_get new.disks target ≡ Some e) → (f.disks.change d e at_d at_e).0.rest ≢ []
+  pub width : (d e : Disk) → slice_get old.disks target ≡ Some d → slice_get new.disks target ≡ Some e → d.honest ≡ true → KeepsWidth old.array f.comes.member d.content e.content
+  pub within : (d e : Disk) (at_d : slice_get old.disks target ≡ Some d) (at_e : slice_get new.disks target ≡ Some e) (honest : d.honest ≡ true)
+      → All (KeepsWidth old.array f.comes.member d.content) ((f.disks.change d e at_d at_e).0.within honest).more
+
+-- what is asked of a rebuild that is refused
+abbrev pub AsksOfFailure : (target : ℕ) (old new : MirrorView) (fault : RebuildFault) → RefusesRebuild target old new fault → Type 0
+AsksOfFailure target old new Halted h = Unit {0}
+AsksOfFailure target old new NotSpare h = Unit {0}
+AsksOfFailure target old new Dirty h = Unit {0}
+AsksOfFailure target old new (InFlight number) h = Unit {0}
+AsksOfFailure target old new EventsFull h = Unit {0}
+AsksOfFailure target old new (MetadataFault k) h = Unit {0}
+AsksOfFailure target old new TargetFault (inl first) = Unit {0}
+AsksOfFailure target old new TargetFault (inr (inl pass)) = Unit {0}
+AsksOfFailure target old new TargetFault (inr (inr ends)) = FailsAtMarks ends.why
+AsksOfFailure target old new NoMemory h = Unit {0}
+AsksOfFailure target old new (SourceFault k chunk) h = Unit {0}
+AsksOfFailure target old new (LogFull k) h = Unit {0}

@@ -1,0 +1,7 @@
+pub mod HeldOnDisks
+pub mod RebuiltHolds
+pub mod StoppedRebuilds
+pub mod HeldAtEnrol
+pub mod EnrolledRun
+pub mod RebuildRun
+pub mod HeldBefore

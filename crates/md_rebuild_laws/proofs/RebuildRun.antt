@@ -1,0 +1,179 @@
+-- A rebuild in the life of a mirror is a run, along which the content stays.
+use Rattle.std.proofs.Common.{◌≡◌, ℕ, List, [], ◌∷◌, ◌++◌, None, inr, refl, subst}
+use Rattle.md_bitmap.specs.Marks.{Bitmap}
+use Rattle.md_model.specs.Content.{Becomes, Content}
+use Rattle.md_model.specs.Events.{Event}
+use Rattle.md_model.specs.Worlds.{World}
+use Rattle.md_plan.specs.declared.planner.Planned.{Planned}
+use Rattle.md_state.specs.DiskWrites.{AtDevice}
+use Rattle.md_state.specs.Requests.{AreInFlight}
+use Rattle.md_state.specs.View.{Disk, MirrorView}
+use Rattle.md_array.specs.Consistency.{IsConsistent}
+use Rattle.md_array.specs.Enrolling.{Enrols}
+use Rattle.md_array.specs.Enrolments.{EndsBelow, IsHeldBy, enrol_event, lists_of, prepared}
+use Rattle.md_array.specs.InTurn.{AllLeftWhole, AllOf, InTurn, Requests}
+use Rattle.md_array.specs.ReadAsKept.{AreReadAsKept}
+use Rattle.md_array.specs.Worlds.{AreHonest, block_on, geometry_of, world_of}
+use Rattle.md_array.proofs.General.Resting.{geometry_rests, world_rests}
+use Rattle.md_array.proofs.Steps.Turns.{all_on, all_such}
+use Rattle.md_laws.specs.Left.{contents_of}
+use Rattle.md_laws.specs.Runs.{HasRested, MirrorRun, MirrorRunWith, Moment, then_as}
+use Rattle.md_laws.specs.StopsWithin.{MayAllBeLeft}
+use Rattle.md_laws.proofs.Runs.ContentRuns.{without_content}
+use Rattle.md_laws.proofs.Runs.MirrorContents.{life_held_at}
+use Rattle.md_laws.proofs.Runs.MirrorRuns.{rests_run}
+use Rattle.md_laws.proofs.Runs.Moments.{IsSoundAt, run_keeps}
+use Rattle.md_laws.proofs.Runs.Rests.{rests_then}
+use Rattle.md_metadata.specs.Going.{GoesOn, only_others}
+use Rattle.md_metadata.specs.Storing.{IsStoring}
+use Rattle.md_copy.specs.RebuildEvents.{IsBeforeEnrol, IsOfRebuild}
+use Rattle.md_copy.specs.Rebuilding.{FillsBy}
+use Rattle.md_copy.proofs.RebuildLeads.{before_of, storing_before}
+use Rattle.md_rebuild_laws.specs.RebuildRuns.{RebuildIsARun, RunsTo}
+use Rattle.md_rebuild_laws.specs.StoppedRebuilds.{IsStopEnrolled, StopsEnrolled, StopsIn, StopsSettling}
+use Rattle.md_rebuild_laws.proofs.EnrolledRun.{at_end, enrolled_run_with}
+use Rattle.md_rebuild_laws.proofs.HeldAtEnrol.{is_held}
+use Rattle.md_rebuild_laws.proofs.RebuiltHolds.{held_at_begin}
+use Rattle.md_rebuild_laws.proofs.StoppedRebuilds.{ends_mid, full, honest_mid, in_flight_mid, lead, list, sound_mid, stops_in}
+
+-- ---- the content
+-- along these events it stays
+stays_along : (target : ℕ) (es : List Event) (t : Moment) (a : Content) (last : Moment) → AllOf (IsBeforeEnrol target) es → MirrorRun t es last → MirrorRunWith t a es last a
+stays_along target [] t a last of run = (run, refl)
+stays_along target (Event.Record k ∷ es) t a last of run = (run.0, run.1, a, run.2, refl, stays_along target es (then_as t (Event.Record k) run.0 run.1) a last of.1 run.3)
+stays_along target (Event.StoreMarks k b ∷ es) t a last of run = (run.0, run.1, a, run.2, refl, stays_along target es (then_as t (Event.StoreMarks k b) run.0 run.1) a last of.1 run.3)
+stays_along target (Event.RecordFails k ∷ es) t a last of run = (run.0, run.1, a, run.2, refl, stays_along target es (then_as t (Event.RecordFails k) run.0 run.1) a last of.1 run.3)
+stays_along target (Event.StoreMarksFails k b ∷ es) t a last of run = (run.0, run.1, a, run.2, refl, stays_along target es (then_as t (Event.StoreMarksFails k b) run.0 run.1) a last of.1 run.3)
+stays_along target (Event.Fill k ∷ es) t a last of run = (run.0, run.1, a, run.2, refl, stays_along target es (then_as t (Event.Fill k) run.0 run.1) a last of.1 run.3)
+stays_along target (Event.Prepare k ∷ es) t a last of run = (run.0, run.1, a, run.2, refl, stays_along target es (then_as t (Event.Prepare k) run.0 run.1) a last of.1 run.3)
+stays_along target (Event.RecordTargetFails k ∷ es) t a last of run = (run.0, run.1, a, run.2, refl, stays_along target es (then_as t (Event.RecordTargetFails k) run.0 run.1) a last of.1 run.3)
+stays_along target (e ∷ es) t a last of run = absurd (of.0)
+
+-- one run after another
+rests_run_with : (es : List Event) (t mid last : Moment) (a b : Content) → HasRested t mid → MirrorRunWith mid a es last b → MirrorRunWith t a es last b
+rests_run_with [] t mid last a b r s = (rests_run [] t mid last r s.0, s.1)
+rests_run_with (e ∷ es) t mid last a b r s =
+    let x = subst (λ (m : Moment). MirrorRunWith m a (e ∷ es) last b) r.is s in
+    let becomes = subst (λ g. Becomes g e (world_of t.mirror t.requests) a x.2) (geometry_rests t.mirror mid.mirror r.rests)
+    (subst (λ (w : World). Becomes (geometry_of mid.mirror.array) e w a x.2) (world_rests t.mirror mid.mirror r.rests t.requests) x.4) in
+    (x.0, x.1, x.2, record { mid = x.3.mid; rests = rests_then t.mirror mid.mirror x.3.mid r.rests x.3.rests; does = x.3.does }, becomes, x.5)
+
+run_with_then : (es more : List Event) (t mid last : Moment) (a b c : Content) → MirrorRunWith t a es mid b → MirrorRunWith mid b more last c → MirrorRunWith t a (es ++ more) last c
+run_with_then [] more t mid last a b c r s = rests_run_with more t mid last a c r.0 (subst (λ (x : Content). MirrorRunWith mid x more last c) r.1 s)
+run_with_then (e ∷ es) more t mid last a b c r s = (r.0, r.1, r.2, r.3, r.4, run_with_then es more (then_as t e r.0 r.1) mid last r.2 b c r.5 s)
+
+-- ---- all of it
+module _ (t : Moment) (sound : IsSoundAt t) (target : ℕ) (planned : Planned) (copied orphans : Bitmap) (filled : MirrorView) (by : FillsBy target planned copied orphans t.mirror filled) (new : MirrorView)
+    (r : Enrols target copied orphans filled new) (consistent : IsConsistent new) (ends : EndsBelow t.mirror target) (content : Content) (held : IsHeldBy target (lists_of filled.array r.member) content (prepared r)) where
+  abbrev until : List Event
+  until = list t sound target planned copied orphans filled by
+
+  abbrev mid : Moment
+  mid = (full t sound target planned copied orphans filled by).at
+
+  abbrev more : List Event
+  more = Event.Prepare target ∷ enrol_event r ∷ []
+
+  kinds : AllOf (IsBeforeEnrol target) until
+  kinds = (lead t sound target planned copied orphans filled by).steps
+
+  abbrev last : Moment
+  last =
+      at_end target copied orphans filled new by.sound consistent r by.may (ends_mid t sound target planned copied orphans filled by ends) (honest_mid t sound target planned copied orphans filled by) content held mid
+      (full t sound target planned copied orphans filled by).there (in_flight_mid t sound target planned copied orphans filled by)
+
+  abbrev events : List Event
+  events = until ++ more
+
+  steps : AllOf (IsOfRebuild target) events
+  steps = all_on (IsOfRebuild target) until more (all_such (IsBeforeEnrol target) (IsOfRebuild target) (before_of target) until kinds) (refl, (refl, tt))
+
+  run_with : MirrorRunWith t content events last content
+  run_with =
+      run_with_then until more t mid last content content content (stays_along target until t content mid kinds (full t sound target planned copied orphans filled by).run)
+      (enrolled_run_with target copied orphans filled new by.sound consistent r by.may (ends_mid t sound target planned copied orphans filled by ends) (honest_mid t sound target planned copied orphans filled by) content held mid
+      (full t sound target planned copied orphans filled by).there (in_flight_mid t sound target planned copied orphans filled by))
+
+  pub rebuild_run : RunsTo (IsOfRebuild target) t content new
+  rebuild_run = record { events = events; steps = steps; at = last; run = run_with; there = refl }
+
+  -- ---- a stop right after it
+  pub enrolled_stop : (left : List Disk) → MayAllBeLeft filled.disks new.disks (contents_of left) → AtDevice target new.disks left (λ d e. block_on e.content ≡ block_on d.content) → IsStopEnrolled target t content left
+  enrolled_stop left within super = record {
+    after = record {
+      events = events;
+      steps = steps;
+      at = last;
+      run = without_content events t content last content run_with;
+      is_left = inr (inr (inr (inr (inr (inr (inr (inr (inr (record {
+        on = target;
+        copied = copied;
+        orphans = orphans;
+        before = filled;
+        sound = by.sound;
+        honest = honest_mid t sound target planned copied orphans filled by;
+        failed_at = mid.failed_at;
+        read = subst (λ (x : MirrorView). AreReadAsKept x mid.failed_at) (full t sound target planned copied orphans filled by).there (sound_mid t sound target planned copied orphans filled by).read;
+        call = r;
+        within = within;
+        super = super;
+      })))))))));
+    };
+    content_stays = run_with;
+  }
+
+  -- ---- while what is due then is stored
+  -- the same moment
+  abbrev then : Moment
+  then = record last { requests = t.requests }
+
+  run_then_with : MirrorRunWith t content events then content
+  run_then_with =
+      subst (λ (x : Moment). MirrorRunWith t content events x content) (λ i. record last { requests = (full t sound target planned copied orphans filled by).requests i }) run_with
+
+  honest_then : AreHonest new.disks
+  honest_then = (run_keeps events t last (without_content events t content last content run_with) sound).honest
+
+  module _ (settled : MirrorView) (g : GoesOn only_others only_others IsStoring new settled) (in_flight : AreInFlight new.array t.requests) where
+    abbrev Then : MirrorView → Requests → Type 0
+    Then m q = (m ≡ settled) × (q ≡ t.requests)
+
+    abbrev turn : InTurn None new t.requests g.events Then
+    turn = g.leads None t.requests in_flight
+
+    pub settling_stop : AllLeftWhole g.events None new t.requests Then turn → (left : List Disk) → StopsIn g.events None new t.requests Then turn left → IsStopEnrolled target t content left
+    settling_stop whole left stop =
+        let x = (stops_in g.events None then Then turn g.steps honest_then whole left stop).after in
+        let others = all_such IsStoring (IsBeforeEnrol target) (storing_before target) x.events x.steps in
+        let all = run_with_then events x.events t then x.at content content content run_then_with (stays_along target x.events then content x.at others x.run) in
+        record {
+          after = record {
+            events = events ++ x.events;
+            steps = all_on (IsOfRebuild target) events x.events steps (all_such (IsBeforeEnrol target) (IsOfRebuild target) (before_of target) x.events others);
+            at = x.at;
+            run = without_content (events ++ x.events) t content x.at content all;
+            is_left = x.is_left;
+          };
+          content_stays = all;
+        }
+
+-- ---- in lives
+pub rebuild_is_a_run : RebuildIsARun
+rebuild_is_a_run before m a start holds es rest final t b life target told new h had ends =
+    let at = life_held_at before m a start holds es rest final t b life in
+    let by = h.by.fills in
+    let held = is_held target h.planned h.copied h.orphans t.mirror h.by.filled h.by.enrolled by h.by.enrols ends at.sound.honest b (held_at_begin t at h.planned target by.begins) had in
+    rebuild_run t at.sound target h.planned h.copied h.orphans h.by.filled by h.by.enrolled h.by.enrols h.by.sound ends b held
+
+pub stops_enrolled : StopsEnrolled
+stops_enrolled before m a start holds es rest final t b life target planned copied orphans filled new by r consistent had ends left within super =
+    let at = life_held_at before m a start holds es rest final t b life in
+    let held = is_held target planned copied orphans t.mirror filled new by r ends at.sound.honest b (held_at_begin t at planned target by.begins) had in
+    enrolled_stop t at.sound target planned copied orphans filled by new r consistent ends b held left within super
+
+pub stops_settling : StopsSettling
+stops_settling before m a start holds es rest final t b life target told new h had ends settled g in_flight whole left stop =
+    let at = life_held_at before m a start holds es rest final t b life in
+    let by = h.by.fills in
+    let held = is_held target h.planned h.copied h.orphans t.mirror h.by.filled h.by.enrolled by h.by.enrols ends at.sound.honest b (held_at_begin t at h.planned target by.begins) had in
+    settling_stop t at.sound target h.planned h.copied h.orphans h.by.filled by h.by.enrolled h.by.enrols h.by.sound ends b held settled g in_flight whole left stop

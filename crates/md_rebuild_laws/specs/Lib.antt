@@ -1,0 +1,6 @@
+-- What a rebuild makes of its target in the life of a mirror.
+pub mod RebuiltInLife
+-- What a stop within a rebuild leaves.
+pub mod StoppedRebuilds
+-- A rebuild in the life of a mirror is a run.
+pub mod RebuildRuns

@@ -1,0 +1,64 @@
+-- What a rebuild makes of its target in the life of a mirror.
+use Rattle.std.specs.Prelude.{◌≡◌, ℕ, ◌+◌, ◌*◌, ◌/◌, ◌<◌, true, false, List, slice_get, Some}
+use Rattle.md_assembly.specs.States.{is_in_sync}
+use Rattle.md_badblocks.specs.Runs.{IsBad}
+use Rattle.md_bitmap.specs.Chunks.{InChunk}
+use Rattle.md_bitmap.specs.Marks.{is_set}
+use Rattle.md_device.specs.Splice.{part}
+use Rattle.md_kept_members.specs.View.{MemberView}
+use Rattle.md_model.specs.Behind.{IsBehind}
+use Rattle.md_model.specs.Content.{Content, Holds}
+use Rattle.md_model.specs.Devices.{Stored}
+use Rattle.md_model.specs.Events.{Event}
+use Rattle.md_model.specs.RebuiltBehind.{IsRebuiltFrom}
+use Rattle.md_state.specs.Members.{IsMember}
+use Rattle.md_state.specs.Missing.{is_missing}
+use Rattle.md_state.specs.View.{Disk, MirrorView}
+use Rattle.md_array.specs.Enrolments.{EndsBelow, lists_of}
+use Rattle.md_array.specs.Worlds.{geometry_of, none_in_flight, world_of}
+use Rattle.md_laws.specs.Lives.{MirrorLifeWith}
+use Rattle.md_laws.specs.Runs.{IsStart, Moment}
+use Rattle.md_copy.specs.declared.rebuilt.Rebuilt.{Rebuilt}
+use Rattle.md_copy.specs.Rebuilding.{Rebuilds}
+use Rattle.md_copy.specs.Rebuilt.{HasRebuilt}
+
+-- It holds of each rebuild that is done at some moment of a life, with the content that the life has there.
+abbrev pub OfRebuildsInLives : ((target : ℕ) (content : Content) (told : Rebuilt) (old new : MirrorView) → HasRebuilt target told old new → Type 0) → Type 0
+OfRebuildsInLives Of =
+    (before : List Disk) (m : MirrorView) (a : Content) → IsStart before m → Holds (geometry_of m.array) a (world_of m none_in_flight)
+    → (es : List Event) (rest : List (List Event)) (final : MirrorView) (last : Moment) (b : Content) → MirrorLifeWith m a es rest final last b
+    → (target : ℕ) (told : Rebuilt) (new : MirrorView) → Rebuilds target told last.mirror new
+    → (r : HasRebuilt target told last.mirror new) × Of target b told last.mirror new r
+
+-- In each sector of the chunks that were copied the new member holds it.
+abbrev pub CopiesContent : Type 0
+CopiesContent = OfRebuildsInLives (λ target content told old new r.
+    ((e : Disk) → slice_get r.last.disks target ≡ Some e → (c s : ℕ) → c < old.array.marks.chunks → is_set r.copied.bytes c ≡ true
+    → InChunk old.array.chunks.sectors old.array.chunks.size c s → part e.content (512 * (r.rebuilt.member.superblock.data_offset + s)) 512 ≡ content s))
+
+-- In chunks that it did not lack the member held it, on each sector that it did not list. One that was not re-added lacked all chunks.
+abbrev pub HeldWhatItHad : ℕ → Content → MirrorView → Type 0
+HeldWhatItHad target content old =
+    (d : Disk) (m : MemberView) → slice_get old.disks target ≡ Some d → IsMember old.array target m
+    → (s : ℕ) → s < old.array.chunks.size → is_missing old.array m (s / old.array.chunks.sectors) ≡ false → (IsBad m.bad (m.superblock.data_offset + s) → ⊥)
+    → part d.content (512 * (m.superblock.data_offset + s)) 512 ≡ content s
+
+-- So nothing is asked of such a one.
+abbrev pub SpareHadNothing : Type 0
+SpareHadNothing =
+    (target : ℕ) (content : Content) (old : MirrorView) (m : MemberView) → IsMember old.array target m → m.re_added ≡ false → is_in_sync m.state ≡ false → HeldWhatItHad target content old
+
+-- One that was re-added held it, if the device that left lies behind the content by what is marked, and it still has the data of that device
+-- in chunks without a mark, and lists there what that listed, or more.
+abbrev pub TakenBackHeldIt : Type 0
+TakenBackHeldIt =
+    (t : Moment) (target : ℕ) (content : Content) (m : MemberView) → IsMember t.mirror.array target m → m.re_added ≡ true
+    → (device : Stored) → IsBehind (geometry_of t.mirror.array) content device (world_of t.mirror t.requests)
+    → IsRebuiltFrom (geometry_of t.mirror.array) device (world_of t.mirror t.requests) target (lists_of t.mirror.array m) → HeldWhatItHad target content t.mirror
+
+-- A member that did holds it on each sector of the array that it does not list afterwards.
+abbrev pub RebuildsContent : Type 0
+RebuildsContent = OfRebuildsInLives (λ target content told old new r.
+    (HeldWhatItHad target content old → EndsBelow old target → (e : Disk) → slice_get r.last.disks target ≡ Some e
+    → (s : ℕ) → s < old.array.chunks.size → (IsBad r.rebuilt.now.bad (r.rebuilt.member.superblock.data_offset + s) → ⊥)
+    → part e.content (512 * (r.rebuilt.member.superblock.data_offset + s)) 512 ≡ content s))

@@ -1,0 +1,140 @@
+-- What a stop within a rebuild leaves. It comes within one of its steps, from the mirror before that step to the one after it, of which the
+-- step's own contract says what may be left.
+use Rattle.std.specs.Prelude.{◌≡◌, ◌⊎◌, ℕ, false, List, [], ◌∷◌, Option, Some, None}
+use Rattle.md_assembly.specs.States.{is_in_sync}
+use Rattle.md_bitmap.specs.Marks.{Bitmap}
+use Rattle.md_kept_members.specs.View.{MemberView}
+use Rattle.md_model.specs.Content.{Content}
+use Rattle.md_model.specs.Events.{Event}
+use Rattle.md_plan.specs.declared.planner.Planned.{Planned}
+use Rattle.md_state.specs.DiskWrites.{AtDevice}
+use Rattle.md_state.specs.Members.{IsMember}
+use Rattle.md_state.specs.Requests.{AreInFlight}
+use Rattle.md_state.specs.View.{Disk, MirrorView}
+use Rattle.md_array.specs.Consistency.{IsConsistent}
+use Rattle.md_array.specs.Enrolling.{Enrols, FailsToEnrol}
+use Rattle.md_array.specs.Enrolments.{EndsBelow}
+use Rattle.md_array.specs.Events.{IsOldNewOrNone}
+use Rattle.md_array.specs.InTurn.{AllLeftWhole, AllOf, InTurn, Requests}
+use Rattle.md_array.specs.Recording.{super_write}
+use Rattle.md_array.specs.Worlds.{block_on}
+use Rattle.md_laws.specs.Left.{IsLeft, contents_of}
+use Rattle.md_laws.specs.Lives.{MirrorLife}
+use Rattle.md_laws.specs.Runs.{IsStart, MirrorRun, MirrorRunWith, Moment}
+use Rattle.md_laws.specs.StopsWithin.{MayAllBeLeft}
+use Rattle.md_metadata.specs.Going.{GoesOn, only_others}
+use Rattle.md_metadata.specs.Storing.{IsStoring}
+use Rattle.md_copy.specs.declared.rebuilt.Rebuilt.{Rebuilt}
+use Rattle.md_copy.specs.Filling.{IsFilling}
+use Rattle.md_copy.specs.Storing.{FailsOnTarget}
+use Rattle.md_copy.specs.RebuildEvents.{FailsAtMarks, IsBeforeEnrol, IsOfRebuild}
+use Rattle.md_copy.specs.Rebuilding.{Begins, EndsStoring, FillsBy, Rebuilds}
+use Rattle.md_rebuild_laws.specs.RebuildRuns.{AtMomentsWith}
+use Rattle.md_rebuild_laws.specs.RebuiltInLife.{HeldWhatItHad}
+
+-- It holds at each moment of each life.
+abbrev pub AtMoments : (Moment → Type 0) → Type 0
+AtMoments Holds =
+    (before : List Disk) (m : MirrorView) → IsStart before m
+    → (es : List Event) (rest : List (List Event)) (final : MirrorView) (t : Moment) → MirrorLife m es rest final t → Holds t
+
+-- ---- what it leaves
+-- It is a stop of a run of events of this kind: they lead from this moment to one from which on a stop leaves that. So the laws over lives
+-- speak of it.
+pub record IsStopAfter (Of : Event → Type 0) (t : Moment) (left : List Disk) : Type 0 where
+  pub events : List Event
+  pub steps : AllOf Of events
+  pub at : Moment
+  pub run : MirrorRun t events at
+  pub is_left : IsLeft at left
+
+-- So it is, and the target is not in sync yet.
+pub record IsStopBefore (target : ℕ) (t : Moment) (left : List Disk) : Type 0 where
+  pub after : IsStopAfter (IsBeforeEnrol target) t left
+  pub out : (m : MemberView) → IsMember after.at.mirror.array target m → is_in_sync m.state ≡ false
+
+-- So it is of a run in which the target came into sync, and the content stays what it was: the members in sync hold it, and the target is one
+-- of them.
+pub record IsStopEnrolled (target : ℕ) (t : Moment) (content : Content) (left : List Disk) : Type 0 where
+  pub after : IsStopAfter (IsOfRebuild target) t left
+  pub content_stays : MirrorRunWith t content after.events after.at content
+
+-- So it is, of events by which marks and superblocks are stored, and who was out of sync is so still.
+pub record IsStopStoring (t : Moment) (left : List Disk) : Type 0 where
+  pub after : IsStopAfter IsStoring t left
+  pub out : (k : ℕ) (m n : MemberView) → IsMember t.mirror.array k m → IsMember after.at.mirror.array k n → is_in_sync m.state ≡ false → is_in_sync n.state ≡ false
+
+-- ---- while marks and superblocks are stored
+-- What is asked of a stop within one of these events: a superblock that was being stored was left as it was, as it is written, or as one
+-- that can't be decoded. Of a write of marks that fails nothing is said.
+abbrev pub IsLeftWhole : Event → MirrorView → List Disk → Type 0
+IsLeftWhole (Event.Record k) old left = (m : MemberView) → IsMember old.array k m → AtDevice k old.disks left (IsOldNewOrNone (super_write old.array m).bytes)
+IsLeftWhole (Event.RecordFails k) old left = (m : MemberView) → IsMember old.array k m → AtDevice k old.disks left (IsOldNewOrNone (super_write old.array m).bytes)
+IsLeftWhole (Event.StoreMarksFails k b) old left = ⊥
+IsLeftWhole e old left = Unit {0}
+
+-- the stop came within one of the events that lead on
+abbrev pub StopsIn : (es : List Event) (previous : Option Event) (old : MirrorView) (before : Requests) (Then : MirrorView → Requests → Type 0)
+    → InTurn previous old before es Then → List Disk → Type 0
+StopsIn [] previous old before Then t left = ⊥
+StopsIn (e ∷ es) previous old before Then t left =
+    (MayAllBeLeft old.disks t.0.disks (contents_of left) × IsLeftWhole e old left) ⊎ StopsIn es (Some e) t.0 t.1 Then t.5 left
+
+abbrev pub StopsStoring : Type 0
+StopsStoring =
+    AtMoments (λ t.
+    ((new : MirrorView) (g : GoesOn only_others only_others IsStoring t.mirror new) (in_flight : AreInFlight t.mirror.array t.requests)
+    → AllLeftWhole g.events None t.mirror t.requests (λ m r. (m ≡ new) × (r ≡ t.requests)) (g.leads None t.requests in_flight)
+    → (left : List Disk) → StopsIn g.events None t.mirror t.requests (λ m r. (m ≡ new) × (r ≡ t.requests)) (g.leads None t.requests in_flight) left
+    → IsStopStoring t left))
+
+-- the superblock of the target could not be stored: it was left as it was, as it is written, or as one that can't be decoded
+abbrev pub StopsUnrecorded : Type 0
+StopsUnrecorded =
+    AtMoments (λ t.
+    ((target : ℕ) (new : MirrorView) (e : EndsStoring target t.mirror (FailsOnTarget target t.mirror new))
+    → (left : List Disk) → MayAllBeLeft e.why.mid.disks new.disks (contents_of left) → IsLeftWhole (Event.Record target) e.why.mid left → IsStopBefore target t left))
+
+-- ---- while the target gets its chunks, whatever comes of it
+abbrev pub StopsFilling : Type 0
+StopsFilling =
+    AtMoments (λ t.
+    ((target : ℕ) (planned : Planned) (stored new : MirrorView) (b : Begins target planned t.mirror stored) → IsFilling target b.now planned.plan.slots stored new
+    → (left : List Disk) → MayAllBeLeft stored.disks new.disks (contents_of left) → IsStopBefore target t left))
+
+-- ---- while it comes into sync
+-- as long as its superblock stands as before
+abbrev pub StopsEnrolling : Type 0
+StopsEnrolling =
+    AtMoments (λ t.
+    ((target : ℕ) (planned : Planned) (copied orphans : Bitmap) (filled new : MirrorView) → FillsBy target planned copied orphans t.mirror filled
+    → Enrols target copied orphans filled new
+    → (left : List Disk) → MayAllBeLeft filled.disks new.disks (contents_of left) → AtDevice target filled.disks left (λ d e. block_on e.content ≡ block_on d.content)
+    → IsStopBefore target t left))
+
+-- or a write of its bitmap or its log fails
+abbrev pub StopsUnenrolled : Type 0
+StopsUnenrolled =
+    AtMoments (λ t.
+    ((target : ℕ) (planned : Planned) (copied orphans : Bitmap) (filled new : MirrorView) → FillsBy target planned copied orphans t.mirror filled
+    → (f : FailsToEnrol target copied orphans filled new) → FailsAtMarks f
+    → (left : List Disk) → MayAllBeLeft filled.disks new.disks (contents_of left) → IsStopBefore target t left))
+
+-- Where its superblock stands as after it, the target is in sync. Of the target it is asked that it held the content where it lacked nothing.
+abbrev pub StopsEnrolled : Type 0
+StopsEnrolled =
+    AtMomentsWith (λ t content.
+    ((target : ℕ) (planned : Planned) (copied orphans : Bitmap) (filled new : MirrorView) → FillsBy target planned copied orphans t.mirror filled
+    → Enrols target copied orphans filled new → IsConsistent new → HeldWhatItHad target content t.mirror → EndsBelow t.mirror target
+    → (left : List Disk) → MayAllBeLeft filled.disks new.disks (contents_of left) → AtDevice target new.disks left (λ d e. block_on e.content ≡ block_on d.content)
+    → IsStopEnrolled target t content left))
+
+-- so it is while marks and superblocks are stored after that
+abbrev pub StopsSettling : Type 0
+StopsSettling =
+    AtMomentsWith (λ t content.
+    ((target : ℕ) (told : Rebuilt) (new : MirrorView) (h : Rebuilds target told t.mirror new) → HeldWhatItHad target content t.mirror → EndsBelow t.mirror target
+    → (settled : MirrorView) (g : GoesOn only_others only_others IsStoring h.by.enrolled settled) (in_flight : AreInFlight h.by.enrolled.array t.requests)
+    → AllLeftWhole g.events None h.by.enrolled t.requests (λ m r. (m ≡ settled) × (r ≡ t.requests)) (g.leads None t.requests in_flight)
+    → (left : List Disk) → StopsIn g.events None h.by.enrolled t.requests (λ m r. (m ≡ settled) × (r ≡ t.requests)) (g.leads None t.requests in_flight) left
+    → IsStopEnrolled target t content left))

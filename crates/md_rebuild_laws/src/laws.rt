@@ -1,0 +1,40 @@
+//! What holds of a rebuild in the life of a mirror. The functions do nothing: their contracts are the theorems.
+
+ghost use Rattle.md_rebuild_laws.specs.RebuildRuns.{RebuildIsARun};
+ghost use Rattle.md_rebuild_laws.specs.RebuiltInLife.{CopiesContent, RebuildsContent, SpareHadNothing, TakenBackHeldIt};
+ghost use Rattle.md_rebuild_laws.specs.StoppedRebuilds.{StopsEnrolled, StopsEnrolling, StopsFilling, StopsSettling, StopsStoring, StopsUnenrolled, StopsUnrecorded};
+
+/// A mirror was opened from devices that do what they answer, whose stored marks covered what they differ in,
+/// and has come to any moment of its life. A rebuild then gives the new member the content that the life has
+/// by then: in each chunk that is copied; and in each sector that the member does not list, if it had it where
+/// it lacked nothing, as a spare does. That members in sync agree is no premise: the laws over lives give it.
+pub fn rebuilt_in_life()
+    ensures copies { CopiesContent }
+    ensures content { RebuildsContent }
+{}
+
+/// When a member held the content where it lacked nothing. A spare lacks everything. One that was taken back did, if
+/// the device that left lies behind by what is marked, as `md_laws::laws::leaving_members` says of one that failed.
+pub fn held_before()
+    ensures spare { SpareHadNothing }
+    ensures taken_back { TakenBackHeldIt }
+{}
+
+/// A rebuild that is done is a run of the mirror, from any moment of a life on, up to the mirror in which its
+/// target is in sync; what is stored after that are events too (`md_copy::laws::rebuild_events`).
+pub fn rebuild_runs()
+    ensures { RebuildIsARun }
+{}
+
+/// What a stop at any moment within a rebuild leaves, is what a stop of a run leaves: so an opening finds of it what
+/// the laws over lives say. Until the superblock that brings the target into sync stands, the target is not in
+/// sync; where it stands, the enrolment is done.
+pub fn stopped_rebuilds()
+    ensures storing { StopsStoring }
+    ensures unrecorded { StopsUnrecorded }
+    ensures filling { StopsFilling }
+    ensures enrolling { StopsEnrolling }
+    ensures unenrolled { StopsUnenrolled }
+    ensures enrolled { StopsEnrolled }
+    ensures settling { StopsSettling }
+{}
