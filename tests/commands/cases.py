@@ -464,7 +464,7 @@ CASES = [
         ],
     ),
     (
-        "one that failed and left comes back, and gets what was written since",
+        "the life of a mirror: one that failed and left comes back, and gets what was written since",
         TWO,
         [
             create("raid1", 2, 4, "--assume-clean a b", output=CLEAN, changes="a b"),
@@ -598,6 +598,17 @@ CASES = [
             Step("add --device c a c", fault="BadImage 2"),
             Step("add --device c", fault="Assemble Empty"),
             Step("add --device a c b", fault="Member 0 Super Magic"),
+        ],
+    ),
+    (
+        "the limits of add and create",
+        {"a": ZEROS, "b": ZEROS, "c": ZEROS, "d": SHORT},
+        [
+            create("raid1", 2, 3, "--assume-clean a b", fault="BadGeometry"),
+            create("raid1", 2, 4, "--assume-clean a b", output=CLEAN, changes="a b"),
+            Step("add --device d a b", fault="TooSmall"),
+            Step("add --device c a b", "in sync 2 of 2, events 2, marked 0\n", changes="a b c"),
+            Step("rebuild --member 2 a b c", fault="NotSpare"),
         ],
     ),
     ("add, the event count can't rise", {"a": SPENT, "b": ZEROS}, [Step("add --device b a", fault="EventsFull")]),
