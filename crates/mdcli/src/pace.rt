@@ -1,4 +1,6 @@
 // How fast a task goes.
+ghost use Rattle.std.specs.Prelude.{◌<◌};
+
 use std::sync::atomic::{AtomicBool, AtomicU64, Ordering};
 
 const MIB: u64 = 1 << 20;
@@ -47,8 +49,10 @@ impl Pace {
         self.elapsed(now).saturating_mul(rest) / done.max(1) / 1000
     }
 
-    // In milliseconds, and never 0.
-    fn elapsed(&self, now: u64) -> u64 {
+    // In milliseconds.
+    fn elapsed(&self, now: u64) -> u64
+        ensures { 0 < result }
+    {
         now.saturating_sub(self.began.load(Ordering::SeqCst)).max(1)
     }
 }
