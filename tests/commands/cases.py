@@ -254,6 +254,11 @@ def listing(first):
     return members.with_bad_blocks(first, [(2048 + 43, 1)])
 
 
+def without_log(first):
+    """The image of a member whose superblock names no bad block log."""
+    return members.with_superblock(first, bblog_size=0, bblog_offset=0)
+
+
 def as_role(role, number):
     """What makes, of the image of a member in sync, that of another one that holds the same."""
 
@@ -550,6 +555,21 @@ CASES = [
             Step("read --sector 43 --count 1 a b", fault="Unreadable 43"),
             Step("read --sector 44 --count 4 b", fault="Unreadable 44"),
             Step("read --sector 44 --count 1 a b", members.pattern(1, 64)[44 * SECTOR : 45 * SECTOR].decode("utf-8", "backslashreplace")),
+        ],
+    ),
+    (
+        "a member without a log can't list a chunk that no member can give",
+        TWO,
+        [
+            create("1", 2, 4, "--assume-clean a missing", output="in sync 1 of 2, events 1, marked 0\n", changes="a"),
+            Step("write --sector 0 a", "in sync 1 of 2, events 3, marked 8\n", changes="a", given=members.pattern(1, 64)),
+            Made("a", "a", listing),
+            Step("add --device b a", "in sync 1 of 2, events 4, marked 8\n", changes="a b"),
+            Made("b", "b", without_log),
+            # Its data are copied, and it stays a spare.
+            Step("rebuild --member 1 a b", fault="LogFull 1", changes="b"),
+            Step("rebuild --member 1 a b", fault="LogFull 1"),
+            Step("read --sector 0 --count 1 b", fault="Assemble NotEnough"),
         ],
     ),
     (
