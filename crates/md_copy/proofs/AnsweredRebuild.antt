@@ -44,7 +44,7 @@ refused_storing target old new member at may EventsFull h = absurd h
 refused_storing target old new member at may (SourceFault k chunk) h = absurd h
 
 module _ (target : ℕ) (old stored : MirrorView) (may : (m : MemberView) → IsMember old.array target m → MayRebuild old.array m) (first : StoresFirst old stored) (member : MemberView) (at : IsMember old.array target member) where
-  -- ---- for want of memory
+  -- ---- out of memory
   pub refused_pass : (fault : RebuildFault) → RefusesPass fault → RefusesRebuild target old stored fault
   refused_pass Halted h = absurd h
   refused_pass NotSpare h = absurd h
