@@ -4,6 +4,7 @@
 
 mod array_task;
 mod command_line;
+mod commands;
 mod help;
 mod options;
 mod parsing;

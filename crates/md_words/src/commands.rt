@@ -1,0 +1,279 @@
+// The commands and their options, with what help says of them.
+use crate::help;
+
+/// What the value of an option has to be.
+pub(crate) enum Kind {
+    Text,
+    U32,
+    U64,
+    /// It has no value.
+    Flag,
+}
+
+/// An option of a command.
+pub(crate) struct OptionWords<'a> {
+    pub(crate) name: &'a str,
+    /// What help calls its value.
+    pub(crate) value: &'a str,
+    pub(crate) help: &'a str,
+    pub(crate) kind: Kind,
+    pub(crate) required: bool,
+    pub(crate) default: Option<&'a str>,
+}
+
+/// A command. After its options it takes images; their number is no matter of the parser's: the command
+/// itself refuses it by name.
+pub(crate) struct CommandWords<'a> {
+    pub(crate) name: &'a str,
+    pub(crate) about: &'a str,
+    pub(crate) after_help: &'a str,
+    pub(crate) options: &'a [OptionWords<'a>],
+}
+
+const READONLY: OptionWords = OptionWords {
+    name: "readonly",
+    value: "",
+    help: "Changes no image: what would be stored is kept in memory",
+    kind: Kind::Flag,
+    required: false,
+    default: None,
+};
+
+const MEMBER: OptionWords = OptionWords {
+    name: "member",
+    value: "N",
+    help: "The member, by its place among the images, from 0",
+    kind: Kind::U32,
+    required: true,
+    default: None,
+};
+
+const DEVICE: OptionWords = OptionWords {
+    name: "device",
+    value: "NEW",
+    help: "The image that joins the array: a file or a block device, none of those listed",
+    kind: Kind::Text,
+    required: true,
+    default: None,
+};
+
+const SECTOR: OptionWords = OptionWords {
+    name: "sector",
+    value: "S",
+    help: "The first sector of the array, from 0; a sector has 512 bytes",
+    kind: Kind::U64,
+    required: true,
+    default: None,
+};
+
+const COUNT: OptionWords = OptionWords {
+    name: "count",
+    value: "N",
+    help: "The number of sectors",
+    kind: Kind::U64,
+    required: true,
+    default: None,
+};
+
+const LEVEL: OptionWords = OptionWords {
+    name: "level",
+    value: "LEVEL",
+    help: "The RAID level: 1, raid1 or mirror",
+    kind: Kind::Text,
+    required: true,
+    default: None,
+};
+
+const RAID_DEVICES: OptionWords = OptionWords {
+    name: "raid-devices",
+    value: "N",
+    help: "The number of members",
+    kind: Kind::U32,
+    required: true,
+    default: None,
+};
+
+const UUID: OptionWords = OptionWords {
+    name: "uuid",
+    value: "UUID",
+    help: "The UUID of the array",
+    kind: Kind::Text,
+    required: true,
+    default: None,
+};
+
+const NAME: OptionWords = OptionWords {
+    name: "name",
+    value: "NAME",
+    help: "The name of the array, of at most 32 bytes",
+    kind: Kind::Text,
+    required: false,
+    default: Some("md"),
+};
+
+const BITMAP_CHUNK: OptionWords = OptionWords {
+    name: "bitmap-chunk",
+    value: "KIB",
+    help: "The size of a chunk of the bitmap",
+    kind: Kind::U32,
+    required: false,
+    default: Some("65536"),
+};
+
+const SIZE: OptionWords = OptionWords {
+    name: "size",
+    value: "KIB",
+    help: "The size of the array: by default all that its members have",
+    kind: Kind::U64,
+    required: false,
+    default: None,
+};
+
+const TIME: OptionWords = OptionWords {
+    name: "time",
+    value: "SECONDS",
+    help: "The time that the array is created at, since 1970",
+    kind: Kind::U64,
+    required: false,
+    default: Some("0"),
+};
+
+const ASSUME_CLEAN: OptionWords = OptionWords {
+    name: "assume-clean",
+    value: "",
+    help: "Takes the members for equal, so that nothing is to be copied",
+    kind: Kind::Flag,
+    required: false,
+    default: None,
+};
+
+/// The commands on one image.
+pub(crate) const EXAMINE_COMMANDS: [CommandWords; 3] = [
+    CommandWords {
+        name: "examine",
+        about: "Shows the superblock of a member's image",
+        after_help: help::EXAMINE,
+        options: &[],
+    },
+    CommandWords {
+        name: "examine-bitmap",
+        about: "Shows the write-intent bitmap of a member's image",
+        after_help: help::EXAMINE,
+        options: &[],
+    },
+    CommandWords {
+        name: "examine-badblocks",
+        about: "Shows the bad block log of a member's image",
+        after_help: help::EXAMINE,
+        options: &[],
+    },
+];
+
+/// The commands that make an array or show it.
+pub(crate) const ARRAY_COMMANDS: [CommandWords; 4] = [
+    CommandWords {
+        name: "create",
+        about: "Makes an array of the images; what they held is lost",
+        after_help: help::CREATE,
+        options: &[
+            LEVEL,
+            RAID_DEVICES,
+            UUID,
+            NAME,
+            BITMAP_CHUNK,
+            SIZE,
+            TIME,
+            ASSUME_CLEAN,
+        ],
+    },
+    CommandWords {
+        name: "assemble",
+        about: "Shows in a line what array the images make; may store marks",
+        after_help: help::ARRAY,
+        options: &[READONLY],
+    },
+    CommandWords {
+        name: "detail",
+        about: "Shows the array that the images make; may store marks",
+        after_help: help::ARRAY,
+        options: &[READONLY],
+    },
+    CommandWords {
+        name: "plan",
+        about: "Shows the plan of a member's rebuild, in the fewest rounds; may store marks",
+        after_help: help::PLAN,
+        options: &[MEMBER, READONLY],
+    },
+];
+
+/// The commands on an array's data.
+pub(crate) const DATA_COMMANDS: [CommandWords; 5] = [
+    CommandWords {
+        name: "read",
+        about: "Writes sectors of the array to standard output; may change images",
+        after_help: help::READ,
+        options: &[SECTOR, COUNT, READONLY],
+    },
+    CommandWords {
+        name: "write",
+        about: "Writes standard input to the array, and stops it",
+        after_help: help::WRITE,
+        options: &[SECTOR],
+    },
+    CommandWords {
+        name: "check",
+        about: "Counts the chunks in which members in sync differ; may store marks",
+        after_help: help::CHECK,
+        options: &[READONLY],
+    },
+    CommandWords {
+        name: "resync",
+        about: "Makes the members in sync agree where they may differ, and stops the array",
+        after_help: help::RESYNC,
+        options: &[],
+    },
+    CommandWords {
+        name: "stop",
+        about: "Stops the array: it is clean then, unless its members may differ",
+        after_help: help::STOP,
+        options: &[],
+    },
+];
+
+/// The commands by which the members of an array change.
+pub(crate) const MEMBER_COMMANDS: [CommandWords; 3] = [
+    CommandWords {
+        name: "fail",
+        about: "Makes a member faulty, and stops the array",
+        after_help: help::FAIL,
+        options: &[MEMBER],
+    },
+    CommandWords {
+        name: "remove",
+        about: "Takes a member that is not in use out of the array, and stops it",
+        after_help: help::REMOVE,
+        options: &[MEMBER],
+    },
+    CommandWords {
+        name: "add",
+        about: "Adds an image to the array as a spare, and stops it; what the image held is lost",
+        after_help: help::ADD,
+        options: &[DEVICE],
+    },
+];
+
+/// The commands by which a member gets the data that it lacks.
+pub(crate) const REBUILD_COMMANDS: [CommandWords; 2] = [
+    CommandWords {
+        name: "re-add",
+        about: "Takes an image back that left the array, rebuilds what it lacks, and stops the array",
+        after_help: help::RE_ADD,
+        options: &[DEVICE],
+    },
+    CommandWords {
+        name: "rebuild",
+        about: "Rebuilds a member from all others at once by its plan, and stops the array",
+        after_help: help::REBUILD,
+        options: &[MEMBER],
+    },
+];
