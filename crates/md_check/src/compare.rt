@@ -50,11 +50,23 @@ fn are_alike<D>(seats: &[Seat<D>]) -> bool
         return true;
     };
     for k in 0..seats.len() {
-        if !is_alike(&seats[k], &seats[first]) {
+        if !agrees(seats, k, first) {
             return false;
         }
     }
     true
+}
+
+// Whether the same was read of these two, or nothing of the one. None is compared with itself.
+fn agrees<D>(seats: &[Seat<D>], k: usize, first: usize) -> bool
+    requires { (k < length seats.now) × (first < length seats.now) }
+    ensures { result ≡ true → (one other : Seat D) → slice_get seats.now k ≡ Some one → slice_get seats.now first ≡ Some other
+        → is_some one.role ≡ true → one.bytes.items ≡ other.bytes.items }
+{
+    if k == first {
+        return true;
+    }
+    is_alike(&seats[k], &seats[first])
 }
 
 // Whether the same was read of two members, or nothing of the one, which is not in sync.

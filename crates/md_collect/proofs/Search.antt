@@ -75,3 +75,14 @@ place chunks slots chunk at point = record {
   before = λ i d below within. ltb-true _ _ (point.0 i d (omega arith) below);
   after = λ i d from within. ltb-false _ _ (point.1 i d from within);
 }
+
+-- a slot that has the chunk is at its place
+pub own_place : (chunks : Chunks) (slots : List Slot) (chunk at : ℕ) → ArePlanned chunks slots → at < length slots → ((d : Slot) → (get_or slots at d).chunk ≡ chunk) → IsPlace slots chunk at
+own_place chunks slots chunk at planned here is = record {
+  before = λ i d below within. let r = planned.rising i at d below here in let e = is d in omega arith;
+  after = λ i d from within.
+      elim (eq-or-lt_of_le from) [
+        | inl same ↦ let e : (get_or slots i d).chunk ≡ chunk = ap (λ k. (get_or slots k d).chunk) (sym same) ∙ is d in omega arith
+        | inr above ↦ let r = planned.rising at i d above within in let e = is d in omega arith
+      ];
+}

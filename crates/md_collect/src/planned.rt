@@ -1,5 +1,5 @@
-// What a plan reads, found by halving: the chunks of its slots rise.
-ghost use Rattle.std.specs.Prelude.{◌≡◌, true};
+// What a plan reads: the chunks of its slots rise, so a chunk is found at its own number or by halving.
+ghost use Rattle.std.specs.Prelude.{◌≡◌, ◌<◌, length, slice_index_or, true};
 ghost use Rattle.md_collect.specs.Places.{IsChunk};
 ghost use Rattle.md_collect.specs.Reports.{is_planned};
 ghost use Rattle.md_collect.specs.Collecting.{ArePlanned, IsPlace};
@@ -20,10 +20,25 @@ pub(crate) fn is_planned(slots: &[Slot], chunks: Chunks, chunk: u32, source: u8)
     }
 }
 
-// The place of the first slot that has this chunk or a later one.
+// The place of the first slot that has this chunk or a later one. Where the plan has every chunk, each stands
+// at its own number, and nothing is searched.
 fn place_of(slots: &[Slot], chunks: Chunks, chunk: u32) -> usize
     requires { ArePlanned chunks slots.now }
     ensures { IsPlace slots.now chunk result }
 {
+    if stands_at(slots, chunk as usize, chunk) {
+        return chunk as usize;
+    }
     slots.partition_point(|slot| slot.chunk < chunk)
+}
+
+// Whether the slot at this place has this chunk.
+fn stands_at(slots: &[Slot], at: usize, chunk: u32) -> bool
+    ensures within { result ≡ true → at < length slots.now }
+    ensures chunk { result ≡ true → (d : _) → (slice_index_or slots.now at d).chunk ≡ chunk }
+{
+    match slots.get(at) {
+        Some(slot) => slot.chunk == chunk,
+        None => false,
+    }
 }

@@ -28,7 +28,6 @@ pub struct FileDevice {
     // The lock that all nodes of a block device share. It is here to be held.
     _lock: Option<File>,
     sectors: u64,
-    is_block_device: bool,
     writable: bool,
     sync_failed: bool,
 }
@@ -99,12 +98,9 @@ impl FileDevice {
 impl FileDevice {
     // Whether the file no longer has so many bytes. A write there would grow it again, with zeros between.
     fn is_cut_before(&self, end: u64) -> bool {
-        if self.is_block_device {
-            return false;
-        }
-        let file = &self.file;
-        file.metadata()
-            .map_or(true, |metadata| metadata.len() < end)
+        // A seek tells the length for much less than the file's metadata do. No read or write goes by the position.
+        let mut file = &self.file;
+        file.seek(SeekFrom::End(0)).map_or(true, |len| len < end)
     }
 
     // Brings what was written to stable storage. What could not be brought there is still in the
@@ -278,7 +274,6 @@ fn device_of<R: Files<File = File> + AllocGlobal>(
         file,
         _lock: lock,
         sectors: (len / 512).min(1 << 54),
-        is_block_device: block_device.is_some(),
         writable,
         sync_failed: false,
     })

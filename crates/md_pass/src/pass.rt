@@ -43,9 +43,9 @@ pub struct BoardCounts {
 /// Copies the chunks of a plan to the target, whose data start at sector `offset` of its device.
 ///
 /// `devices` are all but the target's. Each source reads the chunks of its slots in the order of rounds, in
-/// a worker of its own: in a turn those of 1 MiB, or one where a chunk is longer. Then the collector takes
-/// what they report, first that of each source's first chunk in the turn, the lowest role first, then that
-/// of the second, and `copied` gets a mark for each chunk. All memory but that of a worker that read a
+/// a worker of its own: in a turn those of 1 MiB, those of 64 KiB where it is the only source, or one where
+/// a chunk is longer. Then the collector takes what they report, first that of each source's first chunk in
+/// the turn, the lowest role first, then that of the second, and `copied` gets a mark for each chunk. All memory but that of a worker that read a
 /// shorter chunk before is taken before a device leaves the list. The devices are back in their order
 /// whatever the answer is.
 ///
