@@ -1,6 +1,6 @@
 use Rattle.std.proofs.Common.{◌≡◌, ◌<◌, length}
 use Rattle.std.specs.List.{All}
-use Rattle.bench_plan.proofs.table_of.Given as goal
+use Rattle.bench_parts.proofs.plan.table_of.Given as goal
 
 abbrev pub invariant-loop-chunk : goal.invariant-loop-chunk
 invariant-loop-chunk l = record {

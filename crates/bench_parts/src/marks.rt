@@ -1,37 +1,30 @@
-//! Times passes over the marks of the largest bitmap, for bench/marks. The one argument is how many
-//! passes to make; what the passes found goes to standard output, and the times to standard error.
-#![tactic(auto)]
-
+// Passes over the marks of the largest bitmap.
 use md_bitmap::{MAX_CHUNKS, Marks};
-use std::env;
 use std::time::Instant;
 
-fn main(rt: HostRuntime) -> Result<(), anyhow::Error> {
-    let passes = match env::args(&rt)?.nth(1) {
-        Some(word) => word.as_str().parse()?,
-        None => 1,
-    };
+/// Times so many passes.
+pub(crate) fn time(rt: &HostRuntime, passes: u32) -> anyhow::Result<()> {
     let mut marks = Marks::none(rt.alloc(), MAX_CHUNKS)?;
 
-    let start = Instant::now(&rt)?;
+    let start = Instant::now(rt)?;
     let mut counted = 0u64;
     for pass in 0..passes {
         toggle(&mut marks, pass);
         counted = counted.wrapping_add(u64::from(marks.count()));
     }
-    let count_time = start.elapsed(&rt)?;
+    let count_time = start.elapsed(rt)?;
 
     let mut sparse = Marks::none(rt.alloc(), MAX_CHUNKS)?;
-    let start = Instant::now(&rt)?;
+    let start = Instant::now(rt)?;
     let mut walked = 0u64;
     for pass in 0..passes {
         toggle(&mut sparse, pass % 16);
         walked = walked.wrapping_add(walk(&sparse));
     }
-    let walk_time = start.elapsed(&rt)?;
+    let walk_time = start.elapsed(rt)?;
 
-    println!(&rt; "counted {counted}, walked {walked}")?;
-    eprintln!(&rt;
+    println!(rt; "counted {counted}, walked {walked}")?;
+    eprintln!(rt;
         "count {} next_marked {}",
         count_time.as_nanos(),
         walk_time.as_nanos()

@@ -1,18 +1,10 @@
-//! Times the planner and the checker on made tables, for bench/plan. The arguments are a number of
-//! chunks, how often each table is planned, and perhaps the name of one table, which is then the only
-//! one; planned no time, its masks are printed. What was planned goes to standard output, the least times to
-//! standard error.
-#![tactic(auto)]
-
+// The planner and the checker on made tables.
 ghost use Rattle.std.specs.Prelude.{◌≡◌, ◌^◌, ◌≤◌, length, IfOk};
-
-mod shape;
 
 use crate::shape::{NAMED, Shape, mask_of, scramble};
 use md_cert::{NoMemory, Table, Verdict, check};
 use md_plan::plan;
 use std::alloc::Global;
-use std::env;
 use std::time::Instant;
 
 /// The chunks of the largest array.
@@ -21,30 +13,23 @@ const MAX_CHUNKS: u32 = 1 << 20;
 /// Where the random numbers begin.
 const SEED: u64 = 88_172_645_463_325_252;
 
-fn main(rt: HostRuntime) -> anyhow::Result<()> {
-    let mut chunks = MAX_CHUNKS;
-    let mut passes = 1u32;
-    if let Some(word) = env::args(&rt)?.nth(1) {
-        chunks = word.as_str().parse()?;
-    }
-    if let Some(word) = env::args(&rt)?.nth(2) {
-        passes = word.as_str().parse()?;
-    }
-    chunks = chunks.min(MAX_CHUNKS);
-    if let Some(word) = env::args(&rt)?.nth(3) {
-        for (name, shape) in NAMED {
-            if word.as_str() == name {
-                if passes == 0 {
-                    print_masks(&rt, shape, chunks)?;
-                } else {
-                    time(&rt, name, shape, chunks, passes)?;
-                }
+/// Times each table of so many chunks, or the one of this name alone, by the least of so many passes. With no
+/// passes its masks are printed.
+pub(crate) fn time_all(
+    rt: &HostRuntime,
+    chunks: u32,
+    passes: u32,
+    only: Option<&str>,
+) -> anyhow::Result<()> {
+    let chunks = chunks.min(MAX_CHUNKS);
+    for (name, shape) in NAMED {
+        if only.is_none_or(|only| only == name) {
+            if passes == 0 {
+                print_masks(rt, shape, chunks)?;
+            } else {
+                time(rt, name, shape, chunks, passes)?;
             }
         }
-        return Ok(());
-    }
-    for (name, shape) in NAMED {
-        time(&rt, name, shape, chunks, passes)?;
     }
     Ok(())
 }

@@ -1,10 +1,6 @@
-//! Times 10,000 adds of scattered runs to a set of bad sectors, for bench/badset. The one argument
-//! is how many sets to fill; what they hold goes to standard output, and the time to standard error.
-#![tactic(auto)]
-
+// Adds of scattered runs to a set of bad sectors.
 use md_badblocks::BadSet;
 use std::alloc::{AllocError, Global};
-use std::env;
 use std::time::Instant;
 
 /// How many runs are added to each set.
@@ -13,13 +9,9 @@ const ADDS: u64 = 10_000;
 /// The sectors from which the runs start: 8 GiB.
 const SECTORS: u64 = 1 << 24;
 
-fn main(rt: HostRuntime) -> Result<(), anyhow::Error> {
-    let rounds = match env::args(&rt)?.nth(1) {
-        Some(word) => word.as_str().parse()?,
-        None => 1,
-    };
-
-    let start = Instant::now(&rt)?;
+/// Times so many sets, each filled by 10,000 adds.
+pub(crate) fn time(rt: &HostRuntime, rounds: u64) -> anyhow::Result<()> {
+    let start = Instant::now(rt)?;
     let mut runs = 0u64;
     let mut sectors = 0u64;
     for round in 0..rounds {
@@ -27,10 +19,10 @@ fn main(rt: HostRuntime) -> Result<(), anyhow::Error> {
         runs = runs.wrapping_add(set.runs().len() as u64);
         sectors = sectors.wrapping_add(sectors_of(&set));
     }
-    let time = start.elapsed(&rt)?;
+    let time = start.elapsed(rt)?;
 
-    println!(&rt; "runs {runs}, sectors {sectors}")?;
-    eprintln!(&rt; "add {}", time.as_nanos())?;
+    println!(rt; "runs {runs}, sectors {sectors}")?;
+    eprintln!(rt; "add {}", time.as_nanos())?;
     Ok(())
 }
 
