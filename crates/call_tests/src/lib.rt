@@ -1,12 +1,23 @@
-//! Tests of whole calls on a mirror: what they answer, what a mirror shows then, and what they leave on the devices.
+//! Tests of whole calls on a mirror, which read, write, resync, stop, check and rebuild it: what they answer, what the
+//! mirror shows then, and what they leave on the devices.
 #![tactic(auto)]
 
 #[cfg(test)]
+mod array_checks;
+#[cfg(test)]
 mod checks;
+#[cfg(test)]
+mod gates;
 #[cfg(test)]
 mod left;
 #[cfg(test)]
 mod members;
+#[cfg(test)]
+mod opening;
+#[cfg(test)]
+mod reads;
+#[cfg(test)]
+mod rebuilds;
 #[cfg(test)]
 mod resyncs;
 #[cfg(test)]

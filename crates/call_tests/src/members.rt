@@ -1,28 +1,41 @@
-// Members of the vault's array, whose chunks are filled with a byte each, on devices that fail where they are told to.
+// Members of the vault's array, whose sectors are filled with a byte each, on devices that fail where they are told to.
 use crate::run::Run;
 use example_members::{bitmap, member_image, put, sealed, vault};
 use md_device::{Device, FaultDevice, MemDevice};
 use std::alloc::Global;
 use std::test::Fail;
 
-const DATA: u64 = 2048;
+// Where the data of a member begin, and its bad block log.
+pub(crate) const DATA: u64 = 2048;
+
+const LOG: u64 = 2032;
 
 // The array has 64 sectors, in 8 chunks.
-const SIZE: usize = 64 * 512;
+pub(crate) const SECTORS: usize = 64;
 
-const ROLES: u32 = 3;
+pub(crate) const WHOLE: usize = 512 * SECTORS;
 
 pub(crate) const NEVER: u64 = u64::MAX;
+
+pub(crate) const FAULTY: u16 = 0xfffe;
 
 #[derive(Clone, Copy)]
 pub(crate) struct Member {
     pub(crate) number: u32,
     pub(crate) raid_disks: u32,
+    // Of the array, in sectors.
+    pub(crate) size: u64,
+    // What the entry of number 2 says. None where there is no such entry.
+    pub(crate) third: Option<u16>,
     pub(crate) events: u64,
+    // How far the events of its bitmap are below its own.
+    pub(crate) bitmap_behind: u64,
     // The bits of the bitmap.
     pub(crate) marks: u8,
-    // The bytes of the chunks.
-    pub(crate) data: [u8; 8],
+    // Its log lists this many sectors from this one of the array on. It has a log where these are some.
+    pub(crate) listed: (u64, u64),
+    // The bytes of the array's sectors.
+    pub(crate) data: [u8; SECTORS],
     // Reads of this sector of the array fail.
     pub(crate) bad: Option<u64>,
     // Writes fail from this number on.
@@ -30,46 +43,102 @@ pub(crate) struct Member {
 }
 
 // A member of a clean array of two without a mark.
-pub(crate) fn clean_member(number: u32, data: [u8; 8]) -> Member {
+pub(crate) fn plain(number: u32, data: [u8; SECTORS]) -> Member {
     Member {
         number,
         raid_disks: 2,
+        size: 64,
+        third: None,
         events: 10,
+        bitmap_behind: 0,
         marks: 0,
+        listed: (0, 0),
         data,
         bad: None,
         fails: NEVER,
     }
 }
 
+// The same, of three roles.
+pub(crate) fn of_three(number: u32, third: Option<u16>, data: [u8; SECTORS]) -> Member {
+    Member {
+        raid_disks: 3,
+        third,
+        ..plain(number, data)
+    }
+}
+
+// The sectors of chunks that are filled with these bytes.
+pub(crate) fn chunks_of(bytes: [u8; 8]) -> [u8; SECTORS] {
+    let mut data = [0; SECTORS];
+    for (sector, byte) in data.iter_mut().enumerate() {
+        *byte = bytes[sector / 8 % 8];
+    }
+    data
+}
+
+// Sectors each of which is filled with its number.
+pub(crate) fn numbered() -> [u8; SECTORS] {
+    let mut data = [0; SECTORS];
+    for (sector, byte) in data.iter_mut().enumerate() {
+        *byte = sector as u8;
+    }
+    data
+}
+
 fn superblock_of(member: &Member) -> [u8; 4096] {
     let mut b = vault();
+    if member.listed.1 > 0 {
+        put(&mut b, 8, &9u32.to_le_bytes());
+    }
+    put(&mut b, 80, &member.size.to_le_bytes());
     put(&mut b, 92, &member.raid_disks.to_le_bytes());
     put(&mut b, 160, &member.number.to_le_bytes());
     put(&mut b, 200, &member.events.to_le_bytes());
-    put(&mut b, 220, &ROLES.to_le_bytes());
-    put(&mut b, 260, &0xfffeu16.to_le_bytes());
-    sealed(b, ROLES)
+    match member.third {
+        Some(role) => with_third(b, role),
+        None => sealed(b, 2),
+    }
+}
+
+fn with_third(mut b: [u8; 4096], role: u16) -> [u8; 4096] {
+    put(&mut b, 220, &3u32.to_le_bytes());
+    put(&mut b, 260, &role.to_le_bytes());
+    sealed(b, 3)
 }
 
 fn bitmap_of(member: &Member) -> [u8; 4096] {
     let mut b = bitmap();
-    put(&mut b, 24, &member.events.to_le_bytes());
+    let events = member.events.saturating_sub(member.bitmap_behind);
+    put(&mut b, 24, &events.to_le_bytes());
     put(&mut b, 32, &member.events.to_le_bytes());
+    put(&mut b, 40, &member.size.to_le_bytes());
     put(&mut b, 256, &[member.marks]);
     b
 }
 
-fn data_of(member: &Member) -> [u8; SIZE] {
-    let mut data = [0; SIZE];
+fn log_of(member: &Member) -> [u8; 4096] {
+    let mut log = [0xff; 4096];
+    let (sector, len) = member.listed;
+    if len > 0 {
+        let start = DATA.wrapping_add(sector);
+        let entry = start.wrapping_mul(1024).wrapping_add(len);
+        put(&mut log, 0, &entry.to_le_bytes());
+    }
+    log
+}
+
+fn data_of(member: &Member) -> [u8; WHOLE] {
+    let mut data = [0; WHOLE];
     for (k, byte) in data.iter_mut().enumerate() {
-        *byte = member.data[k / 4096 % 8];
+        *byte = member.data[k / 512 % SECTORS];
     }
     data
 }
 
 fn device_of(alloc: Global, member: &Member) -> Result<MemDevice, Fail> {
     let mut device = member_image(alloc, &superblock_of(member), &bitmap_of(member))?;
+    device.write(LOG, &log_of(member))?;
     device.write(DATA, &data_of(member))?;
     Ok(device)
 }

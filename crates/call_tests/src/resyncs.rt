@@ -1,7 +1,7 @@
 // Members that may differ are resynchronised.
 use crate::checks::{same, say};
 use crate::left::{Left, leaves};
-use crate::members::{Member, NEVER, clean_member, run_of};
+use crate::members::{FAULTY, Member, NEVER, chunks_of, plain, run_of};
 use crate::run::{Run, Shown};
 use md_array::BeginFault;
 use md_assembly::MemberState;
@@ -41,7 +41,7 @@ fn first(marks: u8, fails: u64) -> Member {
     Member {
         marks,
         fails,
-        ..clean_member(0, OLD)
+        ..plain(0, chunks_of(OLD))
     }
 }
 
@@ -49,7 +49,7 @@ fn second(marks: u8, fails: u64) -> Member {
     Member {
         marks,
         fails,
-        ..clean_member(1, NEW)
+        ..plain(1, chunks_of(NEW))
     }
 }
 
@@ -160,6 +160,7 @@ fn interrupted_write(rt: HostRuntime) -> Result<(), Fail> {
 fn degraded_array(rt: HostRuntime) -> Result<(), Fail> {
     let of_three = |member: Member| Member {
         raid_disks: 3,
+        third: Some(FAULTY),
         ..member
     };
     let members = [of_three(first(TWO, NEVER)), of_three(second(ONE, NEVER))];

@@ -1,7 +1,7 @@
 // What is written is read back, and what a write leaves where a member fails on the way.
 use crate::checks::{holds, same};
 use crate::left::{Left, leaves};
-use crate::members::{Member, NEVER, clean_member, run_of};
+use crate::members::{Member, NEVER, chunks_of, plain, run_of};
 use crate::run::{Run, Shown};
 use md_assembly::MemberState;
 use md_metadata::StopFault;
@@ -49,7 +49,10 @@ fn expect_read_back(rt: &impl Abort, run: &mut Run) -> Result<(), Fail> {
 
 #[test]
 fn read_back(rt: HostRuntime) -> Result<(), Fail> {
-    let mut run = run_of(rt.alloc(), &[clean_member(0, OLD), clean_member(1, OLD)])?;
+    let mut run = run_of(
+        rt.alloc(),
+        &[plain(0, chunks_of(OLD)), plain(1, chunks_of(OLD))],
+    )?;
     let read = expect_read_back(&rt, &mut run);
     run.end();
     read
@@ -66,7 +69,7 @@ fn expect_last(rt: &impl Abort, run: &mut Run) -> Result<(), Fail> {
 fn almost_full(number: u32) -> Member {
     Member {
         events: u64::MAX - 1,
-        ..clean_member(number, OLD)
+        ..plain(number, chunks_of(OLD))
     }
 }
 
@@ -95,7 +98,7 @@ fn fails(
 ) -> Result<(), Fail> {
     let failing = |number: u32, fails: u64| Member {
         fails,
-        ..clean_member(number, OLD)
+        ..plain(number, chunks_of(OLD))
     };
     let mut run = run_of(alloc, &[failing(0, fails[0]), failing(1, fails[1])])?;
     match writes_without(rt, &mut run, states) {

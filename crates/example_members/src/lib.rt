@@ -1,12 +1,10 @@
-//! The example member that the crates of tests are built on, and images and mirrors of such members.
+//! The example member that the crates of tests are built on, and images of such members.
 #![tactic(auto)]
 
 mod images;
 mod metadata;
-mod opening;
 mod small_members;
 
 pub use images::{image, member_image, zeros};
 pub use metadata::{bitmap, put, sealed, vault};
-pub use opening::open;
 pub use small_members::{SMALL_DATA, copied, small_image, small_member, small_metadata};

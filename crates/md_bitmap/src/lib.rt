@@ -12,6 +12,3 @@ pub use chunks::Chunks;
 pub use fault::BitmapFault;
 pub use header::{BitmapHeader, HEADER_BYTES, MAX_CHUNKS, has_few_chunks, is_chunk_size};
 pub use marks::{BLOCK_BYTES, CHUNKS_OF_HEADER, CHUNKS_OF_SECTOR, Marks, sectors_of_bitmap};
-
-#[cfg(test)]
-mod tests;

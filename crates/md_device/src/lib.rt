@@ -13,8 +13,6 @@ mod file;
 mod image_fault;
 mod memory;
 mod overlay;
-#[cfg(test)]
-mod tests;
 
 pub use access::Access;
 pub use device::{Device, ReadFault, WriteFault};

@@ -174,18 +174,6 @@ impl<T: Span> Inflight<T> {
     }
 }
 
-#[cfg(test)]
-impl<T> Inflight<T> {
-    /// The empty list whose first entry gets the number `next`.
-    pub(crate) fn starting_at(alloc: Global, next: u64) -> Self {
-        Inflight {
-            entries: Vec::new(alloc),
-            next: Some(next),
-            blank: Blank::new(1),
-        }
-    }
-}
-
 // Where the entry of `number` stands.
 fn place_of<T>(entries: &[(u64, T)], number: u64) -> usize
     requires { IsSome (lookup entries.now number) }

@@ -6,8 +6,6 @@ mod fault;
 mod inflight;
 mod iter;
 mod span;
-#[cfg(test)]
-mod tests;
 mod ticket;
 
 pub use fault::{PushFault, Refused};

@@ -1,23 +1,14 @@
-//! Tests of the steps by which a request is written: in every order, with failing writes, and on a lone member.
+//! Tests of a mirror's steps and members: mirrors that are opened, the steps by which a request is written, and the
+//! calls by which members fail, leave, come back and come in.
 #![tactic(auto)]
 
 #[cfg(test)]
 mod checks;
 #[cfg(test)]
-mod every_order;
+mod members;
 #[cfg(test)]
-mod expected_steps;
+mod mirrors;
 #[cfg(test)]
-mod lone_members;
-#[cfg(test)]
-mod members_in_step;
-#[cfg(test)]
-mod run;
-#[cfg(test)]
-mod step_faults;
+mod opening;
 #[cfg(test)]
 mod steps;
-#[cfg(test)]
-mod steps_in_order;
-#[cfg(test)]
-mod worked;

@@ -1,0 +1,46 @@
+// Members that are not rebuilt.
+use crate::checks::same;
+use crate::gates::Silent;
+use crate::members::{Member, numbered, of_three, plain, run_of};
+use md_copy::RebuildFault;
+use std::alloc::Global;
+use std::process::Abort;
+use std::sync::Wait;
+use std::test::Fail;
+use std::thread::Threads;
+
+fn expect_refused<R: Abort + Threads + Wait + Sync>(
+    rt: &R,
+    alloc: Global,
+    members: &[Member],
+    target: usize,
+    fault: RebuildFault,
+) -> Result<(), Fail> {
+    let mut run = run_of(alloc, members)?;
+    let told = run.rebuild(rt, alloc, target, &Silent);
+    let events = run.events();
+    run.end();
+    same(rt, "the fault", told, Some(Err(fault)));
+    same(rt, "the events", events, 10);
+    Ok(())
+}
+
+// A member of an array of three, whose bitmap tells of nothing, so that each chunk is marked.
+fn unsure(number: u32) -> Member {
+    Member {
+        bitmap_behind: 2,
+        ..of_three(number, None, numbered())
+    }
+}
+
+#[test]
+fn refused_rebuilds(rt: HostRuntime) -> Result<(), Fail> {
+    let alloc = rt.alloc();
+    let data = numbered();
+    let members = [plain(0, data), plain(1, data), plain(2, data)];
+    for target in 0..3 {
+        expect_refused(&rt, alloc, &members, target, RebuildFault::NotSpare)?;
+    }
+    let members = [unsure(0), unsure(1), unsure(2)];
+    expect_refused(&rt, alloc, &members, 2, RebuildFault::Dirty)
+}

@@ -1,0 +1,7 @@
+// Plans of rebuilds, and what the checker says of them.
+mod large_tables;
+mod plain_planner;
+mod planning;
+mod random_tables;
+mod small_tables;
+mod verdicts;

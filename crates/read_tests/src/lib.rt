@@ -1,5 +1,0 @@
-//! Tests of reading.
-#![tactic(auto)]
-
-#[cfg(test)]
-mod reads;
