@@ -5,6 +5,7 @@ No run may fault or hang. Each ends as with all memory, or with a refusal and no
 it changes with all memory.
 """
 
+import concurrent.futures
 import os
 import subprocess
 import sys
@@ -56,8 +57,9 @@ def against_refusal(step, answer, before, after):
     return reasons
 
 
-def sweep(tally, name, step, program):
-    """Plays a step for each number of a call, to the end of the calls, each time on the images as they are now."""
+def sweep(name, step, program):
+    """Plays a step for each number of a call, to the end of the calls, each time on the images as they are now. What comes of it: a name,
+    and the reasons against it."""
     before = cases.read_images(program.folder)
     whole = program.number = 0
     while whole < ENOUGH and program.number < LIMIT:
@@ -74,25 +76,36 @@ def sweep(tally, name, step, program):
             whole = 0
             reasons = against_refusal(step, answers[0], before, cases.read_images(program.folder))
             if reasons:
-                return tally.failed("%s, where call %d is refused" % (name, program.number), *reasons)
+                return "%s, where call %d is refused" % (name, program.number), reasons
         cases.write_images(program.folder, before)
     calls = program.number - ENOUGH
     if whole < ENOUGH or not calls:
-        return tally.failed(name, "no call is refused" if not calls else "the calls come to no end")
-    return tally.passed("%s: %d calls" % (name, calls))
+        return name, ["no call is refused" if not calls else "the calls come to no end"]
+    return "%s: %d calls" % (name, calls), []
+
+
+def sweep_case(place):
+    """What comes of each step of the case in this place."""
+    name, images, steps = cases.CASES[place]
+    outcomes = []
+    with tempfile.TemporaryDirectory() as scratch:
+        program = Refusing(Path(scratch), sys.argv[1])
+        cases.write_images(program.folder, images)
+        for step in steps:
+            if isinstance(step, cases.Step):
+                outcomes.append(sweep("%s: %s" % (name, step.words[0]), step, program))
+            program.number = 0
+            step.play(program.folder, program)
+    return outcomes
 
 
 def main():
     tally = support.Tally()
-    for name, images, steps in cases.CASES:
-        with tempfile.TemporaryDirectory() as scratch:
-            program = Refusing(Path(scratch), sys.argv[1])
-            cases.write_images(program.folder, images)
-            for step in steps:
-                if isinstance(step, cases.Step):
-                    sweep(tally, "%s: %s" % (name, step.words[0]), step, program)
-                program.number = 0
-                step.play(program.folder, program)
+    # A case takes up to minutes, so there are as many at a time as processors.
+    with concurrent.futures.ProcessPoolExecutor() as workers:
+        for outcomes in workers.map(sweep_case, range(len(cases.CASES))):
+            for name, reasons in outcomes:
+                tally.judge(name, reasons)
     return tally.close()
 
 
