@@ -1,10 +1,22 @@
-/* Preloaded: one call for memory is refused, the one whose number stands in REFUSED_CALL, counted from 1. */
+/* Preloaded: one call for memory is refused, the one whose number stands in REFUSED_CALL, counted from 1. Where LEFT_BLOCKS
+   is set, a program that ends with blocks that it did not free has the status 99. */
 #include <errno.h>
 #include <stddef.h>
 #include <stdlib.h>
+#include <unistd.h>
 
 void *__libc_malloc(size_t size);
 void *__libc_realloc(void *old, size_t size);
+void __libc_free(void *old);
+
+static long blocks;
+
+static void *taken(void *block)
+{
+    if (block)
+        __atomic_add_fetch(&blocks, 1, __ATOMIC_RELAXED);
+    return block;
+}
 
 static int is_refused(void)
 {
@@ -21,10 +33,25 @@ static int is_refused(void)
 
 void *malloc(size_t size)
 {
-    return is_refused() ? NULL : __libc_malloc(size);
+    return is_refused() ? NULL : taken(__libc_malloc(size));
 }
 
 void *realloc(void *old, size_t size)
 {
-    return is_refused() ? NULL : __libc_realloc(old, size);
+    if (is_refused())
+        return NULL;
+    return old ? __libc_realloc(old, size) : taken(__libc_realloc(old, size));
+}
+
+void free(void *old)
+{
+    if (old)
+        __atomic_sub_fetch(&blocks, 1, __ATOMIC_RELAXED);
+    __libc_free(old);
+}
+
+__attribute__((destructor)) static void look_for_blocks(void)
+{
+    if (getenv("LEFT_BLOCKS") && __atomic_load_n(&blocks, __ATOMIC_RELAXED))
+        _exit(99);
 }

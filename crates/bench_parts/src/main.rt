@@ -2,6 +2,7 @@
 //!
 //! - `marks PASSES`, for bench/marks: passes over the marks of the largest bitmap.
 //! - `badset ROUNDS`, for bench/badset: adds of scattered runs to a set of bad sectors.
+//! - `requests COUNT ROUNDS`, for bench/requests: requests entered into the list of those in flight, and removed.
 //! - `plan CHUNKS PASSES [TABLE]`, for bench/plan: the planner and the checker on made tables. With 0 passes it
 //!   prints the masks of the tables.
 //!
@@ -12,6 +13,7 @@
 mod badset;
 mod marks;
 mod plan;
+mod requests;
 mod shape;
 
 use std::env;
@@ -20,6 +22,8 @@ fn main(rt: HostRuntime) -> anyhow::Result<()> {
     let Some(part) = env::args(&rt)?.nth(1) else {
         marks::time(&rt, 1)?;
         badset::time(&rt, 1)?;
+        requests::time(&rt, 10_000, 1)?;
+        requests::time(&rt, 64, 1)?;
         return plan::time_all(&rt, 1000, 1, None);
     };
     let first = match env::args(&rt)?.nth(2) {
@@ -36,6 +40,9 @@ fn main(rt: HostRuntime) -> anyhow::Result<()> {
         Some(word) => word.as_str().parse::<u32>()?,
         None => 1,
     };
+    if part.as_str() == "requests" {
+        return requests::time(&rt, u64::from(first), passes);
+    }
     let table = env::args(&rt)?.nth(4);
     plan::time_all(&rt, first, passes, table.as_ref().map(|word| word.as_str()))
 }

@@ -1,89 +1,127 @@
--- Where the entry of a number stands, and what a list is after a change there.
-use Rattle.std.proofs.Common.{◌≡◌, ℕ, Bool, true, false, not, cond, zero, suc, ◌+◌, ◌<◌, ◌==◌, List, [], ◌∷◌, ◌++◌, length, get_or, set, take, drop, Some, IsSome, refl, sym, ap, ◌∙◌, arith}
-use Rattle.std.specs.List.{position, position_or_len}
-use Rattle.std.specs.Map.{set_value}
-use Rattle.std.proofs.lemmas.Bool.{ne_eqb, eqb-true, cond-true, lt-ltb}
-use Rattle.md_inflight.specs.Inflight.{lookup, without, RisesFrom}
+-- Where values lie apart, an address names one of them.
+use Rattle.std.proofs.Common.{◌≡◌, Bool, true, false, ◌&&◌, ◌==◌, cond, List, [], ◌∷◌, ◌++◌, refl, sym, ap, ◌∙◌, subst, true≢false, T, eqb→eq}
+use Rattle.std.specs.List.{IsDistinct}
+use lib.Dec.{eqb_refl}
+use denote.RawPtr.{Ptr, block_ptr, null_ptr}
+use Rattle.md_inflight.specs.Placed.{same_ptr, LieElsewhere, LieApart, IsAt, AtPlace, change_at, apart_change}
 
-module _ {T : Type 0} (number : ℕ) where
-  -- the place of the first entry of the number
-  abbrev pub place : List (ℕ × T) → ℕ
-  place entries = position_or_len (λ entry. entry.0 == number) entries
+is_true : (b : Bool) → T b → b ≡ true
+is_true true t = refl
+is_true false t = absurd t
 
-  -- a number that is found stands somewhere
-  pub place_within : (entries : List (ℕ × T)) → IsSome (lookup entries number) → place entries < length entries
-  place_within [] found = cc
-  place_within (entry ∷ entries) found = by (entry.0 == number) found (place_within entries)
-    where
-      by : (b : Bool) → IsSome (cond b (Some entry.1) (lookup entries number)) → (IsSome (lookup entries number) → place entries < length entries) → cond (not b) (1 + place entries) 0 < length (entry ∷ entries)
-      by true found rest = omega arith
-      by false found rest = let later = rest found in omega arith
+both : (x y : Bool) → (x && y) ≡ true → T x × T y
+both true true e = (tt, tt)
+both true false e = cc
+both false y e = cc
 
-  -- and the search for it gives its place
-  pub position_place : (entries : List (ℕ × T)) → IsSome (lookup entries number) → position (λ entry. entry.0 == number) entries ≡ Some (place entries)
-  position_place entries found = cond-true _ _ _ (lt-ltb (place entries) (length entries) (place_within entries found))
+pub same_ptr_refl : (p : Ptr) → same_ptr p p ≡ true
+same_ptr_refl null_ptr = refl
+same_ptr_refl (block_ptr b o) = λ i. is_true (b == b) (eqb_refl b) i && is_true (o == o) (eqb_refl o) i
 
-  -- the place in a list that was lent
-  pub place_lent : (lent entries : List (ℕ × T)) (i : ℕ) → lent ≡ entries → i ≡ place lent → i < length lent → (i ≡ place entries) × (i < length entries)
-  place_lent lent entries i same at within = rw (← same) (at, within)
+pub same_ptr_eq : (p q : Ptr) → same_ptr p q ≡ true → p ≡ q
+same_ptr_eq null_ptr null_ptr e = refl
+same_ptr_eq null_ptr (block_ptr b o) e = cc
+same_ptr_eq (block_ptr b o) null_ptr e = cc
+same_ptr_eq (block_ptr b o) (block_ptr c p) e = let each = both (b == c) (o == p) e in λ i. block_ptr (eqb→eq b c each.0 i) (eqb→eq o p each.1 i)
 
-  -- the item there is the one under the number
-  lookup_place : (entries : List (ℕ × T)) (i : ℕ) (d : ℕ × T) → i ≡ place entries → i < length entries → lookup entries number ≡ Some (get_or entries i d).1
-  lookup_place [] i d at within = absurd (omega arith)
-  lookup_place (entry ∷ entries) zero d at within = by (entry.0 == number) at
-    where
-      by : (b : Bool) → zero ≡ cond (not b) (1 + place entries) 0 → cond b (Some entry.1) (lookup entries number) ≡ Some entry.1
-      by true at = refl
-      by false at = absurd (omega arith)
-  lookup_place (entry ∷ entries) (suc i) d at within = by (entry.0 == number) at (λ k. lookup_place entries i d k (omega arith))
-    where
-      by : (b : Bool) → suc i ≡ cond (not b) (1 + place entries) 0 → (i ≡ place entries → lookup entries number ≡ Some (get_or entries i d).1) → cond b (Some entry.1) (lookup entries number) ≡ Some (get_or entries i d).1
-      by true at rest = absurd (omega arith)
-      by false at rest = rest (omega arith)
+-- two that differ one way differ the other way
+pub differ_back : (p q : Ptr) → same_ptr p q ≡ false → same_ptr q p ≡ false
+differ_back p q e = by (same_ptr q p) (same_ptr_eq q p)
+  where
+    by : (b : Bool) → (b ≡ true → q ≡ p) → b ≡ false
+    by false same = refl
+    by true same = absurd (true≢false (sym (same_ptr_refl p) ∙ subst (λ r. same_ptr p r ≡ false) (same refl) e))
 
-  -- the same, of an entry that was read there
-  pub lookup_read : (entries : List (ℕ × T)) (i : ℕ) (entry : ℕ × T) → i ≡ place entries → i < length entries → entry ≡ get_or entries i entry → lookup entries number ≡ Some entry.1
-  lookup_read entries i entry at within read = lookup_place entries i entry at within ∙ ap (λ e. Some e.1) (sym read)
+pub apart_none : (X : Type 0) → LieApart {X = X} []
+unfolding IsDistinct
+apart_none X = tt
 
-  -- another item there is another item under the number
-  set_place : (entries : List (ℕ × T)) (i : ℕ) (d : ℕ × T) (item : T) → i ≡ place entries → i < length entries → set entries i ((get_or entries i d).0, item) ≡ set_value (λ other. other == number) entries item
-  set_place [] i d item at within = absurd (omega arith)
-  set_place (entry ∷ entries) zero d item at within = by (entry.0 == number) at
-    where
-      by : (b : Bool) → zero ≡ cond (not b) (1 + place entries) 0 → (entry.0, item) ∷ entries ≡ cond b ((entry.0, item) ∷ entries) (entry ∷ set_value (λ other. other == number) entries item)
-      by true at = refl
-      by false at = absurd (omega arith)
-  set_place (entry ∷ entries) (suc i) d item at within = by (entry.0 == number) at (λ k. set_place entries i d item k (omega arith))
-    where
-      by : (b : Bool) → suc i ≡ cond (not b) (1 + place entries) 0 → (i ≡ place entries → set entries i ((get_or entries i d).0, item) ≡ set_value (λ other. other == number) entries item) → entry ∷ set entries i ((get_or entries i d).0, item) ≡ cond b ((entry.0, item) ∷ entries) (entry ∷ set_value (λ other. other == number) entries item)
-      by true at rest = absurd (omega arith)
-      by false at rest = ap (λ es. entry ∷ es) (rest (omega arith))
+module _ {X : Type 0} where
+  pub elsewhere_left : (p : Ptr) (xs ys : List (Ptr × X)) → LieElsewhere p (xs ++ ys) → LieElsewhere p xs
+  elsewhere_left p [] ys e = tt
+  elsewhere_left p (x ∷ xs) ys e = (e.0, elsewhere_left p xs ys e.1)
 
-  -- the same, of an entry that was read there
-  pub set_read : (entries : List (ℕ × T)) (i : ℕ) (entry : ℕ × T) (item : T) → i ≡ place entries → i < length entries → entry ≡ get_or entries i entry → set entries i (entry.0, item) ≡ set_value (λ other. other == number) entries item
-  set_read entries i entry item at within read = ap (λ e. set entries i (e.0, item)) read ∙ set_place entries i entry item at within
+  pub elsewhere_right : (p : Ptr) (xs ys : List (Ptr × X)) → LieElsewhere p (xs ++ ys) → LieElsewhere p ys
+  elsewhere_right p [] ys e = e
+  elsewhere_right p (x ∷ xs) ys e = elsewhere_right p xs ys e.1
 
-  -- numbers from above it on are not that number
-  without_above : (entries : List (ℕ × T)) (low next : ℕ) → RisesFrom low entries next → number < low → without entries number ≡ entries
-  without_above [] low next rising above = refl
-  without_above (entry ∷ entries) low next rising above =
-      let first = rising.0 in
-      by (entry.0 == number) (without_above entries (entry.0 + 1) next rising.1 (omega arith)) (ne_eqb entry.0 number (λ same. absurd (omega arith)))
-    where
-      by : (b : Bool) → without entries number ≡ entries → b ≡ false → cond (not b) (entry ∷ without entries number) (without entries number) ≡ entry ∷ entries
-      by true rest other = cc
-      by false rest other = ap (λ es. entry ∷ es) rest
+  elsewhere_both : (p : Ptr) (xs ys : List (Ptr × X)) → LieElsewhere p xs → LieElsewhere p ys → LieElsewhere p (xs ++ ys)
+  elsewhere_both p [] ys e f = f
+  elsewhere_both p (x ∷ xs) ys e f = (e.0, elsewhere_both p xs ys e.1 f)
 
-  -- what is left of a list with rising numbers once the entry of the number is gone
-  pub remove_place : (entries : List (ℕ × T)) (low next i : ℕ) → RisesFrom low entries next → i ≡ place entries → i < length entries → take i entries ++ drop (suc i) entries ≡ without entries number
-  remove_place [] low next i rising at within = absurd (omega arith)
-  remove_place (entry ∷ entries) low next zero rising at within = by (entry.0 == number) at (λ same. without_above entries (entry.0 + 1) next rising.1 (let here = eqb-true entry.0 number same in omega arith)) refl
-    where
-      by : (b : Bool) → zero ≡ cond (not b) (1 + place entries) 0 → (b ≡ true → without entries number ≡ entries) → b ≡ (entry.0 == number) → entries ≡ cond (not b) (entry ∷ without entries number) (without entries number)
-      by true at rest same = sym (rest refl)
-      by false at rest same = absurd (omega arith)
-  remove_place (entry ∷ entries) low next (suc i) rising at within = by (entry.0 == number) at (λ k. remove_place entries (entry.0 + 1) next i rising.1 k (omega arith))
-    where
-      by : (b : Bool) → suc i ≡ cond (not b) (1 + place entries) 0 → (i ≡ place entries → take i entries ++ drop (suc i) entries ≡ without entries number) → entry ∷ (take i entries ++ drop (suc i) entries) ≡ cond (not b) (entry ∷ without entries number) (without entries number)
-      by true at rest = absurd (omega arith)
-      by false at rest = ap (λ es. entry ∷ es) (rest (omega arith))
+  -- the others lie elsewhere, and apart from one another
+  others_elsewhere : (p : Ptr) (xs : List (Ptr × X)) (x : X) (ys : List (Ptr × X)) → LieApart (xs ++ (p, x) ∷ ys) → LieElsewhere p (xs ++ ys)
+  unfolding IsDistinct
+  others_elsewhere p [] x ys d = d.0
+  others_elsewhere p (w ∷ xs) x ys d = (differ_back w.0 p (elsewhere_right w.0 xs ((p, x) ∷ ys) d.0).0, others_elsewhere p xs x ys d.1)
+
+  others_apart : (p : Ptr) (xs : List (Ptr × X)) (x : X) (ys : List (Ptr × X)) → LieApart (xs ++ (p, x) ∷ ys) → LieApart (xs ++ ys)
+  unfolding IsDistinct
+  others_apart p [] x ys d = d.1
+  others_apart p (w ∷ xs) x ys d =
+      (elsewhere_both w.0 xs ys (elsewhere_left w.0 xs ((p, x) ∷ ys) d.0) (elsewhere_right w.0 xs ((p, x) ∷ ys) d.0).1, others_apart p xs x ys d.1)
+
+  -- one more, that lies elsewhere
+  pub apart_more : (xs : List (Ptr × X)) (v : Ptr × X) → LieElsewhere v.0 xs → LieApart xs → LieApart (xs ++ v ∷ [])
+  unfolding IsDistinct
+  apart_more [] v e d = (tt, tt)
+  apart_more (w ∷ xs) v e d = (elsewhere_both w.0 xs (v ∷ []) d.0 (differ_back v.0 w.0 e.0, tt), apart_more xs v e.1 d.1)
+
+  -- the first lies apart from a later one
+  pub first_apart : (w : Ptr × X) (xs : List (Ptr × X)) (p : Ptr) (x : X) (ys : List (Ptr × X)) → LieApart (w ∷ (xs ++ (p, x) ∷ ys)) → (same_ptr p w.0 ≡ false) × LieApart (xs ++ (p, x) ∷ ys)
+  unfolding IsDistinct
+  first_apart w xs p x ys d = (differ_back w.0 p (elsewhere_right w.0 xs ((p, x) ∷ ys) d.0).0, d.1)
+
+  here_not_elsewhere : (p : Ptr) (xs : List (Ptr × X)) (x : X) (ys : List (Ptr × X)) → LieElsewhere p (xs ++ (p, x) ∷ ys) → ⊥
+  here_not_elsewhere p xs x ys e = true≢false (sym (same_ptr_refl p) ∙ (elsewhere_right p xs ((p, x) ∷ ys) e).0)
+
+  -- two cuts at one address are the same cut
+  same_cut : (p : Ptr) (xs : List (Ptr × X)) (x : X) (ys us : List (Ptr × X)) (u : X) (zs : List (Ptr × X)) → LieApart (xs ++ (p, x) ∷ ys) → xs ++ (p, x) ∷ ys ≡ us ++ (p, u) ∷ zs
+      → (xs ≡ us) × (x ≡ u) × (ys ≡ zs)
+  unfolding IsDistinct
+  same_cut p [] x ys [] u zs d e = let v : Ptr × X = (p, x) in let w : Ptr × X = (p, u) in let here : v ≡ w = cc in let rest : ys ≡ zs = cc in (refl, ap (λ (v : Ptr × X). v.1) here, rest)
+  same_cut p [] x ys (v ∷ us) u zs d e = let rest : ys ≡ us ++ (p, u) ∷ zs = cc in absurd (here_not_elsewhere p us u zs (subst (LieElsewhere p) rest d.0))
+  same_cut p (w ∷ xs) x ys [] u zs d e = let first : w ≡ (p, u) = cc in absurd (here_not_elsewhere p xs x ys (subst (λ (v : Ptr × X). LieElsewhere v.0 (xs ++ (p, x) ∷ ys)) first d.0))
+  same_cut p (w ∷ xs) x ys (v ∷ us) u zs d e =
+      let first : w ≡ v = cc in let rest : xs ++ (p, x) ∷ ys ≡ us ++ (p, u) ∷ zs = cc in
+      let on = same_cut p xs x ys us u zs d.1 rest in ((λ i. first i ∷ on.0 i), on.1, on.2)
+
+  change_elsewhere : (p : Ptr) (f : X → X) (vs : List (Ptr × X)) → LieElsewhere p vs → change_at p f vs ≡ vs
+  change_elsewhere p f [] e = refl
+  change_elsewhere p f (v ∷ vs) e = λ i. (v.0, cond (e.0 i) (f v.1) v.1) ∷ change_elsewhere p f vs e.1 i
+
+  change_cut : (p : Ptr) (f : X → X) (xs : List (Ptr × X)) (x : X) (ys : List (Ptr × X)) → LieApart (xs ++ (p, x) ∷ ys) → change_at p f (xs ++ (p, x) ∷ ys) ≡ xs ++ (p, f x) ∷ ys
+  unfolding IsDistinct
+  change_cut p f [] x ys d = λ i. (p, cond (same_ptr_refl p i) (f x) x) ∷ change_elsewhere p f ys d.0 i
+  change_cut p f (w ∷ xs) x ys d = let first = first_apart w xs p x ys d in λ i. (w.0, cond (first.0 i) (f w.1) w.1) ∷ change_cut p f xs x ys first.1 i
+
+  module _ {vs : List (Ptr × X)} {p : Ptr} (at : IsAt vs p) where
+    abbrev pub others : List (Ptr × X)
+    others = at.before ++ at.after
+
+    -- the values, with f of the one that lies there
+    abbrev pub changed : (X → X) → List (Ptr × X)
+    changed f = at.before ++ (p, f at.value) ∷ at.after
+
+    module _ (d : LieApart vs) where
+      cut_apart : LieApart (at.before ++ (p, at.value) ∷ at.after)
+      cut_apart = subst LieApart at.cut d
+
+      pub left_apart : LieApart others
+      left_apart = others_apart p at.before at.value at.after cut_apart
+
+      -- what is said of the value there is said of this one
+      pub at_place : (P : List (Ptr × X) → X → List (Ptr × X) → Type 0) → P at.before at.value at.after → AtPlace vs p P
+      at_place P holds us u zs cut =
+          let same = same_cut p at.before at.value at.after us u zs cut_apart (sym at.cut ∙ cut) in
+          subst (λ (s : List (Ptr × X) × X × List (Ptr × X)). P s.0 s.1 s.2) (λ i. (same.0 i, same.1 i, same.2 i)) holds
+
+      pub changed_is : (f : X → X) → changed f ≡ change_at p f vs
+      changed_is f = sym (ap (change_at p f) at.cut ∙ change_cut p f at.before at.value at.after cut_apart)
+
+      pub changed_apart : (f : X → X) → LieApart (changed f)
+      changed_apart f = subst LieApart (sym (changed_is f)) (apart_change p f vs d)
+
+  -- one value is changed, whichever cut shows it
+  pub changed_once : {vs : List (Ptr × X)} {p : Ptr} (at on : IsAt vs p) → LieApart vs → (f : X → X) → changed at f ≡ changed on f
+  changed_once at on d f = changed_is at d f ∙ sym (changed_is on d f)

@@ -1,16 +1,22 @@
 // The list of requests in flight.
-ghost use Rattle.std.specs.Prelude.{◌≡◌, ◌+◌, ◌^◌, ◌<◌, ◌≢◌, ◌==◌, ◌↔◌, [], ◌∷◌, ◌++◌, Some, None, IsTrue, IsSome, IsErr, OnOk, OnErr, IfOk, IfErr, length, if◌then◌else◌};
-ghost use Rattle.std.specs.List.{position, position_or_len};
+ghost use Rattle.std.specs.Prelude.{◌≡◌, ◌+◌, ◌^◌, ◌<◌, ◌≢◌, ◌==◌, ◌↔◌, [], ◌∷◌, ◌++◌, Some, None, IsTrue, IsErr, OnOk, OnErr, IfOk, IfErr, length, if◌then◌else◌};
 ghost use Rattle.std.specs.Borrow.{sem};
 ghost use Rattle.md_inflight.specs.Inflight.{TicketView, BelongsTo, IsNumbered, lookup, without, with_item, first_meeting};
 
+use crate::book::Book;
+use crate::chain::Chain;
 use crate::fault::{PushFault, Refused};
+use crate::freeing::free_all;
 use crate::iter::Iter;
 use crate::span::{Span, meets};
 use crate::ticket::Ticket;
 use std::alloc::{AllocFailed, Global};
+use std::fmt;
+use std::fmt::Debug;
 use std::marker::Model;
-use std::sync::ledger::Blank;
+
+#[cfg(test)]
+mod tests;
 
 /// A list of items in order of entry, each under a number of its own.
 ///
@@ -18,27 +24,28 @@ use std::sync::ledger::Blank;
 /// an item, the number of the next entry, which is 2^64 once u64::MAX was given out, and the list's
 /// name, which its tickets carry. No contract says which name a new list has. So a ticket can't be shown
 /// to belong to another list, though its number may stand there. Names take no bytes.
-#[derive(Drop)]
-#[derive_where(Debug; T)]
 pub struct Inflight<T> {
-    entries: Vec<(u64, T)>,
+    chain: Chain<T>,
+    alloc: Global,
+    // Kept, since to count would be to go through all.
+    len: usize,
     // `None` once u64::MAX was given out.
     next: Option<u64>,
-    // Its name is the list's.
-    #[derive_where(skip)]
-    blank: Blank,
+    // Its name is the list's. It ties each ticket's place to its number.
+    book: Book,
 }
 
 impl<T> Model for Inflight<T> {
-    ghost use Rattle.md_inflight.specs.Inflight.{InflightList, inflight_code, next_number, IsNumbered};
+    ghost use Rattle.md_inflight.specs.Inflight.{InflightList, inflight_code, next_number};
+    ghost use Rattle.md_inflight.specs.Kept.{IsKept, items};
 
     ghost Value = { InflightList T };
 
     ghost coded = { inflight_code T.code };
 
-    ghost view = { λ a. record { name = a.blank.name; entries = a.entries.items; next = next_number a.next } };
+    ghost view = { λ a. record { name = a.book.name; entries = items a.chain.nodes; next = next_number a.next } };
 
-    ghost invariant = { λ a. IsNumbered (record { name = a.blank.name; entries = a.entries.items; next = next_number a.next }) };
+    ghost invariant = { λ a. IsKept a.chain.first a.chain.last a.chain.nodes a.len (next_number a.next) a.book.addresses };
 }
 
 impl<T> Inflight<T> {
@@ -49,10 +56,20 @@ impl<T> Inflight<T> {
         ensures entries { result.entries ≡ [] }
         ensures next { result.next ≡ 0 }
     {
+        Self::from_number(alloc, 0)
+    }
+
+    // The empty list whose first entry gets this number.
+    fn from_number(alloc: Global, number: u64) -> Self
+        ensures entries { result.entries ≡ [] }
+        ensures next { result.next ≡ number }
+    {
         Inflight {
-            entries: Vec::new(alloc),
-            next: Some(0),
-            blank: Blank::new(1),
+            chain: Chain::new(),
+            alloc,
+            len: 0,
+            next: Some(number),
+            book: Book::new(number),
         }
     }
 
@@ -60,14 +77,14 @@ impl<T> Inflight<T> {
     pub fn len(&self) -> usize
         ensures { result ≡ length self.now.entries }
     {
-        self.entries.len()
+        self.len
     }
 
     /// Whether there is no entry.
     pub fn is_empty(&self) -> bool
         ensures { IsTrue result ↔ (self.now.entries ≡ []) }
     {
-        self.entries.is_empty()
+        self.len == 0
     }
 
     /// The numbers and items in order of entry.
@@ -76,7 +93,8 @@ impl<T> Inflight<T> {
         ensures numbered { IsNumbered self.now }
     {
         Iter {
-            entries: self.entries.iter(),
+            chain: &self.chain,
+            ahead: self.chain.first(),
         }
     }
 
@@ -106,12 +124,20 @@ impl<T> Inflight<T> {
                 why: PushFault::NumbersSpent,
             });
         };
-        match self.entries.push((number, item)) {
-            Ok(()) => {
+        let Some(len) = self.len.checked_add(1) else {
+            return Err(Refused {
+                item,
+                why: PushFault::NoMemory,
+            });
+        };
+        match self.chain.push(self.alloc, number, item) {
+            Ok(place) => {
+                let page = self.book.enter(place);
+                self.len = len;
                 self.next = number.checked_add(1);
-                Ok(Ticket::of(&self.blank, number))
+                Ok(Ticket::of(page, number, place))
             }
-            Err(AllocFailed { value: (_, item) }) => Err(Refused {
+            Err(AllocFailed { value: item }) => Err(Refused {
                 item,
                 why: PushFault::NoMemory,
             }),
@@ -123,8 +149,8 @@ impl<T> Inflight<T> {
         requires { BelongsTo self.now ticket.now }
         ensures { lookup self.now.entries ticket.now.number ≡ Some result.now }
     {
-        let place = place_of(&self.entries, ticket.number);
-        &self.entries[place].1
+        self.book.agrees(&ticket.page);
+        &self.chain.node(ticket.place).item
     }
 
     /// The item of `ticket`, for writing.
@@ -138,9 +164,8 @@ impl<T> Inflight<T> {
             → BelongsTo self.old other
             → BelongsTo (with_item self.old ticket.now.number written) other }
     {
-        let place = place_of(&self.entries, ticket.number);
-        let entry = &mut self.entries[place];
-        &mut entry.1
+        self.book.agrees(&ticket.page);
+        &mut self.chain.node_mut(ticket.place).item
     }
 
     /// Takes the entry of `ticket` out and gives its item. The others keep their order and numbers.
@@ -155,9 +180,9 @@ impl<T> Inflight<T> {
         ensures kept { (other : TicketView) → other.number ≢ ticket.number
             → BelongsTo self.old other → BelongsTo self.new other }
     {
-        let place = place_of(&self.entries, ticket.number);
-        let (_, item) = self.entries.remove(place);
-        item
+        self.book.agrees(&ticket.page);
+        self.len -= 1;
+        self.chain.remove(ticket.place, self.alloc)
     }
 }
 
@@ -167,24 +192,30 @@ impl<T: Span> Inflight<T> {
     pub fn any_meeting(&self, start: u64, len: u64) -> Option<u64>
         ensures { result ≡ first_meeting T.start T.len self.now.entries start len }
     {
-        self.entries
-            .iter()
-            .find(|entry| meets(entry.1.start(), entry.1.len(), start, len))
-            .map(|entry| entry.0)
+        for (number, item) in self.iter() {
+            if meets(item.start(), item.len(), start, len) {
+                return Some(number);
+            }
+        }
+        None
     }
 }
 
-// Where the entry of `number` stands.
-fn place_of<T>(entries: &[(u64, T)], number: u64) -> usize
-    requires { IsSome (lookup entries.now number) }
-    ensures place { result ≡ position_or_len (λ entry. entry.0 == number) entries.now }
-    ensures within { result < length entries.now }
-{
-    position_of(entries, number).unwrap()
+impl<T: Debug> Debug for Inflight<T> {
+    fn fmt<W: fmt::Write>(&self, f: &mut fmt::Formatter<W>) -> fmt::Result {
+        f.debug_list().entries(self.iter()).finish()
+    }
 }
 
-fn position_of<T>(entries: &[(u64, T)], number: u64) -> Option<usize>
-    ensures { result ≡ position (λ entry. entry.0 == number) entries.now }
-{
-    entries.iter().position(|entry| entry.0 == number)
+impl<T: Drop> Drop for Inflight<T> {
+    fn drop(self) {
+        let Inflight {
+            chain,
+            alloc,
+            len: _,
+            next: _,
+            book: _,
+        } = self;
+        free_all(chain, alloc);
+    }
 }

@@ -1,22 +1,31 @@
 // The entries in order.
 ghost use Rattle.std.specs.Iterator.{YieldsFirstBy, item_count};
 
+use crate::chain::Chain;
+use crate::place::Place;
+use std::fmt;
+use std::fmt::Debug;
 use std::marker::Model;
-use std::slice;
 
 /// The numbers and items of a list in order of entry, seen as the list of those that are left.
-#[derive(Debug, Drop)]
+#[derive(Drop)]
 pub struct Iter<'a, T> {
-    pub(crate) entries: slice::Iter<'a, (u64, T)>,
+    pub(crate) chain: &'a Chain<T>,
+    // Where the first of those that are left lies.
+    pub(crate) ahead: Option<Place>,
 }
 
 impl<'a, T> Model for Iter<'a, T> {
-    ghost use Rattle.std.specs.Prelude.{ℕ, List};
-    ghost use Rattle.std.specs.Slice.Iter.{iter_rest};
+    ghost use Rattle.std.specs.Prelude.{ℕ, List, IfSome};
+    ghost use Rattle.md_inflight.specs.Placed.{IsAt};
+    ghost use Rattle.md_inflight.specs.Linked.{IsChain};
+    ghost use Rattle.md_inflight.specs.Kept.{items_from};
 
     ghost Value = { List (ℕ × T) };
 
-    ghost view = { λ it. iter_rest it.entries };
+    ghost view = { λ it. items_from it.ahead it.chain.now.nodes };
+
+    ghost invariant = { λ it. IsChain it.chain.now.first it.chain.now.last it.chain.now.nodes × IfSome it.ahead (λ place. IsAt it.chain.now.nodes place.ptr) };
 }
 
 impl<'a, T> Iterator for Iter<'a, T> {
@@ -27,7 +36,19 @@ impl<'a, T> Iterator for Iter<'a, T> {
     ghost remaining = { item_count (λ rest. rest) };
 
     fn next(&mut self) -> Option<(u64, &'a T)> {
-        let (number, item) = self.entries.next()?;
-        Some((*number, item))
+        let place = self.ahead?;
+        self.ahead = self.chain.next(place);
+        let node = self.chain.node(place);
+        Some((node.number, &node.item))
+    }
+}
+
+impl<'a, T: Debug> Debug for Iter<'a, T> {
+    fn fmt<W: fmt::Write>(&self, f: &mut fmt::Formatter<W>) -> fmt::Result {
+        let left = Iter {
+            chain: self.chain,
+            ahead: self.ahead,
+        };
+        f.debug_list().entries(left).finish()
     }
 }

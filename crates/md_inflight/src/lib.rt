@@ -2,9 +2,14 @@
 //! has a number of its own, and whoever entered it a ticket by which it is found and taken out.
 #![tactic(auto)]
 
+mod book;
+mod chain;
 mod fault;
+mod freeing;
 mod inflight;
 mod iter;
+mod node;
+mod place;
 mod span;
 mod ticket;
 
@@ -13,3 +18,12 @@ pub use inflight::Inflight;
 pub use iter::Iter;
 pub use span::Span;
 pub use ticket::Ticket;
+// A crate can name a list in a contract only if the types of its fields are exported.
+#[doc(hidden)]
+pub use book::{Book, Page};
+#[doc(hidden)]
+pub use chain::Chain;
+#[doc(hidden)]
+pub use node::Node;
+#[doc(hidden)]
+pub use place::Place;

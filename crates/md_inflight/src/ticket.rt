@@ -1,9 +1,9 @@
 // What finds an entry again.
-ghost use Rattle.std.specs.Prelude.{◌≡◌};
+ghost use Rattle.std.specs.Prelude.{◌≡◌, Some, slice_get};
 
+use crate::book::Page;
+use crate::place::Place;
 use std::marker::Model;
-use std::snapshot::Snapshot;
-use std::sync::ledger::Blank;
 
 /// The right to one entry of the list that gave it. It can't be copied, and taking the entry out uses it up.
 ///
@@ -12,27 +12,35 @@ use std::sync::ledger::Blank;
 #[derive_where(Debug)]
 pub struct Ticket {
     pub(crate) number: u64,
-    // Its name is that of the list. It takes no bytes.
+    // Where the entry's node lies: it is found there, without a search.
     #[derive_where(skip)]
-    pub(crate) list: Snapshot<Blank>,
+    pub(crate) place: Place,
+    // Its name is that of the list. It shows that the node of this number lies at this place.
+    #[derive_where(skip)]
+    pub(crate) page: Page,
 }
 
 impl Model for Ticket {
+    ghost use Rattle.std.specs.Prelude.{◌≡◌, Some, slice_get};
     ghost use Rattle.md_inflight.specs.Inflight.{TicketView};
 
     ghost Value = { TicketView };
 
-    ghost view = { λ t. record { name = t.list.value.name; number = t.number } };
+    ghost view = { λ t. record { name = t.page.name; number = t.number } };
+
+    ghost invariant = { λ t. slice_get t.page.addresses t.number ≡ Some t.place.ptr };
 }
 
 impl Ticket {
-    /// The ticket of this entry of the list that has the blank's name.
-    pub(crate) fn of(list: &Blank, number: u64) -> Self
-        ensures { result ≡ record { name = list.now.name; number = number } }
+    /// The ticket of the entry that the page has under this number, at this place.
+    pub(crate) fn of(page: Page, number: u64, place: Place) -> Self
+        requires { slice_get page.addresses number ≡ Some place.ptr }
+        ensures { result ≡ record { name = page.name; number = number } }
     {
         Ticket {
             number,
-            list: Snapshot::of(list),
+            place,
+            page,
         }
     }
 

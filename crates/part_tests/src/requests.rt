@@ -1,6 +1,7 @@
 // Requests in flight: their numbers, their order, and which of them meet a span of sectors.
 use crate::checks::{holds, same};
 use md_inflight::{Inflight, Span};
+use std::cell::Cell;
 use std::test::Fail;
 
 #[derive(Debug, Drop)]
@@ -21,27 +22,26 @@ impl Span for Run {
 }
 
 #[test]
-fn removed_from_the_middle(rt: HostRuntime) -> Result<(), Fail> {
+fn removed_in_any_order(rt: HostRuntime) -> Result<(), Fail> {
     let mut list = Inflight::new(rt.alloc());
     let a = list.push_back('a')?;
     let b = list.push_back('b')?;
     let c = list.push_back('c')?;
-    same(
-        &rt,
-        "numbers",
-        (a.number(), b.number(), c.number()),
-        (0, 1, 2),
-    );
-    same(&rt, "removed", list.remove(b), 'b');
-    let mut entries = list.iter();
-    holds(&rt, "first", entries.next() == Some((0, &'a')));
-    holds(&rt, "second", entries.next() == Some((2, &'c')));
-    holds(&rt, "end", entries.next().is_none());
     let d = list.push_back('d')?;
-    same(&rt, "next number", d.number(), 3);
+    let e = list.push_back('e')?;
+    same(&rt, "from the middle", list.remove(c), 'c');
+    same(&rt, "the last", list.remove(e), 'e');
+    same(&rt, "the first", list.remove(a), 'a');
+    same(&rt, "numbers", (b.number(), d.number()), (1, 3));
+    let mut entries = list.iter();
+    holds(&rt, "first left", entries.next() == Some((1, &'b')));
+    holds(&rt, "second left", entries.next() == Some((3, &'d')));
+    holds(&rt, "end", entries.next().is_none());
+    let f = list.push_back('f')?;
+    same(&rt, "next number", f.number(), 5);
     same(&rt, "length", (list.len(), list.is_empty()), (3, false));
-    *list.get_mut(&c) = 'e';
-    same(&rt, "changed", *list.get(&c), 'e');
+    *list.get_mut(&d) = 'x';
+    same(&rt, "changed", *list.get(&d), 'x');
     Ok(())
 }
 
@@ -55,5 +55,45 @@ fn first_that_meets(rt: HostRuntime) -> Result<(), Fail> {
     list.remove(first);
     same(&rt, "one meets", list.any_meeting(5, 4), Some(1));
     same(&rt, "none meets", list.any_meeting(16, u64::MAX), None);
+    Ok(())
+}
+
+// Counts how often an item of it is dropped.
+#[derive(Debug)]
+struct Counted<'a>(&'a Cell<u32>);
+
+impl<'a> Drop for Counted<'a> {
+    fn drop(self) {
+        let Counted(dropped) = self;
+        dropped.set(dropped.get().saturating_add(1));
+    }
+}
+
+#[test]
+fn each_item_is_dropped_once(rt: HostRuntime) -> Result<(), Fail> {
+    let dropped = Cell::new(0);
+    let mut list = Inflight::new(rt.alloc());
+    list.push_back(Counted(&dropped))?;
+    let second = list.push_back(Counted(&dropped))?;
+    list.push_back(Counted(&dropped))?;
+    drop(list.remove(second));
+    same(&rt, "with the one removed", dropped.get(), 1);
+    drop(list);
+    same(&rt, "with the list", dropped.get(), 3);
+    Ok(())
+}
+
+#[test]
+fn ten_thousand_in_reverse(rt: HostRuntime) -> Result<(), Fail> {
+    let mut list = Inflight::new(rt.alloc());
+    let mut tickets = Vec::new(rt.alloc());
+    for item in 0..10_000u32 {
+        tickets.push(list.push_back(item)?)?;
+    }
+    same(&rt, "entered", list.len(), 10_000);
+    while let Some(ticket) = tickets.pop() {
+        list.remove(ticket);
+    }
+    same(&rt, "left", list.len(), 0);
     Ok(())
 }

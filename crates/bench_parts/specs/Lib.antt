@@ -1,0 +1,2 @@
+-- Tickets that somebody holds.
+pub mod Tickets
