@@ -155,6 +155,31 @@ fn interrupted_write(rt: HostRuntime) -> Result<(), Fail> {
     resyncs(&rt, rt.alloc(), &members, Ok(()), shown(0, true), left)
 }
 
+// The second member's data are not written: its first write clears the marks, and the next would fail.
+#[test]
+fn members_that_agree(rt: HostRuntime) -> Result<(), Fail> {
+    let second = Member {
+        marks: TWO,
+        fails: 2,
+        ..plain(1, chunks_of(OLD))
+    };
+    let members = [first(TWO, NEVER), second];
+    let left = left([0, 0], [OLD, OLD]);
+    resyncs(&rt, rt.alloc(), &members, Ok(()), shown(0, true), left)
+}
+
+// A member that can't be read where it would be written is written.
+#[test]
+fn unreadable_target(rt: HostRuntime) -> Result<(), Fail> {
+    let unreadable = Member {
+        bad: Some(8),
+        ..second(TWO, NEVER)
+    };
+    let members = [first(TWO, NEVER), unreadable];
+    let left = left([0, 0], [OLD, COPIED]);
+    resyncs(&rt, rt.alloc(), &members, Ok(()), shown(0, true), left)
+}
+
 // A mark that only one has is stored on the other, and all of them stay.
 #[test]
 fn degraded_array(rt: HostRuntime) -> Result<(), Fail> {

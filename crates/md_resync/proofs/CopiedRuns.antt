@@ -189,6 +189,12 @@ module _ (old new : MirrorView) (rests : Rests old new) where
       ∙ agree j k m n a.0 b.0 a.1 b.1 free free_too
       ∙ sym (ap (λ (c : List ℕ). part c (512 * (n.superblock.data_offset + s)) 512) b.2)
 
+  pub read_holds : (k sector : ℕ) (bytes : List ℕ) → HoldsData old k sector bytes → HoldsData new k sector bytes
+  read_holds k sector bytes holds e m at member honest =
+      let d = was_device k e at in
+      ap (λ (c : List ℕ). held c (m.superblock.data_offset + sector) (length bytes)) (rests.disks.content k d.0 e d.1 at)
+      ∙ holds d.0 m d.1 (subst (λ (a : ArrayView). IsMember a k m) rests.array member) (sym (rests.disks.same.honest k d.0 e d.1 at).honest ∙ honest)
+
 -- ---- one write
 module _ (k sector : ℕ) (bytes : List ℕ) (old new : MirrorView) (c : IsConsistent old) (t : CopiesTo k sector bytes old new) where
   abbrev target : MemberView
@@ -263,6 +269,24 @@ module _ (k sector : ℕ) (bytes : List ℕ) (old new : MirrorView) (c : IsConsi
 
 pub gives_nothing : (k sector : ℕ) (bytes : List ℕ) (v : MirrorView) → IsConsistent v → ((m : MemberView) → IsInSync v.array k m → HoldsData v k sector bytes) → GivesTo k sector bytes v v
 gives_nothing k sector bytes v sound has = record { copies = copies_none (IsAmong sector bytes) v sound; given = has; kept = λ j holds. holds; agree = λ s beside agree. agree }
+
+-- the member was read, and holds them
+pub gives_read : (k sector : ℕ) (bytes : List ℕ) (old new : MirrorView) → IsConsistent old → Rests old new → HoldsData new k sector bytes → GivesTo k sector bytes old new
+gives_read k sector bytes old new sound rests holds = record {
+  copies = copies_read (IsAmong sector bytes) old new rests sound;
+  given = λ m in_sync. holds;
+  kept = λ j. read_holds old new rests j sector bytes;
+  agree = λ s beside. read_agrees old new rests s;
+}
+
+-- it was read in vain before they were written
+pub gives_after_read : (k sector : ℕ) (bytes : List ℕ) (old mid new : MirrorView) → IsConsistent old → Rests old mid → GivesTo k sector bytes mid new → GivesTo k sector bytes old new
+gives_after_read k sector bytes old mid new sound rests g = record {
+  copies = copies_then (IsAmong sector bytes) old mid new (copies_read (IsAmong sector bytes) old mid rests sound) g.copies;
+  given = g.given;
+  kept = λ j holds. g.kept j (read_holds old mid rests j sector bytes holds);
+  agree = λ s beside agree. g.agree s beside (read_agrees old mid rests s agree);
+}
 
 -- ---- a write that failed
 module _ (k chunk : ℕ) (old new : MirrorView) where

@@ -1,4 +1,4 @@
-// The buffer through which sectors are copied.
+// The buffers through which sectors are copied and compared.
 ghost use Rattle.std.specs.Prelude.{◌≡◌, ◌*◌, IfOk, length, min};
 
 use std::alloc::{AllocError, Global};

@@ -19,9 +19,12 @@ fn copy_run<D: Device + Drop>(
     sector: u64,
     end: u64,
     buffer: &mut [u8],
+    held: &mut [u8],
+    unread: &mut u32,
 ) -> Result<u64, ResyncFault>
     requires some { sector < end }
     requires room { 512 ≤ length buffer.old }
+    requires as_much { length held.old ≡ length buffer.old }
     requires sound { IsConsistent mirror.old }
     requires part { IsPart chunk sector end mirror.old.array }
     ensures { MatchResult result (λ next. CopiesRun sector end next mirror.old mirror.new) (CopyingFails (IsBetween sector end) mirror.old mirror.new) }
@@ -35,7 +38,7 @@ fn copy_run<D: Device + Drop>(
     if mirror.read_data(from, sector, bytes).is_err() {
         return Err(ResyncFault::ReadFault(from, chunk));
     }
-    match copy_to_members(mirror, from, sector, bytes) {
+    match copy_to_members(mirror, from, sector, bytes, held, unread) {
         Ok(()) => Ok(next),
         Err(fault) => Err(fault),
     }
@@ -46,9 +49,12 @@ fn copy_chunk<D: Device + Drop>(
     mirror: &mut Mirror<D>,
     chunk: u32,
     buffer: &mut [u8],
+    held: &mut [u8],
+    unread: &mut u32,
 ) -> Result<(), ResyncFault>
     requires within { chunk < div_ceil mirror.old.array.chunks.size mirror.old.array.chunks.sectors }
     requires room { 512 ≤ length buffer.old }
+    requires as_much { length held.old ≡ length buffer.old }
     requires sound { IsConsistent mirror.old }
     requires may { MayCopyChunk chunk mirror.old.array }
     ensures { MatchResult result (λ _. CopiesChunk chunk mirror.old mirror.new) (CopyingFails (IsOfChunk mirror.old.array chunk) mirror.old mirror.new) }
@@ -57,7 +63,7 @@ fn copy_chunk<D: Device + Drop>(
     let end = start + sectors;
     let mut sector = start;
     while sector < end {
-        sector = match copy_run(mirror, chunk, sector, end, buffer) {
+        sector = match copy_run(mirror, chunk, sector, end, buffer, held, unread) {
             Ok(next) => next,
             Err(fault) => return Err(fault),
         };
@@ -70,9 +76,12 @@ fn copy_if_marked<D: Device + Drop>(
     mirror: &mut Mirror<D>,
     chunk: u32,
     buffer: &mut [u8],
+    held: &mut [u8],
+    unread: &mut u32,
 ) -> Result<(), ResyncFault>
     requires within { chunk < div_ceil mirror.old.array.chunks.size mirror.old.array.chunks.sectors }
     requires room { 512 ≤ length buffer.old }
+    requires as_much { length held.old ≡ length buffer.old }
     requires sound { IsConsistent mirror.old }
     requires may { MayCopyMarked mirror.old.array }
     ensures { MatchResult result (λ _. CopiesIfMarked chunk mirror.old mirror.new) (CopyingFails (IsOfChunk mirror.old.array chunk) mirror.old mirror.new) }
@@ -80,7 +89,7 @@ fn copy_if_marked<D: Device + Drop>(
     if !mirror.marks().is_marked(chunk) {
         return Ok(());
     }
-    match copy_chunk(mirror, chunk, buffer) {
+    match copy_chunk(mirror, chunk, buffer, held, unread) {
         Ok(()) => Ok(()),
         Err(fault) => Err(fault),
     }
@@ -90,14 +99,17 @@ fn copy_if_marked<D: Device + Drop>(
 pub(crate) fn copy_marked<D: Device + Drop>(
     mirror: &mut Mirror<D>,
     buffer: &mut [u8],
+    held: &mut [u8],
 ) -> Result<(), ResyncFault>
     requires room { 512 ≤ length buffer.old }
+    requires as_much { length held.old ≡ length buffer.old }
     requires sound { IsConsistent mirror.old }
     requires may { MayCopyMarked mirror.old.array }
     ensures { MatchResult result (λ _. CopiesMarked mirror.old mirror.new) (CopyingFails (IsMarkedAt mirror.old.array) mirror.old mirror.new) }
 {
+    let mut unread = 0;
     for chunk in 0..mirror.chunks().count() {
-        if let Err(fault) = copy_if_marked(mirror, chunk, buffer) {
+        if let Err(fault) = copy_if_marked(mirror, chunk, buffer, held, &mut unread) {
             return Err(fault);
         }
     }

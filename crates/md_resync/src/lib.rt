@@ -6,6 +6,7 @@
 
 mod buffer;
 mod chunks;
+mod comparing;
 mod fault;
 mod giving_up;
 mod marks;

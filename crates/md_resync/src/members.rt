@@ -1,45 +1,56 @@
 // Sectors go to each member in sync but the one that gave them.
-ghost use Rattle.std.specs.Prelude.{◌<◌, MatchResult, length};
+ghost use Rattle.std.specs.Prelude.{◌<◌, ◌≤◌, MatchResult, length};
 ghost use Rattle.md_array.specs.Consistency.{IsConsistent};
 ghost use Rattle.md_resync.specs.Copying.{GivesAll, GivesTo, GivingFails, IsRun};
 
+use crate::comparing::is_known_to_hold;
 use crate::fault::ResyncFault;
 use md_array::{CopyFault, Mirror};
 use md_device::Device;
 
-/// Writes what member `from` holds from this sector on to each other member in sync. Takes no memory.
+/// Gives what member `from` holds from this sector on to each other member in sync that is not known to hold it.
+/// `held` is room for as many bytes, and `unread` counts the writes for which no member is read first. Takes no memory.
 pub(crate) fn copy_to_members<D: Device + Drop>(
     mirror: &mut Mirror<D>,
     from: usize,
     sector: u64,
     bytes: &[u8],
+    held: &mut [u8],
+    unread: &mut u32,
 ) -> Result<(), ResyncFault>
+    requires room { length bytes.now ≤ length held.old }
     requires sound { IsConsistent mirror.old }
     requires run { IsRun from sector bytes.now mirror.old }
     ensures { MatchResult result (λ _. GivesAll sector bytes.now mirror.old mirror.new) (GivingFails mirror.old mirror.new) }
 {
     for k in 0..mirror.members() {
-        if let Err(fault) = copy_to(mirror, from, k, sector, bytes) {
+        if let Err(fault) = copy_to(mirror, from, k, sector, bytes, held, unread) {
             return Err(fault);
         }
     }
     Ok(())
 }
 
-// Writes it to member k, if that is in sync, and another.
+// Gives it to member k, if that is in sync, and another.
 fn copy_to<D: Device + Drop>(
     mirror: &mut Mirror<D>,
     from: usize,
     k: usize,
     sector: u64,
     bytes: &[u8],
+    held: &mut [u8],
+    unread: &mut u32,
 ) -> Result<(), ResyncFault>
     requires within { k < length mirror.old.array.members }
+    requires room { length bytes.now ≤ length held.old }
     requires sound { IsConsistent mirror.old }
     requires run { IsRun from sector bytes.now mirror.old }
     ensures { MatchResult result (λ _. GivesTo k sector bytes.now mirror.old mirror.new) (GivingFails mirror.old mirror.new) }
 {
     if k == from || !mirror.state(k).is_in_sync() {
+        return Ok(());
+    }
+    if is_known_to_hold(mirror, k, sector, bytes, held, unread) {
         return Ok(());
     }
     match mirror.copy_data(k, sector, bytes) {

@@ -10,14 +10,16 @@ use crate::fault::ResyncFault;
 use md_array::Mirror;
 use md_device::Device;
 
-/// Makes members in sync agree in each marked chunk, through a buffer of at least one sector. Each sector goes from the
-/// member of the lowest role that does not list it to the other members in sync. With one member in sync nothing is
-/// read. The first failure ends it.
+/// Makes members in sync agree in each marked chunk, through a buffer of at least one sector and another of its length.
+/// Each sector goes from the member of the lowest role that does not list it to the other members in sync, but for those
+/// that are known to hold it. With one member in sync nothing is read. The first failure ends it.
 pub fn make_agree<D: Device + Drop>(
     mirror: &mut Mirror<D>,
     buffer: &mut [u8],
+    held: &mut [u8],
 ) -> Result<(), ResyncFault>
     requires room { 512 ≤ length buffer.old }
+    requires as_much { length held.old ≡ length buffer.old }
     requires sound { IsConsistent mirror.old }
     requires may { MayCopyMarked mirror.old.array }
     ensures { MatchResult result (λ _. Agrees mirror.old mirror.new) (AgreeingFails mirror.old mirror.new) }
@@ -25,7 +27,7 @@ pub fn make_agree<D: Device + Drop>(
     if !has_two_in_sync(mirror) {
         return Ok(());
     }
-    match copy_marked(mirror, buffer) {
+    match copy_marked(mirror, buffer, held) {
         Ok(()) => Ok(()),
         Err(fault) => Err(fault),
     }

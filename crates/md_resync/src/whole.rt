@@ -1,5 +1,5 @@
 // A whole resync.
-ghost use Rattle.std.specs.Prelude.{◌≤◌, MatchResult, length};
+ghost use Rattle.std.specs.Prelude.{◌≡◌, ◌≤◌, MatchResult, length};
 ghost use Rattle.md_requests.specs.Pending.{PendingView};
 ghost use Rattle.md_state.specs.MakingClean.{IsIdle};
 ghost use Rattle.md_state.specs.Requests.{IsPending};
@@ -16,8 +16,8 @@ use md_device::Device;
 use std::alloc::Global;
 
 /// Makes the members in sync agree, so that the array can be read and written. The marks of memory are stored on
-/// each of them first, also where the array is degraded; then each marked chunk is copied, through a buffer of at
-/// most 1 MiB; and where the array is not degraded, the marks are cleared and that is stored.
+/// each of them first, also where the array is degraded; then each marked chunk is copied, through two buffers of at
+/// most 1 MiB, where members are not known to agree; and where the array is not degraded, the marks are cleared and that is stored.
 ///
 /// `Halted`, `InFlight` and `NoMemory` are looked for in this order, before a device is used. Then the first failure
 /// ends the call, and the next one begins anew. Where no member fails, no superblock becomes due.
@@ -49,18 +49,22 @@ fn resync_idle<D: Device + Drop>(alloc: Global, mirror: &mut Mirror<D>) -> Resul
     ensures gives { MatchResult result (λ _. Resyncs mirror.old mirror.new) (IdleFails mirror.old mirror.new) }
     ensures sound { IsConsistent mirror.new }
 {
-    let Ok(mut buffer) = buffer_for(alloc, mirror.chunks().sectors) else {
+    let sectors = mirror.chunks().sectors;
+    let (Ok(mut buffer), Ok(mut held)) = (buffer_for(alloc, sectors), buffer_for(alloc, sectors))
+    else {
         return Err(ResyncFault::NoMemory);
     };
-    resync_through(mirror, &mut buffer)
+    resync_through(mirror, &mut buffer, &mut held)
 }
 
-// So through a buffer.
+// So through buffers of one length.
 fn resync_through<D: Device + Drop>(
     mirror: &mut Mirror<D>,
     buffer: &mut [u8],
+    held: &mut [u8],
 ) -> Result<(), ResyncFault>
     requires room { 512 ≤ length buffer.old }
+    requires as_much { length held.old ≡ length buffer.old }
     requires sound { IsConsistent mirror.old }
     requires idle { IsIdle mirror.old.array }
     ensures gives { MatchResult result (λ _. Resyncs mirror.old mirror.new) (IdleFails mirror.old mirror.new) }
@@ -69,7 +73,7 @@ fn resync_through<D: Device + Drop>(
     if let Err(fault) = store_marks(mirror) {
         return Err(fault);
     }
-    if let Err(fault) = make_agree(mirror, buffer) {
+    if let Err(fault) = make_agree(mirror, buffer, held) {
         return Err(fault);
     }
     mirror.note_resynced();

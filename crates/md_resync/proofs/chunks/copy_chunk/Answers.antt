@@ -1,13 +1,16 @@
-use Rattle.std.proofs.Common.{◌∙◌, ◌+◌, refl, ap, arith}
+use Rattle.std.proofs.Common.{◌∙◌, ◌+◌, refl, sym, ap, arith}
 use Rattle.md_bitmap.specs.declared.chunks.Chunks.{Chunks}
 use Rattle.md_resync.proofs.CopiedChunks.{agrees_more, agrees_none, chunk_copied, chunk_fails, part_left, range_of}
 use Rattle.md_resync.proofs.chunks.copy_chunk.Goals as goal
 
 pub loop-sector-init : goal.loop-sector-init
-loop-sector-init g c = record { agrees = agrees_none c.range-start.result.0 c.args.mirror.now c.requires.sound; from = omega arith; to = omega arith; long = refl }
+loop-sector-init g c = record { agrees = agrees_none c.range-start.result.0 c.args.mirror.now c.requires.sound; from = omega arith; to = omega arith; long = refl; held_long = refl }
 
 pub copy_run-requires-clause-room : goal.copy_run-requires-clause-room
 copy_run-requires-clause-room g c = let long = c.loop-sector.invariant.long in let room = c.requires.room in omega arith
+
+pub copy_run-requires-clause-as_much : goal.copy_run-requires-clause-as_much
+copy_run-requires-clause-as_much g c = c.loop-sector.invariant.held_long ∙ c.requires.as_much ∙ sym c.loop-sector.invariant.long
 
 pub copy_run-requires-clause-sound : goal.copy_run-requires-clause-sound
 copy_run-requires-clause-sound g c = c.loop-sector.invariant.agrees.copies.goes.sound
@@ -32,6 +35,7 @@ loop-sector-preserved g c = record {
   from = let from = c.loop-sector.invariant.from in let above = c.in-Ok.ensures.above in omega arith;
   to = let within = c.in-Ok.ensures.within in omega arith;
   long = c.copy_run.auto.buffer ∙ c.loop-sector.invariant.long;
+  held_long = c.copy_run.auto.held ∙ c.loop-sector.invariant.held_long;
 }
 
 pub returns : goal.returns

@@ -12,4 +12,5 @@ invariant-loop-sector g l =
       from : l.start ≤ l.sector;
       to : l.sector ≤ l.end;
       long : length l.buffer ≡ length l.fn.buffer;
+      held_long : length l.held ≡ length l.fn.held;
     }

@@ -7,7 +7,7 @@ use Rattle.md_resync.proofs.CopiedChunks.{chunks_all, chunks_fail, chunks_more, 
 use Rattle.md_resync.proofs.chunks.copy_marked.Goals as goal
 
 pub loop-chunk-init : goal.loop-chunk-init
-loop-chunk-init g c = record { below = chunks_none c.args.mirror.now c.requires.sound; long = refl }
+loop-chunk-init g c = record { below = chunks_none c.args.mirror.now c.requires.sound; long = refl; held_long = refl }
 
 pub copy_if_marked-requires-clause-within : goal.copy_if_marked-requires-clause-within
 copy_if_marked-requires-clause-within g c =
@@ -18,6 +18,9 @@ copy_if_marked-requires-clause-within g c =
 
 pub copy_if_marked-requires-clause-room : goal.copy_if_marked-requires-clause-room
 copy_if_marked-requires-clause-room g c = let long = c.loop-chunk.invariant.long in let room = c.requires.room in omega arith
+
+pub copy_if_marked-requires-clause-as_much : goal.copy_if_marked-requires-clause-as_much
+copy_if_marked-requires-clause-as_much g c = c.loop-chunk.invariant.held_long ∙ c.requires.as_much ∙ sym c.loop-chunk.invariant.long
 
 pub copy_if_marked-requires-clause-sound : goal.copy_if_marked-requires-clause-sound
 copy_if_marked-requires-clause-sound g c = c.loop-chunk.invariant.below.copies.goes.sound
@@ -33,6 +36,7 @@ pub loop-chunk-preserved : goal.loop-chunk-preserved
 loop-chunk-preserved g c = record {
   below = chunks_more c.loop-chunk.chunk c.args.mirror.now c.loop-chunk.mirror c.copy_if_marked.new.mirror c.loop-chunk.invariant.below c.in_default.ensures;
   long = c.copy_if_marked.auto.buffer ∙ c.loop-chunk.invariant.long;
+  held_long = c.copy_if_marked.auto.held ∙ c.loop-chunk.invariant.held_long;
 }
 
 pub returns : goal.returns

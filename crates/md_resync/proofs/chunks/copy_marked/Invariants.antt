@@ -7,4 +7,5 @@ invariant-loop-chunk g l =
     record {
       below : CopiesBelow l.chunk l.fn.mirror l.mirror;
       long : length l.buffer ≡ length l.fn.buffer;
+      held_long : length l.held ≡ length l.fn.held;
     }

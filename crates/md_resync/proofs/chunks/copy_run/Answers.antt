@@ -23,6 +23,18 @@ returns-then-is_err g c =
     let fails = err_of c.read_data.result (ReadsData from c.args.sector c.read_data.new.buf old new) (FailsToRead from old new) (sym c.if-is_err.true ∙ c.is_err.ensures.value) c.read_data.ensures.gives in
     fails_reading c.args.chunk c.args.sector c.args.end next from old c.requires.sound c.requires.part run.from within run.source new fails
 
+pub copy_to_members-requires-clause-room : goal.copy_to_members-requires-clause-room
+copy_to_members-requires-clause-room g c =
+    let next = c.end_of_run-next.result in
+    let run = c.end_of_run-next.ensures in
+    let low = c.min.ensures in
+    let to = run.to in
+    let few : next - c.args.sector ≤ length c.args.buffer.now / 512 = omega arith in
+    let long = length-take-le (512 * (next - c.args.sector)) c.args.buffer.now (omega arith) in
+    let as_much = c.requires.as_much in
+    let got = c.read_data.auto.buf in
+    omega arith
+
 pub copy_to_members-requires-clause-run : goal.copy_to_members-requires-clause-run
 copy_to_members-requires-clause-run g c =
     let old = c.args.mirror.now in

@@ -1,13 +1,16 @@
-use Rattle.std.proofs.Common.{◌≡◌, ◌/◌, true, arith, subst}
+use Rattle.std.proofs.Common.{◌≡◌, ◌/◌, true, arith, subst, sym}
 use Rattle.md_array.specs.CopyEvents.{IfCopyingFailed}
 use Rattle.md_array.specs.Events.{Happens}
 use Rattle.md_assembly.specs.States.{is_in_sync}
 use Rattle.md_model.specs.Events.{Event}
 use Rattle.md_state.specs.CopyingData.{RefusesCopy}
+use Rattle.md_state.specs.Members.{IsInSync}
 use Rattle.md_state.specs.ReadingData.{HoldsData}
 use Rattle.md_state.proofs.Members.At.{told}
+use Rattle.md_resync.specs.Copying.{IsAmong}
 use Rattle.md_resync.proofs.Bests.{member_at}
-use Rattle.md_resync.proofs.CopiedRuns.{gives_nothing, gives_to, halts_copying, loses_copying, run_is_copy}
+use Rattle.md_resync.proofs.CopiedChunks.{run_later}
+use Rattle.md_resync.proofs.CopiedRuns.{copies_read, gives_after_read, gives_nothing, gives_read, gives_to, halts_copying, halts_then, loses_copying, loses_then, read_holds, run_is_copy}
 use Rattle.md_resync.proofs.members.copy_to.Goals as goal
 use Rattle.md_resync.proofs.members.copy_to.Goals.{then-k-from-via-then-k-from, then-k-from-via-else-k-from+then-not-is_in_sync}
 
@@ -25,35 +28,60 @@ returns-then-k-from g c =
           absurd cc
     ])
 
+pub is_known_to_hold-requires-clause-whole : goal.is_known_to_hold-requires-clause-whole
+is_known_to_hold-requires-clause-whole g c = let long = c.requires.run.long in omega arith
+
+pub is_known_to_hold-requires-clause-inside : goal.is_known_to_hold-requires-clause-inside
+is_known_to_hold-requires-clause-inside g c = let long = c.requires.run.long in let inside = c.requires.run.inside in omega arith
+
+pub returns-then-is_known_to_hold : goal.returns-then-is_known_to_hold
+returns-then-is_known_to_hold g c =
+    let read = c.is_known_to_hold.ensures in
+    gives_read c.args.k c.args.sector c.args.bytes.now c.args.mirror.now c.is_known_to_hold.new.mirror c.requires.sound read.rests (read.holds c.if-is_known_to_hold.true)
+
 pub copy_data-requires-clause-copy : goal.copy_data-requires-clause-copy
 copy_data-requires-clause-copy g c =
     let old = c.args.mirror.now in
+    let mid = c.is_known_to_hold.new.mirror in
+    let rests = c.is_known_to_hold.ensures.rests in
     let m = member_at old.array c.args.k c.requires.within in
     let state = told (λ x. x.state) old.array c.args.k m.0 c.state.result c.state.ensures m.1 in
     let answer = c.is_in_sync.ensures in
     let yes = c.if-not-is_in_sync.false in
     let in_sync : is_in_sync m.0.state ≡ true = cc in
-    run_is_copy c.args.from c.args.k c.args.sector c.args.bytes.now old c.requires.run m.0 (record { member = m.1; in_sync = in_sync })
+    let run = run_later c.args.from c.args.sector c.args.bytes.now old mid c.requires.run rests.array (read_holds old mid rests c.args.from c.args.sector c.args.bytes.now c.requires.run.holds) in
+    run_is_copy c.args.from c.args.k c.args.sector c.args.bytes.now mid run m.0 (subst (λ a. IsInSync a c.args.k m.0) (sym rests.array) (record { member = m.1; in_sync = in_sync }))
     (λ same. let no = c.if-k-from.false in omega arith)
 
 pub returns-in-Ok : goal.returns-in-Ok
 returns-in-Ok g c =
     let e = c.in-Ok.ensures in
-    gives_to c.args.k c.args.sector c.args.bytes.now c.args.mirror.now c.copy_data.new.self c.requires.sound e.gives e.event
+    let read = c.is_known_to_hold.ensures in
+    let mid = c.is_known_to_hold.new.mirror in
+    gives_after_read c.args.k c.args.sector c.args.bytes.now c.args.mirror.now mid c.copy_data.new.self c.requires.sound read.rests
+    (gives_to c.args.k c.args.sector c.args.bytes.now mid c.copy_data.new.self read.sound e.gives e.event)
 
 pub returns-in-Err-MemberFailed : goal.returns-in-Err-MemberFailed
 returns-in-Err-MemberFailed g c =
     let at = c.in-Err-MemberFailed in
     let old = c.args.mirror.now in
+    let read = c.is_known_to_hold.ensures in
+    let mid = c.is_known_to_hold.new.mirror in
     let new = c.copy_data.new.self in
-    let chunk = c.args.sector / old.array.chunks.sectors in
-    loses_copying c.args.k chunk old new at.j (subst (RefusesCopy c.args.k chunk old new) at.field-0-is at.ensures.gives)
-    (subst (IfCopyingFailed (Happens old (Event.CopyFails c.args.k chunk) new)) at.field-0-is at.ensures.event) at.ensures.sound
+    let chunk = c.args.sector / mid.array.chunks.sectors in
+    let Among = IsAmong c.args.sector c.args.bytes.now in
+    loses_then Among at.j old mid new (copies_read Among old mid read.rests c.requires.sound)
+    (loses_copying c.args.k chunk mid new at.j (subst (RefusesCopy c.args.k chunk mid new) at.field-0-is at.ensures.gives)
+    (subst (IfCopyingFailed (Happens mid (Event.CopyFails c.args.k chunk) new)) at.field-0-is at.ensures.event) at.ensures.sound)
 
 pub returns-in-Err-Halted : goal.returns-in-Err-Halted
 returns-in-Err-Halted g c =
     let at = c.in-Err-Halted in
     let old = c.args.mirror.now in
+    let read = c.is_known_to_hold.ensures in
+    let mid = c.is_known_to_hold.new.mirror in
     let new = c.copy_data.new.self in
-    let chunk = c.args.sector / old.array.chunks.sectors in
-    halts_copying c.args.k chunk old new c.requires.sound (subst (RefusesCopy c.args.k chunk old new) at.field-0-is at.ensures.gives) at.ensures.sound
+    let chunk = c.args.sector / mid.array.chunks.sectors in
+    let Among = IsAmong c.args.sector c.args.bytes.now in
+    halts_then Among old mid new (copies_read Among old mid read.rests c.requires.sound)
+    (halts_copying c.args.k chunk mid new read.sound (subst (RefusesCopy c.args.k chunk mid new) at.field-0-is at.ensures.gives) at.ensures.sound)
