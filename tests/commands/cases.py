@@ -334,6 +334,27 @@ CASES = [
         [Step("check a", AGREE, told=STORED, changes="a"), Step("check a", AGREE)],
     ),
     (
+        "a bitmap that is out of date is marked by an addition too",
+        {"a": OUT_OF_DATE, "b": ZEROS},
+        [Step("add --device b a", "in sync 1 of 2, events 11, marked 8\n", told=STORED, changes="a b")],
+    ),
+    (
+        "a refused command marks a bitmap that is out of date, and tells the fault alone",
+        {"a": OUT_OF_DATE, "b": SHORT},
+        [
+            step
+            for words, fault in [
+                ("read --sector 64 --count 1 a", "OutOfRange"),
+                ("plan --member 0 a", "NotSpare"),
+                ("remove --member 0 a", "StillActive"),
+                ("add --device b a", "TooSmall"),
+                ("re-add --device b a", "Member Super Magic"),
+                ("rebuild --member 0 a", "NotSpare"),
+            ]
+            for step in (Step(words, fault=fault, changes="a"), Made("a", "a", lambda image: OUT_OF_DATE))
+        ],
+    ),
+    (
         "data is written, read and resynced, and the array is stopped",
         TWO,
         [

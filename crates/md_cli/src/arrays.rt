@@ -6,8 +6,8 @@ ghost use Rattle.md_cli.specs.Performing.{access_of, streams};
 ghost use Rattle.md_images.specs.Images.{allows};
 ghost use Rattle.md_images.specs.Taking.{image_list};
 
-use crate::marks_notice::tell_stored_marks;
 use crate::performing::{access_of, perform};
+use crate::stored_marks::StoredMarks;
 use md_advice::CommandFault;
 use md_array::Mirror;
 use md_commands::{Source, Watch};
@@ -16,10 +16,10 @@ use md_examine::Sink;
 use md_images::{Images, image_list, put_back, take_images};
 use md_words::ArrayTask;
 use std::alloc::Global;
-use std::io::Write;
 use std::thread::Threads;
 
-/// Opens devices as a mirror and does a task with it. They come back in their order.
+/// Opens devices as a mirror and does a task with it. They come back in their order. `marks` gets
+/// on which of them the opening stored marks.
 pub(crate) fn perform_on_devices<
     D: Device + Drop + Send,
     R: Source,
@@ -34,6 +34,7 @@ pub(crate) fn perform_on_devices<
     input: &mut R,
     out: &mut S,
     watch: &W,
+    marks: &mut StoredMarks,
 ) -> (Vec<D>, Result<(), CommandFault>)
     ensures as_many { length result.0.items ≡ length devices.items }
     ensures gives { OpensDevices R.Source S.Sink task (map (disk_of D.Device) devices.items) (map (disk_of D.Device) result.0.items) (streams input.old out.old) (streams input.new out.new) result.1 }
@@ -41,6 +42,7 @@ pub(crate) fn perform_on_devices<
 {
     match Mirror::open(alloc, devices) {
         Ok(mut mirror) => {
+            marks.note(&mirror);
             let done = perform(rt, alloc, task, &mut mirror, input, out, watch);
             (mirror.into_devices(), done)
         }
@@ -48,49 +50,9 @@ pub(crate) fn perform_on_devices<
     }
 }
 
-// The same for the images of these names. Where the opening stored marks, `err` is told on which.
-fn perform_and_tell<
-    D: Device + Drop + Send,
-    R: Source,
-    S: Sink,
-    E: Write,
-    W: Watch + Sync,
-    T: Threads + Sync,
->(
-    rt: &T,
-    alloc: Global,
-    task: ArrayTask,
-    devices: Vec<D>,
-    names: &[&str],
-    input: &mut R,
-    out: &mut S,
-    err: &mut E,
-    watch: &W,
-) -> (Vec<D>, Result<(), CommandFault>)
-    ensures as_many { length result.0.items ≡ length devices.items }
-    ensures gives { OpensDevices R.Source S.Sink task (map (disk_of D.Device) devices.items) (map (disk_of D.Device) result.0.items) (streams input.old out.old) (streams input.new out.new) result.1 }
-    ensures flushed { IfOk result.1 (λ _. S.is_flushed out.new) }
-{
-    match Mirror::open(alloc, devices) {
-        Ok(mut mirror) => {
-            tell_stored_marks(&mirror, names, err);
-            let done = perform(rt, alloc, task, &mut mirror, input, out, watch);
-            (mirror.into_devices(), done)
-        }
-        Err((devices, fault)) => (devices, Err(CommandFault::Open(fault))),
-    }
-}
-
-/// Does a task with the array that images make, and puts them back. Where opening it stored marks, `err`
-/// is told on which images.
-pub(crate) fn perform_on_images<
-    I: Images,
-    R: Source,
-    S: Sink,
-    E: Write,
-    W: Watch + Sync,
-    T: Threads + Sync,
->(
+/// Does a task with the array that images make, and puts them back. `marks` gets on which images opening it
+/// stored marks.
+pub(crate) fn perform_on_images<I: Images, R: Source, S: Sink, W: Watch + Sync, T: Threads + Sync>(
     rt: &T,
     alloc: Global,
     task: ArrayTask,
@@ -98,8 +60,8 @@ pub(crate) fn perform_on_images<
     names: &[&str],
     input: &mut R,
     out: &mut S,
-    err: &mut E,
     watch: &W,
+    marks: &mut StoredMarks,
 ) -> Result<(), CommandFault>
     ensures gives { UsesImages I.Dev.Device (OpensDevices R.Source S.Sink task) (images.new ≡ images.old) (I.known images.old) (λ n. allows (access_of task) (I.changeable images.old n)) (I.device_at images.old) (I.device_at images.new) (image_list false (map (λ s. s.now) names.now)) (streams input.old out.old) (streams input.new out.new) result }
     ensures flushed { IfOk result (λ _. S.is_flushed out.new) }
@@ -109,9 +71,7 @@ pub(crate) fn perform_on_images<
     };
     let words = list.as_slice();
     let devices = take_images(alloc, access_of(task), images, words)?;
-    let (devices, result) = perform_and_tell(
-        rt, alloc, task, devices, names, input, out, err, watch,
-    );
+    let (devices, result) = perform_on_devices(rt, alloc, task, devices, input, out, watch, marks);
     put_back(images, words, devices);
     result
 }

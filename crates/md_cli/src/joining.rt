@@ -11,7 +11,7 @@ ghost use Rattle.md_cli.specs.Performing.{OfData};
 ghost use Rattle.md_images.specs.Images.{allows};
 ghost use Rattle.md_images.specs.Taking.{image_list};
 
-use crate::marks_notice::tell_stored_marks;
+use crate::stored_marks::StoredMarks;
 use md_advice::CommandFault;
 use md_array::Mirror;
 use md_commands::{Watch, add_device, re_add_device};
@@ -19,7 +19,6 @@ use md_device::{Access, Device};
 use md_examine::Sink;
 use md_images::{Images, image_list, put_back, take_images};
 use std::alloc::{AllocError, Global};
-use std::io::Write;
 use std::sync::Wait;
 use std::thread::Threads;
 
@@ -136,24 +135,17 @@ fn join_mirror<D: Device + Drop + Send, S: Sink, W: Watch + Sync, T: Threads + W
 }
 
 // Opens the devices of the members as a mirror, which one more joins. All of them come back in that order.
-// Where the opening stored marks, `err` is told on which images.
-fn join_members<
-    D: Device + Drop + Send,
-    S: Sink,
-    E: Write,
-    W: Watch + Sync,
-    T: Threads + Wait + Sync,
->(
+// `marks` gets on which of the members the opening stored marks.
+fn join_members<D: Device + Drop + Send, S: Sink, W: Watch + Sync, T: Threads + Wait + Sync>(
     rt: &T,
     alloc: Global,
     joining: Joining,
     list: Vec<D>,
     members: Vec<D>,
     device: D,
-    names: &[&str],
     watch: &W,
     out: &mut S,
-    err: &mut E,
+    marks: &mut StoredMarks,
 ) -> (Vec<D>, Result<(), CommandFault>)
     requires empty { list.items ≡ [] }
     requires room { length members.items < vec_capacity list }
@@ -164,7 +156,7 @@ fn join_members<
 {
     match Mirror::open(alloc, members) {
         Ok(mirror) => {
-            tell_stored_marks(&mirror, names, err);
+            marks.note(&mirror);
             join_mirror(rt, alloc, joining, list, mirror, device, watch, out)
         }
         Err((members, fault)) => {
@@ -175,15 +167,14 @@ fn join_members<
 }
 
 // Opens all devices but the last as a mirror, which the last joins. They come back in their order.
-fn join_last<D: Device + Drop + Send, S: Sink, E: Write, W: Watch + Sync, T: Threads + Wait + Sync>(
+fn join_last<D: Device + Drop + Send, S: Sink, W: Watch + Sync, T: Threads + Wait + Sync>(
     rt: &T,
     alloc: Global,
     joining: Joining,
     mut devices: Vec<D>,
-    names: &[&str],
     watch: &W,
     out: &mut S,
-    err: &mut E,
+    marks: &mut StoredMarks,
 ) -> (Vec<D>, Result<(), CommandFault>)
     requires some { 0 < length devices.items }
     ensures as_many { length result.0.items ≡ length devices.items }
@@ -196,14 +187,12 @@ fn join_last<D: Device + Drop + Send, S: Sink, E: Write, W: Watch + Sync, T: Thr
     let Some(device) = devices.pop() else {
         unreachable!()
     };
-    join_members(
-        rt, alloc, joining, list, devices, device, names, watch, out, err,
-    )
+    join_members(rt, alloc, joining, list, devices, device, watch, out, marks)
 }
 
 // The image of the last name joins the array that the images of the others make, and all of them are put
 // back.
-fn join_last_image<I: Images, S: Sink, E: Write, W: Watch + Sync, T: Threads + Wait + Sync>(
+fn join_last_image<I: Images, S: Sink, W: Watch + Sync, T: Threads + Wait + Sync>(
     rt: &T,
     alloc: Global,
     joining: Joining,
@@ -211,7 +200,7 @@ fn join_last_image<I: Images, S: Sink, E: Write, W: Watch + Sync, T: Threads + W
     names: &[&str],
     watch: &W,
     out: &mut S,
-    err: &mut E,
+    marks: &mut StoredMarks,
 ) -> Result<(), CommandFault>
     requires some { 0 < length names.now }
     ensures gives { UsesImages I.Dev.Device (JoinsDevices S.Sink joining) (images.new ≡ images.old) (I.known images.old) (λ n. allows Access.Change (I.changeable images.old n)) (I.device_at images.old) (I.device_at images.new) (image_list false (map (λ s. s.now) names.now)) out.old out.new result }
@@ -222,7 +211,7 @@ fn join_last_image<I: Images, S: Sink, E: Write, W: Watch + Sync, T: Threads + W
     };
     let words = list.as_slice();
     let devices = take_images(alloc, Access::Change, images, words)?;
-    let (devices, result) = join_last(rt, alloc, joining, devices, names, watch, out, err);
+    let (devices, result) = join_last(rt, alloc, joining, devices, watch, out, marks);
     put_back(images, words, devices);
     result
 }
@@ -241,9 +230,9 @@ fn with_name<'a>(
 }
 
 /// The image under a name joins the array that the images of the other names make, and all of them are put
-/// back. Among the images it counts after the others. Where opening the array stored marks, `err` is told
-/// on which images. `watch` is told of a rebuild.
-pub(crate) fn join_images<I: Images, S: Sink, E: Write, W: Watch + Sync, T: Threads + Wait + Sync>(
+/// back. Among the images it counts after the others. `marks` gets on which of those others opening the
+/// array stored marks. `watch` is told of a rebuild.
+pub(crate) fn join_images<I: Images, S: Sink, W: Watch + Sync, T: Threads + Wait + Sync>(
     rt: &T,
     alloc: Global,
     joining: Joining,
@@ -252,7 +241,7 @@ pub(crate) fn join_images<I: Images, S: Sink, E: Write, W: Watch + Sync, T: Thre
     names: &[&str],
     watch: &W,
     out: &mut S,
-    err: &mut E,
+    marks: &mut StoredMarks,
 ) -> Result<(), CommandFault>
     ensures gives { UsesImages I.Dev.Device (JoinsDevices S.Sink joining) (images.new ≡ images.old) (I.known images.old) (λ n. allows Access.Change (I.changeable images.old n)) (I.device_at images.old) (I.device_at images.new) (image_list false (map (λ s. s.now) names.now ++ device.now ∷ [])) out.old out.new result }
     ensures flushed { IfOk result (λ _. S.is_flushed out.new) }
@@ -260,5 +249,14 @@ pub(crate) fn join_images<I: Images, S: Sink, E: Write, W: Watch + Sync, T: Thre
     let Ok(all) = with_name(alloc, names, device) else {
         return Err(CommandFault::NoMemory);
     };
-    join_last_image(rt, alloc, joining, images, all.as_slice(), watch, out, err)
+    join_last_image(
+        rt,
+        alloc,
+        joining,
+        images,
+        all.as_slice(),
+        watch,
+        out,
+        marks,
+    )
 }

@@ -7,7 +7,6 @@ mod examining;
 mod joining;
 mod laying_out;
 mod looking;
-mod marks_notice;
 mod messages;
 mod output;
 mod performing;
@@ -18,6 +17,7 @@ mod removing;
 mod running;
 mod showing;
 mod sizing;
+mod stored_marks;
 
 pub use messages::Messages;
 pub use running::run;

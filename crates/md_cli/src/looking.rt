@@ -7,6 +7,7 @@ ghost use Rattle.md_images.specs.Images.{allows};
 ghost use Rattle.md_images.specs.Taking.{image_list};
 
 use crate::arrays::perform_on_devices;
+use crate::stored_marks::StoredMarks;
 use md_advice::CommandFault;
 use md_commands::{Source, Watch};
 use md_device::Access;
@@ -39,7 +40,11 @@ pub(crate) fn look_at_devices<
     let Ok(overlays) = lay_over(alloc, devices) else {
         return Err(CommandFault::NoMemory);
     };
-    let (overlays, result) = perform_on_devices(rt, alloc, task, overlays, input, out, watch);
+    // None is stored but in memory.
+    let mut marks = StoredMarks::none();
+    let (overlays, result) = perform_on_devices(
+        rt, alloc, task, overlays, input, out, watch, &mut marks,
+    );
     drop(overlays);
     result
 }

@@ -9,7 +9,7 @@ ghost use Rattle.md_cli.specs.Rebuilding.{RebuildsDevices};
 ghost use Rattle.md_images.specs.Images.{allows};
 ghost use Rattle.md_images.specs.Taking.{image_list};
 
-use crate::marks_notice::tell_stored_marks;
+use crate::stored_marks::StoredMarks;
 use md_advice::CommandFault;
 use md_array::Mirror;
 use md_commands::{Watch, rebuild_member};
@@ -17,7 +17,6 @@ use md_device::{Access, Device};
 use md_examine::Sink;
 use md_images::{Images, image_list, put_back, take_images};
 use std::alloc::Global;
-use std::io::Write;
 use std::sync::Wait;
 use std::thread::Threads;
 
@@ -37,23 +36,16 @@ fn rebuild_and_show<D: Device + Drop + Send, S: Sink, W: Watch + Sync, T: Thread
     Ok(rebuild_member(rt, alloc, mirror, member, watch, out)?)
 }
 
-// Opens devices as a mirror and rebuilds the member with this index. They come back in their order. Where the
-// opening stored marks, `err` is told on which images.
-fn rebuild_on_devices<
-    D: Device + Drop + Send,
-    S: Sink,
-    E: Write,
-    W: Watch + Sync,
-    T: Threads + Wait + Sync,
->(
+// Opens devices as a mirror and rebuilds the member with this index. They come back in their order. `marks`
+// gets on which of them the opening stored marks.
+fn rebuild_on_devices<D: Device + Drop + Send, S: Sink, W: Watch + Sync, T: Threads + Wait + Sync>(
     rt: &T,
     alloc: Global,
     member: u32,
     devices: Vec<D>,
-    names: &[&str],
     watch: &W,
     out: &mut S,
-    err: &mut E,
+    marks: &mut StoredMarks,
 ) -> (Vec<D>, Result<(), CommandFault>)
     ensures as_many { length result.0.items ≡ length devices.items }
     ensures gives { RebuildsDevices S.Sink member (map (disk_of D.Device) devices.items) (map (disk_of D.Device) result.0.items) out.old out.new result.1 }
@@ -61,7 +53,7 @@ fn rebuild_on_devices<
 {
     match Mirror::open(alloc, devices) {
         Ok(mut mirror) => {
-            tell_stored_marks(&mirror, names, err);
+            marks.note(&mirror);
             let done = rebuild_and_show(rt, alloc, &mut mirror, member, watch, out);
             (mirror.into_devices(), done)
         }
@@ -69,15 +61,9 @@ fn rebuild_on_devices<
     }
 }
 
-/// Rebuilds the member with this index of the array that images make, and puts all of them back. Where
-/// opening it stored marks, `err` is told on which images. `watch` is told of the rebuild.
-pub(crate) fn rebuild_on_images<
-    I: Images,
-    S: Sink,
-    E: Write,
-    W: Watch + Sync,
-    T: Threads + Wait + Sync,
->(
+/// Rebuilds the member with this index of the array that images make, and puts all of them back. `marks`
+/// gets on which images opening it stored marks. `watch` is told of the rebuild.
+pub(crate) fn rebuild_on_images<I: Images, S: Sink, W: Watch + Sync, T: Threads + Wait + Sync>(
     rt: &T,
     alloc: Global,
     member: u32,
@@ -85,7 +71,7 @@ pub(crate) fn rebuild_on_images<
     names: &[&str],
     watch: &W,
     out: &mut S,
-    err: &mut E,
+    marks: &mut StoredMarks,
 ) -> Result<(), CommandFault>
     ensures gives { UsesImages I.Dev.Device (RebuildsDevices S.Sink member) (images.new ≡ images.old) (I.known images.old) (λ n. allows Access.Change (I.changeable images.old n)) (I.device_at images.old) (I.device_at images.new) (image_list false (map (λ s. s.now) names.now)) out.old out.new result }
     ensures flushed { IfOk result (λ _. S.is_flushed out.new) }
@@ -95,7 +81,7 @@ pub(crate) fn rebuild_on_images<
     };
     let words = list.as_slice();
     let devices = take_images(alloc, Access::Change, images, words)?;
-    let (devices, result) = rebuild_on_devices(rt, alloc, member, devices, names, watch, out, err);
+    let (devices, result) = rebuild_on_devices(rt, alloc, member, devices, watch, out, marks);
     put_back(images, words, devices);
     result
 }

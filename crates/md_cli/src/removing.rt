@@ -11,7 +11,7 @@ ghost use Rattle.md_cli.specs.Removing.{RemovesFrom, RemovesFromDevices};
 ghost use Rattle.md_images.specs.Images.{allows};
 ghost use Rattle.md_images.specs.Taking.{image_list};
 
-use crate::marks_notice::tell_stored_marks;
+use crate::stored_marks::StoredMarks;
 use md_advice::CommandFault;
 use md_array::Mirror;
 use md_commands::remove_member;
@@ -19,7 +19,6 @@ use md_device::{Access, Device};
 use md_examine::Sink;
 use md_images::{Images, image_list, put_back, take_images};
 use std::alloc::Global;
-use std::io::Write;
 
 // The devices with one more at this place, in a list that is empty and has room for all of them.
 fn with_device<D: Drop>(mut list: Vec<D>, mut devices: Vec<D>, place: usize, device: D) -> Vec<D>
@@ -78,15 +77,14 @@ fn remove_from_mirror<D: Device + Drop, S: Sink>(
     }
 }
 
-// Opens devices as a mirror and removes the member with this index. They come back in their order. Where
-// the opening stored marks, `err` is told on which images.
-fn remove_from_devices<D: Device + Drop, S: Sink, E: Write>(
+// Opens devices as a mirror and removes the member with this index. They come back in their order. `marks`
+// gets on which of them the opening stored marks.
+fn remove_from_devices<D: Device + Drop, S: Sink>(
     alloc: Global,
     member: u32,
     devices: Vec<D>,
-    names: &[&str],
     out: &mut S,
-    err: &mut E,
+    marks: &mut StoredMarks,
 ) -> (Vec<D>, Result<(), CommandFault>)
     ensures as_many { length result.0.items ≡ length devices.items }
     ensures gives { RemovesFromDevices S.Sink member (map (disk_of D.Device) devices.items) (map (disk_of D.Device) result.0.items) out.old out.new result.1 }
@@ -97,22 +95,22 @@ fn remove_from_devices<D: Device + Drop, S: Sink, E: Write>(
     };
     match Mirror::open(alloc, devices) {
         Ok(mirror) => {
-            tell_stored_marks(&mirror, names, err);
+            marks.note(&mirror);
             remove_from_mirror(list, mirror, member, out)
         }
         Err((devices, fault)) => (devices, Err(CommandFault::Open(fault))),
     }
 }
 
-/// Removes the member with this index from the array that images make, and puts all of them back. Where
-/// opening it stored marks, `err` is told on which images.
-pub(crate) fn remove_from_images<I: Images, S: Sink, E: Write>(
+/// Removes the member with this index from the array that images make, and puts all of them back. `marks`
+/// gets on which images opening it stored marks.
+pub(crate) fn remove_from_images<I: Images, S: Sink>(
     alloc: Global,
     member: u32,
     images: &mut I,
     names: &[&str],
     out: &mut S,
-    err: &mut E,
+    marks: &mut StoredMarks,
 ) -> Result<(), CommandFault>
     ensures gives { UsesImages I.Dev.Device (RemovesFromDevices S.Sink member) (images.new ≡ images.old) (I.known images.old) (λ n. allows Access.Change (I.changeable images.old n)) (I.device_at images.old) (I.device_at images.new) (image_list false (map (λ s. s.now) names.now)) out.old out.new result }
     ensures flushed { IfOk result (λ _. S.is_flushed out.new) }
@@ -122,7 +120,7 @@ pub(crate) fn remove_from_images<I: Images, S: Sink, E: Write>(
     };
     let words = list.as_slice();
     let devices = take_images(alloc, Access::Change, images, words)?;
-    let (devices, result) = remove_from_devices(alloc, member, devices, names, out, err);
+    let (devices, result) = remove_from_devices(alloc, member, devices, out, marks);
     put_back(images, words, devices);
     result
 }

@@ -15,6 +15,7 @@ use crate::messages::Messages;
 use crate::planning::plan;
 use crate::rebuilding::rebuild_on_images;
 use crate::removing::remove_from_images;
+use crate::stored_marks::StoredMarks;
 use md_advice::{CommandFault, advise, tell_lost_content};
 use md_commands::{Source, Watch};
 use md_examine::Sink;
@@ -31,9 +32,9 @@ use std::thread::Threads;
 /// Out of memory in the parse is status 2 too. That it is answered only then is tested, since no
 /// clause can tell whether memory was there.
 ///
-/// `input` is read by `write` alone. A refusal's line goes to `err`, as `mdcli: BadImage 0`; so does the
-/// line of advice after it, where that is asked for, and the line that what an added image held is lost; a
-/// line for each image on which marks were stored; and the parser's text. No clause speaks of what is written to `err`, nor of whether that can be written.
+/// `input` is read by `write` alone. A refusal's line goes to `err`, as `mdcli: BadImage 0`, and with advice
+/// further lines; so does, of a command that is done, a line for each image on which marks were stored; and the
+/// parser's text. No clause speaks of what is written to `err`, nor of whether that can be written.
 ///
 /// `watch` is told of a rebuild, by `rebuild` and `re-add`, and of a check, whose workers `rt` starts.
 pub fn run<'a, I: Images, R: Source, S: Sink, E: Write, W: Watch + Sync, T: Threads + Wait + Sync>(
@@ -61,6 +62,7 @@ pub fn run<'a, I: Images, R: Source, S: Sink, E: Write, W: Watch + Sync, T: Thre
         }
     };
     let names = request.images.as_slice();
+    let mut marks = StoredMarks::none();
     let outcome = act(
         rt,
         alloc,
@@ -69,14 +71,14 @@ pub fn run<'a, I: Images, R: Source, S: Sink, E: Write, W: Watch + Sync, T: Thre
         names,
         input,
         out,
-        err,
         watch,
+        &mut marks,
     );
-    answer(outcome, request.action, names, messages, err)
+    answer(outcome, request.action, names, &marks, messages, err)
 }
 
-// Does a command on the images that are named.
-fn act<I: Images, R: Source, S: Sink, E: Write, W: Watch + Sync, T: Threads + Wait + Sync>(
+// Does a command on the images that are named. `marks` gets on which of them marks were stored.
+fn act<I: Images, R: Source, S: Sink, W: Watch + Sync, T: Threads + Wait + Sync>(
     rt: &T,
     alloc: Global,
     action: Action<'_>,
@@ -84,8 +86,8 @@ fn act<I: Images, R: Source, S: Sink, E: Write, W: Watch + Sync, T: Threads + Wa
     names: &[&str],
     input: &mut R,
     out: &mut S,
-    err: &mut E,
     watch: &W,
+    marks: &mut StoredMarks,
 ) -> Result<(), CommandFault>
     ensures gives { Does I.Dev.Device R.Source S.Sink I.known I.device_at I.changeable I.asked (ask_of action.entry) (map (λ s. s.now) names.now) images.old images.new (streams input.old out.old) (streams input.new out.new) result }
     ensures flushed { IfOk result (λ _. S.is_flushed out.new) }
@@ -95,10 +97,10 @@ fn act<I: Images, R: Source, S: Sink, E: Write, W: Watch + Sync, T: Threads + Wa
         Action::Create(options) => create_array(alloc, options, images, names, out),
         Action::Perform(task, readonly) => {
             perform_on_array(
-                rt, alloc, task, readonly, images, names, input, out, err, watch,
+                rt, alloc, task, readonly, images, names, input, out, watch, marks,
             )
         }
-        Action::Remove(member) => remove_from_images(alloc, member, images, names, out, err),
+        Action::Remove(member) => remove_from_images(alloc, member, images, names, out, marks),
         Action::Add(device) => join_images(
             rt,
             alloc,
@@ -108,7 +110,7 @@ fn act<I: Images, R: Source, S: Sink, E: Write, W: Watch + Sync, T: Threads + Wa
             names,
             watch,
             out,
-            err,
+            marks,
         ),
         Action::ReAdd(device) => join_images(
             rt,
@@ -119,16 +121,16 @@ fn act<I: Images, R: Source, S: Sink, E: Write, W: Watch + Sync, T: Threads + Wa
             names,
             watch,
             out,
-            err,
+            marks,
         ),
         Action::Rebuild(member) => {
-            rebuild_on_images(rt, alloc, member, images, names, watch, out, err)
+            rebuild_on_images(rt, alloc, member, images, names, watch, out, marks)
         }
     }
 }
 
 // Does a task with an array.
-fn perform_on_array<I: Images, R: Source, S: Sink, E: Write, W: Watch + Sync, T: Threads + Sync>(
+fn perform_on_array<I: Images, R: Source, S: Sink, W: Watch + Sync, T: Threads + Sync>(
     rt: &T,
     alloc: Global,
     task: ArrayTask,
@@ -137,8 +139,8 @@ fn perform_on_array<I: Images, R: Source, S: Sink, E: Write, W: Watch + Sync, T:
     names: &[&str],
     input: &mut R,
     out: &mut S,
-    err: &mut E,
     watch: &W,
+    marks: &mut StoredMarks,
 ) -> Result<(), CommandFault>
     ensures gives { PerformsOnArray I.Dev.Device R.Source S.Sink I.known I.device_at I.changeable I.asked task readonly (map (λ s. s.now) names.now) images.old images.new (streams input.old out.old) (streams input.new out.new) result }
     ensures flushed { IfOk result (λ _. S.is_flushed out.new) }
@@ -146,7 +148,7 @@ fn perform_on_array<I: Images, R: Source, S: Sink, E: Write, W: Watch + Sync, T:
     if readonly {
         return look_at_images(rt, alloc, task, images, names, input, out, watch);
     }
-    perform_on_images(rt, alloc, task, images, names, input, out, err, watch)
+    perform_on_images(rt, alloc, task, images, names, input, out, watch, marks)
 }
 
 // Makes an array. No image is touched before the options are accepted.
@@ -166,11 +168,13 @@ fn create_array<I: Images, S: Sink>(
     }
 }
 
-// The status of a command that was done or refused. A refusal is said on `err`.
+// The status of a command that was done or refused. A refusal is said on `err`, and alone where no advice is
+// asked for; else, or where there is none, so are the images on which marks were stored.
 fn answer<'a, E: Write>(
     outcome: Result<(), CommandFault>,
     action: Action<'a>,
     names: &[&'a str],
+    marks: &StoredMarks,
     messages: Messages,
     err: &mut E,
 ) -> u8
@@ -181,6 +185,9 @@ fn answer<'a, E: Write>(
         if messages == Messages::WithAdvice {
             advise(fault, names, action, err);
         }
+    }
+    if outcome.is_ok() || messages == Messages::WithAdvice {
+        marks.tell(names, err);
     }
     if messages == Messages::WithAdvice {
         tell_lost_content(&outcome, action, err);
