@@ -20,8 +20,8 @@ use std::alloc::Global;
 impl<D: Device + Drop> Mirror<D> {
     /// Takes a device back that left this array, as a member that is recovering in its own former role:
     /// the event count rises, and its superblock is written, with bit 2 of the feature map. Its index is
-    /// that of the last member. The fault is the first in the order of `ReAddFault`, and the device is
-    /// given back with it, unwritten unless the fault is `WriteFault`.
+    /// that of the last member. The fault is the first in the order of `ReAddFault`, but that memory is taken
+    /// before the write. The device is given back with it, unwritten unless the fault is `WriteFault`.
     ///
     /// `missing` then names the marked chunks alone. The device has all others if it is as its failure left
     /// it and some role had no member in sync at each moment since.
