@@ -13,6 +13,14 @@ pub mod PreparedEvent
 pub mod MemberStored
 -- The list of a member that comes into sync is what its log lists, once the log is stored.
 pub mod LogListed
+-- An array in which a member takes a role: what holds of it in memory.
+pub mod RoleTaken
+-- A write of a new superblock failed on a member that is rebuilt, and left the old one or none: that is the model's event.
+pub mod TargetLeft
+-- A spare is admitted by the write of its superblock: that is the model's event.
+pub mod AdmittedEvent
+-- What `admit` answers, by what the calls in it do.
+pub mod AdmitAnswered
 -- An array with a member that came into sync: what holds of it in memory, and of the member's device.
 pub mod EnrolledArray
 -- A member that was rebuilt comes into sync: the mirror stays consistent, and an opening reads what is kept.
@@ -23,6 +31,8 @@ pub mod EnrolUnstored
 pub mod EnrolAnswered
 -- The mirror in the midst of an enrolment: marks and log are stored, and the superblock is not.
 pub mod InBetween
+-- Where a member holds what the members in sync hold, the device of one of them does not list the sector.
+pub mod CopiedContent
 -- A member that comes into sync holds what the members in sync hold, in each sector that it does not list then.
 pub mod HeldContent
 -- A member comes into sync by the write of its superblock: its device and the array's world then.
@@ -32,3 +42,13 @@ pub mod EnrolledEvent
 -- What a stop leaves of a member's device within the writes of an enrolment: its bitmap and its log have changed at most, or all of them are
 -- stored, and the superblock has changed at most.
 pub mod CutBefore
+-- A member has another offset in memory: the mirror stays consistent, and its world has that offset.
+pub mod OffsetMoved
+-- A recovering member records how far it is rebuilt: that is the model's event.
+pub mod CheckpointEvent
+-- What `checkpoint` answers, by what the calls in it do.
+pub mod CheckpointAnswered
+-- A chunk is listed in memory: the mirror stays consistent, and that is the model's event.
+pub mod BadNoted
+-- The log of a member in sync is stored: the mirror stays consistent, and that is the model's event.
+pub mod LogStored

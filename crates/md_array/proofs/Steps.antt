@@ -61,6 +61,8 @@ pub mod SpareLaidOut
 pub mod StoresKeep
 -- A write of a superblock fails: where it left the old superblock, the new one or none, that is the model's event.
 pub mod SuperFailed
+-- A list on a device that grows to no more than the list in memory.
+pub mod ListGrown
 -- A member's superblock that is stored is the model's event, and the mirror stays consistent.
 pub mod SuperRecorded
 -- A device that left comes in again: that is the model's event.

@@ -34,6 +34,8 @@ pub mod ResyncMarked
 -- is full.
 pub mod Risen
 -- A sector is copied from a member in sync to another: no more than that sector of its data changes, and that is the model's
+-- Each member in sync has the marks of memory stored, as the model has it.
+pub mod Noted
 -- event.
 pub mod SectorCopied
 -- What the world shows of a mirror that was opened, member by member.

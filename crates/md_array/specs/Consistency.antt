@@ -20,16 +20,17 @@ pub record HasPlaces (m : MemberView) (block : List ℕ) : Type 0 where
   pub bblog_size : number_at 2 186 block ≡ m.superblock.bblog_size
   pub bblog_offset : cast_signed w32 (number_at 4 188 block) ≡ m.superblock.bblog_offset
 
--- A device has a superblock, with the member's number, its own bit 2 of the feature map, and its places. What its log lists is
--- the same once the superblock that is kept is stored, and it is the bad set that is kept.
+-- A device has a superblock, with the member's number, its own bit 2 of the feature map, and its places. What its log lists is listed
+-- still once the superblock that is kept is stored, and that is in the bad set that is kept: chunks may be listed in memory that are
+-- not stored yet, and a log that is stored may be read only by the next superblock.
 pub record HasSuper (m : MemberView) (d : Disk) : Type 0 where
   pub super : Super
   pub is : super_in (block_on d.content) ≡ Some super
   pub number : super.number ≡ m.superblock.dev_number
   pub recovering : super.recovering ≡ has_recovery_offset m.superblock
   pub places : HasPlaces m (block_on d.content)
-  pub listed : (sector : ℕ) → is_listed m.superblock d.content sector ≡ is_listed_next m.superblock d.content sector
-  pub known : (sector : ℕ) → (is_listed m.superblock d.content sector ≡ true) ↔ IsBad m.bad sector
+  pub listed : (sector : ℕ) → is_listed m.superblock d.content sector ≡ true → is_listed_next m.superblock d.content sector ≡ true
+  pub known : (sector : ℕ) → is_listed_next m.superblock d.content sector ≡ true → IsBad m.bad sector
 
 -- So has that of each member in sync. Of the others none is asked: what they are is kept in memory, and a write to one that is
 -- rebuilt may fail without making it faulty.

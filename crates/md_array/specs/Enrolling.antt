@@ -4,6 +4,7 @@ use Rattle.md_device.specs.Splice.{part}
 use Rattle.md_super.specs.declared.superblock.Superblock.{Superblock}
 use Rattle.md_super.specs.Log.{has_bad_block_log}
 use Rattle.md_super.specs.Merge.{merged}
+use Rattle.md_assembly.specs.States.{is_recovering}
 use Rattle.md_bitmap.specs.declared.header.BitmapHeader.{BitmapHeader}
 use Rattle.md_bitmap.specs.Chunks.{InChunk}
 use Rattle.md_bitmap.specs.Marks.{Bitmap, is_set}
@@ -18,25 +19,24 @@ use Rattle.md_writes.specs.Writes.{DoesWrites, FailsInWrites, Write}
 use Rattle.md_kept_members.specs.Enrolling.{HasRoomFor, log_room}
 use Rattle.md_kept_members.specs.View.{MemberView}
 use Rattle.md_faults.specs.declared.enrol_fault.EnrolFault.{EnrolFault}
-use Rattle.md_faults.specs.declared.enrol_fault.EnrolFault.TheVariants.{Halted, NoRole, EventsFull, LogFull, TargetFault, NoMemory}
-use Rattle.md_state.specs.CopyingData.{Lists}
+use Rattle.md_faults.specs.declared.enrol_fault.EnrolFault.TheVariants.{Halted, EventsFull, LogFull, TargetFault, NoMemory}
 use Rattle.md_state.specs.DiskWrites.{AtDevice}
 use Rattle.md_state.specs.Enrolling.{ComesWith, HasFullLog, MayTakeRole, RefusesRole, enrolled}
 use Rattle.md_state.specs.Headers.{IsHeaderFor}
 use Rattle.md_state.specs.MakingClean.{first_number}
 use Rattle.md_state.specs.Members.{IsInSync, IsMember}
-use Rattle.md_state.specs.Missing.{is_missing, is_rebuilt}
+use Rattle.md_state.specs.Missing.{is_missing}
 use Rattle.md_state.specs.Trying.{Refuses}
 use Rattle.md_state.specs.View.{ArrayView, Disk, MirrorView, of_disks}
 use Rattle.md_array.specs.ReadAsKept.{AreReadAsKept}
 use Rattle.md_array.specs.Recording.{IsReadable, write_of}
-use Rattle.md_array.specs.Worlds.{AreHonest, from_super}
+use Rattle.md_array.specs.Worlds.{AreHonest, from_super, is_listed}
 
 -- ---- its conditions
--- Where the array's content is held: each member in sync holds it in each sector that it does not list.
+-- Where the array's content is held: each member in sync holds it in each sector that its device does not list.
 pub record HasContent (disks : List Disk) (a : ArrayView) (content : Content) : Type 0 where
   pub held : (k : ℕ) (d : Disk) (m : MemberView) → slice_get disks k ≡ Some d → IsInSync a k m
-      → (s : ℕ) → s < a.chunks.size → (Lists m s → ⊥) → part d.content (512 * (m.superblock.data_offset + s)) 512 ≡ content s
+      → (s : ℕ) → s < a.chunks.size → is_listed m.superblock d.content (m.superblock.data_offset + s) ≡ false → part d.content (512 * (m.superblock.data_offset + s)) 512 ≡ content s
 
 -- Of a copy: whatever content the members in sync hold, member k holds it in each copied chunk.
 abbrev pub HoldsCopied : List Disk → ArrayView → ℕ → Bitmap → Type 0
@@ -45,12 +45,12 @@ HoldsCopied disks a k copied =
     → (d : Disk) (m : MemberView) → slice_get disks k ≡ Some d → IsMember a k m
     → (c s : ℕ) → c < copied.chunks → is_set copied.bytes c ≡ true → InChunk a.chunks.sectors a.chunks.size c s → part d.content (512 * (m.superblock.data_offset + s)) 512 ≡ content s
 
--- Nothing is in flight, the array is resynced, and the member may be rebuilt. Of its missing chunks some were copied, and the others
+-- Nothing is in flight, the array is resynced, and the member is recovering. Of its missing chunks some were copied, and the others
 -- are the orphans.
 pub record MayEnrol (k : ℕ) (copied orphans : Bitmap) (v : MirrorView) : Type 0 where
   pub member : MemberView
   pub at : IsMember v.array k member
-  pub rebuilt : is_rebuilt member.state ≡ true
+  pub recovering : is_recovering member.state ≡ true
   pub resynced : v.array.resynced ≡ true
   pub idle : first_number v.array ≡ None
   pub copied_chunks : copied.chunks ≡ v.array.marks.chunks
@@ -126,9 +126,8 @@ pub record FailsToEnrol (k : ℕ) (copied orphans : Bitmap) (old new : MirrorVie
   pub disks : IsUsedAlone k old.disks new.disks (λ d e. FailsInWrites of_disks writes d e × KeepsData member d e)
 
 abbrev pub RefusesEnrol : ℕ → Bitmap → Bitmap → MirrorView → MirrorView → EnrolFault → Type 0
-RefusesEnrol k copied orphans old new Halted = Refuses old new (RefusesRole k old.array Halted)
-RefusesEnrol k copied orphans old new NoRole = Refuses old new (RefusesRole k old.array NoRole)
-RefusesEnrol k copied orphans old new EventsFull = Refuses old new (RefusesRole k old.array EventsFull)
+RefusesEnrol k copied orphans old new Halted = Refuses old new (RefusesRole old.array Halted)
+RefusesEnrol k copied orphans old new EventsFull = Refuses old new (RefusesRole old.array EventsFull)
 RefusesEnrol k copied orphans old new (LogFull j) = Refuses old new ((j ≡ k) × ((role : ℕ) × MayTakeRole k old.array role) × HasFullLog k copied orphans old.array)
 RefusesEnrol k copied orphans old new TargetFault = FailsToEnrol k copied orphans old new
 RefusesEnrol k copied orphans old new NoMemory = Refuses old new ((role : ℕ) × MayTakeRole k old.array role)

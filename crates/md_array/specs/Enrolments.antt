@@ -14,7 +14,7 @@ use Rattle.md_writes.specs.Writes.{Write, after}
 use Rattle.md_array.specs.Enrolling.{Enrols, HasContent, log_writes}
 use Rattle.md_array.specs.Events.{IsChangedAlone, IsSameBesideMarks}
 use Rattle.md_array.specs.Filling.{MayRebuild}
-use Rattle.md_array.specs.Worlds.{lies_in}
+use Rattle.md_array.specs.Worlds.{lists_of}
 
 -- The bitmap and the log of member k are stored, or a write of theirs failed or was cut short. Its superblock and its data are as they
 -- were, and so is all that is kept of it.
@@ -38,10 +38,6 @@ abbrev pub prepared : {k : ℕ} {copied orphans : Bitmap} {old new : MirrorView}
 prepared {k} {copied} {orphans} {old} {new} r = record old { disks = with_writes old.disks k (first_writes r) (slice_get old.disks k) }
 
 -- ---- the event
--- the sectors of the array that a member lists
-abbrev pub lists_of : ArrayView → MemberView → ℕ → Bool
-lists_of a m s = nat_lt s a.chunks.size && lies_in m.bad (m.superblock.data_offset + s)
-
 abbrev pub enrol_event : {k : ℕ} {copied orphans : Bitmap} {old new : MirrorView} → Enrols k copied orphans old new → Event
 enrol_event {k} {copied} {orphans} {old} {new} r = Event.Enrol k r.role (lists_of old.array r.member)
 

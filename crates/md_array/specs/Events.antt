@@ -1,5 +1,5 @@
 -- The steps as events of the model: what each makes of the world, where devices do what they answer.
-use Rattle.std.specs.Prelude.{◌≡◌, ◌≢◌, ◌⊎◌, ⊤, ℕ, ◌+◌, ◌*◌, ◌≤◌, true, List, [], ◌∷◌, ◌++◌, length, slice_get, None, Option, Some, Result, MatchResult}
+use Rattle.std.specs.Prelude.{◌≡◌, ◌≢◌, ◌⊎◌, ⊤, ℕ, ◌+◌, ◌*◌, ◌≤◌, Bool, true, List, [], ◌∷◌, ◌++◌, length, slice_get, None, Option, Some, Result, MatchResult}
 use Rattle.std.specs.List.{remove}
 use Rattle.md_device.specs.Splice.{part}
 use Rattle.md_super.specs.Log.{has_bad_block_log}
@@ -17,7 +17,7 @@ use Rattle.md_faults.specs.declared.step_fault.StoreFault.TheVariants.{MemberFai
 use Rattle.md_faults.specs.declared.step_fault.WriteMemberFault.{WriteMemberFault}
 use Rattle.md_faults.specs.declared.step_fault.WriteMemberFault.TheVariants as write_fault
 use Rattle.md_state.specs.DeviceChanges.{IsLeftAlone, LeavesOn, StaysHonest}
-use Rattle.md_state.specs.View.{ArrayView, Disk, MirrorView, of_disks}
+use Rattle.md_state.specs.View.{ArrayView, Disk, MirrorView, of_disks, geometry_of}
 use Rattle.md_state.specs.Members.{IsMember}
 use Rattle.md_array.specs.Consistency.{IsConsistent}
 use Rattle.md_writes.specs.Writes.{DoesWrites, Write}
@@ -27,7 +27,7 @@ use Rattle.md_state.specs.Requests.{AreInFlight, among, request_of}
 use Rattle.md_array.specs.Lending.{IsBesideMissing}
 use Rattle.md_array.specs.ReadAsKept.{AreReadAsKept, HasWidth}
 use Rattle.md_array.specs.Recording.{super_write}
-use Rattle.md_array.specs.Worlds.{AreHonest, world_of, geometry_of, super_in, block_on, from_super}
+use Rattle.md_array.specs.Worlds.{AreHonest, stored_on, world_of, super_in, block_on, from_super}
 
 -- A device that had this superblock is written once, and stands behind the others then, none of which is used.
 pub record WritesLast (own : Super) (before after : List Disk) : Type 0 where
@@ -108,6 +108,15 @@ WritesOnce (Event.Fill k) before after = (a : ArrayView) × (m : MemberView) × 
 WritesOnce (Event.Prepare k) before after = (a : ArrayView) × (m : MemberView) × IsChangedAlone k (IsSameBesideMarks a m) before after
 WritesOnce (Event.RecordTargetFails k) before after = (w : Write) × IsFailed k w before after
 WritesOnce (Event.Enrol k role listed) before after = (w : Write) × IsDone k w before after
+WritesOnce (Event.Admit k role listed) before after = (w : Write) × IsWritten k w before after
+WritesOnce (Event.Checkpoint k offset listed) before after = (w : Write) × IsWritten k w before after
+WritesOnce (Event.NoteBad k c) before after = after ≡ before
+WritesOnce (Event.StoreLog k listed) before after = (after ≡ before) ⊎ ((w : Write) × IsWritten k w before after)
+WritesOnce (Event.StoreLogFails k) before after = (w : Write) × IsFailed k w before after
+
+-- what device k lists then
+abbrev pub listed_on : MirrorView → ℕ → ℕ → Bool
+listed_on v k = (stored_on v.array (slice_get v.array.members k) (slice_get v.disks k)).listed
 
 -- By the event the mirror goes from its world with these requests in flight to that with those. A content that the members in
 -- sync held before it, they hold after it, changed as the event says; and who was written of a request in flight has its bytes.

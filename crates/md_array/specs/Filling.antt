@@ -1,5 +1,6 @@
 -- A member that is being rebuilt gets data, while its device is lent (this project's own).
 use Rattle.std.specs.Prelude.{◌≡◌, ℕ, true, List}
+use Rattle.md_assembly.specs.States.{is_recovering}
 use Rattle.md_kept_members.specs.View.{MemberView}
 use Rattle.md_model.specs.Events.{Event}
 use Rattle.md_state.specs.MakingClean.{IsIdle}
@@ -8,6 +9,7 @@ use Rattle.md_state.specs.Missing.{is_rebuilt}
 use Rattle.md_state.specs.View.{ArrayView, Disk, MirrorView}
 use Rattle.md_array.specs.Events.{Happens, IsChangedAlone, IsSameBesideMissing}
 use Rattle.md_array.specs.Lending.{AreBack}
+use Rattle.md_array.specs.NotingResynced.{AreNoted}
 
 -- A member may be rebuilt while nothing is in flight.
 pub record MayRebuild (k : ℕ) (a : ArrayView) : Type 0 where
@@ -16,9 +18,12 @@ pub record MayRebuild (k : ℕ) (a : ArrayView) : Type 0 where
   pub at : IsMember a k member
   pub rebuilt : is_rebuilt member.state ≡ true
 
--- Data changed in chunks that member k lacks, in any way, and nothing else did. The other devices may have been read.
+-- Data changed in chunks that member k lacks, in any way, and nothing else did. The other devices may have been read. A recovering member
+-- may lack a chunk by its mark alone: so each member in sync has the marks of memory stored by then, or an opening without the one that has
+-- it would not know.
 pub record Fills (k : ℕ) (old new : MirrorView) : Type 0 where
   pub may : MayRebuild k old.array
+  pub noted : is_recovering may.member.state ≡ true → AreNoted old.array
   pub array : new.array ≡ old.array
   pub disks : IsChangedAlone k (IsSameBesideMissing old.array may.member) old.disks new.disks
 

@@ -21,11 +21,15 @@ use Rattle.md_state.specs.WritingMember.{FailsToWrite, HaltsWritingTo, IsNotDue,
 use Rattle.md_state.specs.Requests.{request_of}
 use Rattle.md_state.specs.CopyingData.{CopiesSector, FailsToCopy, HaltsCopying}
 use Rattle.md_array.specs.Recording.{FailsToRecord, HaltsRecording, Records, super_write}
+use Rattle.md_array.specs.Enrolling.{HasContent}
 use Rattle.md_array.specs.Enrolments.{DidEnrol, IsHeldBy, Prepares}
 use Rattle.md_array.specs.Filling.{Fills}
 use Rattle.md_array.specs.RecordingTarget.{FailsOnTarget}
 use Rattle.md_array.specs.NotingResynced.{BecomesResynced, NotesResynced}
 use Rattle.md_array.specs.Adding.{Adds, add_event}
+use Rattle.md_array.specs.Admitting.{DidAdmit}
+use Rattle.md_array.specs.Checkpoints.{DidCheckpoint}
+use Rattle.md_array.specs.Listing.{FailsToStoreLog, HaltsStoringLog, HasNoShift, NotesChunk, StoresLog}
 use Rattle.md_array.specs.ReAdding.{ReAdds, re_add_event}
 use Rattle.md_array.specs.Events.{Does, IsOldNewOrNone}
 use Rattle.md_array.specs.Worlds.{AreHonest}
@@ -35,12 +39,15 @@ abbrev pub Requests : Type 0
 Requests = ℕ → Option Request
 
 -- What is asked of the devices: where the event is a superblock's write that failed, that it left the old one, the new one or none; where
--- a member comes into sync, that some content is held.
+-- a log is stored, that it has no shift; where a member comes into sync, or a rebuild is recorded so far, that some content is held.
 abbrev pub LeftWhole : MirrorView → Event → MirrorView → Type 0
 LeftWhole old (Event.RecordFails k) new =
     (m : MemberView) → IsMember old.array k m → AtDevice k old.disks new.disks (IsOldNewOrNone (super_write old.array m).bytes)
 LeftWhole old (Event.RecordTargetFails k) new =
     (m : MemberView) → IsMember old.array k m → AtDevice k old.disks new.disks (IsOldNewOrNone (super_write old.array m).bytes)
+LeftWhole old (Event.Checkpoint k offset listed) new = (content : Content) × HasContent old.disks old.array content
+LeftWhole old (Event.StoreLog k listed) new = HasNoShift k old
+LeftWhole old (Event.StoreLogFails k) new = HasNoShift k old
 LeftWhole old (Event.Enrol k role listed) new = (content : Content) × IsHeldBy k listed content old
 LeftWhole old e new = Unit {0}
 
@@ -126,6 +133,11 @@ Did old before (Event.Fill k) new after = (after ≡ before) × Fills k old new
 Did old before (Event.Prepare k) new after = (after ≡ before) × Prepares k old new
 Did old before (Event.RecordTargetFails k) new after = (after ≡ before) × FailsOnTarget k old new
 Did old before (Event.Enrol k role listed) new after = (after ≡ before) × DidEnrol (Event.Enrol k role listed) old new
+Did old before (Event.Admit k role listed) new after = (after ≡ before) × DidAdmit (Event.Admit k role listed) old new
+Did old before (Event.Checkpoint k offset listed) new after = (after ≡ before) × DidCheckpoint (Event.Checkpoint k offset listed) old new
+Did old before (Event.NoteBad k c) new after = (after ≡ before) × NotesChunk k c old new
+Did old before (Event.StoreLog k listed) new after = (after ≡ before) × StoresLog k old new
+Did old before (Event.StoreLogFails k) new after = (after ≡ before) × FailsToStoreLog k old new
 
 -- From this mirror, with these requests in flight, the events were done one after another, the first of them after this one, and
 -- then it holds of where they lead. What each step did is said of any devices. It is an event of the model where they do what they
@@ -157,4 +169,5 @@ HaltsAt old before (Event.RecordFails k) new = HaltsRecording k old new
 HaltsAt old before (Event.StoreMarksFails k b) new = HaltsStoringMarks k b old new
 HaltsAt old before (Event.WriteMemberFails n k) new = (p q : PendingView) × IsUnder n p before × HaltsWritingTo k old new p q
 HaltsAt old before (Event.CopyFails k c) new = HaltsCopying k c old new
+HaltsAt old before (Event.StoreLogFails k) new = HaltsStoringLog k old new
 HaltsAt old before e new = ⊥

@@ -36,6 +36,12 @@ pub mod Lending
 pub mod Filling
 -- The superblock of a member that is rebuilt is stored, whose failure leaves the member as it was (this project's own).
 pub mod RecordingTarget
+-- A spare is admitted: its superblock puts it in a role, where it is recovering.
+pub mod Admitting
+-- A recovering member records how far it is rebuilt.
+pub mod Checkpoints
+-- The list of a member in sync grows in memory, and then its log is stored.
+pub mod Listing
 -- A member that was rebuilt comes into sync: its marks are stored, its log, and last its superblock (this project's own order).
 pub mod Enrolling
 -- An enrolment as events: the member is prepared, and then it comes into sync by one write (this project's own).

@@ -6,7 +6,7 @@ use Rattle.md_kept_members.specs.View.{MemberView}
 use Rattle.md_state.specs.CopyingData.{Lists}
 use Rattle.md_state.specs.MakingClean.{IsIdle}
 use Rattle.md_state.specs.Members.{IsInSync}
-use Rattle.md_state.specs.View.{Disk, MirrorView}
+use Rattle.md_state.specs.View.{ArrayView, Disk, MirrorView}
 
 -- a sector of a member's data
 abbrev pub sector_of : MemberView → Disk → ℕ → List ℕ
@@ -29,6 +29,10 @@ abbrev pub AllAgreeWhereMarked : MirrorView → Type 0
 AllAgreeWhereMarked v =
     (s : ℕ) → s < v.array.chunks.size → is_set v.array.marks.bytes (s / v.array.chunks.sectors) ≡ true → AllAgreeAt v s
 
+-- each member in sync has every mark of memory stored
+abbrev pub AreNoted : ArrayView → Type 0
+AreNoted a = (i c : ℕ) (m : MemberView) → IsInSync a i m → c < a.marks.chunks → is_set a.marks.bytes c ≡ true → is_set m.stored.bytes c ≡ true
+
 -- it is kept that the array is resynced, or that it is not; nothing else changes
 pub record NotesResynced (is : Bool) (old new : MirrorView) : Type 0 where
   pub idle : IsIdle old.array
@@ -38,3 +42,4 @@ pub record NotesResynced (is : Bool) (old new : MirrorView) : Type 0 where
 pub record BecomesResynced (old new : MirrorView) : Type 0 where
   pub marks : NotesResynced true old new
   pub agree : AllAgreeWhereMarked old
+  pub stored : AreNoted old.array

@@ -15,7 +15,7 @@ use Rattle.md_state.specs.DeviceChanges.{IsLeftAlone, StaysHonest}
 use Rattle.md_state.specs.DiskWrites.{IsFailed, IsWritten}
 use Rattle.md_state.specs.Joining.{joined_shared}
 use Rattle.md_state.specs.Members.{IsMember}
-use Rattle.md_state.specs.ReAdding.{MayReAdd, RefusesToTakeBack, TakesBack}
+use Rattle.md_state.specs.ReAdding.{IsOffsetBack, MayReAdd, RefusesToTakeBack, TakesBack}
 use Rattle.md_state.specs.Trying.{Refuses}
 use Rattle.md_state.specs.View.{Disk, MirrorView}
 use Rattle.md_array.specs.Events.{Happens}
@@ -49,7 +49,9 @@ pub record ReAdds (k : ℕ) (device : Disk) (old new : MirrorView) : Type 0 wher
 pub record FailsToRecordLast (device given : Disk) (info : MemberInfo) (old new : MirrorView) : Type 0 where
   pub unchanged : new ≡ old
   pub member : MemberView
-  pub taken : IsTakenBack info member
+  pub offset : ℕ
+  pub offset_is : IsOffsetBack old.array info offset
+  pub taken : IsTakenBack offset info member
   pub failed : IsFailed 0 (write_of (joined_shared old.array member.superblock.dev_number (own_role info.superblock)) member) (device ∷ []) (given ∷ [])
 
 abbrev pub RefusesToRecordLast : Disk → Disk → MemberInfo → MirrorView → MirrorView → ReAddFault → Type 0

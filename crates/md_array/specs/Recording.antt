@@ -17,8 +17,11 @@ use Rattle.md_state.specs.DiskWrites.{IsWritten}
 use Rattle.md_state.specs.Trying.{Refuses, RefusesHalted, FailsWriting, HaltsWriting}
 
 -- the array's fields and the member's own, at sector 8
+abbrev pub own_write : Superblock → Superblock → Write
+own_write shared own = record { sector = 8; bytes = super_bytes (merged shared own) }
+
 abbrev pub write_of : Superblock → MemberView → Write
-write_of shared m = record { sector = 8; bytes = super_bytes (merged shared m.superblock) }
+write_of shared m = own_write shared m.superblock
 
 abbrev pub super_write : ArrayView → MemberView → Write
 super_write a m = write_of a.shared m

@@ -2,7 +2,6 @@
 use Rattle.std.specs.Prelude.{◌≡◌, ℕ, ◌+◌, ◌*◌, Bool, true, false, cond, ◌&&◌, not, ◌==◌, eqb, nat_lt, nat_le, bit_and, ◌^◌, List, [], length, drop, slice_get, slice_index_or, Option, Some, None, ℤ, pos, negsuc, ◌+ℤ◌, option_map, unwrap_or}
 use Rattle.std.specs.List.{list_any}
 use Rattle.std.specs.Str.{bytes_eq}
-use Rattle.md_model.specs.Sectors.{Geometry}
 use Rattle.md_model.specs.States as model
 use Rattle.md_model.specs.Devices.{Super, Stored}
 use Rattle.md_model.specs.Worlds.{Request, World}
@@ -34,7 +33,7 @@ kind_of Faulty = model.State.Faulty
 
 -- what assembly reads of a superblock
 abbrev pub super_of : Superblock → Super
-super_of v = record { number = v.dev_number; events = v.events; role = role_in v; recovering = has_recovery_offset v }
+super_of v = record { number = v.dev_number; events = v.events; role = role_in v; recovering = has_recovery_offset v; offset = v.recovery_offset }
 
 -- it, of the 4096 bytes of one
 abbrev pub super_fields : List ℕ → Super
@@ -44,6 +43,7 @@ super_fields block =
       events = number_at 8 200 block;
       role = λ d. slice_index_or (roles_in (number_at 4 220 block) block) d 0xffff;
       recovering = not (bit_and (number_at 4 8 block) 2 == 0);
+      offset = number_at 8 152 block;
     }
 
 -- the superblock in these bytes, where no fault is found
@@ -124,8 +124,9 @@ abbrev pub stored_on : ArrayView → Option MemberView → Option Disk → Store
 stored_on a (Some m) (Some d) = stored_of a m d.content
 stored_on a _ _ = nothing_stored
 
-abbrev pub geometry_of : ArrayView → Geometry
-geometry_of a = record { raid_disks = a.shared.raid_disks; width = a.chunks.sectors; size = a.chunks.size }
+-- the sectors of the array that a member lists, in memory
+abbrev pub lists_of : ArrayView → MemberView → ℕ → Bool
+lists_of a m s = nat_lt s a.chunks.size && lies_in m.bad (m.superblock.data_offset + s)
 
 -- a fact of member k, where there is one
 abbrev pub at_member : {A : Type 0} → ArrayView → ℕ → A → (MemberView → A) → A
@@ -141,7 +142,8 @@ world_on disks a requests =
       state = λ k. at_member a k model.State.Faulty (λ m. kind_of m.state);
       due = λ k. at_member a k false (λ m. m.due);
       known = λ k c. at_member a k false (λ m. nat_lt c a.marks.chunks && is_set m.stored.bytes c);
-      re_added = λ k. at_member a k false (λ m. m.re_added);
+      bad = λ k s. at_member a k false (λ m. lists_of a m s);
+      offset = λ k. at_member a k 0 (λ m. m.superblock.recovery_offset);
       recovering = λ k. at_member a k false (λ m. has_recovery_offset m.superblock);
       role = role_in a.shared;
       entries = length a.shared.roles;

@@ -1,5 +1,9 @@
 // A member that was rebuilt comes into sync.
-ghost use Rattle.std.specs.Prelude.{◌≡◌, ◌≤◌, ◌≤ℤ◌, ◌+ℤ◌, pos, ℕ, MatchResult, OnOk, true};
+ghost use Rattle.std.specs.Prelude.{◌≡◌, ◌*◌, ◌≤◌, ◌≤ℤ◌, ◌+ℤ◌, pos, ℕ, MatchResult, OnOk, true, false};
+ghost use Rattle.md_badblocks.specs.Runs.{IsCanonical};
+ghost use Rattle.md_device.specs.Splice.{SameOutside};
+ghost use Rattle.md_super.specs.Log.{has_bad_block_log};
+ghost use Rattle.md_array.specs.Worlds.{from_super};
 ghost use Rattle.md_super.specs.Merge.{merged};
 ghost use Rattle.md_members.specs.Reading.{BitmapStartsAt, LogStartsAt};
 ghost use Rattle.md_writes.specs.Writes.{MakesWrites};
@@ -22,7 +26,7 @@ use md_writes::{put, store_bitmap};
 use std::alloc::Global;
 
 impl<D: Device + Drop> Mirror<D> {
-    /// Member k, a spare or recovering, comes into sync: its missing chunks were copied, but for the
+    /// Member k, which is recovering, comes into sync: its missing chunks were copied, but for the
     /// orphans, which it lists as bad from then on. Its marks are stored, sector 0 of the bitmap last, then
     /// its log, and last its superblock, so that no stop leaves one that tells of data which it lacks. The
     /// event count rises, and `record` stores the superblocks of the others later. The fault is the first
@@ -82,12 +86,16 @@ fn store_member<D: Device>(
     store_superblock(device, shared, member)
 }
 
-// Writes a member's list in the log on its device, where its superblock names one.
-fn store_log<D: Device>(device: &mut D, member: &Member) -> Result<(), WriteFault>
+/// Writes a member's list in the log on its device, where its superblock names one.
+pub(crate) fn store_log<D: Device>(device: &mut D, member: &Member) -> Result<(), WriteFault>
     requires { IsStorable member.now (D.content device.old) }
+    ensures canonical { IsCanonical member.now.bad }
     ensures writes { MakesWrites D.Device (log_writes member.now.superblock member.now.bad) device.old device.new result }
+    ensures outside { has_bad_block_log member.now.superblock ≡ true → SameOutside (512 * from_super member.now.superblock.bblog_offset) (512 * member.now.superblock.bblog_size) (D.content device.old) (D.content device.new) }
+    ensures untouched { has_bad_block_log member.now.superblock ≡ false → device.new ≡ device.old }
     ensures data { KeepsData member.now (disk_of D.Device device.old) (disk_of D.Device device.new) }
 {
+    let _runs = member.bad.runs();
     let own = &member.superblock;
     if !own.has_bad_block_log() {
         return Ok(());

@@ -2,7 +2,9 @@
 #![tactic(auto)]
 
 mod adding;
+mod admitting;
 mod beginning;
+mod checkpoints;
 mod clearing_marks;
 mod copying_data;
 mod enrolling;
@@ -13,6 +15,7 @@ mod lending;
 mod making_clean;
 mod mirror;
 mod missing;
+mod noting_bad;
 mod noting_resynced;
 mod opening;
 mod re_adding;
@@ -24,13 +27,14 @@ mod removing;
 mod stored_marks;
 mod stored_sectors;
 mod storing;
+mod storing_log;
 mod storing_marks;
 mod writing_member;
 
 pub use fault::OpenFault;
 pub use md_faults::{
-    AddFault, BeginFault, CleanFault, ClearFault, CopyFault, EnrolFault, FailFault, FinishFault,
-    ReAddFault, RemoveFault, StoreFault, TargetFault, WriteMemberFault,
+    AddFault, AdmitFault, BeginFault, CleanFault, ClearFault, CopyFault, EnrolFault, FailFault,
+    FinishFault, NoteFault, ReAddFault, RemoveFault, StoreFault, TargetFault, WriteMemberFault,
 };
 pub use md_requests::Pending;
 pub use mirror::Mirror;

@@ -4,6 +4,7 @@ ghost use Rattle.std.specs.Int.{bit_at, div_ceil};
 ghost use Rattle.md_kept_members.specs.View.{MemberView};
 ghost use Rattle.md_kept_members.specs.Members.{NeedsMarks};
 ghost use Rattle.md_state.specs.View.{disk_of};
+ghost use Rattle.md_state.specs.Missing.{is_re_added};
 ghost use Rattle.md_state.specs.Members.{IsMember, IsPermitted, is_degraded};
 
 use md_assembly::MemberState;
@@ -50,12 +51,13 @@ impl<D: Device + Drop> Mirror<D> {
         self.array.members[k].state
     }
 
-    /// Whether member k was re-added by this mirror, and is recovering.
+    /// Whether member k is recovering and lacks the marked chunks alone: it was re-added, or is rebuilt up
+    /// to the end.
     pub fn re_added(&self, k: usize) -> bool
         requires { k < length self.now.array.members }
-        ensures { option_map (λ m. m.re_added) (slice_get self.now.array.members k) ≡ Some result }
+        ensures { (m : MemberView) → IsMember self.now.array k m → result ≡ is_re_added self.now.array m }
     {
-        self.array.members[k].re_added
+        self.array.is_re_added(k)
     }
 
     /// Whether `open` stored marks on member k: it is in sync, and the bitmap that was read on it is

@@ -6,18 +6,19 @@ ghost use Rattle.md_state.specs.MakingClean.{IsIdle};
 ghost use Rattle.md_state.specs.Requests.{IsPending};
 ghost use Rattle.md_array.specs.Consistency.{IsConsistent};
 ghost use Rattle.md_array.specs.Events.{Happens};
-ghost use Rattle.md_array.specs.NotingResynced.{AllAgreeWhereMarked, BecomesResynced, NotesResynced};
+ghost use Rattle.md_array.specs.NotingResynced.{AllAgreeWhereMarked, AreNoted, BecomesResynced, NotesResynced};
 
 use crate::mirror::Mirror;
 use md_device::Device;
 
 impl<D: Device + Drop> Mirror<D> {
     /// Notes that the array is resynced: members in sync agree in the marked chunks, and in the others
-    /// they always do. It uses no device, and takes no memory.
+    /// they always do. Each of them has the marks stored. It uses no device, and takes no memory.
     pub fn note_resynced(&mut self)
         requires sound { IsConsistent self.old }
         requires idle { IsIdle self.old.array }
         requires agree { AllAgreeWhereMarked self.old }
+        requires stored { AreNoted self.old.array }
         ensures gives { BecomesResynced self.old self.new }
         ensures event { Happens self.old Event.Resynced self.new }
         ensures sound { IsConsistent self.new }

@@ -64,6 +64,7 @@ impl<D: Device + Drop> Mirror<D> {
         let number = info.superblock.dev_number;
         let role = info.superblock.role_of(number);
         let full = !self.array.is_degraded();
+        let offset = self.array.offset_back(&info);
         let Ok(shared) = self.array.shared_with(alloc, number, role) else {
             return Err((device, ReAddFault::NoMemory));
         };
@@ -73,7 +74,7 @@ impl<D: Device + Drop> Mirror<D> {
         if self.devices.reserve(1).is_err() {
             return Err((device, ReAddFault::NoMemory));
         }
-        let member = taken_back(info);
+        let member = taken_back(info, offset);
         let mut device = device;
         if store_superblock(&mut device, &shared, &member).is_err() {
             return Err((device, ReAddFault::WriteFault));

@@ -8,7 +8,7 @@ ghost use Rattle.md_requests.specs.Pending.{PendingView};
 ghost use Rattle.md_state.specs.Requests.{IsPending};
 ghost use Rattle.md_array.specs.Consistency.{IsConsistent};
 ghost use Rattle.md_array.specs.Events.{RecordHappens};
-ghost use Rattle.md_array.specs.Recording.{IsReadable, Records, RefusesRecord, write_of};
+ghost use Rattle.md_array.specs.Recording.{IsReadable, Records, RefusesRecord, own_write, write_of};
 
 use crate::mirror::Mirror;
 use md_device::{Device, WriteFault};
@@ -53,7 +53,21 @@ pub(crate) fn store_superblock<D: Device>(
     ensures outside { SameOutside (512 * 8) (length (write_of shared.now member.now).bytes) (D.content device.old) (D.content device.new) }
     ensures readable { IsReadable (merged shared.now member.now.superblock) }
 {
+    store_fields(device, shared, &member.superblock)
+}
+
+/// So with these fields as the member's own.
+pub(crate) fn store_fields<D: Device>(
+    device: &mut D,
+    shared: &Superblock,
+    own: &Superblock,
+) -> Result<(), WriteFault>
+    requires { 16 ≤ sectors_of (D.content device.old) }
+    ensures writes { MakesWrites D.Device (own_write shared.now own.now ∷ []) device.old device.new result }
+    ensures outside { SameOutside (512 * 8) (length (own_write shared.now own.now).bytes) (D.content device.old) (D.content device.new) }
+    ensures readable { IsReadable (merged shared.now own.now) }
+{
     let mut block = [0; 4096];
-    encode_member(shared, &member.superblock, &mut block);
+    encode_member(shared, own, &mut block);
     put(device, SUPER_SECTOR, &block)
 }

@@ -67,6 +67,13 @@ is_active (Stale role) = false
 is_active Spare = false
 is_active Faulty = false
 
+abbrev pub is_recovering : MemberState → Bool
+is_recovering (InSync role) = false
+is_recovering (Recovering role) = true
+is_recovering (Stale role) = false
+is_recovering Spare = false
+is_recovering Faulty = false
+
 abbrev pub is_spare : MemberState → Bool
 is_spare (InSync role) = false
 is_spare (Recovering role) = false

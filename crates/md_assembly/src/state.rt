@@ -1,6 +1,6 @@
 // The state of a member.
 ghost use Rattle.std.specs.Prelude.{◌≡◌};
-ghost use Rattle.md_assembly.specs.States.{has_recovery_offset, is_active, is_in_sync, is_in_sync_as, is_recorded, is_spare, is_up_to_date, role_in, role_of, state_of, takes_role};
+ghost use Rattle.md_assembly.specs.States.{has_recovery_offset, is_active, is_in_sync, is_in_sync_as, is_recorded, is_recovering, is_spare, is_up_to_date, role_in, role_of, state_of, takes_role};
 
 use md_super::{FAULTY, FEATURE_RECOVERY_OFFSET, Superblock};
 
@@ -74,6 +74,13 @@ impl MemberState {
             MemberState::InSync(_) | MemberState::Recovering(_) | MemberState::Spare => true,
             MemberState::Stale(_) | MemberState::Faulty => false,
         }
+    }
+
+    /// Whether the member is being rebuilt.
+    pub fn is_recovering(self) -> bool
+        ensures { result ≡ is_recovering self }
+    {
+        matches!(self, MemberState::Recovering(_))
     }
 
     /// Whether the member is a spare.

@@ -30,7 +30,6 @@ use Rattle.md_copy.specs.Filling.{FillsPass, Fills, IsCopiedSlot, IsFilling}
 use Rattle.md_copy.specs.Preparing.{IsPrepared, is_in}
 use Rattle.md_copy.specs.RebuildSources.{IsPlanOf}
 use Rattle.md_copy.specs.Targets.{HasFreeRole, IsTarget, MayBeRebuilt}
-use Rattle.md_copy.proofs.LentBack.{missing_same}
 use Rattle.md_copy.proofs.PlanChunks.{IsLacking, orphan_unserved, planned_given, planned_or_orphan}
 
 -- ---- who is a target
@@ -171,11 +170,11 @@ module _ (target : ℕ) (before after : Pass) (v w : MirrorView) (sound : IsCons
   lacking : (c : ℕ) → c < a.marks.chunks → state.is_missing a p.member c ≡ true → IsLacking a p.member c
   lacking c low missing = record {
     low = (let count = sound.chunks.count in omega (arith, low, count));
-    missing = sym (missing_same a p.member c rebuilt) ∙ missing;
+    missing = missing;
   }
 
   missing_of : (c : ℕ) → IsLacking a p.member c → state.is_missing a p.member c ≡ true
-  missing_of c lacks = missing_same a p.member c rebuilt ∙ lacks.missing
+  missing_of c lacks = lacks.missing
 
   pub may_enrol : a.resynced ≡ true → first_number a ≡ None → MayEnrol target after.copied after.orphans w
   may_enrol resynced idle = record {

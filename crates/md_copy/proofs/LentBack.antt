@@ -42,13 +42,6 @@ rebuilt_out (Stale role) is = absurd cc
 rebuilt_out Spare is = refl
 rebuilt_out Faulty is = absurd cc
 
-either_way : (re_added in_sync marked : Bool) → in_sync ≡ false → cond re_added marked (not in_sync) ≡ (not re_added || marked)
-either_way true in_sync marked out = refl
-either_way false in_sync marked out = ap not out
-
-pub missing_same : (a : ArrayView) (m : MemberView) (c : ℕ) → is_rebuilt m.state ≡ true → state.is_missing a m c ≡ is_missing a m c
-missing_same a m c is = either_way m.re_added (is_in_sync m.state) (is_set a.marks.bytes c) (rebuilt_out m.state is)
-
 -- a chunk of a plan is one that the member lacks
 pub planned_missing : (v : MirrorView) (sound : IsConsistent v) (member : MemberView) (rebuilt : is_rebuilt member.state ≡ true) (plan : Plan) (is_plan : IsPlanOf v.array member plan)
     → (c : ℕ) → has_chunk plan.slots c ≡ true → (c < v.array.marks.chunks) × (state.is_missing v.array member c ≡ true)
@@ -56,7 +49,7 @@ planned_missing v sound member rebuilt plan is_plan c planned =
     let given = planned_given v.array member plan is_plan c planned in
     let under = given.lacks.low in
     let count = sound.chunks.count in
-    (omega (arith, under, count), missing_same v.array member c rebuilt ∙ given.lacks.missing)
+    (omega (arith, under, count), given.lacks.missing)
 
 -- ---- one device
 comes_target : (a : ArrayView) (m : MemberView) (slots : List Slot) (d e : Disk) → is_rebuilt m.state ≡ true

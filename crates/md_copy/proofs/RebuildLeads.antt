@@ -59,6 +59,11 @@ storing_before target e of = absurd of
 
 pub before_of : (target : ℕ) (e : Event) → IsBeforeEnrol target e → IsOfRebuild target e
 before_of target (Event.Enrol k role listed) of = absurd of
+before_of target (Event.Admit k role listed) of = absurd of
+before_of target (Event.Checkpoint k offset listed) of = absurd of
+before_of target (Event.NoteBad k c) of = absurd of
+before_of target (Event.StoreLog k listed) of = absurd of
+before_of target (Event.StoreLogFails k) of = absurd of
 before_of target e of = of
 
 storing_of : (target : ℕ) (e : Event) → IsStoring e → IsOfRebuild target e

@@ -30,7 +30,7 @@ use Rattle.md_copy.specs.Preparing.{is_in}
 use Rattle.md_copy.specs.Rebuilding.{RebuildsBy}
 use Rattle.md_copy.specs.RebuildSources.{IsPlanOf, Serves}
 use Rattle.md_copy.specs.Rebuilt.{IsBesideCopied, IsRebuilt, IsRebuiltInSync, IsServed}
-use Rattle.md_copy.proofs.LentBack.{missing_same, rebuilt_out}
+use Rattle.md_copy.proofs.LentBack.{rebuilt_out}
 use Rattle.md_copy.proofs.PlanChunks.{IsLacking, orphan_unserved, planned_or_orphan}
 
 -- ---- who serves a chunk does it in a role
@@ -149,7 +149,7 @@ module _ (target : ℕ) (planned : Planned) (copied orphans : Bitmap) (old new :
   lacking : (c : ℕ) → c < a.marks.chunks → state.is_missing a m c ≡ true → IsLacking a m c
   lacking c low missing = record {
     low = (let count = sound.chunks.count in omega (arith, low, count));
-    missing = sym (missing_same a m c rebuilt) ∙ missing;
+    missing = missing;
   }
 
   orphan_same : (c : ℕ) → is_set orphans.bytes c ≡ is_in (orphans_of plan_of.rows) c

@@ -367,6 +367,11 @@ module _ (mid next : MirrorView) (before between : Requests) (previous : Option 
   keeps_event (Event.Prepare k) of order did = absurd of
   keeps_event (Event.RecordTargetFails k) of order did = absurd of
   keeps_event (Event.Enrol k role listed) of order did = absurd of
+  keeps_event (Event.Admit k role listed) of order did = absurd of
+  keeps_event (Event.Checkpoint k offset listed) of order did = absurd of
+  keeps_event (Event.NoteBad k c) of order did = absurd of
+  keeps_event (Event.StoreLog k listed) of order did = absurd of
+  keeps_event (Event.StoreLogFails k) of order did = absurd of
 
 -- ---- events, one after another
 keeps_events : (es : List Event) (previous : Option Event) (old new : MirrorView) (before after : Requests) → AllOf IsStoring es → Leads previous old before es new after → KeepsAll old new

@@ -1,5 +1,5 @@
 -- What a member lacks, and where it may be read.
-use Rattle.std.specs.Prelude.{◌≡◌, ◌↔◌, ℕ, ◌<◌, ◌||◌, Bool, true, not, List, filter, All}
+use Rattle.std.specs.Prelude.{◌≡◌, ◌↔◌, ℕ, ◌<◌, true, List, filter, All}
 use Rattle.std.specs.Int.{bit_at, div_ceil}
 use Rattle.std.specs.List.{range_with_len}
 use Rattle.md_bitmap.specs.Marks.{Bitmap, is_set}
@@ -8,11 +8,8 @@ use Rattle.md_cert.specs.Tables.{chunks_of}
 use Rattle.md_kept_members.specs.View.{MemberView}
 use Rattle.md_assembly.specs.States.{is_in_sync_as}
 use Rattle.md_state.specs.Members.{IsMember, IsPermitted}
+pub use Rattle.md_state.specs.Missing.{is_missing}
 use Rattle.md_state.specs.View.{ArrayView}
-
--- a member that is not in sync lacks each chunk; one that this mirror re-added lacks the marked ones
-abbrev pub is_missing : ArrayView → MemberView → ℕ → Bool
-is_missing a m chunk = not m.re_added || is_set a.marks.bytes chunk
 
 abbrev pub missing_chunks : ArrayView → MemberView → List ℕ
 missing_chunks a m = filter (is_missing a m) (range_with_len 0 (div_ceil a.chunks.size a.chunks.sectors))

@@ -37,7 +37,6 @@ pub(crate) fn enrol_filled<D: Device + Drop>(
         Err(EnrolFault::TargetFault) => Err(RebuildFault::TargetFault),
         // The mirror runs, the target can be given a role, and the count can rise.
         Err(EnrolFault::Halted) => unreachable!(),
-        Err(EnrolFault::NoRole) => unreachable!(),
         Err(EnrolFault::EventsFull) => unreachable!(),
     }
 }

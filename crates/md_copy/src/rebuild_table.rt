@@ -60,7 +60,7 @@ fn lacks<D: Device + Drop>(mirror: &Mirror<D>, k: usize, chunk: u32) -> bool
     ensures { (m : MemberView) → IsMember mirror.now.array k m
         → result ≡ is_missing mirror.now.array m chunk }
 {
-    !mirror.re_added(k) || mirror.marks().is_marked(chunk)
+    mirror.is_missing(k, chunk)
 }
 
 // The roles in which the chunk may be read. Where no member in sync lists a sector of it, these are the

@@ -9,9 +9,6 @@ pub enum EnrolFault {
     /// The mirror is halted.
     #[error("Halted")]
     Halted,
-    /// It is a spare, and each role is taken, or a superblock has no room for its number.
-    #[error("NoRole")]
-    NoRole,
     /// The event count has to rise and can't.
     #[error("EventsFull")]
     EventsFull,

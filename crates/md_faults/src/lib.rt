@@ -2,14 +2,18 @@
 #![tactic(auto)]
 
 mod add_fault;
+mod admit_fault;
 mod copy_fault;
 mod enrol_fault;
+mod note_fault;
 mod re_add_fault;
 mod step_fault;
 
 pub use add_fault::AddFault;
+pub use admit_fault::AdmitFault;
 pub use copy_fault::CopyFault;
 pub use enrol_fault::{EnrolFault, TargetFault};
+pub use note_fault::NoteFault;
 pub use re_add_fault::ReAddFault;
 pub use step_fault::{
     BeginFault, CleanFault, ClearFault, FailFault, FinishFault, RemoveFault, StoreFault,

@@ -55,6 +55,11 @@ pub record IsListAfter (chunks : Chunks) (m : MemberView) (copied orphans : Bitm
   pub bad : (sector : ℕ) → IsBad list sector
       ↔ ((IsBad m.bad sector × (IsOf chunks m.superblock.data_offset copied sector → ⊥)) ⊎ (IsOf chunks m.superblock.data_offset orphans sector × (sector < 2 ^ 54)))
 
+-- The list of a member with the sectors of a chunk. Again no other is such.
+pub record IsListWith (chunks : Chunks) (chunk : ℕ) (m : MemberView) (list : List Run) : Type 0 where
+  pub canonical : IsCanonical list
+  pub bad : (sector : ℕ) → IsBad list sector ↔ (IsBad m.bad sector ⊎ (IsOfChunk chunks m.superblock.data_offset chunk sector × (sector < 2 ^ 54)))
+
 -- how many entries its log has room for: 64 a sector, and none where there is no log
 abbrev pub log_room : Superblock → ℕ
 log_room v = cond (has_bad_block_log v) (64 * v.bblog_size) 0
@@ -83,6 +88,20 @@ in_sync_superblock list v = record v {
   };
 }
 
+-- The superblock of a member in sync beside which its log is stored: bit 8 of the feature map tells of it, and the log has no shift.
+abbrev pub logged_superblock : List Run → Superblock → Superblock
+logged_superblock list v = record v {
+  feature_map = with_list list v.feature_map;
+  bblog_shift = 0;
+  in_profile = record {
+    features = with_list-supported list v.feature_map v.in_profile.features;
+    level_is = v.in_profile.level_is;
+    some_disks = v.in_profile.some_disks;
+    few_disks = v.in_profile.few_disks;
+    super_offset_is = v.in_profile.super_offset_is;
+  };
+}
+
 -- ---- what is kept of it
 -- a bitmap has the same marks as another, and none past the last chunk
 pub record HasMarksOf (marks stored : Bitmap) : Type 0 where
@@ -98,4 +117,3 @@ pub record ComesIntoSync (role : ℕ) (list : List Run) (marks : Bitmap) (m n : 
   pub bad : n.bad ≡ list
   pub state : n.state ≡ InSync role
   pub due : n.due ≡ false
-  pub re_added : n.re_added ≡ false

@@ -34,10 +34,10 @@ pub record IsChunkingOf (info : MemberInfo) (chunks : Chunks) : Type 0 where
   pub count : div_ceil chunks.size chunks.sectors ≡ chunk_count info.superblock.size header.chunksize
 
 -- what is kept of each member
-pub record AreKept (events : ℕ) (infos : List MemberInfo) (states : List MemberState) (members : List MemberView) : Type 0 where
+pub record AreKept (events cleared : ℕ) (infos : List MemberInfo) (states : List MemberState) (members : List MemberView) : Type 0 where
   pub as_many : length members ≡ length infos
   pub each : (k : ℕ) (info : MemberInfo) (state : MemberState) (m : MemberView) → slice_get infos k ≡ Some info
-      → slice_get states k ≡ Some state → slice_get members k ≡ Some m → IsKept events info state m
+      → slice_get states k ≡ Some state → slice_get members k ≡ Some m → IsKept events cleared info state m
 
 -- the marks of each are of so many chunks
 abbrev pub HaveChunks : List MemberView → ℕ → Type 0

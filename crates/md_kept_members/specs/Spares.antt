@@ -9,7 +9,7 @@ use Rattle.md_kept_members.specs.View.{MemberView}
 
 -- It was laid out with these, so that its superblock is not due. It lists nothing.
 abbrev pub kept_spare : Superblock → BitmapHeader → Bitmap → MemberView
-kept_spare v h marks = record { superblock = v; header = h; stored = marks; bad = []; state = Spare; due = false; re_added = false }
+kept_spare v h marks = record { superblock = v; header = h; stored = marks; bad = []; state = Spare; due = false }
 
 abbrev pub superblocks : List MemberView → List Superblock
 superblocks members = map (λ m. m.superblock) members

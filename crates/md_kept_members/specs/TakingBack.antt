@@ -1,5 +1,5 @@
 -- What is kept in memory of a device that left, and is taken back.
-use Rattle.std.specs.Prelude.{◌≡◌, ℕ, true, false, bit_or, Some, refl}
+use Rattle.std.specs.Prelude.{◌≡◌, ℕ, false, bit_or, Some, refl}
 use Rattle.std.proofs.Common.{◌∙◌}
 use Rattle.std.proofs.lemmas.Nat.{and_or_apart}
 use Rattle.md_super.specs.declared.superblock.Superblock.{Superblock}
@@ -13,11 +13,11 @@ use Rattle.md_kept_members.specs.OwnFields.{kept_superblock}
 pub recovering-supported : (feature_map : ℕ) → unsupported_features feature_map ≡ 0 → unsupported_features (bit_or feature_map 2) ≡ 0
 recovering-supported feature_map none = and_or_apart 0xffff_fff4 feature_map 2 refl ∙ none
 
--- the superblock of a member that is rebuilt, nothing of which is known to be done (RECOVERY_OFFSET of md_p.h)
-abbrev pub recovering : Superblock → Superblock
-recovering v = record v {
+-- the superblock of a member that is rebuilt, which is known to be done up to this sector of the array (RECOVERY_OFFSET of md_p.h)
+abbrev pub recovering : ℕ → Superblock → Superblock
+recovering offset v = record v {
   feature_map = bit_or v.feature_map 2;
-  recovery_offset = 0;
+  recovery_offset = offset;
   in_profile = record {
     features = recovering-supported v.feature_map v.in_profile.features;
     level_is = v.in_profile.level_is;
@@ -33,11 +33,19 @@ own_role v = role_in v v.dev_number
 
 -- What is kept of it: its bitmap and its log as they were read, and of its superblock what is written next. That is what is done
 -- first, so that its superblock is not due.
-pub record IsTakenBack (info : MemberInfo) (m : MemberView) : Type 0 where
-  pub superblock : m.superblock ≡ recovering (kept_superblock info)
+pub record IsTakenBack (offset : ℕ) (info : MemberInfo) (m : MemberView) : Type 0 where
+  pub superblock : m.superblock ≡ recovering offset (kept_superblock info)
   pub header : info.header ≡ Some m.header
   pub stored : info.marks ≡ Some m.stored
   pub bad : m.bad ≡ info.bad
   pub state : m.state ≡ Recovering (own_role info.superblock)
   pub due : m.due ≡ false
-  pub re_added : m.re_added ≡ true
+
+-- ---- a spare that is admitted, and how far it is rebuilt
+-- It is recovering in a role from now on, and nothing of it is done. Its superblock is written first, so that it is not due.
+abbrev pub admitted_member : ℕ → MemberView → MemberView
+admitted_member role m = record m { superblock = recovering 0 m.superblock; state = Recovering role; due = false }
+
+-- It is rebuilt up to this sector, and its superblock says so, with bit 2 as it is kept.
+abbrev pub with_offset : ℕ → MemberView → MemberView
+with_offset offset m = record m { superblock = record m.superblock { recovery_offset = offset } }

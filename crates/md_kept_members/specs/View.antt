@@ -7,10 +7,9 @@ use Rattle.md_badblocks.specs.declared.run.Run.{Run}
 use Rattle.md_assembly.specs.declared.state.MemberState.{MemberState}
 
 pub record MemberView : Type 0 where
-  pub superblock : Superblock  -- its own fields, as they are stored next; those of the array are shared
+  pub superblock : Superblock  -- its own fields, recovery_offset among them, as they are stored next; those of the array are shared
   pub header : BitmapHeader  -- of its bitmap, as it was read
   pub stored : Bitmap  -- the marks on its device, as far as the mirror knows
   pub bad : List Run
   pub state : MemberState
   pub due : Bool  -- its superblock has to be stored
-  pub re_added : Bool  -- this mirror re-added it, and it is recovering

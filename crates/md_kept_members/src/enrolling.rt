@@ -28,7 +28,6 @@ pub fn in_sync(
         bad: list,
         state: MemberState::InSync(role),
         due: false,
-        re_added: false,
     })
 }
 

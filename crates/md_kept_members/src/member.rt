@@ -20,8 +20,6 @@ pub struct Member {
     pub state: MemberState,
     /// Its superblock has to be stored.
     pub due: bool,
-    /// This mirror took it back, and it is recovering.
-    pub re_added: bool,
 }
 
 impl Model for Member {
@@ -36,6 +34,5 @@ impl Model for Member {
       bad = m.bad;
       state = m.state;
       due = m.due;
-      re_added = m.re_added;
     } };
 }

@@ -44,8 +44,8 @@ fn role_in_sync(state: MemberState) -> u32
     1 << u32::from(role)
 }
 
-// Whether a sector of the chunk is listed as bad. No list has sectors from 2^54 on.
-fn lists_any(member: &Member, chunks: Chunks, chunk: u32) -> bool
+/// Whether a sector of the chunk is listed as bad. No list has sectors from 2^54 on.
+pub fn lists_any(member: &Member, chunks: Chunks, chunk: u32) -> bool
     requires { chunk < div_ceil chunks.size chunks.sectors }
     ensures { (result ≡ true) ↔ ListsAny chunks chunk member.now }
 {

@@ -21,7 +21,7 @@ pub fn chunking_of(info: &MemberInfo) -> Chunks
     Chunks::new(info.superblock.size, chunksize)
 }
 
-/// What is kept of the members of an array at these events.
+/// What is kept of the members of an array at these events. Every offset counts yet: no superblock is older than 0 events.
 pub fn members_of(
     alloc: Global,
     infos: Vec<MemberInfo>,
@@ -30,7 +30,7 @@ pub fn members_of(
 ) -> Result<Vec<Member>, AllocError>
     requires whole { AreWhole infos.items }
     requires as_many { length states.now ≡ length infos.items }
-    ensures { IfOk result (λ members. AreKept events infos.items states.now members.items) }
+    ensures { IfOk result (λ members. AreKept events 0 infos.items states.now members.items) }
 {
     let mut members = Vec::new(alloc);
     for info in infos {
@@ -48,7 +48,7 @@ fn member_of(
     events: u64,
 ) -> Result<Member, AllocError>
     requires { IsWhole info }
-    ensures { IfOk result (λ m. IsKept events info state m) }
+    ensures { IfOk result (λ m. IsKept events 0 info state m) }
 {
     let MemberInfo {
         superblock,
@@ -65,7 +65,6 @@ fn member_of(
         bad,
         state,
         due,
-        re_added: false,
     };
     if !needs_marks(&member) {
         return Ok(member);

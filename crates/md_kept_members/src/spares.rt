@@ -25,6 +25,5 @@ pub fn kept_spare(
         bad: BadSet::new(alloc),
         state: MemberState::Spare,
         due: false,
-        re_added: false,
     }
 }

@@ -10,9 +10,10 @@ use md_members::MemberInfo;
 use md_super::{FEATURE_RECOVERY_OFFSET, Superblock};
 
 /// What is kept of a device that was read, and is taken back in the role that its own superblock gives it.
-pub fn taken_back(info: MemberInfo) -> Member
+/// Its superblock is to have this offset.
+pub fn taken_back(info: MemberInfo, offset: u64) -> Member
     requires { IsWhole info }
-    ensures { IsTakenBack info result }
+    ensures { IsTakenBack offset info result }
 {
     let MemberInfo {
         superblock,
@@ -23,22 +24,21 @@ pub fn taken_back(info: MemberInfo) -> Member
     } = info;
     let role = superblock.role_of(superblock.dev_number);
     Member {
-        superblock: recovering(stored_next(superblock, &bad)),
+        superblock: recovering(stored_next(superblock, &bad), offset),
         header: header.unwrap(),
         stored: marks.unwrap(),
         bad,
         state: MemberState::Recovering(role),
         due: false,
-        re_added: true,
     }
 }
 
-// The superblock of a member that is rebuilt, nothing of which is known to be done.
-fn recovering(v: Superblock) -> Superblock
-    ensures { result ≡ recovering v }
+// The superblock of a member that is rebuilt, which is known to be done up to this sector of the array.
+pub(crate) fn recovering(v: Superblock, offset: u64) -> Superblock
+    ensures { result ≡ recovering offset v }
 {
     let mut next = v;
     next.feature_map |= FEATURE_RECOVERY_OFFSET;
-    next.recovery_offset = 0;
+    next.recovery_offset = offset;
     next
 }

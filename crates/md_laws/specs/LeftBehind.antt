@@ -7,8 +7,8 @@ use Rattle.md_model.specs.Events.{Event}
 use Rattle.md_model.specs.Worlds.{Request}
 use Rattle.md_kept_members.specs.View.{MemberView}
 use Rattle.md_state.specs.Members.{IsInSync, is_degraded}
-use Rattle.md_state.specs.View.{Disk, MirrorView}
-use Rattle.md_array.specs.Worlds.{geometry_of, none_in_flight, world_of}
+use Rattle.md_state.specs.View.{Disk, MirrorView, geometry_of}
+use Rattle.md_array.specs.Worlds.{none_in_flight, world_of}
 use Rattle.md_laws.specs.Lives.{IsReopened, MirrorLifeWith}
 use Rattle.md_laws.specs.Runs.{HasRested, IsStart, Moment, RestsThenDoes, opened_as, then_as}
 

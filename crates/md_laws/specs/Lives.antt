@@ -12,11 +12,11 @@ use Rattle.md_model.specs.Content.{Content, BecomesAtOpening, Holds}
 use Rattle.md_model.specs.Runs.{History}
 use Rattle.md_model.specs.Stops.{IsFit}
 use Rattle.md_kept_members.specs.View.{MemberView}
-use Rattle.md_state.specs.View.{ArrayView, Disk, MirrorView}
+use Rattle.md_state.specs.View.{ArrayView, Disk, MirrorView, geometry_of}
 use Rattle.md_state.specs.Members.{IsInSync, IsMember}
 use Rattle.md_array.specs.Opening.{IsArrayOf, IsOpenedFrom}
 use Rattle.md_array.specs.ReadAsKept.{AreReadAsKept, IsSuperOn, chunk_size_on}
-use Rattle.md_array.specs.Worlds.{AreHonest, from_super, geometry_of, none_in_flight, stored_of, super_of, world_of}
+use Rattle.md_array.specs.Worlds.{AreHonest, from_super, none_in_flight, stored_of, super_of, world_of}
 use Rattle.md_laws.specs.HalfOpened.{IsHalfOpened}
 use Rattle.md_laws.specs.Left.{IsLeft}
 use Rattle.md_laws.specs.Runs.{IsStart, MirrorRun, MirrorRunTells, MirrorRunWith, Moment, history_of, opened_as}

@@ -20,11 +20,14 @@ ReadInTurn previous old before (e ∷ es) Then =
 abbrev pub LeadsReading : Option Event → MirrorView → Requests → List Event → MirrorView → Requests → Type 0
 LeadsReading previous old before es new after = ReadInTurn previous old before es (λ m r. (m ≡ new) × (r ≡ after))
 
--- no write of a superblock that failed, and no enrolment: of these something is asked
+-- none of which something is asked: no write of a superblock that failed, no enrolment, no checkpoint, and no log that is stored
 abbrev pub IsNoFailedRecord : Event → Type 0
 IsNoFailedRecord (Event.RecordFails k) = ⊥
 IsNoFailedRecord (Event.RecordTargetFails k) = ⊥
 IsNoFailedRecord (Event.Enrol k role listed) = ⊥
+IsNoFailedRecord (Event.Checkpoint k offset listed) = ⊥
+IsNoFailedRecord (Event.StoreLog k listed) = ⊥
+IsNoFailedRecord (Event.StoreLogFails k) = ⊥
 IsNoFailedRecord e = Unit {0}
 
 -- From any moment of a mirror such a call is a run, and ends where the call says.

@@ -5,9 +5,9 @@ use Rattle.md_model.specs.Devices.{Stored}
 use Rattle.md_model.specs.Events.{Event}
 use Rattle.md_model.specs.Returns.{KeepsMembers, WasAway}
 use Rattle.md_model.specs.Stops.{IsFit, WasTried}
-use Rattle.md_state.specs.View.{ArrayView, Disk, MirrorView}
+use Rattle.md_state.specs.View.{ArrayView, Disk, MirrorView, geometry_of}
 use Rattle.md_array.specs.Opening.{IsOpenedFrom}
-use Rattle.md_array.specs.Worlds.{geometry_of, none_in_flight, nothing_stored, super_of, world_of, world_on}
+use Rattle.md_array.specs.Worlds.{none_in_flight, nothing_stored, super_of, world_of, world_on}
 use Rattle.md_laws.specs.Left.{contents_of}
 use Rattle.md_laws.specs.Lives.{AreFoundAgain}
 use Rattle.md_laws.specs.Runs.{IsStart, MirrorRun, Moment, history_of, opened_as}

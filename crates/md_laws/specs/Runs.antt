@@ -7,11 +7,11 @@ use Rattle.md_model.specs.Content.{Content, Becomes, Holds, Tells}
 use Rattle.md_model.specs.Events.{Event}
 use Rattle.md_model.specs.Runs.{History, away_after, failed_after, tried_after}
 use Rattle.md_state.specs.Rising.{has_number}
-use Rattle.md_state.specs.View.{Disk, MirrorView}
+use Rattle.md_state.specs.View.{Disk, MirrorView, geometry_of}
 use Rattle.md_state.specs.Rests.{Rests}
 use Rattle.md_array.specs.Opening.{IsOpenedFrom}
 use Rattle.md_array.specs.Events.{Does}
-use Rattle.md_array.specs.Worlds.{AreHonest, geometry_of, none_in_flight, world_of, world_on}
+use Rattle.md_array.specs.Worlds.{AreHonest, none_in_flight, world_of, world_on}
 
 -- a mirror with the requests in flight, and what of its past the laws speak of
 pub record Moment : Type 0 where

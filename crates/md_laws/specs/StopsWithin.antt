@@ -207,6 +207,12 @@ IsLeftBy (Event.Fill k) before after once left = IsLeftBut k (IsSameBesideMissin
 IsLeftBy (Event.Prepare k) before after once left = IsLeftBut k (IsSameBesideMarks once.0 once.1) before left
 IsLeftBy (Event.RecordTargetFails k) before after once left = (w : Write) × IsFailed k w before after × IsLeftBut k (IsAnyIn w) before left
 IsLeftBy (Event.Enrol k role listed) before after w left = Unit {0}
+IsLeftBy (Event.Admit k role listed) before after once left = (w : Write) × IsWritten k w before after × IsLeftBut k (λ old c. IsCutShort old (w ∷ []) c) before left
+IsLeftBy (Event.Checkpoint k offset listed) before after once left = (w : Write) × IsWritten k w before after × IsLeftBut k (λ old c. IsCutShort old (w ∷ []) c) before left
+IsLeftBy (Event.NoteBad k c) before after w left = left ≡ map (λ d. d.content) before
+IsLeftBy (Event.StoreLog k listed) before after once left =
+    (left ≡ map (λ d. d.content) before) ⊎ ((w : Write) × IsWritten k w before after × IsLeftBut k (λ old c. IsCutShort old (w ∷ []) c) before left)
+IsLeftBy (Event.StoreLogFails k) before after once left = (w : Write) × IsFailed k w before after × IsLeftBut k (IsAnyIn w) before left
 
 abbrev pub StopsAtEvents : Type 0
 StopsAtEvents =

@@ -1,17 +1,25 @@
 -- What is done by a call that is a list of events.
 use Rattle.std.specs.Prelude.{◌≡◌, ℕ, true, List, [], ◌∷◌, ◌++◌, Option}
+use Rattle.md_assembly.specs.States.{is_in_sync, is_spare}
+use Rattle.md_badblocks.specs.Runs.{IsCanonical}
 use Rattle.md_bitmap.specs.Marks.{Bitmap}
+use Rattle.md_kept_members.specs.View.{MemberView}
 use Rattle.md_model.specs.Events.{Event}
 use Rattle.md_state.specs.FailingMembers.{FailsMember}
+use Rattle.md_state.specs.Members.{IsMember}
 use Rattle.md_state.specs.Removing.{Removes}
 use Rattle.md_state.specs.Requests.{AreInFlight}
 use Rattle.md_state.specs.View.{Disk, MirrorView}
 use Rattle.md_array.specs.Adding.{Adds, add_event}
+use Rattle.md_array.specs.Admitting.{Admits, admit_event}
+use Rattle.md_array.specs.Checkpoints.{Checkpoints, checkpoint_event}
 use Rattle.md_array.specs.Consistency.{IsConsistent}
 use Rattle.md_array.specs.Enrolling.{Enrols, MayEnrol}
 use Rattle.md_array.specs.Enrolments.{EndsBelow, Prepares, enrol_event}
+use Rattle.md_array.specs.Events.{listed_on}
 use Rattle.md_array.specs.Filling.{Fills}
 use Rattle.md_array.specs.InTurn.{AllLeftWhole, Leads, Requests}
+use Rattle.md_array.specs.Listing.{FailsToStoreLog, IsWhole, NotesChunk, StoresLog}
 use Rattle.md_array.specs.ReAdding.{ReAdds, re_add_event}
 use Rattle.md_array.specs.RecordingTarget.{FailsOnTarget}
 use Rattle.md_array.specs.Worlds.{AreHonest}
@@ -80,3 +88,34 @@ EnrolIsACall =
     → (r : Enrols k copied orphans old new)
     → (previous : Option Event) (requests : Requests) → AreInFlight old.array requests
     → Leads previous old requests (Event.Prepare k ∷ enrol_event r ∷ []) new requests
+
+-- So is `admit` of a spare,
+abbrev pub AdmitIsACall : Type 0
+AdmitIsACall =
+    (k : ℕ) (old new : MirrorView) → IsConsistent old → (r : Admits k old new) → is_spare r.may.member.state ≡ true
+    → (previous : Option Event) (requests : Requests) → AreInFlight old.array requests → Leads previous old requests (admit_event r ∷ []) new requests
+
+-- and `checkpoint`: that is an event of the model where some content is held by the members in sync.
+abbrev pub CheckpointIsACall : Type 0
+CheckpointIsACall =
+    (k : ℕ) (copied : Bitmap) (old new : MirrorView) → IsConsistent old → (r : Checkpoints k copied old new)
+    → (previous : Option Event) (requests : Requests) → AreInFlight old.array requests → Leads previous old requests (checkpoint_event r ∷ []) new requests
+
+-- A list that grows is in the list: in memory, of a member in sync of a resynced array,
+abbrev pub NoteBadIsACall : Type 0
+NoteBadIsACall =
+    (k chunk : ℕ) (old new : MirrorView) → IsConsistent old → NotesChunk k chunk old new → ((m : MemberView) → IsMember old.array k m → is_in_sync m.state ≡ true)
+    → old.array.resynced ≡ true → IsWhole k chunk old
+    → (previous : Option Event) (requests : Requests) → AreInFlight old.array requests → Leads previous old requests (Event.NoteBad k chunk ∷ []) new requests
+
+-- its log stored, where that was read without a shift or stored since,
+abbrev pub StoreLogIsACall : Type 0
+StoreLogIsACall =
+    (k : ℕ) (old new : MirrorView) → IsConsistent old → (r : StoresLog k old new) → IsCanonical r.member.bad
+    → (previous : Option Event) (requests : Requests) → AreInFlight old.array requests → Leads previous old requests (Event.StoreLog k (listed_on new k) ∷ []) new requests
+
+-- and a write of the log that failed.
+abbrev pub StoreLogFailureIsACall : Type 0
+StoreLogFailureIsACall =
+    (k : ℕ) (old new : MirrorView) → IsConsistent old → FailsToStoreLog k old new
+    → (previous : Option Event) (requests : Requests) → AreInFlight old.array requests → Leads previous old requests (Event.StoreLogFails k ∷ []) new requests

@@ -2,7 +2,7 @@
 
 ghost use Rattle.md_laws.specs.StoppedCopies.{StopsAtCopies};
 ghost use Rattle.md_laws.specs.ReadInTurn.{ReadingCallsAreRuns};
-ghost use Rattle.md_laws.specs.WholeCalls.{AddIsACall, CallsAreRuns, EnrolIsACall, FailIsACall, FillIsACall, PrepareIsACall, ReAddIsACall, RemoveIsACall, RunsGoOn, TargetFailureIsACall};
+ghost use Rattle.md_laws.specs.WholeCalls.{AddIsACall, AdmitIsACall, CallsAreRuns, CheckpointIsACall, EnrolIsACall, FailIsACall, FillIsACall, NoteBadIsACall, PrepareIsACall, ReAddIsACall, RemoveIsACall, RunsGoOn, StoreLogFailureIsACall, StoreLogIsACall, TargetFailureIsACall};
 
 /// A call that is a list of events (`Leads`) is a run of the mirror, from any moment of its life on, and
 /// goes on with the run before it. So `every_run` speaks of it. It is asked that devices do what they
@@ -37,8 +37,21 @@ pub fn rebuilding_calls()
     ensures enrol { EnrolIsACall }
 {}
 
+/// So are `admit` of a spare, and `checkpoint` of a member that is recovering.
+pub fn recovering_calls()
+    ensures admit { AdmitIsACall }
+    ensures checkpoint { CheckpointIsACall }
+{}
+
+/// A list that grows is in the list too: `note_bad`, `store_log`, and a write of the log that failed.
+pub fn listing_calls()
+    ensures note { NoteBadIsACall }
+    ensures store { StoreLogIsACall }
+    ensures failure { StoreLogFailureIsACall }
+{}
+
 /// So is a call that reads devices before its events and after the last (`LeadsReading`), and writes no
-/// superblock that fails, and enrols no member.
+/// superblock that fails, enrols no member, and stores no checkpoint and no log.
 pub fn every_reading_call()
     ensures { ReadingCallsAreRuns }
 {}

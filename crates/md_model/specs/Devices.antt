@@ -2,12 +2,14 @@
 use Rattle.std.specs.Prelude.{◌≡◌, ℕ, ◌+◌, ◌*◌, ◌<◌, ◌≤◌, Bool, true, false, cond, ◌&&◌, ◌||◌, eqb, List, [], Option, Some, None}
 use Rattle.md_model.specs.Sectors.{Geometry, chunk_of}
 
--- what assembly reads of a superblock (md_p.h): dev_number, events, dev_roles (65535 past their end) and bit 2 of the feature map
+-- what assembly reads of a superblock (md_p.h): dev_number, events, dev_roles (65535 past their end), bit 2 of the feature map
+-- and recovery_offset, in sectors of the array
 pub record Super : Type 0 where
   pub number : ℕ
   pub events : ℕ
   pub role : ℕ → ℕ
   pub recovering : Bool
+  pub offset : ℕ
 
 pub record Stored : Type 0 where
   pub super : Option Super  -- none where it can't be decoded, or no device is there
@@ -16,6 +18,14 @@ pub record Stored : Type 0 where
   pub bits : ℕ → Bool  -- the bitmap has the chunk's bit
   pub bitmap_events : ℕ
   pub bitmap_fits : Bool  -- its uuid and size are the array's, and its state is 0
+
+-- recovery_offset of its superblock
+abbrev pub offset_in : Option Super → ℕ
+offset_in None = 0
+offset_in (Some own) = own.offset
+
+abbrev pub offset_of : Stored → ℕ
+offset_of d = offset_in d.super
 
 -- A bitmap is accepted whose events are those of the superblock beside it, or one more (this project's own rule).
 abbrev pub accepts : Option Super → ℕ → Bool → Bool

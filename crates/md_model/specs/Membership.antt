@@ -4,7 +4,7 @@ use Rattle.std.specs.Prelude.{◌≡◌, ◌≢◌, ◌⊎◌, ℕ, ◌+◌, ◌
 use Rattle.md_model.specs.Sectors.{Geometry, chunk_of, put}
 use Rattle.md_model.specs.States.{State, is_active}
 use Rattle.md_model.specs.States.State.{InSync, Recovering, Stale, Spare, Faulty}
-use Rattle.md_model.specs.Devices.{Super, Stored}
+use Rattle.md_model.specs.Devices.{Super, Stored, is_marked, offset_of}
 use Rattle.md_model.specs.Worlds.{World}
 use Rattle.md_model.specs.Counts.{role_at_rise, risen}
 
@@ -28,7 +28,8 @@ taken_out w k =
       state = λ j. w.state (skip k j);
       due = λ j. w.due (skip k j);
       known = λ j. w.known (skip k j);
-      re_added = λ j. w.re_added (skip k j);
+      bad = λ j. w.bad (skip k j);
+      offset = λ j. w.offset (skip k j);
       recovering = λ j. w.recovering (skip k j);
       present = λ d. w.present d && not (eqb d (w.number k));
     }
@@ -56,8 +57,8 @@ pub record Newcomer : Type 0 where
   pub number : ℕ
   pub role : ℕ
   pub state : State
-  pub re_added : Bool
   pub recovering : Bool  -- bit 2 of its feature map
+  pub offset : ℕ  -- its recovery_offset
   pub device : Stored  -- as its laying out or its record leaves it
 
 abbrev pub joined : World → Newcomer → World
@@ -69,7 +70,8 @@ joined w n =
       state = put w.members n.state w.state;
       due = put w.members false w.due;
       known = put w.members n.device.bits w.known;
-      re_added = put w.members n.re_added w.re_added;
+      bad = put w.members n.device.listed w.bad;
+      offset = put w.members n.offset w.offset;
       recovering = put w.members n.recovering w.recovering;
       role = put n.number n.role w.role;
       entries = grown w n.number;
@@ -77,8 +79,8 @@ joined w n =
     }
 
 -- Its superblock has the new count and the new roles.
-abbrev pub joined_super : World → ℕ → ℕ → Bool → Super
-joined_super w d role recovering = record { number = d; events = w.events; role = put d role w.role; recovering = recovering }
+abbrev pub joined_super : World → ℕ → ℕ → Bool → ℕ → Super
+joined_super w d role recovering offset = record { number = d; events = w.events; role = put d role w.role; recovering = recovering; offset = offset }
 
 -- add: the number of a new member is the least below 1920 that no member has and whose entry would not be that of a failed device
 -- after a rise; where there is none, the least that no member has
@@ -95,7 +97,7 @@ IsNumber g w d = IsLeast (IsFree g w) d ⊎ (((e : ℕ) → IsFree g w e → ⊥
 
 -- it is laid out as a spare: all chunks are marked, nothing is listed
 pub record IsLaidOut (g : Geometry) (w : World) (d : ℕ) (left : Stored) : Type 0 where
-  pub super : left.super ≡ Some (joined_super w d 65535 false)
+  pub super : left.super ≡ Some (joined_super w d 65535 false 0)
   pub listed : (s : ℕ) → left.listed s ≡ false
   pub bits : (s : ℕ) → s < g.size → left.bits (chunk_of g s) ≡ true
 
@@ -103,8 +105,11 @@ pub record MayAdd (g : Geometry) (w : World) (d : ℕ) : Type 0 where
   pub room : w.members < 64
   pub number : IsNumber g w d
 
+abbrev pub new_member : ℕ → Stored → Newcomer
+new_member d left = record { number = d; role = 65535; state = Spare; recovering = false; offset = 0; device = left }
+
 abbrev pub added : Geometry → World → ℕ → Stored → Bool → World
-added g w d left full = joined (risen g w full) (record { number = d; role = 65535; state = Spare; re_added = false; recovering = false; device = left })
+added g w d left full = joined (risen g w full) (new_member d left)
 
 -- re_add: a device that left takes its former role again, if that is free, and marks were cleared no later than it left
 pub record MayReAdd (g : Geometry) (w : World) (own : Super) : Type 0 where
@@ -117,11 +122,20 @@ pub record MayReAdd (g : Geometry) (w : World) (own : Super) : Type 0 where
   pub has_role : own.role own.number < g.raid_disks
   pub free : (k : ℕ) → is_active (w.state k) ≡ true → w.role (w.number k) ≢ own.role own.number
 
--- its superblock is written, with bit 2, and nothing else
-pub record IsTakenBack (w : World) (own : Super) (device left : Stored) : Type 0 where
+-- each chunk that is marked on the device is marked in the array: nothing tells that it was written to alone since it left
+abbrev pub HasNoOtherMarks : Geometry → World → Stored → Type 0
+HasNoOtherMarks g w device = (s : ℕ) → s < g.size → is_marked device (chunk_of g s) ≡ true → w.marks (chunk_of g s) ≡ true
+
+-- Its superblock is written, with bit 2 and an offset, and nothing else. With the array's size as offset it lacks the marked chunks
+-- alone. One that was used elsewhere since it left has the offset 0, and lacks every chunk.
+pub record IsTakenBack (g : Geometry) (w : World) (own : Super) (device left : Stored) : Type 0 where
   pub was : device.super ≡ Some own
-  pub rest : left ≡ record device { super = Some (joined_super w own.number (own.role own.number) true) }
+  pub offset : ℕ
+  pub passes : ((offset ≡ g.size) × HasNoOtherMarks g w device) ⊎ (offset ≡ 0)
+  pub rest : left ≡ record device { super = Some (joined_super w own.number (own.role own.number) true offset) }
+
+abbrev pub former_member : Super → Stored → Newcomer
+former_member own left = record { number = own.number; role = own.role own.number; state = Recovering; recovering = true; offset = offset_of left; device = left }
 
 abbrev pub re_added : Geometry → World → Super → Stored → Bool → World
-re_added g w own left full =
-    joined (risen g w full) (record { number = own.number; role = own.role own.number; state = Recovering; re_added = true; recovering = true; device = left })
+re_added g w own left full = joined (risen g w full) (former_member own left)

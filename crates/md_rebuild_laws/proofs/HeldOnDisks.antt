@@ -9,9 +9,9 @@ use Rattle.md_model.proofs.Cases.{below-nat_lt, by_test}
 use Rattle.md_state.specs.CopyingData.{Lists}
 use Rattle.md_state.specs.MakingClean.{IsIdle}
 use Rattle.md_state.specs.Members.{IsInSync}
-use Rattle.md_state.specs.View.{Disk, MirrorView}
+use Rattle.md_state.specs.View.{Disk, MirrorView, geometry_of}
 use Rattle.md_array.specs.Enrolling.{HasContent}
-use Rattle.md_array.specs.Worlds.{geometry_of, is_listed, stored_of, world_of}
+use Rattle.md_array.specs.Worlds.{is_listed, stored_of, world_of}
 use Rattle.md_array.proofs.Steps.MadeClean.{none_listed}
 use Rattle.md_array.proofs.Steps.OneMember.{stored_there}
 use Rattle.md_array.proofs.Worlds.InSync.{in_sync_there}

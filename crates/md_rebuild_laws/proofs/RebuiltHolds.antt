@@ -19,12 +19,12 @@ use Rattle.md_model.specs.Sectors.{Geometry}
 use Rattle.md_model.proofs.Cases.{by_test}
 use Rattle.md_plan.specs.declared.planner.Planned.{Planned}
 use Rattle.md_state.specs.Missing.{is_missing}
-use Rattle.md_state.specs.View.{ArrayView, Disk, MirrorView}
+use Rattle.md_state.specs.View.{ArrayView, Disk, MirrorView, geometry_of}
 use Rattle.md_array.specs.Consistency.{IsConsistent}
 use Rattle.md_array.specs.Enrolling.{HasContent}
 use Rattle.md_array.specs.Enrolments.{EndsBelow}
 use Rattle.md_array.specs.Lending.{IsBesideChunk}
-use Rattle.md_array.specs.Worlds.{AreHonest, geometry_of, none_in_flight, world_of}
+use Rattle.md_array.specs.Worlds.{AreHonest, none_in_flight, world_of}
 use Rattle.md_array.proofs.Rebuilding.HeldContent.{its_chunk}
 use Rattle.md_laws.specs.Lives.{MirrorLifeWith}
 use Rattle.md_laws.specs.Runs.{IsStart, Moment}

@@ -62,6 +62,11 @@ whole_of (e ∷ es) previous old before Then turn all = (one e all.0, whole_of e
     one (Event.RecordFails k) of = absurd of
     one (Event.RecordTargetFails k) of = absurd of
     one (Event.Enrol k role listed) of = absurd of
+    one (Event.Admit k role listed) of = absurd of
+    one (Event.Checkpoint k offset listed) of = absurd of
+    one (Event.NoteBad k c) of = absurd of
+    one (Event.StoreLog k listed) of = absurd of
+    one (Event.StoreLogFails k) of = absurd of
     one e of = tt
 
 unfailing_records : (es : List Event) → AllOf IsStoring es → AllOf IsNoFailure es → AllOf IsNoFailedRecord es

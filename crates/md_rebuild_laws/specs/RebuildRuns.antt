@@ -3,10 +3,10 @@ use Rattle.std.specs.Prelude.{◌≡◌, ℕ, List, None}
 use Rattle.md_model.specs.Content.{Content, Holds}
 use Rattle.md_model.specs.Events.{Event}
 use Rattle.md_state.specs.Requests.{AreInFlight}
-use Rattle.md_state.specs.View.{Disk, MirrorView}
+use Rattle.md_state.specs.View.{Disk, MirrorView, geometry_of}
 use Rattle.md_array.specs.Enrolments.{EndsBelow}
 use Rattle.md_array.specs.InTurn.{AllLeftWhole, AllOf}
-use Rattle.md_array.specs.Worlds.{geometry_of, none_in_flight, world_of}
+use Rattle.md_array.specs.Worlds.{none_in_flight, world_of}
 use Rattle.md_laws.specs.Lives.{MirrorLifeWith}
 use Rattle.md_laws.specs.Runs.{IsStart, MirrorRunWith, Moment}
 use Rattle.md_metadata.specs.Going.{GoesOn, only_others}

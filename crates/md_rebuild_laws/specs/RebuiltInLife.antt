@@ -13,9 +13,9 @@ use Rattle.md_model.specs.Events.{Event}
 use Rattle.md_model.specs.RebuiltBehind.{IsRebuiltFrom}
 use Rattle.md_state.specs.Members.{IsMember}
 use Rattle.md_state.specs.Missing.{is_missing}
-use Rattle.md_state.specs.View.{Disk, MirrorView}
+use Rattle.md_state.specs.View.{Disk, MirrorView, geometry_of}
 use Rattle.md_array.specs.Enrolments.{EndsBelow, lists_of}
-use Rattle.md_array.specs.Worlds.{geometry_of, none_in_flight, world_of}
+use Rattle.md_array.specs.Worlds.{none_in_flight, world_of}
 use Rattle.md_laws.specs.Lives.{MirrorLifeWith}
 use Rattle.md_laws.specs.Runs.{IsStart, Moment}
 use Rattle.md_copy.specs.declared.rebuilt.Rebuilt.{Rebuilt}

@@ -8,6 +8,8 @@ use Rattle.md_super.specs.declared.superblock.Superblock.{Superblock}
 use Rattle.md_assembly.specs.declared.state.MemberState.{MemberState}
 use Rattle.md_assembly.specs.States.{is_in_sync}
 use Rattle.md_kept_members.specs.View.{MemberView}
+use Rattle.md_state.specs.Missing.{is_re_added}
+use Rattle.md_state.specs.View.{ArrayView}
 use Rattle.md_report.specs.DetailReport.{member_lines, member_text}
 
 -- how many of the first k members are in sync
@@ -35,13 +37,14 @@ no_more ms k state lt e is =
     count_by_more_no (λ m. is_in_sync m.state) ms k found.0 lt (ap is_in_sync (state_there ms k found.0 state found.1 e) ∙ is)
 
 -- the line of one more member, whose index is n
-pub line_more : (index : ℕ) (ms : List MemberView) (k n : ℕ) (v : Superblock) (state : MemberState) (re_added : Bool) → n ≡ index + k → k < length ms → option_map (λ m. m.superblock) (slice_get ms k) ≡ Some v → option_map (λ m. m.state) (slice_get ms k) ≡ Some state → option_map (λ m. m.re_added) (slice_get ms k) ≡ Some re_added → member_lines index (take k ms) ++ member_text n v.dev_number state re_added ≡ member_lines index (take (k + 1) ms)
+pub line_more : (a : ArrayView) (index : ℕ) (ms : List MemberView) (k n : ℕ) (v : Superblock) (state : MemberState) (re_added : Bool) → n ≡ index + k → k < length ms → option_map (λ m. m.superblock) (slice_get ms k) ≡ Some v → option_map (λ m. m.state) (slice_get ms k) ≡ Some state → ((m : MemberView) → slice_get ms k ≡ Some m → re_added ≡ is_re_added a m) → member_lines a index (take k ms) ++ member_text n v.dev_number state re_added ≡ member_lines a index (take (k + 1) ms)
 unfolding member_lines
-line_more index [] k n v state re_added place lt own its was = absurd (omega arith)
-line_more index (m ∷ ms) zero n v state re_added place lt own its was =
+line_more a index [] k n v state re_added place lt own its was = absurd (omega arith)
+line_more a index (m ∷ ms) zero n v state re_added place lt own its was =
     let here : n ≡ index = omega arith in
-    rw (here, ← same_Some m.superblock v own, ← same_Some m.state state its, ← same_Some m.re_added re_added was) (sym (append-nil _))
-line_more index (m ∷ ms) (suc k) n v state re_added place lt own its was =
+    rw (here, ← same_Some m.superblock v own, ← same_Some m.state state its, was m refl) (sym (append-nil _))
+line_more a index (m ∷ ms) (suc k) n v state re_added place lt own its was =
     let after : suc k + 1 ≡ suc (k + 1) = omega arith in
-    let rest = line_more (index + 1) ms k n v state re_added (omega arith) (omega arith) own its was in
-    rw after (append_assoc (member_text index m.superblock.dev_number m.state m.re_added) (member_lines (index + 1) (take k ms)) (member_text n v.dev_number state re_added) ∙ ap (λ (t : List ℕ). member_text index m.superblock.dev_number m.state m.re_added ++ t) rest)
+    let rest = line_more a (index + 1) ms k n v state re_added (omega arith) (omega arith) own its was in
+    let first = member_text index m.superblock.dev_number m.state (is_re_added a m) in
+    rw after (append_assoc first (member_lines a (index + 1) (take k ms)) (member_text n v.dev_number state re_added) ∙ ap (λ (t : List ℕ). first ++ t) rest)

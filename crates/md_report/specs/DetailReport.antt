@@ -9,6 +9,7 @@ use Rattle.md_assembly.specs.States.{role_of}
 use Rattle.md_bitmap.specs.Marks.{Bitmap}
 use Rattle.md_kept_members.specs.View.{MemberView}
 use Rattle.md_state.specs.Members.{is_degraded}
+use Rattle.md_state.specs.Missing.{is_re_added}
 use Rattle.md_state.specs.View.{ArrayView}
 use Rattle.md_examine.specs.Lines.{column, line_text, name_text, right_aligned, sectors_text}
 use Rattle.md_report.specs.SummaryReport.{in_sync_members, marked_chunks}
@@ -46,7 +47,7 @@ abbrev pub role_text_or_dash : Option ℕ → List ℕ
 role_text_or_dash (Some role) = decimal role
 role_text_or_dash None = codes "-"
 
--- what a member is called: one that recovers is told apart by whether this mirror re-added it
+-- what a member is called: one that recovers is told apart by whether its offset is past the last chunk, so that it lacks marked chunks alone
 abbrev pub standing_text : MemberState → Bool → List ℕ
 standing_text (InSync role) re_added = codes "in sync"
 standing_text (Recovering role) re_added = if re_added then codes "re-added" else codes "recovering"
@@ -64,11 +65,11 @@ member_text index dev_number state re_added =
     place_text (decimal index) ++ place_text (decimal dev_number) ++ place_text (role_text_or_dash (role_of state))
     ++ standing_text state re_added ++ codes "\n"
 
--- the lines of members that are counted from an index on
-unfoldable pub member_lines : ℕ → List MemberView → List ℕ
-member_lines index [] = []
-member_lines index (m ∷ ms) = member_text index m.superblock.dev_number m.state m.re_added ++ member_lines (index + 1) ms
+-- the lines of members of an array, counted from an index on
+unfoldable pub member_lines : ArrayView → ℕ → List MemberView → List ℕ
+member_lines a index [] = []
+member_lines a index (m ∷ ms) = member_text index m.superblock.dev_number m.state (is_re_added a m) ++ member_lines a (index + 1) ms
 
 -- the whole report
 unfoldable pub detail_text : ArrayView → List ℕ
-detail_text a = shared_lines a.shared ++ condition_lines a ++ member_lines 0 a.members
+detail_text a = shared_lines a.shared ++ condition_lines a ++ member_lines a 0 a.members

@@ -18,7 +18,7 @@ pub(crate) fn member_lines<S: Sink, D: Device + Drop>(
     out: &mut S,
     mirror: &Mirror<D>,
 ) -> Result<(), SinkFault>
-    ensures { PutsOrFails S.contents S.failed out.old out.new (member_lines 0 mirror.now.array.members) result }
+    ensures { PutsOrFails S.contents S.failed out.old out.new (member_lines mirror.now.array 0 mirror.now.array.members) result }
 {
     for k in 0..mirror.members() {
         let dev_number = mirror.own(k).dev_number;

@@ -7,7 +7,7 @@ use Rattle.md_model.specs.Sectors.{Geometry}
 use Rattle.md_model.specs.Events.{Event}
 use Rattle.md_model.specs.Worlds.{World}
 use Rattle.md_kept_members.specs.View.{MemberView}
-use Rattle.md_state.specs.View.{ArrayView, Disk, MirrorView}
+use Rattle.md_state.specs.View.{ArrayView, Disk, MirrorView, geometry_of}
 use Rattle.md_state.specs.MakingClean.{IsIdle}
 use Rattle.md_state.specs.Members.{IsAlone, IsInSync}
 use Rattle.md_state.specs.Requests.{AreInFlight}
@@ -15,7 +15,7 @@ use Rattle.md_state.specs.Rests.{Rests}
 use Rattle.md_array.specs.Consistency.{IsConsistent}
 use Rattle.md_array.specs.InTurn.{AllOf, LeftWhole, Requests}
 use Rattle.md_array.specs.NotingResynced.{AllAgreeWhereMarked, sector_of}
-use Rattle.md_array.specs.Worlds.{AreHonest, geometry_of, world_of}
+use Rattle.md_array.specs.Worlds.{AreHonest, world_of}
 use Rattle.md_array.proofs.General.Honesty.{same_honest}
 use Rattle.md_array.proofs.General.Resting.{geometry_rests, world_rests}
 use Rattle.md_laws.specs.ReadInTurn.{LeadsReading}
@@ -88,6 +88,11 @@ copying_is_calm (Event.Fill k) is = absurd is
 copying_is_calm (Event.Prepare k) is = absurd is
 copying_is_calm (Event.RecordTargetFails k) is = absurd is
 copying_is_calm (Event.Enrol k role listed) is = absurd is
+copying_is_calm (Event.Admit k role listed) is = absurd is
+copying_is_calm (Event.Checkpoint k offset listed) is = absurd is
+copying_is_calm (Event.NoteBad k c) is = absurd is
+copying_is_calm (Event.StoreLog k listed) is = absurd is
+copying_is_calm (Event.StoreLogFails k) is = absurd is
 
 pub clearing_is_calm : (e : Event) → IsClearing e → IsCalm e
 clearing_is_calm (Event.Begin n p) is = absurd is
@@ -112,6 +117,11 @@ clearing_is_calm (Event.Fill k) is = absurd is
 clearing_is_calm (Event.Prepare k) is = absurd is
 clearing_is_calm (Event.RecordTargetFails k) is = absurd is
 clearing_is_calm (Event.Enrol k role listed) is = absurd is
+clearing_is_calm (Event.Admit k role listed) is = absurd is
+clearing_is_calm (Event.Checkpoint k offset listed) is = absurd is
+clearing_is_calm (Event.NoteBad k c) is = absurd is
+clearing_is_calm (Event.StoreLog k listed) is = absurd is
+clearing_is_calm (Event.StoreLogFails k) is = absurd is
 
 read_holds : (old new : MirrorView) (requests : Requests) (a : Content) → Rests old new → HoldsBetween (geometry_of old.array) a (world_of old requests) → HoldsBetween (geometry_of new.array) a (world_of new requests)
 read_holds old new requests a rests holds =

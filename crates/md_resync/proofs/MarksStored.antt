@@ -195,6 +195,11 @@ leaves_along (Event.Fill k ∷ es) previous old before new after all sound t = a
 leaves_along (Event.Prepare k ∷ es) previous old before new after all sound t = absurd all.0
 leaves_along (Event.RecordTargetFails k ∷ es) previous old before new after all sound t = absurd all.0
 leaves_along (Event.Enrol k role listed ∷ es) previous old before new after all sound t = absurd all.0
+leaves_along (Event.Admit k role listed ∷ es) previous old before new after all sound t = absurd all.0
+leaves_along (Event.Checkpoint k offset listed ∷ es) previous old before new after all sound t = absurd all.0
+leaves_along (Event.NoteBad k c ∷ es) previous old before new after all sound t = absurd all.0
+leaves_along (Event.StoreLog k listed ∷ es) previous old before new after all sound t = absurd all.0
+leaves_along (Event.StoreLogFails k ∷ es) previous old before new after all sound t = absurd all.0
 
 mark_is_calm : (e : Event) → IsMarkStored e → IsCalm e
 mark_is_calm (Event.StoreMarks k b) is = record { of = tt; becomes = λ g w a. refl; whole = λ old new. tt }
@@ -219,6 +224,11 @@ mark_is_calm (Event.Fill k) is = absurd is
 mark_is_calm (Event.Prepare k) is = absurd is
 mark_is_calm (Event.RecordTargetFails k) is = absurd is
 mark_is_calm (Event.Enrol k role listed) is = absurd is
+mark_is_calm (Event.Admit k role listed) is = absurd is
+mark_is_calm (Event.Checkpoint k offset listed) is = absurd is
+mark_is_calm (Event.NoteBad k c) is = absurd is
+mark_is_calm (Event.StoreLog k listed) is = absurd is
+mark_is_calm (Event.StoreLogFails k) is = absurd is
 
 mark_is_stored : (e : Event) → IsMarking e → IsNoFailure e → IsMarkStored e
 mark_is_stored (Event.StoreMarks k b) is done = tt
@@ -287,6 +297,11 @@ marking_of (Event.Fill k) is = absurd is
 marking_of (Event.Prepare k) is = absurd is
 marking_of (Event.RecordTargetFails k) is = absurd is
 marking_of (Event.Enrol k role listed) is = absurd is
+marking_of (Event.Admit k role listed) is = absurd is
+marking_of (Event.Checkpoint k offset listed) is = absurd is
+marking_of (Event.NoteBad k c) is = absurd is
+marking_of (Event.StoreLog k listed) is = absurd is
+marking_of (Event.StoreLogFails k) is = absurd is
 
 marking_goes : (old new : MirrorView) → metadata.GoesOn only_others only_others IsMarking old new → GoesOn old new
 marking_goes old new g = record {
@@ -333,6 +348,11 @@ halted_at (Event.Fill k) old new is h = absurd is
 halted_at (Event.Prepare k) old new is h = absurd is
 halted_at (Event.RecordTargetFails k) old new is h = absurd is
 halted_at (Event.Enrol k role listed) old new is h = absurd is
+halted_at (Event.Admit k role listed) old new is h = absurd is
+halted_at (Event.Checkpoint k offset listed) old new is h = absurd is
+halted_at (Event.NoteBad k c) old new is h = absurd is
+halted_at (Event.StoreLog k listed) old new is h = absurd is
+halted_at (Event.StoreLogFails k) old new is h = absurd is
 
 pub halts_marks : (old new : MirrorView) → IsIdle old.array → metadata.HaltsAfter only_others only_others IsMarking old new → HaltsIdle old new
 halts_marks old new idle h = record {

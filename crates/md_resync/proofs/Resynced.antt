@@ -11,15 +11,15 @@ use Rattle.md_model.specs.Content.{HoldsBetween}
 use Rattle.md_model.specs.Events.{Event}
 use Rattle.md_model.specs.Sectors.{Geometry}
 use Rattle.md_kept_members.specs.View.{MemberView}
-use Rattle.md_state.specs.View.{ArrayView, MirrorView}
+use Rattle.md_state.specs.View.{ArrayView, MirrorView, geometry_of}
 use Rattle.md_state.specs.MakingClean.{IsIdle}
 use Rattle.md_state.specs.Members.{AllInSync, IsAlone, is_degraded, is_filled}
 use Rattle.md_state.specs.CopyingData.{IsSource}
 use Rattle.md_array.specs.Consistency.{IsConsistent}
 use Rattle.md_array.specs.Events.{Happens}
 use Rattle.md_array.specs.InTurn.{AllOf}
-use Rattle.md_array.specs.NotingResynced.{AllAgreeAt, BecomesResynced}
-use Rattle.md_array.specs.Worlds.{geometry_of, world_of}
+use Rattle.md_array.specs.NotingResynced.{AllAgreeAt, AreNoted, BecomesResynced}
+use Rattle.md_array.specs.Worlds.{world_of}
 use Rattle.md_array.proofs.General.Honesty.{same_honest}
 use Rattle.md_array.proofs.General.Resting.{rests_sound}
 use Rattle.md_array.proofs.Steps.Turns.{all_on, all_such}
@@ -80,6 +80,10 @@ resynced_advances b c r happens sound = record {
   idle = subst IsIdle (sym r.marks.array) (record { running = r.marks.idle.running; none = r.marks.idle.none });
   sound = sound;
 }
+
+-- ---- each mark is stored by then
+pub all_noted : (a b : ArrayView) → AllInSync a (HasAllMarks a.marks) → b ≡ a → AreNoted b
+all_noted a b stored same = subst AreNoted (sym same) (λ i c m is low on. stored i m is c low ∙ on)
 
 -- ---- up to there
 pub before : (old a b c : MirrorView) → IsIdle old.array → StoresMarks old a → Agrees a b → BecomesResynced b c → Happens b Event.Resynced c → IsConsistent c → Advances old c

@@ -8,9 +8,9 @@ use Rattle.md_model.specs.Sectors.{Geometry, chunk_of}
 use Rattle.md_model.specs.Worlds.{IsInSync, IsQuiet, World}
 use Rattle.md_model.proofs.Cases.{by_test, none_some}
 use Rattle.md_model.proofs.Content.Picked.{picked, picked-all, picked-one}
-use Rattle.md_state.specs.View.{MirrorView}
+use Rattle.md_state.specs.View.{MirrorView, geometry_of}
 use Rattle.md_array.specs.Events.{Happens}
-use Rattle.md_array.specs.Worlds.{geometry_of, world_of}
+use Rattle.md_array.specs.Worlds.{world_of}
 use Rattle.md_array.proofs.Worlds.InSync.{in_sync_is}
 use Rattle.md_resync.specs.Resyncing.{SettlesContent}
 

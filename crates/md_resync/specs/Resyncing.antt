@@ -11,12 +11,12 @@ use Rattle.md_state.specs.MakingClean.{HasInFlight, IsIdle}
 use Rattle.md_state.specs.Members.{AllInSync, IsAlone, IsInSync, IsMember, is_degraded}
 use Rattle.md_state.specs.Requests.{AreInFlight}
 use Rattle.md_state.specs.Trying.{Refuses, RefusesHalted}
-use Rattle.md_state.specs.View.{ArrayView, MirrorView}
+use Rattle.md_state.specs.View.{ArrayView, MirrorView, geometry_of}
 use Rattle.md_array.specs.Consistency.{IsConsistent}
 use Rattle.md_array.specs.Events.{Happens}
 use Rattle.md_array.specs.InTurn.{AllOf, HaltsAt, Leads, Requests}
 use Rattle.md_array.specs.NotingResynced.{AllAgreeAt, AllAgreeWhereMarked, NotesResynced}
-use Rattle.md_array.specs.Worlds.{AreHonest, geometry_of, world_of}
+use Rattle.md_array.specs.Worlds.{AreHonest, world_of}
 use Rattle.md_laws.specs.ReadInTurn.{LeadsReading}
 use Rattle.md_metadata.specs.Going.{IsFaulty}
 use Rattle.md_metadata.specs.Storing.{FailsAtLast, HasAllMarks, IsMarking, IsNoFailure, IsUpToDate}

@@ -1,77 +1,40 @@
--- A member that was rebuilt comes into sync (raid1_spare_active of the kernel's md driver; which role a spare gets, that the count
--- rises at once, and what is stored of it before, are this project's own).
-use Rattle.std.specs.Prelude.{◌≡◌, ◌⊎◌, ℕ, ◌+◌, ◌<◌, ◌≤◌, ⊤, Bool, true, false, not, cond, List, map, set}
+-- A member that was rebuilt comes into sync (raid1_spare_active of the kernel's md driver; that the count rises at once, and what is
+-- stored of it before, are this project's own).
+use Rattle.std.specs.Prelude.{◌≡◌, ℕ, ◌+◌, ◌<◌, ◌≤◌, ⊤, Bool, true, false, not, cond, List, map, set}
 use Rattle.md_bitmap.specs.Marks.{Bitmap}
 use Rattle.md_badblocks.specs.declared.run.Run.{Run}
-use Rattle.md_assembly.specs.declared.state.MemberState.{MemberState}
-use Rattle.md_assembly.specs.declared.state.MemberState.TheVariants.{InSync, Recovering, Stale, Spare, Faulty}
+use Rattle.md_assembly.specs.declared.state.MemberState.TheVariants.{Recovering}
 use Rattle.md_kept_members.specs.Enrolling.{ComesIntoSync, HasRoomFor, IsListAfter}
 use Rattle.md_kept_members.specs.Members.{made_due}
 use Rattle.md_kept_members.specs.View.{MemberView}
 use Rattle.md_faults.specs.declared.enrol_fault.EnrolFault.{EnrolFault}
-use Rattle.md_faults.specs.declared.enrol_fault.EnrolFault.TheVariants.{Halted, NoRole, EventsFull, LogFull, TargetFault, NoMemory}
+use Rattle.md_faults.specs.declared.enrol_fault.EnrolFault.TheVariants.{Halted, EventsFull, LogFull, TargetFault, NoMemory}
 use Rattle.md_state.specs.Joining.{joined_shared}
 use Rattle.md_state.specs.Members.{IsMember, is_degraded}
-use Rattle.md_state.specs.ReAdding.{is_taken}
 use Rattle.md_state.specs.Rising.{HasSpentEvents}
 use Rattle.md_state.specs.View.{ArrayView}
 
--- ---- its role
--- the least role that no member in sync or recovering has
-pub record IsLeastFree (a : ArrayView) (role : ℕ) : Type 0 where
-  pub below : role < a.shared.raid_disks
-  pub free : is_taken a role ≡ false
-  pub least : (r : ℕ) → r < role → is_taken a r ≡ true
-
--- each role is taken
-abbrev pub AreAllTaken : ArrayView → Type 0
-AreAllTaken a = (r : ℕ) → r < a.shared.raid_disks → is_taken a r ≡ true
-
--- The role that a member gets: its own where it is recovering, and the least free one where it is a spare, if a superblock has room
--- for its number.
-abbrev pub GetsRole : ArrayView → MemberView → MemberState → ℕ → Type 0
-GetsRole a m (InSync own) role = ⊥
-GetsRole a m (Recovering own) role = role ≡ own
-GetsRole a m (Stale own) role = ⊥
-GetsRole a m Spare role = (m.superblock.dev_number < 1920) × IsLeastFree a role
-GetsRole a m Faulty role = ⊥
-
--- it gets none
-pub record GetsNoRole (a : ArrayView) (m : MemberView) : Type 0 where
-  pub spare : m.state ≡ Spare
-  pub why : (1920 ≤ m.superblock.dev_number) ⊎ AreAllTaken a
-
 -- ---- whether it may come into sync
+-- it is recovering in this role
 pub record MayTakeRole (k : ℕ) (a : ArrayView) (role : ℕ) : Type 0 where
   pub running : a.halted ≡ false
   pub member : MemberView
   pub at : IsMember a k member
-  pub gets : GetsRole a member member.state role
+  pub recovering : member.state ≡ Recovering role
   pub unspent : HasSpentEvents a → ⊥
 
-pub record HasNoRole (k : ℕ) (a : ArrayView) : Type 0 where
-  pub running : a.halted ≡ false
-  pub member : MemberView
-  pub at : IsMember a k member
-  pub none : GetsNoRole a member
-
 -- the count has to rise, and can't
-pub record CannotCountEnrol (k : ℕ) (a : ArrayView) : Type 0 where
+pub record CannotCountEnrol (a : ArrayView) : Type 0 where
   pub running : a.halted ≡ false
-  pub member : MemberView
-  pub at : IsMember a k member
-  pub role : ℕ
-  pub gets : GetsRole a member member.state role
   pub spent : HasSpentEvents a
 
 -- why it may not, before its list is looked at
-abbrev pub RefusesRole : ℕ → ArrayView → EnrolFault → Type 0
-RefusesRole k a Halted = a.halted ≡ true
-RefusesRole k a NoRole = HasNoRole k a
-RefusesRole k a EventsFull = CannotCountEnrol k a
-RefusesRole k a (LogFull j) = ⊥
-RefusesRole k a TargetFault = ⊥
-RefusesRole k a NoMemory = ⊥
+abbrev pub RefusesRole : ArrayView → EnrolFault → Type 0
+RefusesRole a Halted = a.halted ≡ true
+RefusesRole a EventsFull = CannotCountEnrol a
+RefusesRole a (LogFull j) = ⊥
+RefusesRole a TargetFault = ⊥
+RefusesRole a NoMemory = ⊥
 
 -- ---- what is kept of it then
 pub record ComesWith (k role : ℕ) (copied orphans : Bitmap) (a : ArrayView) (n : MemberView) : Type 0 where
@@ -95,7 +58,6 @@ abbrev pub RefusesMember : ℕ → Bitmap → Bitmap → ArrayView → EnrolFaul
 RefusesMember k copied orphans a (LogFull j) = (j ≡ k) × HasFullLog k copied orphans a
 RefusesMember k copied orphans a NoMemory = ⊤
 RefusesMember k copied orphans a Halted = ⊥
-RefusesMember k copied orphans a NoRole = ⊥
 RefusesMember k copied orphans a EventsFull = ⊥
 RefusesMember k copied orphans a TargetFault = ⊥
 

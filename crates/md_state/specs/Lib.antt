@@ -55,5 +55,11 @@ pub mod Joining
 pub mod ReAdding
 -- A new device comes in as a spare.
 pub mod Adding
+-- A spare is admitted: it takes a role, and is recovering from then on.
+pub mod Admitting
+-- A recovering member records how far it is rebuilt.
+pub mod Checkpoints
 -- A member that was rebuilt comes into sync.
 pub mod Enrolling
+-- A chunk is listed as bad, and a log is stored.
+pub mod NotingBad

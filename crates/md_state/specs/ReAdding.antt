@@ -1,9 +1,11 @@
 -- A device that left is taken back in its former role (super_1_validate and hot_add_disk in the kernel's md driver, which let it by
 -- events_cleared; the other conditions and their order are this project's own).
-use Rattle.std.specs.Prelude.{◌≡◌, ℕ, ◌≤◌, ◌<◌, ◌/◌, Bool, true, false, Some}
+use Rattle.std.specs.Prelude.{◌≡◌, ◌⊎◌, ℕ, ◌≤◌, ◌<◌, ◌/◌, Bool, true, false, Some}
 use Rattle.std.specs.List.{list_any}
 use Rattle.md_super.specs.declared.superblock.Superblock.{Superblock}
 use Rattle.md_bitmap.specs.declared.header.BitmapHeader.{BitmapHeader}
+use Rattle.md_bitmap.specs.Marks.{Bitmap, is_set}
+use Rattle.md_members.specs.Members.{IsAccepted}
 use Rattle.md_members.specs.declared.info.MemberInfo.{MemberInfo}
 use Rattle.md_assembly.specs.States.{has_recovery_offset, takes_role}
 use Rattle.md_kept_members.specs.TakingBack.{IsTakenBack, own_role}
@@ -51,11 +53,27 @@ pub record MayReAdd (a : ArrayView) (info : MemberInfo) : Type 0 where
   pub free : is_taken a (own_role info.superblock) ≡ false
   pub unspent : HasSpentEvents a → ⊥
 
+-- Its bitmap is accepted, and each chunk that it marks is marked in the array: nothing tells that it was written to alone since it left.
+pub record HasNoOtherMarks (a : ArrayView) (info : MemberInfo) : Type 0 where
+  pub header : BitmapHeader
+  pub has_header : info.header ≡ Some header
+  pub accepted : IsAccepted info.superblock header
+  pub marks : Bitmap
+  pub has_marks : info.marks ≡ Some marks
+  pub among : (c : ℕ) → c < a.marks.chunks → is_set marks.bytes c ≡ true → is_set a.marks.bytes c ≡ true
+
+-- So it lacks the marked chunks alone: its offset is the array's size. One that was used elsewhere since it left lacks every chunk: its
+-- offset is 0.
+abbrev pub IsOffsetBack : ArrayView → MemberInfo → ℕ → Type 0
+IsOffsetBack a info offset = (HasNoOtherMarks a info × (offset ≡ a.chunks.size)) ⊎ ((HasNoOtherMarks a info → ⊥) × (offset ≡ 0))
+
 -- the array with it
 pub record TakesBack (info : MemberInfo) (old new : ArrayView) : Type 0 where
   pub may : MayReAdd old info
   pub member : MemberView
-  pub taken : IsTakenBack info member
+  pub offset : ℕ
+  pub offset_is : IsOffsetBack old info offset
+  pub taken : IsTakenBack offset info member
   pub array : new ≡ joined old member (own_role info.superblock)
 
 -- no role is free for it

@@ -30,7 +30,7 @@ pub record IsRemembered (infos : List MemberInfo) (assembly : Assembly) (a : Arr
   pub shared : slice_get (map (λ info. info.superblock) infos) assembly.freshest ≡ Some a.shared
   pub as_many : length a.members ≡ length infos
   pub each : (k : ℕ) (info : MemberInfo) (state : MemberState) (m : MemberView) → slice_get infos k ≡ Some info
-      → slice_get assembly.states.items k ≡ Some state → IsMember a k m → IsKept a.shared.events info state m
+      → slice_get assembly.states.items k ≡ Some state → IsMember a k m → IsKept a.shared.events a.events_cleared info state m
   pub size : a.chunks.size ≡ a.shared.size
   pub width : (k : ℕ) (m : MemberView) → IsMember a k m → a.chunks.sectors ≡ m.header.chunksize / 512
   pub events_cleared : IsLastCleared a a.events_cleared

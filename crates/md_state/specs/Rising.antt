@@ -35,7 +35,7 @@ HasSpentEvents a = a.shared.events ≡ 2 ^ 64 - 1
 
 -- a member is faulty, and so is its entry in the roles, where it has one
 abbrev pub made_faulty : MemberView → MemberView
-made_faulty m = record m { state = Faulty; due = false; re_added = false }
+made_faulty m = record m { state = Faulty; due = false }
 
 abbrev pub roles_without : MemberView → List ℕ → List ℕ
 roles_without m roles = cond (nat_lt m.superblock.dev_number (length roles)) (set roles m.superblock.dev_number faulty_role) roles

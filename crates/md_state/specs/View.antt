@@ -1,5 +1,6 @@
 -- A mirror as contracts see it: its devices, and what it keeps in memory of the array.
 use Rattle.std.specs.Prelude.{ℕ, Bool, List}
+use Rattle.md_model.specs.Sectors.{Geometry}
 use Rattle.md_device.specs.declared.device.Device.{Ghosts}
 use Rattle.md_super.specs.declared.superblock.Superblock.{Superblock}
 use Rattle.md_bitmap.specs.declared.chunks.Chunks.{Chunks}
@@ -33,6 +34,10 @@ pub record ArrayView : Type 0 where
   pub resynced : Bool  -- members in sync agree, but where requests are in flight
   pub halted : Bool  -- a failure can't be recorded: no call does anything any more
   pub requests : InflightList Extent  -- those in flight
+
+-- what never changes
+abbrev pub geometry_of : ArrayView → Geometry
+geometry_of a = record { raid_disks = a.shared.raid_disks; width = a.chunks.sectors; size = a.chunks.size }
 
 -- the devices stand in the order of the members
 pub record MirrorView : Type 0 where

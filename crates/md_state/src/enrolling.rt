@@ -1,21 +1,20 @@
 // A member that was rebuilt comes into sync.
-ghost use Rattle.std.specs.Prelude.{◌≡◌, ◌<◌, ◌==◌, ◌||◌, ℕ, MatchOption, MatchResult, cond, false, length, map, not, set, true};
+ghost use Rattle.std.specs.Prelude.{◌≡◌, ◌<◌, ◌==◌, ◌||◌, ℕ, MatchResult, cond, false, length, map, not, set, true};
 ghost use Rattle.std.specs.List.{list_any, range_with_len};
 ghost use Rattle.std.specs.Int.{div_ceil};
-ghost use Rattle.md_assembly.specs.States.{is_in_sync};
+ghost use Rattle.md_assembly.specs.States.{is_in_sync, is_recovering};
 ghost use Rattle.md_assembly.specs.declared.state.MemberState.TheVariants as state;
 ghost use Rattle.md_kept_members.specs.Members.{made_due};
 ghost use Rattle.md_kept_members.specs.View.{MemberView};
-ghost use Rattle.md_state.specs.Enrolling.{AreAllTaken, ComesWith, GetsNoRole, GetsRole, IsLeastFree, MayTakeRole, RefusesMember, RefusesRole, is_full_with};
+ghost use Rattle.md_state.specs.Enrolling.{ComesWith, MayTakeRole, RefusesMember, RefusesRole, is_full_with};
 ghost use Rattle.md_state.specs.Members.{IsMember, is_filled};
-ghost use Rattle.md_state.specs.Missing.{is_rebuilt};
 
 use crate::array::Array;
 use md_assembly::MemberState;
 use md_bitmap::Marks;
 use md_faults::EnrolFault;
 use md_kept_members::{Member, in_sync, list_after, log_room, make_due};
-use md_super::{MAX_ROLES, Superblock};
+use md_super::Superblock;
 use std::alloc::Global;
 
 impl Array {
@@ -23,19 +22,19 @@ impl Array {
     /// `EnrolFault`.
     pub fn check_enrol(&self, k: usize) -> Result<u16, EnrolFault>
         requires within { k < length self.now.members }
-        requires rebuilt { (m : MemberView) → IsMember self.now k m → is_rebuilt m.state ≡ true }
-        ensures { MatchResult result (MayTakeRole k self.now) (RefusesRole k self.now) }
+        requires recovering { (m : MemberView) → IsMember self.now k m → is_recovering m.state ≡ true }
+        ensures { MatchResult result (MayTakeRole k self.now) (RefusesRole self.now) }
     {
         if self.halted {
             return Err(EnrolFault::Halted);
         }
-        let Some(role) = self.role_for(&self.members[k]) else {
-            return Err(EnrolFault::NoRole);
-        };
         if self.shared.events == u64::MAX {
             return Err(EnrolFault::EventsFull);
         }
-        Ok(role)
+        match self.members[k].state {
+            MemberState::Recovering(role) => Ok(role),
+            _ => unreachable!(),
+        }
     }
 
     /// Member k as it is kept once it is in sync in this role, with the copied chunks and without the
@@ -97,31 +96,5 @@ impl Array {
         ensures { result ≡ list_any (λ r. not (role == r || is_filled self.now r)) (range_with_len 0 self.now.shared.raid_disks) }
     {
         (0..self.shared.raid_disks).any(|r| !(u32::from(role) == r || self.is_filled(r)))
-    }
-
-    // The role that a member which may be rebuilt gets.
-    fn role_for(&self, member: &Member) -> Option<u16>
-        requires { is_rebuilt member.now.state ≡ true }
-        ensures { MatchOption result (GetsNoRole self.now member.now) (GetsRole self.now member.now member.now.state) }
-    {
-        if let MemberState::Recovering(role) = member.state {
-            return Some(role);
-        }
-        if member.superblock.dev_number >= MAX_ROLES {
-            return None;
-        }
-        self.least_free_role()
-    }
-
-    fn least_free_role(&self) -> Option<u16>
-        ensures { MatchOption result (AreAllTaken self.now) (IsLeastFree self.now) }
-    {
-        let disks = self.shared.raid_disks as u16;
-        for role in 0..disks {
-            if !self.is_taken(role) {
-                return Some(role);
-            }
-        }
-        None
     }
 }

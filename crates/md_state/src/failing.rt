@@ -89,7 +89,6 @@ impl Array {
         let member = &mut self.members[k];
         member.state = MemberState::Faulty;
         member.due = false;
-        member.re_added = false;
         let number = member.superblock.dev_number;
         if number < self.shared.roles.max_dev() {
             self.shared.roles.set(number, FAULTY);

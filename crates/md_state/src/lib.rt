@@ -2,9 +2,11 @@
 #![tactic(auto)]
 
 mod adding;
+mod admitting;
 mod array;
 mod beginning;
 mod checking;
+mod checkpoints;
 mod clearing_marks;
 mod enrolling;
 mod failing;
@@ -15,6 +17,7 @@ mod in_sync;
 mod joining;
 mod making_clean;
 mod missing;
+mod noting_bad;
 mod noting_resynced;
 mod numbering;
 mod observing;

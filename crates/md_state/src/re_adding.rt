@@ -1,12 +1,14 @@
 // A device that left may be taken back.
-ghost use Rattle.std.specs.Prelude.{◌≡◌, ◌↔◌, IsTrue, MatchResult};
-ghost use Rattle.md_state.specs.ReAdding.{IsOfArray, IsReAddable, LeftInTime, LeftItsRole, MayReAdd, RefusesToTakeBack, is_taken};
+ghost use Rattle.std.specs.Prelude.{◌≡◌, ◌↔◌, ◌<◌, ◌≤◌, ℕ, IsTrue, MatchResult, Some, true};
+ghost use Rattle.md_bitmap.specs.Marks.{Bitmap, is_set};
+ghost use Rattle.md_kept_members.specs.Remembering.{IsWhole};
+ghost use Rattle.md_state.specs.ReAdding.{HasNoOtherMarks, IsOffsetBack, IsOfArray, IsReAddable, LeftInTime, LeftItsRole, MayReAdd, RefusesToTakeBack, is_taken};
 
 use crate::array::Array;
 use crate::joining::MOST_MEMBERS;
-use md_bitmap::BitmapHeader;
+use md_bitmap::{BitmapHeader, Marks};
 use md_faults::ReAddFault;
-use md_members::MemberInfo;
+use md_members::{MemberInfo, accepted};
 use md_super::{FEATURE_RECOVERY_OFFSET, Superblock};
 
 impl Array {
@@ -27,6 +29,47 @@ impl Array {
             return Err(ReAddFault::EventsFull);
         }
         Ok(())
+    }
+
+    /// The offset that a device comes back with: the array's size where it lacks the marked chunks alone,
+    /// and 0 where it was used elsewhere since it left, so that it lacks every chunk.
+    pub fn offset_back(&self, info: &MemberInfo) -> u64
+        requires whole { IsWhole info.now }
+        requires chunks { (marks : Bitmap) → info.now.marks ≡ Some marks → self.now.marks.chunks ≤ marks.chunks }
+        ensures { IsOffsetBack self.now info.now result }
+    {
+        if self.has_no_other_marks(info) {
+            self.chunks.size
+        } else {
+            0
+        }
+    }
+
+    fn has_no_other_marks(&self, info: &MemberInfo) -> bool
+        requires whole { IsWhole info.now }
+        requires chunks { (marks : Bitmap) → info.now.marks ≡ Some marks → self.now.marks.chunks ≤ marks.chunks }
+        ensures { IsTrue result ↔ HasNoOtherMarks self.now info.now }
+    {
+        let Some(header) = &info.header else {
+            return false;
+        };
+        let Some(marks) = &info.marks else {
+            return false;
+        };
+        accepted(&info.superblock, header) && self.has_all_of(marks)
+    }
+
+    // Whether each chunk that is marked in these is marked in memory.
+    fn has_all_of(&self, marks: &Marks) -> bool
+        requires chunks { self.now.marks.chunks ≤ marks.now.chunks }
+        ensures { IsTrue result ↔ ((c : ℕ) → c < self.now.marks.chunks → is_set marks.now.bytes c ≡ true → is_set self.now.marks.bytes c ≡ true) }
+    {
+        for chunk in 0..self.marks.chunks() {
+            if marks.is_marked(chunk) && !self.marks.is_marked(chunk) {
+                return false;
+            }
+        }
+        true
     }
 
     fn is_re_addable(&self, info: &MemberInfo) -> bool

@@ -17,7 +17,7 @@ use Rattle.md_requests.specs.declared.extent.Extent.{Extent}
 use Rattle.md_requests.specs.Pending.{PendingView}
 use Rattle.md_faults.specs.declared.step_fault.BeginFault.{BeginFault}
 use Rattle.md_faults.specs.declared.step_fault.BeginFault.TheVariants as begin
-use Rattle.md_state.specs.View.{ArrayView, MirrorView}
+use Rattle.md_state.specs.View.{ArrayView, MirrorView, geometry_of}
 use Rattle.md_state.specs.Beginning.{Begins, HasMarked, RefusesBegin, has_sector_of, has_to_rise}
 use Rattle.md_state.specs.Rising.{risen}
 use Rattle.md_state.specs.Finishing.{Finishes}
@@ -26,7 +26,7 @@ use Rattle.md_state.proofs.Changes.RequestChunks.{div_mono}
 use Rattle.md_array.specs.Consistency.{IsConsistent}
 use Rattle.md_array.specs.Events.{BeginHappens, Does, FinishHappens}
 use Rattle.md_array.specs.InTurn.{AllLeftWhole, AllOf, InTurn, IsPut, Requests}
-use Rattle.md_array.specs.Worlds.{AreHonest, geometry_of, world_of}
+use Rattle.md_array.specs.Worlds.{AreHonest, world_of}
 use Rattle.md_array.proofs.Steps.InFlight.{found_with_last}
 use Rattle.md_array.proofs.Steps.Turns.{turn_on, turn_then, turn_through}
 use Rattle.md_array.proofs.Worlds.InSync.{in_sync_is, number_at}

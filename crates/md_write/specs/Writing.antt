@@ -6,11 +6,11 @@ use Rattle.md_model.specs.Events.{Event}
 use Rattle.md_requests.specs.Pending.{PendingView}
 use Rattle.md_faults.specs.declared.step_fault.BeginFault.{BeginFault}
 use Rattle.md_faults.specs.declared.step_fault.BeginFault.TheVariants.{Halted}
-use Rattle.md_state.specs.View.{MirrorView}
+use Rattle.md_state.specs.View.{MirrorView, geometry_of}
 use Rattle.md_state.specs.Beginning.{Begins, HasMarked, RefusesBegin}
 use Rattle.md_state.specs.Requests.{AreInFlight, among, request_of}
 use Rattle.md_array.specs.InTurn.{AllLeftWhole, AllOf, HaltsAt, Leads, Requests}
-use Rattle.md_array.specs.Worlds.{AreHonest, geometry_of, world_of}
+use Rattle.md_array.specs.Worlds.{AreHonest, world_of}
 use Rattle.md_metadata.specs.Storing.{AllRecorded}
 use Rattle.md_write.specs.Progress.{InRounds, IsOfRequest, Part}
 

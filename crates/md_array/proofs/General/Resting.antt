@@ -3,11 +3,11 @@ use Rattle.std.proofs.Common.{◌≡◌, ℕ, List, length, slice_get, Option, S
 use Rattle.std.proofs.lemmas.Option.{none-some, slice_get_within}
 use Rattle.md_model.specs.Worlds.{Request}
 use Rattle.md_kept_members.specs.View.{MemberView}
-use Rattle.md_state.specs.View.{ArrayView, Disk, MirrorView}
+use Rattle.md_state.specs.View.{ArrayView, Disk, MirrorView, geometry_of}
 use Rattle.md_state.specs.Rests.{Rests}
 use Rattle.md_array.specs.Consistency.{HasPlaces, HasSuper, IsConsistent}
 use Rattle.md_array.specs.ReadAsKept.{AreReadAsKept, IsReadAsKept}
-use Rattle.md_array.specs.Worlds.{block_on, geometry_of, is_listed, is_listed_next, stored_of, stored_on, super_in, world_of, world_on}
+use Rattle.md_array.specs.Worlds.{block_on, is_listed, is_listed_next, stored_of, stored_on, super_in, world_of, world_on}
 use Rattle.md_array.proofs.Steps.OneMember.{fits_like, like_itself}
 use Rattle.md_badblocks.specs.Runs.{IsBad}
 use Rattle.md_assembly.proofs.Indices.{got_within}
@@ -22,8 +22,8 @@ super_as m d e same has =
       number = has.number;
       recovering = has.recovering;
       places = subst (HasPlaces m) (sym block) has.places;
-      listed = subst (λ (c : List ℕ). (sector : ℕ) → is_listed m.superblock c sector ≡ is_listed_next m.superblock c sector) (sym same) has.listed;
-      known = λ sector. subst (λ (c : List ℕ). (is_listed m.superblock c sector ≡ true) ↔ IsBad m.bad sector) (sym same) (has.known sector);
+      listed = subst (λ (c : List ℕ). (sector : ℕ) → is_listed m.superblock c sector ≡ true → is_listed_next m.superblock c sector ≡ true) (sym same) has.listed;
+      known = subst (λ (c : List ℕ). (sector : ℕ) → is_listed_next m.superblock c sector ≡ true → IsBad m.bad sector) (sym same) has.known;
     }
 
 module _ (old new : MirrorView) (r : Rests old new) where

@@ -49,7 +49,7 @@ module _ (before : List Disk) (v : MirrorView) (o : IsOpenedFrom before v) where
   record IsReadAt (k : ℕ) (m : MemberView) : Type 0 where
     info : MemberInfo
     listed : slice_get infos k ≡ Some info
-    kept : IsKept a.shared.events info (state_of a.shared info.superblock) m
+    kept : IsKept a.shared.events a.events_cleared info (state_of a.shared info.superblock) m
 
   read_at : (k : ℕ) (m : MemberView) → IsMember a k m → IsReadAt k m
   read_at k m is =
@@ -164,13 +164,17 @@ module _ (before : List Disk) (v : MirrorView) (o : IsOpenedFrom before v) where
   super k d m at_disk at_member honest =
       let s = shown_honest before v o k m (λ old was. sym (o.marked.same.honest k old d was at_disk).honest ∙ honest) at_member in
       record {
-        super = super_of m.superblock;
+        super = record (super_of m.superblock) { offset = s.info.superblock.recovery_offset };
         number = refl;
         places = subst (λ (x : Disk). HasPlaces m (block_on x.content)) (got_same v.disks k s.new d s.is at_disk) (places_new a m s.info s.old s.new s.opened);
-        is = subst (λ (x : Disk). super_in (block_on x.content) ≡ Some (super_of m.superblock)) (got_same v.disks k s.new d s.is at_disk) (super_new a m s.info s.old s.new s.opened);
+        is = subst (λ (x : Disk). super_in (block_on x.content) ≡ Some (record (super_of m.superblock) { offset = s.info.superblock.recovery_offset })) (got_same v.disks k s.new d s.is at_disk) (super_new a m s.info s.old s.new s.opened);
         recovering = refl;
-        listed = subst (λ (x : Disk). (sector : ℕ) → is_listed m.superblock x.content sector ≡ is_listed_next m.superblock x.content sector) (got_same v.disks k s.new d s.is at_disk) (listed_next_new a m s.info s.old s.new s.opened);
-        known = subst (λ (x : Disk). (sector : ℕ) → (is_listed m.superblock x.content sector ≡ true) ↔ IsBad m.bad sector) (got_same v.disks k s.new d s.is at_disk) (bad_is_listed a m s.info s.old s.new s.opened);
+        listed = λ sector on.
+            let same = subst (λ (x : Disk). is_listed m.superblock x.content sector ≡ is_listed_next m.superblock x.content sector) (got_same v.disks k s.new d s.is at_disk) (listed_next_new a m s.info s.old s.new s.opened sector) in
+            sym same ∙ on;
+        known = λ sector on.
+            let same = subst (λ (x : Disk). is_listed m.superblock x.content sector ≡ is_listed_next m.superblock x.content sector) (got_same v.disks k s.new d s.is at_disk) (listed_next_new a m s.info s.old s.new s.opened sector) in
+            (subst (λ (x : Disk). (is_listed m.superblock x.content sector ≡ true) ↔ IsBad m.bad sector) (got_same v.disks k s.new d s.is at_disk) (bad_is_listed a m s.info s.old s.new s.opened sector)).0 (same ∙ on);
       }
 
   pub consistent : IsConsistent v

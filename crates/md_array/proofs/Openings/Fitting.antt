@@ -17,7 +17,7 @@ use Rattle.md_state.specs.View.{Disk, ArrayView}
 use Rattle.md_array.specs.Opening.{IsArrayOf}
 use Rattle.md_array.specs.Fits.{Fits, FitsMember}
 use Rattle.md_state.proofs.Kept.Geometry.{alike, states_as_many}
-use Rattle.md_array.proofs.Openings.OwnFields.{bitmap_same, placed_next}
+use Rattle.md_array.proofs.Openings.OwnFields.{at_offset, bitmap_same, placed_next}
 use Rattle.md_array.proofs.Openings.Whole.{are_whole}
 use Rattle.md_assembly.proofs.Indices.{got_within}
 
@@ -44,12 +44,12 @@ superblock_at infos i v is = by (slice_get infos i) refl where
   by None at = absurd (none-some v (sym (slice_get-map (λ info. info.superblock) infos i ∙ ap (option_map (λ info. info.superblock)) at) ∙ is))
 
 -- a member that is kept of what was read on its device
-kept_fits : (a : ArrayView) (m : MemberView) (d : Disk) (info : MemberInfo) → 16 ≤ sectors_of d.content → m.superblock ≡ kept_superblock info → m.stored.chunks ≡ chunk_count info.superblock.size m.header.chunksize → a.shared.size ≡ info.superblock.size
+kept_fits : (a : ArrayView) (m : MemberView) (d : Disk) (offset : ℕ) (info : MemberInfo) → 16 ≤ sectors_of d.content → m.superblock ≡ at_offset offset (kept_superblock info) → m.stored.chunks ≡ chunk_count info.superblock.size m.header.chunksize → a.shared.size ≡ info.superblock.size
     → ReadsWith d.content d.honest info.superblock m.header → FitsMember a m d
-kept_fits a m d info long superblock chunks size read = record {
+kept_fits a m d offset info long superblock chunks size read = record {
   long = long;
   has = rw superblock (bitmap_same info.bad info.superblock ∙ read.has);
-  placed = rw (superblock, chunks) (placed_next info.bad info.superblock (sectors_of d.content) _ read.reads.placed);
+  placed = rw (superblock, chunks) (placed_next info.bad offset info.superblock (sectors_of d.content) _ read.reads.placed);
   few_chunks = rw chunks read.reads.few_chunks;
   sound = record {
     chunk_size = chunk_size_of d.content d.honest info.superblock m.header read.reads.header;
@@ -72,6 +72,6 @@ fits disks a of = record {
       let fresh = superblock_at of.infos of.assembly.freshest a.shared of.remembered.shared in
       let same = alike of.infos of.assembly.freshest k fresh.0 info.0 (whole of.assembly.freshest fresh.0 fresh.1).header m.header whole of.sound fresh.1 info.1 (whole of.assembly.freshest fresh.0 fresh.1).has_header kept.header in
       let within = member.superblock.read.within in
-      kept_fits a m d info.0 (omega arith) kept.superblock kept.chunks (ap (λ (v : Superblock). v.size) (sym fresh.2) ∙ same.size)
+      kept_fits a m d _ info.0 (omega arith) kept.superblock kept.chunks (ap (λ (v : Superblock). v.size) (sym fresh.2) ∙ same.size)
       (reads_with d.content d.honest info.0.superblock info.0.header info.0.marks m.header kept.header member.bitmap);
 }

@@ -98,7 +98,7 @@ module _ (infos : List MemberInfo) (assembly : Assembly) (a : ArrayView) (assemb
   state_in : (k : ℕ) (info : MemberInfo) → slice_get infos k ≡ Some info → slice_get (states_by a.shared (superblocks infos)) k ≡ Some (state_of a.shared info.superblock)
   state_in k info e = got_in_map (state_of a.shared) (superblocks infos) k info.superblock (got_in_map (λ m. m.superblock) infos k info e)
 
-  pub kept_at : (k : ℕ) (info : MemberInfo) (m : MemberView) → slice_get infos k ≡ Some info → IsMember a k m → IsKept a.shared.events info (state_of a.shared info.superblock) m
+  pub kept_at : (k : ℕ) (info : MemberInfo) (m : MemberView) → slice_get infos k ≡ Some info → IsMember a k m → IsKept a.shared.events a.events_cleared info (state_of a.shared info.superblock) m
   kept_at k info m e is =
       remembered.each k info (state_of a.shared info.superblock) m e (ap (λ xs. slice_get xs k) states_are ∙ state_in k info e) is
 

@@ -13,7 +13,7 @@ use Rattle.md_requests.specs.Pending.{PendingView}
 use Rattle.md_kept_members.specs.View.{MemberView}
 use Rattle.md_faults.specs.declared.enrol_fault.EnrolFault.{EnrolFault}
 use Rattle.md_faults.specs.declared.enrol_fault.EnrolFault.TheVariants as fault
-use Rattle.md_state.specs.Enrolling.{GetsRole, MayTakeRole}
+use Rattle.md_state.specs.Enrolling.{MayTakeRole}
 use Rattle.md_state.specs.MakingClean.{first_number}
 use Rattle.md_state.specs.Members.{IsMember}
 use Rattle.md_state.specs.Requests.{IsPending}
@@ -24,18 +24,11 @@ use Rattle.md_array.specs.Fits.{FitsMember}
 use Rattle.md_array.proofs.Steps.MadeClean.{none_listed}
 
 -- ---- a write failed
--- a member that gets a role is not in sync
-gets_out : (a : ArrayView) (m : MemberView) (s : MemberState) (role : ℕ) → GetsRole a m s role → is_in_sync s ≡ false
-gets_out a m (InSync own) role gets = absurd gets
-gets_out a m (Recovering own) role gets = refl
-gets_out a m (Stale own) role gets = refl
-gets_out a m Spare role gets = refl
-gets_out a m Faulty role gets = refl
-
+-- a member that may take its role is not in sync
 pub out_of_sync : (a : ArrayView) (k role : ℕ) → MayTakeRole k a role → (m : MemberView) → IsMember a k m → is_in_sync m.state ≡ false
 out_of_sync a k role may m is =
     let same : may.member ≡ m = got_same a.members k may.member m may.at is in
-    ap (λ (x : MemberView). is_in_sync x.state) (sym same) ∙ gets_out a may.member may.member.state role may.gets
+    ap (λ (x : MemberView). is_in_sync x.state) (sym same) ∙ ap is_in_sync may.recovering
 
 fits_as_long : (a : ArrayView) (m : MemberView) (d e : Disk) → length e.content ≡ length d.content → FitsMember a m d → FitsMember a m e
 fits_as_long a m d e long fit =
@@ -78,7 +71,6 @@ module _ (k : ℕ) (copied orphans : Bitmap) (old new : MirrorView) (c : IsConsi
 module _ (k : ℕ) (copied orphans : Bitmap) (old new : MirrorView) (c : IsConsistent old) where
   pub refused_is_consistent : (f : EnrolFault) → RefusesEnrol k copied orphans old new f → IsConsistent new
   refused_is_consistent fault.Halted r = subst IsConsistent (sym r.unchanged) c
-  refused_is_consistent fault.NoRole r = subst IsConsistent (sym r.unchanged) c
   refused_is_consistent fault.EventsFull r = subst IsConsistent (sym r.unchanged) c
   refused_is_consistent (fault.LogFull j) r = subst IsConsistent (sym r.unchanged) c
   refused_is_consistent fault.TargetFault r = unenrolled_is_consistent k copied orphans old new c r

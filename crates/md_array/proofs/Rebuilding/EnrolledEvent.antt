@@ -1,6 +1,8 @@
 -- A member is prepared, and comes into sync by the write of its superblock: those are the model's events.
 use Rattle.std.proofs.Common.{◌≡◌, ◌≢◌, ℕ, ◌+◌, ◌*◌, ◌/◌, ◌<◌, inl, inr, Bool, true, false, true≢false, cond, ◌&&◌, nat_lt, List, [], ◌∷◌, length, map, set, slice_get, Option, Some, refl, sym, ap, ◌∙◌, subst, arith, eq-eqb, length-set}
-use Rattle.std.proofs.lemmas.Bool.{cases_lt}
+use Rattle.md_state.specs.Missing.{is_missing}
+use Rattle.md_badblocks.specs.Runs.{IsBad}
+use Rattle.std.proofs.lemmas.Bool.{cases_lt, and_parts}
 use Rattle.std.proofs.lemmas.Option.{slice_get_within}
 use Rattle.md_assembly.proofs.Indices.{got_same, got_within}
 use Rattle.md_assembly.specs.declared.state.MemberState.{MemberState}
@@ -23,35 +25,35 @@ use Rattle.md_model.specs.Worlds.{Request, World}
 use Rattle.md_model.proofs.Cases.{below-nat_lt, is_below, not_below-nat_lt}
 use Rattle.md_model.proofs.Puts.{by_same}
 use Rattle.md_model.proofs.Steps.Between.{between_step, in_flight_step}
-use Rattle.md_state.specs.CopyingData.{IsDone, Lists}
+use Rattle.md_state.specs.CopyingData.{IsDone}
 use Rattle.md_state.specs.DeviceChanges.{StaysHonest}
-use Rattle.md_state.specs.Enrolling.{GetsRole, enrolled}
+use Rattle.md_state.specs.Enrolling.{enrolled}
 use Rattle.md_state.specs.Members.{IsInSync, IsMember}
 use Rattle.md_state.specs.Requests.{AreInFlight}
-use Rattle.md_state.specs.View.{ArrayView, Disk, MirrorView}
+use Rattle.md_state.specs.View.{ArrayView, Disk, MirrorView, geometry_of}
 use Rattle.md_super.specs.declared.superblock.Superblock.{Superblock}
 use Rattle.md_super.specs.Merge.{merged}
 use Rattle.md_super.proofs.Order.{sound_without_fault}
 use Rattle.md_super.proofs.RoleLists.{length-roles_in}
 use Rattle.md_array.specs.Consistency.{IsConsistent}
 use Rattle.md_array.specs.Enrolling.{Enrols, MayEnrol}
-use Rattle.md_array.specs.Enrolments.{EndsBelow, IsHeldBy, enrol_event, lists_of, prepared}
+use Rattle.md_array.specs.Enrolments.{EndsBelow, IsHeldBy, enrol_event, prepared}
 use Rattle.md_array.specs.Events.{Does}
 use Rattle.md_array.specs.InTurn.{Leads, Requests}
 use Rattle.md_array.specs.ReadAsKept.{AreReadAsKept, IsReadAsKept}
 use Rattle.md_array.specs.Recording.{IsReadable, write_of}
-use Rattle.md_array.specs.Worlds.{AreHonest, from_super, geometry_of, header_on, is_listed, kind_of, lies_in, stored_of, world_of, world_on}
+use Rattle.md_array.specs.Worlds.{AreHonest, from_super, header_on, is_listed, kind_of, lies_in, stored_of, world_of, world_on, lists_of}
 use Rattle.md_array.proofs.General.Indices.{at_map, at_set_same, got_in_map, got_other}
 use Rattle.md_array.proofs.General.Replaced.{of_set}
 use Rattle.md_array.proofs.General.Tests.{and_same}
 use Rattle.md_array.proofs.Rebuilding.EnrolledWorld as enrolled_world
 use Rattle.md_array.proofs.Rebuilding.FilledEvent.{may_rebuild, same_missing}
-use Rattle.md_array.proofs.Rebuilding.HeldContent.{another, chunk_low, had_content, it_holds, one_has_it}
+use Rattle.md_array.proofs.Rebuilding.HeldContent.{another, chunk_low, had_content, it_holds, one_has_it, was_missing}
 use Rattle.md_array.proofs.Rebuilding.InBetween.{may_rebuild_it, prepared_is, prepares, superblock, then_at, then_disk, then_holds}
 use Rattle.md_array.proofs.Rebuilding.PreparedEvent.{prepare_happens}
 use Rattle.md_array.proofs.Steps.OneMember.{member_there, stored_there}
 use Rattle.md_array.proofs.Steps.TakenBackEvent.{takes_own}
-use Rattle.md_array.proofs.Worlds.Bad.{bad_from_test, same_test, test_from_bad}
+use Rattle.md_array.proofs.Worlds.Bad.{bad_from_test}
 use Rattle.md_array.proofs.Worlds.InSync.{in_sync_is, in_sync_there}
 use Rattle.md_array.proofs.Worlds.Member.{header_fits_there}
 use Rattle.md_array.proofs.Worlds.PartsApart.{header_beside_super}
@@ -59,20 +61,6 @@ use Rattle.md_array.proofs.Worlds.ReadAsKept.{IsSameArray, kept_in, own_written}
 use Rattle.md_array.proofs.Worlds.Risen.{past_is_high}
 use Rattle.md_array.proofs.Worlds.Shown.{at_is, at_past, by_member}
 use Rattle.md_array.proofs.Worlds.States.{same_active}
-
-recovers_in : (a : ArrayView) (m : MemberView) (s : MemberState) (role : ℕ) → GetsRole a m s role → states.is_recovering (kind_of s) ≡ true → takes_role role s ≡ true
-recovers_in a m (InSync own) role gets h = absurd gets
-recovers_in a m (Recovering own) role gets h = eq-eqb own role (sym gets)
-recovers_in a m (Stale own) role gets h = absurd gets
-recovers_in a m Spare role gets h = absurd cc
-recovers_in a m Faulty role gets h = absurd gets
-
-gets_out : (a : ArrayView) (m : MemberView) (s : MemberState) (role : ℕ) → GetsRole a m s role → is_in_sync s ≡ false
-gets_out a m (InSync own) role gets = absurd gets
-gets_out a m (Recovering own) role gets = refl
-gets_out a m (Stale own) role gets = refl
-gets_out a m Spare role gets = refl
-gets_out a m Faulty role gets = refl
 
 module _ (k : ℕ) (copied orphans : Bitmap) (old new : MirrorView) (c : IsConsistent old) (sound : IsConsistent new) (r : Enrols k copied orphans old new) where
   abbrev array : ArrayView
@@ -84,11 +72,11 @@ module _ (k : ℕ) (copied orphans : Bitmap) (old new : MirrorView) (c : IsConsi
   abbrev n : MemberView
   n = r.member
 
-  gets : GetsRole array it it.state r.role
-  gets = subst (λ (x : MemberView). GetsRole array x x.state r.role) (got_same array.members k r.may.member it r.may.at r.comes.at) r.may.gets
+  state_is : it.state ≡ Recovering r.role
+  state_is = subst (λ (x : MemberView). x.state ≡ Recovering r.role) (got_same array.members k r.may.member it r.may.at r.comes.at) r.may.recovering
 
   pub out : is_in_sync it.state ≡ false
-  out = gets_out array it it.state r.role gets
+  out = ap is_in_sync state_is
 
   its_number : n.superblock.dev_number ≡ it.superblock.dev_number
   its_number = ap (λ (v : Superblock). v.dev_number) (superblock k copied orphans old new c r)
@@ -144,10 +132,11 @@ module _ (k : ℕ) (copied orphans : Bitmap) (old new : MirrorView) (c : IsConsi
       stored_k = stored_there now array k it then r.comes.at then_there
 
       -- ---- its role
-      own_role : states.is_recovering (w.state k) ≡ true → w.role (w.number k) ≡ r.role
-      own_role recovering =
-          let here = sym (ap states.is_recovering (member_there array k it states.State.Faulty (λ x. kind_of x.state) r.comes.at)) ∙ recovering in
-          ap (role_in array.shared) number_k ∙ c.roles.shared k r.role it r.comes.at (recovers_in array it it.state r.role gets here)
+      own_role : w.role (w.number k) ≡ r.role
+      own_role = ap (role_in array.shared) number_k ∙ c.roles.shared k r.role it r.comes.at (ap (takes_role r.role) state_is ∙ eq-eqb r.role r.role refl)
+
+      recovers : states.is_recovering (w.state k) ≡ true
+      recovers = ap states.is_recovering (member_there array k it states.State.Faulty (λ x. kind_of x.state) r.comes.at ∙ ap kind_of state_is)
 
       role_free : (j : ℕ) → j ≢ k → states.is_active (w.state j) ≡ true → w.role (w.number j) ≢ r.role
       role_free j apart active same = by_member array j
@@ -197,7 +186,6 @@ module _ (k : ℕ) (copied orphans : Bitmap) (old new : MirrorView) (c : IsConsi
           at_now : slice_get now j ≡ Some disk
           at_old : slice_get old.disks j ≡ Some disk
           stored : w.stored j ≡ stored_of array y disk.content
-          known : (s : ℕ) → is_listed y.superblock disk.content s ≡ lies_in y.bad s
 
         other : (j : ℕ) (y : MemberView) → IsInSync array j y → IsOther j y
         other j y on =
@@ -205,13 +193,11 @@ module _ (k : ℕ) (copied orphans : Bitmap) (old new : MirrorView) (c : IsConsi
             let many = c.fits.as_many in
             let z = got_within old.disks j (omega arith) in
             let at = got_other old.disks k j then (another k copied orphans old new c r may ends honest d was j y on) ∙ z.1 in
-            let has = c.supers r.may.running j z.0 y z.1 on.member on.in_sync (honest j z.0 z.1) in
             record {
               disk = z.0;
               at_now = at;
               at_old = z.1;
               stored = stored_there now array j y z.0 on.member at;
-              known = λ s. same_test (is_listed y.superblock z.0.content s) (lies_in y.bad s) (has.known s) (bad_from_test y.bad s, test_from_bad y.bad s);
             }
 
         agrees : (j s : ℕ) → worlds.IsInSync w j → AgreeAt (w.stored j) (record (w.stored k) { listed = listed }) s
@@ -221,8 +207,8 @@ module _ (k : ℕ) (copied orphans : Bitmap) (old new : MirrorView) (c : IsConsi
             elim (cases_lt s array.chunks.size) [
               | inl low ↦
                   let test = below-nat_lt s array.chunks.size low in
-                  let clear : Lists y.0 s → ⊥ = λ bad. true≢false (sym (test_from_bad y.0.bad (y.0.superblock.data_offset + s) bad) ∙ sym (o.known (y.0.superblock.data_offset + s))
-                  ∙ ap (λ b. b && is_listed y.0.superblock o.disk.content (y.0.superblock.data_offset + s)) (sym test) ∙ sym (ap (λ (x : Stored). x.listed s) o.stored) ∙ off) in
+                  let clear : is_listed y.0.superblock o.disk.content (y.0.superblock.data_offset + s) ≡ false =
+                  ap (λ b. b && is_listed y.0.superblock o.disk.content (y.0.superblock.data_offset + s)) (sym test) ∙ sym (ap (λ (x : Stored). x.listed s) o.stored) ∙ off in
                   ap (λ (x : Stored). x.content s) o.stored
                   ∙ ap (λ b. cond b (part o.disk.content (512 * (y.0.superblock.data_offset + s)) 512) []) test
                   ∙ held.in_sync.held j o.disk y.0 o.at_now y.1 s low clear
@@ -237,22 +223,36 @@ module _ (k : ℕ) (copied orphans : Bitmap) (old new : MirrorView) (c : IsConsi
                   ∙ sym (ap (λ (x : Stored). x.content s) stored_k)
             ]
 
-        was_copied : (s : ℕ) → s < array.chunks.size → model.is_missing w k (s / array.chunks.sectors) ≡ true → listed s ≡ false
-            → (j : ℕ) × worlds.IsInSync w j × ((w.stored j).listed s ≡ false)
-        was_copied s low missing unlisted =
-            let here = sym (same_missing k mid requests (may_rebuild_it k copied orphans old new c r may) (s / array.chunks.sectors) (chunk_low k copied orphans old new c r may ends honest d was s low)) ∙ missing in
+        -- some member in sync does not list a sector that is not listed any more
+        abbrev HasIt : ℕ → Type 0
+        HasIt s = (j : ℕ) × worlds.IsInSync w j × ((w.stored j).listed s ≡ false)
+
+        not_listed : (s : ℕ) → s < array.chunks.size → is_missing array it (s / array.chunks.sectors) ≡ true → listed s ≡ false → HasIt s
+        not_listed s low here unlisted =
             let x = one_has_it k copied orphans old new c r may ends honest d was content (had_content k copied orphans old new c r may ends honest d was content held.in_sync) s low here unlisted in
-            let o = other x.0 x.1 x.2 in (
-              x.0,
-              in_sync_there now array requests x.0 x.1 x.2,
+            let o = other x.index x.member x.in_sync in
+            let same : x.disk ≡ o.disk = got_same old.disks x.index x.disk o.disk x.at_disk o.at_old in (
+              x.index,
+              in_sync_there now array requests x.index x.member x.in_sync,
               ap (λ (y : Stored). y.listed s) o.stored
-                  ∙ ap (λ b. b && is_listed x.1.superblock o.disk.content (x.1.superblock.data_offset + s)) (below-nat_lt s array.chunks.size low)
-                  ∙ o.known (x.1.superblock.data_offset + s) ∙ x.3,
+                  ∙ ap (λ b. b && is_listed x.member.superblock o.disk.content (x.member.superblock.data_offset + s)) (below-nat_lt s array.chunks.size low)
+                  ∙ ap (λ (z : Disk). is_listed x.member.superblock z.content (x.member.superblock.data_offset + s)) (sym same) ∙ x.unlisted,
             )
+
+        was_copied : (s : ℕ) → s < array.chunks.size → model.is_missing (geometry_of array) w k (s / array.chunks.sectors) ≡ true → listed s ≡ false → HasIt s
+        was_copied s low missing unlisted =
+            not_listed s low (sym (same_missing k mid requests (may_rebuild_it k copied orphans old new c r may) (s / array.chunks.sectors) (chunk_low k copied orphans old new c r may ends honest d was s low)) ∙ missing) unlisted
+
+        was_listed : (s : ℕ) → s < array.chunks.size → w.bad k s ≡ true → listed s ≡ false → HasIt s
+        was_listed s low bad unlisted =
+            let had : lists_of array it s ≡ true = sym (member_there array k it false (λ x. lists_of array x s) r.comes.at) ∙ bad in
+            let is : IsBad it.bad (it.superblock.data_offset + s) = bad_from_test it.bad (it.superblock.data_offset + s) (and_parts (nat_lt s array.chunks.size) _ had).1 in
+            not_listed s low (was_missing k copied orphans old new c r may ends honest d was s low is unlisted) unlisted
 
         may_enrol : model.MayEnrol (geometry_of array) w k r.role listed
         may_enrol = record {
           rebuild = may_rebuild k mid requests (may_rebuild_it k copied orphans old new c r may) in_flight;
+          recovering = recovers;
           resynced = may.resynced;
           below = low_role;
           own = own_role;
@@ -264,6 +264,7 @@ module _ (k : ℕ) (copied orphans : Bitmap) (old new : MirrorView) (c : IsConsi
           bitmap_fits = its_fit;
           agrees = agrees;
           copied = was_copied;
+          unlisted = was_listed;
         }
 
         step : Step (geometry_of array) w (Event.Enrol k r.role listed) (world_of new requests)

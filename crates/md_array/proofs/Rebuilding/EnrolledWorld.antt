@@ -1,5 +1,6 @@
 -- A member comes into sync by the write of its superblock: its device and the array's world then.
 use Rattle.std.proofs.Common.{◌≡◌, ℕ, ◌+◌, ◌*◌, ◌/◌, ◌<◌, ◌≤◌, ◌↔◌, Bool, true, false, cond, not, ◌&&◌, ◌||◌, ◌==◌, eqb, leb, nat_lt, List, [], ◌∷◌, ◌++◌, length, length-set, set, slice_get, Option, Some, None, option_map, unwrap_or, refl, sym, ap, ◌∙◌, subst, arith}
+use Rattle.md_array.proofs.Rebuilding.MemberEnrolled.{lists_now}
 use Rattle.std.specs.Int.Bits.{and_zero_r}
 use Rattle.std.specs.List.{list_any, range_with_len}
 use Rattle.std.proofs.lemmas.List.FromFn.{length-map-range_with_len}
@@ -27,7 +28,7 @@ use Rattle.md_state.proofs.Members.Filled.{filled_with}
 use Rattle.md_state.specs.Enrolling.{enrolled, is_full_with}
 use Rattle.md_state.specs.Members.{IsMember, is_degraded, is_filled}
 use Rattle.md_state.specs.Rising.{is_absent, risen}
-use Rattle.md_state.specs.View.{ArrayView, Disk, MirrorView, of_disks}
+use Rattle.md_state.specs.View.{ArrayView, Disk, MirrorView, of_disks, geometry_of}
 use Rattle.md_super.specs.declared.superblock.Superblock.{Superblock}
 use Rattle.md_super.specs.Merge.{merged}
 use Rattle.md_writes.specs.Bitmaps.{bitmap_writes}
@@ -35,9 +36,8 @@ use Rattle.md_writes.specs.Writes.{DoesWrites, Write, after}
 use Rattle.md_writes.proofs.Runs.{after-append}
 use Rattle.md_array.specs.Consistency.{IsConsistent}
 use Rattle.md_array.specs.Enrolling.{Enrols, log_writes}
-use Rattle.md_array.specs.Enrolments.{lists_of}
 use Rattle.md_array.specs.Recording.{write_of}
-use Rattle.md_array.specs.Worlds.{block_on, geometry_of, is_listed, kind_of, lies_in, stored_of, stored_on, super_in, super_of, world_of, world_on}
+use Rattle.md_array.specs.Worlds.{block_on, is_listed, kind_of, lies_in, stored_of, stored_on, super_in, super_of, world_of, world_on, lists_of}
 use Rattle.md_array.proofs.General.Indices.{any_kept, at_set_same, got_in_map, got_other}
 use Rattle.md_array.proofs.General.Replaced.{read_changed, read_kept}
 use Rattle.md_array.proofs.General.Tests.{and_same}
@@ -136,10 +136,7 @@ module _ (k : ℕ) (copied orphans : Bitmap) (old new : MirrorView) (c : IsConsi
 
   -- what it lists is its list
   listed_is : (sector : ℕ) → is_listed n.superblock e.content sector ≡ lies_in n.bad sector
-  listed_is sector =
-      let running = ap (λ (x : ArrayView). x.halted) r.array ∙ r.may.running in
-      let has = sound.supers running k e n is new_at (ap is_in_sync r.comes.comes.state) (does.kept.honest_kept ∙ honest) in
-      same_test (is_listed n.superblock e.content sector) (lies_in n.bad sector) (has.known sector) (bad_from_test n.bad sector, test_from_bad n.bad sector)
+  listed_is sector = same_test (is_listed n.superblock e.content sector) (lies_in n.bad sector) (lists_now k copied orphans old new c r d e was is honest sector) (bad_from_test n.bad sector, test_from_bad n.bad sector)
 
   same_number : n.superblock.dev_number ≡ it.superblock.dev_number
   same_number = ap (λ (v : Superblock). v.dev_number) same_super
@@ -149,6 +146,9 @@ module _ (k : ℕ) (copied orphans : Bitmap) (old new : MirrorView) (c : IsConsi
       ap has_recovery_offset same_super
       ∙ own_fields.recovery_same r.comes.list (whole it.superblock r.comes.list)
       ∙ ap (λ (x : ℕ). not (x == 0)) (and_assoc 2 it.superblock.feature_map 0xffff_fffd ∙ and_zero_r it.superblock.feature_map)
+
+  none_left : n.superblock.recovery_offset ≡ 0
+  none_left = ap (λ (v : Superblock). v.recovery_offset) same_super
 
   -- ---- its world
   module _ (requests : ℕ → Option Request) where
@@ -170,10 +170,10 @@ module _ (k : ℕ) (copied orphans : Bitmap) (old new : MirrorView) (c : IsConsi
     role_is : (x : ℕ) → role_in b.shared x ≡ put (u.number k) role u.role x
     role_is x = role_joined array n role small x ∙ ap (λ number. put number role u.role x) number_is
 
-    super_is : super_of (merged new.array.shared n.superblock) ≡ joined_super u (u.number k) role false
+    super_is : super_of (merged new.array.shared n.superblock) ≡ joined_super u (u.number k) role false 0
     super_is =
         ap (λ (x : ArrayView). super_of (merged x.shared n.superblock)) r.array
-        ∙ (λ i. record { number = number_is i; events = array.shared.events + 1; role = λ x. role_is x i; recovering = bit i })
+        ∙ (λ i. record { number = number_is i; events = array.shared.events + 1; role = λ x. role_is x i; recovering = bit i; offset = none_left i })
 
     stored_up : u.stored k ≡ stored_of array it then.content
     stored_up =
@@ -182,7 +182,7 @@ module _ (k : ℕ) (copied orphans : Bitmap) (old new : MirrorView) (c : IsConsi
 
     device_is : stored_of b n e.content ≡ model.enrolled_device u k role listed
     device_is =
-        let super : super_in (block_on e.content) ≡ Some (joined_super u (u.number k) role false) =
+        let super : super_in (block_on e.content) ≡ Some (joined_super u (u.number k) role false 0) =
         ap super_in block_is ∙ readable_super new.array n r.readable ∙ ap Some super_is in
         let lists : (s : ℕ) → (nat_lt s array.chunks.size && is_listed n.superblock e.content (n.superblock.data_offset + s)) ≡ listed s =
         λ s. ap (λ t. nat_lt s array.chunks.size && t) (listed_is (n.superblock.data_offset + s)) in
@@ -190,7 +190,7 @@ module _ (k : ℕ) (copied orphans : Bitmap) (old new : MirrorView) (c : IsConsi
         ap (λ (v : Superblock). stored_of b (record n { superblock = v }) then.content) same_super in
         super_alone b n then.content e.content parts_then outside
         ∙ (λ i. record (same i) { super = super i; listed = λ s. lists s i })
-        ∙ (λ i. record (sym stored_up i) { super = Some (joined_super u (u.number k) role false); listed = listed })
+        ∙ (λ i. record (sym stored_up i) { super = Some (joined_super u (u.number k) role false 0); listed = listed })
 
     stored_b : (o : Option MemberView) (x : Option Disk) → stored_on b o x ≡ stored_on up o x
     stored_b None None = refl
@@ -213,6 +213,12 @@ module _ (k : ℕ) (copied orphans : Bitmap) (old new : MirrorView) (c : IsConsi
         ∙ and_same (nat_lt x array.marks.chunks) (is_set n.stored.bytes x) (is_set array.marks.bytes x) (λ low. r.comes.comes.stored.bits x (is_below x array.marks.chunks low)))
         (λ apart. ap (λ o. unwrap_or (option_map (λ (y : MemberView). nat_lt x array.marks.chunks && is_set y.stored.bytes x) o) false) (got_other up.members k j n apart))
 
+    bad_put : (j x : ℕ) → unwrap_or (option_map (λ (y : MemberView). lists_of array y x) (slice_get b.members j)) false ≡ put k listed u.bad j x
+    bad_put j x = put-at k listed u.bad j
+        (λ h. unwrap_or (option_map (λ (y : MemberView). lists_of array y x) (slice_get b.members j)) false ≡ h x)
+        (λ here. ap (λ o. unwrap_or (option_map (λ (y : MemberView). lists_of array y x) o) false) (ap (slice_get b.members) here ∙ b_at))
+        (λ apart. ap (λ o. unwrap_or (option_map (λ (y : MemberView). lists_of array y x) o) false) (got_other up.members k j n apart))
+
     world_b : world_on new.disks b requests ≡ model.come_into_sync u k role listed
     world_b = λ i. record {
       members = length-set up.members k n i;
@@ -223,8 +229,9 @@ module _ (k : ℕ) (copied orphans : Bitmap) (old new : MirrorView) (c : IsConsi
       due = λ j. (read_changed (λ o. unwrap_or (option_map (λ (x : MemberView). x.due) o) false) up.members k (made_due it) n up_at j
           ∙ ap (λ t. put k t u.due j) r.comes.comes.due) i;
       known = λ j x. known_put j x i;
-      re_added = λ j. (read_changed (λ o. unwrap_or (option_map (λ (x : MemberView). x.re_added) o) false) up.members k (made_due it) n up_at j
-          ∙ ap (λ t. put k t u.re_added j) r.comes.comes.re_added) i;
+      bad = λ j x. bad_put j x i;
+      offset = λ j. (read_changed (λ o. unwrap_or (option_map (λ (x : MemberView). x.superblock.recovery_offset) o) 0) up.members k (made_due it) n up_at j
+          ∙ ap (λ t. put k t u.offset j) none_left) i;
       recovering = λ j. (read_changed (λ o. unwrap_or (option_map (λ (x : MemberView). has_recovery_offset x.superblock) o) false) up.members k (made_due it) n up_at j
           ∙ ap (λ t. put k t u.recovering j) bit) i;
       role = λ x. role_is x i;

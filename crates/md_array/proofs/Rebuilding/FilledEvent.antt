@@ -1,12 +1,15 @@
 -- A member that is rebuilt gets data in chunks that it lacks: that is the model's event.
 use Rattle.std.proofs.Common.{◌≡◌, ◌≢◌, ℕ, ◌+◌, ◌*◌, ◌/◌, ◌<◌, ◌≤◌, inl, inr, Bool, true, false, true≢false, cond, not, ◌&&◌, ◌||◌, nat_lt, List, [], drop, length, slice_get, Option, Some, refl, sym, ap, ◌∙◌, subst, arith, get_or-drop}
+use Rattle.md_model.specs.Sectors.{is_passed}
+use Rattle.md_array.proofs.Worlds.States.{same_in_sync, same_recovering}
+use Rattle.md_array.proofs.Worlds.Noted.{noted_there}
 use Rattle.std.proofs.lemmas.Bool.{cases_lt}
 use Rattle.std.proofs.lemmas.Nat.{div_below, le-div}
 use Rattle.std.proofs.lemmas.Option.{same_Some, slice_get_within}
 use Rattle.std.proofs.Math.Nat.{add-mul}
 use Rattle.md_assembly.specs.declared.state.MemberState.{MemberState}
 use Rattle.md_assembly.specs.declared.state.MemberState.TheVariants.{InSync, Recovering, Stale, Spare, Faulty}
-use Rattle.md_assembly.specs.States.{is_in_sync}
+use Rattle.md_assembly.specs.States.{is_in_sync, is_recovering}
 use Rattle.md_assembly.proofs.Indices.{got_within}
 use Rattle.md_bitmap.specs.declared.chunks.Chunks.{Chunks}
 use Rattle.md_bitmap.specs.Marks.{is_set}
@@ -24,12 +27,12 @@ use Rattle.md_model.proofs.Puts.{by_same}
 use Rattle.md_state.specs.Members.{IsMember}
 use Rattle.md_state.specs.Missing.{is_missing, is_rebuilt}
 use Rattle.md_state.specs.Requests.{AreInFlight}
-use Rattle.md_state.specs.View.{ArrayView, Disk, MirrorView}
+use Rattle.md_state.specs.View.{ArrayView, Disk, MirrorView, geometry_of}
 use Rattle.md_array.specs.Consistency.{IsConsistent}
 use Rattle.md_array.specs.Events.{Happens, IsSameBesideMissing}
 use Rattle.md_array.specs.Filling.{Fills, MayRebuild}
 use Rattle.md_array.specs.Lending.{AreBack, ComesBack, IsBesideChunk}
-use Rattle.md_array.specs.Worlds.{AreHonest, from_super, geometry_of, header_fits, kind_of, stored_of, super_in, world_of}
+use Rattle.md_array.specs.Worlds.{AreHonest, from_super, header_fits, kind_of, stored_of, super_in, world_of}
 use Rattle.md_array.proofs.General.Tests.{and_same}
 use Rattle.md_array.proofs.Rebuilding.OneDevice.{IsOnlyAt, changed_only, only_does, only_left, only_world}
 use Rattle.md_array.proofs.Steps.DevicesBack.{block_back, header_back, in_area, log_back, read_back}
@@ -57,10 +60,6 @@ other_chunk chunks offset s c wide other =
     ]
 
 -- ---- the model's chunks that a member lacks are those of the array
-missing_by : (re : Bool) (x y : Bool) → x ≡ y → not re || x ≡ cond re y true
-missing_by true x y same = same
-missing_by false x y same = refl
-
 rebuilt_out : (s : MemberState) → is_rebuilt s ≡ true → (states.is_in_sync (kind_of s) ≡ false) × (is_in_sync s ≡ false)
 rebuilt_out (InSync role) h = absurd cc
 rebuilt_out (Recovering role) h = (refl, refl)
@@ -82,17 +81,19 @@ module _ (k : ℕ) (v : MirrorView) (requests : ℕ → Option Request) (may : M
   state_is : (world_of v requests).state k ≡ kind_of target.state
   state_is = member_there v.array k target states.State.Faulty (λ x. kind_of x.state) may.at
 
-  re_added_is : (world_of v requests).re_added k ≡ target.re_added
-  re_added_is = member_there v.array k target false (λ x. x.re_added) may.at
+  in_sync_is : states.is_in_sync ((world_of v requests).state k) ≡ is_in_sync target.state
+  in_sync_is = ap states.is_in_sync state_is ∙ same_in_sync target.state
 
-  pub same_missing : (c : ℕ) → c < v.array.marks.chunks → model.is_missing (world_of v requests) k c ≡ is_missing v.array target c
+  pub recovering_is : states.is_recovering ((world_of v requests).state k) ≡ is_recovering target.state
+  recovering_is = ap states.is_recovering state_is ∙ same_recovering target.state
+
+  offset_is : (world_of v requests).offset k ≡ target.superblock.recovery_offset
+  offset_is = member_there v.array k target 0 (λ x. x.superblock.recovery_offset) may.at
+
+  pub same_missing : (c : ℕ) → c < v.array.marks.chunks → model.is_missing (geometry_of v.array) (world_of v requests) k c ≡ is_missing v.array target c
   same_missing c low =
-      let out = rebuilt_out target.state may.rebuilt in
-      ap (λ s. not (states.is_in_sync s) && (not ((world_of v requests).re_added k) || (nat_lt c v.array.marks.chunks && is_set v.array.marks.bytes c))) state_is
-      ∙ ap (λ b. not b && (not ((world_of v requests).re_added k) || (nat_lt c v.array.marks.chunks && is_set v.array.marks.bytes c))) out.0
-      ∙ ap (λ b. not b || (nat_lt c v.array.marks.chunks && is_set v.array.marks.bytes c)) re_added_is
-      ∙ missing_by target.re_added (nat_lt c v.array.marks.chunks && is_set v.array.marks.bytes c) (is_set v.array.marks.bytes c) (ap (λ b. b && is_set v.array.marks.bytes c) (below-nat_lt c v.array.marks.chunks low))
-      ∙ sym (ap (λ b. cond target.re_added (is_set v.array.marks.bytes c) (not b)) out.1)
+      let marked : (nat_lt c v.array.marks.chunks && is_set v.array.marks.bytes c) ≡ is_set v.array.marks.bytes c = ap (λ b. b && is_set v.array.marks.bytes c) (below-nat_lt c v.array.marks.chunks low) in
+      λ i. model.lacks (in_sync_is i) (recovering_is i) (marked i) (is_passed (geometry_of v.array) (offset_is i) c)
 
   pub may_rebuild : AreInFlight v.array requests → model.MayRebuild (world_of v requests) k
   may_rebuild in_flight = record {
@@ -181,10 +182,10 @@ module _ (k : ℕ) (old new : MirrorView) (c : IsConsistent old) (f : Fills k ol
     is_stored = stored_there new.disks a k m e f.may.at is
 
     -- a sector of a chunk that it does not lack stays
-    sector_stays : (s : ℕ) → model.is_missing w k (s / a.chunks.sectors) ≡ false → part e.content (512 * (m.superblock.data_offset + s)) 512 ≡ part d.content (512 * (m.superblock.data_offset + s)) 512
+    sector_stays : (s : ℕ) → model.is_missing (geometry_of a) w k (s / a.chunks.sectors) ≡ false → part e.content (512 * (m.superblock.data_offset + s)) 512 ≡ part d.content (512 * (m.superblock.data_offset + s)) 512
     sector_stays s has = (f.disks.changed d e was is (honest k d was)).beside (512 * (m.superblock.data_offset + s)) 512
         (λ x low missing. other_chunk a.chunks m.superblock.data_offset s x c.chunks.wide
-        (λ same. true≢false (sym missing ∙ sym (same_missing k old requests f.may x low) ∙ sym (ap (model.is_missing w k) same) ∙ has)))
+        (λ same. true≢false (sym missing ∙ sym (same_missing k old requests f.may x low) ∙ sym (ap (model.is_missing (geometry_of a) w k) same) ∙ has)))
 
     by_filling : model.LeftByFilling (geometry_of a) w k left
     by_filling = record {
@@ -201,8 +202,14 @@ module _ (k : ℕ) (old new : MirrorView) (c : IsConsistent old) (f : Fills k ol
           ∙ sym (ap (λ (x : Stored). x.content s) was_stored);
     }
 
+    may_fill : model.MayFill w k
+    may_fill = record {
+      rebuild = may_rebuild k old requests f.may in_flight;
+      noted = λ on. noted_there old requests (f.noted (sym (recovering_is k old requests f.may) ∙ on));
+    }
+
     fill_step : Step (geometry_of a) w (Event.Fill k) (world_of new requests)
-    fill_step = (f.may.idle.running, (left, may_rebuild k old requests f.may in_flight, by_filling, only_world k m old new c f.may.at f.may.rebuilt f.array only requests))
+    fill_step = (f.may.idle.running, (left, may_fill, by_filling, only_world k m old new c f.may.at f.may.rebuilt f.array only requests))
 
 pub fill_happens : (k : ℕ) (old new : MirrorView) → IsConsistent old → Fills k old new → Happens old (Event.Fill k) new
 fill_happens k old new c f honest requests in_flight =

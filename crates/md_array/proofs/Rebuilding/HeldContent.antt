@@ -1,11 +1,10 @@
 -- A member that comes into sync holds what the members in sync hold, in each sector that it does not list then.
-use Rattle.std.proofs.Common.{◌≡◌, ◌≢◌, ℕ, ◌+◌, ◌*◌, ◌/◌, ◌<◌, ◌≤◌, inl, inr, Bool, true, false, true≢false, cond, not, ◌&&◌, eqb, nat_lt, List, ◌∷◌, length, set, slice_get, Some, refl, sym, ap, ◌∙◌, subst, arith, eq-eqb, ne_eqb, lt-ltb}
+use Rattle.std.proofs.Common.{◌≡◌, ◌≢◌, ℕ, ◌+◌, ◌*◌, ◌/◌, ◌<◌, ◌≤◌, inl, inr, Bool, true, false, true≢false, cond, not, ◌&&◌, eqb, nat_lt, List, ◌∷◌, length, set, slice_get, Option, Some, None, zero, suc, ◌⊎◌, refl, sym, ap, ◌∙◌, subst, arith, eq-eqb, ne_eqb, lt-ltb}
 use Rattle.std.specs.Int.{div_ceil}
-use Rattle.std.specs.List.{list_any}
 use Rattle.std.proofs.lemmas.Bool.{and_from, and_parts, cases_lt}
 use Rattle.std.proofs.lemmas.Nat.{div_below, le-div}
 use Rattle.std.proofs.lemmas.Grind.{div_ceil_times}
-use Rattle.std.proofs.lemmas.Option.{same_Some}
+use Rattle.std.proofs.lemmas.Option.{same_Some, slice_get_within}
 use Rattle.md_assembly.specs.States.{is_in_sync}
 use Rattle.md_assembly.proofs.Indices.{got_same}
 use Rattle.md_badblocks.specs.declared.run.Run.{Run}
@@ -18,29 +17,22 @@ use Rattle.md_kept_members.specs.View.{MemberView}
 use Rattle.md_model.specs.Content.{Content}
 use Rattle.md_model.proofs.Cases.{by_test}
 use Rattle.md_model.proofs.Puts.{by_same}
-use Rattle.md_state.specs.CopyingData.{Lists}
 use Rattle.md_state.specs.Members.{IsInSync}
 use Rattle.md_state.specs.Missing.{is_missing}
 use Rattle.md_state.specs.View.{ArrayView, Disk, MirrorView}
 use Rattle.md_super.specs.declared.superblock.Superblock.{Superblock}
 use Rattle.md_array.specs.Consistency.{IsConsistent}
 use Rattle.md_array.specs.Enrolling.{Enrols, HasContent, MayEnrol}
-use Rattle.md_array.specs.Enrolments.{EndsBelow, IsHeldBy, lists_of}
-use Rattle.md_array.specs.Worlds.{AreHonest, lies_in}
-use Rattle.md_array.proofs.General.Indices.{any_at, at_any, got_other}
+use Rattle.md_array.specs.Enrolments.{EndsBelow, IsHeldBy}
+use Rattle.md_array.specs.Worlds.{AreHonest, is_listed, lies_in, lists_of}
+use Rattle.md_array.proofs.General.Indices.{got_other}
+use Rattle.md_array.proofs.Rebuilding.CopiedContent as some
+use Rattle.md_array.proofs.Rebuilding.CopiedContent.{HasSector}
 use Rattle.md_array.proofs.Rebuilding.InBetween.{may_rebuild_it, superblock, then_at, then_beside, then_disk}
 use Rattle.md_array.proofs.Rebuilding.PreparedEvent.{sector_kept}
 use Rattle.md_array.proofs.Steps.DevicesBack.{unrebuilt}
-use Rattle.md_array.proofs.Worlds.Bad.{bad_from_test, test_from_bad}
+use Rattle.md_array.proofs.Worlds.Bad.{test_from_bad}
 use Rattle.md_array.proofs.Worlds.PartsApart.{parts_of}
-
-not-false : (b : Bool) → not b ≡ true → b ≡ false
-not-false true h = absurd cc
-not-false false h = refl
-
-false-not : (b : Bool) → b ≡ false → not b ≡ true
-false-not true h = absurd cc
-false-not false h = refl
 
 -- the chunk of a sector
 pub its_chunk : (size width s : ℕ) → 0 < width → s < size → InChunk width size (s / width) s
@@ -55,6 +47,13 @@ its_chunk size width s wide inside = record {
   ];
   within = inside;
 }
+
+-- no other chunk has it
+pub chunk_unique : (size width s c : ℕ) → 0 < width → InChunk width size c s → c ≡ s / width
+chunk_unique size width s c wide inside =
+    let up : c ≤ s / width = le-div c s width wide inside.from in
+    let down : s / width < c + 1 = div_below s width (c + 1) wide inside.below in
+    omega arith
 
 module _ (k : ℕ) (copied orphans : Bitmap) (old new : MirrorView) (c : IsConsistent old) (r : Enrols k copied orphans old new) (may : MayEnrol k copied orphans old) (ends : EndsBelow old k)
     (honest : AreHonest old.disks) (d : Disk) (was : slice_get old.disks k ≡ Some d) where
@@ -121,40 +120,25 @@ module _ (k : ℕ) (copied orphans : Bitmap) (old new : MirrorView) (c : IsConsi
       may.holds honest content has d it was r.comes.at (chunk s) s (subst (λ (x : ℕ). chunk s < x) (sym may.copied_chunks) (chunk_low s low)) (was_copied s low missing unlisted)
       (its_chunk array.chunks.size array.chunks.sectors s c.chunks.wide low)
 
-  -- ---- some member in sync does not list it either
-  abbrev has_it : ℕ → MemberView → Bool
-  has_it s y = is_in_sync y.state && not (lies_in y.bad (y.superblock.data_offset + s))
+  -- ---- the device of some member in sync does not list it either
+  pub one_has_it : (content : Content) → HasContent old.disks array content → (s : ℕ) → s < array.chunks.size → is_missing array it (chunk s) ≡ true → listed s ≡ false → HasSector old.disks array s
+  one_has_it content has s low missing unlisted =
+      some.one_has_it old.disks array s content (part d.content (at s) 512) has (λ other held. holds_copied other held s low missing unlisted)
 
-  other_content : Content → ℕ → Content
-  other_content content s t = cond (eqb t s) (0 ∷ content s) (content t)
-
-  unlike : (xs : List ℕ) → xs ≡ 0 ∷ xs → ⊥
-  unlike xs e = let same = ap (λ (ys : List ℕ). length ys) e in omega arith
-
-  not_alone : (content : Content) → HasContent old.disks array content → (s : ℕ) → list_any (has_it s) array.members ≡ false → HasContent old.disks array (other_content content s)
-  unfolding other_content
-  not_alone content has s none = record {
-    held = λ j z y there on t low unlisted. by_same t s
-        (λ here. absurd (true≢false (sym (any_at (has_it s) array.members j y on.member
-        (and_from (is_in_sync y.state) (not (lies_in y.bad (y.superblock.data_offset + s))) on.in_sync
-        (false-not (lies_in y.bad (y.superblock.data_offset + s)) (by_test (lies_in y.bad (y.superblock.data_offset + s))
-        (λ lies. absurd (unlisted (subst (λ (i : ℕ). Lists y i) (sym here) (bad_from_test y.bad (y.superblock.data_offset + s) lies))))
-        (λ off. off))))) ∙ none)))
-        (λ apart. has.held j z y there on t low unlisted ∙ sym (ap (λ b. cond b (0 ∷ content s) (content t)) (ne_eqb t s apart)));
-  }
-
-  pub one_has_it : (content : Content) → HasContent old.disks array content → (s : ℕ) → s < array.chunks.size → is_missing array it (chunk s) ≡ true → listed s ≡ false
-      → (j : ℕ) × (y : MemberView) × IsInSync array j y × (lies_in y.bad (y.superblock.data_offset + s) ≡ false)
-  unfolding other_content
-  one_has_it content has s low missing unlisted = by_test (list_any (has_it s) array.members)
-      (λ some.
-      let x = at_any (has_it s) array.members some in
-      let p = and_parts (is_in_sync x.1.state) (not (lies_in x.1.bad (x.1.superblock.data_offset + s))) x.3 in
-      (x.0, x.1, record { member = x.2; in_sync = p.0 }, not-false (lies_in x.1.bad (x.1.superblock.data_offset + s)) p.1))
-      (λ none.
-      let one = holds_copied content has s low missing unlisted in
-      let other = holds_copied (other_content content s) (not_alone content has s none) s low missing unlisted in
-      absurd (unlike (content s) (sym one ∙ other ∙ ap (λ b. cond b (0 ∷ content s) (content s)) (eq-eqb s s refl))))
+  -- One that it listed and does not list any more is of a chunk that was copied.
+  pub was_missing : (s : ℕ) → s < array.chunks.size → IsBad it.bad (it.superblock.data_offset + s) → listed s ≡ false → is_missing array it (chunk s) ≡ true
+  was_missing s low bad unlisted = by_test (is_set copied.bytes (chunk s))
+      (λ set. subst (λ (x : MemberView). is_missing array x (chunk s) ≡ true) is_it (may.only (chunk s) (chunk_low s low) (inl set)))
+      (λ clear.
+      let sector = it.superblock.data_offset + s in
+      let none : IsOf array.chunks it.superblock.data_offset copied sector → ⊥ = λ of.
+      (let same : of.of_chunk.at ≡ s = let e = of.of_chunk.is in omega arith in
+      let chunk_is : of.chunk ≡ chunk s = chunk_unique array.chunks.size array.chunks.sectors s of.chunk c.chunks.wide (subst (λ (i : ℕ). InChunk array.chunks.sectors array.chunks.size of.chunk i) same of.of_chunk.inside) in
+      true≢false (sym of.in_set ∙ ap (λ (i : ℕ). is_set copied.bytes i) chunk_is ∙ clear)) in
+      let still : IsBad r.comes.list sector = (r.comes.list_is.bad sector).1 (inl (bad, none)) in
+      let there : IsBad r.member.bad (r.member.superblock.data_offset + s) =
+      subst (λ (v : Superblock). IsBad r.member.bad (v.data_offset + s)) (sym (superblock k copied orphans old new c r)) (subst (λ (runs : List Run). IsBad runs sector) (sym r.comes.comes.bad) still) in
+      absurd (true≢false (sym (and_from (nat_lt s array.chunks.size) (lies_in r.member.bad (r.member.superblock.data_offset + s)) (lt-ltb s array.chunks.size low) (test_from_bad r.member.bad (r.member.superblock.data_offset + s) there)) ∙ unlisted)))
 
   -- ---- in the midst
   pub had_content : (content : Content) → HasContent now array content → HasContent old.disks array content

@@ -1,5 +1,8 @@
 -- The mirror in the midst of an enrolment: marks and log are stored, and the superblock is not. No caller sees it.
 use Rattle.std.proofs.Common.{◌≡◌, ◌+◌, ℕ, ◌*◌, ◌/◌, ◌<◌, ◌≤◌, inl, inr, true, List, length, length-set, set, slice_get, Option, Some, refl, sym, ap, ◌∙◌, subst, arith}
+use Rattle.md_assembly.specs.States.{is_recovering}
+use Rattle.md_assembly.specs.declared.state.MemberState.TheVariants.{InSync, Recovering, Stale, Spare, Faulty}
+use Rattle.md_assembly.specs.declared.state.MemberState.{MemberState}
 use Rattle.std.proofs.lemmas.Option.{same_Some, slice_get_within}
 use Rattle.md_assembly.proofs.Indices.{got_same, got_within}
 use Rattle.md_bitmap.specs.declared.header.BitmapHeader.{BitmapHeader}
@@ -40,6 +43,13 @@ use Rattle.md_array.proofs.Worlds.Writes.{HoldsBitmap}
 pub beside_area : (start sectors : ℕ) (old new : List ℕ) → SameOutside (512 * start) (512 * sectors) old new → (at n : ℕ) → IsBesideArea start sectors at n → part new at n ≡ part old at n
 beside_area start sectors old new same at n (inl before) = part_before same at n before
 beside_area start sectors old new same at n (inr behind) = part_after same at n (omega arith)
+
+pub recovers_rebuilt : (s : MemberState) → is_recovering s ≡ true → is_rebuilt s ≡ true
+recovers_rebuilt (Recovering role) on = refl
+recovers_rebuilt (InSync role) on = absurd cc
+recovers_rebuilt (Stale role) on = absurd cc
+recovers_rebuilt Spare on = absurd cc
+recovers_rebuilt Faulty on = absurd cc
 
 module _ (k : ℕ) (copied orphans : Bitmap) (old new : MirrorView) (c : IsConsistent old) (r : Enrols k copied orphans old new) where
   abbrev pub a : ArrayView
@@ -198,7 +208,7 @@ module _ (k : ℕ) (copied orphans : Bitmap) (old new : MirrorView) (c : IsConsi
     idle = record { running = r.may.running; none = may.idle };
     member = m;
     at = r.comes.at;
-    rebuilt = subst (λ (x : MemberView). is_rebuilt x.state ≡ true) (got_same a.members k may.member m may.at r.comes.at) may.rebuilt;
+    rebuilt = subst (λ (x : MemberView). is_rebuilt x.state ≡ true) (got_same a.members k may.member m may.at r.comes.at) (recovers_rebuilt may.member.state may.recovering);
   }
 
   pub prepares : MayEnrol k copied orphans old → Prepares k old (prepared r)

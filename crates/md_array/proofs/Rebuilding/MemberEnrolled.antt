@@ -1,5 +1,8 @@
 -- A member that was rebuilt comes into sync: the mirror stays consistent, and an opening reads what is kept.
-use Rattle.std.proofs.Common.{◌≡◌, ℕ, ◌+◌, ◌/◌, inl, true, not, map, slice_get, Some, refl, sym, ap, ◌∙◌, subst, arith}
+use Rattle.std.proofs.Common.{◌≡◌, ℕ, ◌+◌, ◌/◌, inl, true, not, map, slice_get, Some, refl, sym, ap, ◌∙◌, subst, arith, ◌↔◌}
+use Rattle.md_array.proofs.Rebuilding.RoleTaken.{TakesRole}
+use Rattle.md_badblocks.specs.Runs.{IsBad}
+use Rattle.md_assembly.specs.declared.state.MemberState.TheVariants.{Recovering}
 use Rattle.std.proofs.lemmas.Option.{slice_get_within}
 use Rattle.md_super.specs.declared.superblock.Superblock.{Superblock}
 use Rattle.md_super.specs.Merge.{merged}
@@ -12,7 +15,7 @@ use Rattle.md_writes.specs.Writes.{after}
 use Rattle.md_kept_members.specs.Enrolling.{HasRoomFor}
 use Rattle.md_kept_members.specs.Members.{made_due}
 use Rattle.md_kept_members.specs.View.{MemberView}
-use Rattle.md_state.specs.Enrolling.{GetsRole, enrolled}
+use Rattle.md_state.specs.Enrolling.{enrolled}
 use Rattle.md_state.specs.Joining.{entries_with, joined_roles}
 use Rattle.md_state.specs.Members.{is_degraded}
 use Rattle.md_state.specs.View.{ArrayView, Disk, MirrorView}
@@ -20,13 +23,13 @@ use Rattle.md_array.specs.Consistency.{HasSuper, IsConsistent}
 use Rattle.md_array.specs.Enrolling.{AreEnrolWrites, Enrols}
 use Rattle.md_array.specs.ReadAsKept.{AreReadAsKept, IsReadAsKept}
 use Rattle.md_array.specs.Recording.{IsReadable}
-use Rattle.md_array.specs.Worlds.{AreHonest}
+use Rattle.md_array.specs.Worlds.{AreHonest, is_listed}
 use Rattle.md_array.proofs.General.Indices.{at_map}
 use Rattle.md_array.proofs.General.Replaced.{of_set}
 use Rattle.md_array.proofs.Worlds.ReadAsKept.{IsSameArray, kept_in, own_written}
 use Rattle.md_array.proofs.Worlds.Risen.{risen_is_consistent}
 use Rattle.md_array.proofs.Rebuilding.MemberStored.{HoldsMember, holds_member}
-use Rattle.md_array.proofs.Rebuilding.EnrolledArray.{TakesRole, chunks_enrolled, few_entries, fits_enrolled, roles_enrolled, storable, super_enrolled, takes_by}
+use Rattle.md_array.proofs.Rebuilding.EnrolledArray.{chunks_enrolled, few_entries, fits_enrolled, lists_enrolled, roles_enrolled, storable, super_enrolled, takes_by}
 
 -- ---- the mirror, once it is in sync
 module _ (k : ℕ) (copied orphans : Bitmap) (old new : MirrorView) (c : IsConsistent old) (r : Enrols k copied orphans old new) where
@@ -51,10 +54,10 @@ module _ (k : ℕ) (copied orphans : Bitmap) (old new : MirrorView) (c : IsConsi
   takes : TakesRole a k m r.role
   takes =
       let same : r.may.member ≡ m = got_same a.members k r.may.member m r.may.at r.comes.at in
-      let gets : GetsRole a m m.state r.role = subst (λ (x : MemberView). GetsRole a x x.state r.role) same r.may.gets in
+      let state : m.state ≡ Recovering r.role = subst (λ (x : MemberView). x.state ≡ Recovering r.role) same r.may.recovering in
       let named : IsReadable (merged (record a.shared { events = a.shared.events + 1; roles = joined_roles a m.superblock.dev_number r.role }) n.superblock) =
       subst (λ (v : Superblock). IsReadable (merged (record a.shared { events = a.shared.events + 1; roles = joined_roles a v.dev_number r.role }) n.superblock)) r.comes.comes.superblock readable in
-      takes_by a k m r.role r.comes.at c.roles m.state refl gets (few_entries a k m r.role r.comes.at c.roles n.superblock named)
+      takes_by a k m r.role r.comes.at c.roles state (few_entries a k m r.role r.comes.at c.roles n.superblock named)
 
   room : HasRoomFor n.superblock n.bad
   room = subst (HasRoomFor n.superblock) (sym r.comes.comes.bad) (subst (λ (v : Superblock). HasRoomFor v r.comes.list) (sym r.comes.comes.superblock) r.comes.room)
@@ -73,6 +76,13 @@ module _ (k : ℕ) (copied orphans : Bitmap) (old new : MirrorView) (c : IsConsi
       (storable old c k m n r.comes.list d r.comes.at r.comes.comes.superblock count room before)
       readable e.content
       (does.all_done honest ∙ ap (after d.content) are.are)
+
+  -- what its log lists is its list
+  pub lists_now : (d e : Disk) → slice_get old.disks k ≡ Some d → slice_get new.disks k ≡ Some e → d.honest ≡ true → (sector : ℕ) → is_listed n.superblock e.content sector ≡ true ↔ IsBad n.bad sector
+  lists_now d e before now honest =
+      let come = r.comes.comes in
+      lists_enrolled old.disks new.disks a c k r.role m n r.comes.at takes r.comes.list come.superblock come.header count come.state
+      r.comes.list_is.canonical come.bad room readable are.header e (holds_enrolled d e before now honest)
 
   honest_before : (d e : Disk) → slice_get old.disks k ≡ Some d → slice_get new.disks k ≡ Some e → e.honest ≡ true → d.honest ≡ true
   honest_before d e before after honest = sym (r.disks.change d e before after).0.kept.honest_kept ∙ honest

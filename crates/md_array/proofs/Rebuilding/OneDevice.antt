@@ -17,12 +17,12 @@ use Rattle.md_state.specs.DiskWrites.{AtDevice, IsTried}
 use Rattle.md_state.specs.Members.{IsMember}
 use Rattle.md_state.specs.Missing.{is_rebuilt}
 use Rattle.md_state.specs.Requests.{AreInFlight}
-use Rattle.md_state.specs.View.{ArrayView, Disk, MirrorView}
+use Rattle.md_state.specs.View.{ArrayView, Disk, MirrorView, geometry_of}
 use Rattle.md_writes.specs.Writes.{Write}
 use Rattle.md_array.specs.Consistency.{IsConsistent}
 use Rattle.md_array.specs.Events.{Does, IsChangedAlone, WritesOnce}
 use Rattle.md_array.specs.ReadAsKept.{AreReadAsKept, IsReadAsKept}
-use Rattle.md_array.specs.Worlds.{AreHonest, geometry_of, stored_of, stored_on, world_of, world_on}
+use Rattle.md_array.specs.Worlds.{AreHonest, stored_of, stored_on, world_of, world_on}
 use Rattle.md_array.proofs.Steps.DevicesBack.{same_super, unrebuilt}
 use Rattle.md_array.proofs.Steps.OneMember.{fits_like, like_itself}
 

@@ -12,14 +12,14 @@ use Rattle.md_model.specs.Rebuilding as model
 use Rattle.md_model.specs.States as states
 use Rattle.md_model.specs.Worlds.{Request}
 use Rattle.md_model.proofs.Cases.{none_some}
-use Rattle.md_state.specs.View.{ArrayView, Disk, MirrorView}
+use Rattle.md_state.specs.View.{ArrayView, Disk, MirrorView, geometry_of}
 use Rattle.md_writes.specs.Writes.{Write}
 use Rattle.md_array.specs.Consistency.{IsConsistent}
 use Rattle.md_array.specs.Events.{IsOldNewOrNone}
 use Rattle.md_array.specs.ReadAsKept.{HasOwnSuper, IsReadAsKept}
 use Rattle.md_array.specs.Recording.{super_write}
 use Rattle.md_array.specs.RecordingTarget.{FailsOnTarget, TargetFails}
-use Rattle.md_array.specs.Worlds.{block_on, geometry_of, kind_of, stored_of, super_in, super_of, world_of}
+use Rattle.md_array.specs.Worlds.{block_on, kind_of, stored_of, super_in, super_of, world_of}
 use Rattle.md_array.proofs.Rebuilding.FilledEvent.{rebuilt_target}
 use Rattle.md_array.proofs.Rebuilding.OneDevice.{IsOnlyAt, only_does, only_left, only_world, tried_only}
 use Rattle.md_array.proofs.Steps.DevicesBack.{unrebuilt}
@@ -84,7 +84,7 @@ module _ (k : ℕ) (old new : MirrorView) (c : IsConsistent old) (f : FailsOnTar
           record {
             rest = is_stored ∙ super_alone a m d.content e.content parts outside
                 ∙ (λ i. record (sym was_stored i) { super = sym super_left i; listed = sym (ap (λ (s : Stored). s.listed) is_stored) i });
-            listed = λ on s. absurd (true≢false (sym f.rebuilt ∙ unrebuilt m.state (in_sync_of old.disks a requests k m f.leaves.may.at on)));
+            listed = λ on. absurd (true≢false (sym f.rebuilt ∙ unrebuilt m.state (in_sync_of old.disks a requests k m f.leaves.may.at on)));
             super = elim leaves [
               | inl same ↦ inl (super_left ∙ ap super_in same ∙ sym (ap (λ (s : Stored). s.super) was_stored))
               | inr other ↦

@@ -16,13 +16,13 @@ use Rattle.md_bitmap.specs.Marks.{Bitmap, is_set}
 use Rattle.md_bitmap.proofs.Limits.{div-lt-div_ceil}
 use Rattle.md_requests.specs.Pending.{PendingView, extent_of}
 use Rattle.md_requests.specs.declared.extent.Extent.{Extent}
-use Rattle.md_state.specs.View.{Disk, ArrayView, MirrorView}
+use Rattle.md_state.specs.View.{Disk, ArrayView, MirrorView, geometry_of}
 use Rattle.md_state.specs.Members.{clean_offset, is_degraded}
 use Rattle.md_state.specs.Requests.{AreInFlight, AreInside, IsPending, among, lacks, request_of}
 use Rattle.md_state.specs.Beginning.{Begins, HasMarked, IsInRange, active_offset, counted, has_sector_of, has_to_rise, with_request}
 use Rattle.md_array.specs.Consistency.{IsConsistent}
 use Rattle.md_array.specs.Events.{BeginHappens}
-use Rattle.md_array.specs.Worlds.{AreHonest, geometry_of, world_of, world_on}
+use Rattle.md_array.specs.Worlds.{AreHonest, world_of, world_on}
 use Rattle.md_array.proofs.Worlds.ReadAsKept.{IsSameArray, counted_like, unwritten_read}
 use Rattle.md_array.proofs.Steps.CountedAtBegin.{counted_is_consistent, counted_keeps_pending, marked_counted, range_counted, rises_as_told, same_if, world_counted}
 use Rattle.md_array.proofs.Steps.InFlight.{found_either, found_last, found_with_last, is_touched, none_touches}

@@ -9,12 +9,12 @@ use Rattle.md_model.specs.Steps as steps
 use Rattle.md_model.proofs.Steps.Between.{between_step, in_flight_step}
 use Rattle.md_bitmap.specs.Marks.{is_set}
 use Rattle.md_requests.specs.Pending.{PendingView}
-use Rattle.md_state.specs.View.{ArrayView, MirrorView}
+use Rattle.md_state.specs.View.{ArrayView, MirrorView, geometry_of}
 use Rattle.md_state.specs.ClearingMarks.{Clears}
 use Rattle.md_state.specs.Requests.{AreInFlight, IsPending}
 use Rattle.md_array.specs.Consistency.{IsConsistent}
 use Rattle.md_array.specs.Events.{Happens}
-use Rattle.md_array.specs.Worlds.{AreHonest, geometry_of, world_of}
+use Rattle.md_array.specs.Worlds.{AreHonest, world_of}
 use Rattle.md_array.proofs.Worlds.ReadAsKept.{same_array, same_member, unwritten_read}
 use Rattle.md_array.proofs.Steps.InFlight.{is_touched, none_touches}
 use Rattle.md_array.proofs.Steps.RemarkedWorlds.{remarked, remarked_is_consistent, same_mirror, world_remarked}

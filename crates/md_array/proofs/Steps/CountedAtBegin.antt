@@ -10,13 +10,13 @@ use Rattle.md_bitmap.specs.Marks.{Bitmap}
 use Rattle.md_assembly.specs.States.{role_in}
 use Rattle.md_requests.specs.Pending.{PendingView}
 use Rattle.md_kept_members.specs.Members.{made_due}
-use Rattle.md_state.specs.View.{Disk, ArrayView}
+use Rattle.md_state.specs.View.{Disk, ArrayView, geometry_of}
 use Rattle.md_state.specs.Rising.{has_number, is_absent, risen}
 use Rattle.md_state.specs.Members.{clean_offset}
 use Rattle.md_state.specs.Beginning.{HasMarked, IsInRange, has_to_rise}
 use Rattle.md_state.specs.Requests.{IsPending, lacks}
 use Rattle.md_array.specs.Consistency.{IsConsistent}
-use Rattle.md_array.specs.Worlds.{geometry_of, world_on}
+use Rattle.md_array.specs.Worlds.{world_on}
 use Rattle.md_array.proofs.General.Indices.{any_at, at_any, count_map, got_in_range}
 use Rattle.md_array.proofs.Worlds.Risen.{past_is_high, risen_is_consistent, world_risen}
 use Rattle.md_array.proofs.General.Tests.{one_is}

@@ -21,14 +21,14 @@ use Rattle.md_model.proofs.Puts.{put-hit, put-self, put-twice}
 use Rattle.md_requests.specs.Pending.{PendingView, has_written, request_sectors}
 use Rattle.md_kept_members.specs.View.{MemberView}
 use Rattle.md_state.specs.Requests.{AreInFlight, IsPending, among, lacks, request_of}
-use Rattle.md_state.specs.View.{ArrayView, Disk, MirrorView}
+use Rattle.md_state.specs.View.{ArrayView, Disk, MirrorView, geometry_of}
 use Rattle.md_state.specs.WritingMember.{MayWrite, WritesTo, data_write}
 use Rattle.md_array.specs.Consistency.{HasPlaces, HasSuper, IsConsistent}
 use Rattle.md_array.specs.Events.{HappensAmong}
-use Rattle.md_array.specs.Worlds.{geometry_of, stored_of, super_in, world_of}
+use Rattle.md_array.specs.Worlds.{stored_of, super_in, world_of}
 use Rattle.md_array.proofs.General.Honesty.{tried_honest}
 use Rattle.md_array.proofs.Steps.InFlight.{among_in_flight, inside_of, is_touched, not_touched, whole_of}
-use Rattle.md_array.proofs.Worlds.Listed.{still_next, listed_kept}
+use Rattle.md_array.proofs.Worlds.Listed.{still_next, listed_kept, still_known}
 use Rattle.md_array.proofs.Steps.OneMember.{ChangesMember, changed_is_consistent, changed_world, member_there, stored_there}
 use Rattle.md_array.proofs.Worlds.PartsApart.{HasParts, block_beside_data, data_alone, data_elsewhere, log_beside_data, parts_of}
 use Rattle.md_array.proofs.Worlds.ReadAsKept.{changed_read, read_beside_data}
@@ -108,7 +108,7 @@ module _ (k : ℕ) (old new : MirrorView) (p q : PendingView) (c : IsConsistent 
   changes : ChangesMember k m m (data_write m p) old new
   changes = record {
     at = t.may.intent.in_sync.member;
-    like = record { superblock = refl; header = refl; chunks = refl; state = refl };
+    like = record { superblock = refl; bad = refl; header = refl; chunks = refl; state = refl };
     disks = t.disks.tried;
     array = t.array ∙ (λ i. record old.array { members = sym (set_itself a.members k m t.may.intent.in_sync.member) i });
   }
@@ -130,8 +130,7 @@ module _ (k : ℕ) (old new : MirrorView) (p q : PendingView) (c : IsConsistent 
         recovering = has.recovering;
         places = subst (HasPlaces m) (sym block) has.places;
         listed = still_next m.superblock d.content e.content (log_beside_data a m d.content e.content (parts d before) p.sector n inside (outside d e before after)) block has.listed;
-        known = λ sector. subst (λ b. (b ≡ true) ↔ IsBad m.bad sector)
-            (sym (listed_kept m.superblock d.content e.content (log_beside_data a m d.content e.content (parts d before) p.sector n inside (outside d e before after)) sector block)) (has.known sector);
+        known = still_known m.superblock d.content e.content (log_beside_data a m d.content e.content (parts d before) p.sector n inside (outside d e before after)) has.known;
       }
 
   pub written_is_consistent : IsConsistent new
@@ -223,10 +222,8 @@ module _ (k : ℕ) (old new : MirrorView) (p q : PendingView) (c : IsConsistent 
         ap (λ (b : Bool). put k b w.due) (sym (member_there a k m false (λ x. x.due) is)) ∙ put-self k w.due in
         let known : put k (λ s. nat_lt s a.marks.chunks && is_set m.stored.bytes s) w.known ≡ w.known =
         ap (λ (f : ℕ → Bool). put k f w.known) (λ i s. sym (member_there a k m false (λ x. nat_lt s a.marks.chunks && is_set x.stored.bytes s) is) i) ∙ put-self k w.known in
-        let re_added : put k m.re_added w.re_added ≡ w.re_added =
-        ap (λ (b : Bool). put k b w.re_added) (sym (member_there a k m false (λ x. x.re_added) is)) ∙ put-self k w.re_added in
         changed_world k m m (data_write m p) old new changes e after (among q others)
-        ∙ (λ i. record w { stored = put k (stored_written i) w.stored; due = due i; known = known i; re_added = re_added i; request = requests_then i })
+        ∙ (λ i. record w { stored = put k (stored_written i) w.stored; due = due i; known = known i; request = requests_then i })
 
     step : Step (geometry_of a) w (Event.WriteMember p.ticket.number k) (world_of new (among q others))
     step = (t.may.intent.running, (r, may_write k old p c pending m t.may others, world_written))

@@ -67,8 +67,8 @@ same_super m d e same has = record {
   number = has.number;
   recovering = has.recovering;
   places = subst (λ (c : List ℕ). HasPlaces m (block_on c)) (sym same) has.places;
-  listed = λ s. subst (λ (c : List ℕ). is_listed m.superblock c s ≡ is_listed_next m.superblock c s) (sym same) (has.listed s);
-  known = λ s. subst (λ (c : List ℕ). (is_listed m.superblock c s ≡ true) ↔ IsBad m.bad s) (sym same) (has.known s);
+  listed = λ s. subst (λ (c : List ℕ). is_listed m.superblock c s ≡ true → is_listed_next m.superblock c s ≡ true) (sym same) (has.listed s);
+  known = λ s. subst (λ (c : List ℕ). is_listed_next m.superblock c s ≡ true → IsBad m.bad s) (sym same) (has.known s);
 }
 
 module _ (old : MirrorView) (before after : List Disk) (b : AreBack old before after) where

@@ -13,12 +13,12 @@ use Rattle.md_model.proofs.Cases.{none_some}
 use Rattle.md_model.proofs.Puts.{by_same, put-hit, put-miss, put-twice}
 use Rattle.md_requests.specs.Pending.{PendingView}
 use Rattle.md_requests.specs.declared.extent.Extent.{Extent}
-use Rattle.md_state.specs.View.{ArrayView, MirrorView}
+use Rattle.md_state.specs.View.{ArrayView, MirrorView, geometry_of}
 use Rattle.md_state.specs.Finishing.{Finishes}
 use Rattle.md_state.specs.Requests.{AreInFlight, AreInside, IsPending, among, request_of}
 use Rattle.md_array.specs.Consistency.{IsConsistent}
 use Rattle.md_array.specs.Events.{FinishHappens}
-use Rattle.md_array.specs.Worlds.{AreHonest, geometry_of, world_of, world_on}
+use Rattle.md_array.specs.Worlds.{AreHonest, world_of, world_on}
 use Rattle.md_array.proofs.Worlds.ReadAsKept.{same_array, same_member, unwritten_read}
 use Rattle.md_array.proofs.Worlds.InSync.{in_sync_is, number_at}
 use Rattle.md_array.proofs.Worlds.Shown.{at_is}

@@ -14,14 +14,14 @@ use Rattle.md_requests.specs.declared.extent.Extent.{Extent}
 use Rattle.md_requests.specs.Pending.{PendingView}
 use Rattle.md_faults.specs.declared.step_fault.CleanFault.{CleanFault}
 use Rattle.md_faults.specs.declared.step_fault.CleanFault.TheVariants as clean
-use Rattle.md_state.specs.View.{ArrayView, MirrorView}
+use Rattle.md_state.specs.View.{ArrayView, MirrorView, geometry_of}
 use Rattle.md_state.specs.Members.{clean_offset, is_degraded}
 use Rattle.md_state.specs.Rising.{risen}
 use Rattle.md_state.specs.MakingClean.{MakesClean, RefusesClean}
 use Rattle.md_state.specs.Requests.{AreInFlight, IsPending}
 use Rattle.md_array.specs.Consistency.{IsConsistent}
 use Rattle.md_array.specs.Events.{CleanHappens, Happens}
-use Rattle.md_array.specs.Worlds.{AreHonest, geometry_of, world_of}
+use Rattle.md_array.specs.Worlds.{AreHonest, world_of}
 use Rattle.md_array.proofs.Steps.CountedAtBegin.{counted_keeps_pending}
 use Rattle.md_array.proofs.Worlds.ReadAsKept.{IsSameArray, counted_like, unwritten_read}
 use Rattle.md_array.proofs.Steps.RemarkedWorlds.{remarked, remarked_is_consistent, same_mirror, world_remarked}

@@ -28,15 +28,15 @@ use Rattle.md_model.proofs.Steps.Between.{between_step, in_flight_step}
 use Rattle.md_model.proofs.Puts.{by_same, put-at, put-self}
 use Rattle.md_requests.specs.Pending.{PendingView}
 use Rattle.md_kept_members.specs.View.{MemberView}
-use Rattle.md_state.specs.View.{ArrayView, Disk, MirrorView}
+use Rattle.md_state.specs.View.{ArrayView, Disk, MirrorView, geometry_of}
 use Rattle.md_state.specs.StoringMarks.{StoresMarkSector}
 use Rattle.md_state.specs.Requests.{IsPending}
 use Rattle.md_array.specs.Consistency.{HasPlaces, HasSuper, IsConsistent}
 use Rattle.md_array.specs.ReadAsKept.{HasWidth, IsReadAsKept}
 use Rattle.md_array.specs.Events.{Happens}
-use Rattle.md_array.specs.Worlds.{block_on, from_super, geometry_of, header_on, kind_of, stored_of, super_in, world_of}
+use Rattle.md_array.specs.Worlds.{block_on, from_super, header_on, kind_of, stored_of, super_in, world_of}
 use Rattle.md_array.proofs.General.Honesty.{tried_honest}
-use Rattle.md_array.proofs.Worlds.Listed.{still_next, listed_kept}
+use Rattle.md_array.proofs.Worlds.Listed.{still_next, listed_kept, still_known}
 use Rattle.md_array.proofs.Steps.OneMember.{ChangesMember, changed_in_flight, changed_is_consistent, changed_is_pending, changed_world, member_there, stored_there}
 use Rattle.md_array.proofs.Worlds.PartsApart.{HasParts, bits_elsewhere, block_beside_marks, events_elsewhere, fits_elsewhere, header_elsewhere, log_beside_marks, marks_alone, parts_of}
 use Rattle.md_array.proofs.Worlds.ReadAsKept.{changed_read, stays}
@@ -121,7 +121,7 @@ module _ (k block : ℕ) (old new : MirrorView) (is : IsConsistent old) (low : b
   changes : ChangesMember k m n r.write old new
   changes = record {
     at = r.may.in_sync.member;
-    like = record { superblock = refl; header = refl; chunks = r.has_stored.chunks; state = refl };
+    like = record { superblock = refl; bad = refl; header = refl; chunks = r.has_stored.chunks; state = refl };
     disks = r.disks.tried;
     array = r.array;
   }
@@ -162,8 +162,7 @@ module _ (k block : ℕ) (old new : MirrorView) (is : IsConsistent old) (low : b
           bblog_offset = had.places.bblog_offset;
         });
         listed = still_next m.superblock d.content e.content (log_beside_marks a m d.content e.content (has d e before after) block low_of_member (outside d e before after)) (sym same) had.listed;
-        known = λ sector. subst (λ b. (b ≡ true) ↔ IsBad m.bad sector)
-            (sym (listed_kept m.superblock d.content e.content (log_beside_marks a m d.content e.content (has d e before after) block low_of_member (outside d e before after)) sector (sym same))) (had.known sector);
+        known = still_known m.superblock d.content e.content (log_beside_marks a m d.content e.content (has d e before after) block low_of_member (outside d e before after)) had.known;
       }
 
   pub marks_stored_is_consistent : IsConsistent new
@@ -237,10 +236,8 @@ module _ (k block : ℕ) (old new : MirrorView) (is : IsConsistent old) (low : b
     world_marked : world_of new requests ≡ marks_stored w k block
     world_marked =
         let due : put k m.due w.due ≡ w.due = ap (λ (b : Bool). put k b w.due) (sym (member_there a k m false (λ x. x.due) r.may.in_sync.member)) ∙ put-self k w.due in
-        let re_added : put k m.re_added w.re_added ≡ w.re_added =
-        ap (λ (b : Bool). put k b w.re_added) (sym (member_there a k m false (λ x. x.re_added) r.may.in_sync.member)) ∙ put-self k w.re_added in
         changed_world k m n r.write old new changes e after requests
-        ∙ (λ i. record w { stored = put k (stored_marked i) w.stored; due = due i; known = put k (λ c. known_marked c i) w.known; re_added = re_added i })
+        ∙ (λ i. record w { stored = put k (stored_marked i) w.stored; due = due i; known = put k (λ c. known_marked c i) w.known })
 
     step : Step (geometry_of a) w (Event.StoreMarks k block) (world_of new requests)
     step =

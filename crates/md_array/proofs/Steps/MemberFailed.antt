@@ -26,7 +26,7 @@ use Rattle.md_faults.specs.declared.step_fault.FailFault.TheVariants as fail
 use Rattle.md_state.specs.DeviceChanges.{StaysHonest}
 use Rattle.md_state.specs.DiskWrites.{AtDevice, IsTried}
 use Rattle.md_state.specs.Members.{IsMember, is_degraded}
-use Rattle.md_state.specs.View.{ArrayView, Disk, MirrorView}
+use Rattle.md_state.specs.View.{ArrayView, Disk, MirrorView, geometry_of}
 use Rattle.md_state.specs.Rising.{failed, made_faulty, risen, without}
 use Rattle.md_state.specs.FailingMembers.{FailsMember, RefusesFail}
 use Rattle.md_state.specs.Requests.{AreInFlight, IsPending}
@@ -34,7 +34,7 @@ use Rattle.md_array.specs.Consistency.{IsConsistent}
 use Rattle.md_array.specs.Events.{Happens}
 use Rattle.md_array.specs.MemberEvents.{FailHappens}
 use Rattle.md_array.specs.ReadAsKept.{AreReadAsKept, HasOwnSuper}
-use Rattle.md_array.specs.Worlds.{AreHonest, geometry_of, kind_of, world_of}
+use Rattle.md_array.specs.Worlds.{AreHonest, kind_of, world_of}
 use Rattle.md_array.proofs.General.Indices.{got_in_map}
 use Rattle.md_array.proofs.Steps.AfterFailure.{failed_is_pending, without_is_consistent}
 use Rattle.md_array.proofs.Steps.RemarkedWorlds.{same_mirror}

@@ -19,13 +19,13 @@ use Rattle.md_faults.specs.declared.step_fault.RemoveFault.{RemoveFault}
 use Rattle.md_faults.specs.declared.step_fault.RemoveFault.TheVariants as fault
 use Rattle.md_state.specs.Members.{IsMember, is_degraded}
 use Rattle.md_state.specs.Removing.{RefusesRemove, Removes, before_leaving, taken_out, without_spare}
-use Rattle.md_state.specs.View.{ArrayView, Disk, MirrorView}
+use Rattle.md_state.specs.View.{ArrayView, Disk, MirrorView, geometry_of}
 use Rattle.md_state.specs.Rising.{risen}
 use Rattle.md_state.specs.Requests.{AreInFlight, IsPending, lacks}
 use Rattle.md_array.specs.Consistency.{IsConsistent}
 use Rattle.md_array.specs.Events.{Happens}
 use Rattle.md_array.specs.ReadAsKept.{AreReadAsKept}
-use Rattle.md_array.specs.Worlds.{AreHonest, geometry_of, kind_of, world_of, world_on}
+use Rattle.md_array.specs.Worlds.{AreHonest, kind_of, world_of, world_on}
 use Rattle.md_array.proofs.General.Indices.{got_in_map}
 use Rattle.md_array.proofs.General.TakenOut.{count_left, was_at}
 use Rattle.md_array.proofs.Steps.CountedAtBegin.{counted_keeps_pending}

@@ -1,5 +1,6 @@
 -- A device that left comes in again: the mirror stays consistent, and requests in flight stay its own.
 use Rattle.std.proofs.Common.{◌≡◌, ◌≢◌, ℕ, ◌+◌, ◌*◌, ◌/◌, ◌<◌, ◌≤◌, inl, inr, Bool, true, false, cond, not, ◌&&◌, ◌==◌, List, [], ◌∷◌, ◌++◌, length, map, count_by, Option, Some, None, Result, Ok, Err, refl, sym, ap, ◌∙◌, subst, arith}
+use Rattle.md_kept_members.specs.Remembering.{IsWhole}
 use Rattle.std.specs.Int.{div_ceil}
 use Rattle.std.specs.Prelude.{MatchResult}
 use Rattle.std.proofs.lemmas.Bool.{cases_lt}
@@ -37,7 +38,7 @@ use Rattle.md_faults.specs.declared.re_add_fault.ReAddFault.TheVariants as fault
 use Rattle.md_state.specs.DiskWrites.{IsFailed, IsWritten}
 use Rattle.md_state.specs.Joining.{joined, joined_shared}
 use Rattle.md_state.specs.Members.{is_degraded}
-use Rattle.md_state.specs.ReAdding.{MayReAdd, RefusesToTakeBack}
+use Rattle.md_state.specs.ReAdding.{MayReAdd, RefusesToTakeBack, IsOffsetBack, IsReAddable}
 use Rattle.md_state.specs.Requests.{IsPending, lacks}
 use Rattle.md_state.specs.Rising.{has_number, risen}
 use Rattle.md_state.specs.View.{ArrayView, Disk, MirrorView, disk_of}
@@ -52,17 +53,17 @@ use Rattle.md_array.proofs.Steps.OneWrite.{is_failed, is_written}
 use Rattle.md_array.proofs.Worlds.Joined.{joined_is_consistent, recovers_alone}
 
 -- ---- its superblock, as it is written
-module _ (v : Superblock) where
-  recovering_bitmap : has_bitmap (recovering v) ≡ has_bitmap v
+module _ (offset : ℕ) (v : Superblock) where
+  pub recovering_bitmap : has_bitmap (recovering offset v) ≡ has_bitmap v
   recovering_bitmap = ap (λ n. not (n == 0)) (and_or_apart 1 v.feature_map 2 refl)
 
-  recovering_log : (sectors : ℕ) → LogIsPlaced sectors v → LogIsPlaced sectors (recovering v)
+  recovering_log : (sectors : ℕ) → LogIsPlaced sectors v → LogIsPlaced sectors (recovering offset v)
   recovering_log sectors p = record { short = p.short; within = p.within; from_super = p.from_super; from_data = p.from_data }
 
-  recovering_marks : (sectors width : ℕ) → BitmapIsPlaced sectors v width → BitmapIsPlaced sectors (recovering v) width
+  recovering_marks : (sectors width : ℕ) → BitmapIsPlaced sectors v width → BitmapIsPlaced sectors (recovering offset v) width
   recovering_marks sectors width p = record { within = p.within; from_super = p.from_super; from_data = p.from_data; from_log = p.from_log }
 
-  recovering_placed : (sectors width : ℕ) → IsPlaced sectors v width → IsPlaced sectors (recovering v) width
+  pub recovering_placed : (sectors width : ℕ) → IsPlaced sectors v width → IsPlaced sectors (recovering offset v) width
   recovering_placed sectors width p = record {
     some_size = p.some_size;
     data_holds = p.data_holds;
@@ -106,7 +107,7 @@ reads_of content honest info m (Some g) None header stored b = absurd b
 reads_of content honest info m None (Some s) header stored b = absurd b
 reads_of content honest info m None None header stored b = absurd (none-some m.header header)
 
-module _ (a : ArrayView) (info : MemberInfo) (m : MemberView) (taken : IsTakenBack info m) (may : MayReAdd a info) (content : List ℕ) (honest : Bool) (read : members.IsMember content honest info) where
+module _ (a : ArrayView) (offset : ℕ) (info : MemberInfo) (m : MemberView) (taken : IsTakenBack offset info m) (may : MayReAdd a info) (content : List ℕ) (honest : Bool) (read : members.IsMember content honest info) where
   reads : ReadsBitmapOf content info m
   reads = reads_of content honest info m info.header info.marks taken.header taken.stored read.bitmap
 
@@ -137,11 +138,28 @@ module _ (a : ArrayView) (info : MemberInfo) (m : MemberView) (taken : IsTakenBa
       let v = kept_superblock info in
       record {
         long = omega arith;
-        has = ap has_bitmap taken.superblock ∙ recovering_bitmap v ∙ bitmap_same info.bad info.superblock ∙ reads.has;
-        placed = rw (taken.superblock, reads.counted, ← as_long) (recovering_placed v _ _ (placed_next info.bad info.superblock _ _ reads.placed));
+        has = ap has_bitmap taken.superblock ∙ recovering_bitmap offset v ∙ bitmap_same info.bad info.superblock ∙ reads.has;
+        placed = rw (taken.superblock, reads.counted, ← as_long) (recovering_placed offset v _ _ (placed_next info.bad info.superblock.recovery_offset info.superblock _ _ reads.placed));
         few_chunks = rw reads.counted reads.few;
         sound = record { chunk_size = m.header.sound.chunk_size; few_chunks = subst (λ n. chunk_count n m.header.chunksize ≤ 1048576) size_there reads.few };
       }
+
+-- its bitmap has a bit for each chunk of the array
+pub has_marks_for : (a : ArrayView) (info : MemberInfo) → IsReAddable a info → IsWhole info → a.chunks.size ≡ a.shared.size → a.marks.chunks ≡ div_ceil a.chunks.size a.chunks.sectors
+    → (marks : Bitmap) → info.marks ≡ Some marks → a.marks.chunks ≤ marks.chunks
+has_marks_for a info fits whole size count marks is =
+    let h : BitmapHeader = fits.header in
+    let same : whole.marks ≡ marks = same_Some whole.marks marks (sym whole.has_marks ∙ is) in
+    let header : whole.header ≡ h = same_Some whole.header h (sym whole.has_header ∙ fits.has_header) in
+    let counted : marks.chunks ≡ a.marks.chunks =
+    sym (ap (λ (b : Bitmap). b.chunks) same)
+    ∙ whole.counted
+    ∙ ap (λ (x : BitmapHeader). chunk_count info.superblock.size x.chunksize) header
+    ∙ ap (λ (n : ℕ). chunk_count n h.chunksize) (fits.of_array.size ∙ sym size)
+    ∙ sym (div_ceil-sectors a.chunks.size h.chunksize h.sound.chunk_size)
+    ∙ ap (div_ceil a.chunks.size) fits.of_array.width
+    ∙ sym count in
+    omega arith
 
 -- ---- the mirror with it
 module _ (k : ℕ) (device : Disk) (old new : MirrorView) (c : IsConsistent old) (r : ReAdds k device old new) where
@@ -154,7 +172,10 @@ module _ (k : ℕ) (device : Disk) (old new : MirrorView) (c : IsConsistent old)
   abbrev m : MemberView
   m = r.recorded.takes.member
 
-  abbrev taken : IsTakenBack info m
+  abbrev offset : ℕ
+  offset = r.recorded.takes.offset
+
+  abbrev taken : IsTakenBack offset info m
   taken = r.recorded.takes.taken
 
   abbrev may : MayReAdd a info
@@ -179,25 +200,25 @@ module _ (k : ℕ) (device : Disk) (old new : MirrorView) (c : IsConsistent old)
   small =
       let low = may.fits.role.has_role in
       let few = a.shared.in_profile.few_disks in
-      rw (number_there a info m taken may device.content device.honest r.read)
+      rw (number_there a offset info m taken may device.content device.honest r.read)
       (small_number a.shared.raid_disks device.content device.honest info few r.read low)
 
   pub room : length a.members < 64
   room = elim (cases_lt (length a.members) 64) [ inl low ↦ low | inr full ↦ absurd (may.room full) ]
 
   pub absent : has_number a m.superblock.dev_number ≡ false
-  absent = ap (has_number a) (number_there a info m taken may device.content device.honest r.read) ∙ may.fits.role.absent
+  absent = ap (has_number a) (number_there a offset info m taken may device.content device.honest r.read) ∙ may.fits.role.absent
 
   pub taken_back_is_consistent : IsConsistent new
   unfolding after
   taken_back_is_consistent =
       subst IsConsistent (sym is_after)
       (joined_is_consistent a m role small absent room (recovers_alone a m role taken.state may.free may.fits.role.has_role)
-      (size_kept a info m taken may device.content device.honest r.read)
-      (width_kept a info m taken may device.content device.honest r.read)
-      (count_kept a info m taken may device.content device.honest r.read c.chunks.size c.chunks.count)
+      (size_kept a offset info m taken may device.content device.honest r.read)
+      (width_kept a offset info m taken may device.content device.honest r.read)
+      (count_kept a offset info m taken may device.content device.honest r.read c.chunks.size c.chunks.count)
       old.disks r.recorded.now
-      (fits_taken a info m taken may device.content device.honest r.read r.recorded.now as_long)
+      (fits_taken a offset info m taken may device.content device.honest r.read r.recorded.now as_long)
       c)
 
   pub taken_back_keeps_pending : (p : PendingView) → IsPending old.array p → IsPending new.array p
@@ -265,7 +286,7 @@ joined_is a b m v full number role shared same told due is =
     ∙ (λ i. record (joined a m role) { members = map made_due a.members ++ record m { due = sym due i } ∷ [] })
 
 -- on its device, by the contract of the write
-module _ {D : Type 0} (g : Ghosts D) (was now : D) (a : ArrayView) (info : MemberInfo) (m : MemberView) (taken : IsTakenBack info m) (v : Superblock)
+module _ {D : Type 0} (g : Ghosts D) (was now : D) (a : ArrayView) (offset : ℕ) (info : MemberInfo) (m : MemberView) (offset_is : IsOffsetBack a info offset) (taken : IsTakenBack offset info m) (v : Superblock)
     (shared : v ≡ joined_shared a info.superblock.dev_number (own_role info.superblock)) (outside : SameOutside (512 * 8) (length (write_of v m).bytes) (g.content was) (g.content now)) where
   number_kept : m.superblock.dev_number ≡ info.superblock.dev_number
   number_kept = ap (λ (x : Superblock). x.dev_number) taken.superblock
@@ -280,7 +301,7 @@ module _ {D : Type 0} (g : Ghosts D) (was now : D) (a : ArrayView) (info : Membe
       let same : v ≡ b.shared = shared_kept ∙ sym (ap (λ (x : ArrayView). x.shared) array) in
       record {
         last = last;
-        takes = record { may = may; member = m; taken = taken; array = array };
+        takes = record { may = may; member = m; offset = offset; offset_is = offset_is; taken = taken; array = array };
         readable = subst (λ (x : Superblock). IsReadable (merged x m.superblock)) same readable;
         now = disk_of g now;
         written = subst (λ (x : Superblock). IsWritten 0 (write_of x m) (disk_of g was ∷ []) (disk_of g now ∷ [])) same
@@ -292,6 +313,8 @@ module _ {D : Type 0} (g : Ghosts D) (was now : D) (a : ArrayView) (info : Membe
   not_recorded old new unchanged array stops = record {
     unchanged = unchanged;
     member = m;
+    offset = offset;
+    offset_is = subst (λ (x : ArrayView). IsOffsetBack x info offset) (sym array) offset_is;
     taken = taken;
     failed = subst (λ (x : ArrayView). IsFailed 0 (write_of (joined_shared x m.superblock.dev_number (own_role info.superblock)) m) (disk_of g was ∷ []) (disk_of g now ∷ [])) (sym array)
         (subst (λ (x : Superblock). IsFailed 0 (write_of x m) (disk_of g was ∷ []) (disk_of g now ∷ [])) shared_kept

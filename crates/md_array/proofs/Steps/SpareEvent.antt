@@ -23,12 +23,12 @@ use Rattle.md_state.specs.Adding.{IsFree, IsNumber, added, spare_role}
 use Rattle.md_state.specs.Joining.{joined_roles}
 use Rattle.md_state.specs.Members.{IsMember, is_degraded}
 use Rattle.md_state.specs.Requests.{AreInFlight}
-use Rattle.md_state.specs.View.{ArrayView, Disk, MirrorView}
+use Rattle.md_state.specs.View.{ArrayView, Disk, MirrorView, geometry_of}
 use Rattle.md_array.specs.Adding.{AddHappens, Adds, ComesIn, RefusesAdd, add_event, kept_of}
 use Rattle.md_array.specs.Consistency.{IsConsistent}
 use Rattle.md_array.specs.Events.{Does, Happens}
 use Rattle.md_array.specs.ReadAsKept.{AreReadAsKept}
-use Rattle.md_array.specs.Worlds.{AreHonest, geometry_of, stored_of, super_of, world_of}
+use Rattle.md_array.specs.Worlds.{AreHonest, stored_of, super_of, world_of, lists_of}
 use Rattle.md_array.proofs.General.Appended.{got_last}
 use Rattle.md_array.proofs.Steps.SpareAdded.{added_is_consistent, after, as_long, count_there, is_after, its_number, room, small, width_there}
 use Rattle.md_array.proofs.Steps.SpareLaidOut.{all_marked, known_there, none_listed, read_there, super_there}
@@ -57,6 +57,10 @@ module _ (old : MirrorView) (requests : ℕ → Option Request) where
   pub numbered : (d : ℕ) → IsNumber a d → membership.IsNumber g w d
   numbered d (inl free) = inl (record { fits = as_free d free.fits; least = λ e other. free.least e (as_kept e other) })
   numbered d (inr least) = inr ((λ e other. least.0 e (as_kept e other)), record { fits = least.1.fits; least = λ e unused. least.1.least e unused })
+
+and_false : (x : Bool) → (x && false) ≡ false
+and_false true = refl
+and_false false = refl
 
 module _ (k : ℕ) (device : Disk) (old new : MirrorView) (c : IsConsistent old) (r : Adds k device old new) (honest : device.honest ≡ true) where
   abbrev laid : NewMember
@@ -102,6 +106,9 @@ module _ (k : ℕ) (device : Disk) (old new : MirrorView) (c : IsConsistent old)
   bit : has_recovery_offset laid.superblock ≡ false
   bit = ap (λ n. not (bit_and n 2 == 0)) laid.new.places.feature_map
 
+  none_done : laid.superblock.recovery_offset ≡ 0
+  none_done = r.comes.spare.spare.superblock.recovery_offset
+
   -- ---- the mirror's world
   module _ (requests : ℕ → Option Request) where
     may : membership.MayAdd (g old requests) (w old requests) r.number
@@ -114,8 +121,8 @@ module _ (k : ℕ) (device : Disk) (old new : MirrorView) (c : IsConsistent old)
         ∙ ap (λ (f : ℕ → ℕ). put laid.superblock.dev_number spare_role f d) (λ i e. risen_role old.array full e i)
         ∙ ap (λ n. put n spare_role (role_at_rise (g old requests) (w old requests)) d) is_number
 
-    its_super : super_of laid.superblock ≡ membership.joined_super (counts.risen (g old requests) (w old requests) full) r.number 65535 false
-    its_super = λ i. record { number = is_number i; events = r.comes.spare.spare.superblock.events i; role = λ d. its_roles d i; recovering = bit i }
+    its_super : super_of laid.superblock ≡ membership.joined_super (counts.risen (g old requests) (w old requests) full) r.number 65535 false 0
+    its_super = λ i. record { number = is_number i; events = r.comes.spare.spare.superblock.events i; role = λ d. its_roles d i; recovering = bit i; offset = none_done i }
 
     laid_out : membership.IsLaidOut (g old requests) (counts.risen (g old requests) (w old requests) full) r.number (stored_of b m now.content)
     laid_out = record {
@@ -143,15 +150,18 @@ module _ (k : ℕ) (device : Disk) (old new : MirrorView) (c : IsConsistent old)
     known : (n : ℕ) → (nat_lt n old.array.marks.chunks && is_set m.stored.bytes n) ≡ (stored_of b m now.content).bits n
     known = known_there old.array r.number sectors laid r.comes.spare r.comes.readable device.content now.content done long count
 
+    lists : (s : ℕ) → lists_of b m s ≡ (stored_of b m now.content).listed s
+    lists s = and_false (nat_lt s old.array.chunks.size) ∙ sym (laid_out.listed s)
+
     its_newcomer : newcomer old.array m spare_role low_number now.content
-        ≡ record { number = r.number; role = 65535; state = model.State.Spare; re_added = false; recovering = false; device = stored_of b m now.content }
-    its_newcomer = λ i. record { number = is_number i; role = 65535; state = model.State.Spare; re_added = false; recovering = bit i; device = stored_of b m now.content }
+        ≡ record { number = r.number; role = 65535; state = model.State.Spare; recovering = false; offset = 0; device = stored_of b m now.content }
+    its_newcomer = λ i. record { number = is_number i; role = 65535; state = model.State.Spare; recovering = bit i; offset = none_done i; device = stored_of b m now.content }
 
     world_added : world_of new requests ≡ membership.added (g old requests) (w old requests) r.number (stored_of b m now.content) full
     unfolding after
     world_added =
         ap (λ (v : MirrorView). world_of v requests) (is_after k device old new c r)
-        ∙ world_joined old.array m spare_role low_number old.disks now requests c.fits.as_many refl known
+        ∙ world_joined old.array m spare_role low_number old.disks now requests c.fits.as_many refl known lists
         ∙ ap (λ (n : membership.Newcomer). membership.joined (counts.risen (g old requests) (w old requests) full) n) its_newcomer
 
     still_full : is_degraded new.array ≡ is_degraded old.array

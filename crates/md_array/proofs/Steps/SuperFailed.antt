@@ -1,5 +1,8 @@
 -- A write of a superblock fails: where it left the old superblock, the new one or none, that is the model's event.
 use Rattle.std.proofs.Common.{◌≡◌, ℕ, ◌*◌, inl, inr, Bool, true, Some, slice_get, Option, refl, sym, ap, ◌∙◌, subst}
+use Rattle.md_badblocks.specs.Runs.{IsBad}
+use Rattle.md_model.specs.Steps.{GrowsTo}
+use Rattle.md_array.proofs.Steps.ListGrown.{grows_by}
 use Rattle.std.proofs.lemmas.Option.{same_Some}
 use Rattle.md_device.specs.Splice.{SameOutside}
 use Rattle.md_assembly.specs.States.{is_in_sync}
@@ -11,12 +14,12 @@ use Rattle.md_model.proofs.Cases.{none_some}
 use Rattle.md_writes.specs.Writes.{Write}
 use Rattle.md_kept_members.specs.View.{MemberView}
 use Rattle.md_state.specs.View.{ArrayView, Disk, MirrorView}
-use Rattle.md_array.specs.Consistency.{IsConsistent}
+use Rattle.md_array.specs.Consistency.{IsConsistent, HasSuper}
 use Rattle.md_array.specs.Events.{HappensIfOldNewOrNone, IsOldNewOrNone}
 use Rattle.md_array.specs.ReadAsKept.{HasOwnSuper}
 use Rattle.md_array.specs.Recording.{FailsToRecord, super_write}
-use Rattle.md_array.specs.Worlds.{block_on, is_listed, stored_of, super_in, super_of, world_of, world_on}
-use Rattle.md_array.proofs.Worlds.Listed.{listed_kept, listed_unread, next_kept}
+use Rattle.md_array.specs.Worlds.{block_on, is_listed, stored_of, super_in, super_of, world_of, world_on, is_listed_next}
+use Rattle.md_array.proofs.Worlds.Listed.{listed_kept, listed_unread, next_kept, IsLogKept}
 use Rattle.md_array.proofs.Steps.OneMember.{stored_there}
 use Rattle.md_array.proofs.Worlds.PartsApart.{log_beside_super, parts_of, super_alone}
 use Rattle.md_array.proofs.Worlds.ReadAsKept.{own_stays, own_written}
@@ -35,22 +38,39 @@ module _ (k : ℕ) (old new : MirrorView) (c : IsConsistent old) (f : FailsToRec
   abbrev w : Write
   w = super_write a m
 
-  -- the log of a member in sync lists what it listed
-  lists_left : (t : IsThere k old.disks new.disks) → is_in_sync m.state ≡ true → t.old.honest ≡ true → IsOldNewOrNone w.bytes t.old t.new → (sector : ℕ) → is_listed m.superblock t.new.content sector ≡ is_listed m.superblock t.old.content sector
-  lists_left t in_sync honest leaves sector =
-      let outside : SameOutside (512 * 8) 4096 t.old.content t.new.content =
-      subst (λ (n : ℕ). SameOutside (512 * 8) n t.old.content t.new.content) f.may.readable.size (f.fails.disks.tried.outside t.old t.new t.was t.is) in
-      let log = log_beside_super a m t.old.content t.new.content (parts_of old c k t.old m t.was f.may.at) outside in
-      let has = c.supers f.may.running k t.old m t.was f.may.at in_sync honest in
-      let before = next_kept m.superblock t.old.content t.new.content log sector ∙ sym (has.listed sector) in
-      elim leaves [
-        | inl same ↦ listed_kept m.superblock t.old.content t.new.content log sector same
-        | inr other ↦
-            elim other [
-              | inl next ↦ listed_written a m t.new.content f.may.readable next sector ∙ before
-              | inr none ↦ listed_unread m.superblock t.new.content none sector ∙ before
-            ]
-      ]
+  -- the log of a member in sync lists what it listed, or what was to be listed next
+  module _ (t : IsThere k old.disks new.disks) (in_sync : is_in_sync m.state ≡ true) (honest : t.old.honest ≡ true) (leaves : IsOldNewOrNone w.bytes t.old t.new) (sector : ℕ) where
+    log_kept : IsLogKept m.superblock t.old.content t.new.content
+    log_kept =
+        let outside : SameOutside (512 * 8) 4096 t.old.content t.new.content =
+        subst (λ (n : ℕ). SameOutside (512 * 8) n t.old.content t.new.content) f.may.readable.size (f.fails.disks.tried.outside t.old t.new t.was t.is) in
+        log_beside_super a m t.old.content t.new.content (parts_of old c k t.old m t.was f.may.at) outside
+
+    has : HasSuper m t.old
+    has = c.supers f.may.running k t.old m t.was f.may.at in_sync honest
+
+    next_left : is_listed_next m.superblock t.new.content sector ≡ is_listed_next m.superblock t.old.content sector
+    next_left = next_kept m.superblock t.old.content t.new.content log_kept sector
+
+    lists_still : is_listed m.superblock t.old.content sector ≡ true → is_listed m.superblock t.new.content sector ≡ true
+    lists_still was = elim leaves [
+      | inl same ↦ listed_kept m.superblock t.old.content t.new.content log_kept sector same ∙ was
+      | inr other ↦
+          elim other [
+            | inl next ↦ listed_written a m t.new.content f.may.readable next sector ∙ next_left ∙ has.listed sector was
+            | inr none ↦ listed_unread m.superblock t.new.content none sector ∙ next_left ∙ has.listed sector was
+          ]
+    ]
+
+    lists_known : is_listed m.superblock t.new.content sector ≡ true → IsBad m.bad sector
+    lists_known now = has.known sector (elim leaves [
+      | inl same ↦ has.listed sector (sym (listed_kept m.superblock t.old.content t.new.content log_kept sector same) ∙ now)
+      | inr other ↦
+          elim other [
+            | inl next ↦ sym next_left ∙ sym (listed_written a m t.new.content f.may.readable next sector) ∙ now
+            | inr none ↦ sym next_left ∙ sym (listed_unread m.superblock t.new.content none sector) ∙ now
+          ]
+    ])
 
   left_by_super : (requests : ℕ → Option Request) (t : IsThere k old.disks new.disks) → t.old.honest ≡ true → IsOldNewOrNone w.bytes t.old t.new
       → LeftBySuper (world_of old requests) k (left k w old new c f.fails m f.may.at requests)
@@ -63,11 +83,10 @@ module _ (k : ℕ) (old new : MirrorView) (c : IsConsistent old) (f : FailsToRec
       record {
         rest = is ∙ super_alone a m t.old.content t.new.content (parts_of old c k t.old m t.was f.may.at) outside
             ∙ (λ i. record (sym was i) { super = sym super_left i; listed = sym (ap (λ (s : Stored). s.listed) is) i });
-        listed = λ on s.
+        listed = λ on.
             let in_sync = in_sync_of old.disks a requests k m f.may.at on in
-            ap (λ (x : Stored). x.listed s) is
-            ∙ ap (λ (l : ℕ → Bool). l s) (lists_alike a m t.old.content t.new.content (lists_left t in_sync honest leaves))
-            ∙ ap (λ (x : Stored). x.listed s) (sym was);
+            subst (λ (x : Stored). GrowsTo (world_of old requests) k x.listed) (sym is)
+            (grows_by old.disks a requests k m t.old f.may.at t.was (is_listed m.superblock t.new.content) (lists_still t in_sync honest leaves) (lists_known t in_sync honest leaves));
         super = elim leaves [
           | inl same ↦ inl (super_left ∙ ap super_in same ∙ sym (ap (λ (s : Stored). s.super) was))
           | inr other ↦

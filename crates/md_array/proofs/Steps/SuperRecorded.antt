@@ -1,5 +1,8 @@
 -- A member's superblock that is stored is the model's event, and the mirror stays consistent.
 use Rattle.std.proofs.Common.{◌≡◌, ℕ, ◌+◌, ◌*◌, ◌/◌, inl, inr, Bool, true, false, true≢false, ◌&&◌, nat_lt, List, slice_get, Option, Some, refl, sym, ap, ◌∙◌, subst, arith, ◌↔◌}
+use Rattle.std.proofs.lemmas.Bool.{and_from, and_parts}
+use Rattle.md_model.proofs.Cases.{by_test}
+use Rattle.md_array.proofs.Steps.ListGrown.{grows_by}
 use Rattle.std.proofs.lemmas.Option.{slice_get_within}
 use Rattle.md_device.specs.Splice.{SameOutside}
 use Rattle.md_device.proofs.Splices.{part-spliced}
@@ -21,15 +24,15 @@ use Rattle.md_model.proofs.Steps.Between.{between_step, in_flight_step}
 use Rattle.md_model.proofs.Puts.{put-self}
 use Rattle.md_requests.specs.Pending.{PendingView}
 use Rattle.md_kept_members.specs.View.{MemberView}
-use Rattle.md_state.specs.View.{ArrayView, Disk, MirrorView}
+use Rattle.md_state.specs.View.{ArrayView, Disk, MirrorView, geometry_of}
 use Rattle.md_state.specs.Requests.{IsPending}
 use Rattle.md_array.specs.Consistency.{HasPlaces, HasSuper, IsConsistent}
 use Rattle.md_array.specs.ReadAsKept.{IsReadAsKept}
 use Rattle.md_array.specs.Recording.{IsReadable, Records, super_write}
 use Rattle.md_array.specs.Events.{Happens}
-use Rattle.md_array.specs.Worlds.{block_on, geometry_of, is_listed, is_listed_next, kind_of, stored_of, super_in, super_of, world_of, world_on}
+use Rattle.md_array.specs.Worlds.{block_on, is_listed, is_listed_next, kind_of, stored_of, super_in, super_of, world_of, world_on}
 use Rattle.md_array.proofs.General.Honesty.{tried_honest}
-use Rattle.md_array.proofs.Worlds.Listed.{listed_as_next, next_kept}
+use Rattle.md_array.proofs.Worlds.Listed.{listed_as_next, next_kept, IsLogKept, still_known}
 use Rattle.md_array.proofs.Steps.OneMember.{ChangesMember, changed_in_flight, changed_is_consistent, changed_is_pending, changed_world, member_there, stored_there}
 use Rattle.md_array.proofs.Worlds.PartsApart.{header_beside_super, log_beside_super, parts_of, super_alone}
 use Rattle.md_array.proofs.Worlds.ReadAsKept.{changed_read, own_written}
@@ -69,6 +72,7 @@ super_is_for disks a requests k m at =
       events = a.shared.events;
       role = (super_of (merged a.shared m.superblock)).role;
       recovering = sym bit i;
+      offset = sym (member_there a k m 0 (λ x. x.superblock.recovery_offset) at) i;
     }
 
 module _ (k : ℕ) (old new : MirrorView) (is : IsConsistent old) (r : Records k old new) where
@@ -87,7 +91,7 @@ module _ (k : ℕ) (old new : MirrorView) (is : IsConsistent old) (r : Records k
   changes : ChangesMember k m n (super_write a m) old new
   changes = record {
     at = r.may.at;
-    like = record { superblock = refl; header = refl; chunks = refl; state = refl };
+    like = record { superblock = refl; bad = refl; header = refl; chunks = refl; state = refl };
     disks = r.disks.tried;
     array = r.array;
   }
@@ -100,13 +104,14 @@ module _ (k : ℕ) (old new : MirrorView) (is : IsConsistent old) (r : Records k
   super_outside : (d e : Disk) → slice_get old.disks k ≡ Some d → slice_get new.disks k ≡ Some e → SameOutside (512 * 8) 4096 d.content e.content
   super_outside d e before after = subst (λ (x : ℕ). SameOutside (512 * 8) x d.content e.content) r.may.readable.size (r.disks.tried.outside d e before after)
 
-  -- the log lists what it listed
-  lists_as_before : (d e : Disk) → slice_get old.disks k ≡ Some d → slice_get new.disks k ≡ Some e → d.honest ≡ true → HasSuper m d
-      → (sector : ℕ) → is_listed m.superblock e.content sector ≡ is_listed m.superblock d.content sector
-  lists_as_before d e before after honest has sector =
-      listed_written a m e.content r.may.readable (on_disk d e before after honest) sector
-      ∙ next_kept m.superblock d.content e.content (log_beside_super a m d.content e.content (parts_of old is k d m before r.may.at) (super_outside d e before after)) sector
-      ∙ sym (has.listed sector)
+  log_kept : (d e : Disk) → slice_get old.disks k ≡ Some d → slice_get new.disks k ≡ Some e → IsLogKept m.superblock d.content e.content
+  log_kept d e before after = log_beside_super a m d.content e.content (parts_of old is k d m before r.may.at) (super_outside d e before after)
+
+  -- the log lists what was to be listed next
+  lists_next : (d e : Disk) → slice_get old.disks k ≡ Some d → slice_get new.disks k ≡ Some e → d.honest ≡ true
+      → (sector : ℕ) → is_listed m.superblock e.content sector ≡ is_listed_next m.superblock d.content sector
+  lists_next d e before after honest sector =
+      listed_written a m e.content r.may.readable (on_disk d e before after honest) sector ∙ next_kept m.superblock d.content e.content (log_kept d e before after) sector
 
   has_super : (d e : Disk) → slice_get old.disks k ≡ Some d → slice_get new.disks k ≡ Some e → is_in_sync m.state ≡ true → d.honest ≡ true → HasSuper m d → HasSuper n e
   has_super d e before after _ honest had =
@@ -123,8 +128,8 @@ module _ (k : ℕ) (old new : MirrorView) (is : IsConsistent old) (r : Records k
           bblog_size = sym spelled.bblog_size;
           bblog_offset = sym spelled.bblog_offset;
         });
-        listed = listed_written a m e.content r.may.readable on;
-        known = λ sector. subst (λ b. (b ≡ true) ↔ IsBad m.bad sector) (sym (lists_as_before d e before after honest had sector)) (had.known sector);
+        listed = λ sector listed. sym (listed_written a m e.content r.may.readable on sector) ∙ listed;
+        known = still_known m.superblock d.content e.content (log_kept d e before after) had.known;
       }
 
   pub recorded_is_consistent : IsConsistent new
@@ -152,12 +157,14 @@ module _ (k : ℕ) (old new : MirrorView) (is : IsConsistent old) (r : Records k
     abbrev listed : ℕ → Bool
     listed = (stored_of a n e.content).listed
 
-    -- a member in sync lists what it listed
+    -- a member in sync lists what it listed, and no more than its list in memory has
     keeps_list : KeepsList w k listed
-    keeps_list on s =
+    keeps_list on =
         let in_sync = in_sync_of old.disks a requests k m r.may.at on in
         let has = is.supers r.may.running k d m before r.may.at in_sync honest in
-        ap (λ (f : ℕ → Bool). f s) (lists_alike a m d.content e.content (lists_as_before d e before after honest has)) ∙ ap (λ (x : Stored). x.listed s) (sym (stored_there old.disks a k m d r.may.at before))
+        grows_by old.disks a requests k m d r.may.at before (is_listed m.superblock e.content)
+        (λ sector was. lists_next d e before after honest sector ∙ has.listed sector was)
+        (λ sector now. has.known sector (sym (lists_next d e before after honest sector) ∙ now))
 
     stored_recorded : stored_of a n e.content ≡ recorded_device w k listed
     stored_recorded =
@@ -170,10 +177,8 @@ module _ (k : ℕ) (old new : MirrorView) (is : IsConsistent old) (r : Records k
     world_recorded =
         let known : put k (λ s. nat_lt s a.marks.chunks && is_set m.stored.bytes s) w.known ≡ w.known =
         ap (λ (f : ℕ → Bool). put k f w.known) (λ i s. sym (member_there a k m false (λ x. nat_lt s a.marks.chunks && is_set x.stored.bytes s) r.may.at) i) ∙ put-self k w.known in
-        let re_added : put k m.re_added w.re_added ≡ w.re_added =
-        ap (λ (b : Bool). put k b w.re_added) (sym (member_there a k m false (λ x. x.re_added) r.may.at)) ∙ put-self k w.re_added in
         changed_world k m n (super_write a m) old new changes e after requests
-        ∙ (λ i. record w { stored = put k (stored_recorded i) w.stored; due = put k false w.due; known = known i; re_added = re_added i })
+        ∙ (λ i. record w { stored = put k (stored_recorded i) w.stored; due = put k false w.due; known = known i })
 
     step : Step (geometry_of a) w (Event.Record k) (world_of new requests)
     step =

@@ -1,12 +1,17 @@
 -- A device that left comes in again: that is the model's event.
-use Rattle.std.proofs.Common.{◌≡◌, ◌≢◌, ◌↔◌, eq-eqb, true≢false, ℕ, ◌+◌, ◌*◌, ◌/◌, ◌<◌, Bool, true, not, ◌==◌, ◌&&◌, nat_lt, List, [], ◌∷◌, ◌++◌, length, map, slice_get, Option, Some, Result, Ok, Err, refl, sym, ap, ◌∙◌, subst, arith}
+use Rattle.std.proofs.Common.{◌≡◌, ◌≢◌, ◌↔◌, eq-eqb, true≢false, ℕ, ◌+◌, ◌*◌, ◌/◌, ◌<◌, Bool, true, not, ◌==◌, ◌&&◌, nat_lt, List, [], ◌∷◌, ◌++◌, length, map, slice_get, Option, Some, Result, Ok, Err, refl, sym, ap, ◌∙◌, subst, arith, cond, drop, inl, inr, ⊎_elim, ◌⊎◌}
+use Rattle.md_super.specs.declared.superblock.Superblock.{Superblock}
+use Rattle.std.proofs.lemmas.Option.{same_Some}
+use Rattle.md_model.proofs.Cases.{is_below}
+use Rattle.std.proofs.lemmas.Bool.{and_from, and_parts}
+use Rattle.md_state.specs.ReAdding.{HasNoOtherMarks}
 use Rattle.std.specs.Prelude.{MatchResult}
 use Rattle.std.proofs.lemmas.List.{length-map}
 use Rattle.std.proofs.lemmas.Nat.{and_or_self}
 use Rattle.md_device.specs.Splice.{SameOutside}
 use Rattle.md_device.proofs.Splices.{part-spliced}
 use Rattle.md_super.specs.Merge.{merged}
-use Rattle.md_bitmap.specs.Marks.{is_set}
+use Rattle.md_bitmap.specs.Marks.{is_set, Bitmap}
 use Rattle.md_members.specs.declared.info.MemberInfo.{MemberInfo}
 use Rattle.md_members.specs.Members as members
 use Rattle.md_assembly.specs.declared.state.MemberState.{MemberState}
@@ -14,7 +19,7 @@ use Rattle.md_assembly.specs.declared.state.MemberState.TheVariants.{InSync, Rec
 use Rattle.md_assembly.specs.States.{has_recovery_offset, is_active, role_in, takes_role}
 use Rattle.md_model.specs.Counts as counts
 use Rattle.md_model.specs.Counts.{IsFull, role_at_rise}
-use Rattle.md_model.specs.Devices.{Super}
+use Rattle.md_model.specs.Devices.{Super, Stored, is_accepted, offset_of}
 use Rattle.md_model.specs.Events.{Event, Step}
 use Rattle.md_model.specs.Membership as membership
 use Rattle.md_model.specs.Sectors.{Geometry, put}
@@ -30,17 +35,17 @@ use Rattle.md_state.specs.DiskWrites.{IsWritten}
 use Rattle.md_state.specs.Joining.{joined}
 use Rattle.md_state.specs.Members.{IsMember, is_degraded}
 use Rattle.md_state.specs.Requests.{AreInFlight}
-use Rattle.md_state.specs.View.{ArrayView, Disk, MirrorView}
+use Rattle.md_state.specs.View.{ArrayView, Disk, MirrorView, geometry_of}
 use Rattle.md_array.specs.Consistency.{IsConsistent}
 use Rattle.md_array.specs.Events.{Does, Happens}
 use Rattle.md_array.specs.Fits.{FitsMember}
 use Rattle.md_array.specs.ReAdding.{ComesBack, ReAddHappens, ReAdds, RefusesReAdd, re_add_event}
 use Rattle.md_array.specs.ReadAsKept.{AreReadAsKept}
 use Rattle.md_array.specs.Recording.{IsReadable, super_write}
-use Rattle.md_array.specs.Worlds.{AreHonest, block_on, geometry_of, kind_of, stored_of, super_in, super_of, world_of}
+use Rattle.md_array.specs.Worlds.{AreHonest, block_on, kind_of, stored_of, super_in, super_of, world_of, from_super, lists_of}
 use Rattle.md_array.proofs.General.Appended.{got_last}
 use Rattle.md_array.proofs.General.Indices.{any_at}
-use Rattle.md_array.proofs.Steps.DeviceTakenBack.{known_now, read_now, stored_now}
+use Rattle.md_array.proofs.Steps.DeviceTakenBack.{known_now, read_now, stored_now, accepted_taken, bits_there, listed_is_bad}
 use Rattle.md_array.proofs.Worlds.States.{same_active}
 use Rattle.md_array.proofs.Steps.MemberTakenBack.{after, count_kept, fits_taken, is_after, number_there, room, size_kept, small, taken_back_is_consistent, width_kept}
 use Rattle.md_array.proofs.Steps.WrittenLast.{honest_last, written_last}
@@ -67,7 +72,10 @@ module _ (k : ℕ) (device : Disk) (old new : MirrorView) (c : IsConsistent old)
   abbrev m : MemberView
   m = r.recorded.takes.member
 
-  abbrev taken : IsTakenBack info m
+  abbrev offset : ℕ
+  offset = r.recorded.takes.offset
+
+  abbrev taken : IsTakenBack offset info m
   taken = r.recorded.takes.taken
 
   abbrev now : Disk
@@ -98,7 +106,7 @@ module _ (k : ℕ) (device : Disk) (old new : MirrorView) (c : IsConsistent old)
   was = device_super device.content info.superblock its_read.superblock
 
   its_number : m.superblock.dev_number ≡ own.number
-  its_number = number_there a info m taken r.recorded.takes.may device.content device.honest r.read
+  its_number = number_there a offset info m taken r.recorded.takes.may device.content device.honest r.read
 
   small_number : m.superblock.dev_number < 1920
   small_number = small k device old new c r
@@ -118,7 +126,7 @@ module _ (k : ℕ) (device : Disk) (old new : MirrorView) (c : IsConsistent old)
       (written.tried.outside device now (got_last old.disks device) (got_last old.disks now))
 
   fit : FitsMember a m device
-  fit = fits_taken a info m taken r.recorded.takes.may device.content device.honest r.read device refl
+  fit = fits_taken a offset info m taken r.recorded.takes.may device.content device.honest r.read device refl
 
   on_device : block_on now.content ≡ (super_write b m).bytes
   on_device =
@@ -130,20 +138,53 @@ module _ (k : ℕ) (device : Disk) (old new : MirrorView) (c : IsConsistent old)
   parts = record {
     placed = fit.placed;
     bitmap = fit.placed.bitmap fit.has;
-    size = size_kept a info m taken r.recorded.takes.may device.content device.honest r.read ∙ sym c.chunks.size;
-    count = count_kept a info m taken r.recorded.takes.may device.content device.honest r.read c.chunks.size c.chunks.count;
+    size = size_kept a offset info m taken r.recorded.takes.may device.content device.honest r.read ∙ sym c.chunks.size;
+    count = count_kept a offset info m taken r.recorded.takes.may device.content device.honest r.read c.chunks.size c.chunks.count;
   }
 
   width : m.header.chunksize / 512 ≡ a.chunks.sectors
-  width = width_kept a info m taken r.recorded.takes.may device.content device.honest r.read
+  width = width_kept a offset info m taken r.recorded.takes.may device.content device.honest r.read
 
   stored_here : stored_of b m now.content ≡ record (stored_of b m device.content) { super = Some (super_of (merged b.shared m.superblock)) }
-  stored_here = stored_now device.content info m taken its_read b readable now.content parts outside on_device
+  stored_here = stored_now device.content offset info m taken its_read b readable now.content parts outside on_device
 
   bit : has_recovery_offset m.superblock ≡ true
   bit =
       ap has_recovery_offset taken.superblock
       ∙ ap (λ n. not (n == 0)) (and_or_self 2 (kept_superblock info).feature_map)
+
+  its_offset : m.superblock.recovery_offset ≡ offset
+  its_offset = ap (λ (v : Superblock). v.recovery_offset) taken.superblock
+
+  -- each chunk that its accepted bitmap marks is marked in the array, or its offset is 0
+  module _ (requests : ℕ → Option Request) where
+    abbrev world : World
+    world = world_of old requests
+
+    no_others : HasNoOtherMarks a info → membership.HasNoOtherMarks g world (stored_of b m device.content)
+    no_others h s low marked =
+        let chunk : ℕ = s / a.chunks.sectors in
+        let count = count_kept a offset info m taken r.recorded.takes.may device.content device.honest r.read c.chunks.size c.chunks.count in
+        let accepted : is_accepted (stored_of b m device.content) ≡ true = its_bitmap h in
+        let bit : (nat_lt chunk a.marks.chunks && is_set (drop (512 * from_super m.superblock.bitmap_offset + 256) device.content) chunk) ≡ true =
+        sym (ap (λ t. cond t ((stored_of b m device.content).bits chunk) true) accepted) ∙ marked in
+        let parts = and_parts (nat_lt chunk a.marks.chunks) _ bit in
+        let below : chunk < a.marks.chunks = is_below chunk a.marks.chunks parts.0 in
+        let stored : is_set m.stored.bytes chunk ≡ true =
+        sym (bits_there device.content offset info m taken its_read chunk (subst (λ n. chunk < n) (sym count) below)) ∙ parts.1 in
+        let same : h.marks ≡ m.stored = same_Some h.marks m.stored (sym h.has_marks ∙ taken.stored) in
+        and_from (nat_lt chunk a.marks.chunks) (is_set a.marks.bytes chunk) parts.0
+        (h.among chunk below (ap (λ (x : Bitmap). is_set x.bytes chunk) same ∙ stored))
+      where
+        its_bitmap : HasNoOtherMarks a info → is_accepted (stored_of b m device.content) ≡ true
+        its_bitmap h = accepted_taken device.content offset info m taken its_read b h.header h.has_header h.accepted was
+            (r.recorded.takes.may.fits.of_array.set_uuid) (r.recorded.takes.may.fits.of_array.size)
+
+    passes : ((offset ≡ g.size) × membership.HasNoOtherMarks g world (stored_of b m device.content)) ⊎ (offset ≡ 0)
+    passes = ⊎_elim
+        (λ (x : HasNoOtherMarks a info × (offset ≡ a.chunks.size)). inl (x.1, no_others x.0))
+        (λ (x : (HasNoOtherMarks a info → ⊥) × (offset ≡ 0)). inr x.1)
+        r.recorded.takes.offset_is
 
   -- ---- the mirror's world
   module _ (requests : ℕ → Option Request) where
@@ -178,26 +219,33 @@ module _ (k : ℕ) (device : Disk) (old new : MirrorView) (c : IsConsistent old)
         ∙ ap (λ (f : ℕ → ℕ). put m.superblock.dev_number role f d) (λ i e. risen_role a full e i)
         ∙ ap (λ n. put n role (role_at_rise g w) d) its_number
 
-    its_super : super_of (merged b.shared m.superblock) ≡ membership.joined_super (counts.risen g w full) own.number (own.role own.number) true
-    its_super = λ i. record { number = its_number i; events = a.shared.events + 1; role = λ d. its_roles d i; recovering = bit i }
+    its_super : super_of (merged b.shared m.superblock) ≡ membership.joined_super (counts.risen g w full) own.number (own.role own.number) true offset
+    its_super = λ i. record { number = its_number i; events = a.shared.events + 1; role = λ d. its_roles d i; recovering = bit i; offset = its_offset i }
 
-    device_taken : membership.IsTakenBack (counts.risen g w full) own (stored_of b m device.content) (stored_of b m now.content)
+    device_taken : membership.IsTakenBack g (counts.risen g w full) own (stored_of b m device.content) (stored_of b m now.content)
     device_taken = record {
       was = was;
+      offset = offset;
+      passes = passes requests;
       rest = stored_here ∙ (λ i. record (stored_of b m device.content) { super = Some (its_super i) });
     }
 
     known : (n : ℕ) → (nat_lt n a.marks.chunks && is_set m.stored.bytes n) ≡ (stored_of b m now.content).bits n
-    known = known_now device.content info m taken its_read b readable now.content parts outside on_device
+    known = known_now device.content offset info m taken its_read b readable now.content parts outside on_device
+
+    lists : (s : ℕ) → lists_of b m s ≡ (stored_of b m now.content).listed s
+    lists s =
+        sym (ap (λ t. nat_lt s a.chunks.size && t) (listed_is_bad device.content offset info m taken its_read (m.superblock.data_offset + s)))
+        ∙ sym (ap (λ (x : Stored). x.listed s) stored_here)
 
     its_newcomer : newcomer a m role small_number now.content
-        ≡ record { number = own.number; role = own.role own.number; state = model.State.Recovering; re_added = true; recovering = true; device = stored_of b m now.content }
+        ≡ record { number = own.number; role = own.role own.number; state = model.State.Recovering; recovering = true; offset = offset_of (stored_of b m now.content); device = stored_of b m now.content }
     its_newcomer = λ i. record {
       number = its_number i;
       role = role;
       state = ap kind_of taken.state i;
-      re_added = taken.re_added i;
       recovering = bit i;
+      offset = (its_offset ∙ sym (ap offset_of stored_here ∙ its_offset)) i;
       device = stored_of b m now.content;
     }
 
@@ -205,7 +253,7 @@ module _ (k : ℕ) (device : Disk) (old new : MirrorView) (c : IsConsistent old)
     unfolding after
     world_back =
         ap (λ (v : MirrorView). world_of v requests) (is_after k device old new c r)
-        ∙ world_joined a m role small_number old.disks now requests c.fits.as_many taken.due known
+        ∙ world_joined a m role small_number old.disks now requests c.fits.as_many taken.due known lists
         ∙ ap (λ (n : membership.Newcomer). membership.joined (counts.risen g w full) n) its_newcomer
 
     still_full : is_degraded new.array ≡ is_degraded a
@@ -227,7 +275,7 @@ module _ (k : ℕ) (device : Disk) (old new : MirrorView) (c : IsConsistent old)
   re_add_read failed_at are =
       subst (λ (v : MirrorView). AreReadAsKept v failed_at) (sym (is_after k device old new c r))
       (read_joined a m role small_number old.disks now failed_at c.fits.as_many
-      (read_now device.content info m taken its_read b readable now.content parts outside on_device failed_at width)
+      (read_now device.content offset info m taken its_read b readable now.content parts outside on_device failed_at width)
       are)
 
   honest_now : AreHonest old.disks → AreHonest new.disks

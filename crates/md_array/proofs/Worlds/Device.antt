@@ -1,5 +1,7 @@
 -- The device of a member, before and after the opening.
 use Rattle.std.proofs.Common.{◌≡◌, ℕ, ◌+◌, ◌*◌, ◌/◌, ◌<◌, ◌≤◌, ◌⊎◌, inl, inr, true, false, List, length, drop, Some, ℤ, pos, ◌+ℤ◌, ◌≤ℤ◌, refl, sym, ap, ◌∙◌, subst, arith, lt-ltb, ◌↔◌}
+use Rattle.md_kept_members.specs.Kept.{known_offset}
+use Rattle.md_kept_members.specs.OwnFields.{kept_superblock}
 use Rattle.std.proofs.lemmas.Bool.{cases_lt}
 use Rattle.std.proofs.lemmas.Int.{ints}
 use Rattle.std.proofs.lemmas.Option.{same_Some}
@@ -12,7 +14,7 @@ use Rattle.md_members.specs.declared.info.MemberInfo.{MemberInfo}
 use Rattle.md_members.specs.Areas.{BitmapIsPlaced, IsPlaced, bitmap_area, bitmap_sectors}
 use Rattle.md_members.specs.Reading.{BitmapStartsAt}
 use Rattle.md_members.specs.Members.{sectors_of}
-use Rattle.md_assembly.specs.States.{is_in_sync}
+use Rattle.md_assembly.specs.States.{is_in_sync, state_of}
 use Rattle.md_badblocks.specs.Runs.{IsBad}
 use Rattle.md_model.specs.Devices.{is_accepted}
 use Rattle.md_kept_members.specs.View.{MemberView}
@@ -25,7 +27,7 @@ use Rattle.md_array.specs.Storing.{StoresMarks}
 use Rattle.md_writes.specs.Bitmaps.{bitmap_writes}
 use Rattle.md_writes.specs.Writes.{after}
 use Rattle.md_array.specs.Worlds.{block_on, from_super, is_listed, is_listed_next, stored_of, super_in, super_of}
-use Rattle.md_array.proofs.Worlds.Listed.{IsLogKept, listed_as_next, listed_kept, listed_kept_of, next_kept}
+use Rattle.md_array.proofs.Worlds.Listed.{IsLogKept, listed_as_next, listed_kept, listed_kept_of, next_kept, listed_at_offset, next_at_offset}
 use Rattle.md_array.proofs.Worlds.PartsApart.{log_beside_bitmap}
 use Rattle.md_array.proofs.Worlds.ReadAsKept.{own_stays}
 use Rattle.md_array.proofs.Worlds.Bad as bad
@@ -60,6 +62,9 @@ module _ (a : ArrayView) (m : MemberView) (info : MemberInfo) (old new : Disk) (
   abbrev own : Superblock
   own = m.superblock
 
+  abbrev offset : ℕ
+  offset = known_offset a.events_cleared (state_of a.shared info.superblock) info.superblock
+
   abbrev start : ℕ
   start = from_super own.bitmap_offset
 
@@ -91,7 +96,7 @@ module _ (a : ArrayView) (m : MemberView) (info : MemberInfo) (old new : Disk) (
   pub same_block : block_on new.content ≡ block_on old.content
   same_block = block_stays (bitmap_area own sectors) start (sym starts) old.content new.content outside bitmap_placed.from_super
 
-  pub super_new : super_in (block_on new.content) ≡ Some (super_of own)
+  pub super_new : super_in (block_on new.content) ≡ Some (record (super_of own) { offset = info.superblock.recovery_offset })
   super_new = ap super_in same_block ∙ (read.super_old a m info old.content there)
 
   pub places_new : HasPlaces m (block_on new.content)
@@ -121,6 +126,7 @@ module _ (a : ArrayView) (m : MemberView) (info : MemberInfo) (old new : Disk) (
       let sound = read.sound_block a m info old.content there in
       same_listed sector
       ∙ ap (λ (v : Superblock). is_listed v old.content sector) there.kept.superblock
+      ∙ listed_at_offset offset (kept_superblock info) old.content sector
       ∙ listed_kept_of old.content info.superblock info.bad fields sound sector
       ∙ listed_as_next info.superblock info.superblock old.content fields sound refl sector
 
@@ -128,6 +134,7 @@ module _ (a : ArrayView) (m : MemberView) (info : MemberInfo) (old new : Disk) (
   listed_next_new sector =
       listed_as_read_next sector
       ∙ sym (bad.same_listed old.content info.superblock info.bad sector there.read.bad)
+      ∙ sym (next_at_offset offset (kept_superblock info) old.content sector)
       ∙ sym (ap (λ (v : Superblock). is_listed_next v old.content sector) there.kept.superblock)
       ∙ sym (next_kept own old.content new.content log_kept sector)
 
@@ -173,7 +180,7 @@ module _ (a : ArrayView) (m : MemberView) (info : MemberInfo) (old new : Disk) (
       })
 
   pub is_accepted_new : is_in_sync m.state ≡ true → is_accepted (stored_of a m new.content) ≡ true
-  is_accepted_new in_sync = let f = fitting in_sync in accepted_there a m new.content f.header super_new f.holds.header f.fits
+  is_accepted_new in_sync = let f = fitting in_sync in accepted_there a m info.superblock.recovery_offset new.content f.header super_new f.holds.header f.fits
 
   pub bits_new : is_in_sync m.state ≡ true → (c : ℕ) → c < a.marks.chunks → is_set (drop (512 * start + 256) new.content) c ≡ is_set m.stored.bytes c
   bits_new in_sync c low = (fitting in_sync).holds.bits c (subst (λ n. c < n) there.count low)

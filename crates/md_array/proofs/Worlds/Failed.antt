@@ -20,7 +20,7 @@ use Rattle.md_assembly.specs.States.{is_in_sync_as, is_recorded}
 use Rattle.md_assembly.proofs.Indices.{got_within}
 use Rattle.md_kept_members.specs.Members.{made_due}
 use Rattle.md_state.specs.Members.{IsMember, is_degraded}
-use Rattle.md_state.specs.View.{ArrayView, Disk, MirrorView}
+use Rattle.md_state.specs.View.{ArrayView, Disk, MirrorView, geometry_of}
 use Rattle.md_state.specs.Rising.{failed, made_faulty, risen, without}
 use Rattle.md_state.specs.DiskWrites.{AtDevice, IsTried}
 use Rattle.md_state.specs.Requests.{AreInFlight}
@@ -28,7 +28,7 @@ use Rattle.md_state.specs.Trying.{FailsWriting}
 use Rattle.md_array.specs.Consistency.{IsConsistent}
 use Rattle.md_array.specs.Events.{Does, WritesOnce}
 use Rattle.md_array.specs.ReadAsKept.{AreReadAsKept, HasOwnSuper}
-use Rattle.md_array.specs.Worlds.{AreHonest, geometry_of, kind_of, world_of, world_on}
+use Rattle.md_array.specs.Worlds.{AreHonest, kind_of, world_of, world_on}
 use Rattle.md_array.proofs.General.Honesty.{tried_honest}
 use Rattle.md_array.proofs.Steps.AfterFailure.{failed_is_consistent}
 use Rattle.md_array.proofs.Steps.OneMember.{member_there}

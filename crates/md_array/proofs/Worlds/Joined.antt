@@ -25,11 +25,11 @@ use Rattle.md_state.specs.Joining.{entries_with, joined, joined_roles, role_afte
 use Rattle.md_state.specs.Members.{IsMember, is_degraded, is_filled}
 use Rattle.md_state.specs.ReAdding.{is_taken}
 use Rattle.md_state.specs.Rising.{has_number, is_absent, risen, roles_at_rise}
-use Rattle.md_state.specs.View.{ArrayView, Disk}
+use Rattle.md_state.specs.View.{ArrayView, Disk, geometry_of}
 use Rattle.md_array.specs.Consistency.{IsConsistent}
 use Rattle.md_array.specs.Fits.{Fits, FitsMember}
 use Rattle.md_array.specs.ReadAsKept.{AreReadAsKept, IsReadAsKept}
-use Rattle.md_array.specs.Worlds.{geometry_of, kind_of, stored_of, stored_on, world_on}
+use Rattle.md_array.specs.Worlds.{kind_of, stored_of, stored_on, world_on, lists_of}
 use Rattle.md_array.proofs.General.Appended.{got_appended, got_earlier, shown_appended}
 use Rattle.md_array.proofs.General.Indices.{any_at, at_map}
 use Rattle.md_array.proofs.Worlds.ReadAsKept.{IsSameArray, kept_in}
@@ -247,7 +247,7 @@ module _ (a : ArrayView) (m : MemberView) (role : ℕ) (small : m.superblock.dev
 
   -- ---- the world
   abbrev pub newcomer : List ℕ → membership.Newcomer
-  newcomer content = record { number = number; role = role; state = kind_of m.state; re_added = m.re_added; recovering = has_recovery_offset m.superblock; device = stored_of b m content }
+  newcomer content = record { number = number; role = role; state = kind_of m.state; recovering = has_recovery_offset m.superblock; offset = m.superblock.recovery_offset; device = stored_of b m content }
 
   stored_joined : (o : Option MemberView) (d : Option Disk) → stored_on b o d ≡ stored_on up o d
   stored_joined None d = refl
@@ -265,7 +265,8 @@ module _ (a : ArrayView) (m : MemberView) (role : ℕ) (small : m.superblock.dev
   shows x y f false c same = refl
 
   module _ (disks : List Disk) (d : Disk) (requests : ℕ → Option worlds.Request) (many : length disks ≡ length a.members) (due : m.due ≡ false)
-      (known : (c : ℕ) → (nat_lt c a.marks.chunks && is_set m.stored.bytes c) ≡ (stored_of b m d.content).bits c) where
+      (known : (c : ℕ) → (nat_lt c a.marks.chunks && is_set m.stored.bytes c) ≡ (stored_of b m d.content).bits c)
+      (lists : (s : ℕ) → lists_of b m s ≡ (stored_of b m d.content).listed s) where
     abbrev u : worlds.World
     u = world_on disks up requests
 
@@ -291,7 +292,9 @@ module _ (a : ArrayView) (m : MemberView) (role : ℕ) (small : m.superblock.dev
       due = λ k. (shown_appended (λ (x : MemberView). x.due) false up.members m k ∙ ap (λ t. put n t u.due k) due) i;
       known = λ k c. (shown_appended (λ (x : MemberView). nat_lt c a.marks.chunks && is_set x.stored.bytes c) false up.members m k
           ∙ shows (λ e. nat_lt e a.marks.chunks && is_set m.stored.bytes e) (stored_of b m d.content).bits (u.known k) (eqb k n) c (known c)) i;
-      re_added = λ k. shown_appended (λ (x : MemberView). x.re_added) false up.members m k i;
+      bad = λ k s. (shown_appended (λ (x : MemberView). lists_of a x s) false up.members m k
+          ∙ shows (lists_of b m) (stored_of b m d.content).listed (u.bad k) (eqb k n) s (lists s)) i;
+      offset = λ k. shown_appended (λ (x : MemberView). x.superblock.recovery_offset) 0 up.members m k i;
       recovering = λ k. shown_appended (λ (x : MemberView). has_recovery_offset x.superblock) false up.members m k i;
       role = λ e. role_joined e i;
       entries = (count_roles ∙ grew (length a.shared.roles) ∙ ap (λ j. cond (nat_lt number j || leb 1920 number) j (number + 1)) (sym roles_many)) i;

@@ -47,6 +47,32 @@ listed_kept_of content v bad fields sound sector =
     ∙ and_same (reads_log v) (logged (kept_shift v)) (logged v.bblog_shift) (λ on. ap logged (ap (λ b. if b then v.bblog_shift else 0) on))
     ∙ sym (ap (λ b. b && logged v.bblog_shift) (bit_read v v content fields sound))
 
+-- Where a superblock that is read there places the log as the own fields do, and has their shift if it tells of the log, the two list the same,
+-- whatever the log holds.
+pub listed_alike : (own v : Superblock) (content : List ℕ) → IsSuper (block_on content) v → NoFault (block_on content)
+    → v.bblog_size ≡ own.bblog_size → v.bblog_offset ≡ own.bblog_offset → (reads_log v ≡ true → v.bblog_shift ≡ own.bblog_shift)
+    → (sector : ℕ) → is_listed v content sector ≡ is_listed own content sector
+unfolding is_listed
+listed_alike own v content fields sound size offset shift sector =
+    let logged : Superblock → _ = λ x. is_logged content (from_super x.bblog_offset) x.bblog_size x.bblog_shift sector in
+    ap (λ b. b && logged v) (bit_read v v content fields sound)
+    ∙ and_same (reads_log v) (logged v) (logged own) (λ on. (λ i. is_logged content (from_super (offset i)) (size i) (shift on i) sector))
+    ∙ ap (λ b. b && logged own) ((λ i. has_bad_blocks v && (not (size i == 0) && not (int_eq (offset i) (pos 0)))) ∙ sym (bit_read own v content fields sound))
+
+-- the offset says nothing of the log
+offset_bit : (offset : ℕ) (v : Superblock) (block : List ℕ) (o : Option Super) → list_bit (record v { recovery_offset = offset }) block o ≡ list_bit v block o
+offset_bit offset v block (Some s) = refl
+offset_bit offset v block None = refl
+
+pub listed_at_offset : (offset : ℕ) (v : Superblock) (content : List ℕ) (sector : ℕ) → is_listed (record v { recovery_offset = offset }) content sector ≡ is_listed v content sector
+unfolding is_listed
+listed_at_offset offset v content sector =
+    ap (λ b. (b && has_bad_block_log v) && is_logged content (from_super v.bblog_offset) v.bblog_size v.bblog_shift sector) (offset_bit offset v (block_on content) (super_in (block_on content)))
+
+pub next_at_offset : (offset : ℕ) (v : Superblock) (content : List ℕ) (sector : ℕ) → is_listed_next (record v { recovery_offset = offset }) content sector ≡ is_listed_next v content sector
+unfolding is_listed_next
+next_at_offset offset v content sector = refl
+
 same_bit : (v w : Superblock) (block : List ℕ) (o : Option Super) → v.feature_map ≡ w.feature_map → list_bit v block o ≡ list_bit w block o
 same_bit v w block (Some s) map = refl
 same_bit v w block None map = λ i. not (bit_and (map i) 8 == 0)
@@ -94,7 +120,12 @@ module _ (v : Superblock) (old new : List ℕ) (kept : IsLogKept v old new) (sec
   listed_read_both w was was_sound is sound =
       listed_same_bit (super_shown (block_on new) w is sound ∙ sym (super_shown (block_on old) w was was_sound)) (sym is.feature_map ∙ was.feature_map)
 
--- so that what is listed is still what is listed next
+-- so that what is listed is still listed next
 pub still_next : (v : Superblock) (old new : List ℕ) → IsLogKept v old new → block_on new ≡ block_on old
-    → ((sector : ℕ) → is_listed v old sector ≡ is_listed_next v old sector) → (sector : ℕ) → is_listed v new sector ≡ is_listed_next v new sector
-still_next v old new kept block was sector = listed_kept v old new kept sector block ∙ was sector ∙ sym (next_kept v old new kept sector)
+    → ((sector : ℕ) → is_listed v old sector ≡ true → is_listed_next v old sector ≡ true) → (sector : ℕ) → is_listed v new sector ≡ true → is_listed_next v new sector ≡ true
+still_next v old new kept block was sector on = next_kept v old new kept sector ∙ was sector (sym (listed_kept v old new kept sector block) ∙ on)
+
+-- and that is in the list that is kept
+pub still_known : {P : ℕ → Type 0} (v : Superblock) (old new : List ℕ) → IsLogKept v old new → ((sector : ℕ) → is_listed_next v old sector ≡ true → P sector)
+    → (sector : ℕ) → is_listed_next v new sector ≡ true → P sector
+still_known v old new kept was sector on = was sector (sym (next_kept v old new kept sector) ∙ on)

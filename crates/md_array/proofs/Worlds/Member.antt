@@ -77,10 +77,19 @@ nearby x y own e (inl h) = inl (sym e ∙ h)
 nearby x y own e (inr h) = inr (sym e ∙ h)
 
 -- a device whose bitmap has such a header is accepted
-pub accepted_there : (a : ArrayView) (m : MemberView) (content : List ℕ) (h : BitmapHeader) → super_in (block_on content) ≡ Some (super_of m.superblock)
+pub accepted_by : (a : ArrayView) (m : MemberView) (own : Super) (content : List ℕ) (h : BitmapHeader) → super_in (block_on content) ≡ Some own
+    → IsHeader (header_on content (from_super m.superblock.bitmap_offset)) h → h.uuid ≡ a.shared.set_uuid → h.sync_size ≡ a.shared.size → h.state ≡ 0
+    → (h.events ≡ own.events) ⊎ (h.events ≡ own.events + 1) → is_accepted (stored_of a m content) ≡ true
+accepted_by a m own content h super header uuid size state events =
+    accepts_when (super_in (block_on content)) own _ _ super
+    (header_fits_there a h (header_on content (from_super m.superblock.bitmap_offset)) header uuid size state)
+    (nearby h.events _ own.events header.events events)
+
+-- so with the superblock that is kept, but for its offset
+pub accepted_there : (a : ArrayView) (m : MemberView) (offset : ℕ) (content : List ℕ) (h : BitmapHeader) → super_in (block_on content) ≡ Some (record (super_of m.superblock) { offset = offset })
     → IsHeader (header_on content (from_super m.superblock.bitmap_offset)) h → Fits a m.superblock h → is_accepted (stored_of a m content) ≡ true
-accepted_there a m content h super header fits =
-    accepts_when (super_in (block_on content)) (super_of m.superblock) _ _ super
+accepted_there a m offset content h super header fits =
+    accepts_when (super_in (block_on content)) (record (super_of m.superblock) { offset = offset }) _ _ super
     (header_fits_there a h (header_on content (from_super m.superblock.bitmap_offset)) header fits.uuid fits.size fits.state)
     (nearby h.events _ m.superblock.events header.events fits.events)
 
@@ -102,10 +111,10 @@ accepts_says super own events fits is e =
     one_of false b p q h = inr (q h)
 
 -- the header of such a device fits
-pub fits_there : (a : ArrayView) (m : MemberView) (content : List ℕ) (h : BitmapHeader) → super_in (block_on content) ≡ Some (super_of m.superblock)
+pub fits_there : (a : ArrayView) (m : MemberView) (offset : ℕ) (content : List ℕ) (h : BitmapHeader) → super_in (block_on content) ≡ Some (record (super_of m.superblock) { offset = offset })
     → IsHeader (header_on content (from_super m.superblock.bitmap_offset)) h → is_accepted (stored_of a m content) ≡ true → Fits a m.superblock h
-fits_there a m content h super is accepted =
-    let says = accepts_says (super_in (block_on content)) (super_of m.superblock) _ _ super accepted in
+fits_there a m offset content h super is accepted =
+    let says = accepts_says (super_in (block_on content)) (record (super_of m.superblock) { offset = offset }) _ _ super accepted in
     let parts = all_three_hold _ _ _ says.0 in
     record {
       uuid = is.uuid ∙ (bytes_eq-Decides _ _).0 parts.0;

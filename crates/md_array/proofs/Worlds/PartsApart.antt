@@ -9,7 +9,8 @@ use Rattle.md_device.proofs.Splices.{part_before, part_after}
 use Rattle.md_format.specs.Fields.{number_at}
 use Rattle.md_bitmap.specs.Marks.{is_set}
 use Rattle.md_members.specs.declared.area.Area.{Area}
-use Rattle.md_members.specs.Areas.{BitmapIsPlaced, IsPlaced, IsApartFromLog, AreApart, bitmap_area, bitmap_sectors, data_area, log_area, super_area}
+use Rattle.md_members.specs.Areas.{BitmapIsPlaced, IsPlaced, LogIsPlaced, IsApartFromLog, AreApart, bitmap_area, bitmap_sectors, data_area, log_area, super_area}
+use Rattle.md_super.specs.Log.{has_bad_block_log}
 use Rattle.md_members.specs.Members.{sectors_of}
 use Rattle.md_model.specs.Sectors.{block_of}
 use Rattle.md_model.specs.Devices.{Stored}
@@ -152,6 +153,39 @@ module _ (a : ArrayView) (m : MemberView) (old new : List ℕ) (has : HasParts a
       bitmap_events = is.bitmap_events;
       bitmap_fits = is.bitmap_fits;
     }
+
+  -- ---- the log is written
+  module _ (there : has_bad_block_log m.superblock ≡ true) (same : SameOutside (512 * from_super m.superblock.bblog_offset) (512 * m.superblock.bblog_size) old new) where
+    abbrev log_start : ℕ
+    log_start = from_super m.superblock.bblog_offset
+
+    log_placed : LogIsPlaced (sectors_of old) m.superblock
+    log_placed = has.placed.log there
+
+    log_first : (log_area m.superblock).start ≡ pos log_start
+    log_first = sector_at_is (log_area m.superblock).start log_placed.within.from
+
+    bitmap_from_log : AreApart bitmap (log_area m.superblock)
+    bitmap_from_log = apart_either_way (log_area m.superblock) bitmap (has.bitmap.from_log there)
+
+    pub block_beside_log : block_on new ≡ block_on old
+    block_beside_log = block_kept (log_area m.superblock) log_start log_first same log_placed.from_super
+
+    pub header_beside_log : header_on new first ≡ header_on old first
+    header_beside_log = header_kept (log_area m.superblock) log_start log_first same bitmap_from_log
+
+    -- no more than the log changes
+    pub log_alone : is ≡ record was { listed = is.listed }
+    log_alone =
+        let header = header_beside_log in
+        λ i. record {
+          super = super_in (block_beside_log i);
+          content = content_kept (log_area m.superblock) log_start log_first same log_placed.from_data i;
+          listed = is.listed;
+          bits = bits_kept (log_area m.superblock) log_start log_first same bitmap_from_log i;
+          bitmap_events = number_at 8 24 (header i);
+          bitmap_fits = header_fits a (header i);
+        }
 
   -- ---- a sector of the bitmap is written
   module _ (block : ℕ) (low : block < width) (same : SameOutside (512 * (first + block)) 512 old new) where

@@ -14,7 +14,7 @@ use Rattle.md_members.specs.Reading.{ReadsSuper, ReadsBitmap, ReadsHeader, Bitma
 use Rattle.md_members.specs.Members.{HasBitmap, IsMember, sectors_of}
 use Rattle.md_kept_members.specs.OwnFields.{kept_superblock}
 use Rattle.md_array.specs.Worlds.{header_on}
-use Rattle.md_array.proofs.Openings.OwnFields.{bitmap_same, reads_next}
+use Rattle.md_array.proofs.Openings.OwnFields.{at_offset, bitmap_same, reads_next}
 use Rattle.md_array.proofs.Worlds.Outside.{starts_at}
 use Rattle.md_array.proofs.Worlds.Writes.{HoldsBitmap, is_set-same, within_area}
 
@@ -32,14 +32,14 @@ read_bitmap content v None None h b e = absurd (none-some h e)
 read_bitmap content v (Some g) None h b e = absurd b
 read_bitmap content v None (Some m) h b e = absurd b
 
-pub read_of : (content : List ℕ) (info : MemberInfo) (v : Superblock) (h : BitmapHeader) → IsMember content true info → v ≡ kept_superblock info → info.header ≡ Some h → HasRead content v h info.marks
-read_of content info v h read same header =
+pub read_of : (content : List ℕ) (info : MemberInfo) (offset : ℕ) (v : Superblock) (h : BitmapHeader) → IsMember content true info → v ≡ at_offset offset (kept_superblock info) → info.header ≡ Some h → HasRead content v h info.marks
+read_of content info offset v h read same header =
     let r = read_bitmap content info.superblock info.header info.marks h read.bitmap header in
     subst (λ x. HasRead content x h info.marks) (sym same) (record {
       there = bitmap_same info.bad info.superblock ∙ r.there;
       stored = r.stored;
       stored_is = r.stored_is;
-      bitmap = reads_next info.bad info.superblock content true (sectors_of content) h r.stored r.bitmap;
+      bitmap = reads_next info.bad offset info.superblock content true (sectors_of content) h r.stored r.bitmap;
     })
 
 front_is : (content : List ℕ) (at : ℕ) → front_of (part content at 512) ≡ part content at 256

@@ -1,5 +1,6 @@
 -- The device of a member that was read, beside what is kept of it.
 use Rattle.std.proofs.Common.{◌≡◌, ℕ, ◌*◌, ◌/◌, ◌<◌, ◌≤◌, true, not, ◌==◌, bit_and, pos, if◌then◌else◌, nat_lt, List, Some, refl, sym, ap, ◌∙◌, subst, arith, ◌&&◌}
+use Rattle.md_kept_members.specs.OwnFields.{kept_superblock}
 use Rattle.std.specs.Int.{div_ceil}
 use Rattle.std.specs.Ordering.{int_eq}
 use Rattle.std.proofs.lemmas.Grind.{div_ceil_times}
@@ -14,15 +15,15 @@ use Rattle.md_members.specs.Members as members
 use Rattle.md_members.specs.Members.{reads_log}
 use Rattle.md_members.specs.Members.{IsAccepted, sectors_of}
 use Rattle.md_assembly.specs.States.{is_recorded, state_of}
-use Rattle.md_model.specs.Devices.{is_accepted}
+use Rattle.md_model.specs.Devices.{is_accepted, Super}
 use Rattle.md_kept_members.specs.View.{MemberView}
-use Rattle.md_kept_members.specs.Kept.{IsKept}
+use Rattle.md_kept_members.specs.Kept.{IsKept, known_offset}
 use Rattle.md_state.specs.View.{ArrayView}
 use Rattle.md_array.specs.ReadAsKept.{HasOwnSuper, HasWidth, chunk_size_on}
 use Rattle.md_array.specs.Worlds.{block_on, from_super, is_listed, stored_of, super_in, super_of}
 use Rattle.md_array.proofs.Openings.OwnFields.{state_same, super_same}
 use Rattle.md_array.proofs.Worlds.PartsApart.{HasParts}
-use Rattle.md_array.proofs.Worlds.Listed.{listed_kept_of, same_log}
+use Rattle.md_array.proofs.Worlds.Listed.{listed_kept_of, same_log, listed_at_offset}
 use Rattle.md_array.proofs.Worlds.Member.{Fits, fits_there}
 use Rattle.md_array.proofs.Worlds.Outside.{starts_at}
 use Rattle.md_array.proofs.Worlds.Read.{HasRead, header_there, read_of}
@@ -31,7 +32,7 @@ use Rattle.md_array.proofs.Worlds.Supers.{block_spells, device_super}
 -- a member as it was read of a device that does what it answers, and as it is kept
 pub record IsReadMember (a : ArrayView) (m : MemberView) (info : MemberInfo) (content : List ℕ) : Type 0 where
   pub read : members.IsMember content true info
-  pub kept : IsKept a.shared.events info (state_of a.shared info.superblock) m
+  pub kept : IsKept a.shared.events a.events_cleared info (state_of a.shared info.superblock) m
   pub uuid : info.superblock.set_uuid ≡ a.shared.set_uuid
   pub raid_disks : info.superblock.raid_disks ≡ a.shared.raid_disks
   pub size : info.superblock.size ≡ a.shared.size
@@ -62,6 +63,9 @@ module _ (a : ArrayView) (m : MemberView) (info : MemberInfo) (content : List �
   abbrev own : Superblock
   own = m.superblock
 
+  abbrev offset : ℕ
+  offset = known_offset a.events_cleared (state_of a.shared info.superblock) info.superblock
+
   abbrev start : ℕ
   start = from_super own.bitmap_offset
 
@@ -69,7 +73,7 @@ module _ (a : ArrayView) (m : MemberView) (info : MemberInfo) (content : List �
   sectors = bitmap_sectors m.stored.chunks
 
   pub reads : HasRead content own m.header info.marks
-  reads = read_of content info own m.header o.read o.kept.superblock o.kept.header
+  reads = read_of content info offset own m.header o.read o.kept.superblock o.kept.header
 
   pub starts : BitmapStartsAt own start
   starts = subst (BitmapStartsAt own) (sym (starts_at own reads.bitmap.start reads.bitmap.at)) reads.bitmap.at
@@ -92,17 +96,18 @@ module _ (a : ArrayView) (m : MemberView) (info : MemberInfo) (content : List �
   pub not_fresher_own : own.events ≤ a.shared.events
   not_fresher_own = subst (λ (v : Superblock). v.events ≤ a.shared.events) (sym o.kept.superblock) o.fresh
 
-  super_is : super_of own ≡ super_of info.superblock
-  super_is = ap super_of o.kept.superblock ∙ super_same info.bad info.superblock
+  super_is : record (super_of own) { offset = info.superblock.recovery_offset } ≡ super_of info.superblock
+  super_is = ap (λ (x : Super). record x { offset = info.superblock.recovery_offset }) (ap super_of o.kept.superblock ∙ super_same info.bad offset info.superblock)
 
   pub state_is : m.state ≡ state_of a.shared own
-  state_is = o.kept.state_is ∙ sym (ap (state_of a.shared) o.kept.superblock ∙ state_same info.bad info.superblock a.shared)
+  state_is = o.kept.state_is ∙ sym (ap (state_of a.shared) o.kept.superblock ∙ state_same info.bad offset info.superblock a.shared)
 
   pub due_is : m.due ≡ (is_recorded m.state && nat_lt own.events a.shared.events)
   due_is = o.kept.due ∙ ap (λ s. is_recorded s && nat_lt info.superblock.events a.shared.events) (sym o.kept.state_is)
       ∙ ap (λ (v : Superblock). is_recorded m.state && nat_lt v.events a.shared.events) (sym o.kept.superblock)
 
-  pub super_old : super_in (block_on content) ≡ Some (super_of own)
+  -- The offset that is read may be one that does not count.
+  pub super_old : super_in (block_on content) ≡ Some (record (super_of own) { offset = info.superblock.recovery_offset })
   super_old = device_super content info.superblock o.read.superblock ∙ ap Some (sym super_is)
 
   -- ---- the chunks
@@ -124,7 +129,7 @@ module _ (a : ArrayView) (m : MemberView) (info : MemberInfo) (content : List �
   -- a bitmap that the world accepts before is accepted in memory
   pub accepted_before : is_accepted (stored_of a m content) ≡ true → IsAccepted own m.header
   accepted_before e =
-      let f = fits_there a m content m.header super_old (header_there content own m.header start reads.bitmap.header starts) e in
+      let f = fits_there a m info.superblock.recovery_offset content m.header super_old (header_there content own m.header start reads.bitmap.header starts) e in
       record { uuid = f.uuid ∙ sym uuid_is; size = f.size ∙ sym o.array_size ∙ size_is; state = f.state; events = f.events }
 
   -- ---- an opening would read what is kept
@@ -159,6 +164,7 @@ module _ (a : ArrayView) (m : MemberView) (info : MemberInfo) (content : List �
             same_log v info.superblock content sector
             (spelled.feature_map ∙ sym info_on.feature_map) (spelled.bblog_shift ∙ sym info_on.bblog_shift) (spelled.bblog_size ∙ sym info_on.bblog_size) (spelled.bblog_offset ∙ sym info_on.bblog_offset)
             ∙ sym (listed_kept_of content info.superblock info.bad info_on sound_block sector)
+            ∙ sym (listed_at_offset offset (kept_superblock info) content sector)
             ∙ sym (ap (λ (x : Superblock). is_listed x content sector) kept);
         no_newer = let same : v.events ≡ info.superblock.events = spelled.events ∙ sym info_on.events in let fresh = o.fresh in omega arith;
       }

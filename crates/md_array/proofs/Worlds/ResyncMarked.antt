@@ -1,5 +1,6 @@
 -- It is kept whether the array is resynced: that is the model's event.
 use Rattle.std.proofs.Common.{◌≡◌, ℕ, Bool, true, false, cond, nat_lt, List, [], slice_get, Option, refl, sym, ap, ◌∙◌, subst, arith}
+use Rattle.md_array.proofs.Worlds.Noted.{noted_there}
 use Rattle.std.proofs.lemmas.Option.{slice_get_within}
 use Rattle.std.proofs.lemmas.Bool.{and_parts}
 use Rattle.md_model.specs.Devices.{Stored}
@@ -12,15 +13,15 @@ use Rattle.md_model.proofs.Steps.Between.{between_step, in_flight_step}
 use Rattle.md_model.proofs.Cases.{by_test, is_below}
 use Rattle.md_requests.specs.Pending.{PendingView}
 use Rattle.md_kept_members.specs.View.{MemberView}
-use Rattle.md_state.specs.View.{ArrayView, Disk, MirrorView}
+use Rattle.md_state.specs.View.{ArrayView, Disk, MirrorView, geometry_of}
 use Rattle.md_state.specs.InMemory.{HasChunks, HasRoles}
 use Rattle.md_state.specs.Requests.{AreInFlight, IsPending}
 use Rattle.md_array.specs.Consistency.{IsConsistent}
 use Rattle.md_array.specs.Events.{Does, Happens, WritesOnce}
 use Rattle.md_array.specs.Fits.{Fits}
-use Rattle.md_array.specs.NotingResynced.{AllAgreeWhereMarked, BecomesResynced, IsServed, NotesResynced, sector_of}
+use Rattle.md_array.specs.NotingResynced.{AllAgreeWhereMarked, BecomesResynced, IsServed, NotesResynced, sector_of, AreNoted}
 use Rattle.md_array.specs.ReadAsKept.{AreReadAsKept}
-use Rattle.md_array.specs.Worlds.{AreHonest, geometry_of, world_of}
+use Rattle.md_array.specs.Worlds.{AreHonest, world_of}
 use Rattle.md_array.proofs.Steps.OneMember.{stored_there}
 use Rattle.md_array.proofs.Worlds.ReadAsKept.{same_array, same_member, unwritten_read}
 use Rattle.md_array.proofs.Steps.RemarkedWorlds.{same_mirror}
@@ -103,7 +104,7 @@ unresynced_happens old new c t honest requests in_flight =
     (t.idle.running, (none_in_list false old new c t requests in_flight, world_marked false old new c t requests)) (λ _. refl) t.disks
 
 -- ---- members in sync agree where marks are
-module _ (old : MirrorView) (c : IsConsistent old) (running : old.array.halted ≡ false) (honest : AreHonest old.disks) (requests : ℕ → Option Request) (in_flight : AreInFlight old.array requests) (agree : AllAgreeWhereMarked old) where
+module _ (old : MirrorView) (c : IsConsistent old) (running : old.array.halted ≡ false) (honest : AreHonest old.disks) (requests : ℕ → Option Request) (in_flight : AreInFlight old.array requests) (agree : AllAgreeWhereMarked old) (noted : AreNoted old.array) where
   abbrev w : World
   w = world_of old requests
 
@@ -130,7 +131,8 @@ module _ (old : MirrorView) (c : IsConsistent old) (running : old.array.halted �
   pub may_resync : model.IsIdle w → model.MayResync (geometry_of old.array) w
   may_resync idle = record {
     idle = idle;
-    agree = λ j k s on_j on_k marked free_j free_k.
+    stored = noted_there old requests noted;
+    agree = λ j k s on_j on_k marked free_j free_k _ _.
         let x = held_by j s on_j in
         let y = held_by k s on_k in
         x.is
@@ -149,4 +151,4 @@ pub resynced_happens : (old new : MirrorView) → IsConsistent old → BecomesRe
 resynced_happens old new c t honest requests in_flight =
     let m = t.marks in
     does_marking true old new c m Event.Resynced honest requests in_flight m.disks
-    (m.idle.running, (may_resync old c m.idle.running honest requests in_flight t.agree (none_in_list true old new c m requests in_flight), world_marked true old new c m requests)) (λ _. refl) m.disks
+    (m.idle.running, (may_resync old c m.idle.running honest requests in_flight t.agree t.stored (none_in_list true old new c m requests in_flight), world_marked true old new c m requests)) (λ _. refl) m.disks

@@ -18,11 +18,11 @@ use Rattle.md_kept_members.specs.View.{MemberView}
 use Rattle.md_kept_members.specs.Members.{made_due}
 use Rattle.md_state.specs.Members.{IsMember, is_degraded, is_filled, faulty_role}
 use Rattle.md_state.specs.Rising.{has_number, is_absent, roles_at_rise, risen}
-use Rattle.md_state.specs.View.{Disk, ArrayView, MirrorView}
+use Rattle.md_state.specs.View.{Disk, ArrayView, MirrorView, geometry_of}
 use Rattle.md_state.specs.InMemory.{HasChunks, HasRoles}
 use Rattle.md_array.specs.Consistency.{HasSuper, IsConsistent}
 use Rattle.md_array.specs.Fits.{Fits, FitsMember}
-use Rattle.md_array.specs.Worlds.{geometry_of, kind_of, stored_on, world_on}
+use Rattle.md_array.specs.Worlds.{kind_of, stored_on, world_on, lists_of}
 use Rattle.md_array.proofs.General.Indices.{any_at, any_map, at_any, at_map, got_in_map, got_in_range, in_range, read_map}
 use Rattle.md_array.proofs.Worlds.Shown.{at_is, at_past, by_member}
 use Rattle.md_array.proofs.Worlds.States.{same_recorded}
@@ -63,7 +63,8 @@ module _ (a : ArrayView) (full : Bool) where
     state = λ k. read_map made_due model.State.Faulty (λ m. kind_of m.state) a.members k i;
     due = λ k. (ap (λ o. unwrap_or (option_map (λ m. m.due) o) false) (slice_get-map made_due a.members k) ∙ due_mapped (slice_get a.members k)) i;
     known = λ k c. read_map made_due false (λ m. nat_lt c a.marks.chunks && is_set m.stored.bytes c) a.members k i;
-    re_added = λ k. read_map made_due false (λ m. m.re_added) a.members k i;
+    bad = λ k s. read_map made_due false (λ m. lists_of a m s) a.members k i;
+    offset = λ k. read_map made_due 0 (λ m. m.superblock.recovery_offset) a.members k i;
     recovering = λ k. read_map made_due false (λ m. has_recovery_offset m.superblock) a.members k i;
     role = λ d. risen_role d i;
     entries = length-map-range_with_len (λ d. cond (is_absent a d) faulty_role (role_in a.shared d)) 0 (length a.shared.roles) i;

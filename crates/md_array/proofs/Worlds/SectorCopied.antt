@@ -1,5 +1,6 @@
 -- A sector is copied from a member in sync to another: no more than that sector of its data changes, and that is the model's event.
 use Rattle.std.proofs.Common.{◌≡◌, ◌≢◌, ℕ, ◌+◌, ◌*◌, ◌<◌, ◌≤◌, ◌↔◌, ◌⊎◌, inl, inr, true, false, cond, Bool, ◌&&◌, nat_lt, true≢false, List, [], slice_get, Option, Some, None, refl, sym, ap, ◌∙◌, subst, arith, eq-eqb}
+use Rattle.md_array.proofs.Worlds.Bad.{test_from_bad}
 use Rattle.std.proofs.lemmas.Bool.{cases_lt, and_from, and_parts}
 use Rattle.std.proofs.lemmas.Option.{slice_get_within}
 use Rattle.md_badblocks.specs.Runs.{IsBad}
@@ -19,16 +20,16 @@ use Rattle.md_model.proofs.Steps.Between.{between_step, in_flight_step}
 use Rattle.md_model.proofs.Cases.{below-nat_lt, by_test, not_below}
 use Rattle.md_model.proofs.Puts.{by_same, put-hit, put-miss, put-self}
 use Rattle.md_kept_members.specs.View.{MemberView}
-use Rattle.md_state.specs.View.{ArrayView, Disk, MirrorView}
+use Rattle.md_state.specs.View.{ArrayView, Disk, MirrorView, geometry_of}
 use Rattle.md_state.specs.CopyingData.{CopiesSector, Lists, MayCopy, MayCopyChunk, run_write}
 use Rattle.md_state.specs.Members.{IsInSync, IsMember}
 use Rattle.md_state.specs.MakingClean.{first_number}
 use Rattle.md_state.specs.Requests.{AreInFlight}
 use Rattle.md_array.specs.Consistency.{HasPlaces, HasSuper, IsConsistent}
 use Rattle.md_array.specs.Events.{Happens}
-use Rattle.md_array.specs.Worlds.{AreHonest, geometry_of, is_listed, stored_of, super_in, world_of}
+use Rattle.md_array.specs.Worlds.{AreHonest, is_listed, stored_of, super_in, world_of, lists_of}
 use Rattle.md_array.proofs.General.Honesty.{tried_honest}
-use Rattle.md_array.proofs.Worlds.Listed.{listed_kept, still_next}
+use Rattle.md_array.proofs.Worlds.Listed.{listed_kept, still_next, still_known}
 use Rattle.md_array.proofs.Steps.MadeClean.{none_listed}
 use Rattle.md_array.proofs.Steps.OneMember.{ChangesMember, changed_in_flight, changed_is_consistent, changed_world, member_there, stored_there}
 use Rattle.md_array.proofs.Worlds.PartsApart.{HasParts, block_beside_data, data_alone, data_elsewhere, log_beside_data, parts_of}
@@ -81,29 +82,27 @@ module _ (v : MirrorView) (c : IsConsistent v) (honest : AreHonest v.disks) (req
         ∙ and_from (nat_lt chunk a.marks.chunks) (is_set x.0.stored.bytes chunk) (marked_there chunk may.marked) (may.stored i x.0 x.1);
   }
 
-  -- the log of a member in sync lists a sector of the array where its bad set has it
+  -- what the device of a member in sync lists is in the list that is kept
   module _ (running : a.halted ≡ false) (k s : ℕ) (m : MemberView) (is : IsInSync a k m) (low : s < a.chunks.size) where
     abbrev test : Bool
     test = (world.stored k).listed s
 
-    listed_is : test ≡ true ↔ Lists m s
-    listed_is =
+    bad_there : test ≡ true → Lists m s
+    bad_there on =
         let there = slice_get_within a.members k m is.member in
         let many = c.fits.as_many in
         let d = got_within v.disks k (omega arith) in
         let has = c.supers running k d.0 m d.1 is.member is.in_sync (honest k d.0 d.1) in
-        let known = has.known (m.superblock.data_offset + s) in
-        let same : test ≡ (nat_lt s a.chunks.size && is_listed m.superblock d.0.content (m.superblock.data_offset + s)) =
-        ap (λ (x : Stored). x.listed s) (stored_there v.disks a k m d.0 is.member d.1) in (
-          (λ e. known.0 (and_parts _ _ (sym same ∙ e)).1),
-          (λ lists. same ∙ and_from _ _ (below-nat_lt s a.chunks.size low) (known.1 lists)),
-        )
+        let sector = m.superblock.data_offset + s in
+        has.known sector (has.listed sector (and_parts (nat_lt s a.chunks.size) _ (sym (ap (λ (x : Stored). x.listed s) (stored_there v.disks a k m d.0 is.member d.1)) ∙ on)).1)
 
     pub unlisted_there : (Lists m s → ⊥) → test ≡ false
-    unlisted_there not_listed = by_test test (λ on. absurd (not_listed (listed_is.0 on))) (λ off. off)
+    unlisted_there not_listed = by_test test (λ on. absurd (not_listed (bad_there on))) (λ off. off)
 
-    pub unlisted_is : test ≡ false → Lists m s → ⊥
-    unlisted_is off lists = true≢false (sym (listed_is.1 lists) ∙ off)
+    pub unlisted_is : world.bad k s ≡ false → Lists m s → ⊥
+    unlisted_is off lists = true≢false
+        (sym (and_from (nat_lt s a.chunks.size) _ (below-nat_lt s a.chunks.size low) (test_from_bad m.bad (m.superblock.data_offset + s) lists))
+        ∙ sym (member_there a k m false (λ x. lists_of a x s) is.member) ∙ off)
 
   role_there : (k role : ℕ) (m : MemberView) → IsMember a k m → takes_role role m.state ≡ true → world.role (world.number k) ≡ role
   role_there k role m at takes = ap world.role (number_at v.disks a requests k m at) ∙ c.roles.shared k role m at takes
@@ -146,7 +145,7 @@ module _ (from k s : ℕ) (old new : MirrorView) (c : IsConsistent old) (t : Cop
   changes : ChangesMember k m m (run_write m s t.bytes) old new
   changes = record {
     at = at_k;
-    like = record { superblock = refl; header = refl; chunks = refl; state = refl };
+    like = record { superblock = refl; bad = refl; header = refl; chunks = refl; state = refl };
     disks = t.disks.tried;
     array = t.array ∙ (λ i. record old.array { members = sym (set_itself array.members k m at_k) i });
   }
@@ -168,7 +167,7 @@ module _ (from k s : ℕ) (old new : MirrorView) (c : IsConsistent old) (t : Cop
         recovering = has.recovering;
         places = subst (HasPlaces m) (sym block) has.places;
         listed = still_next m.superblock d.content e.content log block has.listed;
-        known = λ sector. subst (λ b. (b ≡ true) ↔ IsBad m.bad sector) (sym (listed_kept m.superblock d.content e.content log sector block)) (has.known sector);
+        known = still_known m.superblock d.content e.content log has.known;
       }
 
   pub copied_is_consistent : IsConsistent new
@@ -225,10 +224,8 @@ module _ (from k s : ℕ) (old new : MirrorView) (c : IsConsistent old) (t : Cop
         ap (λ (b : _). put k b w.due) (sym (member_there array k m false (λ x. x.due) at_k)) ∙ put-self k w.due in
         let known : put k (λ x. nat_lt x array.marks.chunks && is_set m.stored.bytes x) w.known ≡ w.known =
         ap (λ (f : ℕ → _). put k f w.known) (λ i x. sym (member_there array k m false (λ y. nat_lt x array.marks.chunks && is_set y.stored.bytes x) at_k) i) ∙ put-self k w.known in
-        let re_added : put k m.re_added w.re_added ≡ w.re_added =
-        ap (λ (b : _). put k b w.re_added) (sym (member_there array k m false (λ x. x.re_added) at_k)) ∙ put-self k w.re_added in
         changed_world k m m (run_write m s t.bytes) old new changes e after requests
-        ∙ (λ i. record w { stored = put k (stored_copied i) w.stored; due = due i; known = known i; re_added = re_added i })
+        ∙ (λ i. record w { stored = put k (stored_copied i) w.stored; due = due i; known = known i })
 
     step : Step (geometry_of array) w (Event.Copy from k s) (world_of new requests)
     step = (t.may.may.idle.running, (may_copy old c honest requests in_flight from k s t.may, world_copied))

@@ -110,15 +110,19 @@ module _ (before : List Disk) (m : MirrorView) (honest : AreHonest before) (o : 
   pub stored_past : (k : ℕ) → length m.array.members ≤ k → world.stored k ≡ nothing_stored
   stored_past k past = ap (λ x. stored_on m.array x (slice_get m.disks k)) (slice_get_past m.array.members k past)
 
-  pub super_at : (k : ℕ) (mv : MemberView) → IsMember m.array k mv → (world.stored k).super ≡ Some (super_of mv.superblock)
+  -- Of a member's superblock the offset is that which was read: it may be one that does not count.
+  abbrev pub as_read : (k : ℕ) (mv : MemberView) → IsMember m.array k mv → Super
+  as_read k mv is = record (super_of mv.superblock) { offset = (shown k mv is).info.superblock.recovery_offset }
+
+  pub super_at : (k : ℕ) (mv : MemberView) (is : IsMember m.array k mv) → (world.stored k).super ≡ Some (as_read k mv is)
   super_at k mv is =
       let s = shown k mv is in
       ap (λ (d : Stored). d.super) (stored_at k mv is) ∙ super_new m.array mv s.info s.old s.new s.opened
 
   -- a superblock that the world shows is a member's
-  pub own_is : (k : ℕ) (own : Super) → (world.stored k).super ≡ Some own → (mv : MemberView) × (IsMember m.array k mv) × (super_of mv.superblock ≡ own)
+  pub own_is : (k : ℕ) (own : Super) → (world.stored k).super ≡ Some own → (mv : MemberView) × (is : IsMember m.array k mv) × (as_read k mv is ≡ own)
   own_is k own e = by_member m.array k
-      (λ mv is. (mv, is, same_Some (super_of mv.superblock) own (sym (super_at k mv is) ∙ e)))
+      (λ mv is. (mv, is, same_Some (as_read k mv is) own (sym (super_at k mv is) ∙ e)))
       (λ past. absurd (none-some own (sym (ap (λ (d : Stored). d.super) (stored_past k past)) ∙ e)))
 
   pub state_at : (k : ℕ) (mv : MemberView) → IsMember m.array k mv → world.state k ≡ kind_of mv.state

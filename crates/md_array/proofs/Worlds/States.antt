@@ -4,11 +4,11 @@ use Rattle.std.proofs.lemmas.Bool.Decides.{nat_tests}
 use Rattle.md_super.specs.declared.superblock.Superblock.{Superblock}
 use Rattle.md_assembly.specs.declared.state.MemberState.{MemberState}
 use Rattle.md_assembly.specs.declared.state.MemberState.TheVariants.{InSync, Recovering, Stale, Spare, Faulty}
-use Rattle.md_assembly.specs.States.{has_recovery_offset, is_in_sync, is_recorded, is_up_to_date, role_in, state_of, takes_role, is_active}
+use Rattle.md_assembly.specs.States.{has_recovery_offset, is_in_sync, is_recorded, is_up_to_date, role_in, state_of, takes_role, is_active, is_recovering}
 use Rattle.md_model.specs.States as model
 use Rattle.md_model.specs.Assembly as model_assembly
-use Rattle.md_state.specs.View.{ArrayView}
-use Rattle.md_array.specs.Worlds.{kind_of, geometry_of, super_of}
+use Rattle.md_state.specs.View.{ArrayView, geometry_of}
+use Rattle.md_array.specs.Worlds.{kind_of, super_of}
 
 pub same_in_sync : (s : MemberState) → model.is_in_sync (kind_of s) ≡ is_in_sync s
 same_in_sync (InSync role) = refl
@@ -16,6 +16,13 @@ same_in_sync (Recovering role) = refl
 same_in_sync (Stale role) = refl
 same_in_sync Spare = refl
 same_in_sync Faulty = refl
+
+pub same_recovering : (s : MemberState) → model.is_recovering (kind_of s) ≡ is_recovering s
+same_recovering (InSync role) = refl
+same_recovering (Recovering role) = refl
+same_recovering (Stale role) = refl
+same_recovering Spare = refl
+same_recovering Faulty = refl
 
 pub same_recorded : (s : MemberState) → model.is_recorded (kind_of s) ≡ is_recorded s
 same_recorded (InSync role) = refl

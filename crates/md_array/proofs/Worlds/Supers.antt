@@ -36,6 +36,7 @@ same_fields block v f =
       events = sym f.events i;
       role = λ d. slice_index_or (sym f.roles i) d 0xffff;
       recovering = not (bit_and (sym f.feature_map i) 2 == 0);
+      offset = sym f.recovery_offset i;
     }
 
 pub super_shown : (block : List ℕ) (v : Superblock) → IsSuper block v → NoFault block → super_in block ≡ Some (super_of v)

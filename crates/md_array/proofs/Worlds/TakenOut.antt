@@ -20,7 +20,7 @@ use Rattle.md_state.specs.Removing.{taken_out}
 use Rattle.md_array.specs.Consistency.{IsConsistent}
 use Rattle.md_array.specs.Fits.{Fits}
 use Rattle.md_array.specs.ReadAsKept.{AreReadAsKept}
-use Rattle.md_array.specs.Worlds.{kind_of, stored_on, world_on}
+use Rattle.md_array.specs.Worlds.{kind_of, stored_on, world_on, lists_of}
 use Rattle.md_array.proofs.General.TakenOut.{any_left, got_left, number_left, was_at}
 
 not_in_sync_as : (s : MemberState) (role : ℕ) → is_in_sync s ≡ false → is_in_sync_as role s ≡ false
@@ -109,7 +109,8 @@ module _ (a : ArrayView) (k : ℕ) (m : MemberView) (at : IsMember a k m) (low :
       state = λ j. ap (λ o. unwrap_or (option_map (λ (x : MemberView). kind_of x.state) o) model.State.Faulty) (got_left a.members k j) i;
       due = λ j. ap (λ o. unwrap_or (option_map (λ (x : MemberView). x.due) o) false) (got_left a.members k j) i;
       known = λ j c. ap (λ o. unwrap_or (option_map (λ (x : MemberView). nat_lt c a.marks.chunks && is_set x.stored.bytes c) o) false) (got_left a.members k j) i;
-      re_added = λ j. ap (λ o. unwrap_or (option_map (λ (x : MemberView). x.re_added) o) false) (got_left a.members k j) i;
+      bad = λ j s. ap (λ o. unwrap_or (option_map (λ (x : MemberView). lists_of a x s) o) false) (got_left a.members k j) i;
+      offset = λ j. ap (λ o. unwrap_or (option_map (λ (x : MemberView). x.superblock.recovery_offset) o) 0) (got_left a.members k j) i;
       recovering = λ j. ap (λ o. unwrap_or (option_map (λ (x : MemberView). has_recovery_offset x.superblock) o) false) (got_left a.members k j) i;
       present = λ d. (number_left (λ (x : MemberView). x.superblock.dev_number) a.members k m at r.numbers d
           ∙ ap (λ n. list_any (λ (x : MemberView). eqb x.superblock.dev_number d) a.members && not (eqb d n)) (sym number_here)) i;

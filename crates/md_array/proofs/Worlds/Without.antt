@@ -14,7 +14,7 @@ use Rattle.md_state.specs.View.{Disk, ArrayView}
 use Rattle.md_bitmap.specs.Marks.{is_set}
 use Rattle.md_state.specs.Members.{IsMember, faulty_role, clean_offset}
 use Rattle.md_state.specs.Rising.{made_faulty, roles_without, without}
-use Rattle.md_array.specs.Worlds.{kind_of, stored_on, world_on}
+use Rattle.md_array.specs.Worlds.{kind_of, stored_on, world_on, lists_of}
 use Rattle.md_array.proofs.General.Replaced.{read_changed, read_kept}
 use Rattle.md_array.proofs.General.Indices.{any_kept}
 
@@ -72,7 +72,8 @@ world_without disks a requests k m is = λ i. record {
   state = λ j. read_changed (λ o. unwrap_or (option_map (λ (x : MemberView). kind_of x.state) o) model.State.Faulty) a.members k m (made_faulty m) is j i;
   due = λ j. read_changed (λ o. unwrap_or (option_map (λ (x : MemberView). x.due) o) false) a.members k m (made_faulty m) is j i;
   known = λ j c. read_kept (λ o. unwrap_or (option_map (λ (x : MemberView). nat_lt c a.marks.chunks && is_set x.stored.bytes c) o) false) a.members k m (made_faulty m) is refl j i;
-  re_added = λ j. read_changed (λ o. unwrap_or (option_map (λ (x : MemberView). x.re_added) o) false) a.members k m (made_faulty m) is j i;
+  bad = λ j s. read_kept (λ o. unwrap_or (option_map (λ (x : MemberView). lists_of a x s) o) false) a.members k m (made_faulty m) is refl j i;
+  offset = λ j. read_kept (λ o. unwrap_or (option_map (λ (x : MemberView). x.superblock.recovery_offset) o) 0) a.members k m (made_faulty m) is refl j i;
   recovering = λ j. read_kept (λ o. unwrap_or (option_map (λ (x : MemberView). has_recovery_offset x.superblock) o) false) a.members k m (made_faulty m) is refl j i;
   role = λ d. (role_without m a.shared.roles d ∙ ap (λ n. cond (eqb d n && nat_lt d (length a.shared.roles)) 65534 (role_in a.shared d)) (sym number_here)) i;
   entries = length_without m a.shared.roles i;

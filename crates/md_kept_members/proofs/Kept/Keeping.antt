@@ -11,8 +11,8 @@ use Rattle.md_kept_members.specs.Remembering.{AreKept}
 use Rattle.md_kept_members.proofs.Members.Indices.{listed_push}
 
 -- one more member
-pub one_more_kept : (events : ℕ) (infos : List MemberInfo) (states : List MemberState) (members : List MemberView) (info : MemberInfo) (state : MemberState) (m : MemberView) → AreKept events infos states members → slice_get states (length members) ≡ Some state → IsKept events info state m → AreKept events (infos ++ info ∷ []) states (members ++ m ∷ [])
-one_more_kept events infos states members info state m kept at_state is_kept =
+pub one_more_kept : (events cleared : ℕ) (infos : List MemberInfo) (states : List MemberState) (members : List MemberView) (info : MemberInfo) (state : MemberState) (m : MemberView) → AreKept events cleared infos states members → slice_get states (length members) ≡ Some state → IsKept events cleared info state m → AreKept events cleared (infos ++ info ∷ []) states (members ++ m ∷ [])
+one_more_kept events cleared infos states members info state m kept at_state is_kept =
     let as_many = kept.as_many in
     record {
       as_many = length_push members m ∙ ap (λ (n : ℕ). n + 1) as_many ∙ sym (length_push infos info);
@@ -27,9 +27,9 @@ one_more_kept events infos states members info state m kept at_state is_kept =
               let at = last.0 in
               let at_k : slice_get states k ≡ Some state = subst (λ (j : ℕ). slice_get states j ≡ Some state) (sym at) at_state in
               let same_state : state ≡ s = cc in
-              subst (λ (x : MemberInfo). IsKept events x s n) here.1
-              (subst (λ (x : MemberState). IsKept events info x n) same_state
-              (subst (λ (x : MemberView). IsKept events info state x) last.1 is_kept))
+              subst (λ (x : MemberInfo). IsKept events cleared x s n) here.1
+              (subst (λ (x : MemberState). IsKept events cleared info x n) same_state
+              (subst (λ (x : MemberView). IsKept events cleared info state x) last.1 is_kept))
         ]
       ];
     }

@@ -1,23 +1,26 @@
 -- The states of the world's members are those of assembly.
-use Rattle.std.proofs.Common.{◌≡◌, ℕ, true, false, true≢false, ◌&&◌, nat_lt, List, Some, sym, ap, ◌∙◌, subst}
+use Rattle.std.proofs.Common.{◌≡◌, ℕ, ◌+◌, true, false, true≢false, cond, ◌&&◌, nat_lt, List, Some, sym, ap, ◌∙◌, subst}
 use Rattle.md_assembly.specs.declared.state.MemberState.{MemberState}
-use Rattle.md_assembly.specs.States.{has_recovery_offset, is_in_sync, role_in, state_of, takes_role}
+use Rattle.md_assembly.specs.States.{has_recovery_offset, is_in_sync, is_recovering, role_in, state_of, takes_role}
+use Rattle.md_super.specs.declared.superblock.Superblock.{Superblock}
 use Rattle.md_model.specs.States as model
 use Rattle.md_model.specs.Assembly as model_assembly
 use Rattle.md_model.specs.Assembly.{IsFreshest}
-use Rattle.md_model.specs.Devices.{Super}
-use Rattle.md_model.specs.Openings.{HasStates}
+use Rattle.md_model.specs.Devices.{Stored, Super}
+use Rattle.md_model.specs.Openings.{HasStates, kept_offset}
 use Rattle.md_model.specs.Worlds as worlds
 use Rattle.md_kept_members.specs.View.{MemberView}
-use Rattle.md_state.specs.View.{Disk, ArrayView, MirrorView}
+use Rattle.md_state.specs.View.{Disk, ArrayView, MirrorView, geometry_of}
 use Rattle.md_state.specs.Members.{IsMember}
 use Rattle.md_array.specs.Opening.{IsOpenedFrom}
-use Rattle.md_array.specs.Worlds.{AreHonest, geometry_of, super_of, kind_of, world_of, none_in_flight}
+use Rattle.md_array.specs.Worlds.{AreHonest, is_listed, kind_of, lies_in, lists_of, none_in_flight, super_of, world_of}
 use Rattle.md_array.proofs.Openings.OwnFields.{state_same}
+use Rattle.md_array.proofs.Worlds.Bad.{bad_from_test, same_test, test_from_bad}
+use Rattle.md_array.proofs.Worlds.Device.{bad_is_listed}
 use Rattle.md_array.proofs.Worlds.ReadMember.{due_is, state_is}
-use Rattle.md_array.proofs.Worlds.Shown.{IsShown, at_is, at_past, by_member, in_sync_there, own_is, shown, state_at, state_past}
+use Rattle.md_array.proofs.Worlds.Shown.{IsShown, at_is, at_past, by_member, in_sync_there, own_is, shown, state_at, state_past, stored_at, stored_past}
 use Rattle.md_array.proofs.Openings.Sound.{roles_distinct, some_in_sync}
-use Rattle.md_array.proofs.Worlds.States.{active_takes_role, same_recorded, same_state}
+use Rattle.md_array.proofs.Worlds.States.{active_takes_role, same_recorded, same_recovering, same_state}
 use Rattle.md_laws.proofs.Openings.Present as present
 
 module _ (before : List Disk) (m : MirrorView) (honest : AreHonest before) (o : IsOpenedFrom before m) where
@@ -50,14 +53,14 @@ module _ (before : List Disk) (m : MirrorView) (honest : AreHonest before) (o : 
       let s = seen x.0 mv.0 mv.1 in (
         x.0,
         in_sync_there before m honest o x.0 mv.0 mv.1
-            (ap is_in_sync (state_is a mv.0 s.info s.old.content s.opened.member ∙ ap (state_of a.shared) (present.same_info before m honest o x.0 x.1 mv.0 x.2 mv.1) ∙ state_same x.1.bad x.1.superblock a.shared) ∙ x.3),
+            (ap is_in_sync (state_is a mv.0 s.info s.old.content s.opened.member ∙ ap (state_of a.shared) (present.same_info before m honest o x.0 x.1 mv.0 x.2 mv.1) ∙ state_same x.1.bad (present.offset_of before m honest o x.1) x.1.superblock a.shared) ∙ x.3),
       )
 
   -- the state by the superblock that was read
   state_read : (k : ℕ) (mv : MemberView) (is : IsMember a k mv) → state_of a.shared mv.superblock ≡ state_of a.shared (seen k mv is).info.superblock
   state_read k mv is =
       let info = (seen k mv is).info in
-      ap (state_of a.shared) (present.superblock_is before m honest o k mv is) ∙ state_same info.bad info.superblock a.shared
+      ap (state_of a.shared) (present.superblock_is before m honest o k mv is) ∙ state_same info.bad (present.offset_of before m honest o info) info.superblock a.shared
 
   -- an active member takes its role
   record IsActive (k : ℕ) : Type 0 where
@@ -93,10 +96,30 @@ module _ (before : List Disk) (m : MirrorView) (honest : AreHonest before) (o : 
       ∙ ap (λ b. b && nat_lt x.0.superblock.events a.shared.events) (sym (same_recorded x.0.state) ∙ ap model.is_recorded (sym (state_at before m honest o k x.0 x.1)))
       ∙ ap (λ (v : Super). model.is_recorded (w.state k) && nat_lt v.events first.events) x.2
 
-  re_added : (k : ℕ) → w.re_added k ≡ false
-  re_added k = by_member a k
-      (λ mv is. at_is a k false (λ x. x.re_added) mv is ∙ (seen k mv is).opened.member.kept.re_added)
-      (λ past. at_past a k false (λ x. x.re_added) past)
+  -- what is listed in memory is what the devices list
+  bad : (k s : ℕ) → w.bad k s ≡ (w.stored k).listed s
+  bad k s = by_member a k
+      (λ mv is.
+      let x = seen k mv is in
+      let at = mv.superblock.data_offset + s in
+      at_is a k false (λ y. lists_of a y s) mv is
+      ∙ ap (λ b. nat_lt s a.chunks.size && b) (same_test (lies_in mv.bad at) (is_listed mv.superblock x.new.content at)
+      (bad_from_test mv.bad at, test_from_bad mv.bad at) (bad_is_listed a mv x.info x.old x.new x.opened at))
+      ∙ sym (ap (λ (d : Stored). d.listed s) (stored_at before m honest o k mv is)))
+      (λ past. at_past a k false (λ y. lists_of a y s) past ∙ sym (ap (λ (d : Stored). d.listed s) (stored_past before m honest o k past)))
+
+  offset : (k : ℕ) (own : Super) → (w.stored k).super ≡ Some own → w.offset k ≡ kept_offset w (w.state k) own
+  offset k own e =
+      let x = own_is before m honest o k own e in
+      let info = (seen k x.0 x.1).info in
+      let kept = present.superblock_is before m honest o k x.0 x.1 in
+      let recovers : model.is_recovering (w.state k) ≡ is_recovering (state_of a.shared info.superblock) =
+      ap model.is_recovering (state_here k x.0 x.1) ∙ same_recovering (state_of a.shared x.0.superblock) ∙ ap is_recovering (state_read k x.0 x.1) in
+      let events = ap (λ (v : Superblock). v.events) kept in
+      at_is a k 0 (λ mv. mv.superblock.recovery_offset) x.0 x.1
+      ∙ ap (λ (v : Superblock). v.recovery_offset) kept
+      ∙ sym (λ i. cond (recovers i && nat_lt (events i) a.events_cleared) 0 info.superblock.recovery_offset)
+      ∙ ap (λ (v : Super). kept_offset w (w.state k) v) x.2
 
   recovering : (k : ℕ) (own : Super) → (w.stored k).super ≡ Some own → w.recovering k ≡ own.recovering
   recovering k own e =
@@ -110,6 +133,7 @@ module _ (before : List Disk) (m : MirrorView) (honest : AreHonest before) (o : 
     some = some;
     one_each = one_each;
     due = due;
-    re_added = re_added;
+    bad = bad;
+    offset = offset;
     recovering = recovering;
   }

@@ -22,12 +22,12 @@ use Rattle.md_model.proofs.Puts.{by_same}
 use Rattle.md_kept_members.specs.View.{MemberView}
 use Rattle.md_kept_members.specs.Members.{NeedsMarks}
 use Rattle.md_state.specs.Members.{IsMember}
-use Rattle.md_state.specs.View.{ArrayView, Disk}
+use Rattle.md_state.specs.View.{ArrayView, Disk, geometry_of}
 use Rattle.md_state.specs.DeviceChanges.{IsLeftAlone}
 use Rattle.md_array.specs.Opening.{IsArrayOf}
 use Rattle.md_array.specs.ReadAsKept.{chunk_size_on}
 use Rattle.md_array.specs.Storing.{AreMarkWrites, FailsToStore, IsMarkedBy, StoresMarks}
-use Rattle.md_array.specs.Worlds.{from_super, geometry_of, header_fits, header_on, stored_of}
+use Rattle.md_array.specs.Worlds.{from_super, header_fits, header_on, stored_of}
 use Rattle.md_laws.specs.HalfOpened.{FailsOnMember, IsHalfOpened, IsHeaderKept}
 use Rattle.md_laws.specs.Lives.{AreFoundAgain, IsAsLeft, IsFoundAgain, IsReadAsKeptInLives, StaysAsLeft}
 use Rattle.md_laws.specs.Runs.{Moment}

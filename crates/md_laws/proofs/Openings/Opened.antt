@@ -5,10 +5,10 @@ use Rattle.md_model.specs.Devices.{Super, EndsWith}
 use Rattle.md_model.specs.Openings.{IsOpened}
 use Rattle.md_model.specs.Worlds as worlds
 use Rattle.md_kept_members.specs.View.{MemberView}
-use Rattle.md_state.specs.View.{Disk, ArrayView, MirrorView}
+use Rattle.md_state.specs.View.{Disk, ArrayView, MirrorView, geometry_of}
 use Rattle.md_state.specs.Members.{IsMember}
 use Rattle.md_array.specs.Opening.{IsOpenedFrom}
-use Rattle.md_array.specs.Worlds.{AreHonest, geometry_of, nothing_stored, stored_of, super_of, world_of, none_in_flight}
+use Rattle.md_array.specs.Worlds.{AreHonest, nothing_stored, stored_of, super_of, world_of, none_in_flight}
 use Rattle.md_array.proofs.Worlds.ReadMember.{none_past}
 use Rattle.md_array.proofs.Worlds.Shown.{IsShown, by_member, shown, stored_at, stored_past}
 use Rattle.md_model.proofs.Cases.{not_below-nat_lt}

@@ -10,14 +10,14 @@ use Rattle.md_model.specs.Worlds as worlds
 use Rattle.md_model.proofs.Lives.OpeningCovers.{accepted-bits}
 use Rattle.md_model.proofs.Steps.Tracked.{agree_as}
 use Rattle.md_kept_members.specs.View.{MemberView}
-use Rattle.md_state.specs.View.{Disk, ArrayView, MirrorView}
+use Rattle.md_state.specs.View.{Disk, ArrayView, MirrorView, geometry_of}
 use Rattle.md_state.specs.Members.{IsMember}
 use Rattle.md_array.specs.Opening.{IsOpenedFrom}
 use Rattle.md_array.specs.ReadAsKept.{AreReadAsKept, IsReadAsKept}
-use Rattle.md_array.specs.Worlds.{AreHonest, geometry_of, is_listed, nothing_stored, stored_of, stored_on, super_of, world_of, world_on, none_in_flight}
+use Rattle.md_array.specs.Worlds.{AreHonest, is_listed, nothing_stored, stored_of, stored_on, super_of, world_of, world_on, none_in_flight}
 use Rattle.md_array.proofs.Worlds.Device.{all_or_same, bad_is_listed, bits_new, is_accepted_new, read_new, same_data, same_listed}
 use Rattle.md_array.proofs.Worlds.ReadMember.{chunk_of_sector, super_old}
-use Rattle.md_array.proofs.Worlds.Shown.{IsShown, by_member, in_sync_is, own_is, shown, stored_at, stored_is, super_at}
+use Rattle.md_array.proofs.Worlds.Shown.{IsShown, as_read, by_member, in_sync_is, own_is, shown, stored_at, stored_is, super_at}
 use Rattle.md_laws.proofs.Openings.Opened.{opened}
 use Rattle.md_assembly.proofs.Indices.{got_same}
 
@@ -40,7 +40,7 @@ module _ (before : List Disk) (m : MirrorView) (honest : AreHonest before) (o : 
   stored_after : (k : ℕ) (mv : MemberView) (is : IsMember a k mv) → w.stored k ≡ stored_of a mv (seen k mv is).new.content
   stored_after = stored_at before m honest o
 
-  super_before : (k : ℕ) (mv : MemberView) → IsMember a k mv → (was.stored k).super ≡ Some (super_of mv.superblock)
+  super_before : (k : ℕ) (mv : MemberView) (is : IsMember a k mv) → (was.stored k).super ≡ Some (as_read before m honest o k mv is)
   super_before k mv is = let s = seen k mv is in ap (λ (d : Stored). d.super) (stored_before k mv is) ∙ super_old a mv s.info s.old.content s.opened.member
 
   none_before : (k : ℕ) → length a.members ≤ k → was.stored k ≡ nothing_stored

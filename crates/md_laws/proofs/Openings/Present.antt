@@ -8,15 +8,17 @@ use Rattle.md_model.specs.Devices.{Stored, Super}
 use Rattle.md_model.specs.Openings.{HasMembers}
 use Rattle.md_model.specs.Worlds as worlds
 use Rattle.md_kept_members.specs.View.{MemberView}
+use Rattle.md_assembly.specs.States.{state_of}
+use Rattle.md_kept_members.specs.Kept.{known_offset}
 use Rattle.md_kept_members.specs.OwnFields.{kept_superblock}
 use Rattle.md_state.specs.View.{Disk, ArrayView, MirrorView}
 use Rattle.md_state.specs.Members.{IsMember}
 use Rattle.md_array.specs.Opening.{IsOpenedFrom}
 use Rattle.md_array.specs.Worlds.{AreHonest, super_of, world_of, none_in_flight}
-use Rattle.md_array.proofs.Openings.OwnFields.{super_same}
+use Rattle.md_array.proofs.Openings.OwnFields.{at_offset, super_same}
 use Rattle.md_array.proofs.Worlds.ReadMember.{not_fresher_own}
 use Rattle.md_array.proofs.General.Indices.{any_at, at_any}
-use Rattle.md_array.proofs.Worlds.Shown.{IsShown, number_at_member, own_is, shown, stored_past, super_at}
+use Rattle.md_array.proofs.Worlds.Shown.{IsShown, as_read, number_at_member, own_is, shown, stored_past, super_at}
 use Rattle.md_array.proofs.Openings.Sound.{freshest_at, numbers_distinct}
 use Rattle.md_assembly.proofs.Indices.{got_within, got_same}
 
@@ -33,8 +35,18 @@ module _ (before : List Disk) (m : MirrorView) (honest : AreHonest before) (o : 
   abbrev seen : (k : ℕ) (mv : MemberView) → IsMember a k mv → IsShown before m o.array.infos k mv
   seen = shown before m honest o
 
-  pub superblock_is : (k : ℕ) (mv : MemberView) (is : IsMember a k mv) → mv.superblock ≡ kept_superblock (seen k mv is).info
+  -- the offset that is kept of a member
+  abbrev pub offset_of : MemberInfo → ℕ
+  offset_of info = known_offset a.events_cleared (state_of a.shared info.superblock) info.superblock
+
+  pub superblock_is : (k : ℕ) (mv : MemberView) (is : IsMember a k mv) → mv.superblock ≡ at_offset (offset_of (seen k mv is).info) (kept_superblock (seen k mv is).info)
   superblock_is k mv is = (seen k mv is).opened.member.kept.superblock
+
+  -- its superblock as the world shows it is the one that was read
+  pub read_is : (k : ℕ) (mv : MemberView) (is : IsMember a k mv) → as_read before m honest o k mv is ≡ super_of (seen k mv is).info.superblock
+  read_is k mv is =
+      let info = (seen k mv is).info in
+      ap (λ (x : Super). record x { offset = info.superblock.recovery_offset }) (ap super_of (superblock_is k mv is) ∙ super_same info.bad (offset_of info) info.superblock)
 
   -- ---- the freshest
   pub member_of : (k : ℕ) (info : MemberInfo) → slice_get o.array.infos k ≡ Some info → (mv : MemberView) × (IsMember a k mv)
@@ -43,8 +55,8 @@ module _ (before : List Disk) (m : MirrorView) (honest : AreHonest before) (o : 
       let many = o.array.remembered.as_many in
       got_within a.members k (omega arith)
 
-  pub same_info : (k : ℕ) (info : MemberInfo) (mv : MemberView) → slice_get o.array.infos k ≡ Some info → IsMember a k mv → mv.superblock ≡ kept_superblock info
-  same_info k info mv e is = superblock_is k mv is ∙ ap kept_superblock (got_same o.array.infos k _ _ (seen k mv is).listed e)
+  pub same_info : (k : ℕ) (info : MemberInfo) (mv : MemberView) → slice_get o.array.infos k ≡ Some info → IsMember a k mv → mv.superblock ≡ at_offset (offset_of info) (kept_superblock info)
+  same_info k info mv e is = superblock_is k mv is ∙ ap (λ (x : MemberInfo). at_offset (offset_of x) (kept_superblock x)) (got_same o.array.infos k _ _ (seen k mv is).listed e)
 
   pub freshest : IsFreshest w.stored first
   freshest =
@@ -53,7 +65,8 @@ module _ (before : List Disk) (m : MirrorView) (honest : AreHonest before) (o : 
       let there = member_of at f.0 f.1 in
       record {
         at = at;
-        is = super_at before m honest o at there.0 there.1 ∙ ap Some (ap super_of (same_info at f.0 there.0 f.1 there.1) ∙ super_same f.0.bad f.0.superblock ∙ ap super_of f.2);
+        is = super_at before m honest o at there.0 there.1
+            ∙ ap Some (read_is at there.0 there.1 ∙ ap (λ (x : MemberInfo). super_of x.superblock) (got_same o.array.infos at _ _ (seen at there.0 there.1).listed f.1) ∙ ap super_of f.2);
         greatest = λ k own e.
             let x = own_is before m honest o k own e in
             let s = seen k x.0 x.1 in
@@ -84,7 +97,7 @@ module _ (before : List Disk) (m : MirrorView) (honest : AreHonest before) (o : 
 
   pub has_members : HasMembers w
   has_members = record {
-    filled = λ k low. let mv = got_within a.members k low in (super_of mv.0.superblock, super_at before m honest o k mv.0 mv.1);
+    filled = λ k low. let mv = got_within a.members k low in (as_read before m honest o k mv.0 mv.1, super_at before m honest o k mv.0 mv.1);
     vacant = λ k past. ap (λ (d : Stored). d.super) (stored_past before m honest o k past);
     number = λ k own e. let x = own_is before m honest o k own e in
         ap (λ (v : Super). v.number) (sym x.2) ∙ sym (number_here k x.0 x.1);

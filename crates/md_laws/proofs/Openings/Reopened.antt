@@ -14,11 +14,11 @@ use Rattle.md_model.specs.Sectors.{chunk_of}
 use Rattle.md_model.specs.Devices.{Stored, is_marked}
 use Rattle.md_model.specs.Stops as stops
 use Rattle.md_kept_members.specs.View.{MemberView}
-use Rattle.md_state.specs.View.{ArrayView, Disk}
+use Rattle.md_state.specs.View.{ArrayView, Disk, geometry_of}
 use Rattle.md_state.specs.Members.{IsMember}
 use Rattle.md_array.specs.ReadAsKept.{IsOwnSuper, IsReadAsKept, IsSuperOn}
 use Rattle.md_array.specs.Opening.{IsArrayOf}
-use Rattle.md_array.specs.Worlds.{block_on, from_super, geometry_of, header_on, is_listed, stored_of, stored_on, super_in}
+use Rattle.md_array.specs.Worlds.{block_on, from_super, header_on, is_listed, stored_of, stored_on, super_in}
 use Rattle.md_laws.specs.Lives.{AreFoundAgain, IsFoundAgain}
 use Rattle.md_laws.specs.Runs.{Moment}
 use Rattle.md_array.proofs.Worlds.Listed.{listed_kept_of}
@@ -113,6 +113,7 @@ module _ (t : Moment) (at_t : IsSoundAt t) (before : List Disk) (is : ArrayView)
     own_there = super_on content info.superblock again.seen.read.superblock
 
     listed : (sector : ℕ) → is_listed n.superblock content sector ≡ is_listed own content sector
+    unfolding is_listed
     listed sector =
         ap (λ (v : Superblock). is_listed v content sector) again.seen.kept.superblock
         ∙ listed_kept_of content info.superblock info.bad own_there.fields own_there.sound sector

@@ -1,18 +1,39 @@
 -- A call's events are a run of the mirror.
-use Rattle.std.proofs.Common.{◌≡◌, List, [], ◌∷◌, Option, Some, refl}
+use Rattle.std.proofs.Common.{◌≡◌, ◌∙◌, ℕ, true, false, List, [], ◌∷◌, set, Option, Some, refl, sym, ap}
+use Rattle.std.proofs.lemmas.Option.{slice_get_within}
+use Rattle.md_assembly.specs.declared.state.MemberState.{MemberState}
+use Rattle.md_assembly.specs.declared.state.MemberState.TheVariants.{InSync, Recovering, Stale, Spare, Faulty}
+use Rattle.md_assembly.specs.States.{is_recorded, is_recovering}
+use Rattle.md_bitmap.specs.Marks.{Bitmap}
+use Rattle.md_kept_members.specs.TakingBack.{with_offset}
+use Rattle.md_kept_members.specs.View.{MemberView}
+use Rattle.md_model.specs.Content.{Content}
 use Rattle.md_model.specs.Events.{Event}
-use Rattle.md_state.specs.View.{MirrorView}
+use Rattle.md_state.specs.Checkpoints.{with_offset_of}
+use Rattle.md_state.specs.View.{ArrayView, MirrorView}
+use Rattle.md_array.specs.Checkpoints.{Checkpoints, MovesOffset, checkpoint_event}
+use Rattle.md_array.specs.Consistency.{IsConsistent}
+use Rattle.md_array.specs.Enrolling.{HasContent}
+use Rattle.md_array.specs.Events.{Happens}
+use Rattle.md_array.specs.Recording.{Records}
 use Rattle.md_array.specs.InTurn.{AllLeftWhole, InTurn, Requests}
 use Rattle.md_array.specs.Worlds.{AreHonest}
 use Rattle.md_laws.specs.Runs.{MirrorRun, Moment, then_as}
-use Rattle.md_laws.specs.WholeCalls.{AddIsACall, CallsAreRuns, EnrolIsACall, FailIsACall, FillIsACall, PrepareIsACall, ReAddIsACall, RemoveIsACall, RunsGoOn, TargetFailureIsACall}
+use Rattle.md_laws.specs.WholeCalls.{AddIsACall, AdmitIsACall, CallsAreRuns, CheckpointIsACall, EnrolIsACall, FailIsACall, FillIsACall, NoteBadIsACall, PrepareIsACall, ReAddIsACall, RemoveIsACall, RunsGoOn, StoreLogFailureIsACall, StoreLogIsACall, TargetFailureIsACall}
+use Rattle.md_array.proofs.General.Indices.{at_set_same}
+use Rattle.md_array.proofs.Rebuilding.AdmittedEvent.{admit_happens}
+use Rattle.md_array.proofs.Rebuilding.BadNoted.{note_happens}
+use Rattle.md_array.proofs.Rebuilding.CheckpointEvent.{checkpoint_happens}
 use Rattle.md_array.proofs.Rebuilding.EnrolledEvent.{enrol_leads}
 use Rattle.md_array.proofs.Rebuilding.FilledEvent.{fill_happens}
+use Rattle.md_array.proofs.Rebuilding.LogStored.{log_happens, store_log_fails_happens}
+use Rattle.md_array.proofs.Rebuilding.OffsetMoved.{moved_is_consistent, set_again}
 use Rattle.md_array.proofs.Rebuilding.PreparedEvent.{prepare_happens}
 use Rattle.md_array.proofs.Rebuilding.TargetEvent.{target_fails_happens}
 use Rattle.md_array.proofs.Steps.MemberFailed.{fail_happens}
 use Rattle.md_array.proofs.Steps.MemberRemoved.{remove_happens}
 use Rattle.md_array.proofs.Steps.SpareEvent.{add_happens}
+use Rattle.md_array.proofs.Steps.SuperRecorded.{record_happens, recorded_is_consistent}
 use Rattle.md_array.proofs.Steps.TakenBackEvent.{re_add_happens}
 use Rattle.md_laws.proofs.Runs.MirrorRuns.{rests_run}
 use Rattle.md_laws.proofs.Runs.Rests.{at_once, at_rest}
@@ -67,3 +88,68 @@ prepare_is_a_call k old new sound prepares previous requests listed =
 
 pub enrol_is_a_call : EnrolIsACall
 enrol_is_a_call k copied orphans old new before after may ends r previous requests listed = enrol_leads k copied orphans old new before after may ends r previous requests listed
+
+-- ---- a member that is recovering
+pub admit_is_a_call : AdmitIsACall
+admit_is_a_call k old new sound r spare previous requests listed =
+    (new, requests, tt, (refl, record { index = k; admits = r; event = refl }), λ honest whole. admit_happens k old new sound r spare honest requests listed, (refl, refl))
+
+recovering_recorded : (s : MemberState) → is_recovering s ≡ true → is_recorded s ≡ true
+recovering_recorded (InSync role) on = absurd cc
+recovering_recorded (Recovering role) on = refl
+recovering_recorded (Stale role) on = absurd cc
+recovering_recorded Spare on = absurd cc
+recovering_recorded Faulty on = absurd cc
+
+-- the offset changes in memory, and then the superblock is recorded
+module _ (k : ℕ) (copied : Bitmap) (old new : MirrorView) (sound : IsConsistent old) (r : Checkpoints k copied old new) where
+  abbrev a : ArrayView
+  a = old.array
+
+  abbrev m : MemberView
+  m = r.may.member
+
+  abbrev n : MemberView
+  n = with_offset r.offset m
+
+  abbrev mid : MirrorView
+  mid = record old { array = with_offset_of a k m r.offset }
+
+  moves : MovesOffset k r.offset m.superblock.recovery_offset old mid
+  moves = record { member = m; at = r.may.at; had_is = refl; moved = refl }
+
+  mid_sound : IsConsistent mid
+  mid_sound = moved_is_consistent k r.offset m.superblock.recovery_offset old mid sound (record { member = m; at = r.may.at; had_is = refl; moved = refl }) r.may.recovering
+
+  records : Records k mid new
+  records = record {
+    member = n;
+    may = record {
+      running = r.may.idle.running;
+      at = at_set_same a.members k n (slice_get_within a.members k m r.may.at);
+      active = recovering_recorded m.state r.may.recovering;
+      readable = r.readable;
+    };
+    disks = r.disks;
+    array = r.array ∙ ap (λ (xs : List MemberView). record a { members = xs }) (sym (set_again a.members k n (record n { due = false })));
+  }
+
+  checkpointed : (content : Content) → HasContent old.disks a content → Happens old (checkpoint_event r) new
+  checkpointed = checkpoint_happens k copied m.superblock.recovery_offset old mid new sound r.may r.offset r.next moves records (recorded_is_consistent k mid new mid_sound records) (record_happens k mid new mid_sound records)
+
+pub checkpoint_is_a_call : CheckpointIsACall
+checkpoint_is_a_call k copied old new sound r previous requests listed =
+    (new, requests, tt, (refl, record { index = k; copied = copied; checkpoints = r; event = refl }), λ honest whole. checkpointed k copied old new sound r whole.0 whole.1 honest requests listed, (refl, refl))
+
+-- ---- a list that grows
+pub note_bad_is_a_call : NoteBadIsACall
+note_bad_is_a_call k chunk old new sound notes in_sync resynced all previous requests listed =
+    (new, requests, tt, (refl, notes), λ honest whole. note_happens k chunk old new sound notes (in_sync notes.notes.may.member notes.notes.may.at) resynced all honest requests listed, (refl, refl))
+
+pub store_log_is_a_call : StoreLogIsACall
+store_log_is_a_call k old new sound r canonical previous requests listed =
+    (new, requests, tt, (refl, r), λ honest unshifted. log_happens k old new sound r canonical unshifted honest requests listed, (refl, refl))
+
+pub store_log_failure_is_a_call : StoreLogFailureIsACall
+store_log_failure_is_a_call k old new sound fails previous requests listed =
+    (new, requests, tt, (refl, fails), λ honest whole. store_log_fails_happens k old new sound fails honest requests listed, (refl, refl))

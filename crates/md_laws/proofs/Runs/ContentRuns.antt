@@ -10,8 +10,8 @@ use Rattle.md_model.proofs.Content.ContentAlong.{after_event}
 use Rattle.md_model.proofs.Content.ContentLives.{IsHeld, held_opened}
 use Rattle.md_model.proofs.Content.Contents.{holds_step}
 use Rattle.md_model.proofs.Steps.Keeps.{kept_step}
-use Rattle.md_state.specs.View.{MirrorView}
-use Rattle.md_array.specs.Worlds.{geometry_of, none_in_flight, super_of, world_of}
+use Rattle.md_state.specs.View.{MirrorView, geometry_of}
+use Rattle.md_array.specs.Worlds.{none_in_flight, super_of, world_of}
 use Rattle.md_laws.specs.Runs.{MirrorRun, MirrorRunTells, MirrorRunWith, Moment, history_of, opened_as, then_as}
 use Rattle.md_laws.proofs.Runs.Rests.{history_rests, rests_does}
 

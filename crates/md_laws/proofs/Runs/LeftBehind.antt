@@ -14,8 +14,8 @@ use Rattle.md_model.proofs.Content.ContentLives.{IsHeld, held_again, stays_behin
 use Rattle.md_model.proofs.Content.Contents.{holds_step}
 use Rattle.md_model.proofs.Steps.Keeps.{kept_step}
 use Rattle.md_state.specs.Members.{is_degraded}
-use Rattle.md_state.specs.View.{MirrorView}
-use Rattle.md_array.specs.Worlds.{geometry_of, none_in_flight, super_of, world_of}
+use Rattle.md_state.specs.View.{MirrorView, geometry_of}
+use Rattle.md_array.specs.Worlds.{none_in_flight, super_of, world_of}
 use Rattle.md_array.proofs.Worlds.InSync.{in_sync_there}
 use Rattle.md_array.proofs.Worlds.Risen.{full_when_not_degraded}
 use Rattle.md_laws.specs.LeftBehind.{DegradedLifeWith, DegradedRunWith, LiesBehind}
@@ -150,6 +150,11 @@ same_content g w a k (Event.Fill j) it = absurd it
 same_content g w a k (Event.Prepare j) it = absurd it
 same_content g w a k (Event.RecordTargetFails j) it = absurd it
 same_content g w a k (Event.Enrol j role listed) it = absurd it
+same_content g w a k (Event.Admit j role listed) it = absurd it
+same_content g w a k (Event.Checkpoint j offset listed) it = absurd it
+same_content g w a k (Event.NoteBad j c) it = absurd it
+same_content g w a k (Event.StoreLog j listed) it = absurd it
+same_content g w a k (Event.StoreLogFails j) it = absurd it
 
 pub left_behind : LiesBehind
 left_behind before m a start holds es rest final t b life k f more others newest last c r =

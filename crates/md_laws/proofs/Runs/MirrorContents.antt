@@ -11,8 +11,8 @@ use Rattle.md_model.specs.Worlds.{World}
 use Rattle.md_model.proofs.Content.ContentLives.{IsHeld}
 use Rattle.md_model.proofs.Lives.Lives.{start_again}
 use Rattle.md_model.proofs.Content.Picked.{has_content_again}
-use Rattle.md_state.specs.View.{Disk, MirrorView}
-use Rattle.md_array.specs.Worlds.{geometry_of, none_in_flight, super_of, world_of}
+use Rattle.md_state.specs.View.{Disk, MirrorView, geometry_of}
+use Rattle.md_array.specs.Worlds.{none_in_flight, super_of, world_of}
 use Rattle.md_laws.specs.Lives.{ContentGoesAlong, IsReopened, KeepsContent, MirrorLife, MirrorLifeTells, MirrorLifeWith}
 use Rattle.md_laws.specs.Runs.{HasContent, IsStart, MirrorRun, Moment, history_of, opened_as}
 use Rattle.md_laws.proofs.Runs.MirrorLives.{left, reopens}

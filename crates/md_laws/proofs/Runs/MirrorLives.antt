@@ -20,14 +20,14 @@ use Rattle.md_model.proofs.Lives.OpeningCovers.{own_of}
 use Rattle.md_model.proofs.Lives.Fits as fits
 use Rattle.md_model.proofs.Lives.Lives.{always_covered, always_out, always_safe, always_stays_out}
 use Rattle.md_kept_members.specs.View.{MemberView}
-use Rattle.md_state.specs.View.{Disk, MirrorView}
+use Rattle.md_state.specs.View.{Disk, MirrorView, geometry_of}
 use Rattle.md_state.specs.Members.{IsInSync, IsMember}
 use Rattle.md_array.specs.Opening.{IsOpenedFrom}
-use Rattle.md_array.specs.Worlds.{geometry_of, none_in_flight, nothing_stored, stored_on, super_of, world_of}
+use Rattle.md_array.specs.Worlds.{none_in_flight, nothing_stored, stored_on, super_of, world_of}
 use Rattle.md_laws.specs.Lives.{AreAllLeft, AreFoundAgain, AtEachMoment, FindsInSync, FitsWhenThere, IsFurther, KeepsGeometry, MirrorLife}
 use Rattle.md_laws.specs.Runs.{Moment, history_of, opened_as}
 use Rattle.md_array.proofs.Worlds.InSync.{in_sync_is, in_sync_there}
-use Rattle.md_array.proofs.Worlds.Shown.{by_member, own_is, state_at}
+use Rattle.md_array.proofs.Worlds.Shown.{as_read, by_member, own_is, state_at}
 use Rattle.md_array.proofs.Worlds.States.{same_in_sync}
 use Rattle.md_laws.proofs.Stops.LeftAtStops.{IsSorted, sorted}
 use Rattle.md_laws.proofs.Stops.LeftContents.{read_in}
@@ -166,7 +166,7 @@ module _ (t : Moment) (at_t : IsSoundAt t) (next : MirrorView)
       (fit : IsFit (super_of opened.array.shared) (super_of next.array.shared) t.failed_at) where
     is_further : (j : ℕ) → devices.from j ≡ None → lives.IsFurther g (super_of opened.array.shared) (history_of stop) (super_of next.array.shared) (read j)
     is_further j none =
-        let known : (own : Super) → (read j).super ≡ Some own → (m : MemberView) × IsMember next.array j m × (super_of m.superblock ≡ own) =
+        let known : (own : Super) → (read j).super ≡ Some own → (m : MemberView) × (is : IsMember next.array j m) × (as_read before next devices.honest from_these j m is ≡ own) =
         λ own e. own_is before next devices.honest from_these j own (super_stays before next devices.honest from_these j own e) in
         record {
           absent = λ own e.

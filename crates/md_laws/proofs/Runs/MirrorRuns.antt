@@ -8,8 +8,8 @@ use Rattle.md_model.specs.Runs as runs
 use Rattle.md_model.specs.Worlds.{World}
 use Rattle.md_model.specs.Content.{Content, Holds}
 use Rattle.md_model.proofs.Content.ContentLives.{some_content}
-use Rattle.md_state.specs.View.{Disk, MirrorView}
-use Rattle.md_array.specs.Worlds.{geometry_of, none_in_flight, super_of, world_of}
+use Rattle.md_state.specs.View.{Disk, MirrorView, geometry_of}
+use Rattle.md_array.specs.Worlds.{none_in_flight, super_of, world_of}
 use Rattle.md_laws.specs.Runs.{HasRested, IsStart, MirrorRun, Moment, history_of, then_as}
 use Rattle.md_array.proofs.Worlds.InSync.{in_sync_is}
 use Rattle.md_laws.proofs.Runs.Rests.{history_rests, rests_does, rests_then}

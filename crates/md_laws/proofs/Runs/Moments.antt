@@ -2,12 +2,12 @@
 use Rattle.std.proofs.Common.{◌≡◌, List, [], ◌∷◌, ◌++◌, sym, ap, ◌∙◌, subst}
 use Rattle.std.proofs.lemmas.Option.{none-some}
 use Rattle.md_model.specs.Events.{Event}
-use Rattle.md_state.specs.View.{ArrayView, Disk, MirrorView}
+use Rattle.md_state.specs.View.{ArrayView, Disk, MirrorView, geometry_of}
 use Rattle.md_state.specs.Requests.{AreInFlight}
 use Rattle.md_array.specs.Consistency.{IsConsistent}
 use Rattle.md_array.specs.Opening.{IsOpenedFrom}
 use Rattle.md_array.specs.ReadAsKept.{AreReadAsKept}
-use Rattle.md_array.specs.Worlds.{AreHonest, geometry_of}
+use Rattle.md_array.specs.Worlds.{AreHonest}
 use Rattle.md_laws.specs.Lives.{MirrorLife}
 use Rattle.md_laws.specs.Runs.{MirrorRun, Moment, opened_as, then_as}
 use Rattle.md_array.proofs.Openings.Consistent.{consistent}

@@ -58,6 +58,11 @@ left_whole (Event.Fill k) old new is = tt
 left_whole (Event.Prepare k) old new is = tt
 left_whole (Event.RecordTargetFails k) old new is = absurd is
 left_whole (Event.Enrol k role listed) old new is = absurd is
+left_whole (Event.Admit k role listed) old new is = tt
+left_whole (Event.Checkpoint k offset listed) old new is = absurd is
+left_whole (Event.NoteBad k c) old new is = tt
+left_whole (Event.StoreLog k listed) old new is = absurd is
+left_whole (Event.StoreLogFails k) old new is = absurd is
 
 -- a call's events go on with a mirror's run
 pub read_run : (es : List Event) (previous : Option Event) (h : Moment) (Then : MirrorView → Requests → Type 0) → ReadInTurn previous h.mirror h.requests es Then

@@ -6,13 +6,13 @@ use Rattle.md_device.proofs.Leaving.{leaves_then}
 use Rattle.md_model.specs.Events.{Event, Step}
 use Rattle.md_model.specs.Runs.{failed_after}
 use Rattle.md_model.specs.Worlds.{Request, World}
-use Rattle.md_state.specs.View.{Disk, MirrorView}
+use Rattle.md_state.specs.View.{Disk, MirrorView, geometry_of}
 use Rattle.md_state.specs.DeviceChanges.{IsUntouched}
 use Rattle.md_state.specs.Rests.{Rests}
 use Rattle.md_array.specs.Consistency.{IsConsistent}
 use Rattle.md_array.specs.Events.{Does}
 use Rattle.md_array.specs.ReadAsKept.{AreReadAsKept}
-use Rattle.md_array.specs.Worlds.{geometry_of, world_of}
+use Rattle.md_array.specs.Worlds.{world_of}
 use Rattle.md_laws.specs.Runs.{HasRested, Moment, RestsThenDoes, history_of}
 use Rattle.md_array.proofs.Openings.DevicesInTurn.{none_touched}
 use Rattle.md_array.proofs.General.Resting.{geometry_rests, rests_read, rests_sound, world_rests}

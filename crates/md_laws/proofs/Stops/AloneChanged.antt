@@ -101,7 +101,7 @@ stops_as_filled k old new left honest fills may =
     let Related : List ℕ → List ℕ → Type 0 = IsSameBesideMissing old.array fills.may.member in
     let but = left_alone k Related old.disks new.disks left (λ c. record { size = refl; beside = λ at n _. refl }) honest fills.disks may in (
       record { disks = with_contents old.disks left; array = old.array },
-      record { may = fills.may; array = refl; disks = found_alone k Related old.disks left but (λ d c is. is.size) },
+      record { may = fills.may; noted = fills.noted; array = refl; disks = found_alone k Related old.disks left but (λ d c is. is.size) },
       contents_with old.disks left but.as_many,
     )
 

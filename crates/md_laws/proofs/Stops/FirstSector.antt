@@ -114,7 +114,8 @@ module _ (one other : List ℕ) (same : take 512 one ≡ take 512 other) where
         let own = number 4 160 (omega arith) in
         let events = number 8 200 (omega arith) in
         let map_there = number 4 8 (omega arith) in
-        λ i. record { number = own i; events = events i; role = λ d. slice_index_or (roles i) d 0xffff; recovering = not (bit_and (map_there i) 2 == 0) }
+        let offset = number 8 152 (omega arith) in
+        λ i. record { number = own i; events = events i; role = λ d. slice_index_or (roles i) d 0xffff; recovering = not (bit_and (map_there i) 2 == 0); offset = offset i }
 
     decoded : super_in one ≡ super_in other
     decoded = by_option (fault_of other)

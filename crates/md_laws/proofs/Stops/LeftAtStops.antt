@@ -21,7 +21,7 @@ use Rattle.md_model.proofs.Cases.{none_some}
 use Rattle.md_model.proofs.Puts.{by_same}
 use Rattle.md_requests.specs.Pending.{request_sectors}
 use Rattle.md_kept_members.specs.View.{MemberView}
-use Rattle.md_state.specs.View.{ArrayView, Disk, MirrorView}
+use Rattle.md_state.specs.View.{ArrayView, Disk, MirrorView, geometry_of}
 use Rattle.md_state.specs.Members.{IsMember}
 use Rattle.md_state.specs.DeviceChanges.{LeavesOn, StaysHonest}
 use Rattle.md_state.specs.Requests.{among, request_of}
@@ -33,7 +33,7 @@ use Rattle.md_array.specs.Events.{Does}
 use Rattle.md_array.specs.Filling.{Fills}
 use Rattle.md_array.specs.ReadAsKept.{HasOwnSuper, IsReadAsKept}
 use Rattle.md_array.specs.Recording.{MayRecord, Records, super_write}
-use Rattle.md_array.specs.Worlds.{block_on, geometry_of, is_listed, stored_of, stored_on, super_in, super_of, world_of}
+use Rattle.md_array.specs.Worlds.{block_on, is_listed, stored_of, stored_on, super_in, super_of, world_of}
 use Rattle.md_laws.specs.StopsWithin.{MayAllBeLeft}
 use Rattle.md_laws.specs.Left.{IsLeft, IsLeftEnrolled, IsLeftEnrolling, IsLeftFilling, IsLeftPreparing, IsLeftRecording, IsLeftRecordingShort, IsLeftTakingBack, IsLeftWriting, contents_of}
 use Rattle.md_laws.specs.Runs.{MirrorRun, MirrorRunWith, Moment, history_of, then_as}

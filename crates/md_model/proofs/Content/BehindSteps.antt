@@ -16,10 +16,11 @@ use Rattle.md_model.proofs.Steps.TrackedCalls.{bits_copied}
 use Rattle.md_model.specs.States.{is_in_sync}
 use Rattle.md_model.specs.States.State.{Recovering, Spare}
 use Rattle.md_model.specs.Counts.{risen}
-use Rattle.md_model.specs.Membership.{is_spare, joined, removed, skip, Newcomer}
+use Rattle.md_model.specs.Membership.{former_member, is_spare, joined, new_member, removed, skip, Newcomer}
 use Rattle.md_model.proofs.Steps.Membership.{same_device, was_member}
-use Rattle.md_model.specs.Rebuilding.{is_target, enrolled, MayEnrol}
-use Rattle.md_model.proofs.Steps.Rebuilding.{fewer_target, off_enrolled}
+use Rattle.md_model.specs.Rebuilding.{is_target, admitted, checkpointed, enrolled, MayEnrol}
+use Rattle.md_model.specs.Listing.{log_stored, noted_bad}
+use Rattle.md_model.proofs.Steps.Rebuilding.{fewer_admitted, fewer_checkpointed, fewer_log_stored, fewer_noted_bad, fewer_target, off_enrolled, recovering_target, spare_target}
 use Rattle.md_model.proofs.Steps.Between.{ended_away}
 use Rattle.md_model.proofs.Content.Contents.{quiet_unmarked}
 
@@ -96,14 +97,21 @@ module _ (g : Geometry) (d : Stored) where
   behind_step a b w Event.Unresynced w' _ _ t s c = behind_as a b w' c (subst (IsBehind g a d) (sym s.1) (record { in_memory = t.in_memory; on_members = t.on_members }))
   behind_step a b w (Event.Remove k) w' _ _ t s c = behind_as a b w' c (subst (IsBehind g a d) (sym s.3) (behind_removed a w k (is_spare (w.state k)) s.0 t))
   behind_step a b w (Event.Add number left) w' _ _ t s c = behind_as a b w' c (subst (IsBehind g a d) (sym s.4)
-      (behind_joined a (risen g w s.0) (record { number = number; role = 65535; state = Spare; re_added = false; recovering = false; device = left }) refl (record { in_memory = t.in_memory; on_members = t.on_members })))
+      (behind_joined a (risen g w s.0) (new_member number left) refl (record { in_memory = t.in_memory; on_members = t.on_members })))
   behind_step a b w (Event.ReAdd own device left) w' _ _ t s c = behind_as a b w' c (subst (IsBehind g a d) (sym s.4)
-      (behind_joined a (risen g w s.0) (record { number = own.number; role = own.role own.number; state = Recovering; re_added = true; recovering = true; device = left }) refl (record { in_memory = t.in_memory; on_members = t.on_members })))
+      (behind_joined a (risen g w s.0) (former_member own left) refl (record { in_memory = t.in_memory; on_members = t.on_members })))
   behind_step a b w Event.MakeClean w' _ _ t s c = behind_as a b w' c (subst (IsBehind g a d) (sym s.3) (record { in_memory = t.in_memory; on_members = t.on_members }))
-  behind_step a b w (Event.Fill k) w' _ _ t s c = behind_as a b w' c (behind_target a w k s.0 s.1.target w' s.3 t)
+  behind_step a b w (Event.Fill k) w' _ _ t s c = behind_as a b w' c (behind_target a w k s.0 s.1.rebuild.target w' s.3 t)
   behind_step a b w (Event.Prepare k) w' _ _ t s c = behind_as a b w' c (behind_target a w k s.0 s.1.target w' s.3 t)
   behind_step a b w (Event.RecordTargetFails k) w' _ _ t s c = behind_as a b w' c (behind_target a w k s.0 s.1.0 w' s.1.2 t)
   behind_step a b w (Event.Enrol k role listed) w' _ _ t s c = behind_as a b w' c.same (subst (IsBehind g a d) (sym s.3) (behind_enrolled a w k role listed s.0 s.1 t))
+  behind_step a b w (Event.Admit k role listed) w' _ _ t s c = behind_as a b w' c (subst (IsBehind g a d) (sym s.3)
+      (behind_fewer a w (admitted g w k role listed s.0) (fewer_admitted g w k role listed s.0 (spare_target (w.state k) s.1.spare)) t))
+  behind_step a b w (Event.Checkpoint k offset listed) w' _ _ t s c = behind_as a b w' c (subst (IsBehind g a d) (sym s.1)
+      (behind_fewer a w (checkpointed w k offset listed) (fewer_checkpointed w k offset listed (recovering_target (w.state k) s.0.recovering)) t))
+  behind_step a b w (Event.NoteBad k x) w' _ _ t s c = behind_as a b w' c (subst (IsBehind g a d) (sym s.1) (behind_fewer a w (noted_bad g w k x) (fewer_noted_bad g w k x) t))
+  behind_step a b w (Event.StoreLog k listed) w' _ _ t s c = behind_as a b w' c (subst (IsBehind g a d) (sym s.2) (behind_fewer a w (log_stored w k listed) (fewer_log_stored w k listed s.1) t))
+  behind_step a b w (Event.StoreLogFails k) w' _ _ t s c = behind_as a b w' c (fails_behind a w k s.0 w' s.3 t)
 
 -- A member that fails is behind by what is marked.
 module _ (g : Geometry) (a : Content) (w : World) (tracked : IsTracked g w) (t : Holds g a w) (k : ℕ) (on : IsInSync w k) where
@@ -111,7 +119,7 @@ module _ (g : Geometry) (a : Content) (w : World) (tracked : IsTracked g w) (t :
   abbrev IsClear : ℕ → Type 0
   IsClear c = (w.marks c ≡ false) ⊎ ((i : ℕ) × IsInSync w i × ((w.stored i).bits c ≡ false))
 
-  late : (j : ℕ) (left : Stored) (w' : World) → j ≡ k → Fails g w j left w' → ((s : ℕ) → left.listed s ≡ (w.stored j).listed s)
+  late : (j : ℕ) (left : Stored) (w' : World) → j ≡ k → Fails g w j left w' → ((s : ℕ) → left.listed s ≡ false → (w.stored j).listed s ≡ false)
       → ((s : ℕ) → IsClear (chunk_of g s) → left.content s ≡ (w.stored j).content s) → IsBehind g a (w'.stored k) w'
   late j left w' same f listed content = subst (λ (v : World). IsBehind g a (v.stored k) v) (sym f.3)
       (subst (λ (d : Stored). IsBehind g a d after) (sym is_left) behind)
@@ -123,7 +131,7 @@ module _ (g : Geometry) (a : Content) (w : World) (tracked : IsTracked g w) (t :
       is_left = put-at j left w.stored k (λ d. d ≡ left) (λ _. refl) (λ apart. absurd (apart (sym same)))
 
       clear_k : (s : ℕ) → left.listed s ≡ false → (w.stored k).listed s ≡ false
-      clear_k s off = sym (ap (λ i. (w.stored i).listed s) same) ∙ sym (listed s) ∙ off
+      clear_k s off = sym (ap (λ i. (w.stored i).listed s) same) ∙ listed s off
 
       has : (s : ℕ) → IsClear (chunk_of g s) → (w.stored k).content s ≡ a s → left.content s ≡ a s
       has s clear e = content s clear ∙ ap (λ i. (w.stored i).content s) same ∙ e
@@ -142,14 +150,14 @@ module _ (g : Geometry) (a : Content) (w : World) (tracked : IsTracked g w) (t :
       (λ (x : (i : ℕ) × IsInSync w i × ((w.stored i).bits c ≡ false)). never ((w.stored x.0).bits c) (sym (tracked.known x.0 c x.1) ∙ known x.0 x.1) x.2)
 
   pub behind_leaving : (e : Event) → Leaves e k → (w' : World) → Happens g w e w' → IsBehind g a (w'.stored k) w'
-  behind_leaving (Event.Fail j) same w' s = late j (w.stored j) w' same s.1 (λ _. refl) (λ _ _. refl)
-  behind_leaving (Event.RecordFails j) same w' s = late j s.0 w' same s.2 (s.1.listed (ap (λ i. is_in_sync (w.state i)) same ∙ on)) (λ x _. ap (λ (d : Stored). d.content x) s.1.rest)
-  behind_leaving (Event.StoreMarksFails j b) same w' s = late j s.0 w' same s.3 (λ x. ap (λ (d : Stored). d.listed x) s.2.rest) (λ x _. ap (λ (d : Stored). d.content x) s.2.rest)
-  behind_leaving (Event.WriteMemberFails n j) same w' s = late j s.0 w' same s.4 (λ x. ap (λ (d : Stored). d.listed x) s.3.rest)
+  behind_leaving (Event.Fail j) same w' s = late j (w.stored j) w' same s.1 (λ _ off. off) (λ _ _. refl)
+  behind_leaving (Event.RecordFails j) same w' s = late j s.0 w' same s.2 (s.1.listed (ap (λ i. is_in_sync (w.state i)) same ∙ on)).had (λ x _. ap (λ (d : Stored). d.content x) s.1.rest)
+  behind_leaving (Event.StoreMarksFails j b) same w' s = late j s.0 w' same s.3 (λ x off. sym (ap (λ (d : Stored). d.listed x) s.2.rest) ∙ off) (λ x _. ap (λ (d : Stored). d.content x) s.2.rest)
+  behind_leaving (Event.WriteMemberFails n j) same w' s = late j s.0 w' same s.4 (λ x off. sym (ap (λ (d : Stored). d.listed x) s.3.rest) ∙ off)
       (λ x clear. by_test (touches s.1 x)
       (λ at. not_clear (chunk_of g x) (tracked.marked n s.1 x s.2.in_flight at) (λ i in_. s.2.marked i x in_ at) clear)
       (λ away. s.3.outside x away))
-  behind_leaving (Event.CopyFails j y) same w' s = late j s.0 w' same s.4 (λ x. ap (λ (d : Stored). d.listed x) s.3.rest)
+  behind_leaving (Event.CopyFails j y) same w' s = late j s.0 w' same s.4 (λ x off. sym (ap (λ (d : Stored). d.listed x) s.3.rest) ∙ off)
       (λ x clear. by_same (chunk_of g x) y
       (λ here. not_clear y s.2.marked s.2.stored (subst IsClear here clear))
       (λ away. s.3.outside x away))
@@ -170,3 +178,8 @@ module _ (g : Geometry) (a : Content) (w : World) (tracked : IsTracked g w) (t :
   behind_leaving (Event.Prepare j) same w' s = absurd same
   behind_leaving (Event.RecordTargetFails j) same w' s = absurd same
   behind_leaving (Event.Enrol j role listed) same w' s = absurd same
+  behind_leaving (Event.Admit j role listed) same w' s = absurd same
+  behind_leaving (Event.Checkpoint j offset listed) same w' s = absurd same
+  behind_leaving (Event.NoteBad j c) same w' s = absurd same
+  behind_leaving (Event.StoreLog j listed) same w' s = absurd same
+  behind_leaving (Event.StoreLogFails j) same w' s = absurd same

@@ -15,10 +15,11 @@ use Rattle.md_model.proofs.Steps.TrackedCalls.{bits_copied}
 use Rattle.md_model.specs.States.{is_in_sync}
 use Rattle.md_model.specs.States.State.{Recovering, Spare}
 use Rattle.md_model.specs.Counts.{risen}
-use Rattle.md_model.specs.Membership.{is_spare, joined, removed, skip, Newcomer}
+use Rattle.md_model.specs.Membership.{former_member, is_spare, joined, new_member, removed, skip, Newcomer}
 use Rattle.md_model.proofs.Steps.Membership.{same_device, was_member}
-use Rattle.md_model.specs.Rebuilding.{is_target, enrolled, MayEnrol}
-use Rattle.md_model.proofs.Steps.Rebuilding.{by_device, fewer_target, off_enrolled}
+use Rattle.md_model.specs.Rebuilding.{is_target, admitted, checkpointed, enrolled, MayEnrol}
+use Rattle.md_model.specs.Listing.{log_stored, noted_bad}
+use Rattle.md_model.proofs.Steps.Rebuilding.{by_device, fewer_admitted, fewer_checkpointed, fewer_log_stored, fewer_noted_bad, fewer_target, off_enrolled, recovering_target, spare_target}
 use Rattle.md_model.proofs.Steps.Between.{ended_away, at_copy, between_step}
 
 -- a chunk without a mark has no request
@@ -29,7 +30,7 @@ quiet_unmarked g w t s off n p e = by_test (touches p s) (λ at. never (w.marks 
 module _ (g : Geometry) (a : Content) where
   unmarked_fewer : (w w' : World) → IsFewer w w' → HoldsUnmarked g a w → HoldsUnmarked g a w'
   unmarked_fewer w w' f t i k s low x on clear bit =
-      f.content k s on ∙ t i k s low (f.in_sync i x) (f.in_sync k on) (sym (f.listed k s on) ∙ clear) (sym (f.bits i (chunk_of g s) x) ∙ bit)
+      f.content k s on ∙ t i k s low (f.in_sync i x) (f.in_sync k on) (f.listed k s on clear) (sym (f.bits i (chunk_of g s) x) ∙ bit)
 
   unmarked_fails : (w : World) (k : ℕ) (left : Stored) (w' : World) → Fails g w k left w' → HoldsUnmarked g a w → HoldsUnmarked g a w'
   unmarked_fails w k left w' f t = subst (HoldsUnmarked g a) (sym f.3) (unmarked_fewer w (failed g (with_device w k left) k f.0) (fewer_failed g w k left f.0) t)
@@ -102,15 +103,22 @@ module _ (g : Geometry) (a : Content) where
   unmarked_step b w Event.Unresynced w' _ t s c = same b w' c (subst (HoldsUnmarked g a) (sym s.1) t.unmarked)
   unmarked_step b w (Event.Remove k) w' _ t s c = same b w' c (subst (HoldsUnmarked g a) (sym s.3) (unmarked_removed w k (is_spare (w.state k)) s.0 t.unmarked))
   unmarked_step b w (Event.Add d left) w' _ t s c = same b w' c (subst (HoldsUnmarked g a) (sym s.4)
-      (unmarked_joined (risen g w s.0) (record { number = d; role = 65535; state = Spare; re_added = false; recovering = false; device = left }) refl t.unmarked))
+      (unmarked_joined (risen g w s.0) (new_member d left) refl t.unmarked))
   unmarked_step b w (Event.ReAdd own device left) w' _ t s c = same b w' c (subst (HoldsUnmarked g a) (sym s.4)
-      (unmarked_joined (risen g w s.0) (record { number = own.number; role = own.role own.number; state = Recovering; re_added = true; recovering = true; device = left }) refl t.unmarked))
+      (unmarked_joined (risen g w s.0) (former_member own left) refl t.unmarked))
   unmarked_step b w Event.MakeClean w' _ t s c = same b w' c (subst (HoldsUnmarked g a) (sym s.3) t.unmarked)
-  unmarked_step b w (Event.Fill k) w' _ t s c = same b w' c (unmarked_target w k s.0 s.1.target w' s.3 t.unmarked)
+  unmarked_step b w (Event.Fill k) w' _ t s c = same b w' c (unmarked_target w k s.0 s.1.rebuild.target w' s.3 t.unmarked)
   unmarked_step b w (Event.Prepare k) w' _ t s c = same b w' c (unmarked_target w k s.0 s.1.target w' s.3 t.unmarked)
   unmarked_step b w (Event.RecordTargetFails k) w' _ t s c = same b w' c (unmarked_target w k s.0 s.1.0 w' s.1.2 t.unmarked)
   unmarked_step b w (Event.Enrol k role listed) w' tracked t s c =
       same b w' c.same (subst (HoldsUnmarked g a) (sym s.3) (unmarked_enrolled w k role listed s.0 b s.1 c tracked t))
+  unmarked_step b w (Event.Admit k role listed) w' _ t s c = same b w' c (subst (HoldsUnmarked g a) (sym s.3)
+      (unmarked_fewer w (admitted g w k role listed s.0) (fewer_admitted g w k role listed s.0 (spare_target (w.state k) s.1.spare)) t.unmarked))
+  unmarked_step b w (Event.Checkpoint k offset listed) w' _ t s c = same b w' c (subst (HoldsUnmarked g a) (sym s.1)
+      (unmarked_fewer w (checkpointed w k offset listed) (fewer_checkpointed w k offset listed (recovering_target (w.state k) s.0.recovering)) t.unmarked))
+  unmarked_step b w (Event.NoteBad k x) w' _ t s c = same b w' c (subst (HoldsUnmarked g a) (sym s.1) (unmarked_fewer w (noted_bad g w k x) (fewer_noted_bad g w k x) t.unmarked))
+  unmarked_step b w (Event.StoreLog k listed) w' _ t s c = same b w' c (subst (HoldsUnmarked g a) (sym s.2) (unmarked_fewer w (log_stored w k listed) (fewer_log_stored w k listed s.1) t.unmarked))
+  unmarked_step b w (Event.StoreLogFails k) w' _ t s c = same b w' c (unmarked_fails w k s.0 w' s.3 t.unmarked)
 
 pub holds_step : (g : Geometry) (a b : Content) (w : World) (e : Event) (w' : World) → IsTracked g w → Holds g a w → Step g w e w' → Becomes g e w a b → Holds g b w'
 holds_step g a b w e w' tracked t s c = record {

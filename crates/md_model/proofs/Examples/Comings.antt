@@ -1,8 +1,8 @@
 -- The mirror of two members: one fails, is removed, and comes again, or a new one comes in its place.
-use Rattle.std.proofs.Common.{◌≡◌, ◌≢◌, ℕ, zero, suc, ◌≤◌, true, false, ◌++◌, [], ◌∷◌, inl, refl, sym, ap, ◌∙◌, true≢false, arith}
+use Rattle.std.proofs.Common.{◌≡◌, ◌≢◌, ℕ, zero, suc, ◌≤◌, true, false, ◌++◌, [], ◌∷◌, inl, refl, sym, ap, ◌∙◌, cond, eqb, true≢false, arith}
 use Rattle.std.specs.Prelude.{Some}
 use Rattle.std.proofs.lemmas.Bool.Decides.{nat_tests}
-use Rattle.md_model.specs.Sectors.{put}
+use Rattle.md_model.specs.Sectors.{block_of, chunk_of, put}
 use Rattle.md_model.specs.States.{State, is_active, is_in_sync}
 use Rattle.md_model.specs.States.State.{Faulty}
 use Rattle.md_model.specs.Devices.{Stored, Super}
@@ -10,11 +10,12 @@ use Rattle.md_model.specs.Worlds.{World, IsInSync}
 use Rattle.md_model.specs.Counts.{risen, IsFull}
 use Rattle.md_model.specs.Steps.{super_for, with_device}
 use Rattle.md_model.specs.Failures.{failed}
-use Rattle.md_model.specs.Membership.{added, joined_super, re_added, removed, skip, IsFree, MayAdd, MayReAdd, MayRemove}
+use Rattle.md_model.specs.Membership.{added, joined_super, re_added, removed, skip, HasNoOtherMarks, IsFree, MayAdd, MayReAdd, MayRemove}
 use Rattle.md_model.specs.Events.{Event}
 use Rattle.md_model.specs.Runs.{History, opening, then_in}
 use Rattle.md_model.specs.SmallArray.{small_geometry, small_state, small_world}
 use Rattle.md_model.specs.SmallRun.{beginning, CanRun}
+use Rattle.md_model.proofs.Cases.{by_test}
 use Rattle.md_model.proofs.Puts.{put-at}
 use Rattle.md_model.proofs.Examples.SmallOpening.{in_both}
 use Rattle.md_model.proofs.Examples.SmallRun.{at, begins, fails, in_two, then, w4, w5}
@@ -59,10 +60,16 @@ abbrev pub own : Super
 own = super_for w4 1
 
 abbrev pub back : Stored
-back = record (w5.stored 1) { super = Some (joined_super (risen small_geometry x2 false) 1 1 true) }
+back = record (w5.stored 1) { super = Some (joined_super (risen small_geometry x2 false) 1 1 true 64) }
 
 abbrev pub x3 : World
 x3 = re_added small_geometry x2 own back false
+
+-- all that its bitmap has is what was stored of the marks
+stored_marks : HasNoOtherMarks small_geometry (risen small_geometry x2 false) (w5.stored 1)
+stored_marks s low e = by_test (eqb (block_of (chunk_of small_geometry s)) 0)
+    (λ at. sym (ap (λ b. cond b (w5.marks (chunk_of small_geometry s)) false) at) ∙ e)
+    (λ off. absurd (true≢false (sym e ∙ ap (λ b. cond b (w5.marks (chunk_of small_geometry s)) false) off)))
 
 may_re_add : MayReAdd small_geometry x2 own
 may_re_add = record {
@@ -99,7 +106,7 @@ can_come_again = (
     (
       x2,
       (refl, (false, may_remove, never_full x2 alone refl, refl)),
-      (x3, (refl, (false, may_re_add, record { was = refl; rest = refl }, never_full x3 (alone_after State.Recovering refl) refl, refl)), refl),
+      (x3, (refl, (false, may_re_add, record { was = refl; offset = 64; passes = inl (refl, stored_marks); rest = refl }, never_full x3 (alone_after State.Recovering refl) refl, refl)), refl),
     ),
   ),
 )
@@ -107,7 +114,7 @@ can_come_again = (
 -- ---- or another
 abbrev pub laid : Stored
 laid = record {
-  super = Some (joined_super (risen small_geometry x2 false) 2 65535 false);
+  super = Some (joined_super (risen small_geometry x2 false) 2 65535 false 0);
   content = λ _. [];
   listed = λ _. false;
   bits = λ _. true;

@@ -1,8 +1,9 @@
 -- The mirror of two members: one fails and leaves, a sector is written without it, and it comes again, or another one. That is filled
 -- with what it lacks, and comes into sync.
 use Rattle.std.proofs.Common.{◌≡◌, ◌≢◌, ℕ, zero, suc, ◌<◌, ◌≤◌, ◌+◌, Bool, true, false, cond, ◌&&◌, ◌||◌, ◌++◌, [], ◌∷◌, inl, refl, sym, ap, ◌∙◌, subst, true≢false, arith}
-use Rattle.std.specs.Prelude.{Some, None, not}
-use Rattle.md_model.specs.Sectors.{chunk_of, put}
+use Rattle.std.specs.Prelude.{Some, None, leb, not}
+use Rattle.std.proofs.lemmas.Bool.Decides.{nat_tests}
+use Rattle.md_model.specs.Sectors.{chunk_of, is_passed, put}
 use Rattle.md_model.specs.States.{State, is_active, is_in_sync, is_recovering}
 use Rattle.md_model.specs.Devices.{AgreeAt, Stored, Super}
 use Rattle.md_model.specs.Worlds.{Request, World, IsInSync, touches}
@@ -10,7 +11,7 @@ use Rattle.md_model.specs.Counts.{risen, IsFull}
 use Rattle.md_model.specs.Steps.{begun, finished, marks_stored, member_written, recorded, with_device, MayBegin, MayFinish, MayWrite}
 use Rattle.md_model.specs.Failures.{failed}
 use Rattle.md_model.specs.Resyncing.{IsIdle}
-use Rattle.md_model.specs.Membership.{added, joined, joined_super, re_added, removed, skip, IsFree, MayAdd, MayReAdd, MayRemove, Newcomer}
+use Rattle.md_model.specs.Membership.{joined, joined_super, re_added, removed, skip, MayReAdd, MayRemove, Newcomer}
 use Rattle.md_model.specs.Rebuilding.{enrolled, is_missing, is_target, LeftByFilling, MayEnrol}
 use Rattle.md_model.specs.Events.{Event, Happens}
 use Rattle.md_model.specs.Runs.{History, opening, then_in, Run}
@@ -42,7 +43,7 @@ z5 = recorded z4 0 (λ _. false)
 abbrev z6 : World
 z6 = member_written z5 0 one_sector 0
 
-abbrev z7 : World
+abbrev pub z7 : World
 z7 = finished z6 0
 
 pub alone : (j : ℕ) → IsInSync z2 j → j ≡ 0
@@ -79,10 +80,10 @@ h1 = then_in (then_in (opening small_world) (Event.Fail 1) z1) (Event.Remove 1) 
 abbrev h3 : History
 h3 = then_in (then_in (then_in h1 (Event.Begin 0 one_sector) z3) (Event.StoreMarks 0 0) z4) (Event.Record 0) z5
 
-abbrev h7 : History
+abbrev pub h7 : History
 h7 = then_in (then_in h3 (Event.WriteMember 0 0) z6) (Event.Finish 0) z7
 
-misses : Run small_geometry (opening small_world) missed h7
+pub misses : Run small_geometry (opening small_world) missed h7
 misses = (
   z1,
   (refl, (refl, fails small_world (small_world.stored 1) refl refl (λ _. refl))),
@@ -97,7 +98,7 @@ misses = (
         (refl, (refl, refl)),
         (
           z5,
-          (refl, ((λ _. false), (λ _ _. refl), refl, refl)),
+          (refl, ((λ _. false), (λ _. record { had = λ _ _. refl; kept = λ _ _. refl }), refl, refl)),
           (z6, (refl, (one_sector, may_write, refl)), (z7, (refl, (has_written, may_finish, refl)), refl)),
         ),
       ),
@@ -105,14 +106,15 @@ misses = (
   ),
 )
 
-idle : IsIdle z7
+pub idle : IsIdle z7
 idle n = put-at 0 None z6.request n (λ x. x ≡ None) (λ _. refl) (λ apart. put-miss 0 (Some has_written) z5.request n apart ∙ put-miss 0 (Some one_sector) z2.request n apart)
 
 -- ---- one that comes in is filled, and enrolled
 pub record IsNewcomer (n : Newcomer) : Type 0 where
+  pub recovering : is_recovering n.state ≡ true
   pub target : is_target n.state ≡ true
   pub empty : (s : ℕ) → n.device.content s ≡ []
-  pub own : is_recovering n.state ≡ true → n.role ≡ 1
+  pub own : n.role ≡ 1
   pub small : n.number < 1920
   pub other : n.number ≢ 0
 
@@ -138,15 +140,18 @@ module _ (n : Newcomer) (is : IsNewcomer n) where
   abbrev z12 : World
   z12 = enrolled small_geometry z11 1 1 (λ _. false) true
 
-  lacks : (s : State) (b : Bool) → is_target s ≡ true → not (is_in_sync s) && (not b || true) ≡ true
-  lacks s true out = ap (λ x. not x && true) (target_out s out)
-  lacks s false out = ap (λ x. not x && true) (target_out s out)
+  lacks : (s : State) (p : Bool) → is_recovering s ≡ true → not (is_in_sync s) && (not (is_recovering s) || (true || not p)) ≡ true
+  lacks State.Recovering p on = refl
+  lacks State.InSync p on = absurd (true≢false (sym on))
+  lacks State.Spare p on = absurd (true≢false (sym on))
+  lacks State.Stale p on = absurd (true≢false (sym on))
+  lacks State.Faulty p on = absurd (true≢false (sym on))
 
   fills : LeftByFilling small_geometry z8 1 filled
   fills = record {
     rest = refl;
     outside = λ s. by_same s 8
-        (λ same off. never (is_missing z8 1 (chunk_of small_geometry s)) (ap (λ t. is_missing z8 1 (chunk_of small_geometry t)) same ∙ lacks n.state n.re_added is.target) off)
+        (λ same off. never (is_missing small_geometry z8 1 (chunk_of small_geometry s)) (ap (λ t. is_missing small_geometry z8 1 (chunk_of small_geometry t)) same ∙ lacks n.state (is_passed small_geometry n.offset 1) is.recovering) off)
         (λ apart _. put-miss 8 (1 ∷ []) n.device.content s apart);
     past = λ s high. put-miss 8 (1 ∷ []) n.device.content s (λ same. omega arith);
   }
@@ -154,6 +159,16 @@ module _ (n : Newcomer) (is : IsNewcomer n) where
   -- the others are as before
   first_in_sync : (j : ℕ) → IsInSync z11 j → j ≡ 0
   first_in_sync j on = alone j (ap is_in_sync (sym (put-miss 1 n.state z7.state j (not_target z11 1 is.target j on))) ∙ on)
+
+  -- its one mark is stored
+  the_mark : (c : ℕ) → z8.marks c ≡ true → c ≡ 1
+  the_mark c at = only_one c at
+    where
+      only_one : (c : ℕ) → (leb 1 c && leb c 1) ≡ true → c ≡ 1
+      only_one c at = grind (arith, nat_tests)
+
+  noted : (i c : ℕ) → IsInSync z8 i → z8.marks c ≡ true → z8.known i c ≡ true
+  noted i c on at = subst (λ x. z8.known i x ≡ true) (sym (the_mark c at)) (subst (λ j. z8.known j 1 ≡ true) (sym (first_in_sync i on)) refl)
 
   first_role : z11.role 0 ≡ 0
   first_role = put-miss n.number n.role (risen small_geometry z7 false).role 0 (λ same. is.other (sym same))
@@ -168,9 +183,10 @@ module _ (n : Newcomer) (is : IsNewcomer n) where
   may_enrol : MayEnrol small_geometry z11 1 1 (λ _. false)
   may_enrol = record {
     rebuild = record { idle = idle; target = is.target };
+    recovering = is.recovering;
     resynced = refl;
     below = omega arith;
-    own = λ e. put-hit n.number n.role (risen small_geometry z7 false).role ∙ is.own e;
+    own = put-hit n.number n.role (risen small_geometry z7 false).role ∙ is.own;
     free = λ j apart on taken.
         let first : j ≡ 0 = to_first j (only_active (skip 1 j) (ap is_active (sym (put-miss 1 n.state z7.state j apart)) ∙ on)) in
         let none : 0 ≡ 1 = sym first_role ∙ ap (λ i. z11.role (z11.number i)) (sym first) ∙ taken in
@@ -182,6 +198,7 @@ module _ (n : Newcomer) (is : IsNewcomer n) where
     bitmap_fits = refl;
     agrees = λ j s on. subst (λ i. AgreeAt (z11.stored i) prepared s) (sym (first_in_sync j on)) (agrees s);
     copied = λ _ _ _ _. (0, refl, refl);
+    unlisted = λ _ _ _ _. (0, refl, refl);
   }
 
   both_in : IsFull small_geometry z12
@@ -197,10 +214,10 @@ module _ (n : Newcomer) (is : IsNewcomer n) where
         then_in h11 (Event.Enrol 1 1 (λ _. false)) z12,
         (
           z9,
-          subst (λ (w : World). (w.halted ≡ false) × Happens small_geometry w (Event.Fill 1) z9) (sym same) (refl, (filled, record { idle = idle; target = is.target }, fills, refl)),
+          subst (λ (w : World). (w.halted ≡ false) × Happens small_geometry w (Event.Fill 1) z9) (sym same) (refl, (filled, record { rebuild = record { idle = idle; target = is.target }; noted = λ _. noted }, fills, refl)),
           (
             z10,
-            (refl, (filled, (is.target, record { rest = refl; listed = λ _ _. refl; super = inl refl }, refl))),
+            (refl, (filled, (is.target, record { rest = refl; listed = λ on. absurd (true≢false (sym on ∙ target_out n.state is.target)); super = inl refl }, refl))),
             (
               z11,
               (refl, (prepared, record { idle = idle; target = is.target }, record { rest = refl }, refl)),
@@ -222,13 +239,13 @@ abbrev pub former_device : Stored
 former_device = small_device (Some former)
 
 abbrev pub taken_back : Stored
-taken_back = record former_device { super = Some (joined_super (risen small_geometry z7 false) 1 1 true) }
+taken_back = record former_device { super = Some (joined_super (risen small_geometry z7 false) 1 1 true 64) }
 
 abbrev again : Newcomer
-again = record { number = 1; role = 1; state = State.Recovering; re_added = true; recovering = true; device = taken_back }
+again = record { number = 1; role = 1; state = State.Recovering; recovering = true; offset = 64; device = taken_back }
 
 is_again : IsNewcomer again
-is_again = record { target = refl; empty = λ _. refl; own = λ _. refl; small = omega arith; other = λ e. omega arith }
+is_again = record { recovering = refl; target = refl; empty = λ _. refl; own = refl; small = omega arith; other = λ e. omega arith }
 
 may_re_add : MayReAdd small_geometry z7 former
 may_re_add = record {
@@ -256,47 +273,7 @@ can_return =
       more.0,
       then small_geometry missed (Event.ReAdd former former_device taken_back ∷ rebuilt) (opening small_world) h7 more.0 misses (
         re_added small_geometry z7 former taken_back false,
-        (refl, (false, may_re_add, record { was = refl; rest = refl }, never_full (z8 again is_again) (alone_after again is_again refl) refl, refl)),
-        more.1,
-      ),
-    )
-
--- ---- or another
-abbrev pub new_device : Stored
-new_device = record {
-  super = Some (joined_super (risen small_geometry z7 false) 2 65535 false);
-  content = λ _. [];
-  listed = λ _. false;
-  bits = λ _. true;
-  bitmap_events = 13;
-  bitmap_fits = true;
-}
-
-abbrev new : Newcomer
-new = record { number = 2; role = 65535; state = State.Spare; re_added = false; recovering = false; device = new_device }
-
-is_new : IsNewcomer new
-is_new = record { target = refl; empty = λ _. refl; own = λ e. absurd (true≢false (sym e)); small = omega arith; other = λ e. omega arith }
-
-two_is_least : (e : ℕ) → IsFree small_geometry z7 e → 2 ≤ e
-two_is_least zero free = absurd (true≢false free.1)
-two_is_least (suc zero) free = absurd (free.2 refl)
-two_is_least (suc (suc e)) free = omega arith
-
-may_add : MayAdd small_geometry z7 2
-may_add = record {
-  room = omega arith;
-  number = inl (record { fits = (omega arith, refl, λ e. let x : 65535 ≡ 65534 = e in absurd (omega arith)); least = two_is_least });
-}
-
-pub can_be_replaced : CanRun (missed ++ (Event.Add 2 new_device ∷ rebuilt))
-can_be_replaced =
-    let h8 = then_in h7 (Event.Add 2 new_device) (added small_geometry z7 2 new_device false) in
-    let more = is_rebuilt new is_new h8 refl in (
-      more.0,
-      then small_geometry missed (Event.Add 2 new_device ∷ rebuilt) (opening small_world) h7 more.0 misses (
-        added small_geometry z7 2 new_device false,
-        (refl, (false, may_add, record { super = refl; listed = λ _. refl; bits = λ _ _. refl }, never_full (z8 new is_new) (alone_after new is_new refl) refl, refl)),
+        (refl, (false, may_re_add, record { was = refl; offset = 64; passes = inl (refl, λ _ _ e. absurd (true≢false (sym e))); rest = refl }, never_full (z8 again is_again) (alone_after again is_again refl) refl, refl)),
         more.1,
       ),
     )

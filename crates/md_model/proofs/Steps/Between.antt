@@ -17,10 +17,11 @@ use Rattle.md_model.proofs.Steps.TrackedSteps.{fewer_recorded, fewer_failed, qui
 use Rattle.md_model.proofs.Steps.TrackedCalls.{content_copied, content_at_copy, listed_copied, in_flight_copied, in_flight_resynced, in_flight_made_clean}
 use Rattle.md_model.specs.States.{is_in_sync}
 use Rattle.md_model.specs.States.State.{Recovering, Spare}
-use Rattle.md_model.specs.Membership.{is_spare, joined, removed, skip, Newcomer}
-use Rattle.md_model.specs.Rebuilding.{is_target, enrolled, MayEnrol}
+use Rattle.md_model.specs.Membership.{former_member, is_spare, joined, new_member, removed, skip, Newcomer}
+use Rattle.md_model.specs.Rebuilding.{is_target, admitted, checkpointed, enrolled, MayEnrol}
+use Rattle.md_model.specs.Listing.{log_stored, noted_bad}
 use Rattle.md_model.proofs.Steps.Membership.{in_flight_joined, in_flight_removed, same_device, was_member}
-use Rattle.md_model.proofs.Steps.Rebuilding.{by_device, fewer_target, in_flight_enrolled}
+use Rattle.md_model.proofs.Steps.Rebuilding.{by_device, fewer_admitted, fewer_checkpointed, fewer_log_stored, fewer_noted_bad, fewer_target, in_flight_enrolled, recovering_target, spare_target}
 use Rattle.md_model.proofs.Steps.Keeps.{begin_after}
 use Rattle.md_model.proofs.Lives.Opened.{in_flight_opened}
 
@@ -49,7 +50,7 @@ at_copy g a w from k s may j x on clear all = by_same x s
 module _ (g : Geometry) (a : Content) where
   between_fewer : (w w' : World) → IsFewer w w' → HoldsBetween g a w → HoldsBetween g a w'
   between_fewer w w' f t = record {
-    at_rest = λ k s low on clear q when. f.content k s on ∙ t.at_rest k s low (f.in_sync k on) (sym (f.listed k s on) ∙ clear) (λ n p e. q n p (ap (λ h. h n) f.request ∙ e))
+    at_rest = λ k s low on clear q when. f.content k s on ∙ t.at_rest k s low (f.in_sync k on) (f.listed k s on clear) (λ n p e. q n p (ap (λ h. h n) f.request ∙ e))
         (⊎_elim (λ (r : w'.resynced ≡ true). inl (sym f.resynced ∙ r)) (λ (m : w'.marks (chunk_of g s) ≡ false). inr (sym (ap (λ h. h (chunk_of g s)) f.marks) ∙ m)) when);
     in_flight = in_flight_fewer w w' f t.in_flight;
   }
@@ -163,14 +164,21 @@ module _ (g : Geometry) (a : Content) where
   between b w Event.Unresynced w' s c t = same b w' c (subst (HoldsBetween g a) (sym s.1) (between_unresynced w t))
   between b w (Event.Remove k) w' s c t = same b w' c (subst (HoldsBetween g a) (sym s.3) (between_removed w k (is_spare (w.state k)) s.0 t))
   between b w (Event.Add d left) w' s c t = same b w' c (subst (HoldsBetween g a) (sym s.4)
-      (between_joined (risen g w s.0) (record { number = d; role = 65535; state = Spare; re_added = false; recovering = false; device = left }) refl (between_risen w s.0 t)))
+      (between_joined (risen g w s.0) (new_member d left) refl (between_risen w s.0 t)))
   between b w (Event.ReAdd own device left) w' s c t = same b w' c (subst (HoldsBetween g a) (sym s.4)
-      (between_joined (risen g w s.0) (record { number = own.number; role = own.role own.number; state = Recovering; re_added = true; recovering = true; device = left }) refl (between_risen w s.0 t)))
+      (between_joined (risen g w s.0) (former_member own left) refl (between_risen w s.0 t)))
   between b w Event.MakeClean w' s c t = same b w' c (subst (HoldsBetween g a) (sym s.3) (between_made_clean w s.0 t))
-  between b w (Event.Fill k) w' s c t = same b w' c (between_target w k s.0 s.1.target w' s.3 t)
+  between b w (Event.Fill k) w' s c t = same b w' c (between_target w k s.0 s.1.rebuild.target w' s.3 t)
   between b w (Event.Prepare k) w' s c t = same b w' c (between_target w k s.0 s.1.target w' s.3 t)
   between b w (Event.RecordTargetFails k) w' s c t = same b w' c (between_target w k s.0 s.1.0 w' s.1.2 t)
   between b w (Event.Enrol k role listed) w' s c t = same b w' c.same (subst (HoldsBetween g a) (sym s.3) (between_enrolled w k role listed s.0 b s.1 c t))
+  between b w (Event.Admit k role listed) w' s c t = same b w' c (subst (HoldsBetween g a) (sym s.3)
+      (between_fewer w (admitted g w k role listed s.0) (fewer_admitted g w k role listed s.0 (spare_target (w.state k) s.1.spare)) t))
+  between b w (Event.Checkpoint k offset listed) w' s c t = same b w' c (subst (HoldsBetween g a) (sym s.1)
+      (between_fewer w (checkpointed w k offset listed) (fewer_checkpointed w k offset listed (recovering_target (w.state k) s.0.recovering)) t))
+  between b w (Event.NoteBad k x) w' s c t = same b w' c (subst (HoldsBetween g a) (sym s.1) (between_fewer w (noted_bad g w k x) (fewer_noted_bad g w k x) t))
+  between b w (Event.StoreLog k listed) w' s c t = same b w' c (subst (HoldsBetween g a) (sym s.2) (between_fewer w (log_stored w k listed) (fewer_log_stored w k listed s.1) t))
+  between b w (Event.StoreLogFails k) w' s c t = same b w' c (between_fails w k s.0 w' s.3 t)
 
 -- what was written of the requests in flight goes along by itself
 module _ (g : Geometry) where
@@ -202,13 +210,20 @@ module _ (g : Geometry) where
   flight w Event.MakeClean w' s t = subst HoldsInFlight (sym s.3) (in_flight_made_clean g w s.0 t)
   flight w (Event.Remove k) w' s t = subst HoldsInFlight (sym s.3) (in_flight_removed g w k (is_spare (w.state k)) s.0 t)
   flight w (Event.Add d left) w' s t = subst HoldsInFlight (sym s.4)
-      (in_flight_joined (risen g w s.0) (record { number = d; role = 65535; state = Spare; re_added = false; recovering = false; device = left }) refl (in_flight_risen g w s.0 t))
+      (in_flight_joined (risen g w s.0) (new_member d left) refl (in_flight_risen g w s.0 t))
   flight w (Event.ReAdd own device left) w' s t = subst HoldsInFlight (sym s.4)
-      (in_flight_joined (risen g w s.0) (record { number = own.number; role = own.role own.number; state = Recovering; re_added = true; recovering = true; device = left }) refl (in_flight_risen g w s.0 t))
-  flight w (Event.Fill k) w' s t = flight_target w k s.0 s.1.target w' s.3 t
+      (in_flight_joined (risen g w s.0) (former_member own left) refl (in_flight_risen g w s.0 t))
+  flight w (Event.Fill k) w' s t = flight_target w k s.0 s.1.rebuild.target w' s.3 t
   flight w (Event.Prepare k) w' s t = flight_target w k s.0 s.1.target w' s.3 t
   flight w (Event.RecordTargetFails k) w' s t = flight_target w k s.0 s.1.0 w' s.1.2 t
   flight w (Event.Enrol k role listed) w' s t = subst HoldsInFlight (sym s.3) (in_flight_enrolled g w k role listed s.0 s.1 t)
+  flight w (Event.Admit k role listed) w' s t = subst HoldsInFlight (sym s.3)
+      (in_flight_fewer w (admitted g w k role listed s.0) (fewer_admitted g w k role listed s.0 (spare_target (w.state k) s.1.spare)) t)
+  flight w (Event.Checkpoint k offset listed) w' s t = subst HoldsInFlight (sym s.1)
+      (in_flight_fewer w (checkpointed w k offset listed) (fewer_checkpointed w k offset listed (recovering_target (w.state k) s.0.recovering)) t)
+  flight w (Event.NoteBad k x) w' s t = subst HoldsInFlight (sym s.1) (in_flight_fewer w (noted_bad g w k x) (fewer_noted_bad g w k x) t)
+  flight w (Event.StoreLog k listed) w' s t = subst HoldsInFlight (sym s.2) (in_flight_fewer w (log_stored w k listed) (fewer_log_stored w k listed s.1) t)
+  flight w (Event.StoreLogFails k) w' s t = flight_fails w k s.0 w' s.3 t
 
 pub in_flight_step : KeepsInFlight
 in_flight_step g w e w' step = flight g w e w' step.1

@@ -3,18 +3,19 @@ use Rattle.std.proofs.Common.{◌≡◌, ℕ, ◌<◌, ◌+◌, ◌↔◌, Bool,
 use Rattle.std.specs.Prelude.{Some, None, nat_lt, not}
 use Rattle.std.proofs.lemmas.Bool.{or_right, not-true, and_parts}
 use Rattle.md_model.specs.Sectors.{Geometry, chunk_of, put}
-use Rattle.md_model.specs.States.{State, is_recorded, is_in_sync}
+use Rattle.md_model.specs.States.{State, is_recorded, is_in_sync, is_recovering}
 use Rattle.md_model.specs.Devices.{Super, Stored, AgreeAt}
-use Rattle.md_model.specs.Worlds.{Request, World, IsInFlight, IsInSync}
+use Rattle.md_model.specs.Worlds.{Request, touches, World, IsInFlight, IsInSync}
 use Rattle.md_model.specs.Counts.{role_at_rise, risen, risen_if, HasToRise}
 use Rattle.md_model.specs.Steps.{begun, with_device, super_for, recorded, recorded_device, marked_device, marks_stored, written_device, member_written, MayBegin, MayWrite}
 use Rattle.md_model.specs.Failures.{failed, MayFail, LeftBySuper}
 use Rattle.md_model.specs.Resyncing.{copied_device, copied, MayResync}
 use Rattle.md_model.specs.States.State.{Recovering, Spare}
-use Rattle.md_model.specs.Membership.{is_spare, removed}
-use Rattle.md_model.specs.Rebuilding.{is_target}
+use Rattle.md_model.specs.Membership.{former_member, is_spare, new_member, removed}
+use Rattle.md_model.specs.Rebuilding.{is_target, admitted, as_in_sync, as_recovering, checkpointed, with_offset}
+use Rattle.md_model.specs.Listing.{log_stored, noted_bad}
 use Rattle.md_model.proofs.Steps.Membership.{former_joins, number_absent, recorded_joined, recorded_removed, spare_joins, tracked_joined, tracked_removed}
-use Rattle.md_model.proofs.Steps.Rebuilding.{fewer_target, recorded_enrolled, recorded_left, recorded_target, tracked_enrolled}
+use Rattle.md_model.proofs.Steps.Rebuilding.{fewer_admitted, fewer_checkpointed, fewer_log_stored, fewer_noted_bad, fewer_target, recorded_left, recorded_taking, recorded_target, recovering_target, spare_target, still_due, target_recorded, tracked_enrolled}
 use Rattle.md_model.specs.Events.{Event, Fails, Happens, Step}
 use Rattle.md_model.specs.Openings.{IsWithinLimits}
 use Rattle.md_model.specs.Runs.{History, away_after, failed_after, tried_after, then_in, Run}
@@ -23,12 +24,22 @@ use Rattle.md_model.proofs.Puts.{put-at, put-same, put-hit, put-twice}
 use Rattle.md_model.proofs.Steps.Tracked.{IsTracked, tracked_fewer}
 use Rattle.md_model.proofs.Steps.TrackedSteps.{fewer_recorded, fewer_failed, tracked_risen, tracked_entered, tracked_finished, tracked_unmarked, tracked_marks_stored, tracked_written, other_flights}
 use Rattle.md_model.proofs.Steps.TrackedCalls.{tracked_copied, tracked_resynced, tracked_made_clean}
+use Rattle.md_model.proofs.Steps.Unstored.{unstored_step, IsUnstored}
 use Rattle.md_model.proofs.Steps.Recorded.{Book, book_of, IsRecorded, recorded_in_sync}
 use Rattle.md_model.proofs.Steps.RecordedSteps.{absent_none, recorded_risen, recorded_recorded, recorded_without}
 
 -- where marked chunks were copied, the members in sync agree everywhere
-pub all_agree : (g : Geometry) (w : World) → MayResync g w → IsTracked g w → (j k s : ℕ) → IsInSync w j → IsInSync w k → AgreeAt (w.stored j) (w.stored k) s
-all_agree g w may t j k s a b = by_test (w.marks (chunk_of g s)) (λ at. may.agree j k s a b at) (λ off. t.in_memory j k s a b off)
+pub all_agree : (g : Geometry) (w : World) → MayResync g w → IsTracked g w → IsUnstored w → (j k s : ℕ) → IsInSync w j → IsInSync w k → AgreeAt (w.stored j) (w.stored k) s
+all_agree g w may t u j k s a b = by_test (w.marks (chunk_of g s))
+    (λ at. by_test (w.bad j s)
+    (λ bad. u.agree j k s a b bad quiet)
+    (λ off_j. by_test (w.bad k s)
+    (λ bad off off'. sym (u.agree k j s b a bad quiet off' off))
+    (λ off_k. may.agree j k s a b at off_j off_k)))
+    (λ off. t.in_memory j k s a b off)
+  where
+    quiet : (n : ℕ) (p : Request) → IsInFlight w n p → touches p s ≡ false
+    quiet n p e = absurd (none_some p (sym (may.idle n) ∙ e))
 
 -- while a request is in flight, no absent device has a role
 abbrev pub IsAlone : Geometry → (ℕ → Bool) → World → Type 0
@@ -36,6 +47,7 @@ IsAlone g away w = (n : ℕ) (p : Request) (d : ℕ) → IsInFlight w n p → aw
 
 pub record IsKept (g : Geometry) (opened : Super) (h : History) : Type 0 where
   pub tracked : IsTracked g h.now
+  pub unstored : IsUnstored h.now
   pub recorded : IsRecorded g opened h.failed_at h.tried h.away (book_of h.now)
   pub alone : IsAlone g h.away h.now
 
@@ -55,31 +67,38 @@ module _ (g : Geometry) (small : IsWithinLimits g) where
   target_tracked : (w : World) (k : ℕ) (left : Stored) → is_target (w.state k) ≡ true → (w' : World) → w' ≡ with_device w k left → IsTracked g w → IsTracked g w'
   target_tracked w k left out w' is t = subst (IsTracked g) (sym is) (tracked_fewer g w (with_device w k left) (fewer_target w k left out) t)
 
-  tracked_step : (w : World) (e : Event) (w' : World) → IsTracked g w → Happens g w e w' → IsTracked g w'
-  tracked_step w (Event.Begin n p) w' t s = subst (IsTracked g) (sym s.5)
+  tracked_step : (w : World) → IsUnstored w → (e : Event) (w' : World) → IsTracked g w → Happens g w e w' → IsTracked g w'
+  tracked_step w u (Event.Begin n p) w' t s = subst (IsTracked g) (sym s.5)
       (tracked_entered g (risen_if g w s.0 s.1) n p small.wide (begin_after g w n p s.0 s.1 s.2) (rise_tracked w s.0 s.1 t))
-  tracked_step w (Event.Record k) w' t s = subst (IsTracked g) (sym s.3) (tracked_fewer g w (recorded w k s.0) (fewer_recorded w k s.0 s.1) t)
-  tracked_step w (Event.StoreMarks k b) w' t s = subst (IsTracked g) (sym s.1) (tracked_marks_stored g w k b t)
-  tracked_step w (Event.WriteMember n k) w' t s = subst (IsTracked g) (sym s.2) (tracked_written g w n s.0 k s.1 t)
-  tracked_step w (Event.Finish n) w' t s = subst (IsTracked g) (sym s.2) (tracked_finished g w n s.0 s.1 t)
-  tracked_step w (Event.ClearIdle c) w' t s = subst (IsTracked g) (sym s.1) (tracked_unmarked g w c s.0 t)
-  tracked_step w (Event.Fail k) w' t s = fails_tracked w k (w.stored k) w' s.1 t
-  tracked_step w (Event.RecordFails k) w' t s = fails_tracked w k s.0 w' s.2 t
-  tracked_step w (Event.StoreMarksFails k b) w' t s = fails_tracked w k s.0 w' s.3 t
-  tracked_step w (Event.WriteMemberFails n k) w' t s = fails_tracked w k s.0 w' s.4 t
-  tracked_step w (Event.CopyFails k c) w' t s = fails_tracked w k s.0 w' s.4 t
-  tracked_step w (Event.Copy from k x) w' t s = subst (IsTracked g) (sym s.1) (tracked_copied g w from k x s.0 t)
-  tracked_step w Event.Resynced w' t s = subst (IsTracked g) (sym s.1) (tracked_resynced g w true s.0.idle (λ _. all_agree g w s.0 t) t)
-  tracked_step w Event.Unresynced w' t s = subst (IsTracked g) (sym s.1) (tracked_resynced g w false s.0 (λ r. absurd (true≢false (sym r))) t)
-  tracked_step w Event.MakeClean w' t s = subst (IsTracked g) (sym s.3) (tracked_made_clean g w s.0 t)
-  tracked_step w (Event.Remove k) w' t s = subst (IsTracked g) (sym s.3) (tracked_removed g w k (is_spare (w.state k)) s.0 t)
-  tracked_step w (Event.Add d left) w' t s = subst (IsTracked g) (sym s.4) (tracked_joined g (risen g w s.0) (record { number = d; role = 65535; state = Spare; re_added = false; recovering = false; device = left }) refl (tracked_risen g w s.0 t))
-  tracked_step w (Event.ReAdd own device left) w' t s = subst (IsTracked g) (sym s.4)
-      (tracked_joined g (risen g w s.0) (record { number = own.number; role = own.role own.number; state = Recovering; re_added = true; recovering = true; device = left }) refl (tracked_risen g w s.0 t))
-  tracked_step w (Event.Fill k) w' t s = target_tracked w k s.0 s.1.target w' s.3 t
-  tracked_step w (Event.Prepare k) w' t s = target_tracked w k s.0 s.1.target w' s.3 t
-  tracked_step w (Event.RecordTargetFails k) w' t s = target_tracked w k s.0 s.1.0 w' s.1.2 t
-  tracked_step w (Event.Enrol k role listed) w' t s = subst (IsTracked g) (sym s.3) (tracked_enrolled g w k role listed s.0 s.1 t)
+  tracked_step w u (Event.Record k) w' t s = subst (IsTracked g) (sym s.3) (tracked_fewer g w (recorded w k s.0) (fewer_recorded w k s.0 s.1) t)
+  tracked_step w u (Event.StoreMarks k b) w' t s = subst (IsTracked g) (sym s.1) (tracked_marks_stored g w k b t)
+  tracked_step w u (Event.WriteMember n k) w' t s = subst (IsTracked g) (sym s.2) (tracked_written g w n s.0 k s.1 t)
+  tracked_step w u (Event.Finish n) w' t s = subst (IsTracked g) (sym s.2) (tracked_finished g w n s.0 s.1 t)
+  tracked_step w u (Event.ClearIdle c) w' t s = subst (IsTracked g) (sym s.1) (tracked_unmarked g w c s.0 t)
+  tracked_step w u (Event.Fail k) w' t s = fails_tracked w k (w.stored k) w' s.1 t
+  tracked_step w u (Event.RecordFails k) w' t s = fails_tracked w k s.0 w' s.2 t
+  tracked_step w u (Event.StoreMarksFails k b) w' t s = fails_tracked w k s.0 w' s.3 t
+  tracked_step w u (Event.WriteMemberFails n k) w' t s = fails_tracked w k s.0 w' s.4 t
+  tracked_step w u (Event.CopyFails k c) w' t s = fails_tracked w k s.0 w' s.4 t
+  tracked_step w u (Event.Copy from k x) w' t s = subst (IsTracked g) (sym s.1) (tracked_copied g w from k x s.0 t)
+  tracked_step w u Event.Resynced w' t s = subst (IsTracked g) (sym s.1) (tracked_resynced g w true s.0.idle (λ _. all_agree g w s.0 t u) t)
+  tracked_step w u Event.Unresynced w' t s = subst (IsTracked g) (sym s.1) (tracked_resynced g w false s.0 (λ r. absurd (true≢false (sym r))) t)
+  tracked_step w u Event.MakeClean w' t s = subst (IsTracked g) (sym s.3) (tracked_made_clean g w s.0 t)
+  tracked_step w u (Event.Remove k) w' t s = subst (IsTracked g) (sym s.3) (tracked_removed g w k (is_spare (w.state k)) s.0 t)
+  tracked_step w u (Event.Add d left) w' t s = subst (IsTracked g) (sym s.4) (tracked_joined g (risen g w s.0) (new_member d left) refl (tracked_risen g w s.0 t))
+  tracked_step w u (Event.ReAdd own device left) w' t s = subst (IsTracked g) (sym s.4)
+      (tracked_joined g (risen g w s.0) (former_member own left) refl (tracked_risen g w s.0 t))
+  tracked_step w u (Event.Fill k) w' t s = target_tracked w k s.0 s.1.rebuild.target w' s.3 t
+  tracked_step w u (Event.Prepare k) w' t s = target_tracked w k s.0 s.1.target w' s.3 t
+  tracked_step w u (Event.RecordTargetFails k) w' t s = target_tracked w k s.0 s.1.0 w' s.1.2 t
+  tracked_step w u (Event.Enrol k role listed) w' t s = subst (IsTracked g) (sym s.3) (tracked_enrolled g w k role listed s.0 s.1 t)
+  tracked_step w u (Event.Admit k role listed) w' t s = subst (IsTracked g) (sym s.3)
+      (tracked_fewer g w (admitted g w k role listed s.0) (fewer_admitted g w k role listed s.0 (spare_target (w.state k) s.1.spare)) t)
+  tracked_step w u (Event.Checkpoint k offset listed) w' t s = subst (IsTracked g) (sym s.1)
+      (tracked_fewer g w (checkpointed w k offset listed) (fewer_checkpointed w k offset listed (recovering_target (w.state k) s.0.recovering)) t)
+  tracked_step w u (Event.NoteBad k c) w' t s = subst (IsTracked g) (sym s.1) (tracked_fewer g w (noted_bad g w k c) (fewer_noted_bad g w k c) t)
+  tracked_step w u (Event.StoreLog k listed) w' t s = subst (IsTracked g) (sym s.2) (tracked_fewer g w (log_stored w k listed) (fewer_log_stored w k listed s.1) t)
+  tracked_step w u (Event.StoreLogFails k) w' t s = fails_tracked w k s.0 w' s.3 t
 
 module _ (g : Geometry) (small : IsWithinLimits g) (opened : Super) (away : ℕ → Bool) where
   abbrev Records : ℕ → Bool → World → Type 0
@@ -170,7 +189,7 @@ module _ (g : Geometry) (small : IsWithinLimits g) (opened : Super) (away : ℕ 
         (may_fail_risen w (risen g (recorded w k left.listed) full) k refl may) (recorded_risen g small.few opened failed_at tried away (recorded w k left.listed) full r)
 
   record_fails : (w : World) (k : ℕ) (left : Stored) (w' : World) (failed_at : ℕ) (tried : Bool)
-      → LeftBySuper w k left → Fails g w k left w' → Records failed_at tried w → Records w'.events tried w'
+      → (left.super ≡ (w.stored k).super) ⊎ ((left.super ≡ Some (super_for w k)) ⊎ (left.super ≡ None)) → Fails g w k left w' → Records failed_at tried w → Records w'.events tried w'
   record_fails w k left w' failed_at tried l f r = ⊎_elim
       (λ (same : left.super ≡ (w.stored k).super). fails_recorded w k left w' failed_at tried (λ own e. sym same ∙ e) f r)
       (λ (x : (left.super ≡ Some (super_for w k)) ⊎ (left.super ≡ None)). ⊎_elim
@@ -179,7 +198,7 @@ module _ (g : Geometry) (small : IsWithinLimits g) (opened : Super) (away : ℕ 
       (recorded_recorded g small.few opened failed_at tried away w k left.listed f.1.in_use r))))
       (λ (lost : left.super ≡ None). fails_recorded w k left w' failed_at tried (λ own e. absurd (none_some own (sym lost ∙ e))) f r)
       x)
-      l.super
+      l
 
   rise_recorded : (w : World) (n : ℕ) (p : Request) (rises full : Bool) (failed_at : ℕ) (tried : Bool) → Records failed_at tried w → Records failed_at tried (begun g w n p rises full)
   rise_recorded w n p true full failed_at tried r = recorded_risen g small.few opened failed_at tried away w full r
@@ -196,7 +215,7 @@ module _ (g : Geometry) (small : IsWithinLimits g) (opened : Super) (away : ℕ 
 
   added_step : (h : History) (d : ℕ) (left : Stored) (w' : World) → Records h.failed_at h.tried h.now → ((d : ℕ) → away d ≡ true → w'.present d ≡ false) → Happens g h.now (Event.Add d left) w' → Records h.failed_at h.tried w'
   added_step h d left w' r gone s = subst (Records h.failed_at h.tried) (sym s.4)
-      (recorded_joined g small.few opened h.failed_at h.tried away (risen g h.now s.0) (record { number = d; role = 65535; state = Spare; re_added = false; recovering = false; device = left })
+      (recorded_joined g small.few opened h.failed_at h.tried away (risen g h.now s.0) (new_member d left)
       (spare_joins g (risen g h.now s.0) d left small.few (number_absent g h.now d s.1.number) s.2)
       (λ j own e. let b = r.below j own e in let t : own.events < h.now.events + 1 = omega arith in t)
       (let l = r.later in let t : opened.events < h.now.events + 1 = omega arith in t)
@@ -206,23 +225,37 @@ module _ (g : Geometry) (small : IsWithinLimits g) (opened : Super) (away : ℕ 
   taken_back_step : (h : History) (own : Super) (device left : Stored) (w' : World) → Records h.failed_at h.tried h.now → ((d : ℕ) → away d ≡ true → w'.present d ≡ false)
       → Happens g h.now (Event.ReAdd own device left) w' → Records h.failed_at h.tried w'
   taken_back_step h own device left w' r gone s = subst (Records h.failed_at h.tried) (sym s.4)
-      (recorded_joined g small.few opened h.failed_at h.tried away (risen g h.now s.0) (record { number = own.number; role = own.role own.number; state = Recovering; re_added = true; recovering = true; device = left })
+      (recorded_joined g small.few opened h.failed_at h.tried away (risen g h.now s.0) (former_member own left)
       (former_joins g (risen g h.now s.0) own device left s.1.absent s.1.small s.2)
       (λ j other e. let b = r.below j other e in let t : other.events < h.now.events + 1 = omega arith in t)
       (let l = r.later in let t : opened.events < h.now.events + 1 = omega arith in t)
       (λ e off. ap (λ (v : World). v.present e) (sym s.4) ∙ gone e off)
       (recorded_risen g small.few opened h.failed_at h.tried away h.now s.0 r))
 
-  target_recorded : (h : History) (k : ℕ) (left : Stored) → is_target (h.now.state k) ≡ true → (w' : World) → w' ≡ with_device h.now k left
+  target_recorded_step : (h : History) (k : ℕ) (left : Stored) → is_target (h.now.state k) ≡ true → (w' : World) → w' ≡ with_device h.now k left
       → ((own : Super) → left.super ≡ Some own → (h.now.stored k).super ≡ Some own) → Records h.failed_at h.tried h.now → Records h.failed_at h.tried w'
-  target_recorded h k left out w' is from r = subst (Records h.failed_at h.tried) (sym is) (recorded_target g small.few opened h.failed_at h.tried away h.now k left out from r)
+  target_recorded_step h k left out w' is from r = subst (Records h.failed_at h.tried) (sym is) (recorded_target g small.few opened h.failed_at h.tried away h.now k left out from r)
 
   enrolled_step : (h : History) (k role : ℕ) (listed : ℕ → Bool) (w' : World) → Records h.failed_at h.tried h.now → Happens g h.now (Event.Enrol k role listed) w' → Records h.failed_at h.tried w'
   enrolled_step h k role listed w' r s = subst (Records h.failed_at h.tried) (sym s.3)
-      (recorded_enrolled g opened h.failed_at h.tried away (risen g h.now s.0) k role listed s.1.rebuild.target s.1.below s.1.small
+      (recorded_taking g opened h.failed_at h.tried away (risen g h.now s.0) k (as_in_sync (risen g h.now s.0) role listed) s.1.rebuild.target s.1.below s.1.small
+      refl (λ e. let x = ap is_in_sync e in true≢false x) (λ e. absurd (true≢false (sym e))) (λ _. refl)
       (λ j own e. let b = r.below j own e in let t : own.events < h.now.events + 1 = omega arith in t)
       (let l = r.later in let t : opened.events < h.now.events + 1 = omega arith in t)
       (recorded_risen g small.few opened h.failed_at h.tried away h.now s.0 r))
+
+  admitted_step : (h : History) (k role : ℕ) (listed : ℕ → Bool) (w' : World) → Records h.failed_at h.tried h.now → Happens g h.now (Event.Admit k role listed) w' → Records h.failed_at h.tried w'
+  admitted_step h k role listed w' r s = subst (Records h.failed_at h.tried) (sym s.3)
+      (recorded_taking g opened h.failed_at h.tried away (risen g h.now s.0) k (as_recovering h.now k role listed) (spare_target (h.now.state k) s.1.spare) s.1.below s.1.small
+      refl (λ e. let x = ap is_recovering e in true≢false x) (λ _. refl) (λ e. absurd (true≢false (sym e)))
+      (λ j own e. let b = r.below j own e in let t : own.events < h.now.events + 1 = omega arith in t)
+      (let l = r.later in let t : opened.events < h.now.events + 1 = omega arith in t)
+      (recorded_risen g small.few opened h.failed_at h.tried away h.now s.0 r))
+
+  -- a superblock that is due again
+  due_again : (failed_at : ℕ) (tried : Bool) (w : World) (k : ℕ) → Records failed_at tried w → Records failed_at tried (record w { due = put k true w.due })
+  due_again failed_at tried w k = still_due g small.few opened failed_at tried away (book_of w) (put k true w.due)
+      (λ j. put-at k true w.due j (λ x. x ≡ false → w.due j ≡ false) (λ _ off. absurd (true≢false off)) (λ _ off. off))
 
   recorded_step : (h : History) (e : Event) (w' : World) → Before h → ((d : ℕ) → away d ≡ true → w'.present d ≡ false) → Happens g h.now e w' → Records (failed_after e w' h.failed_at) (tried_after e h.tried) w'
   recorded_step h (Event.Begin n p) w' t gone s = subst (Records h.failed_at h.tried) (sym s.5) (rise_recorded h.now n p s.0 s.1 h.failed_at h.tried t.recorded)
@@ -235,7 +268,7 @@ module _ (g : Geometry) (small : IsWithinLimits g) (opened : Super) (away : ℕ 
   recorded_step h (Event.Finish n) w' t gone s = subst (Records h.failed_at h.tried) (sym s.2) t.recorded
   recorded_step h (Event.ClearIdle c) w' t gone s = subst (Records h.failed_at h.tried) (sym s.1) t.recorded
   recorded_step h (Event.Fail k) w' t gone s = fails_recorded h.now k (h.now.stored k) w' h.failed_at h.tried (λ own e. e) s.1 t.recorded
-  recorded_step h (Event.RecordFails k) w' t gone s = record_fails h.now k s.0 w' h.failed_at h.tried s.1 s.2 t.recorded
+  recorded_step h (Event.RecordFails k) w' t gone s = record_fails h.now k s.0 w' h.failed_at h.tried s.1.super s.2 t.recorded
   recorded_step h (Event.StoreMarksFails k b) w' t gone s =
       fails_recorded h.now k s.0 w' h.failed_at h.tried (λ own e. sym (ap (λ (d : Stored). d.super) s.2.rest) ∙ e) s.3 t.recorded
   recorded_step h (Event.WriteMemberFails n k) w' t gone s =
@@ -252,12 +285,21 @@ module _ (g : Geometry) (small : IsWithinLimits g) (opened : Super) (away : ℕ 
   recorded_step h (Event.Add d left) w' t gone s = added_step h d left w' t.recorded gone s
   recorded_step h (Event.ReAdd own device left) w' t gone s = taken_back_step h own device left w' t.recorded gone s
   recorded_step h (Event.Fill k) w' t gone s =
-      target_recorded h k s.0 s.1.target w' s.3 (λ own e. sym (ap (λ (d : Stored). d.super) s.2.rest) ∙ e) t.recorded
+      target_recorded_step h k s.0 s.1.rebuild.target w' s.3 (λ own e. sym (ap (λ (d : Stored). d.super) s.2.rest) ∙ e) t.recorded
   recorded_step h (Event.Prepare k) w' t gone s =
-      target_recorded h k s.0 s.1.target w' s.3 (λ own e. sym (ap (λ (d : Stored). d.super) s.2.rest) ∙ e) t.recorded
+      target_recorded_step h k s.0 s.1.target w' s.3 (λ own e. sym (ap (λ (d : Stored). d.super) s.2.rest) ∙ e) t.recorded
   recorded_step h (Event.RecordTargetFails k) w' t gone s = subst (Records h.failed_at h.tried) (sym s.1.2)
       (recorded_left g small.few opened h.failed_at h.tried away h.now k s.0 s.1.0 s.1.1 t.recorded)
   recorded_step h (Event.Enrol k role listed) w' t gone s = enrolled_step h k role listed w' t.recorded s
+  recorded_step h (Event.Admit k role listed) w' t gone s = admitted_step h k role listed w' t.recorded s
+  recorded_step h (Event.Checkpoint k offset listed) w' t gone s = subst (Records h.failed_at h.tried) (sym s.1)
+      (recorded_recorded g small.few opened h.failed_at h.tried away (with_offset h.now k offset) k listed
+      (target_recorded (h.now.state k) (recovering_target (h.now.state k) s.0.recovering)) t.recorded)
+  recorded_step h (Event.NoteBad k c) w' t gone s = subst (Records h.failed_at h.tried) (sym s.1) t.recorded
+  recorded_step h (Event.StoreLog k listed) w' t gone s = subst (Records h.failed_at h.tried) (sym s.2)
+      (due_again h.failed_at h.tried (record h.now { stored = (log_stored h.now k listed).stored }) k
+      (same_supers h.failed_at h.tried h.now (log_stored h.now k listed).stored (λ j. put-same (λ (d : Stored). d.super) k (record (h.now.stored k) { listed = listed }) h.now.stored j refl) t.recorded))
+  recorded_step h (Event.StoreLogFails k) w' t gone s = record_fails h.now k s.0 w' h.failed_at h.tried s.2.super s.3 t.recorded
 
   -- a failure takes no role to an absent device
   fails_alone : (w : World) (k : ℕ) (left : Stored) (w' : World) → ((d : ℕ) → away d ≡ true → w.present d ≡ false) → Fails g w k left w' → IsAlone g away w'
@@ -270,37 +312,43 @@ module _ (g : Geometry) (small : IsWithinLimits g) (opened : Super) (away : ℕ 
   begun_alone w n p true full gone needed m q d e off low = absent_none g w d small.few (gone d off) low
   begun_alone w n p false full gone needed m q d e off low = true≢false (sym (needed.1 (inr (d, low, gone d off))))
 
-  alone_step : (w : World) (e : Event) (w' : World) → ((d : ℕ) → away d ≡ true → w.present d ≡ false) → ((d : ℕ) → away d ≡ true → w'.present d ≡ false) → IsAlone g away w → Happens g w e w' → IsAlone g away w'
-  alone_step w (Event.Begin n p) w' gone then t s = subst (IsAlone g away) (sym s.5) (begun_alone w n p s.0 s.1 gone s.3)
-  alone_step w (Event.Record k) w' gone then t s = subst (IsAlone g away) (sym s.3) t
-  alone_step w (Event.StoreMarks k b) w' gone then t s = subst (IsAlone g away) (sym s.1) t
-  alone_step w (Event.WriteMember n k) w' gone then t s = subst (IsAlone g away) (sym s.2) (λ _ _ d _. t n s.0 d s.1.in_flight)
-  alone_step w (Event.Finish n) w' gone then t s = subst (IsAlone g away) (sym s.2) (λ m q d e. t m q d (other_flights w n m q e).1)
-  alone_step w (Event.ClearIdle c) w' gone then t s = subst (IsAlone g away) (sym s.1) t
-  alone_step w (Event.Fail k) w' gone then t s = fails_alone w k (w.stored k) w' gone s.1
-  alone_step w (Event.RecordFails k) w' gone then t s = fails_alone w k s.0 w' gone s.2
-  alone_step w (Event.StoreMarksFails k b) w' gone then t s = fails_alone w k s.0 w' gone s.3
-  alone_step w (Event.WriteMemberFails n k) w' gone then t s = fails_alone w k s.0 w' gone s.4
-  alone_step w (Event.CopyFails k c) w' gone then t s = fails_alone w k s.0 w' gone s.4
-  alone_step w (Event.Copy from k x) w' gone then t s = subst (IsAlone g away) (sym s.1) t
-  alone_step w Event.Resynced w' gone then t s = subst (IsAlone g away) (sym s.1) t
-  alone_step w Event.Unresynced w' gone then t s = subst (IsAlone g away) (sym s.1) t
-  alone_step w Event.MakeClean w' gone then t s = subst (IsAlone g away) (sym s.3) (λ m q d e. absurd (none_some q (sym (s.1.idle m) ∙ e)))
-  alone_step w (Event.Remove k) w' gone then t s = subst (IsAlone g away) (sym s.3) (removed_alone (is_spare (w.state k)))
+  alone_step : (w : World) → ((j : ℕ) → is_recorded (w.state j) ≡ true → w.present (w.number j) ≡ true) → (e : Event) (w' : World) → ((d : ℕ) → away d ≡ true → w.present d ≡ false) → ((d : ℕ) → away d ≡ true → w'.present d ≡ false) → IsAlone g away w → Happens g w e w' → IsAlone g away w'
+  alone_step w here (Event.Begin n p) w' gone then t s = subst (IsAlone g away) (sym s.5) (begun_alone w n p s.0 s.1 gone s.3)
+  alone_step w here (Event.Record k) w' gone then t s = subst (IsAlone g away) (sym s.3) t
+  alone_step w here (Event.StoreMarks k b) w' gone then t s = subst (IsAlone g away) (sym s.1) t
+  alone_step w here (Event.WriteMember n k) w' gone then t s = subst (IsAlone g away) (sym s.2) (λ _ _ d _. t n s.0 d s.1.in_flight)
+  alone_step w here (Event.Finish n) w' gone then t s = subst (IsAlone g away) (sym s.2) (λ m q d e. t m q d (other_flights w n m q e).1)
+  alone_step w here (Event.ClearIdle c) w' gone then t s = subst (IsAlone g away) (sym s.1) t
+  alone_step w here (Event.Fail k) w' gone then t s = fails_alone w k (w.stored k) w' gone s.1
+  alone_step w here (Event.RecordFails k) w' gone then t s = fails_alone w k s.0 w' gone s.2
+  alone_step w here (Event.StoreMarksFails k b) w' gone then t s = fails_alone w k s.0 w' gone s.3
+  alone_step w here (Event.WriteMemberFails n k) w' gone then t s = fails_alone w k s.0 w' gone s.4
+  alone_step w here (Event.CopyFails k c) w' gone then t s = fails_alone w k s.0 w' gone s.4
+  alone_step w here (Event.Copy from k x) w' gone then t s = subst (IsAlone g away) (sym s.1) t
+  alone_step w here Event.Resynced w' gone then t s = subst (IsAlone g away) (sym s.1) t
+  alone_step w here Event.Unresynced w' gone then t s = subst (IsAlone g away) (sym s.1) t
+  alone_step w here Event.MakeClean w' gone then t s = subst (IsAlone g away) (sym s.3) (λ m q d e. absurd (none_some q (sym (s.1.idle m) ∙ e)))
+  alone_step w here (Event.Remove k) w' gone then t s = subst (IsAlone g away) (sym s.3) (removed_alone (is_spare (w.state k)))
     where
       removed_alone : (spare : Bool) → IsAlone g away (removed g w k spare s.0)
       removed_alone true n p d e off low = by_test (eqb d (w.number k) && nat_lt d w.entries)
           (λ at. let t : 65534 < g.raid_disks = subst (λ x. x < g.raid_disks) (ap (λ b. cond b 65534 (role_at_rise g w d)) at) low in let few = small.few in omega arith)
           (λ no_entry. absent_none g w d small.few (gone d off) (subst (λ x. x < g.raid_disks) (ap (λ b. cond b 65534 (role_at_rise g w d)) no_entry) low))
       removed_alone false n p d e off low = t n p d e off low
-  alone_step w (Event.Add d left) w' gone then t s = subst (IsAlone g away) (sym s.4) (λ n p e _ off low. put-at d 65535 (role_at_rise g w) e (λ x. x < g.raid_disks → ⊥)
+  alone_step w here (Event.Add d left) w' gone then t s = subst (IsAlone g away) (sym s.4) (λ n p e _ off low. put-at d 65535 (role_at_rise g w) e (λ x. x < g.raid_disks → ⊥)
       (λ _ l. let few = small.few in omega arith) (λ _ l. absent_none g w e small.few (gone e off) l) low)
-  alone_step w (Event.ReAdd own device left) w' gone then t s = subst (IsAlone g away) (sym s.4) (λ n p e _ off low. put-at own.number (own.role own.number) (role_at_rise g w) e (λ x. x < g.raid_disks → ⊥)
+  alone_step w here (Event.ReAdd own device left) w' gone then t s = subst (IsAlone g away) (sym s.4) (λ n p e _ off low. put-at own.number (own.role own.number) (role_at_rise g w) e (λ x. x < g.raid_disks → ⊥)
       (λ same l. true≢false (sym (ap (λ (v : World). v.present e) s.4 ∙ or_right (w.present e) (eqb e own.number) (eq-eqb e own.number same)) ∙ then e off)) (λ _ l. absent_none g w e small.few (gone e off) l) low)
-  alone_step w (Event.Fill k) w' gone then t s = subst (IsAlone g away) (sym s.3) t
-  alone_step w (Event.Prepare k) w' gone then t s = subst (IsAlone g away) (sym s.3) t
-  alone_step w (Event.RecordTargetFails k) w' gone then t s = subst (IsAlone g away) (sym s.1.2) t
-  alone_step w (Event.Enrol k role listed) w' gone then t s = subst (IsAlone g away) (sym s.3) (λ m q d e. absurd (none_some q (sym (s.1.rebuild.idle m) ∙ e)))
+  alone_step w here (Event.Fill k) w' gone then t s = subst (IsAlone g away) (sym s.3) t
+  alone_step w here (Event.Prepare k) w' gone then t s = subst (IsAlone g away) (sym s.3) t
+  alone_step w here (Event.RecordTargetFails k) w' gone then t s = subst (IsAlone g away) (sym s.1.2) t
+  alone_step w here (Event.Enrol k role listed) w' gone then t s = subst (IsAlone g away) (sym s.3) (λ m q d e. absurd (none_some q (sym (s.1.rebuild.idle m) ∙ e)))
+  alone_step w here (Event.Admit k role listed) w' gone then t s = subst (IsAlone g away) (sym s.3) (λ m q d _ off low. put-at (w.number k) role (role_at_rise g w) d (λ x. x < g.raid_disks → ⊥)
+      (λ same _. true≢false (sym (here k (target_recorded (w.state k) (spare_target (w.state k) s.1.spare))) ∙ sym (ap w.present same) ∙ gone d off)) (λ _ l. absent_none g w d small.few (gone d off) l) low)
+  alone_step w here (Event.Checkpoint k offset listed) w' gone then t s = subst (IsAlone g away) (sym s.1) t
+  alone_step w here (Event.NoteBad k c) w' gone then t s = subst (IsAlone g away) (sym s.1) t
+  alone_step w here (Event.StoreLog k listed) w' gone then t s = subst (IsAlone g away) (sym s.2) t
+  alone_step w here (Event.StoreLogFails k) w' gone then t s = fails_alone w k s.0 w' gone s.3
 
 -- what stays away was away
 still_away : (e : Event) (before : ℕ → Bool) (d : ℕ) → away_after e before d ≡ true → before d ≡ true
@@ -326,6 +374,11 @@ still_away (Event.Fill k) before d x = x
 still_away (Event.Prepare k) before d x = x
 still_away (Event.RecordTargetFails k) before d x = x
 still_away (Event.Enrol k role listed) before d x = x
+still_away (Event.Admit k role listed) before d x = x
+still_away (Event.Checkpoint k offset listed) before d x = x
+still_away (Event.NoteBad k c) before d x = x
+still_away (Event.StoreLog k listed) before d x = x
+still_away (Event.StoreLogFails k) before d x = x
 
 -- and no member has its number
 neither : (a b : Bool) → a ≡ false → b ≡ false → (a || b) ≡ false
@@ -372,6 +425,11 @@ gone_step g w (Event.Fill k) w' before gone s d x = ap (λ (v : World). v.presen
 gone_step g w (Event.Prepare k) w' before gone s d x = ap (λ (v : World). v.present d) s.3 ∙ gone d x
 gone_step g w (Event.RecordTargetFails k) w' before gone s d x = ap (λ (v : World). v.present d) s.1.2 ∙ gone d x
 gone_step g w (Event.Enrol k role listed) w' before gone s d x = ap (λ (v : World). v.present d) s.3 ∙ gone d x
+gone_step g w (Event.Admit k role listed) w' before gone s d x = ap (λ (v : World). v.present d) s.3 ∙ gone d x
+gone_step g w (Event.Checkpoint k offset listed) w' before gone s d x = ap (λ (v : World). v.present d) s.1 ∙ gone d x
+gone_step g w (Event.NoteBad k c) w' before gone s d x = ap (λ (v : World). v.present d) s.1 ∙ gone d x
+gone_step g w (Event.StoreLog k listed) w' before gone s d x = ap (λ (v : World). v.present d) s.2 ∙ gone d x
+gone_step g w (Event.StoreLogFails k) w' before gone s d x = ap (λ (v : World). v.present d) s.3.3 ∙ gone d x
 
 -- fewer devices stay away
 narrower : (g : Geometry) (opened : Super) (failed_at : ℕ) (tried : Bool) (away less : ℕ → Bool) (b : Book) → ((d : ℕ) → less d ≡ true → away d ≡ true)
@@ -415,9 +473,10 @@ module _ (g : Geometry) (small : IsWithinLimits g) (opened : Super) where
       let r = narrower g opened h.failed_at h.tried h.away away (book_of h.now) from t.recorded in
       let alone : IsAlone g away h.now = λ n p d e off. t.alone n p d e (from d off) in
       record {
-        tracked = tracked_step g small h.now e w' t.tracked s.1;
+        tracked = tracked_step g small h.now t.unstored e w' t.tracked s.1;
+        unstored = unstored_step g h.now e w' t.tracked t.unstored s.1;
         recorded = recorded_step g small opened away h e w' (record { recorded = r; alone = alone }) gone s.1;
-        alone = alone_step g small opened away h.now e w' r.gone gone alone s.1;
+        alone = alone_step g small opened away h.now (λ j on. r.present j (r.there j on)) e w' r.gone gone alone s.1;
       }
 
   pub kept_run : (es : List Event) (h last : History) → IsKept g opened h → Run g h es last → IsKept g opened last

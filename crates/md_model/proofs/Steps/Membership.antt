@@ -6,10 +6,10 @@ use Rattle.std.proofs.lemmas.Bool.{or_right, or_left, ne_eqb, and_from}
 use Rattle.md_model.specs.Sectors.{Geometry, chunk_of, put}
 use Rattle.md_model.specs.States.{State, is_in_sync, is_active, is_recovering, is_recorded}
 use Rattle.md_model.specs.States.State.{InSync, Recovering, Stale, Spare, Faulty}
-use Rattle.md_model.specs.Devices.{Super, Stored}
+use Rattle.md_model.specs.Devices.{Super, Stored, offset_of}
 use Rattle.md_model.specs.Worlds.{World, IsInSync}
 use Rattle.md_model.specs.Counts.{risen}
-use Rattle.md_model.specs.Membership.{is_spare, joined, joined_super, removed, skip, taken_out, without_entry, IsLaidOut, IsNumber, IsTakenBack, MayRemove, Newcomer}
+use Rattle.md_model.specs.Membership.{former_member, is_spare, joined, joined_super, new_member, removed, skip, taken_out, without_entry, IsLaidOut, IsNumber, IsTakenBack, MayRemove, Newcomer}
 use Rattle.md_model.proofs.Cases.{by_test, some-injective, not_below}
 use Rattle.md_model.proofs.Puts.{by_same, put-at, put-hit, put-miss}
 use Rattle.md_model.proofs.Table.{has_role}
@@ -232,14 +232,14 @@ module _ (g : Geometry) (few : g.raid_disks ≤ 32) (opened : Super) (failed_at 
 -- what is asked of a member that comes in: its superblock bears the count and the roles, and says of it what its state is
 pub record Joins (g : Geometry) (w : World) (n : Newcomer) : Type 0 where
   pub absent : w.present n.number ≡ false
-  pub super : n.device.super ≡ Some (joined_super w n.number n.role n.recovering)
+  pub super : n.device.super ≡ Some (joined_super w n.number n.role n.recovering n.offset)
   pub out : is_in_sync n.state ≡ false
   pub fresh : n.state ≡ Stale → ⊥
   pub bit : is_recovering n.state ≡ true → n.recovering ≡ true
   pub role : n.role < g.raid_disks → has_role n.state ≡ true
   pub past : 1920 ≤ n.number → n.role ≡ 65535
 
-pub spare_joins : (g : Geometry) (w : World) (d : ℕ) (left : Stored) → g.raid_disks ≤ 32 → w.present d ≡ false → IsLaidOut g w d left → Joins g w (record { number = d; role = 65535; state = Spare; re_added = false; recovering = false; device = left })
+pub spare_joins : (g : Geometry) (w : World) (d : ℕ) (left : Stored) → g.raid_disks ≤ 32 → w.present d ≡ false → IsLaidOut g w d left → Joins g w (new_member d left)
 spare_joins g w d left few absent laid = record {
   absent = absent;
   super = laid.super;
@@ -250,11 +250,11 @@ spare_joins g w d left few absent laid = record {
   past = λ _. refl;
 }
 
-pub former_joins : (g : Geometry) (w : World) (own : Super) (device left : Stored) → w.present own.number ≡ false → own.number < 1920 → IsTakenBack w own device left
-    → Joins g w (record { number = own.number; role = own.role own.number; state = Recovering; re_added = true; recovering = true; device = left })
+pub former_joins : (g : Geometry) (w : World) (own : Super) (device left : Stored) → w.present own.number ≡ false → own.number < 1920 → IsTakenBack g w own device left
+    → Joins g w (former_member own left)
 former_joins g w own device left absent low taken = record {
   absent = absent;
-  super = ap (λ (d : Stored). d.super) taken.rest;
+  super = subst (λ o. left.super ≡ Some (joined_super w own.number (own.role own.number) true o)) (sym (ap offset_of taken.rest)) (ap (λ (d : Stored). d.super) taken.rest);
   out = refl;
   fresh = λ e. let x = ap is_recovering e in true≢false x;
   bit = λ e. e;
@@ -271,7 +271,7 @@ module _ (g : Geometry) (few : g.raid_disks ≤ 32) (opened : Super) (failed_at 
   v = joined w n
 
   abbrev new : Super
-  new = joined_super w n.number n.role n.recovering
+  new = joined_super w n.number n.role n.recovering n.offset
 
   by_joined : {P : Type 0} (j : ℕ) (own : Super) → Has (book_of v) j own → (j ≡ w.members → new ≡ own → P) → (j ≢ w.members → Has (book_of w) j own → P) → P
   by_joined {P} j own e here there =

@@ -83,8 +83,8 @@ pub record IsKeptAt (events : ℕ) (infos : List MemberInfo) (k : ℕ) (m : Memb
   pub header : info.header ≡ Some m.header
   pub chunks : m.stored.chunks ≡ chunk_count info.superblock.size m.header.chunksize
 
-pub kept_at : (events : ℕ) (infos : List MemberInfo) (assembly : Assembly) (members : List MemberView) (k : ℕ) (m : MemberView) → IsAssembled infos assembly → AreKept events infos assembly.states.items members → slice_get members k ≡ Some m → IsKeptAt events infos k m
-kept_at events infos assembly members k m assembled kept listed =
+pub kept_at : (events cleared : ℕ) (infos : List MemberInfo) (assembly : Assembly) (members : List MemberView) (k : ℕ) (m : MemberView) → IsAssembled infos assembly → AreKept events cleared infos assembly.states.items members → slice_get members k ≡ Some m → IsKeptAt events infos k m
+kept_at events cleared infos assembly members k m assembled kept listed =
     let within = slice_get_within members k m listed in
     let as_many = kept.as_many in
     let states = states_as_many infos assembly assembled in
@@ -94,14 +94,14 @@ kept_at events infos assembly members k m assembled kept listed =
     record { info = info.0; listed = info.1; header = is_kept.header; chunks = is_kept.chunks }
 
 -- all members have the width and the number of the chunks of the freshest
-pub width_of : (events : ℕ) (infos : List MemberInfo) (assembly : Assembly) (members : List MemberView) (fresh : MemberInfo) (chunks : Chunks) → AreWhole infos → NoFault infos → IsAssembled infos assembly → slice_get infos assembly.freshest ≡ Some fresh → IsChunkingOf fresh chunks → AreKept events infos assembly.states.items members → (k : ℕ) (m : MemberView) → slice_get members k ≡ Some m → chunks.sectors ≡ m.header.chunksize / 512
-width_of events infos assembly members fresh chunks whole sound assembled at_fresh chunking kept k m listed =
-    let at = kept_at events infos assembly members k m assembled kept listed in
+pub width_of : (events cleared : ℕ) (infos : List MemberInfo) (assembly : Assembly) (members : List MemberView) (fresh : MemberInfo) (chunks : Chunks) → AreWhole infos → NoFault infos → IsAssembled infos assembly → slice_get infos assembly.freshest ≡ Some fresh → IsChunkingOf fresh chunks → AreKept events cleared infos assembly.states.items members → (k : ℕ) (m : MemberView) → slice_get members k ≡ Some m → chunks.sectors ≡ m.header.chunksize / 512
+width_of events cleared infos assembly members fresh chunks whole sound assembled at_fresh chunking kept k m listed =
+    let at = kept_at events cleared infos assembly members k m assembled kept listed in
     let same = alike infos assembly.freshest k fresh at.info chunking.header m.header whole sound at_fresh at.listed chunking.has_header at.header in
     chunking.width ∙ ap (λ (n : ℕ). n / 512) same.chunksize
 
-pub count_of : (events : ℕ) (infos : List MemberInfo) (assembly : Assembly) (members : List MemberView) (fresh : MemberInfo) (chunks : Chunks) → AreWhole infos → NoFault infos → IsAssembled infos assembly → slice_get infos assembly.freshest ≡ Some fresh → IsChunkingOf fresh chunks → AreKept events infos assembly.states.items members → HaveChunks members (div_ceil chunks.size chunks.sectors)
-count_of events infos assembly members fresh chunks whole sound assembled at_fresh chunking kept k m listed =
-    let at = kept_at events infos assembly members k m assembled kept listed in
+pub count_of : (events cleared : ℕ) (infos : List MemberInfo) (assembly : Assembly) (members : List MemberView) (fresh : MemberInfo) (chunks : Chunks) → AreWhole infos → NoFault infos → IsAssembled infos assembly → slice_get infos assembly.freshest ≡ Some fresh → IsChunkingOf fresh chunks → AreKept events cleared infos assembly.states.items members → HaveChunks members (div_ceil chunks.size chunks.sectors)
+count_of events cleared infos assembly members fresh chunks whole sound assembled at_fresh chunking kept k m listed =
+    let at = kept_at events cleared infos assembly members k m assembled kept listed in
     let same = alike infos assembly.freshest k fresh at.info chunking.header m.header whole sound at_fresh at.listed chunking.has_header at.header in
     at.chunks ∙ ap (λ (n : ℕ). chunk_count n m.header.chunksize) (sym same.size) ∙ ap (λ (n : ℕ). chunk_count fresh.superblock.size n) (sym same.chunksize) ∙ sym chunking.count

@@ -73,15 +73,15 @@ pub record IsFound (a : ArrayView) : Type 0 where
   pub running : a.halted ≡ false
   pub idle : a.requests ≡ record a.requests { entries = []; next = 0 }
 
-pub remembered : (infos : List MemberInfo) (assembly : Assembly) (fresh : MemberInfo) (a : ArrayView) → AreWhole infos → NoFault infos → IsAssembled infos assembly → slice_get infos assembly.freshest ≡ Some fresh → a.shared ≡ fresh.superblock → IsChunkingOf fresh a.chunks → AreKept a.shared.events infos assembly.states.items a.members → IsFound a → IsRemembered infos assembly a
+pub remembered : (infos : List MemberInfo) (assembly : Assembly) (fresh : MemberInfo) (a : ArrayView) → AreWhole infos → NoFault infos → IsAssembled infos assembly → slice_get infos assembly.freshest ≡ Some fresh → a.shared ≡ fresh.superblock → IsChunkingOf fresh a.chunks → AreKept a.shared.events a.events_cleared infos assembly.states.items a.members → IsFound a → IsRemembered infos assembly a
 remembered infos assembly fresh a whole sound assembled at_fresh shared chunking kept found =
-    let count = count_of a.shared.events infos assembly a.members fresh a.chunks whole sound assembled at_fresh chunking kept in
+    let count = count_of a.shared.events a.events_cleared infos assembly a.members fresh a.chunks whole sound assembled at_fresh chunking kept in
     record {
       shared = slice_get-map (λ (m : MemberInfo). m.superblock) infos assembly.freshest ∙ ap (option_map (λ (m : MemberInfo). m.superblock)) at_fresh ∙ ap Some (sym shared);
       as_many = kept.as_many;
       each = kept.each;
       size = chunking.size ∙ ap (λ (v : Superblock). v.size) (sym shared);
-      width = width_of a.shared.events infos assembly a.members fresh a.chunks whole sound assembled at_fresh chunking kept;
+      width = width_of a.shared.events a.events_cleared infos assembly a.members fresh a.chunks whole sound assembled at_fresh chunking kept;
       events_cleared = last_cleared a found.cleared;
       marks = λ c. marked_by_some a c (found.bits c);
       mark_count = λ k m listed. found.count ∙ sym (count k m listed);

@@ -24,5 +24,5 @@ loop-info-preserved c =
     let states = c.args.states.now in
     let count : c.len.result ≡ length c.loop-info.members.items = c.len.ensures ∙ c.loop-info.members.ok.0 in
     let there = slice_get-get_or states (length c.loop-info.members.items) (InSync 0) (omega arith) in
-    let is_kept = subst (λ (k : ℕ). IsKept c.args.events c.in-Some.info (get_or states k (InSync 0)) c.in_ok-member_of.field-0) count c.in_ok-member_of.ensures in
-    rw c.in_ok-push.ensures.items (one_more_kept c.args.events c.loop-info.yielded states c.loop-info.members.items c.in-Some.info _ c.in_ok-member_of.field-0 kept there is_kept)
+    let is_kept = subst (λ (k : ℕ). IsKept c.args.events 0 c.in-Some.info (get_or states k (InSync 0)) c.in_ok-member_of.field-0) count c.in_ok-member_of.ensures in
+    rw c.in_ok-push.ensures.items (one_more_kept c.args.events 0 c.loop-info.yielded states c.loop-info.members.items c.in-Some.info _ c.in_ok-member_of.field-0 kept there is_kept)

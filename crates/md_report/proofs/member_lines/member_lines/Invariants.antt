@@ -4,4 +4,4 @@ use Rattle.md_report.specs.DetailReport.{member_lines}
 use Rattle.md_report.proofs.member_lines.member_lines.Given as goal
 
 abbrev pub invariant-loop-k : goal.invariant-loop-k
-invariant-loop-k g l = Puts g.S.Sink.contents g.S.Sink.failed l.fn.out l.out (member_lines 0 (take l.k l.mirror.array.members))
+invariant-loop-k g l = Puts g.S.Sink.contents g.S.Sink.failed l.fn.out l.out (member_lines l.mirror.array 0 (take l.k l.mirror.array.members))

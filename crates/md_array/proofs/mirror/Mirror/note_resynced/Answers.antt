@@ -2,7 +2,7 @@ use Rattle.std.proofs.Common.{true, map, refl, sym, subst}
 use Rattle.md_state.specs.MakingClean.{IsIdle}
 use Rattle.md_state.specs.View.{MirrorView, disk_of}
 use Rattle.md_array.specs.Consistency.{IsConsistent}
-use Rattle.md_array.specs.NotingResynced.{AllAgreeWhereMarked, BecomesResynced}
+use Rattle.md_array.specs.NotingResynced.{AllAgreeWhereMarked, AreNoted, BecomesResynced}
 use Rattle.md_array.proofs.Worlds.ResyncMarked.{marked_is_consistent, marked_keeps_pending, resynced_happens}
 use Rattle.md_array.proofs.mirror.Mirror.note_resynced.Goals as goal
 
@@ -14,6 +14,7 @@ returns g c =
     let marked : BecomesResynced old new = record {
       marks = record { idle = subst (λ (v : MirrorView). IsIdle v.array) (sym c.self.view_is) c.requires.idle; disks = refl; array = c.note_resynced.ensures };
       agree = subst AllAgreeWhereMarked (sym c.self.view_is) c.requires.agree;
+      stored = subst (λ (v : MirrorView). AreNoted v.array) (sym c.self.view_is) c.requires.stored;
     } in
     rw (← c.self.view_is) (record {
       gives = marked;

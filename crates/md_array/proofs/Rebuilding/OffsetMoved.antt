@@ -1,0 +1,174 @@
+-- A member has another offset in memory: the mirror stays consistent, an opening reads what is kept, and its world has that offset.
+use Rattle.std.proofs.Common.{◌≡◌, ◌≢◌, ℕ, ◌+◌, ◌*◌, ◌<◌, inl, inr, Bool, true, false, true≢false, ◌&&◌, nat_lt, List, [], length, set, slice_get, zero, suc, ◌∷◌, Option, Some, refl, sym, ap, ◌∙◌, subst, arith}
+use Rattle.std.proofs.lemmas.Option.{same_Some, slice_get_within}
+use Rattle.md_assembly.specs.declared.state.MemberState.{MemberState}
+use Rattle.md_assembly.specs.declared.state.MemberState.TheVariants.{InSync, Recovering, Stale, Spare, Faulty}
+use Rattle.md_assembly.specs.States.{has_recovery_offset, is_in_sync, is_recovering}
+use Rattle.md_assembly.proofs.Indices.{got_within}
+use Rattle.md_bitmap.specs.Marks.{is_set}
+use Rattle.md_device.specs.Splice.{SameOutside}
+use Rattle.md_kept_members.specs.TakingBack.{with_offset}
+use Rattle.md_kept_members.specs.View.{MemberView}
+use Rattle.md_members.specs.Areas.{BitmapIsPlaced, IsPlaced, LogIsPlaced}
+use Rattle.md_model.specs.Devices.{Stored}
+use Rattle.md_model.specs.Rebuilding as model
+use Rattle.md_model.specs.Sectors.{put}
+use Rattle.md_model.specs.Worlds.{Request, World}
+use Rattle.md_model.proofs.Puts.{put-self}
+use Rattle.md_requests.specs.Pending.{PendingView}
+use Rattle.md_state.specs.Checkpoints.{with_offset_of}
+use Rattle.md_state.specs.DiskWrites.{IsTried}
+use Rattle.md_state.specs.Members.{IsMember}
+use Rattle.md_state.specs.Requests.{IsPending}
+use Rattle.md_state.specs.View.{ArrayView, Disk, MirrorView}
+use Rattle.md_super.specs.declared.superblock.Superblock.{Superblock}
+use Rattle.md_writes.specs.Writes.{Write}
+use Rattle.md_array.specs.Checkpoints.{MovesOffset}
+use Rattle.md_array.specs.Consistency.{IsConsistent}
+use Rattle.md_array.specs.ReadAsKept.{AreReadAsKept, HasOwnSuper, IsReadAsKept}
+use Rattle.md_array.specs.Worlds.{is_listed, lists_of, stored_of, world_of, world_on}
+use Rattle.md_array.proofs.General.Indices.{at_set_same, set_itself}
+use Rattle.md_array.proofs.General.Replaced.{of_set}
+use Rattle.md_array.proofs.Steps.OneMember.{ChangesOwn, IsNear, member_there, own_is_consistent, own_is_pending, own_world, stored_there}
+use Rattle.md_array.proofs.Worlds.Listed.{listed_at_offset}
+
+pub recovering_out : (s : MemberState) → is_recovering s ≡ true → is_in_sync s ≡ false
+recovering_out (InSync role) on = absurd cc
+recovering_out (Recovering role) on = refl
+recovering_out (Stale role) on = absurd cc
+recovering_out Spare on = absurd cc
+recovering_out Faulty on = absurd cc
+
+-- ---- no device is written
+abbrev pub nothing : Write
+nothing = record { sector = 0; bytes = [] }
+
+pub untried : (k : ℕ) (disks : List Disk) → IsTried k nothing disks disks
+untried k disks = record {
+  as_many = refl;
+  others = λ _ _. refl;
+  stays = λ d e was is. let same : d ≡ e = cc in record { honest = ap (λ (x : Disk). x.honest) (sym same); counted = let count = ap (λ (x : Disk). x.failures) same in omega arith };
+  outside = λ d e was is. let same : d ≡ e = cc in subst (λ (x : Disk). SameOutside (512 * 0) 0 d.content x.content) same (record { size = refl; before = refl; after = refl });
+}
+
+-- ---- the offset places nothing
+module _ (offset : ℕ) (v : Superblock) where
+  log_at_offset : (sectors : ℕ) → LogIsPlaced sectors v → LogIsPlaced sectors (record v { recovery_offset = offset })
+  log_at_offset sectors p = record { short = p.short; within = p.within; from_super = p.from_super; from_data = p.from_data }
+
+  bitmap_at_offset : (sectors width : ℕ) → BitmapIsPlaced sectors v width → BitmapIsPlaced sectors (record v { recovery_offset = offset }) width
+  bitmap_at_offset sectors width p = record { within = p.within; from_super = p.from_super; from_data = p.from_data; from_log = p.from_log }
+
+  placed_at_offset : (sectors width : ℕ) → IsPlaced sectors v width → IsPlaced sectors (record v { recovery_offset = offset }) width
+  placed_at_offset sectors width p = record {
+    some_size = p.some_size;
+    data_holds = p.data_holds;
+    data_within = p.data_within;
+    data_apart = p.data_apart;
+    log = λ has. log_at_offset sectors (p.log has);
+    bitmap = λ has. bitmap_at_offset sectors width (p.bitmap has);
+  }
+
+pub near_at_offset : (offset : ℕ) (m : MemberView) → IsNear m (with_offset offset m)
+near_at_offset offset m = record {
+  places = record { number = refl; size = refl; has = refl; placed = placed_at_offset offset m.superblock; header = refl; chunks = refl };
+  state = refl;
+}
+
+module _ (k offset had : ℕ) (old new : MirrorView) (c : IsConsistent old) (r : MovesOffset k offset had old new) where
+  abbrev a : ArrayView
+  a = old.array
+
+  abbrev m : MemberView
+  m = r.member
+
+  abbrev n : MemberView
+  n = with_offset offset m
+
+  same_disks : new.disks ≡ old.disks
+  same_disks = ap (λ (v : MirrorView). v.disks) r.moved
+
+  changes : ChangesOwn k m n nothing old new
+  changes = record {
+    at = r.at;
+    near = near_at_offset offset m;
+    disks = subst (λ (xs : List Disk). IsTried k nothing old.disks xs) (sym same_disks) (untried k old.disks);
+    array = ap (λ (v : MirrorView). v.array) r.moved;
+  }
+
+  pub moved_is_consistent : is_recovering m.state ≡ true → IsConsistent new
+  moved_is_consistent on = own_is_consistent k m n nothing old new changes c
+      (λ d e before after in_sync honest had. absurd (true≢false (sym in_sync ∙ recovering_out m.state on)))
+
+  pub moved_is_pending : (p : PendingView) → IsPending old.array p → IsPending new.array p
+  moved_is_pending = own_is_pending k m n nothing old new changes
+
+  -- an opening reads it as before
+  own_moved : (content : List ℕ) → HasOwnSuper a.shared m.superblock content → HasOwnSuper a.shared n.superblock content
+  own_moved content has v on = let x = has v on in record {
+    set_uuid = x.set_uuid;
+    size = x.size;
+    raid_disks = x.raid_disks;
+    data_offset = x.data_offset;
+    bitmap_offset = x.bitmap_offset;
+    bblog_size = x.bblog_size;
+    bblog_offset = x.bblog_offset;
+    bblog_shift = x.bblog_shift;
+    listed = λ sector. x.listed sector ∙ sym (listed_at_offset offset m.superblock content sector);
+    no_newer = x.no_newer;
+  }
+
+  pub moved_read : (failed_at : ℕ) → AreReadAsKept old failed_at → AreReadAsKept new failed_at
+  moved_read failed_at are = subst (λ (v : MirrorView). AreReadAsKept v failed_at) (sym r.moved)
+      (λ j e x found member. of_set a.members k j n x member
+      (λ here x_is.
+      let had = are j e m found (ap (slice_get a.members) here ∙ r.at) in
+      subst (λ (z : MemberView). IsReadAsKept (with_offset_of a k m offset) z failed_at e.content) (sym x_is)
+      (record { super = own_moved e.content had.super; header = had.header }))
+      (λ apart there. let had = are j e x found there in record { super = had.super; header = had.header }))
+
+  -- ---- its world
+  module _ (requests : ℕ → Option Request) where
+    abbrev w : World
+    w = world_of old requests
+
+    same_content : (content : List ℕ) → stored_of a n content ≡ stored_of a m content
+    same_content content = λ i. record (stored_of a m content) { listed = λ s. nat_lt s a.chunks.size && listed_at_offset offset m.superblock content (m.superblock.data_offset + s) i }
+
+    pub world_moved : world_of new requests ≡ model.with_offset w k offset
+    world_moved =
+        let low = slice_get_within a.members k m r.at in
+        let many = c.fits.as_many in
+        let d = got_within old.disks k (omega arith) in
+        let there : slice_get new.disks k ≡ Some d.0 = ap (λ (xs : List Disk). slice_get xs k) same_disks ∙ d.1 in
+        let stored : put k (stored_of a n d.0.content) w.stored ≡ w.stored =
+        ap (λ (x : Stored). put k x w.stored) (same_content d.0.content ∙ sym (stored_there old.disks a k m d.0 r.at d.1)) ∙ put-self k w.stored in
+        let due : put k m.due w.due ≡ w.due = ap (λ b. put k b w.due) (sym (member_there a k m false (λ x. x.due) r.at)) ∙ put-self k w.due in
+        let known : put k (λ s. nat_lt s a.marks.chunks && is_set m.stored.bytes s) w.known ≡ w.known =
+        ap (λ (f : ℕ → Bool). put k f w.known) (λ i s. sym (member_there a k m false (λ x. nat_lt s a.marks.chunks && is_set x.stored.bytes s) r.at) i) ∙ put-self k w.known in
+        let bad : put k (lists_of a n) w.bad ≡ w.bad =
+        ap (λ (f : ℕ → Bool). put k f w.bad) (λ i s. sym (member_there a k m false (λ x. lists_of a x s) r.at) i) ∙ put-self k w.bad in
+        let recovering : put k (has_recovery_offset n.superblock) w.recovering ≡ w.recovering =
+        ap (λ b. put k b w.recovering) (sym (member_there a k m false (λ x. has_recovery_offset x.superblock) r.at)) ∙ put-self k w.recovering in
+        own_world k m n nothing old new changes d.0 there requests
+        ∙ (λ i. record w { stored = stored i; due = due i; known = known i; bad = bad i; offset = put k offset w.offset; recovering = recovering i })
+
+-- ---- and back
+pub set_again : {A : Type 0} (xs : List A) (k : ℕ) (x y : A) → set (set xs k x) k y ≡ set xs k y
+set_again [] k x y = refl
+set_again (z ∷ xs) zero x y = refl
+set_again (z ∷ xs) (suc k) x y = ap (λ (ys : List _). z ∷ ys) (set_again xs k x y)
+
+pub moved_back : (k offset had again : ℕ) (old mid late new : MirrorView) (r : MovesOffset k offset had old mid) → late.array ≡ mid.array → MovesOffset k had again late new → new.array ≡ old.array
+moved_back k offset had again old mid late new r same back =
+    let a = old.array in
+    let n = with_offset offset r.member in
+    let low = slice_get_within a.members k r.member r.at in
+    let mid_is : late.array ≡ with_offset_of a k r.member offset = same ∙ ap (λ (v : MirrorView). v.array) r.moved in
+    let there : IsMember (with_offset_of a k r.member offset) k n = at_set_same a.members k n low in
+    let member : back.member ≡ n = same_Some back.member n (sym back.at ∙ ap (λ (x : ArrayView). slice_get x.members k) mid_is ∙ there) in
+    let restored : with_offset had back.member ≡ r.member = ap (with_offset had) member ∙ ap (λ o. with_offset o r.member) r.had_is in
+    ap (λ (v : MirrorView). v.array) back.moved
+    ∙ ap (λ (x : ArrayView). record x { members = set x.members k (with_offset had back.member) }) mid_is
+    ∙ ap (λ (x : MemberView). record a { members = set (set a.members k n) k x }) restored
+    ∙ ap (λ (xs : List MemberView). record a { members = xs }) (set_again a.members k n r.member ∙ set_itself a.members k r.member r.at)

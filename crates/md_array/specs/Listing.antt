@@ -1,0 +1,84 @@
+-- The list of a member in sync grows in memory, and then its log is stored.
+use Rattle.std.specs.Prelude.{◌≡◌, ◌⊎◌, ⊤, ℕ, ◌+◌, ◌^◌, ◌<◌, true, false, List, [], ◌∷◌, set, Result, MatchResult}
+use Rattle.md_bitmap.specs.Chunks.{InChunk}
+use Rattle.md_kept_members.specs.Enrolling.{HasRoomFor}
+use Rattle.md_kept_members.specs.View.{MemberView}
+use Rattle.md_faults.specs.declared.note_fault.NoteFault.{NoteFault}
+use Rattle.md_faults.specs.declared.step_fault.StoreFault.{StoreFault}
+use Rattle.md_faults.specs.declared.step_fault.StoreFault.TheVariants.{Halted, NotActive, MemberFailed}
+use Rattle.md_model.specs.Events.{Event}
+use Rattle.md_state.specs.DiskWrites.{IsWritten}
+use Rattle.md_state.specs.Members.{IsInSync, IsMember}
+use Rattle.md_state.specs.NotingBad.{NotesBad, WhyUnlisted, logged}
+use Rattle.md_state.specs.Trying.{FailsWriting, HaltsWriting, Refuses, RefusesHalted}
+use Rattle.md_state.specs.View.{ArrayView, Disk, MirrorView}
+use Rattle.md_writes.specs.Writes.{Write}
+use Rattle.md_array.specs.Enrolling.{log_writes}
+use Rattle.md_array.specs.Events.{Happens, listed_on}
+
+-- ---- in memory
+pub record NotesChunk (k chunk : ℕ) (old new : MirrorView) : Type 0 where
+  pub disks : new.disks ≡ old.disks
+  pub notes : NotesBad k chunk old.array new.array
+
+abbrev pub RefusesChunk : ℕ → ℕ → MirrorView → MirrorView → NoteFault → Type 0
+RefusesChunk k chunk old new fault = Refuses old new (WhyUnlisted k chunk old.array fault)
+
+-- No list has sectors from 2^54 on, and no device: so the whole chunk is listed then.
+abbrev pub IsWhole : ℕ → ℕ → MirrorView → Type 0
+IsWhole k chunk v = (m : MemberView) → IsMember v.array k m → (s : ℕ) → InChunk v.array.chunks.sectors v.array.chunks.size chunk s → m.superblock.data_offset + s < 2 ^ 54
+
+-- ---- on the device
+-- these writes were done on device k, of which there is one at most
+abbrev pub AreWritten : ℕ → List Write → List Disk → List Disk → Type 0
+AreWritten k [] before after = after ≡ before
+AreWritten k (w ∷ ws) before after = (ws ≡ []) × IsWritten k w before after
+
+pub record StoresLog (k : ℕ) (old new : MirrorView) : Type 0 where
+  pub running : old.array.halted ≡ false
+  pub member : MemberView
+  pub in_sync : IsInSync old.array k member
+  pub room : HasRoomFor member.superblock member.bad
+  pub array : new.array ≡ record old.array { members = set old.array.members k (logged member) }
+  pub disks : AreWritten k (log_writes member.superblock member.bad) old.disks new.disks
+
+-- one of them failed, and the member is faulty, or the mirror halted
+pub record FailsToStoreLog (k : ℕ) (old new : MirrorView) : Type 0 where
+  pub running : old.array.halted ≡ false
+  pub member : MemberView
+  pub in_sync : IsInSync old.array k member
+  pub room : HasRoomFor member.superblock member.bad
+  pub write : Write
+  pub among : log_writes member.superblock member.bad ≡ write ∷ []
+  pub fails : FailsWriting k write old new
+
+pub record HaltsStoringLog (k : ℕ) (old new : MirrorView) : Type 0 where
+  pub running : old.array.halted ≡ false
+  pub member : MemberView
+  pub in_sync : IsInSync old.array k member
+  pub room : HasRoomFor member.superblock member.bad
+  pub write : Write
+  pub among : log_writes member.superblock member.bad ≡ write ∷ []
+  pub halts : HaltsWriting k write old new
+
+abbrev pub RefusesLog : ℕ → MirrorView → MirrorView → StoreFault → Type 0
+RefusesLog k old new Halted = RefusesHalted old new ⊎ HaltsStoringLog k old new
+RefusesLog k old new NotActive = ⊥
+RefusesLog k old new (MemberFailed j) = (j ≡ k) × FailsToStoreLog k old new
+
+-- ---- the events
+-- The log was read without a shift, or stored since. Of a stop between the log and the superblock of one that was read with another shift
+-- nothing is said: so the two are no events of their own there.
+abbrev pub HasNoShift : ℕ → MirrorView → Type 0
+HasNoShift k v = (m : MemberView) → IsMember v.array k m → m.superblock.bblog_shift ≡ 0
+
+abbrev pub NoteHappens : ℕ → ℕ → MirrorView → MirrorView → {T E : Type 0} → Result T E → Type 0
+NoteHappens k chunk old new result = MatchResult result (λ _. Happens old (Event.NoteBad k chunk) new) (λ _. ⊤)
+
+abbrev pub IfLogFailed : Type 0 → StoreFault → Type 0
+IfLogFailed P (MemberFailed j) = P
+IfLogFailed P _ = ⊤
+
+abbrev pub StoreLogHappens : ℕ → MirrorView → MirrorView → {T : Type 0} → Result T StoreFault → Type 0
+StoreLogHappens k old new result =
+    HasNoShift k old → MatchResult result (λ _. Happens old (Event.StoreLog k (listed_on new k)) new) (IfLogFailed (Happens old (Event.StoreLogFails k) new))

@@ -1,0 +1,18 @@
+use Rattle.std.proofs.Common.{◌≡◌, ◌∙◌, ◌<◌, ℕ, true, Some, refl, sym, ap, subst}
+use Rattle.md_bitmap.specs.Marks.{Bitmap, is_set}
+use Rattle.md_state.proofs.array.Array.has_no_other_marks.Goals as goal
+
+pub returns-then-accepted : goal.returns-then-accepted
+returns-then-accepted c = (
+  (λ all. record {
+    header = c.in-Some.header;
+    has_header = c.in-Some.is;
+    accepted = c.if-accepted.ensures.0 refl;
+    marks = c.in-Some-marks.marks;
+    has_marks = c.in-Some-marks.is;
+    among = c.has_all_of.ensures.0 all;
+  }),
+  (λ h.
+  let same : h.marks ≡ c.in-Some-marks.marks = cc in
+  c.has_all_of.ensures.1 (subst (λ (b : Bitmap). (i : ℕ) → i < c.args.self.now.marks.chunks → is_set b.bytes i ≡ true → is_set c.args.self.now.marks.bytes i ≡ true) same h.among)),
+)
