@@ -4,6 +4,8 @@
 pub mod BitmapArea
 -- The states of the world's members are those of assembly.
 pub mod Found
+-- The first opening of the devices of a new array, all of whose chunks are marked, begins a life.
+pub mod Fresh
 -- An interrupted open leaves the devices of a mirror as they were left.
 pub mod HalfOpened
 -- The marks of the world are those that its members in sync store.

@@ -6,6 +6,8 @@ pub mod CallRuns
 pub mod ContentRuns
 -- The content that the members in sync of a mirror hold, over its openings.
 pub mod MirrorContents
+-- A device that is taken back as it was left lies behind the content by what is marked.
+pub mod Joined
 -- A member that failed differs from the content only in marked chunks.
 pub mod LeftBehind
 -- A life of a mirror is one of the model, so that what always holds of the model holds of the mirror.
@@ -16,6 +18,8 @@ pub mod MirrorRuns
 pub mod Moments
 -- Lists of events with reads between them, joined and carried along.
 pub mod ReadTurns
+-- What recovering members hold goes along each life.
+pub mod Recovering
 -- A mirror whose devices were only read is as good as before.
 pub mod Rests
 -- An opening with devices that come back before any data was let through is a start.

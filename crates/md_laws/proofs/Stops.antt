@@ -24,5 +24,9 @@ pub mod StoppedCopies
 pub mod TakenBack
 -- What a stop within `add` leaves.
 pub mod WithinAdd
+-- A stop within `store_log` is before it or after it, where the log changes in its first sector alone.
+pub mod WithinLog
 -- What a stop within a `re_add` leaves that is refused, or whose write fails.
 pub mod WithinReAdd
+-- What a stop leaves within `admit` or `checkpoint`, by which a member that is rebuilt tells of it.
+pub mod WithinTarget

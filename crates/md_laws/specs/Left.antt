@@ -1,6 +1,7 @@
 -- What a stop leaves of a mirror's devices: it comes between two calls or within one, of which its own contract says what may be
 -- left (`MayAllBeLeft`).
-use Rattle.std.specs.Prelude.{◌≡◌, ◌⊎◌, ℕ, ◌<◌, true, List, [], ◌∷◌, ◌++◌, length, map, Option, slice_get, Some}
+use Rattle.std.specs.Prelude.{◌≡◌, ◌⊎◌, ℕ, ◌<◌, true, List, [], ◌∷◌, ◌++◌, length, map, Option, slice_get, Some, None}
+use Rattle.md_assembly.specs.States.{is_recorded}
 use Rattle.md_bitmap.specs.Marks.{Bitmap}
 use Rattle.md_members.specs.Areas.{bitmap_sectors}
 use Rattle.md_model.specs.Worlds.{Request}
@@ -12,6 +13,8 @@ use Rattle.md_state.specs.Members.{IsMember}
 use Rattle.md_state.specs.Requests.{IsPending, among}
 use Rattle.md_state.specs.StoringMarks.{StoresMarkSector}
 use Rattle.md_state.specs.WritingMember.{FailsToWrite, HaltsWritingTo, WritesTo}
+use Rattle.md_array.specs.Admitting.{Admits, FailsToAdmit}
+use Rattle.md_array.specs.Checkpoints.{Checkpoints, FailsToCheckpoint}
 use Rattle.md_array.specs.Events.{IsOldNewOrNone}
 use Rattle.md_array.specs.Consistency.{IsConsistent}
 use Rattle.md_array.specs.Enrolling.{Enrols, MayEnrol}
@@ -21,9 +24,9 @@ use Rattle.md_array.specs.ReadAsKept.{AreReadAsKept}
 use Rattle.md_array.specs.ReAdding.{ReAdds}
 use Rattle.md_array.specs.Recording.{FailsToRecord, HaltsRecording, Records, super_write}
 use Rattle.md_array.specs.RecordingTarget.{LeavesUnrecorded}
-use Rattle.md_array.specs.Worlds.{AreHonest, block_on}
+use Rattle.md_array.specs.Worlds.{AreHonest, block_on, super_in}
 use Rattle.md_laws.specs.Runs.{Moment}
-use Rattle.md_laws.specs.StopsReadAs.{EndsInFirstSector, ReadsAs}
+use Rattle.md_laws.specs.StopsReadAs.{EndsInFirstSector, ReadsAs, TellsTarget}
 use Rattle.md_laws.specs.StopsWithin.{MayAllBeLeft}
 
 -- Of devices that were left what stands on them counts, and no more.
@@ -124,6 +127,28 @@ pub record IsLeftEnrolled (t : Moment) (left : List Disk) : Type 0 where
   pub within : MayAllBeLeft before.disks t.mirror.disks (contents_of left)
   pub super : AtDevice on t.mirror.disks left (λ now e. block_on e.content ≡ block_on now.content)
 
+-- the calls by which a member that is rebuilt tells of it: `admit` and `checkpoint`, whatever comes of the write
+abbrev pub IsTargetCall : ℕ → MirrorView → MirrorView → Type 0
+IsTargetCall k old new = Admits k old new ⊎ (FailsToAdmit k old new ⊎ ((copied : Bitmap) × (Checkpoints k copied old new ⊎ FailsToCheckpoint k copied old new)))
+
+-- Within such a call of a spare, or of a member that is recovering, where its superblock reads as before, or none is read.
+pub record IsLeftTargeting (t : Moment) (left : List Disk) : Type 0 where
+  pub on : ℕ
+  pub next : MirrorView
+  pub call : IsTargetCall on t.mirror next
+  pub recorded : (m : MemberView) → IsMember t.mirror.array on m → is_recorded m.state ≡ true
+  pub within : IsLeftWithin t next left
+  pub super : AtDevice on t.mirror.disks left (λ d e. ReadsAs (block_on e.content) (block_on d.content) ⊎ (super_in (block_on e.content) ≡ None))
+
+-- Within the one after which t is, where it reads as after the call.
+pub record IsLeftTargeted (t : Moment) (left : List Disk) : Type 0 where
+  pub on : ℕ
+  pub before : MirrorView
+  pub call : TellsTarget on before t.mirror
+  pub honest : AreHonest before.disks
+  pub within : MayAllBeLeft before.disks t.mirror.disks (contents_of left)
+  pub reads : AtDevice on t.mirror.disks left (λ now e. ReadsAs (block_on e.content) (block_on now.content))
+
 -- What a stop leaves at t, or within a call from t. A call that is refused, and one that only changes memory (`begin`, `finish`,
 -- `clear_idle`, `make_clean`, `note_resynced`, `fail`), leave what was there (`stops_at_steps`); so does `remove`, and after it the
 -- device that it handed back is none of these. So do `re_add` and `add`, and until they are done the device that comes in or comes
@@ -135,4 +160,5 @@ IsLeft t left =
     ⊎ (IsLeftStoring t left
     ⊎ (IsLeftWriting t left
     ⊎ (IsLeftRecording t left
-    ⊎ (IsLeftRecordingShort t left ⊎ (IsLeftTakingBack t left ⊎ (IsLeftFilling t left ⊎ (IsLeftPreparing t left ⊎ (IsLeftEnrolling t left ⊎ IsLeftEnrolled t left))))))))
+    ⊎ (IsLeftRecordingShort t left ⊎ (IsLeftTakingBack t left ⊎ (IsLeftFilling t left ⊎ (IsLeftPreparing t left ⊎ (IsLeftEnrolling t left
+    ⊎ (IsLeftEnrolled t left ⊎ (IsLeftTargeting t left ⊎ IsLeftTargeted t left))))))))))

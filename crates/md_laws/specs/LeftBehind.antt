@@ -1,14 +1,21 @@
 -- What a member that failed still has of the array's content: by this it is enough to copy the marked chunks to one that is taken
 -- back.
-use Rattle.std.specs.Prelude.{◌≡◌, ℕ, true, List, [], ◌∷◌, Option}
+use Rattle.std.specs.Prelude.{◌≡◌, ℕ, ◌*◌, true, List, [], ◌∷◌, Option, slice_get, Some}
+use Rattle.md_device.specs.Splice.{SameOutside}
+use Rattle.md_members.specs.Areas.{bitmap_sectors}
+use Rattle.md_super.specs.declared.superblock.Superblock.{Superblock}
 use Rattle.md_model.specs.Behind.{IsBehind, Leaves}
 use Rattle.md_model.specs.Content.{Content, Becomes, BecomesAtOpening, Holds}
 use Rattle.md_model.specs.Events.{Event}
+use Rattle.md_model.specs.Recovering.{JoinsBehind}
+use Rattle.md_model.specs.Sectors.{Geometry}
 use Rattle.md_model.specs.Worlds.{Request}
 use Rattle.md_kept_members.specs.View.{MemberView}
-use Rattle.md_state.specs.Members.{IsInSync, is_degraded}
+use Rattle.md_state.specs.Members.{IsInSync, IsMember, is_degraded}
 use Rattle.md_state.specs.View.{Disk, MirrorView, geometry_of}
-use Rattle.md_array.specs.Worlds.{none_in_flight, world_of}
+use Rattle.md_array.specs.ReAdding.{ReAdds, re_add_event}
+use Rattle.md_array.specs.ReadAsKept.{IsSuperOn}
+use Rattle.md_array.specs.Worlds.{from_super, none_in_flight, stored_of, world_of}
 use Rattle.md_laws.specs.Lives.{IsReopened, MirrorLifeWith}
 use Rattle.md_laws.specs.Runs.{HasRested, IsStart, Moment, RestsThenDoes, opened_as, then_as}
 
@@ -52,3 +59,57 @@ LiesBehind =
     → (more : List Event) (others : List (List Event)) (newest : MirrorView) (last : Moment) (c : Content)
     → DegradedLifeWith final (failed_then t k f) b more others newest last c
     → IsBehind (geometry_of m.array) c ((world_of f.mirror f.requests).stored k) (world_of last.mirror last.requests)
+
+-- Member k, in sync at t, as a stop left it on this device, which has a superblock. The next opening, which gave the mirror next, may have
+-- left it out (a pulled cable), or have found it out of sync.
+pub record IsLeftOut (opened : MirrorView) (t : Moment) (k : ℕ) (next : MirrorView) : Type 0 where
+  pub member : MemberView
+  pub in_sync : IsInSync t.mirror.array k member
+  pub again : IsReopened opened t next
+  pub device : Disk
+  pub at : slice_get again.devices.left k ≡ Some device
+  pub superblock : Superblock
+  pub has : IsSuperOn device.content superblock
+
+-- So it is of a member that was in sync at a stop, within a call or between two, at any moment of a mirror's life: from the next opening
+-- on, as long as some role has no member in sync.
+abbrev pub MissingLiesBehind : Type 0
+MissingLiesBehind =
+    (before : List Disk) (m : MirrorView) (a : Content) → IsStart before m → Holds (geometry_of m.array) a (world_of m none_in_flight)
+    → (es : List Event) (rest : List (List Event)) (final : MirrorView) (t : Moment) (b : Content) → MirrorLifeWith m a es rest final t b
+    → (k : ℕ) (next : MirrorView) (r : IsLeftOut final t k next) (c : Content) → BecomesAtOpening (geometry_of next.array) (world_of next none_in_flight) b c
+    → (more : List Event) (others : List (List Event)) (newest : MirrorView) (last : Moment) (d : Content)
+    → DegradedLifeWith next (opened_as next) c more others newest last d
+    → IsBehind (geometry_of m.array) d (stored_of t.mirror.array r.member r.device.content) (world_of last.mirror last.requests)
+
+-- ---- it is taken back
+-- A device is still as it was left, but for its bitmap, which openings that were stopped may have written.
+abbrev pub IsStill : MemberView → List ℕ → List ℕ → Type 0
+IsStill m left now = SameOutside (512 * from_super m.superblock.bitmap_offset) (512 * bitmap_sectors m.stored.chunks) left now
+
+-- Where such a device is taken back, the event is told (`JoinsBehind`): it lies behind the content by what is marked, or its offset is 0, so
+-- that it lacks every chunk. So the chunks that `missing` names suffice.
+abbrev pub JoinsAsLeft : Geometry → MemberView → List ℕ → Moment → Content → Type 0
+JoinsAsLeft g m left t a =
+    (j : ℕ) (device : Disk) (new : MirrorView) (r : ReAdds j device t.mirror new) → device.honest ≡ true → IsStill m left device.content
+    → JoinsBehind g (re_add_event j device t.mirror new r) (world_of t.mirror t.requests) a
+
+-- so one that failed, as the failure left it,
+abbrev pub FailedJoins : Type 0
+FailedJoins =
+    (before : List Disk) (m : MirrorView) (a : Content) → IsStart before m → Holds (geometry_of m.array) a (world_of m none_in_flight)
+    → (es : List Event) (rest : List (List Event)) (final : MirrorView) (t : Moment) (b : Content) → MirrorLifeWith m a es rest final t b
+    → (k : ℕ) (f : Fails t k) (o : MemberView) (d : Disk) → IsMember f.mirror.array k o → slice_get f.mirror.disks k ≡ Some d
+    → (more : List Event) (others : List (List Event)) (newest : MirrorView) (last : Moment) (c : Content)
+    → DegradedLifeWith final (failed_then t k f) b more others newest last c
+    → JoinsAsLeft (geometry_of m.array) o d.content last c
+
+-- and one that was in sync at a stop, as the stop left it
+abbrev pub MissingJoins : Type 0
+MissingJoins =
+    (before : List Disk) (m : MirrorView) (a : Content) → IsStart before m → Holds (geometry_of m.array) a (world_of m none_in_flight)
+    → (es : List Event) (rest : List (List Event)) (final : MirrorView) (t : Moment) (b : Content) → MirrorLifeWith m a es rest final t b
+    → (k : ℕ) (next : MirrorView) (r : IsLeftOut final t k next) (c : Content) → BecomesAtOpening (geometry_of next.array) (world_of next none_in_flight) b c
+    → (more : List Event) (others : List (List Event)) (newest : MirrorView) (last : Moment) (d : Content)
+    → DegradedLifeWith next (opened_as next) c more others newest last d
+    → JoinsAsLeft (geometry_of m.array) r.member r.device.content last d

@@ -27,3 +27,7 @@ pub mod StoppedCopies
 pub mod SmallLife
 -- What a member that failed still has of the array's content.
 pub mod LeftBehind
+-- Devices of a new array, all of whose chunks are marked.
+pub mod Fresh
+-- What the recovering members of a mirror hold of the array's content, over its life.
+pub mod Recovering

@@ -1,10 +1,10 @@
 -- One opening of a mirror's devices after another: runs, each but the last ended by a stop, and what the next mirror is made of.
-use Rattle.std.specs.Prelude.{◌≡◌, ℕ, ◌*◌, ◌<◌, ◌≤◌, true, false, List, [], ◌∷◌, length, Option, slice_get, Some, None}
+use Rattle.std.specs.Prelude.{◌≡◌, ◌⊎◌, ℕ, ◌+◌, ◌*◌, ◌<◌, ◌≤◌, true, false, List, [], ◌∷◌, length, Option, slice_get, Some, None}
 use Rattle.md_model.specs.Sectors.{Geometry, chunk_of}
 use Rattle.md_device.specs.Splice.{SameOutside}
 use Rattle.md_super.specs.declared.superblock.Superblock.{Superblock}
 use Rattle.md_members.specs.Areas.{bitmap_sectors}
-use Rattle.md_assembly.specs.States.{is_in_sync}
+use Rattle.md_assembly.specs.States.{is_in_sync, state_of}
 use Rattle.md_model.specs.Devices.{Super, is_marked}
 use Rattle.md_model.specs.Events.{Event}
 use Rattle.md_model.specs.Fits.{HasOneView}
@@ -18,7 +18,7 @@ use Rattle.md_array.specs.Opening.{IsArrayOf, IsOpenedFrom}
 use Rattle.md_array.specs.ReadAsKept.{AreReadAsKept, IsSuperOn, chunk_size_on}
 use Rattle.md_array.specs.Worlds.{AreHonest, from_super, none_in_flight, stored_of, super_of, world_of}
 use Rattle.md_laws.specs.HalfOpened.{IsHalfOpened}
-use Rattle.md_laws.specs.Left.{IsLeft}
+use Rattle.md_laws.specs.Left.{IsLeft, IsLeftWriting}
 use Rattle.md_laws.specs.Runs.{IsStart, MirrorRun, MirrorRunTells, MirrorRunWith, Moment, history_of, opened_as}
 
 -- A device is as it was left; but openings that were themselves stopped may have written its bitmap. Then no chunk lost its
@@ -56,20 +56,46 @@ pub record AreFoundAgain (t : Moment) (before : List Disk) : Type 0 where
   pub again : (k j : ℕ) → at k ≡ Some j → IsFoundAgain t.mirror.array left before k j
   pub recorded : HasRecorded t before at
 
--- A device that the opening before left out, as a member of the next mirror: its events are not above the array's there, no member
--- had its number since, and it is not found in sync. (With one that is, another life begins: `laws::returning_devices`.)
+-- A device that the opening before left out, as a member of the next mirror: its events are not above the array's there, and no member
+-- had its number since.
 pub record IsFurther (opened : MirrorView) (t : Moment) (m : MemberView) : Type 0 where
   pub no_newer : m.superblock.events ≤ opened.array.shared.events
   pub away : t.away m.superblock.dev_number ≡ true
-  pub out : is_in_sync m.state ≡ false
 
--- The next mirror is made of such devices and of further ones, and its superblock is fit.
+-- so each of these that was not left
+abbrev pub AreFurther : (opened : MirrorView) (t : Moment) (before : List Disk) → AreFoundAgain t before → MirrorView → Type 0
+AreFurther opened t before devices next = (j : ℕ) (m : MemberView) → IsMember next.array j m → devices.from j ≡ None → IsFurther opened t m
+
+-- Data was let through since that opening: a write of it was done, or failed, or the stop came within one.
+abbrev pub WasLetThrough : Moment → List Disk → Type 0
+WasLetThrough t left = (t.tried ≡ true) ⊎ IsLeftWriting t left
+
+-- a member that was in sync at the stop is there
+pub record HasInSync (t : Moment) (before : List Disk) (devices : AreFoundAgain t before) : Type 0 where
+  pub device : ℕ
+  pub member : MemberView
+  pub in_sync : IsInSync t.mirror.array device member
+  pub place : ℕ
+  pub there : devices.at device ≡ Some place
+
+-- The superblock of an opening calls the device out of sync: faulty, spare, recovering, or stale.
+abbrev pub IsCalledOut : MirrorView → MemberView → Type 0
+IsCalledOut opened m = is_in_sync (state_of opened.array.shared m.superblock) ≡ false
+
+-- Why a further device is not found in sync: data was let through, and a member that was in sync is there; or the superblock of the
+-- opening before calls it out of sync (`every_run`, clause `finds_out`).
+abbrev pub IsShutOut : (opened : MirrorView) (t : Moment) (before : List Disk) → AreFoundAgain t before → MemberView → Type 0
+IsShutOut opened t before devices m = (WasLetThrough t devices.left × HasInSync t before devices) ⊎ IsCalledOut opened m
+
+-- The next mirror is made of such devices and of further ones, and its superblock is fit. Of a further one that is not shut out it is
+-- asked that the mirror does not have it in sync: with one that it has, another life begins (`laws::returning_devices`).
 pub record IsReopened (opened : MirrorView) (t : Moment) (next : MirrorView) : Type 0 where
   pub before : List Disk
   pub devices : AreFoundAgain t before
-  pub others : (j : ℕ) (m : MemberView) → IsMember next.array j m → devices.from j ≡ None → IsFurther opened t m
+  pub others : AreFurther opened t before devices next
   pub opens : IsOpenedFrom before next
   pub fit : IsFit (super_of opened.array.shared) (super_of next.array.shared) t.failed_at
+  pub out : (j : ℕ) (m : MemberView) → IsMember next.array j m → devices.from j ≡ None → IsShutOut opened t before devices m ⊎ (is_in_sync m.state ≡ false)
 
 -- A mirror's life: events, a stop and an opening, events again, and so on. The last opening gave the mirror final.
 abbrev pub MirrorLife : MirrorView → List Event → List (List Event) → MirrorView → Moment → Type 0
@@ -137,6 +163,30 @@ FindsInSync =
     → (es : List Event) (rest : List (List Event)) (final : MirrorView) (last : Moment) → MirrorLife m es rest final last
     → (next : MirrorView) (again : IsReopened final last next)
     → (k : ℕ) (n : MemberView) → IsInSync next.array k n → (i : ℕ) × (again.devices.from k ≡ Some i) × (o : MemberView) × IsInSync last.mirror.array i o
+
+-- each member in sync that is there has recorded all but the last change, as the next opening reads it
+abbrev pub AllRecorded : (t : Moment) (next : MirrorView) (before : List Disk) → AreFoundAgain t before → Type 0
+AllRecorded t next before devices =
+    (k j : ℕ) (o : MemberView) → IsInSync t.mirror.array k o → devices.at k ≡ Some j
+    → (n : MemberView) → IsMember next.array j n → t.mirror.array.shared.events ≤ n.superblock.events + 1
+
+-- Where that is so, each member that was in sync at the stop, and is there, is a member in sync of the mirror that is opened: so
+-- these are exactly its members in sync.
+abbrev pub FindsAll : Type 0
+FindsAll =
+    (before : List Disk) (m : MirrorView) → IsStart before m
+    → (es : List Event) (rest : List (List Event)) (final : MirrorView) (last : Moment) → MirrorLife m es rest final last
+    → (next : MirrorView) (again : IsReopened final last next) → AllRecorded last next again.before again.devices
+    → (k j : ℕ) (o : MemberView) → IsInSync last.mirror.array k o → again.devices.at k ≡ Some j → (n : MemberView) × IsInSync next.array j n
+
+-- A further device that is shut out is not a member in sync of the mirror that is opened, whatever others are.
+abbrev pub FindsOut : Type 0
+FindsOut =
+    (before : List Disk) (m : MirrorView) → IsStart before m
+    → (es : List Event) (rest : List (List Event)) (final : MirrorView) (last : Moment) → MirrorLife m es rest final last
+    → (found : List Disk) (next : MirrorView) (devices : AreFoundAgain last found) → AreFurther final last found devices next → IsOpenedFrom found next
+    → IsFit (super_of final.array.shared) (super_of next.array.shared) last.failed_at
+    → (j : ℕ) (n : MemberView) → IsMember next.array j n → devices.from j ≡ None → IsShutOut final last found devices n → is_in_sync n.state ≡ false
 
 -- each of these devices was left
 abbrev pub AreAllLeft : (t : Moment) (before : List Disk) → AreFoundAgain t before → Type 0

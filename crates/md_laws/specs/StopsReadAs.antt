@@ -1,6 +1,7 @@
 -- What a stop leaves of a device that comes in or comes back, where its superblock ends within its first sector: that sector is
 -- written whole or not at all, and tells what is read.
-use Rattle.std.specs.Prelude.{◌≡◌, ◌⊎◌, ℕ, ◌+◌, ◌*◌, ◌≤◌, true, List, [], ◌∷◌, ◌++◌, length, map, replicate}
+use Rattle.std.specs.Prelude.{◌≡◌, ◌⊎◌, ℕ, ◌+◌, ◌*◌, ◌≤◌, true, List, [], ◌∷◌, ◌++◌, length, map, replicate, slice_get, Some}
+use Rattle.md_bitmap.specs.Marks.{Bitmap}
 use Rattle.md_device.specs.Device.{held}
 use Rattle.md_device.specs.Stops.{IsMixed}
 use Rattle.md_format.specs.Fields.{number_at}
@@ -11,6 +12,9 @@ use Rattle.md_super.specs.Format.{IsSuper}
 use Rattle.md_create.specs.Layout.{KeepsOthers, wipe}
 use Rattle.md_state.specs.View.{Disk, MirrorView}
 use Rattle.md_array.specs.Adding.{Adds}
+use Rattle.md_array.specs.Admitting.{Admits}
+use Rattle.md_array.specs.Checkpoints.{Checkpoints}
+use Rattle.md_array.specs.Consistency.{IsConsistent}
 use Rattle.md_array.specs.ReAdding.{ReAdds}
 use Rattle.md_array.specs.Worlds.{AreHonest, block_on, super_in}
 use Rattle.md_laws.specs.StopsWithin.{IsLeftBut, MayAllBeLeft}
@@ -43,3 +47,19 @@ ReadsAtAdd =
     → MayAllBeLeft (old.disks ++ device ∷ []) new.disks left
     → (left ≡ map (λ d. d.content) new.disks)
     ⊎ IsLeftBut (length old.disks) (λ was c. IsMixed 8 wipe.bytes was c ⊎ ((held c 8 4096 ≡ replicate 4096 0) × KeepsOthers r.comes.laid was c)) (old.disks ++ device ∷ []) left
+
+-- `admit` of a member, or `checkpoint`, was done
+abbrev pub TellsTarget : ℕ → MirrorView → MirrorView → Type 0
+TellsTarget k old new = Admits k old new ⊎ ((copied : Bitmap) × Checkpoints k copied old new)
+
+-- the superblock on device k ends within its first sector
+abbrev pub EndsOnDevice : ℕ → List Disk → Type 0
+EndsOnDevice k disks = (d : Disk) → slice_get disks k ≡ Some d → EndsInFirstSector (block_on d.content)
+
+-- A stop at any moment of either leaves each other device as it was, and the superblock of this one reads as before the call or as
+-- after it.
+abbrev pub ReadsAtTarget : Type 0
+ReadsAtTarget =
+    (k : ℕ) (old new : MirrorView) (left : List (List ℕ)) → IsConsistent old → AreHonest old.disks → TellsTarget k old new
+    → EndsOnDevice k old.disks → EndsOnDevice k new.disks → MayAllBeLeft old.disks new.disks left
+    → IsLeftBut k (λ was c. ReadsAs (block_on c) (block_on was) ⊎ ((e : Disk) → slice_get new.disks k ≡ Some e → ReadsAs (block_on c) (block_on e.content))) old.disks left

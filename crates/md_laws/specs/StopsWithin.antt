@@ -1,6 +1,7 @@
 -- What a stop within a call leaves of a mirror's devices.
-use Rattle.std.specs.Prelude.{◌≡◌, ◌≢◌, ◌⊎◌, ℕ, true, List, [], ◌∷◌, ◌++◌, drop, length, map, slice_get, Some}
+use Rattle.std.specs.Prelude.{◌≡◌, ◌≢◌, ◌⊎◌, ℕ, ◌+◌, ◌<◌, true, List, [], ◌∷◌, ◌++◌, drop, length, map, slice_get, Some}
 use Rattle.std.specs.List.{insert}
+use Rattle.md_badblocks.specs.Log.{log_bytes}
 use Rattle.md_bitmap.specs.Marks.{Bitmap}
 use Rattle.md_device.specs.Device.{held, written}
 use Rattle.md_create.specs.Layout.{IsHalfLaidOut}
@@ -10,7 +11,9 @@ use Rattle.md_faults.specs.declared.add_fault.AddFault.{AddFault}
 use Rattle.md_faults.specs.declared.add_fault.AddFault.TheVariants.{WriteFault}
 use Rattle.md_faults.specs.declared.re_add_fault.ReAddFault.{ReAddFault}
 use Rattle.md_faults.specs.declared.re_add_fault.ReAddFault.TheVariants as re_add_fault
+use Rattle.md_kept_members.specs.Enrolling.{log_room}
 use Rattle.md_kept_members.specs.TakingBack.{own_role}
+use Rattle.md_kept_members.specs.View.{MemberView}
 use Rattle.md_state.specs.Joining.{joined_shared}
 use Rattle.md_state.specs.View.{Disk, MirrorView}
 use Rattle.md_state.specs.DiskWrites.{IsFailed, IsTried, IsWritten}
@@ -21,9 +24,10 @@ use Rattle.md_array.specs.Enrolling.{Enrols, FailsToEnrol}
 use Rattle.md_array.specs.Enrolments.{Prepares}
 use Rattle.md_array.specs.Events.{ComesLast, IsSameBesideMarks, IsSameBesideMissing, WritesOnce}
 use Rattle.md_array.specs.Filling.{Fills}
+use Rattle.md_array.specs.Listing.{StoresLog}
 use Rattle.md_array.specs.ReAdding.{FailsToReAdd, ReAdds, RefusesReAdd}
 use Rattle.md_array.specs.Recording.{super_write, write_of}
-use Rattle.md_array.specs.Worlds.{AreHonest}
+use Rattle.md_array.specs.Worlds.{AreHonest, from_super}
 
 -- a stop since the device was d, and until it was e, might have left this
 abbrev pub MayBeLeft : Disk → Disk → List ℕ → Type 0
@@ -218,3 +222,16 @@ abbrev pub StopsAtEvents : Type 0
 StopsAtEvents =
     (e : Event) (before after : List Disk) (left : List (List ℕ)) → AreHonest before → (w : WritesOnce e before after) → MayBeLeftBy e before after w left
     → IsLeftBy e before after w left
+
+-- The log that is written differs from what stands in its place in its first sector alone, as it does where neither has more than 64
+-- entries.
+abbrev pub DiffersInFirst : MemberView → List ℕ → Type 0
+DiffersInFirst m old =
+    (i : ℕ) → 0 < i → i < m.superblock.bblog_size → held old (from_super m.superblock.bblog_offset + i) 512 ≡ held (log_bytes m.bad (log_room m.superblock)) i 512
+
+-- A stop at any moment of a `store_log` that is done is before it or after it then. Of a longer log that is cut short nothing is said.
+abbrev pub StopsAtLog : Type 0
+StopsAtLog =
+    (k : ℕ) (old new : MirrorView) (left : List (List ℕ)) → AreHonest old.disks → (r : StoresLog k old new)
+    → ((d : Disk) → slice_get old.disks k ≡ Some d → DiffersInFirst r.member d.content) → MayAllBeLeft old.disks new.disks left
+    → (left ≡ map (λ d. d.content) old.disks) ⊎ (left ≡ map (λ d. d.content) new.disks)

@@ -13,17 +13,20 @@ ghost use Rattle.md_state.specs.View.{Disk, MirrorView, geometry_of};
 ghost use Rattle.md_array.specs.Opening.{IsOpenedFrom};
 ghost use Rattle.md_array.specs.ReadAsKept.{AreReadAsKept};
 ghost use Rattle.md_array.specs.Worlds.{AreHonest, none_in_flight, super_of, world_of, world_on};
-ghost use Rattle.md_laws.specs.LeftBehind.{LiesBehind};
-ghost use Rattle.md_laws.specs.Lives.{AtEachMoment, ContentGoesAlong, FindsInSync, FitsWhenThere, IsReadAsKeptInLives, KeepsContent, KeepsGeometry, StaysAsLeft};
+ghost use Rattle.md_laws.specs.Fresh.{StartsFresh, StaysFresh};
+ghost use Rattle.md_laws.specs.LeftBehind.{FailedJoins, LiesBehind, MissingJoins, MissingLiesBehind};
+ghost use Rattle.md_laws.specs.Lives.{AtEachMoment, ContentGoesAlong, FindsAll, FindsInSync, FindsOut, FitsWhenThere, IsReadAsKeptInLives, KeepsContent, KeepsGeometry, StaysAsLeft};
+ghost use Rattle.md_laws.specs.Recovering.{KeepsRecovering};
 ghost use Rattle.md_laws.specs.Returning.{StartsAgain};
 ghost use Rattle.md_laws.specs.Runs.{HasContent};
-ghost use Rattle.md_laws.specs.StopsReadAs.{ReadsAtAdd, ReadsAtReAdd};
+ghost use Rattle.md_laws.specs.StopsReadAs.{ReadsAtAdd, ReadsAtReAdd, ReadsAtTarget};
 ghost use Rattle.md_laws.specs.StopsWithin.{StopsAsFailed, StopsAsFilled, StopsAsPrepared, StopsAsTried, StopsAtAdd, StopsAtEnrol, StopsAtEvents, StopsAtFailedAdd, StopsAtFailedEnrol, StopsAtFailedReAdd, StopsAtFailure, StopsAtReAdd, StopsAtRefusedAdd, StopsAtRefusedReAdd, StopsAtRemoval, StopsAtSector, StopsAtWrite, StopsInMemory, StopsUndivided};
 
 /// A mirror that was opened from devices that do what they answer is an opened world of the model, by
 /// the array's superblock: the opening stored all marks where the bitmap was not accepted, and nothing
 /// else. So where the stored marks covered what differs, they do so after it; and the bad sets that are
-/// kept are those that the members' logs list.
+/// kept are those that the members' logs list. Of the devices of a new array, all of whose chunks are marked, they
+/// do so at the first opening; and one that is interrupted leaves every byte as it was.
 pub fn opening()
     ensures opened { (before : List Disk) (m : MirrorView) → AreHonest before → IsOpenedFrom before m
         → openings.IsOpened (geometry_of m.array) (super_of m.array.shared) (world_of m none_in_flight) }
@@ -37,6 +40,8 @@ pub fn opening()
         → (((world_of m none_in_flight).stored k).listed s ≡ true) ↔ IsBad mv.bad (mv.superblock.data_offset + s) }
     ensures read { (before : List Disk) (m : MirrorView) → AreHonest before → IsOpenedFrom before m → AreReadAsKept m 0 }
     ensures honest { (before : List Disk) (m : MirrorView) → AreHonest before → IsOpenedFrom before m → AreHonest m.disks }
+    ensures fresh { StartsFresh }
+    ensures fresh_stopped { StaysFresh }
 {}
 
 /// What looks back, at each moment of a mirror's life. It was opened from devices that do what they
@@ -54,10 +59,11 @@ pub fn opening()
 /// within a write of marks, or of a copy, that fails, or within an `enrol` that fails.
 ///
 /// An opening after a stop is of devices that were left, in any order, some of them missing (`IsReopened`). Beside
-/// them may be further ones, which the opening before left out (`IsFurther`): they are not found in sync. Its
-/// superblock is fit, which leaves out a stop while a failure awaits its record. Openings that were
-/// themselves stopped may have written bitmaps between, if no chunk lost its mark and the header kept its chunk
-/// size (`half_opening`). Nothing is said of a mirror once it is halted.
+/// them may be further ones, which the opening before left out (`IsFurther`): the mirror that is opened does not have
+/// them in sync, which is asked only of those that nothing shuts out (`finds_out`). Its superblock is fit, which leaves
+/// out a stop while a failure awaits its record. Openings that were themselves stopped may have written bitmaps
+/// between, if no chunk lost its mark and the header kept its chunk size (`half_opening`). Nothing is said of a mirror
+/// once it is halted.
 pub fn every_run()
     // Wherever two members in sync differ, the marks stored on every member in sync have the chunk.
     ensures covered { AtEachMoment IsCovered }
@@ -66,8 +72,10 @@ pub fn every_run()
     // what differs; and all of these, where each has recorded all but the last change.
     ensures at_stop { AtEachMoment IsSafeAtStop }
 
-    // So each member in sync of the mirror that is opened then was in sync.
+    // So each member in sync of the mirror that is opened then was in sync; and each that was, and is there, is in sync, where each
+    // of these has recorded all but the last change.
     ensures finds_in_sync { FindsInSync }
+    ensures finds_all { FindsAll }
 
     // Once data was let through, a device that the last opening left out is not found in sync beside a
     // member that was.
@@ -75,6 +83,10 @@ pub fn every_run()
 
     // One that the superblock of the last opening calls out of sync stays so, with data or without.
     ensures stays_out { AtEachMoment StaysOut }
+
+    // So a further device is no member in sync of the mirror that is opened, where data was let through and a member that was
+    // in sync is there, or where the superblock of the opening before calls it out of sync.
+    ensures finds_out { FindsOut }
 
     // There is a content that the members in sync hold at the first opening; any such content goes along the
     // life, and they hold what it becomes. Only the end of a request changes it, and a resync or an opening in
@@ -108,9 +120,24 @@ pub fn returning_devices()
 /// long as some role has no member in sync: all but the marked chunks. So where it is taken back as the failure left it,
 /// the chunks that `missing` names suffice; that each device that `re_add` takes back is such a one is not said. It
 /// may leave by `remove`, and the mirror may be stopped, at any moment of any of its calls, and opened again: so it is
-/// over each life that goes on from there.
+/// over each life that goes on from there. It is so too of a member that was in sync at a stop, as the stop left it, whatever the
+/// next opening finds of it: it may be missing there, as one whose cable was pulled.
 pub fn leaving_members()
     ensures behind { LiesBehind }
+    ensures missing { MissingLiesBehind }
+
+    // So a `re_add` that takes back such a device, still as it was left, takes back one of which the content is known in all chunks
+    // but the marked ones; or its offset is 0, and it lacks every chunk.
+    ensures failed_joins { FailedJoins }
+    ensures missing_joins { MissingJoins }
+{}
+
+/// What a recovering member holds of the array's content: on sectors that it does not list, all but the marked chunks and those
+/// that its offset has not passed. So a rebuild that copies what `missing` names is enough, at any moment after the `re_add`. It is
+/// asked that each `re_add` is told, as `leaving_members` tells of a device that still is as it was left; and that an opening that
+/// finds members recovering is told of them, the first one too.
+pub fn recovering_members()
+    ensures kept { KeepsRecovering }
 {}
 
 /// An interrupted open of a mirror's devices, at any moment of its life, leaves each as it was left, so that
@@ -137,6 +164,7 @@ pub fn stops_at_steps()
     ensures add_read { ReadsAtAdd }
     ensures failed_add { StopsAtFailedAdd }
     ensures refused_add { StopsAtRefusedAdd }
+    ensures target { ReadsAtTarget }
     ensures enrol { StopsAtEnrol }
     ensures failed_enrol { StopsAtFailedEnrol }
     ensures written { StopsAtWrite }

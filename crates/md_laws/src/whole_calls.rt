@@ -1,6 +1,7 @@
 //! What holds of calls that are lists of events.
 
 ghost use Rattle.md_laws.specs.StoppedCopies.{StopsAtCopies};
+ghost use Rattle.md_laws.specs.StopsWithin.{StopsAtLog};
 ghost use Rattle.md_laws.specs.ReadInTurn.{ReadingCallsAreRuns};
 ghost use Rattle.md_laws.specs.WholeCalls.{AddIsACall, AdmitIsACall, CallsAreRuns, CheckpointIsACall, EnrolIsACall, FailIsACall, FillIsACall, NoteBadIsACall, PrepareIsACall, ReAddIsACall, RemoveIsACall, RunsGoOn, StoreLogFailureIsACall, StoreLogIsACall, TargetFailureIsACall};
 
@@ -43,11 +44,13 @@ pub fn recovering_calls()
     ensures checkpoint { CheckpointIsACall }
 {}
 
-/// A list that grows is in the list too: `note_bad`, `store_log`, and a write of the log that failed.
+/// A list that grows is in the list too: `note_bad`, `store_log`, and a write of the log that failed. A stop within `store_log` is
+/// before it or after it, where the log changes in its first sector alone.
 pub fn listing_calls()
     ensures note { NoteBadIsACall }
     ensures store { StoreLogIsACall }
     ensures failure { StoreLogFailureIsACall }
+    ensures stopped { StopsAtLog }
 {}
 
 /// So is a call that reads devices before its events and after the last (`LeadsReading`), and writes no

@@ -105,7 +105,7 @@ module _ (t : Moment) (sound : IsSoundAt t) (target : ℕ) (planned : Planned) (
       steps = steps;
       at = last;
       run = without_content events t content last content run_with;
-      is_left = inr (inr (inr (inr (inr (inr (inr (inr (inr (record {
+      is_left = inr (inr (inr (inr (inr (inr (inr (inr (inr (inl (record {
         on = target;
         copied = copied;
         orphans = orphans;
@@ -117,7 +117,7 @@ module _ (t : Moment) (sound : IsSoundAt t) (target : ℕ) (planned : Planned) (
         call = r;
         within = within;
         super = super;
-      })))))))));
+      }))))))))));
     };
     content_stays = run_with;
   }

@@ -5,7 +5,6 @@ use Rattle.md_assembly.specs.States.{has_recovery_offset, is_in_sync, is_recover
 use Rattle.md_super.specs.declared.superblock.Superblock.{Superblock}
 use Rattle.md_model.specs.States as model
 use Rattle.md_model.specs.Assembly as model_assembly
-use Rattle.md_model.specs.Assembly.{IsFreshest}
 use Rattle.md_model.specs.Devices.{Stored, Super}
 use Rattle.md_model.specs.Openings.{HasStates, kept_offset}
 use Rattle.md_model.specs.Worlds as worlds

@@ -78,7 +78,7 @@ module _ (before : List Disk) (m : MirrorView) (honest : AreHonest before) (o : 
       ∙ sym (ap (λ (d : Stored). d.listed s) (stored_before k x.0 x.1))
 
   -- the bits are the marks that were stored
-  same_marks : (k s : ℕ) → s < a.chunks.size → worlds.IsInSync w k → (w.stored k).bits (chunk_of (geometry_of a) s) ≡ is_marked (was.stored k) (chunk_of (geometry_of a) s)
+  pub same_marks : (k s : ℕ) → s < a.chunks.size → worlds.IsInSync w k → (w.stored k).bits (chunk_of (geometry_of a) s) ≡ is_marked (was.stored k) (chunk_of (geometry_of a) s)
   same_marks k s low i =
       let c = chunk_of (geometry_of a) s in
       let x = in_sync_is before m honest o k i in

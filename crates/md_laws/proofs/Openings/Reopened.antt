@@ -34,7 +34,7 @@ use Rattle.md_laws.proofs.Runs.Moments.{IsSoundAt}
 use Rattle.md_assembly.proofs.Indices.{got_within, got_same}
 
 -- the superblock of a device that was read
-super_on : (content : List ℕ) (v : Superblock) → ReadsSuper content true v → IsSuperOn content v
+pub super_on : (content : List ℕ) (v : Superblock) → ReadsSuper content true v → IsSuperOn content v
 super_on content v r = record { fields = block_spells content v r; sound = subst NoFault (r.read.from_device refl) r.sound }
 
 -- ---- devices that are found again, and the array that they make

@@ -1,9 +1,6 @@
 -- A call's events are a run of the mirror.
-use Rattle.std.proofs.Common.{◌≡◌, ◌∙◌, ℕ, true, false, List, [], ◌∷◌, set, Option, Some, refl, sym, ap}
+use Rattle.std.proofs.Common.{◌≡◌, ◌∙◌, ℕ, false, List, [], ◌∷◌, Option, Some, refl, sym, ap}
 use Rattle.std.proofs.lemmas.Option.{slice_get_within}
-use Rattle.md_assembly.specs.declared.state.MemberState.{MemberState}
-use Rattle.md_assembly.specs.declared.state.MemberState.TheVariants.{InSync, Recovering, Stale, Spare, Faulty}
-use Rattle.md_assembly.specs.States.{is_recorded, is_recovering}
 use Rattle.md_bitmap.specs.Marks.{Bitmap}
 use Rattle.md_kept_members.specs.TakingBack.{with_offset}
 use Rattle.md_kept_members.specs.View.{MemberView}
@@ -18,6 +15,7 @@ use Rattle.md_array.specs.Events.{Happens}
 use Rattle.md_array.specs.Recording.{Records}
 use Rattle.md_array.specs.InTurn.{AllLeftWhole, InTurn, Requests}
 use Rattle.md_array.specs.Worlds.{AreHonest}
+use Rattle.md_laws.proofs.Stops.WithinTarget.{recovering_recorded}
 use Rattle.md_laws.specs.Runs.{MirrorRun, Moment, then_as}
 use Rattle.md_laws.specs.WholeCalls.{AddIsACall, AdmitIsACall, CallsAreRuns, CheckpointIsACall, EnrolIsACall, FailIsACall, FillIsACall, NoteBadIsACall, PrepareIsACall, ReAddIsACall, RemoveIsACall, RunsGoOn, StoreLogFailureIsACall, StoreLogIsACall, TargetFailureIsACall}
 use Rattle.md_array.proofs.General.Indices.{at_set_same}
@@ -93,13 +91,6 @@ enrol_is_a_call k copied orphans old new before after may ends r previous reques
 pub admit_is_a_call : AdmitIsACall
 admit_is_a_call k old new sound r spare previous requests listed =
     (new, requests, tt, (refl, record { index = k; admits = r; event = refl }), λ honest whole. admit_happens k old new sound r spare honest requests listed, (refl, refl))
-
-recovering_recorded : (s : MemberState) → is_recovering s ≡ true → is_recorded s ≡ true
-recovering_recorded (InSync role) on = absurd cc
-recovering_recorded (Recovering role) on = refl
-recovering_recorded (Stale role) on = absurd cc
-recovering_recorded Spare on = absurd cc
-recovering_recorded Faulty on = absurd cc
 
 -- the offset changes in memory, and then the superblock is recorded
 module _ (k : ℕ) (copied : Bitmap) (old new : MirrorView) (sound : IsConsistent old) (r : Checkpoints k copied old new) where

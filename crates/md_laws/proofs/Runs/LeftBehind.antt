@@ -1,37 +1,45 @@
 -- A member that failed differs from the content only in marked chunks, as long as some role is empty.
-use Rattle.std.proofs.Common.{◌≡◌, ℕ, ◌≤◌, true, true≢false, List, [], ◌∷◌, length, Option, refl, sym, ◌∙◌, subst, arith}
+use Rattle.std.proofs.Common.{◌≡◌, ℕ, ◌≤◌, inl, inr, true, true≢false, List, [], ◌∷◌, length, Option, slice_get, Some, refl, sym, ap, ◌∙◌, subst, arith}
 use Rattle.md_model.specs.Sectors.{Geometry}
 use Rattle.md_model.specs.Behind.{IsBehind, IsDegraded, Leaves}
-use Rattle.md_model.specs.Content.{Content, Becomes, BecomesAtOpening}
+use Rattle.md_model.specs.Content.{Content, Becomes, BecomesAtOpening, Holds}
 use Rattle.md_model.specs.Counts.{IsFull}
 use Rattle.md_model.specs.Devices.{Stored, Super}
 use Rattle.md_model.specs.Events.{Event, Step}
 use Rattle.md_model.specs.Openings.{IsWithinLimits}
 use Rattle.md_model.specs.Lives.{Reopens}
+use Rattle.md_model.specs.Runs as runs
 use Rattle.md_model.specs.Worlds.{Request, World}
+use Rattle.md_model.proofs.Lives.Lives.{start_again}
 use Rattle.md_model.proofs.Content.BehindSteps.{behind_leaving, behind_step}
+use Rattle.md_model.specs.States as states
+use Rattle.md_model.proofs.Cases.{none_some}
+use Rattle.md_model.proofs.Content.ContentLives as model
 use Rattle.md_model.proofs.Content.ContentLives.{IsHeld, held_again, stays_behind}
 use Rattle.md_model.proofs.Content.Contents.{holds_step}
-use Rattle.md_model.proofs.Steps.Keeps.{kept_step}
-use Rattle.md_state.specs.Members.{is_degraded}
-use Rattle.md_state.specs.View.{MirrorView, geometry_of}
-use Rattle.md_array.specs.Worlds.{none_in_flight, super_of, world_of}
+use Rattle.md_model.proofs.Steps.Keeps.{IsKept, kept_step}
+use Rattle.md_kept_members.specs.View.{MemberView}
+use Rattle.md_state.specs.Members.{IsInSync, is_degraded}
+use Rattle.md_state.specs.View.{Disk, MirrorView, geometry_of}
+use Rattle.md_array.specs.Worlds.{block_on, none_in_flight, stored_of, super_of, world_of}
+use Rattle.md_array.proofs.Steps.OneMember.{stored_there}
+use Rattle.md_array.proofs.Worlds.Supers.{super_shown}
 use Rattle.md_array.proofs.Worlds.InSync.{in_sync_there}
 use Rattle.md_array.proofs.Worlds.Risen.{full_when_not_degraded}
-use Rattle.md_laws.specs.LeftBehind.{DegradedLifeWith, DegradedRunWith, LiesBehind}
-use Rattle.md_laws.specs.Lives.{IsReopened}
-use Rattle.md_laws.specs.Runs.{MirrorRunWith, Moment, RestsThenDoes, history_of, opened_as, then_as}
+use Rattle.md_laws.specs.LeftBehind.{DegradedLifeWith, DegradedRunWith, Fails, IsLeftOut, LiesBehind, MissingLiesBehind, failed_then}
+use Rattle.md_laws.specs.Lives.{IsReopened, MirrorLifeWith}
+use Rattle.md_laws.specs.Runs.{IsStart, MirrorRunWith, Moment, RestsThenDoes, history_of, opened_as, then_as}
 use Rattle.md_laws.proofs.Openings.Reopened.{same_geometry}
-use Rattle.md_laws.proofs.Runs.MirrorContents.{IsHeldAt, life_held_at, starts_small}
-use Rattle.md_laws.proofs.Runs.MirrorLives.{left, reopens}
+use Rattle.md_laws.proofs.Runs.MirrorContents.{IsHeldAt, final_geometry, life_held_at, starts_small}
+use Rattle.md_laws.proofs.Runs.MirrorLives.{cut_there, left, reopens_there}
 use Rattle.md_laws.proofs.Runs.Moments.{geometry_kept, run_keeps, sound_when_opened}
 use Rattle.md_laws.proofs.Runs.Rests.{history_rests, rests_does}
 use Rattle.md_laws.proofs.Stops.LeftAtStops.{IsSorted}
 
 -- the device d is behind, and the content is held
-record StaysBehind (g : Geometry) (opened : Super) (d : Stored) (t : Moment) (a : Content) : Type 0 where
-  held : IsHeldAt g opened t a
-  behind : IsBehind g a d (world_of t.mirror t.requests)
+pub record StaysBehind (g : Geometry) (opened : Super) (d : Stored) (t : Moment) (a : Content) : Type 0 where
+  pub held : IsHeldAt g opened t a
+  pub behind : IsBehind g a d (world_of t.mirror t.requests)
 
 -- the event within whose call a stop came
 at_stop : (t : Moment) (a : Content) (es : List Event) (last : Moment) → length es ≤ 1 → is_degraded t.mirror.array ≡ true → MirrorRunWith t a es last a → DegradedRunWith t a es last a
@@ -40,12 +48,12 @@ at_stop t a (e ∷ []) last few empty r = (r.0, r.1, r.2, empty, r.3, r.4, r.5)
 at_stop t a (e ∷ f ∷ es) last few empty r = absurd (omega (arith, few))
 
 module _ (g : Geometry) (small : IsWithinLimits g) (opened : Super) where
-  leads_to : (t : Moment) (a : Content) → IsHeldAt g opened t a → (e : Event) (m : MirrorView) (requests : ℕ → Option Request) → RestsThenDoes t.mirror t.requests e m requests
+  pub leads_to : (t : Moment) (a : Content) → IsHeldAt g opened t a → (e : Event) (m : MirrorView) (requests : ℕ → Option Request) → RestsThenDoes t.mirror t.requests e m requests
       → Step g (world_of t.mirror t.requests) e (world_of m requests)
   leads_to t a is e m requests x =
       subst (λ y. Step y (world_of t.mirror t.requests) e (world_of m requests)) is.geometry (rests_does t.mirror m t.requests requests e x).step
 
-  held_then : (t : Moment) (a : Content) → IsHeldAt g opened t a → (e : Event) (m : MirrorView) (requests : ℕ → Option Request) → RestsThenDoes t.mirror t.requests e m requests
+  pub held_then : (t : Moment) (a : Content) → IsHeldAt g opened t a → (e : Event) (m : MirrorView) (requests : ℕ → Option Request) → RestsThenDoes t.mirror t.requests e m requests
       → (b : Content) → Becomes g e (world_of t.mirror t.requests) a b → IsHeldAt g opened (then_as t e m requests) b
   held_then t a is e m requests x b becomes =
       let leads = rests_does t.mirror m t.requests requests e x in
@@ -58,6 +66,16 @@ module _ (g : Geometry) (small : IsWithinLimits g) (opened : Super) where
         geometry = leads.geometry ∙ is.geometry;
       }
 
+  pub held_along : (es : List Event) (t : Moment) (a : Content) (last : Moment) (b : Content) → MirrorRunWith t a es last b → IsHeldAt g opened t a → IsHeldAt g opened last b
+  held_along [] t a last b r is = record {
+    held = subst (λ h. IsHeld g opened h b) (sym (history_rests t last r.0)) (subst (IsHeld g opened (history_of t)) (sym r.1) is.held);
+    sound = run_keeps [] t last r.0 is.sound;
+    geometry = geometry_kept [] t last r.0 ∙ is.geometry;
+  }
+  held_along (e ∷ es) t a last b r is =
+      held_along es (then_as t e r.0 r.1) r.2 last b r.5
+      (held_then t a is e r.0 r.1 r.3 r.2 (subst (λ y. Becomes y e (world_of t.mirror t.requests) a r.2) is.geometry r.4))
+
   degraded_there : (t : Moment) (a : Content) → IsHeldAt g opened t a → is_degraded t.mirror.array ≡ true → IsDegraded g (world_of t.mirror t.requests)
   degraded_there t a is empty full =
       true≢false (sym empty ∙ (full_when_not_degraded t.mirror.disks t.mirror.array t.requests is.sound.sound.roles).1
@@ -65,11 +83,7 @@ module _ (g : Geometry) (small : IsWithinLimits g) (opened : Super) where
 
   behind_along : (d : Stored) (es : List Event) (t : Moment) (a : Content) (last : Moment) (b : Content) → DegradedRunWith t a es last b → StaysBehind g opened d t a → StaysBehind g opened d last b
   behind_along d [] t a last b r is = record {
-    held = record {
-      held = subst (λ h. IsHeld g opened h b) (sym (history_rests t last r.0)) (subst (IsHeld g opened (history_of t)) (sym r.1) is.held.held);
-      sound = run_keeps [] t last r.0 is.held.sound;
-      geometry = geometry_kept [] t last r.0 ∙ is.held.geometry;
-    };
+    held = held_along [] t a last b r is.held;
     behind = subst (λ h. IsBehind g b d h.now) (sym (history_rests t last r.0)) (subst (λ x. IsBehind g x d (world_of t.mirror t.requests)) (sym r.1) is.behind);
   }
   behind_along d (e ∷ es) t a last b r is =
@@ -81,9 +95,12 @@ module _ (g : Geometry) (small : IsWithinLimits g) (opened : Super) where
       })
 
 -- ---- a stop, and the next opening
-module _ (g : Geometry) (small : IsWithinLimits g) (opened : MirrorView) (d : Stored) (t : Moment) (a : Content) (is : StaysBehind g (super_of opened.array.shared) d t a)
-    (empty : is_degraded t.mirror.array ≡ true) (next : MirrorView) (again : IsReopened opened t next)
+module _ (g : Geometry) (small : IsWithinLimits g) (opened : MirrorView) (same_opened : geometry_of opened.array ≡ g) (t : Moment) (a : Content) (is : IsHeldAt g (super_of opened.array.shared) t a)
+    (next : MirrorView) (again : IsReopened opened t next)
     (b : Content) (becomes : BecomesAtOpening (geometry_of next.array) (world_of next none_in_flight) a b) where
+  abbrev was : Super
+  was = super_of opened.array.shared
+
   abbrev first : Super
   first = super_of next.array.shared
 
@@ -91,40 +108,80 @@ module _ (g : Geometry) (small : IsWithinLimits g) (opened : MirrorView) (d : St
   w = world_of next none_in_flight
 
   abbrev s : IsSorted t again.devices.left
-  s = left t is.held.sound next again.before again.devices again.opens
+  s = left t is.sound next again.before again.devices again.opens
 
-  at_moment : StaysBehind g (super_of opened.array.shared) d s.moment a
-  at_moment = behind_along g small (super_of opened.array.shared) d s.events t a s.moment a (at_stop t a s.events s.moment s.few empty (s.still a)) is
+  held_at_stop : IsHeldAt g was s.moment a
+  held_at_stop = held_along g small was s.events t a s.moment a (s.still a) is
 
-  same : geometry_of next.array ≡ g
-  same = same_geometry t is.held.sound again.before next.array again.devices again.opens.array ∙ is.held.geometry
+  pub same : geometry_of next.array ≡ g
+  same = same_geometry t is.sound again.before next.array again.devices again.opens.array ∙ is.geometry
 
-  of_model : Reopens g (super_of opened.array.shared) (history_of s.moment) first w
-  of_model =
-      subst (λ x. Reopens x (super_of opened.array.shared) (history_of s.moment) first w) is.held.geometry
-      (reopens t is.held.sound next again.before again.devices again.opens opened again.others again.fit)
+  -- by the array's own chunks
+  abbrev here : Geometry
+  here = geometry_of t.mirror.array
+
+  small_here : IsWithinLimits here
+  small_here = subst IsWithinLimits (sym is.geometry) small
+
+  same_here : geometry_of opened.array ≡ here
+  same_here = same_opened ∙ sym is.geometry
+
+  kept_here : IsKept here was (history_of t)
+  kept_here = subst (λ x. IsKept x was (history_of t)) (sym is.geometry) is.held.kept
+
+  abbrev reopens_here : Reopens here was (history_of s.moment) first w
+  reopens_here = reopens_there t is.sound next opened same_here small_here kept_here again
+
+  of_model : Reopens g was (history_of s.moment) first w
+  of_model = subst (λ x. Reopens x was (history_of s.moment) first w) is.geometry reopens_here
 
   becomes_there : BecomesAtOpening g w a b
   becomes_there = subst (λ x. BecomesAtOpening x w a b) same becomes
 
-  behind_again : StaysBehind g first d (opened_as next) b
-  behind_again = record {
-    held = record {
-      held = held_again g small (λ v. Unit {0}) (super_of opened.array.shared) (history_of s.moment) a first w b at_moment.held.held of_model becomes_there;
-      sound = sound_when_opened again.before next again.devices.honest again.opens;
-      geometry = same;
-    };
-    behind = stays_behind g small (super_of opened.array.shared) (history_of s.moment) a at_moment.held.held first w of_model b becomes_there d at_moment.behind;
+  pub held_next : IsHeldAt g first (opened_as next) b
+  held_next = record {
+    held = held_again g small (λ v. Unit {0}) was (history_of s.moment) a first w b held_at_stop.held of_model becomes_there;
+    sound = sound_when_opened again.before next again.devices.honest again.opens;
+    geometry = same;
   }
 
+  pub start_next : runs.IsStart g first w
+  start_next = start_again g was (history_of s.moment) first w small held_at_stop.held.kept of_model
+
+  -- a device that was behind
+  behind_again : (d : Stored) → is_degraded t.mirror.array ≡ true → IsBehind g a d (world_of t.mirror t.requests) → StaysBehind g first d (opened_as next) b
+  behind_again d empty late =
+      let then = behind_along g small was d s.events t a s.moment a (at_stop t a s.events s.moment s.few empty (s.still a)) (record { held = is; behind = late }) in
+      record { held = held_next; behind = stays_behind g small was (history_of s.moment) a then.held.held first w of_model b becomes_there d then.behind }
+
+  -- a member that was in sync, as the stop left it
+  cut_behind : (k : ℕ) (o : MemberView) → IsInSync t.mirror.array k o → IsBehind g b (s.cut k) w
+  cut_behind k o on =
+      let held = subst (λ x. IsHeld x was (history_of s.moment) a) (sym is.geometry) held_at_stop.held in
+      let becomes_here = subst (λ x. BecomesAtOpening x w a b) (sym is.geometry) becomes_there in
+      let on_then = ap states.is_in_sync (s.state k) ∙ in_sync_there t.mirror.disks t.mirror.array t.requests k o on in
+      let cut_is = cut_there t is.sound next opened same_here small_here kept_here again in
+      subst (λ x. IsBehind x b (s.cut k) w) is.geometry (subst (λ (f : ℕ → Stored). IsBehind here b (f k) w) cut_is (model.missing_behind here small_here was (history_of s.moment) a held first w reopens_here b becomes_here k on_then))
+
+  left_out : (k : ℕ) (r : IsLeftOut opened t k next) (same_again : r.again ≡ again) → StaysBehind g first (stored_of t.mirror.array r.member r.device.content) (opened_as next) b
+  left_out k r same_again =
+      let at : slice_get again.devices.left k ≡ Some r.device = subst (λ (x : IsReopened opened t next). slice_get x.devices.left k ≡ Some r.device) same_again r.at in
+      let is_read = stored_there again.devices.left t.mirror.array k r.member r.device r.in_sync.member at in
+      let cut : s.cut k ≡ stored_of t.mirror.array r.member r.device.content = elim (s.read k) [
+        | inl read ↦ sym read ∙ is_read
+        | inr none ↦ absurd (none_some (super_of r.superblock) (sym none ∙ ap (λ (d : Stored). d.super) is_read ∙ super_shown (block_on r.device.content) r.superblock r.has.fields r.has.sound))
+      ] in
+      record { held = held_next; behind = subst (λ (d : Stored). IsBehind g b d w) cut (cut_behind k r.member r.in_sync) }
+
 behind_life : (g : Geometry) (small : IsWithinLimits g) (d : Stored) (opened : MirrorView) (t : Moment) (a : Content) (es : List Event) (rest : List (List Event)) (final : MirrorView) (last : Moment) (b : Content)
-    → StaysBehind g (super_of opened.array.shared) d t a → DegradedLifeWith opened t a es rest final last b
-    → IsBehind g b d (world_of last.mirror last.requests)
-behind_life g small d opened t a es [] final last b is life = (behind_along g small (super_of opened.array.shared) d es t a last b life.1 is).behind
-behind_life g small d opened t a es (more ∷ rest) final last b is life =
+    → geometry_of opened.array ≡ g → StaysBehind g (super_of opened.array.shared) d t a → DegradedLifeWith opened t a es rest final last b
+    → StaysBehind g (super_of final.array.shared) d last b
+behind_life g small d opened t a es [] final last b chunks is life =
+    subst (λ (x : MirrorView). StaysBehind g (super_of x.array.shared) d last b) (sym life.0) (behind_along g small (super_of opened.array.shared) d es t a last b life.1 is)
+behind_life g small d opened t a es (more ∷ rest) final last b chunks is life =
     let mid = behind_along g small (super_of opened.array.shared) d es t a life.0 life.2 life.4 is in
-    behind_life g small d life.1 (opened_as life.1) life.3 more rest final last b
-    (behind_again g small opened d life.0 life.2 mid life.5 life.1 life.6 life.3 life.7) life.8
+    behind_life g small d life.1 (opened_as life.1) life.3 more rest final last b (same g small opened chunks life.0 life.2 mid.held life.1 life.6 life.3 life.7)
+    (behind_again g small opened chunks life.0 life.2 mid.held life.1 life.6 life.3 life.7 d life.5 mid.behind) life.8
 
 -- a failure changes nothing of the content
 same_content : (g : Geometry) (w : World) (a : Content) (k : ℕ) (e : Event) → Leaves e k → Becomes g e w a a
@@ -156,8 +213,10 @@ same_content g w a k (Event.NoteBad j c) it = absurd it
 same_content g w a k (Event.StoreLog j listed) it = absurd it
 same_content g w a k (Event.StoreLogFails j) it = absurd it
 
-pub left_behind : LiesBehind
-left_behind before m a start holds es rest final t b life k f more others newest last c r =
+pub failed_behind : (before : List Disk) (m : MirrorView) (a : Content) → IsStart before m → Holds (geometry_of m.array) a (world_of m none_in_flight)
+    → (es : List Event) (rest : List (List Event)) (final : MirrorView) (t : Moment) (b : Content) → MirrorLifeWith m a es rest final t b
+    → (k : ℕ) (f : Fails t k) → StaysBehind (geometry_of m.array) (super_of final.array.shared) ((world_of f.mirror f.requests).stored k) (failed_then t k f) b
+failed_behind before m a start holds es rest final t b life k f =
     let g = geometry_of m.array in
     let opened = super_of final.array.shared in
     let small = starts_small before m start in
@@ -165,7 +224,38 @@ left_behind before m a start holds es rest final t b life k f more others newest
     let w = world_of t.mirror t.requests in
     let s = leads_to g small opened t b is f.event f.mirror f.requests f.does in
     let on = in_sync_there t.mirror.disks t.mirror.array t.requests k f.member f.in_sync in
-    behind_life g small ((world_of f.mirror f.requests).stored k) final (then_as t f.event f.mirror f.requests) b more others newest last c (record {
+    record {
       held = held_then g small opened t b is f.event f.mirror f.requests f.does b (same_content g w b k f.event f.it);
       behind = behind_leaving g b w is.held.kept.tracked is.held.holds k on f.event f.it (world_of f.mirror f.requests) s.1;
-    }) r
+    }
+
+pub failed_later : (before : List Disk) (m : MirrorView) (a : Content) → IsStart before m → Holds (geometry_of m.array) a (world_of m none_in_flight)
+    → (es : List Event) (rest : List (List Event)) (final : MirrorView) (t : Moment) (b : Content) → MirrorLifeWith m a es rest final t b
+    → (k : ℕ) (f : Fails t k) (more : List Event) (others : List (List Event)) (newest : MirrorView) (last : Moment) (c : Content)
+    → DegradedLifeWith final (failed_then t k f) b more others newest last c
+    → StaysBehind (geometry_of m.array) (super_of newest.array.shared) ((world_of f.mirror f.requests).stored k) last c
+failed_later before m a start holds es rest final t b life k f more others newest last c degraded =
+    behind_life (geometry_of m.array) (starts_small before m start) ((world_of f.mirror f.requests).stored k) final (failed_then t k f) b more others newest last c
+    (final_geometry before m a start holds es rest final t b life) (failed_behind before m a start holds es rest final t b life k f) degraded
+
+pub left_behind : LiesBehind
+left_behind before m a start holds es rest final t b life k f more others newest last c degraded =
+    (failed_later before m a start holds es rest final t b life k f more others newest last c degraded).behind
+
+-- what the stop left of one that was in sync is read as it was kept
+pub missing_later : (before : List Disk) (m : MirrorView) (a : Content) → IsStart before m → Holds (geometry_of m.array) a (world_of m none_in_flight)
+    → (es : List Event) (rest : List (List Event)) (final : MirrorView) (t : Moment) (b : Content) → MirrorLifeWith m a es rest final t b
+    → (k : ℕ) (next : MirrorView) (r : IsLeftOut final t k next) (c : Content) → BecomesAtOpening (geometry_of next.array) (world_of next none_in_flight) b c
+    → (more : List Event) (others : List (List Event)) (newest : MirrorView) (last : Moment) (d : Content) → DegradedLifeWith next (opened_as next) c more others newest last d
+    → StaysBehind (geometry_of m.array) (super_of newest.array.shared) (stored_of t.mirror.array r.member r.device.content) last d
+missing_later before m a start holds es rest final t b life k next r c becomes more others newest last d degraded =
+    let g = geometry_of m.array in
+    let small = starts_small before m start in
+    let is = life_held_at before m a start holds es rest final t b life in
+    let chunks = final_geometry before m a start holds es rest final t b life in
+    let late = left_out g small final chunks t b is next r.again c becomes k r refl in
+    behind_life g small (stored_of t.mirror.array r.member r.device.content) next (opened_as next) c more others newest last d late.held.geometry late degraded
+
+pub missing_behind : MissingLiesBehind
+missing_behind before m a start holds es rest final t b life k next r c becomes more others newest last d degraded =
+    (missing_later before m a start holds es rest final t b life k next r c becomes more others newest last d degraded).behind

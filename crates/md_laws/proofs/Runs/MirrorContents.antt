@@ -1,5 +1,5 @@
 -- The content that the members in sync of a mirror hold, over its openings.
-use Rattle.std.proofs.Common.{◌≡◌, List, [], ◌∷◌, sym, ◌∙◌, subst}
+use Rattle.std.proofs.Common.{◌≡◌, List, [], ◌∷◌, sym, ap, ◌∙◌, subst}
 use Rattle.md_model.specs.Sectors.{Geometry}
 use Rattle.md_model.specs.Devices.{Super}
 use Rattle.md_model.specs.Content.{Content, BecomesAtOpening, Holds}
@@ -10,12 +10,13 @@ use Rattle.md_model.specs.Runs as runs
 use Rattle.md_model.specs.Worlds.{World}
 use Rattle.md_model.proofs.Content.ContentLives.{IsHeld}
 use Rattle.md_model.proofs.Lives.Lives.{start_again}
+use Rattle.md_model.proofs.Steps.Keeps.{IsKept}
 use Rattle.md_model.proofs.Content.Picked.{has_content_again}
 use Rattle.md_state.specs.View.{Disk, MirrorView, geometry_of}
 use Rattle.md_array.specs.Worlds.{none_in_flight, super_of, world_of}
 use Rattle.md_laws.specs.Lives.{ContentGoesAlong, IsReopened, KeepsContent, MirrorLife, MirrorLifeTells, MirrorLifeWith}
 use Rattle.md_laws.specs.Runs.{HasContent, IsStart, MirrorRun, Moment, history_of, opened_as}
-use Rattle.md_laws.proofs.Runs.MirrorLives.{left, reopens}
+use Rattle.md_laws.proofs.Runs.MirrorLives.{left, reopens_there}
 use Rattle.md_laws.proofs.Runs.Moments.{IsSoundAt, geometry_kept, run_keeps, sound_when_opened}
 use Rattle.md_laws.proofs.Runs.ContentRuns as run
 use Rattle.md_laws.proofs.Runs.MirrorRuns as mirror_runs
@@ -60,8 +61,12 @@ module _ (m : MirrorView) (begins : Begins m) (es : List Event) (t : Moment) (r 
   same : geometry_of next.array ≡ g
   same = same_geometry t at_t again.before next.array again.devices again.opens.array ∙ geometry_kept es (opened_as m) t r
 
+  stays : geometry_of t.mirror.array ≡ g
+  stays = geometry_kept es (opened_as m) t r
+
   of_model : Reopens g opened (history_of stop) first w
-  of_model = subst (λ x. Reopens x opened (history_of stop) first w) (geometry_kept es (opened_as m) t r) (reopens t at_t next again.before again.devices again.opens m again.others again.fit)
+  of_model = subst (λ x. Reopens x opened (history_of stop) first w) stays
+      (reopens_there t at_t next m (sym stays) (subst IsWithinLimits (sym stays) begins.start.small) (subst (λ x. IsKept x opened (history_of t)) (sym stays) held.kept) again)
 
   start_of_model : runs.IsStart g first w
   start_of_model = start_again g opened (history_of stop) first w begins.start.small held_then.kept of_model
@@ -145,3 +150,20 @@ life_held_at before m a start holds = held_at m a (begins_first before m start) 
 
 pub starts_small : (before : List Disk) (m : MirrorView) → IsStart before m → IsWithinLimits (geometry_of m.array)
 starts_small before m start = (begins_first before m start).start.small
+
+-- the last opening too
+final_at : (m : MirrorView) (a : Content) → Begins m → Holds (geometry_of m.array) a (world_of m none_in_flight)
+    → (es : List Event) (rest : List (List Event)) (final : MirrorView) (last : Moment) (b : Content) → MirrorLifeWith m a es rest final last b
+    → geometry_of final.array ≡ geometry_of m.array
+final_at m a begins holds es [] final last b life = ap (λ (x : MirrorView). geometry_of x.array) life.0
+final_at m a begins holds es (more ∷ rest) final last b life =
+    let t = life.0 in
+    let next = life.1 in
+    let r = run.without_content es (opened_as m) a t life.2 life.4 in
+    let held = run.content_held m begins.start es a t life.2 holds life.4 in
+    final_at next life.3 (begins_again m begins es t r next life.5 life.2 held) life.6.holds more rest final last b life.7 ∙ same m begins es t r next life.5 life.2 held
+
+pub final_geometry : (before : List Disk) (m : MirrorView) (a : Content) → IsStart before m → Holds (geometry_of m.array) a (world_of m none_in_flight)
+    → (es : List Event) (rest : List (List Event)) (final : MirrorView) (last : Moment) (b : Content) → MirrorLifeWith m a es rest final last b
+    → geometry_of final.array ≡ geometry_of m.array
+final_geometry before m a start holds = final_at m a (begins_first before m start) holds

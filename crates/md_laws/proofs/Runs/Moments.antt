@@ -60,11 +60,3 @@ life_keeps m es [] final last at_m life = run_keeps es (opened_as m) last life.1
 life_keeps m es (more ∷ rest) final last at_m life =
     let next = life.3 in
     life_keeps life.1 more rest final last (sound_when_opened next.before life.1 next.devices.honest next.opens) life.4
-
--- a run at the end of a life is part of it
-pub life_then : (m : MirrorView) (es : List Event) (rest : List (List Event)) (final : MirrorView) (mid : Moment) → MirrorLife m es rest final mid → (more : List Event) (last : Moment) → MirrorRun mid more last
-    → (first : List Event) × (others : List (List Event)) × MirrorLife m first others final last
-life_then m es [] final mid life more last r = (es ++ more, [], (life.0, run_then es more (opened_as m) mid last life.1 r))
-life_then m es (next ∷ rest) final mid life more last r =
-    let x = life_then life.1 next rest final mid life.4 more last r in
-    (es, x.0 ∷ x.1, (life.0, life.1, life.2, life.3, x.2))

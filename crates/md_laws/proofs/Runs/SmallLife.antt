@@ -111,5 +111,6 @@ small_life before m mid next opened one r opens late honest =
       others = λ j n member none. let low = slice_get_within next.array.members j n member in absurd (none-some j (sym none ∙ at_itself mid.disks j (omega arith)));
       opens = opens;
       fit = record { recorded = omega arith; newer = inl late };
+      out = λ j n member none. let low = slice_get_within next.array.members j n member in absurd (none-some j (sym none ∙ at_itself mid.disks j (omega arith)));
     } in
     record { first = m; start = lone_start before m honest opened one; number = r.number; request = r.request; life = (t, next, r.run, reopened, (refl, at_rest (opened_as next))) }

@@ -144,7 +144,7 @@ stops_as_tried k w before after left honest writes may =
     )
 
 -- a write of one sector is done, or is not
-sector_done : (k : ℕ) (w : Write) (before after : List Disk) (left : List (List ℕ)) → AreHonest before → IsWritten k w before after → IsLeftBut k (λ was c. (c ≡ was) ⊎ (c ≡ written was w.sector w.bytes)) before left
+pub sector_done : (k : ℕ) (w : Write) (before after : List Disk) (left : List (List ℕ)) → AreHonest before → IsWritten k w before after → IsLeftBut k (λ was c. (c ≡ was) ⊎ (c ≡ written was w.sector w.bytes)) before left
     → (left ≡ map (λ (d : Disk). d.content) before) ⊎ (left ≡ map (λ (d : Disk). d.content) after)
 sector_done k w before after left honest writes but =
     let many = writes.tried.as_many in

@@ -1,5 +1,5 @@
 -- What a stop leaves within a call is what one leaves between two calls, or in the midst of a write of data.
-use Rattle.std.proofs.Common.{◌≡◌, ◌≢◌, ℕ, ◌+◌, ◌*◌, ◌/◌, ◌<◌, ◌≤◌, ◌⊎◌, inl, inr, false, true≢false, List, [], ◌∷◌, length, set, slice_get, Option, Some, None, refl, sym, ap, ◌∙◌, subst, arith, length-set}
+use Rattle.std.proofs.Common.{◌≡◌, ◌≢◌, ℕ, ◌+◌, ◌*◌, ◌/◌, ◌<◌, ◌≤◌, ◌⊎◌, inl, inr, true, false, true≢false, List, [], ◌∷◌, length, set, slice_get, Option, Some, None, refl, sym, ap, ◌∙◌, subst, arith, length-set}
 use Rattle.std.proofs.lemmas.List.{length_push}
 use Rattle.std.proofs.lemmas.Option.{same_Some, slice_get_within}
 use Rattle.md_device.specs.Device.{written}
@@ -14,12 +14,14 @@ use Rattle.md_writes.specs.Writes.{IsCutShort, Write}
 use Rattle.md_model.specs.Content.{Becomes, Content}
 use Rattle.md_model.specs.Devices.{Stored, Super}
 use Rattle.md_model.specs.Events.{Event}
+use Rattle.md_model.specs.Steps as model_steps
 use Rattle.md_model.specs.Stops as stops
-use Rattle.md_model.specs.Worlds as worlds
 use Rattle.md_model.specs.Worlds.{World}
 use Rattle.md_model.proofs.Cases.{none_some}
 use Rattle.md_model.proofs.Puts.{by_same}
 use Rattle.md_requests.specs.Pending.{request_sectors}
+use Rattle.md_assembly.specs.States.{is_recorded}
+use Rattle.md_kept_members.specs.TakingBack.{admitted_member, with_offset}
 use Rattle.md_kept_members.specs.View.{MemberView}
 use Rattle.md_state.specs.View.{ArrayView, Disk, MirrorView, geometry_of}
 use Rattle.md_state.specs.Members.{IsMember}
@@ -35,7 +37,7 @@ use Rattle.md_array.specs.ReadAsKept.{HasOwnSuper, IsReadAsKept}
 use Rattle.md_array.specs.Recording.{MayRecord, Records, super_write}
 use Rattle.md_array.specs.Worlds.{block_on, is_listed, stored_of, stored_on, super_in, super_of, world_of}
 use Rattle.md_laws.specs.StopsWithin.{MayAllBeLeft}
-use Rattle.md_laws.specs.Left.{IsLeft, IsLeftEnrolled, IsLeftEnrolling, IsLeftFilling, IsLeftPreparing, IsLeftRecording, IsLeftRecordingShort, IsLeftTakingBack, IsLeftWriting, contents_of}
+use Rattle.md_laws.specs.Left.{IsLeft, IsLeftEnrolled, IsLeftEnrolling, IsLeftFilling, IsLeftPreparing, IsLeftRecording, IsLeftRecordingShort, IsLeftTakingBack, IsLeftTargeted, IsLeftTargeting, IsLeftWriting, contents_of}
 use Rattle.md_laws.specs.Runs.{MirrorRun, MirrorRunWith, Moment, history_of, then_as}
 use Rattle.md_laws.specs.StopsReadAs.{ReadsAs}
 use Rattle.md_array.proofs.Rebuilding.FilledEvent.{fill_happens}
@@ -58,6 +60,7 @@ use Rattle.md_laws.proofs.Stops.AloneChanged.{left_prepared, stops_as_filled, st
 use Rattle.md_laws.proofs.Stops.AtSteps.{stops_at_write}
 use Rattle.md_laws.proofs.Stops.Enrolled.{left_since, may_record_new}
 use Rattle.md_laws.proofs.Stops.TakenBack.{left_after, may_record_again}
+use Rattle.md_laws.proofs.Stops.WithinTarget.{admitted_there, checkpointed_there, left_after_write, recovering_recorded}
 use Rattle.md_laws.proofs.Runs.Rests.{at_once, at_rest}
 use Rattle.md_assembly.proofs.Indices.{got_within, got_same}
 
@@ -87,7 +90,9 @@ pub record IsSorted (t : Moment) (left : List Disk) : Type 0 where
   pub still : (a : Content) → MirrorRunWith t a events moment a
   pub counted : moment.failed_at ≡ t.failed_at
   pub away : (d : ℕ) → moment.away d ≡ t.away d
-  pub in_sync : (k : ℕ) → worlds.IsInSync (history_of moment).now k → worlds.IsInSync (world_of t.mirror t.requests) k
+  pub tried : moment.tried ≡ t.tried
+  pub state : (k : ℕ) → (history_of moment).now.state k ≡ (world_of t.mirror t.requests).state k
+  pub count : (history_of moment).now.events ≡ (world_of t.mirror t.requests).events
   pub cut : ℕ → Stored
   pub is_cut : stops.IsCut (geometry_of t.mirror.array) (history_of moment).now cut
   pub read : (k : ℕ) → (read_in t.mirror.array left k ≡ cut k) ⊎ ((read_in t.mirror.array left k).super ≡ None)
@@ -102,7 +107,9 @@ sorted_like t found left same s = record {
   still = s.still;
   counted = s.counted;
   away = s.away;
-  in_sync = s.in_sync;
+  tried = s.tried;
+  state = s.state;
+  count = s.count;
   cut = s.cut;
   is_cut = s.is_cut;
   read = λ k. let here = read_same t.mirror.array left found (sym same) k in elim (s.read k) [
@@ -111,6 +118,14 @@ sorted_like t found left same s = record {
   ];
   device = λ k e m at is. let d = got_like found left same k e at in subst (IsLeftDevice t.mirror.array m t.failed_at) d.2 (s.device k d.0 m d.1 is);
 }
+
+-- the stop came within a write of data, which is let through at that moment
+abbrev IsSortedWriting : Moment → List Disk → Type 0
+IsSortedWriting t left = (s : IsSorted t left) × stops.WasTried (geometry_of t.mirror.array) (history_of s.moment)
+
+writing_like : (t : Moment) (found left : List Disk) → contents_of found ≡ contents_of left → IsSortedWriting t found → IsSortedWriting t left
+unfolding sorted_like
+writing_like t found left same s = (sorted_like t found left same s.0, s.1)
 
 -- ---- a write of a request's data that the stop broke off: any bytes may stand in its range
 record IsTorn (t : Moment) (left : List Disk) : Type 0 where
@@ -140,7 +155,9 @@ module _ (t : Moment) (at : IsSoundAt t) where
     still = λ x. (at_rest t, refl);
     counted = refl;
     away = λ _. refl;
-    in_sync = λ j on. on;
+    tried = refl;
+    state = λ _. refl;
+    count = refl;
     cut = (world_of v t.requests).stored;
     is_cut = inl refl;
     read = λ k. inl refl;
@@ -216,23 +233,31 @@ module _ (t : Moment) (at : IsSoundAt t) where
               ∙ sym (ap (λ (x : Stored). x.content s) was);
         }
 
-    torn_sorted : IsSorted t left
-    torn_sorted = sorted_like t torn.found left torn.same (record {
-      events = [];
-      few = omega arith;
-      moment = t;
-      run = at_rest t;
-      still = λ x. (at_rest t, refl);
-      counted = refl;
-      away = λ _. refl;
-      in_sync = λ j on. on;
-      cut = read_in a torn.found;
-      is_cut = inr (subst (λ r. stops.IsTorn (geometry_of a) (world_of v r) (read_in a torn.found)) (sym l.in_flight) torn_cut);
-      read = λ j. inl refl;
-      device = each_device k m (data_write m l.request) torn.found is_member torn.tried torn_device;
-    })
+    torn_found : IsSortedWriting t torn.found
+    torn_found = (
+      record {
+        events = [];
+        few = omega arith;
+        moment = t;
+        run = at_rest t;
+        still = λ x. (at_rest t, refl);
+        counted = refl;
+        away = λ _. refl;
+        tried = refl;
+        state = λ _. refl;
+        count = refl;
+        cut = read_in a torn.found;
+        is_cut = inr (subst (λ r. stops.IsTorn (geometry_of a) (world_of v r) (read_in a torn.found)) (sym l.in_flight) torn_cut);
+        read = λ j. inl refl;
+        device = each_device k m (data_write m l.request) torn.found is_member torn.tried torn_device;
+      },
+      inr (torn_cut.number, torn_cut.request, torn_cut.on, subst (λ r. model_steps.MayWrite (geometry_of a) (world_of v r) torn_cut.number torn_cut.request torn_cut.on) (sym l.in_flight) torn_cut.let_through),
+    )
 
-  writing : (left : List Disk) → IsLeftWriting t left → IsSorted t left
+    torn_sorted : IsSortedWriting t left
+    torn_sorted = writing_like t torn.found left torn.same torn_found
+
+  writing : (left : List Disk) → IsLeftWriting t left → IsSortedWriting t left
   writing left l =
       let wrote : (m : MemberView) → MayWrite l.on a l.request m → IsWritten l.on (data_write m l.request) v.disks l.next.disks → IsTorn t left =
       λ m may done. let f = stops_as_tried l.on (data_write m l.request) v.disks l.next.disks (contents_of left) at.honest done l.within in record { l = l; member = m; may = may; found = f.0; tried = f.1; same = f.2 } in
@@ -272,7 +297,9 @@ module _ (t : Moment) (at : IsSoundAt t) where
           still = λ x. (next, t.requests, x, at_once v next t.requests t.requests e_marks does, refl, (at_rest (then_as t e_marks next t.requests), refl));
           counted = refl;
           away = λ _. refl;
-          in_sync = λ j on. subst (λ (w : World). worlds.IsInSync w j) does.step.1.1 on;
+          tried = refl;
+          state = λ j. ap (λ (w : World). w.state j) does.step.1.1;
+          count = ap (λ (w : World). w.events) does.step.1.1;
           cut = (world_of next t.requests).stored;
           is_cut = inl refl;
           read = λ j. inl (sym (ap (λ (x : ArrayView). read_in x next.disks j) r.array ∙ read_changed a k r.member (record r.member { stored = r.stored }) r.may.in_sync.member refl next.disks j));
@@ -287,18 +314,18 @@ module _ (t : Moment) (at : IsSoundAt t) where
           | inr after ↦ sorted_like t next.disks left (sym after) marked
         ]
 
-  -- ---- within a write of a superblock
-  module _ (k : ℕ) (m : MemberView) (may : MayRecord k a m) where
-    abbrev w : Write
-    w = super_write a m
+  -- ---- within a write of a superblock, of a member that is kept up to date
+  module _ (k : ℕ) (m : MemberView) (is_member : IsMember a k m) (active : is_recorded m.state ≡ true) (bytes : List ℕ) (size : length bytes ≡ 4096) where
+    abbrev at_super : Write
+    at_super = record { sector = 8; bytes = bytes }
 
     -- device k, where no more than the superblock was written
-    module _ (disks : List Disk) (tried : IsTried k w v.disks disks) (d e : Disk) (was : slice_get v.disks k ≡ Some d) (is : slice_get disks k ≡ Some e) where
+    module _ (disks : List Disk) (tried : IsTried k at_super v.disks disks) (d e : Disk) (was : slice_get v.disks k ≡ Some d) (is : slice_get disks k ≡ Some e) where
       beside : SameOutside (512 * 8) 4096 d.content e.content
-      beside = subst (λ (n : ℕ). SameOutside (512 * 8) n d.content e.content) may.readable.size (tried.outside d e was is)
+      beside = subst (λ (n : ℕ). SameOutside (512 * 8) n d.content e.content) size (tried.outside d e was is)
 
       parts : HasParts a m d.content
-      parts = parts_of v at.sound k d m was may.at
+      parts = parts_of v at.sound k d m was is_member
 
       log_kept : IsLogKept m.superblock d.content e.content
       log_kept = log_beside_super a m d.content e.content parts beside
@@ -307,7 +334,7 @@ module _ (t : Moment) (at : IsSoundAt t) where
       read_super : (s : Option Super) (content : List ℕ) → super_in (block_on e.content) ≡ s → ((sector : ℕ) → is_listed m.superblock e.content sector ≡ is_listed m.superblock content sector)
           → read_in a disks k ≡ record (stored_of a m d.content) { super = s; listed = (stored_of a m content).listed }
       read_super s content same lists =
-          stored_there disks a k m e may.at is ∙ super_alone a m d.content e.content parts beside
+          stored_there disks a k m e is_member is ∙ super_alone a m d.content e.content parts beside
           ∙ (λ i. record (stored_of a m d.content) { super = same i; listed = lists_alike a m content e.content lists i })
 
       super_device : HasOwnSuper a.shared m.superblock e.content → IsLeftDevice a m t.failed_at e.content
@@ -315,9 +342,9 @@ module _ (t : Moment) (at : IsSoundAt t) where
         parts = parts_on a m d.content e.content beside.size parts;
         read = record {
           super = has;
-          header = elim (at.read k d m was may.at).header [
+          header = elim (at.read k d m was is_member).header [
             | inl width ↦ inl (ap (λ (h : List ℕ). number_at 4 52 h / 512) (header_beside_super a m d.content e.content parts beside) ∙ width)
-            | inr gone ↦ absurd (true≢false (sym may.active ∙ gone.0))
+            | inr gone ↦ absurd (true≢false (sym active ∙ gone.0))
           ];
         };
       }
@@ -326,7 +353,7 @@ module _ (t : Moment) (at : IsSoundAt t) where
       block = block_on e.content
 
       each_super : HasOwnSuper a.shared m.superblock e.content → (j : ℕ) (x : Disk) (n : MemberView) → slice_get disks j ≡ Some x → IsMember a j n → IsLeftDevice a n t.failed_at x.content
-      each_super has = each_device k m w disks may.at tried
+      each_super has = each_device k m at_super disks is_member tried
           (λ b x _ there. subst (λ (y : Disk). IsLeftDevice a m t.failed_at y.content) (got_same disks k e x is there) (super_device has))
 
       -- the old one is read there, or none
@@ -339,21 +366,28 @@ module _ (t : Moment) (at : IsSoundAt t) where
         still = λ x. (at_rest t, refl);
         counted = refl;
         away = λ _. refl;
-        in_sync = λ j on. on;
+        tried = refl;
+        state = λ _. refl;
+        count = refl;
         cut = (world_of v t.requests).stored;
         is_cut = inl refl;
         read = λ j. by_same j k
             (λ here. subst (λ (i : ℕ). (read_in a disks i ≡ read_in a v.disks i) ⊎ ((read_in a disks i).super ≡ None)) (sym here) (elim reads [
-              | inl same ↦ inl (read_super (super_in (block_on d.content)) d.content same.decoded (λ sector. listed_same_bit m.superblock d.content e.content log_kept sector same.decoded same.map) ∙ sym (stored_there v.disks a k m d may.at was))
-              | inr none ↦ inr (ap (λ (x : Stored). x.super) (stored_there disks a k m e may.at is) ∙ none)
+              | inl same ↦ inl (read_super (super_in (block_on d.content)) d.content same.decoded (λ sector. listed_same_bit m.superblock d.content e.content log_kept sector same.decoded same.map) ∙ sym (stored_there v.disks a k m d is_member was))
+              | inr none ↦ inr (ap (λ (x : Stored). x.super) (stored_there disks a k m e is_member is) ∙ none)
             ]))
-            (λ apart. inl (elsewhere k m w disks may.at tried j apart));
+            (λ apart. inl (elsewhere k m at_super disks is_member tried j apart));
         device = each_super (elim reads [
           | inl same ↦ own_stays_as a.shared m.superblock d.content e.content (λ v on. let was = same.read v on.fields on.sound in record { fields = was.0; sound = was.1 })
-              log_kept (at.read k d m was may.at).super
+              log_kept (at.read k d m was is_member).super
           | inr none ↦ λ v on. absurd (none_some (super_of v) (sym none ∙ super_shown block v on.fields on.sound))
         ]);
       }
+
+  -- ---- within a record
+  module _ (k : ℕ) (m : MemberView) (may : MayRecord k a m) where
+    abbrev w : Write
+    w = super_write a m
 
     -- the mirror once it is recorded
     module _ (d : Disk) (was : slice_get v.disks k ≡ Some d) where
@@ -406,15 +440,15 @@ module _ (t : Moment) (at : IsSoundAt t) where
         lists_next : (sector : ℕ) → is_listed m.superblock e.content sector ≡ is_listed m.superblock new.content sector
         lists_next sector =
             listed_same_bit m.superblock new.content e.content
-            (λ there. log_kept disks tried d e was is there ∙ sym (log_kept next.disks new_tried d new was new_there there)) sector
+            (λ there. log_kept k m may.at may.active w.bytes may.readable.size disks tried d e was is there ∙ sym (log_kept k m may.at may.active w.bytes may.readable.size next.disks new_tried d new was new_there there)) sector
             (reads.decoded ∙ sym (ap super_in block_new)) (reads.map ∙ sym (ap (number_at 4 8) block_new))
 
         read_next : (j : ℕ) → read_in a disks j ≡ read_in next.array next.disks j
         read_next j =
             by_same j k
             (λ here. subst (λ (i : ℕ). read_in a disks i ≡ read_in a next.disks i) (sym here)
-            (read_super disks tried d e was is (super_in w.bytes) new.content reads.decoded lists_next
-            ∙ sym (read_super next.disks new_tried d new was new_there (super_in w.bytes) new.content (ap super_in block_new) (λ _. refl))))
+            (read_super k m may.at may.active w.bytes may.readable.size disks tried d e was is (super_in w.bytes) new.content reads.decoded lists_next
+            ∙ sym (read_super k m may.at may.active w.bytes may.readable.size next.disks new_tried d new was new_there (super_in w.bytes) new.content (ap super_in block_new) (λ _. refl))))
             (λ apart. elsewhere k m w disks may.at tried j apart ∙ sym (elsewhere k m w next.disks may.at new_tried j apart))
             ∙ sym (read_changed a k m (record m { due = false }) may.at refl next.disks j)
 
@@ -429,11 +463,13 @@ module _ (t : Moment) (at : IsSoundAt t) where
               still = λ x. (next, t.requests, x, at_once v next t.requests t.requests (Event.Record k) does, refl, (at_rest (then_as t (Event.Record k) next t.requests), refl));
               counted = refl;
               away = λ _. refl;
-              in_sync = λ j on. subst (λ (w : World). worlds.IsInSync w j) does.step.1.3 on;
+              tried = refl;
+              state = λ j. ap (λ (w : World). w.state j) does.step.1.3;
+              count = ap (λ (w : World). w.events) does.step.1.3;
               cut = (world_of next t.requests).stored;
               is_cut = inl refl;
               read = λ j. inl (read_next j);
-              device = each_super disks tried d e was is (own_written_as a m e.content may.readable (λ v on. (reads.read v on.fields on.sound).0));
+              device = each_super k m may.at may.active w.bytes may.readable.size disks tried d e was is (own_written_as a m e.content may.readable (λ v on. (reads.read v on.fields on.sound).0));
             }
 
   -- such a write left the old one, the new one or none
@@ -456,11 +492,11 @@ module _ (t : Moment) (at : IsSoundAt t) where
       let d = got_within v.disks c.on (omega arith) in
       let e = got_within c.found c.on (omega arith) in
       sorted_like t c.found left c.same (elim (reads d.0 e.0 d.1 e.1) [
-        | inl old ↦ unrecorded c.on c.member c.may c.found c.tried d.0 e.0 d.1 e.1 (inl old)
+        | inl old ↦ unrecorded c.on c.member c.may.at c.may.active (super_write a c.member).bytes c.may.readable.size c.found c.tried d.0 e.0 d.1 e.1 (inl old)
         | inr other ↦
             elim other [
               | inl new ↦ recorded c.on c.member c.may d.0 d.1 c.found c.tried e.0 e.1 new
-              | inr none ↦ unrecorded c.on c.member c.may c.found c.tried d.0 e.0 d.1 e.1 (inr none)
+              | inr none ↦ unrecorded c.on c.member c.may.at c.may.active (super_write a c.member).bytes c.may.readable.size c.found c.tried d.0 e.0 d.1 e.1 (inr none)
             ]
       ])
 
@@ -525,15 +561,15 @@ module _ (t : Moment) (at : IsSoundAt t) where
       let e = got_within f.0 k (omega arith) in
       let x = got_like left f.0 (sym f.2) k e.0 e.1 in
       sorted_like t f.0 left f.2
-      (unrecorded k m may f.0 f.1 d.0 e.0 d.1 e.1 (inl (subst (λ (c : List ℕ). ReadsAs (block_on c) (block_on d.0.content)) x.2 (l.reads d.0 x.0 d.1 x.1))))
+      (unrecorded k m may.at may.active (super_write a m).bytes may.readable.size f.0 f.1 d.0 e.0 d.1 e.1 (inl (subst (λ (c : List ℕ). ReadsAs (block_on c) (block_on d.0.content)) x.2 (l.reads d.0 x.0 d.1 x.1))))
 
   -- after an event of a member that is rebuilt, which changes nothing in memory
   changed : (e : Event) (mid : MirrorView) (does : Does v t.requests e mid t.requests) → mid.array ≡ a
       → ((x : Content) → Becomes (geometry_of a) e (world_of v t.requests) x x)
-      → ((j : ℕ) → worlds.IsInSync (world_of mid t.requests) j → worlds.IsInSync (world_of v t.requests) j)
-      → (then_as t e mid t.requests).failed_at ≡ t.failed_at → ((n : ℕ) → (then_as t e mid t.requests).away n ≡ t.away n)
+      → ((j : ℕ) → (world_of mid t.requests).state j ≡ (world_of v t.requests).state j) → (world_of mid t.requests).events ≡ (world_of v t.requests).events
+      → (then_as t e mid t.requests).tried ≡ t.tried → (then_as t e mid t.requests).failed_at ≡ t.failed_at → ((n : ℕ) → (then_as t e mid t.requests).away n ≡ t.away n)
       → IsSorted t mid.disks
-  changed e mid does same becomes in_sync counted away = record {
+  changed e mid does same becomes state count tried counted away = record {
     events = e ∷ [];
     few = omega arith;
     moment = then_as t e mid t.requests;
@@ -541,7 +577,9 @@ module _ (t : Moment) (at : IsSoundAt t) where
     still = λ x. (mid, t.requests, x, at_once v mid t.requests t.requests e does, becomes x, (at_rest (then_as t e mid t.requests), refl));
     counted = counted;
     away = away;
-    in_sync = in_sync;
+    tried = tried;
+    state = state;
+    count = count;
     cut = (world_of mid t.requests).stored;
     is_cut = inl refl;
     read = λ j. inl (ap (λ (x : ArrayView). read_in x mid.disks j) (sym same));
@@ -555,13 +593,13 @@ module _ (t : Moment) (at : IsSoundAt t) where
   filled : (k : ℕ) (mid : MirrorView) → Fills k v mid → IsSorted t mid.disks
   filled k mid fills =
       let does = fill_happens k v mid at.sound fills at.honest t.requests at.in_flight in
-      changed (Event.Fill k) mid does fills.array (λ _. refl) (λ j on. subst (λ (w : World). worlds.IsInSync w j) does.step.1.3 on) refl (λ _. refl)
+      changed (Event.Fill k) mid does fills.array (λ _. refl) (λ j. ap (λ (w : World). w.state j) does.step.1.3) (ap (λ (w : World). w.events) does.step.1.3) refl refl (λ _. refl)
 
   -- and so within a preparing
   prepared : (k : ℕ) (mid : MirrorView) → Prepares k v mid → IsSorted t mid.disks
   prepared k mid prepares =
       let does = prepare_happens k v mid at.sound prepares at.honest t.requests at.in_flight in
-      changed (Event.Prepare k) mid does prepares.array (λ _. refl) (λ j on. subst (λ (w : World). worlds.IsInSync w j) does.step.1.3 on) refl (λ _. refl)
+      changed (Event.Prepare k) mid does prepares.array (λ _. refl) (λ j. ap (λ (w : World). w.state j) does.step.1.3) (ap (λ (w : World). w.events) does.step.1.3) refl refl (λ _. refl)
 
   preparing : (left : List Disk) → IsLeftPreparing t left → IsSorted t left
   preparing left l =
@@ -599,16 +637,86 @@ module _ (t : Moment) (at : IsSoundAt t) where
       let e = got_within f.0 l.on (omega arith) in
       let x = got_like left f.0 (sym f.2) l.on e.0 e.1 in
       sorted_like t f.0 left f.2
-      (unrecorded l.on m may f.0 f.1 d.0 e.0 d.1 e.1 (inl (reads_same (block_on e.0.content) (block_on d.0.content) (ap block_on (sym x.2) ∙ l.super d.0 x.0 d.1 x.1))))
+      (unrecorded l.on m may.at may.active (super_write a m).bytes may.readable.size f.0 f.1 d.0 e.0 d.1 e.1 (inl (reads_same (block_on e.0.content) (block_on d.0.content) (ap block_on (sym x.2) ∙ l.super d.0 x.0 d.1 x.1))))
+
+  -- within `admit` or `checkpoint`, where the superblock reads as before, or none is read
+  pub record IsTargetCut (left : List Disk) : Type 0 where
+    pub on : ℕ
+    pub member : MemberView
+    pub is_member : IsMember a on member
+    pub bytes : List ℕ
+    pub size : length bytes ≡ 4096
+    pub found : List Disk
+    pub tried : IsTried on (record { sector = 8; bytes = bytes }) v.disks found
+    pub same : contents_of found ≡ contents_of left
+
+  targeting : (left : List Disk) → IsLeftTargeting t left → IsSorted t left
+  targeting left l =
+      let wrote : (m : MemberView) → IsMember a l.on m → (bytes : List ℕ) → length bytes ≡ 4096 → IsWritten l.on (record { sector = 8; bytes = bytes }) v.disks l.next.disks → IsTargetCut left =
+      λ m is bytes size done. let f = stops_as_tried l.on (record { sector = 8; bytes = bytes }) v.disks l.next.disks (contents_of left) at.honest done l.within in
+      record { on = l.on; member = m; is_member = is; bytes = bytes; size = size; found = f.0; tried = f.1; same = f.2 } in
+      let failed : (m : MemberView) → IsMember a l.on m → (bytes : List ℕ) → length bytes ≡ 4096 → IsFailed l.on (record { sector = 8; bytes = bytes }) v.disks l.next.disks → IsTargetCut left =
+      λ m is bytes size tried. let f = failed_as_tried l.on (record { sector = 8; bytes = bytes }) v.disks l.next.disks (contents_of left) at.honest tried l.within in
+      record { on = l.on; member = m; is_member = is; bytes = bytes; size = size; found = f.0; tried = f.1; same = f.2 } in
+      let whole : (c : IsTargetCut left) → c.on ≡ l.on → IsSorted t left =
+      λ c here.
+      let low = slice_get_within a.members c.on c.member c.is_member in
+      let as_many = at.sound.fits.as_many in
+      let many = c.tried.as_many in
+      let d = got_within v.disks c.on (omega arith) in
+      let e = got_within c.found c.on (omega arith) in
+      let x = got_like left c.found (sym c.same) c.on e.0 e.1 in
+      let reads = l.super d.0 x.0 (ap (slice_get v.disks) (sym here) ∙ d.1) (ap (slice_get left) (sym here) ∙ x.1) in
+      sorted_like t c.found left c.same
+      (unrecorded c.on c.member c.is_member (l.recorded c.member (ap (slice_get a.members) (sym here) ∙ c.is_member)) c.bytes c.size c.found c.tried d.0 e.0 d.1 e.1
+      (subst (λ (y : List ℕ). ReadsAs (block_on y) (block_on d.0.content) ⊎ (super_in (block_on y) ≡ None)) x.2 reads)) in
+      elim l.call [
+        | inl admits ↦ whole (wrote admits.may.member admits.may.at _ admits.readable.size admits.disks) refl
+        | inr (inl fails) ↦ whole (failed fails.may.member fails.may.at _ fails.readable.size fails.disks) refl
+        | inr (inr further) ↦
+            elim further.1 [
+              | inl stores ↦ whole (wrote stores.may.member stores.may.at _ stores.readable.size stores.disks) refl
+              | inr fails ↦ whole (failed fails.member fails.at _ fails.readable.size fails.disks) refl
+            ]
+      ]
+
+  -- where it reads as after the call, it is a stop after it
+  targeted_by : (left : List Disk) (l : IsLeftTargeted t left) (m : MemberView) → IsMember a l.on m → is_recorded m.state ≡ true → (bytes : List ℕ) → length bytes ≡ 4096
+      → IsWritten l.on (record { sector = 8; bytes = bytes }) l.before.disks v.disks → IsSorted t left
+  targeted_by left l m is active bytes size done =
+      let w : Write = record { sector = 8; bytes = bytes } in
+      let f = left_as_tried l.on w v.disks (contents_of left) (left_after_write l.on w l.before.disks v.disks (contents_of left) l.honest done l.within) in
+      let low = slice_get_within a.members l.on m is in
+      let as_many = at.sound.fits.as_many in
+      let many = f.1.as_many in
+      let d = got_within v.disks l.on (omega arith) in
+      let e = got_within f.0 l.on (omega arith) in
+      let x = got_like left f.0 (sym f.2) l.on e.0 e.1 in
+      sorted_like t f.0 left f.2
+      (unrecorded l.on m is active bytes size f.0 f.1 d.0 e.0 d.1 e.1 (inl (subst (λ (c : List ℕ). ReadsAs (block_on c) (block_on d.0.content)) x.2 (l.reads d.0 x.0 d.1 x.1))))
+
+  targeted : (left : List Disk) → IsLeftTargeted t left → IsSorted t left
+  targeted left l = elim l.call [
+    | inl admits ↦ targeted_by left l (admitted_member admits.role admits.may.member) (admitted_there l.on l.before v admits) refl _ admits.readable.size admits.disks
+    | inr stores ↦ targeted_by left l (record (with_offset stores.1.offset stores.1.may.member) { due = false }) (checkpointed_there l.on stores.0 l.before v stores.1)
+        (recovering_recorded stores.1.may.member.state stores.1.may.recovering) _ stores.1.readable.size stores.1.disks
+  ]
 
   pub sorted : (left : List Disk) → IsLeft t left → IsSorted t left
   sorted left (inl same) = sorted_like t v.disks left (sym same) between
   sorted left (inr (inl l)) = stored_sorted l.on l.block l.inside l.next l.call left l.within
-  sorted left (inr (inr (inl l))) = writing left l
+  sorted left (inr (inr (inl l))) = (writing left l).0
   sorted left (inr (inr (inr (inl l)))) = recording left l
   sorted left (inr (inr (inr (inr (inl l))))) = recording_short left l
   sorted left (inr (inr (inr (inr (inr (inl l)))))) = taking_back left l
   sorted left (inr (inr (inr (inr (inr (inr (inl l))))))) = filling left l
   sorted left (inr (inr (inr (inr (inr (inr (inr (inl l)))))))) = preparing left l
   sorted left (inr (inr (inr (inr (inr (inr (inr (inr (inl l))))))))) = enrolling left l
-  sorted left (inr (inr (inr (inr (inr (inr (inr (inr (inr l))))))))) = enrolled left l
+  sorted left (inr (inr (inr (inr (inr (inr (inr (inr (inr (inl l)))))))))) = enrolled left l
+  sorted left (inr (inr (inr (inr (inr (inr (inr (inr (inr (inr (inl l))))))))))) = targeting left l
+  sorted left (inr (inr (inr (inr (inr (inr (inr (inr (inr (inr (inr l))))))))))) = targeted left l
+
+  -- within a write of data that is let through at the moment of which the stop is
+  pub sorted_writing : (left : List Disk) (l : IsLeftWriting t left) → stops.WasTried (geometry_of a) (history_of (sorted left (inr (inr (inl l)))).moment)
+  unfolding sorted
+  sorted_writing left l = (writing left l).1
