@@ -1,9 +1,10 @@
 -- Whether a rebuild of a member may begin, and the first reason why it may not (this project's own order).
-use Rattle.std.specs.Prelude.{◌≡◌, ℕ, true, false, Some}
+use Rattle.std.specs.Prelude.{◌≡◌, ℕ, ◌+◌, ◌^◌, ◌<◌, ◌≤◌, true, false, Some}
+use Rattle.md_assembly.specs.declared.state.MemberState.{MemberState}
+use Rattle.md_assembly.specs.declared.state.MemberState.TheVariants.{InSync, Recovering, Stale, Spare, Faulty}
 use Rattle.md_kept_members.specs.View.{MemberView}
 use Rattle.md_state.specs.View.{ArrayView}
 use Rattle.md_state.specs.MakingClean.{IsIdle, first_number}
-use Rattle.md_state.specs.Rising.{HasSpentEvents}
 use Rattle.md_copy.specs.declared.fault.RebuildFault.{RebuildFault}
 use Rattle.md_copy.specs.declared.fault.RebuildFault.TheVariants.{Halted, NotSpare, Dirty, InFlight, LogFull, NoMemory, TargetFault, MetadataFault, EventsFull, SourceFault}
 use Rattle.md_copy.specs.Targets.{IsTarget}
@@ -18,11 +19,19 @@ pub record IsSettled (a : ArrayView) (m : MemberView) : Type 0 where
   pub has_target : HasTarget a m
   pub resynced : a.resynced ≡ true
 
--- and nothing is in flight, and the count can rise, as it does when the member comes into sync
+-- how often the count rises: as the member comes into sync, and before that where a spare is admitted
+abbrev pub rises : MemberState → ℕ
+rises (InSync role) = 1
+rises (Recovering role) = 1
+rises (Stale role) = 1
+rises Spare = 2
+rises Faulty = 1
+
+-- and nothing is in flight, and the count can rise as often
 pub record MayRebuild (a : ArrayView) (m : MemberView) : Type 0 where
   pub settled : IsSettled a m
   pub idle : IsIdle a
-  pub unspent : HasSpentEvents a → ⊥
+  pub can_rise : a.shared.events + rises m.state < 2 ^ 64
 
 -- ---- the first that is lacking
 pub record LacksTarget (a : ArrayView) (m : MemberView) : Type 0 where
@@ -41,7 +50,7 @@ pub record IsBusy (number : ℕ) (a : ArrayView) (m : MemberView) : Type 0 where
 pub record IsSpent (a : ArrayView) (m : MemberView) : Type 0 where
   pub settled : IsSettled a m
   pub idle : IsIdle a
-  pub spent : HasSpentEvents a
+  pub spent : 2 ^ 64 ≤ a.shared.events + rises m.state
 
 -- no check gives another fault
 abbrev pub CannotRebuild : ArrayView → MemberView → RebuildFault → Type 0

@@ -8,6 +8,8 @@ pub mod Beginning
 pub mod RebuildSources
 -- What the members have to know is stored before a rebuild, and after it (this project's own order).
 pub mod Storing
+-- Before a pass what the members have to know is stored, and a spare is admitted (this project's own order).
+pub mod Readying
 -- A pass before it begins: its plan, its sources, and the sets of the chunks that it copies and of those that nobody has.
 pub mod Preparing
 -- The target gets its chunks, each from a member that serves it. No other device is written.

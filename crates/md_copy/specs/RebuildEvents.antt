@@ -5,6 +5,7 @@ use Rattle.md_bitmap.specs.Marks.{Bitmap}
 use Rattle.md_kept_members.specs.View.{MemberView}
 use Rattle.md_model.specs.Events.{Event}
 use Rattle.md_state.specs.View.{ArrayView, Disk, MirrorView}
+use Rattle.md_array.specs.Admitting.{FailsOnTargetAlone, FailsToAdmit}
 use Rattle.md_array.specs.Enrolling.{FailsToEnrol}
 use Rattle.md_array.specs.InTurn.{AllOf}
 use Rattle.md_array.specs.ReadAsKept.{HasWidth}
@@ -16,7 +17,8 @@ use Rattle.md_copy.specs.Rebuilding.{RefusesRebuild}
 use Rattle.md_copy.specs.Rebuilt.{HaltsFrom}
 
 -- ---- which events
--- Marks and superblocks are stored; of the target data change, its bitmap and its log, or a write of its superblock fails.
+-- Marks and superblocks are stored; the target, a spare, is admitted; of it data change, its bitmap and its log, or a write of its
+-- superblock fails.
 abbrev pub IsBeforeEnrol : ℕ → Event → Type 0
 IsBeforeEnrol target (Event.Record k) = Unit {0}
 IsBeforeEnrol target (Event.StoreMarks k b) = Unit {0}
@@ -25,6 +27,7 @@ IsBeforeEnrol target (Event.StoreMarksFails k b) = Unit {0}
 IsBeforeEnrol target (Event.Fill k) = k ≡ target
 IsBeforeEnrol target (Event.Prepare k) = k ≡ target
 IsBeforeEnrol target (Event.RecordTargetFails k) = k ≡ target
+IsBeforeEnrol target (Event.Admit k role listed) = k ≡ target
 IsBeforeEnrol target e = ⊥
 
 -- these, or the target comes into sync
@@ -32,11 +35,26 @@ abbrev pub IsOfRebuild : ℕ → Event → Type 0
 IsOfRebuild target (Event.Enrol k role listed) = k ≡ target
 IsOfRebuild target e = IsBeforeEnrol target e
 
--- in this order: what is due is stored, and nothing fails; the target is filled, prepared, and comes into sync; what is due then is stored
+-- what is due is stored, and nothing fails
+pub record AreStored (events : List Event) : Type 0 where
+  pub stores : AllOf IsStoring events
+  pub unfailing : AllOf IsNoFailure events
+
+-- so it is, the target is admitted, and what is due then is stored
+pub record AreOfAdmission (target : ℕ) (events : List Event) : Type 0 where
+  pub before : List Event
+  pub first : AreStored before
+  pub role : ℕ
+  pub listed : ℕ → Bool
+  pub after : List Event
+  pub then : AreStored after
+  pub list : events ≡ before ++ Event.Admit target role listed ∷ after
+
+-- in this order: what is due is stored, and the target admitted if it is a spare; it is filled, prepared, and comes into sync; what is due
+-- then is stored
 pub record IsListOfRebuild (target : ℕ) (events : List Event) : Type 0 where
   pub before : List Event
-  pub first : AllOf IsStoring before
-  pub unfailing : AllOf IsNoFailure before
+  pub first : AreStored before ⊎ AreOfAdmission target before
   pub role : ℕ
   pub listed : ℕ → Bool
   pub after : List Event
@@ -49,6 +67,17 @@ pub record LeadsOrHalts (IsOf : Event → Type 0) (old new : MirrorView) : Type 
   pub last : MirrorView
   pub ends : (last ≡ new) ⊎ HaltsFrom last new
   pub leads : LeadsBy IsOf old last
+
+-- The write failed by which the target is admitted. Where it left the old superblock or none, that is an event, too.
+pub record FailsFrom (target : ℕ) (last new : MirrorView) : Type 0 where
+  pub fails : FailsToAdmit target last new
+  pub event : FailsOnTargetAlone target last new
+
+-- Of one that is refused they lead there, too, or to the mirror right before that write.
+pub record LeadsOrStops (target : ℕ) (old new : MirrorView) : Type 0 where
+  pub last : MirrorView
+  pub ends : (last ≡ new) ⊎ (HaltsFrom last new ⊎ FailsFrom target last new)
+  pub leads : LeadsBy (IsBeforeEnrol target) old last
 
 -- a rebuild that is done
 pub record RebuildLeads (target : ℕ) (old new : MirrorView) : Type 0 where
@@ -77,8 +106,9 @@ AsksOfFailure target old new (InFlight number) h = Unit {0}
 AsksOfFailure target old new EventsFull h = Unit {0}
 AsksOfFailure target old new (MetadataFault k) h = Unit {0}
 AsksOfFailure target old new TargetFault (inl first) = Unit {0}
-AsksOfFailure target old new TargetFault (inr (inl pass)) = Unit {0}
-AsksOfFailure target old new TargetFault (inr (inr ends)) = FailsAtMarks ends.why
+AsksOfFailure target old new TargetFault (inr (inl admission)) = Unit {0}
+AsksOfFailure target old new TargetFault (inr (inr (inl pass))) = Unit {0}
+AsksOfFailure target old new TargetFault (inr (inr (inr ends))) = FailsAtMarks ends.why
 AsksOfFailure target old new NoMemory h = Unit {0}
 AsksOfFailure target old new (SourceFault k chunk) h = Unit {0}
 AsksOfFailure target old new (LogFull k) h = Unit {0}

@@ -1,5 +1,5 @@
--- A rebuild in one pass, step by step (this project's own): what is due is stored, the pass is made, the target comes into sync, and the
--- others are told.
+-- A rebuild in one pass, step by step (this project's own): what is due is stored, a spare is admitted, the pass is made, the target comes
+-- into sync, and the others are told.
 use Rattle.std.specs.Prelude.{◌≡◌, ◌⊎◌, ℕ}
 use Rattle.md_bitmap.specs.Marks.{Bitmap}
 use Rattle.md_kept_members.specs.View.{MemberView}
@@ -16,14 +16,15 @@ use Rattle.md_copy.specs.Beginning.{CannotRebuild, MayRebuild}
 use Rattle.md_copy.specs.Enrolled.{HasNoRoom}
 use Rattle.md_copy.specs.Filling.{FailsToFill, Fills}
 use Rattle.md_copy.specs.Preparing.{IsLeastPlan, IsSetOf, Tells, is_in}
+use Rattle.md_copy.specs.Readying.{AdmitsFirst, FailsAdmission, Readies, StopsAdmitted}
 use Rattle.md_copy.specs.Storing.{FailsOnTarget, Settles, StopsAt, StoresFirst}
 
--- It was checked, what was due is stored, and a pass is planned by what is kept in memory then.
+-- It was checked, what was due is stored, a spare is admitted, and a pass is planned by what is kept in memory then.
 pub record Begins (target : ℕ) (planned : Planned) (old stored : MirrorView) : Type 0 where
   pub member : MemberView
   pub at : IsMember old.array target member
   pub may : MayRebuild old.array member
-  pub first : StoresFirst old stored
+  pub first : Readies target member old stored
   pub now : MemberView
   pub there : IsMember stored.array target now
   pub plan : IsLeastPlan stored.array now planned
@@ -68,19 +69,19 @@ pub record RefusesAtOnce (target : ℕ) (fault : RebuildFault) (old new : Mirror
   pub at : IsMember old.array target member
   pub cannot : CannotRebuild old.array member fault
 
--- it might begin, and not all that was due is stored
+-- it might begin, and not all that was due is stored, or a spare is not admitted
 pub record EndsStoring (target : ℕ) (old : MirrorView) (Why : Type 0) : Type 0 where
   pub member : MemberView
   pub at : IsMember old.array target member
   pub may : MayRebuild old.array member
   pub why : Why
 
--- the pass was not made: memory was refused for it
+-- the pass was not made: memory was refused for it, or before that for the admission of a spare
 pub record HasNoPass (target : ℕ) (old new : MirrorView) : Type 0 where
   pub member : MemberView
   pub at : IsMember old.array target member
   pub may : MayRebuild old.array member
-  pub first : StoresFirst old new
+  pub first : StoresFirst old new ⊎ AdmitsFirst target old new
 
 -- it ended before its end, with this fault
 pub record EndsInPass (target : ℕ) (fault : RebuildFault) (old new : MirrorView) : Type 0 where
@@ -104,9 +105,11 @@ RefusesRebuild target old new NotSpare = RefusesAtOnce target NotSpare old new
 RefusesRebuild target old new Dirty = RefusesAtOnce target Dirty old new
 RefusesRebuild target old new (InFlight number) = RefusesAtOnce target (InFlight number) old new
 RefusesRebuild target old new EventsFull = RefusesAtOnce target EventsFull old new
-RefusesRebuild target old new (MetadataFault k) = EndsStoring target old (StopsAt target k old new)
+RefusesRebuild target old new (MetadataFault k) = EndsStoring target old (StopsAt target k old new) ⊎ EndsStoring target old (StopsAdmitted target k old new)
 RefusesRebuild target old new TargetFault =
-    EndsStoring target old (FailsOnTarget target old new) ⊎ (EndsInPass target TargetFault old new ⊎ EndsFilled target old new (λ copied orphans filled. FailsToEnrol target copied orphans filled new))
+    EndsStoring target old (FailsOnTarget target old new)
+    ⊎ (EndsStoring target old (FailsAdmission target old new)
+    ⊎ (EndsInPass target TargetFault old new ⊎ EndsFilled target old new (λ copied orphans filled. FailsToEnrol target copied orphans filled new)))
 RefusesRebuild target old new NoMemory =
     HasNoPass target old new ⊎ (EndsInPass target NoMemory old new ⊎ EndsFilled target old new (λ copied orphans filled. new ≡ filled))
 RefusesRebuild target old new (SourceFault k chunk) = EndsInPass target (SourceFault k chunk) old new

@@ -1,8 +1,8 @@
 -- What the members have to know is stored before a rebuild, and after it (this project's own order).
-use Rattle.std.specs.Prelude.{◌≡◌, ◌≢◌, ◌⊎◌, ℕ, false}
+use Rattle.std.specs.Prelude.{◌≡◌, ◌≢◌, ◌⊎◌, ℕ, true, false}
 use Rattle.md_model.specs.Events.{Event}
 use Rattle.md_kept_members.specs.View.{MemberView}
-use Rattle.md_state.specs.Members.{AllInSync, IsInSync}
+use Rattle.md_state.specs.Members.{AllInSync, IsInSync, IsMember}
 use Rattle.md_state.specs.View.{MirrorView}
 use Rattle.md_array.specs.Consistency.{IsConsistent}
 use Rattle.md_array.specs.InTurn.{HaltsAt, Requests}
@@ -41,8 +41,9 @@ pub record StopsAt (target k : ℕ) (old new : MirrorView) : Type 0 where
   pub other : k ≢ target
   pub ends : LosesStoring IsStoring k old new ⊎ HaltsAtMember k old new
 
--- The superblock of the target could not be stored. In memory it is as it was, its record due.
+-- The superblock of the target was due, and could not be stored. In memory it is as it was, its record due.
 pub record FailsOnTarget (target : ℕ) (old new : MirrorView) : Type 0 where
+  pub due : (m : MemberView) → IsMember old.array target m → m.due ≡ true
   pub mid : MirrorView
   pub stores : Stores IsStoring old mid
   pub fails : LeavesUnrecorded target mid new

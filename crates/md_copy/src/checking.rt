@@ -1,12 +1,13 @@
 // What is checked of a rebuild before any device is used.
-ghost use Rattle.std.specs.Prelude.{◌<◌, MatchResult, length};
+ghost use Rattle.std.specs.Prelude.{◌≡◌, ◌<◌, MatchResult, length};
 ghost use Rattle.md_kept_members.specs.View.{MemberView};
 ghost use Rattle.md_state.specs.Members.{IsMember};
-ghost use Rattle.md_copy.specs.Beginning.{CannotRebuild, MayRebuild};
+ghost use Rattle.md_copy.specs.Beginning.{CannotRebuild, MayRebuild, rises};
 
 use crate::fault::RebuildFault;
 use crate::target::is_target;
 use md_array::Mirror;
+use md_assembly::MemberState;
 use md_device::Device;
 
 /// Whether a rebuild of the target may begin. The fault is the first in the order of `RebuildFault`.
@@ -30,8 +31,21 @@ pub(crate) fn check_rebuild<D: Device + Drop>(
     if let Some(number) = mirror.in_flight() {
         return Err(RebuildFault::InFlight(number));
     }
-    if mirror.events() == u64::MAX {
+    if mirror.events() > u64::MAX - rises(mirror.state(target)) {
         return Err(RebuildFault::EventsFull);
     }
     Ok(())
+}
+
+// How often the event count rises in a rebuild of a member in this state.
+fn rises(state: MemberState) -> u64
+    ensures { result ≡ rises state }
+{
+    match state {
+        MemberState::Spare => 2,
+        MemberState::InSync(_)
+        | MemberState::Recovering(_)
+        | MemberState::Stale(_)
+        | MemberState::Faulty => 1,
+    }
 }

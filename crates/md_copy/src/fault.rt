@@ -24,14 +24,14 @@ pub enum RebuildFault {
     /// Memory was refused.
     #[error("NoMemory")]
     NoMemory,
-    /// The member could not be written. It is what it was.
+    /// The member could not be written. It is what it was, or recovering where it was admitted before that.
     #[error("TargetFault")]
     TargetFault,
     /// A mark or a superblock could not be stored on this member, which is faulty now, or has halted the
     /// mirror.
     #[error("MetadataFault {0}")]
     MetadataFault(usize),
-    /// The event count has to rise and can't.
+    /// The event count has to rise, for a spare twice, and can't.
     #[error("EventsFull")]
     EventsFull,
     /// This member could not be read in this chunk.

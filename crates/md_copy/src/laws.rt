@@ -7,7 +7,7 @@ ghost use Rattle.md_array.specs.Consistency.{IsConsistent};
 ghost use Rattle.md_array.specs.Enrolments.{EndsBelow};
 ghost use Rattle.md_copy.specs.declared.fault.RebuildFault.{RebuildFault};
 ghost use Rattle.md_copy.specs.declared.rebuilt.Rebuilt.{Rebuilt};
-ghost use Rattle.md_copy.specs.RebuildEvents.{AsksOfFailure, IsBeforeEnrol, LeadsOrHalts, RebuildLeads};
+ghost use Rattle.md_copy.specs.RebuildEvents.{AsksOfFailure, LeadsOrStops, RebuildLeads};
 ghost use Rattle.md_copy.specs.Rebuilding.{Rebuilds, RebuildsBy, RefusesRebuild};
 ghost use Rattle.md_copy.specs.Rebuilt.{HasRebuilt, IsRebuiltInSync};
 
@@ -34,5 +34,5 @@ pub fn rebuild_events()
         → EndsBelow old target → Rebuilds target told old new → RebuildLeads target old new }
     ensures refused { (target : ℕ) (old new : MirrorView) → IsConsistent old → IsConsistent new
         → (fault : RebuildFault) (h : RefusesRebuild target old new fault) → AsksOfFailure target old new fault h
-        → LeadsOrHalts (IsBeforeEnrol target) old new }
+        → LeadsOrStops target old new }
 {}

@@ -10,6 +10,7 @@ pub mod laws;
 mod listed;
 mod one_pass;
 mod preparing;
+mod readying;
 mod rebuild_table;
 mod rebuilding;
 mod rebuilt;

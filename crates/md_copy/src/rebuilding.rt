@@ -8,9 +8,9 @@ use crate::enrol_filled::enrol_filled;
 use crate::fault::RebuildFault;
 use crate::filling::fill;
 use crate::preparing::prepare;
+use crate::readying::make_ready;
 use crate::rebuilt::Rebuilt;
 use crate::settling::settle;
-use crate::storing::store_first;
 use md_array::Mirror;
 use md_device::Device;
 use md_pass::Gate;
@@ -19,7 +19,8 @@ use std::sync::Wait;
 use std::thread::Threads;
 
 /// Copies to the target, a spare or recovering, each chunk that it lacks and another member can give, in the
-/// fewest rounds. Then it is in sync, and lists the others as bad.
+/// fewest rounds. Then it is in sync, and lists the others as bad. A spare is admitted first, so that it is
+/// recovering from then on, whatever comes of the rebuild.
 pub fn rebuild<D: Device + Drop + Send, G: Gate + Sync, R: Threads + Wait + Sync>(
     rt: &R,
     alloc: Global,
@@ -35,7 +36,7 @@ pub fn rebuild<D: Device + Drop + Send, G: Gate + Sync, R: Threads + Wait + Sync
     if let Err(fault) = check_rebuild(mirror, target) {
         return Err(fault);
     }
-    if let Err(fault) = store_first(mirror, target) {
+    if let Err(fault) = make_ready(alloc, mirror, target) {
         return Err(fault);
     }
     let mut pass = match prepare(alloc, mirror, target) {

@@ -1,0 +1,56 @@
+-- Before a pass what the members have to know is stored, and a spare is admitted (this project's own order).
+use Rattle.std.specs.Prelude.{◌≡◌, ◌⊎◌, ℕ, true}
+use Rattle.md_assembly.specs.States.{is_recovering, is_spare}
+use Rattle.md_kept_members.specs.View.{MemberView}
+use Rattle.md_state.specs.View.{MirrorView}
+use Rattle.md_array.specs.Admitting.{Admits, FailsToAdmit}
+use Rattle.md_array.specs.Consistency.{IsConsistent}
+use Rattle.md_copy.specs.declared.fault.RebuildFault.{RebuildFault}
+use Rattle.md_copy.specs.declared.fault.RebuildFault.TheVariants.{MetadataFault, NoMemory, TargetFault}
+use Rattle.md_copy.specs.Storing.{FailsOnTarget, StopsAt, StoresFirst}
+
+-- What was due is stored, so that no member in sync is two events behind. Then the target, a spare, was admitted.
+pub record AdmitsAfter (target : ℕ) (old admitted : MirrorView) : Type 0 where
+  pub stored : MirrorView
+  pub first : StoresFirst old stored
+  pub admits : Admits target stored admitted
+  pub spare : is_spare admits.may.member.state ≡ true
+  pub sound : IsConsistent admitted
+
+-- And what this made due is stored.
+pub record AdmitsFirst (target : ℕ) (old ready : MirrorView) : Type 0 where
+  pub admitted : MirrorView
+  pub after : AdmitsAfter target old admitted
+  pub then : StoresFirst admitted ready
+
+-- A pass may be planned: of a recovering target what was due is stored, and a spare is admitted too.
+abbrev pub Readies : ℕ → MemberView → MirrorView → MirrorView → Type 0
+Readies target m old ready = ((is_recovering m.state ≡ true) × StoresFirst old ready) ⊎ ((is_spare m.state ≡ true) × AdmitsFirst target old ready)
+
+-- ---- why not
+-- why a spare is not admitted
+abbrev pub RefusesAdmission : ℕ → MirrorView → MirrorView → RebuildFault → Type 0
+RefusesAdmission target old new TargetFault = FailsToAdmit target old new
+RefusesAdmission target old new NoMemory = new ≡ old
+RefusesAdmission target old new fault = ⊥
+
+-- What was due is stored, and the write failed by which the target is admitted. In memory it is a spare as before.
+pub record FailsAdmission (target : ℕ) (old new : MirrorView) : Type 0 where
+  pub stored : MirrorView
+  pub first : StoresFirst old stored
+  pub fails : FailsToAdmit target stored new
+  pub spare : is_spare fails.may.member.state ≡ true
+  pub sound : IsConsistent new
+
+-- The target was admitted, and is recovering. Then a write to member k failed.
+pub record StopsAdmitted (target k : ℕ) (old new : MirrorView) : Type 0 where
+  pub admitted : MirrorView
+  pub after : AdmitsAfter target old admitted
+  pub stops : StopsAt target k admitted new
+
+-- Where memory was refused for the admission, what was due is stored.
+abbrev pub RefusesReady : ℕ → MirrorView → MirrorView → RebuildFault → Type 0
+RefusesReady target old new (MetadataFault k) = StopsAt target k old new ⊎ StopsAdmitted target k old new
+RefusesReady target old new TargetFault = FailsOnTarget target old new ⊎ FailsAdmission target old new
+RefusesReady target old new NoMemory = StoresFirst old new
+RefusesReady target old new fault = ⊥

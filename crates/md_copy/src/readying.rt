@@ -1,0 +1,71 @@
+// Before a pass what is due is stored, and a spare is admitted.
+ghost use Rattle.std.specs.Prelude.{◌≡◌, ◌<◌, MatchResult, false, length, true};
+ghost use Rattle.md_assembly.specs.States.{is_spare};
+ghost use Rattle.md_kept_members.specs.View.{MemberView};
+ghost use Rattle.md_state.specs.Members.{IsMember};
+ghost use Rattle.md_state.specs.Rising.{HasSpentEvents};
+ghost use Rattle.md_array.specs.Admitting.{Admits};
+ghost use Rattle.md_array.specs.Consistency.{IsConsistent};
+ghost use Rattle.md_copy.specs.Beginning.{MayRebuild};
+ghost use Rattle.md_copy.specs.Readying.{Readies, RefusesAdmission, RefusesReady};
+ghost use Rattle.md_copy.specs.Targets.{IsTarget};
+
+use crate::fault::RebuildFault;
+use crate::storing::store_first;
+use md_array::{AdmitFault, Mirror};
+use md_device::Device;
+use std::alloc::Global;
+
+/// Stores what is due. A spare is then admitted, and what that makes due is stored.
+pub(crate) fn make_ready<D: Device + Drop>(
+    alloc: Global,
+    mirror: &mut Mirror<D>,
+    target: usize,
+) -> Result<(), RebuildFault>
+    requires within { target < length mirror.old.array.members }
+    requires sound { IsConsistent mirror.old }
+    requires may { (m : MemberView) → IsMember mirror.old.array target m → MayRebuild mirror.old.array m }
+    ensures gives { (m : MemberView) → IsMember mirror.old.array target m
+        → MatchResult result (λ _. Readies target m mirror.old mirror.new) (RefusesReady target mirror.old mirror.new) }
+    ensures sound { IsConsistent mirror.new }
+{
+    if let Err(fault) = store_first(mirror, target) {
+        return Err(fault);
+    }
+    if !mirror.state(target).is_spare() {
+        return Ok(());
+    }
+    if let Err(fault) = admit_spare(alloc, mirror, target) {
+        return Err(fault);
+    }
+    if let Err(fault) = store_first(mirror, target) {
+        return Err(fault);
+    }
+    Ok(())
+}
+
+// The target, a spare that can be given a role, is admitted.
+fn admit_spare<D: Device + Drop>(
+    alloc: Global,
+    mirror: &mut Mirror<D>,
+    target: usize,
+) -> Result<(), RebuildFault>
+    requires within { target < length mirror.old.array.members }
+    requires sound { IsConsistent mirror.old }
+    requires running { mirror.old.array.halted ≡ false }
+    requires spare { (m : MemberView) → IsMember mirror.old.array target m → is_spare m.state ≡ true }
+    requires target { (m : MemberView) → IsMember mirror.old.array target m → IsTarget mirror.old.array m }
+    requires unspent { HasSpentEvents mirror.old.array → ⊥ }
+    ensures gives { MatchResult result (λ _. Admits target mirror.old mirror.new) (RefusesAdmission target mirror.old mirror.new) }
+    ensures sound { IsConsistent mirror.new }
+{
+    match mirror.admit(alloc, target) {
+        Ok(()) => Ok(()),
+        Err(AdmitFault::TargetFault) => Err(RebuildFault::TargetFault),
+        Err(AdmitFault::NoMemory) => Err(RebuildFault::NoMemory),
+        // The mirror runs, a role is free, and the count can rise.
+        Err(AdmitFault::Halted) => unreachable!(),
+        Err(AdmitFault::NoRole) => unreachable!(),
+        Err(AdmitFault::EventsFull) => unreachable!(),
+    }
+}
