@@ -14,7 +14,7 @@ use std::alloc::Global;
 use std::process::Abort;
 use std::test::Fail;
 
-const CALLS: [Call; 9] = [
+const CALLS: [Call; 10] = [
     Call::Fail(0),
     Call::Fail(1),
     Call::Fail(2),
@@ -23,6 +23,7 @@ const CALLS: [Call; 9] = [
     Call::Remove(2),
     Call::ReAdd,
     Call::Add,
+    Call::Admit,
     Call::Write,
 ];
 
@@ -37,10 +38,10 @@ const ENLARGED: [Call; 2] = [Call::Add, Call::Fail(0)];
 
 const EVENTS: u64 = 10;
 
-// Order `n`: its calls are the digits of the number to base 9, the last one first.
+// Order `n`: its calls are the digits of the number to base 10, the last one first.
 fn calls_of(n: u32) -> [Call; 4] {
-    let at = |divisor: u32| CALLS[(n / divisor % 9) as usize];
-    [at(1), at(9), at(81), at(729)]
+    let at = |divisor: u32| CALLS[(n / divisor % 10) as usize];
+    [at(1), at(10), at(100), at(1_000)]
 }
 
 // Whether the mirror shows what it has to.
@@ -172,14 +173,14 @@ fn play(rt: &impl Abort, alloc: Global, point: &Point<'_>, calls: &[Call]) -> Re
 }
 
 fn play_four(rt: &impl Abort, alloc: Global, point: &Point<'_>) -> Result<(), Fail> {
-    for n in 0..6_561 {
+    for n in 0..10_000 {
         play(rt, alloc, point, &calls_of(n))?;
     }
     Ok(())
 }
 
 fn play_three(rt: &impl Abort, alloc: Global, point: &Point<'_>) -> Result<(), Fail> {
-    for n in 0..729 {
+    for n in 0..1_000 {
         let [a, b, c, _] = calls_of(n);
         play(rt, alloc, point, &[a, b, c])?;
     }
