@@ -7,7 +7,7 @@ use Rattle.md_device.specs.Splice.{part}
 use Rattle.md_device.proofs.Splices.{part_part}
 use Rattle.md_assembly.specs.declared.state.MemberState.{MemberState}
 use Rattle.md_assembly.specs.declared.state.MemberState.TheVariants.{InSync, Recovering, Stale, Spare, Faulty}
-use Rattle.md_assembly.specs.States.{takes_role}
+use Rattle.md_assembly.specs.States.{is_recovering, is_spare, takes_role}
 use Rattle.md_bitmap.specs.declared.chunks.Chunks.{Chunks}
 use Rattle.md_bitmap.specs.Chunks.{InChunk}
 use Rattle.md_bitmap.specs.Marks.{Bitmap, is_set}
@@ -16,15 +16,16 @@ use Rattle.md_cert.specs.Tables.{orphans_of}
 use Rattle.md_collect.specs.Places.{bytes_of, chunk_on, start_of}
 use Rattle.md_kept_members.specs.View.{MemberView}
 use Rattle.md_pass.specs.Beside.{has_chunk}
-use Rattle.md_state.specs.Enrolling.{HasNoRole}
-use Rattle.md_state.specs.MakingClean.{first_number}
+use Rattle.md_state.specs.Admitting.{HasNoRole}
+use Rattle.md_state.specs.MakingClean.{IsIdle, first_number}
 use Rattle.md_state.specs.Members.{IsInSync, IsMember}
 use Rattle.md_state.specs.Missing as state
 use Rattle.md_state.specs.Missing.{is_rebuilt}
 use Rattle.md_state.specs.View.{ArrayView, Disk, MirrorView}
 use Rattle.md_array.specs.Consistency.{IsConsistent}
 use Rattle.md_array.specs.Enrolling.{HoldsCopied, MayEnrol}
-use Rattle.md_array.specs.Worlds.{AreHonest}
+use Rattle.md_array.specs.Worlds.{AreHonest, is_listed}
+use Rattle.md_model.proofs.Cases.{by_test}
 use Rattle.md_copy.specs.declared.preparing.Pass.{Pass}
 use Rattle.md_copy.specs.Filling.{FillsPass, Fills, IsCopiedSlot, IsFilling}
 use Rattle.md_copy.specs.Preparing.{IsPrepared, is_in}
@@ -43,19 +44,19 @@ target_state a number Faulty t = absurd t
 pub target_rebuilt : (a : ArrayView) (m : MemberView) → IsTarget a m → is_rebuilt m.state ≡ true
 target_rebuilt a m t = target_state a m.superblock.dev_number m.state t
 
-spare_free : (a : ArrayView) (number : ℕ) (s : MemberState) → MayBeRebuilt a number s → s ≡ Spare → (number < 1920) × HasFreeRole a
+spare_free : (a : ArrayView) (number : ℕ) (s : MemberState) → MayBeRebuilt a number s → is_spare s ≡ true → (number < 1920) × HasFreeRole a
 spare_free a number (InSync role) t e = absurd t
 spare_free a number (Recovering role) t e = absurd cc
 spare_free a number (Stale role) t e = absurd t
 spare_free a number Spare t e = t
 spare_free a number Faulty t e = absurd t
 
--- it gets a role
-pub has_role : (a : ArrayView) (k : ℕ) → ((m : MemberView) → IsMember a k m → IsTarget a m) → HasNoRole k a → ⊥
-has_role a k is_target none =
+-- a spare gets a role
+pub has_role : (a : ArrayView) (k : ℕ) → ((m : MemberView) → IsMember a k m → IsTarget a m) → ((m : MemberView) → IsMember a k m → is_spare m.state ≡ true) → HasNoRole k a → ⊥
+has_role a k is_target spare none =
     let m = none.member in
-    let free = spare_free a m.superblock.dev_number m.state (is_target m none.at) none.none.spare in
-    elim none.none.why [
+    let free = spare_free a m.superblock.dev_number m.state (is_target m none.at) (spare m none.at) in
+    elim none.none [
       | inl large ↦ (let low = free.0 in omega arith)
       | inr taken ↦
           let role = free.1.0 in
@@ -113,9 +114,9 @@ module _ (target : ℕ) (m : MemberView) (slots : List Slot) (v w : MirrorView) 
       (get_or v.disks j e, slice_get-get_or v.disks j e (omega (arith, low, many)))
 
   -- the target holds the array's content in each chunk that was copied
-  pub holds_copied : IsConsistent v → All (IsCopiedSlot target m.superblock.data_offset v w) slots → IsMember v.array target m → (copied : Bitmap) → ((c : ℕ) → is_set copied.bytes c ≡ has_chunk slots c)
+  pub holds_copied : IsConsistent v → v.array.halted ≡ false → All (IsCopiedSlot target m.superblock.data_offset v w) slots → IsMember v.array target m → (copied : Bitmap) → ((c : ℕ) → is_set copied.bytes c ≡ has_chunk slots c)
       → AreHonest w.disks → HoldsCopied w.disks w.array target copied
-  holds_copied sound all at copied bits honest content has e n at_e at_n c s low set inside =
+  holds_copied sound running all at copied bits honest content has e n at_e at_n c s low set inside =
       let a_is : w.array ≡ v.array = f.array in
       let n_is : n ≡ m = same_Some n m (sym at_n ∙ ap (λ (a : ArrayView). slice_get a.members target) a_is ∙ at) in
       let hit = Any-from_list_any (λ (slot : Slot). slot.chunk == c) slots (sym (bits c) ∙ set) in
@@ -133,7 +134,12 @@ module _ (target : ℕ) (m : MemberView) (slots : List Slot) (v w : MirrorView) 
       let kept = (f.others j from.0 to.0 one.other from.1 to.1).content_kept in
       let in_sync : IsInSync w.array j one.member = subst (λ (a : ArrayView). IsInSync a j one.member) (sym a_is) one.serves.in_sync in
       let size : s < w.array.chunks.size = inside.within in
-      let held = has.held j to.0 one.member to.1 in_sync s size (λ bad. one.serves.unlisted s (subst (λ x. InChunk v.array.chunks.sectors v.array.chunks.size x s) (sym chunk_is) inside_v) bad) in
+      let super = sound.supers running j from.0 one.member from.1 one.serves.in_sync.member one.serves.in_sync.in_sync (before j from.0 from.1) in
+      let place = one.member.superblock.data_offset + s in
+      let unlisted : is_listed one.member.superblock from.0.content place ≡ false = by_test (is_listed one.member.superblock from.0.content place)
+      (λ yes. absurd (one.serves.unlisted s (subst (λ x. InChunk v.array.chunks.sectors v.array.chunks.size x s) (sym chunk_is) inside_v) (super.known place (super.listed place yes))))
+      (λ no. no) in
+      let held = has.held j to.0 one.member to.1 in_sync s size (ap (λ xs. is_listed one.member.superblock xs place) kept ∙ unlisted) in
       ap (λ (x : MemberView). part e.content (512 * (x.superblock.data_offset + s)) 512) n_is
       ∙ sector
       ∙ sym (ap (λ xs. part xs (512 * (one.member.superblock.data_offset + s)) 512) kept)
@@ -156,9 +162,6 @@ module _ (target : ℕ) (before after : Pass) (v w : MirrorView) (sound : IsCons
   copied_same : (c : ℕ) → is_set after.copied.bytes c ≡ has_chunk p.planned.plan.slots c
   copied_same c = (f.copied p).bits c
 
-  rebuilt : is_rebuilt p.member.state ≡ true
-  rebuilt = target_rebuilt a p.member p.is_target
-
   a_is : w.array ≡ a
   a_is = fills.filling.array
 
@@ -176,13 +179,13 @@ module _ (target : ℕ) (before after : Pass) (v w : MirrorView) (sound : IsCons
   missing_of : (c : ℕ) → IsLacking a p.member c → state.is_missing a p.member c ≡ true
   missing_of c lacks = lacks.missing
 
-  pub may_enrol : a.resynced ≡ true → first_number a ≡ None → MayEnrol target after.copied after.orphans w
-  may_enrol resynced idle = record {
+  pub may_enrol : is_recovering p.member.state ≡ true → a.resynced ≡ true → IsIdle a → MayEnrol target after.copied after.orphans w
+  may_enrol recovering resynced idle = record {
     member = p.member;
     at = subst (λ (x : ArrayView). IsMember x target p.member) (sym a_is) p.at;
-    rebuilt = rebuilt;
+    recovering = recovering;
     resynced = ap (λ (x : ArrayView). x.resynced) a_is ∙ resynced;
-    idle = ap first_number a_is ∙ idle;
+    idle = ap first_number a_is ∙ idle.none;
     copied_chunks = (f.copied p).chunks ∙ sym (ap (λ (x : ArrayView). x.marks.chunks) a_is);
     orphan_chunks = ap (λ (x : Pass). x.orphans.chunks) f.kept ∙ p.orphans.chunks ∙ sym (ap (λ (x : ArrayView). x.marks.chunks) a_is);
     disjoint = λ c low set. elim (cases_Bool (is_set after.orphans.bytes c)) [
@@ -199,5 +202,5 @@ module _ (target : ℕ) (before after : Pass) (v w : MirrorView) (sound : IsCons
       | inl set ↦ missing_of c (planned_given a p.member p.planned.plan plan_of c (sym (copied_same c) ∙ set)).lacks
       | inr set ↦ missing_of c (orphan_unserved a p.member p.plan.rows p.plan.table c (sym (orphans_same c) ∙ set)).0
     ];
-    holds = λ honest. holds_copied target p.member p.planned.plan.slots v w fills.filling sound fills.copied p.at after.copied copied_same honest;
+    holds = λ honest. holds_copied target p.member p.planned.plan.slots v w fills.filling sound idle.running fills.copied p.at after.copied copied_same honest;
   }

@@ -4,11 +4,13 @@ pub mod Carried
 pub mod Chosen
 pub mod Covered
 pub mod EnrolReady
+pub mod HeldAlong
 pub mod LentBack
 pub mod Lists
 pub mod Observed
 pub mod PlanChunks
 pub mod Planned
+pub mod Readied
 pub mod RebuildLeads
 pub mod RebuiltByCall
 pub mod RebuiltMember
@@ -17,6 +19,8 @@ pub mod Rows
 pub mod Served
 pub mod SetsMade
 pub mod SourcesChosen
+pub mod StartedAs
+pub mod StartsReadied
 pub mod StepsOfRebuild
 pub mod StoringKeeps
 pub mod StoredFirst

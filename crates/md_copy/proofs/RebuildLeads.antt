@@ -1,10 +1,11 @@
 -- A rebuild is a list of events of the array's model, one part after another.
-use Rattle.std.proofs.Common.{◌≡◌, ◌∙◌, ℕ, ◌+◌, ◌<◌, ◌≤◌, ◌^◌, true, Option, List, [], ◌∷◌, ◌++◌, slice_get, refl, sym, ap, subst, inl, inr}
+use Rattle.std.proofs.Common.{◌≡◌, ◌∙◌, ◌⊎◌, ℕ, ◌+◌, ◌<◌, ◌≤◌, ◌^◌, true, Option, List, [], ◌∷◌, ◌++◌, slice_get, refl, sym, ap, subst, inl, inr}
 use Rattle.std.proofs.lemmas.Option.{same_Some}
 use Rattle.md_bitmap.specs.Marks.{Bitmap}
 use Rattle.md_bitmap.specs.declared.chunks.Chunks.{Chunks}
 use Rattle.md_cert.specs.declared.slots.Slot.{Slot}
 use Rattle.md_device.proofs.Leaving.{leaves_less}
+use Rattle.md_kept_members.specs.TakingBack.{admitted_member}
 use Rattle.md_kept_members.specs.View.{MemberView}
 use Rattle.md_model.specs.Events.{Event}
 use Rattle.md_pass.specs.Beside.{SameBeside, has_chunk}
@@ -13,40 +14,49 @@ use Rattle.md_plan.specs.declared.planner.Planned.{Planned}
 use Rattle.md_inflight.specs.Inflight.{InflightList, lookup}
 use Rattle.md_requests.specs.Pending.{PendingView}
 use Rattle.md_requests.specs.declared.extent.Extent.{Extent}
+use Rattle.md_state.specs.Admitting.{admitted}
 use Rattle.md_state.specs.MakingClean.{IsIdle}
 use Rattle.md_state.specs.Members.{IsMember}
 use Rattle.md_state.specs.Missing as state
 use Rattle.md_state.specs.Missing.{is_rebuilt}
 use Rattle.md_state.specs.Requests.{AreInFlight, IsPending}
 use Rattle.md_state.specs.View.{ArrayView, MirrorView}
+use Rattle.md_array.specs.Admitting.{admit_event}
 use Rattle.md_array.specs.Consistency.{IsConsistent}
 use Rattle.md_array.specs.Enrolling.{Enrols, FailsToEnrol}
 use Rattle.md_array.specs.Enrolments.{EndsBelow, enrol_event, lists_of}
-use Rattle.md_array.specs.Events.{Does, IsChangedAlone, IsSameBesideMissing}
+use Rattle.md_array.specs.Events.{Does, IsChangedAlone, IsSameBesideMissing, listed_on}
 use Rattle.md_array.specs.Filling as array
 use Rattle.md_array.specs.InTurn.{AllOf, Did, InTurn, IsInOrder, Leads, LeftWhole, Requests}
 use Rattle.md_array.specs.RecordingTarget as array_target
 use Rattle.md_array.specs.Worlds.{AreHonest}
+use Rattle.md_array.proofs.Rebuilding.AdmittedEvent.{admit_happens, admitted_is_pending}
 use Rattle.md_array.proofs.Rebuilding.EnrolUnstored.{idle_pending}
 use Rattle.md_array.proofs.Rebuilding.EnrolledEvent.{enrol_leads}
 use Rattle.md_array.proofs.Rebuilding.FilledEvent.{fill_happens}
+use Rattle.md_array.proofs.Rebuilding.InBetween.{recovers_rebuilt}
 use Rattle.md_array.proofs.Rebuilding.PreparedEvent.{prepare_happens}
 use Rattle.md_array.proofs.Rebuilding.TargetEvent.{target_fails_happens}
+use Rattle.md_array.proofs.Rebuilding.TargetLeft.{left_happens}
 use Rattle.md_array.proofs.Steps.Turns.{all_on, all_such, turn_on, turn_then}
 use Rattle.md_metadata.specs.Going.{GoesOn, LeadsBy, only_others}
-use Rattle.md_metadata.specs.Storing.{AllStayReady, IsStoring, StaysReady}
+use Rattle.md_metadata.specs.Storing.{IsStoring}
 use Rattle.md_copy.specs.declared.fault.RebuildFault.{RebuildFault}
 use Rattle.md_copy.specs.declared.fault.RebuildFault.TheVariants.{Halted, NotSpare, Dirty, InFlight, LogFull, NoMemory, TargetFault, MetadataFault, EventsFull, SourceFault}
-use Rattle.md_copy.specs.Beginning.{MayRebuild}
 use Rattle.md_copy.specs.Filling.{IsFilling}
-use Rattle.md_copy.specs.RebuildEvents.{AsksOfFailure, FailsAtMarks, IsBeforeEnrol, IsOfRebuild, LeadsOrHalts, RebuildLeads}
+use Rattle.md_copy.specs.RebuildEvents.{AreOfAdmission, AreStored, AsksOfFailure, FailsAtMarks, IsBeforeEnrol, IsOfRebuild, LeadsOrStops, RebuildLeads}
 use Rattle.md_copy.specs.Rebuilding.{Begins, EndsFilled, EndsInPass, EndsStoring, FillsBy, RebuildsBy, RefusesRebuild}
 use Rattle.md_copy.specs.RebuildSources.{IsPlanOf}
-use Rattle.md_copy.specs.Storing.{FailsOnTarget, StopsAt}
+use Rattle.md_copy.specs.Readying.{AdmitsAfter, AdmitsFirst, FailsAdmission, StopsAdmitted}
+use Rattle.md_copy.specs.Storing.{FailsOnTarget, StopsAt, StoresFirst}
+use Rattle.md_copy.specs.Targets.{IsTarget}
+use Rattle.md_copy.proofs.AnsweredRebuild.{readied_either}
 use Rattle.md_copy.proofs.EnrolReady.{target_rebuilt}
 use Rattle.md_copy.proofs.LentBack.{planned_missing}
 use Rattle.md_copy.proofs.RebuiltByCall.{IsLast, last_of}
-use Rattle.md_copy.proofs.StepsOfRebuild.{idle_then, target_stays, target_then}
+use Rattle.md_copy.proofs.Readied.{IsReady, ready_of, spare_rebuilt}
+use Rattle.md_copy.proofs.StartsReadied.{area_then}
+use Rattle.md_copy.proofs.StoredFirst.{rebuilt_still}
 use Rattle.md_copy.proofs.UnfinishedEnrol.{prepares}
 
 -- ---- kinds of events
@@ -59,7 +69,7 @@ storing_before target e of = absurd of
 
 pub before_of : (target : ℕ) (e : Event) → IsBeforeEnrol target e → IsOfRebuild target e
 before_of target (Event.Enrol k role listed) of = absurd of
-before_of target (Event.Admit k role listed) of = absurd of
+before_of target (Event.Admit k role listed) of = of
 before_of target (Event.Checkpoint k offset listed) of = absurd of
 before_of target (Event.NoteBad k c) of = absurd of
 before_of target (Event.StoreLog k listed) of = absurd of
@@ -148,15 +158,81 @@ module _ (target : ℕ) (m : MemberView) (slots : List Slot) (old new : MirrorVi
         ((f.on_target d e at_d at_e).stops honest);
   }
 
+-- ---- what is stored first, and the admission of a spare
+module _ (target : ℕ) where
+  abbrev pub Before : Event → Type 0
+  Before = IsBeforeEnrol target
+
+  abbrev pub event_of : {old admitted : MirrorView} → AdmitsAfter target old admitted → Event
+  event_of h = admit_event h.admits
+
+  admitting_leads : (old admitted : MirrorView) (h : AdmitsAfter target old admitted) → LeadsIn Before (event_of h ∷ []) h.stored admitted
+  admitting_leads old admitted h =
+      let sound = h.first.stores.goes.sound in
+      record {
+        steps = (refl, tt);
+        leads = λ previous others in_flight. (
+          admitted,
+          others,
+          tt,
+          (refl, record { index = target; admits = h.admits; event = refl }),
+          λ honest whole. admit_happens target h.stored admitted sound h.admits h.spare honest others in_flight,
+          (refl, refl),
+        );
+        requests = ap (λ (a : ArrayView). a.requests) h.admits.array;
+        sound = h.sound;
+        pending = admitted_is_pending target h.stored admitted sound h.admits h.spare;
+      }
+
+  -- until it is admitted
+  abbrev pub admission_events : {old admitted : MirrorView} → AdmitsAfter target old admitted → List Event
+  admission_events h = h.first.stores.goes.events ++ event_of h ∷ []
+
+  pub admission_leads : (old admitted : MirrorView) (h : AdmitsAfter target old admitted) → LeadsIn Before (admission_events h) old admitted
+  admission_leads old admitted h =
+      both_lead Before h.first.stores.goes.events (event_of h ∷ []) old h.stored admitted (storing_leads target old h.stored h.first.stores.goes) (admitting_leads old admitted h)
+
+  abbrev pub first_events : {old ready : MirrorView} → AdmitsFirst target old ready → List Event
+  first_events h = h.after.first.stores.goes.events ++ event_of h.after ∷ h.then.stores.goes.events
+
+  admitted_leads : (old ready : MirrorView) (h : AdmitsFirst target old ready) → LeadsIn Before (first_events h) old ready
+  admitted_leads old ready h =
+      both_lead Before h.after.first.stores.goes.events (event_of h.after ∷ h.then.stores.goes.events) old h.after.stored ready (storing_leads target old h.after.stored h.after.first.stores.goes)
+      (both_lead Before (event_of h.after ∷ []) h.then.stores.goes.events h.after.stored h.admitted ready (admitting_leads old h.admitted h.after) (storing_leads target h.admitted ready h.then.stores.goes))
+
+  pub events_either : {old ready : MirrorView} → StoresFirst old ready ⊎ AdmitsFirst target old ready → List Event
+  events_either (inl h) = h.stores.goes.events
+  events_either (inr h) = first_events h
+
+  pub either_leads : (old ready : MirrorView) (h : StoresFirst old ready ⊎ AdmitsFirst target old ready) → LeadsIn Before (events_either h) old ready
+  either_leads old ready (inl h) = storing_leads target old ready h.stores.goes
+  either_leads old ready (inr h) = admitted_leads old ready h
+
+  are_stored : (old new : MirrorView) (h : StoresFirst old new) → AreStored h.stores.goes.events
+  are_stored old new h = record { stores = h.stores.goes.steps; unfailing = h.stores.unfailing }
+
+  either_list : (old ready : MirrorView) (h : StoresFirst old ready ⊎ AdmitsFirst target old ready) → AreStored (events_either h) ⊎ AreOfAdmission target (events_either h)
+  either_list old ready (inl h) = inl (are_stored old ready h)
+  either_list old ready (inr h) =
+      inr (record {
+        before = h.after.first.stores.goes.events;
+        first = are_stored old h.after.stored h.after.first;
+        role = h.after.admits.role;
+        listed = listed_on h.admitted target;
+        after = h.then.stores.goes.events;
+        then = are_stored h.admitted ready h.then;
+        list = refl;
+      })
+
 module _ (target : ℕ) (planned : Planned) (old stored : MirrorView) (b : Begins target planned old stored) where
-  may_all : (m : MemberView) → IsMember old.array target m → MayRebuild old.array m
-  may_all m at = subst (MayRebuild old.array) (same_Some b.member m (sym b.at ∙ at)) b.may
+  ready : IsReady target stored
+  ready = ready_of target planned old stored b
 
   pub idle : IsIdle stored.array
-  idle = idle_then target old stored may_all b.first b.member b.at
+  idle = ready.goes.idle
 
   pub now_rebuilt : is_rebuilt b.now.state ≡ true
-  now_rebuilt = target_rebuilt stored.array b.now (target_then target old stored may_all b.first b.now b.there)
+  now_rebuilt = recovers_rebuilt b.now.state (ready.recovering b.now b.there)
 
   pub plan_of : IsPlanOf stored.array b.now planned.plan
   plan_of = record { rows = b.plan.rows; table = b.plan.table; certificate = planned.certificate; certified = b.plan.certified }
@@ -164,37 +240,43 @@ module _ (target : ℕ) (planned : Planned) (old stored : MirrorView) (b : Begin
   pub filled : (new : MirrorView) → IsFilling target b.now planned.plan.slots stored new → array.Fills target stored new
   filled new f = record {
     may = record { idle = idle; member = b.now; at = b.there; rebuilt = now_rebuilt };
+    noted = λ recovers. ready.noted;
     array = f.array;
-    disks = changed_alone target b.now planned.plan.slots stored new f (planned_missing stored b.first.stores.goes.sound b.now now_rebuilt planned.plan plan_of);
+    disks = changed_alone target b.now planned.plan.slots stored new f (planned_missing stored ready.sound b.now now_rebuilt planned.plan plan_of);
   }
 
   pub filling_leads : (new : MirrorView) → IsConsistent new → IsFilling target b.now planned.plan.slots stored new → LeadsIn (IsBeforeEnrol target) (Event.Fill target ∷ []) stored new
   filling_leads new sound f =
       let fills = filled new f in
       one_leads (IsBeforeEnrol target) (Event.Fill target) stored new refl (λ previous. tt) (λ others. (refl, fills))
-      (λ honest whole others in_flight. fill_happens target stored new b.first.stores.goes.sound fills honest others in_flight) f.array sound
+      (λ honest whole others in_flight. fill_happens target stored new ready.sound fills honest others in_flight) f.array sound
 
-  pub first_leads : LeadsIn (IsBeforeEnrol target) b.first.stores.goes.events old stored
-  first_leads = storing_leads target old stored b.first.stores.goes
+  -- what is stored, and a spare admitted
+  abbrev pub either : StoresFirst old stored ⊎ AdmitsFirst target old stored
+  either = readied_either target b.member old stored b.first
+
+  abbrev pub begin_events : List Event
+  begin_events = events_either target either
+
+  pub begin_leads : LeadsIn (IsBeforeEnrol target) begin_events old stored
+  begin_leads = either_leads target old stored either
 
   -- where its data end
   pub ends_then : (filled : MirrorView) → filled.array ≡ stored.array → EndsBelow old target → EndsBelow filled target
   ends_then filled same ends m at =
-      let ready : AllStayReady old.array stored.array = b.first.stores.ready in
-      let s : StaysReady old.array stored.array target m = ready.each target m (ap (λ (a : ArrayView). slice_get a.members target) (sym same) ∙ at) in
-      let width : filled.array.chunks ≡ old.array.chunks = ap (λ (a : ArrayView). a.chunks) same ∙ ap (λ (a : ArrayView). a.chunks) ready.others in
-      let offset : m.superblock.data_offset ≡ s.before.superblock.data_offset = ap (λ (x : MemberView). x.superblock.data_offset) s.same in
-      subst (λ (x : ℕ). x + filled.array.chunks.size ≤ 2 ^ 54) (sym offset) (subst (λ (c : Chunks). s.before.superblock.data_offset + c.size ≤ 2 ^ 54) (sym width) (ends s.before s.member))
+      let kept = area_then target old stored b.sound b.member b.at b.may b.first m (ap (λ (a : ArrayView). slice_get a.members target) (sym same) ∙ at) in
+      let width : filled.array.chunks ≡ old.array.chunks = ap (λ (a : ArrayView). a.chunks) same ∙ kept.chunks in
+      subst (λ (x : ℕ). x + filled.array.chunks.size ≤ 2 ^ 54) (sym kept.offset) (subst (λ (c : Chunks). b.member.superblock.data_offset + c.size ≤ 2 ^ 54) (sym width) (ends b.member b.at))
 
 -- ---- it comes into sync
 module _ (target : ℕ) (planned : Planned) (copied orphans : Bitmap) (old filled : MirrorView) (by : FillsBy target planned copied orphans old filled) where
   -- the events until it is filled
   abbrev pub filling_events : List Event
-  filling_events = by.begins.first.stores.goes.events ++ Event.Fill target ∷ []
+  filling_events = begin_events target planned old by.stored by.begins ++ Event.Fill target ∷ []
 
   pub filled_leads : LeadsIn (IsBeforeEnrol target) filling_events old filled
   filled_leads =
-      both_lead (IsBeforeEnrol target) by.begins.first.stores.goes.events (Event.Fill target ∷ []) old by.stored filled (first_leads target planned old by.stored by.begins)
+      both_lead (IsBeforeEnrol target) (begin_events target planned old by.stored by.begins) (Event.Fill target ∷ []) old by.stored filled (begin_leads target planned old by.stored by.begins)
       (filling_leads target planned old by.stored by.begins filled by.sound by.fills.filling)
 
   module _ (ends : EndsBelow old target) (enrolled : MirrorView) (sound : IsConsistent enrolled) (r : Enrols target copied orphans filled enrolled) where
@@ -222,8 +304,8 @@ module _ (target : ℕ) (planned : Planned) (copied orphans : Bitmap) (old new :
   abbrev last : (x : MirrorView) × IsLast by.enrolled x new
   last = last_of by.enrolled new by.settles
 
-  abbrev pub first_events : List Event
-  first_events = f.begins.first.stores.goes.events
+  abbrev pub opening_events : List Event
+  opening_events = begin_events target planned old f.stored f.begins
 
   abbrev pub enrolling : List Event
   enrolling = enrolling_events target planned copied orphans old by.filled f ends by.enrolled by.sound by.enrols
@@ -231,8 +313,8 @@ module _ (target : ℕ) (planned : Planned) (copied orphans : Bitmap) (old new :
   abbrev pub last_events : List Event
   last_events = last.1.goes.events
 
-  first : LeadsIn Of first_events old f.stored
-  first = as_such (IsBeforeEnrol target) Of (before_of target) first_events old f.stored (first_leads target planned old f.stored f.begins)
+  first : LeadsIn Of opening_events old f.stored
+  first = as_such (IsBeforeEnrol target) Of (before_of target) opening_events old f.stored (begin_leads target planned old f.stored f.begins)
 
   pass : LeadsIn Of (Event.Fill target ∷ []) f.stored by.filled
   pass = as_such (IsBeforeEnrol target) Of (before_of target) (Event.Fill target ∷ []) f.stored by.filled (filling_leads target planned old f.stored f.begins by.filled f.sound f.fills.filling)
@@ -243,9 +325,9 @@ module _ (target : ℕ) (planned : Planned) (copied orphans : Bitmap) (old new :
   rest : LeadsIn Of last_events by.enrolled last.0
   rest = as_such IsStoring Of (storing_of target) last_events by.enrolled last.0 (stored_leads by.enrolled last.0 last.1.goes)
 
-  all_lead : LeadsIn Of (first_events ++ (Event.Fill target ∷ (enrolling ++ last_events))) old last.0
+  all_lead : LeadsIn Of (opening_events ++ (Event.Fill target ∷ (enrolling ++ last_events))) old last.0
   all_lead =
-      both_lead Of first_events (Event.Fill target ∷ (enrolling ++ last_events)) old f.stored last.0 first
+      both_lead Of opening_events (Event.Fill target ∷ (enrolling ++ last_events)) old f.stored last.0 first
       (both_lead Of (Event.Fill target ∷ []) (enrolling ++ last_events) f.stored by.filled last.0 pass (both_lead Of enrolling last_events by.filled by.enrolled last.0 enrolment rest))
 
   pub rebuild_leads : RebuildLeads target old new
@@ -256,9 +338,8 @@ module _ (target : ℕ) (planned : Planned) (copied orphans : Bitmap) (old new :
       leads = leads_by all_lead;
     };
     list = record {
-      before = f.begins.first.stores.goes.events;
-      first = f.begins.first.stores.goes.steps;
-      unfailing = f.begins.first.stores.unfailing;
+      before = opening_events;
+      first = either_list target old f.stored (either target planned old f.stored f.begins);
       role = by.enrols.role;
       listed = lists_of by.filled.array by.enrols.member;
       after = last.1.goes.events;
@@ -269,71 +350,91 @@ module _ (target : ℕ) (planned : Planned) (copied orphans : Bitmap) (old new :
 
 -- ---- one that is refused
 module _ (target : ℕ) where
-  abbrev Before : Event → Type 0
-  Before = IsBeforeEnrol target
-
-  leads_there : {es : List Event} (old new : MirrorView) → LeadsIn Before es old new → LeadsOrHalts Before old new
+  leads_there : {es : List Event} (old new : MirrorView) → LeadsIn (Before target) es old new → LeadsOrStops target old new
   leads_there old new g = record { last = new; ends = inl refl; leads = leads_by g }
 
-  none : (old new : MirrorView) → IsConsistent old → new ≡ old → LeadsOrHalts Before old new
-  none old new sound same = leads_there old new (subst (LeadsIn Before [] old) (sym same) (none_lead Before old sound))
+  none : (old new : MirrorView) → IsConsistent old → new ≡ old → LeadsOrStops target old new
+  none old new sound same = leads_there old new (subst (LeadsIn (Before target) [] old) (sym same) (none_lead (Before target) old sound))
 
-  -- what is due was not all stored
-  stops : (k : ℕ) (old new : MirrorView) → StopsAt target k old new → LeadsOrHalts Before old new
-  stops k old new h = elim h.ends [
-    | inl lost ↦ leads_there old new (storing_leads target old new lost.loses.goes)
+  -- after these events what is due was not all stored
+  stops_after : (es : List Event) (k : ℕ) (old mid new : MirrorView) → LeadsIn (Before target) es old mid → StopsAt target k mid new → LeadsOrStops target old new
+  stops_after es k old mid new before h = elim h.ends [
+    | inl lost ↦ leads_there old new (both_lead (Before target) es lost.loses.goes.events old mid new before (storing_leads target mid new lost.loses.goes))
     | inr at ↦ record {
       last = at.mid;
-      ends = inr (record { failing = at.failing; of = at.of; halts = at.halts });
-      leads = leads_by (storing_leads target old at.mid at.stores.goes);
+      ends = inr (inl (record { failing = at.failing; of = at.of; halts = at.halts }));
+      leads = leads_by (both_lead (Before target) es at.stores.goes.events old mid at.mid before (storing_leads target mid at.mid at.stores.goes));
     }
   ]
 
-  unrecorded : (old new : MirrorView) → EndsStoring target old (FailsOnTarget target old new) → LeadsOrHalts Before old new
+  stops : (k : ℕ) (old new : MirrorView) → IsConsistent old → StopsAt target k old new → LeadsOrStops target old new
+  stops k old new sound h = stops_after [] k old old new (none_lead (Before target) old sound) h
+
+  stops_admitted : (k : ℕ) (old new : MirrorView) → StopsAdmitted target k old new → LeadsOrStops target old new
+  stops_admitted k old new h = stops_after (admission_events target h.after) k old h.admitted new (admission_leads target old h.admitted h.after) h.stops
+
+  unrecorded : (old new : MirrorView) → EndsStoring target old (FailsOnTarget target old new) → LeadsOrStops target old new
   unrecorded old new e =
       let h : FailsOnTarget target old new = e.why in
-      let may : (m : MemberView) → IsMember old.array target m → MayRebuild old.array m = λ m at. subst (MayRebuild old.array) (same_Some e.member m (sym e.at ∙ at)) e.may in
+      let was : (m : MemberView) → IsMember old.array target m → is_rebuilt m.state ≡ true =
+      λ m at. target_rebuilt old.array m (subst (IsTarget old.array) (same_Some e.member m (sym e.at ∙ at)) e.may.settled.has_target.target) in
       let at = h.fails.may.at in
-      let is_target = target_stays old.array h.mid.array h.stores.ready target (λ m there. (may m there).settled.has_target.target) h.fails.member at in
-      let fails : array_target.FailsOnTarget target h.mid new = record { leaves = h.fails; rebuilt = target_rebuilt h.mid.array h.fails.member is_target } in
+      let fails : array_target.FailsOnTarget target h.mid new = record { leaves = h.fails; rebuilt = rebuilt_still target old.array h.mid.array h.stores.ready was h.fails.member at } in
       leads_there old new
-      (both_lead Before h.stores.goes.events (Event.RecordTargetFails target ∷ []) old h.mid new (storing_leads target old h.mid h.stores.goes)
-      (one_leads Before (Event.RecordTargetFails target) h.mid new refl (λ previous. tt) (λ others. (refl, fails))
+      (both_lead (Before target) h.stores.goes.events (Event.RecordTargetFails target ∷ []) old h.mid new (storing_leads target old h.mid h.stores.goes)
+      (one_leads (Before target) (Event.RecordTargetFails target) h.mid new refl (λ previous. tt) (λ others. (refl, fails))
       (λ honest whole others in_flight. target_fails_happens target h.mid new h.stores.goes.sound fails h.fails.member at (whole h.fails.member at) honest others in_flight)
       h.fails.array h.sound))
 
-  in_pass : (fault : RebuildFault) (old new : MirrorView) → IsConsistent new → EndsInPass target fault old new → LeadsOrHalts Before old new
+  -- the target was not admitted
+  unadmitted : (old new : MirrorView) → FailsAdmission target old new → LeadsOrStops target old new
+  unadmitted old new h =
+      let f = h.fails in
+      let shared = (admitted h.stored.array target f.may.member f.role).shared in
+      let own = (admitted_member f.role f.may.member).superblock in
+      record {
+        last = h.stored;
+        ends = inr (inr (record {
+          fails = f;
+          event = left_happens target h.stored new h.first.stores.goes.sound f.may.running f.may.member f.may.at (spare_rebuilt f.may.member.state h.spare) f.array shared own f.readable f.disks;
+        }));
+        leads = leads_by (storing_leads target old h.stored h.first.stores.goes);
+      }
+
+  in_pass : (fault : RebuildFault) (old new : MirrorView) → IsConsistent new → EndsInPass target fault old new → LeadsOrStops target old new
   in_pass fault old new sound e =
       leads_there old new
-      (both_lead Before e.begins.first.stores.goes.events (Event.Fill target ∷ []) old e.stored new (first_leads target e.planned old e.stored e.begins)
+      (both_lead (Before target) (begin_events target e.planned old e.stored e.begins) (Event.Fill target ∷ []) old e.stored new (begin_leads target e.planned old e.stored e.begins)
       (filling_leads target e.planned old e.stored e.begins new sound e.fails.filling))
 
-  when_filled : {Why : Bitmap → Bitmap → MirrorView → Type 0} (es : List Event) (old new : MirrorView) (e : EndsFilled target old new Why) → LeadsIn Before es e.filled new → LeadsOrHalts Before old new
+  when_filled : {Why : Bitmap → Bitmap → MirrorView → Type 0} (es : List Event) (old new : MirrorView) (e : EndsFilled target old new Why) → LeadsIn (Before target) es e.filled new → LeadsOrStops target old new
   when_filled es old new e rest =
       let first = filled_leads target e.planned e.copied e.orphans old e.filled e.fills in
-      leads_there old new (both_lead Before (filling_events target e.planned e.copied e.orphans old e.filled e.fills) es old e.filled new first rest)
+      leads_there old new (both_lead (Before target) (filling_events target e.planned e.copied e.orphans old e.filled e.fills) es old e.filled new first rest)
 
-  filled_there : {Why : Bitmap → Bitmap → MirrorView → Type 0} (old new : MirrorView) (e : EndsFilled target old new Why) → new ≡ e.filled → LeadsOrHalts Before old new
-  filled_there old new e same = when_filled [] old new e (subst (LeadsIn Before [] e.filled) (sym same) (none_lead Before e.filled e.fills.sound))
+  filled_there : {Why : Bitmap → Bitmap → MirrorView → Type 0} (old new : MirrorView) (e : EndsFilled target old new Why) → new ≡ e.filled → LeadsOrStops target old new
+  filled_there old new e same = when_filled [] old new e (subst (LeadsIn (Before target) [] e.filled) (sym same) (none_lead (Before target) e.filled e.fills.sound))
 
-  unenrolled : (old new : MirrorView) → IsConsistent new → (e : EndsFilled target old new (λ copied orphans filled. FailsToEnrol target copied orphans filled new)) → FailsAtMarks e.why → LeadsOrHalts Before old new
+  unenrolled : (old new : MirrorView) → IsConsistent new → (e : EndsFilled target old new (λ copied orphans filled. FailsToEnrol target copied orphans filled new)) → FailsAtMarks e.why → LeadsOrStops target old new
   unenrolled old new sound e f =
       let prepared = prepares target e.copied e.orphans e.filled new e.fills.sound e.why e.fills.may f in
       when_filled (Event.Prepare target ∷ []) old new e
-      (one_leads Before (Event.Prepare target) e.filled new refl (λ previous. tt) (λ others. (refl, prepared))
+      (one_leads (Before target) (Event.Prepare target) e.filled new refl (λ previous. tt) (λ others. (refl, prepared))
       (λ honest whole others in_flight. prepare_happens target e.filled new e.fills.sound prepared honest others in_flight) e.why.array sound)
 
-  pub refused_leads : (old new : MirrorView) → IsConsistent old → IsConsistent new → (fault : RebuildFault) → (h : RefusesRebuild target old new fault) → AsksOfFailure target old new fault h → LeadsOrHalts Before old new
+  pub refused_leads : (old new : MirrorView) → IsConsistent old → IsConsistent new → (fault : RebuildFault) → (h : RefusesRebuild target old new fault) → AsksOfFailure target old new fault h → LeadsOrStops target old new
   refused_leads old new sound after Halted h asks = none old new sound h.unchanged
   refused_leads old new sound after NotSpare h asks = none old new sound h.unchanged
   refused_leads old new sound after Dirty h asks = none old new sound h.unchanged
   refused_leads old new sound after (InFlight number) h asks = none old new sound h.unchanged
   refused_leads old new sound after EventsFull h asks = none old new sound h.unchanged
-  refused_leads old new sound after (MetadataFault k) h asks = stops k old new h.why
+  refused_leads old new sound after (MetadataFault k) (inl h) asks = stops k old new sound h.why
+  refused_leads old new sound after (MetadataFault k) (inr h) asks = stops_admitted k old new h.why
   refused_leads old new sound after TargetFault (inl h) asks = unrecorded old new h
-  refused_leads old new sound after TargetFault (inr (inl h)) asks = in_pass TargetFault old new after h
-  refused_leads old new sound after TargetFault (inr (inr h)) asks = unenrolled old new after h asks
-  refused_leads old new sound after NoMemory (inl h) asks = leads_there old new (storing_leads target old new h.first.stores.goes)
+  refused_leads old new sound after TargetFault (inr (inl h)) asks = unadmitted old new h.why
+  refused_leads old new sound after TargetFault (inr (inr (inl h))) asks = in_pass TargetFault old new after h
+  refused_leads old new sound after TargetFault (inr (inr (inr h))) asks = unenrolled old new after h asks
+  refused_leads old new sound after NoMemory (inl h) asks = leads_there old new (either_leads target old new h.first)
   refused_leads old new sound after NoMemory (inr (inl h)) asks = in_pass NoMemory old new after h
   refused_leads old new sound after NoMemory (inr (inr h)) asks = filled_there old new h h.why
   refused_leads old new sound after (SourceFault k chunk) h asks = in_pass (SourceFault k chunk) old new after h

@@ -23,14 +23,16 @@ use Rattle.md_state.specs.Missing.{is_rebuilt}
 use Rattle.md_state.specs.View.{ArrayView, Disk, MirrorView}
 use Rattle.md_array.specs.Consistency.{IsConsistent}
 use Rattle.md_array.specs.Enrolling.{HasContent, KeepsData}
-use Rattle.md_array.specs.Worlds.{AreHonest}
+use Rattle.md_array.specs.Worlds.{AreHonest, is_listed}
 use Rattle.md_array.proofs.General.Indices.{at_set_same, got_in_map, got_other}
+use Rattle.md_array.proofs.Rebuilding.InBetween.{recovers_rebuilt}
 use Rattle.md_copy.specs.Filling.{IsFilling}
 use Rattle.md_copy.specs.Preparing.{is_in}
 use Rattle.md_copy.specs.Rebuilding.{RebuildsBy}
 use Rattle.md_copy.specs.RebuildSources.{IsPlanOf, Serves}
 use Rattle.md_copy.specs.Rebuilt.{IsBesideCopied, IsRebuilt, IsRebuiltInSync, IsServed}
 use Rattle.md_copy.proofs.LentBack.{rebuilt_out}
+use Rattle.md_copy.proofs.Readied.{ready_of}
 use Rattle.md_copy.proofs.PlanChunks.{IsLacking, orphan_unserved, planned_or_orphan}
 
 -- ---- who serves a chunk does it in a role
@@ -71,8 +73,9 @@ module _ (target : ℕ) (m : MemberView) (planned : Planned) (v w : MirrorView) 
         (let d = was_there j e at in
         let was : IsInSync v.array j n = subst (λ (a : ArrayView). IsInSync a j n) f.array in_sync in
         let size : s < v.array.chunks.size = subst (λ (a : ArrayView). s < a.chunks.size) f.array low in
-        ap (λ xs. part xs (512 * (n.superblock.data_offset + s)) 512) (f.others j d.0 e (out j n was) d.1 at).content_kept
-        ∙ has.held j d.0 n d.1 was s size unlisted);
+        let kept = (f.others j d.0 e (out j n was) d.1 at).content_kept in
+        ap (λ xs. part xs (512 * (n.superblock.data_offset + s)) 512) kept
+        ∙ has.held j d.0 n d.1 was s size (ap (λ xs. is_listed n.superblock xs (n.superblock.data_offset + s)) (sym kept) ∙ unlisted));
   }
 
 module _ (target : ℕ) (planned : Planned) (copied orphans : Bitmap) (old new : MirrorView) (by : RebuildsBy target planned copied orphans old new) where
@@ -95,7 +98,7 @@ module _ (target : ℕ) (planned : Planned) (copied orphans : Bitmap) (old new :
   at = by.fills.begins.there
 
   sound : IsConsistent v
-  sound = by.fills.begins.first.stores.goes.sound
+  sound = (ready_of target planned old v by.fills.begins).sound
 
   filling : IsFilling target m planned.plan.slots v w
   filling = by.fills.fills.filling
@@ -111,7 +114,7 @@ module _ (target : ℕ) (planned : Planned) (copied orphans : Bitmap) (old new :
   member_is = same_Some by.fills.may.member m (sym by.fills.may.at ∙ ap (λ (b : ArrayView). slice_get b.members target) a_is ∙ at)
 
   rebuilt : is_rebuilt m.state ≡ true
-  rebuilt = ap (λ (n : MemberView). is_rebuilt n.state) (sym member_is) ∙ by.fills.may.rebuilt
+  rebuilt = ap (λ (n : MemberView). is_rebuilt n.state) (sym member_is) ∙ recovers_rebuilt by.fills.may.member.state by.fills.may.recovering
 
   out : (j : ℕ) (n : MemberView) → IsInSync a j n → j ≢ target
   out j n in_sync here =

@@ -5,7 +5,6 @@ use Rattle.md_assembly.specs.declared.state.MemberState.TheVariants.{InSync, Rec
 use Rattle.md_assembly.specs.States.{takes_role}
 use Rattle.md_bitmap.specs.Marks.{is_set}
 use Rattle.md_kept_members.specs.View.{MemberView}
-use Rattle.md_state.specs.MakingClean.{IsIdle, first_number}
 use Rattle.md_state.specs.Members.{IsMember}
 use Rattle.md_state.specs.Rising.{HasSpentEvents}
 use Rattle.md_state.specs.View.{ArrayView, MirrorView}
@@ -18,9 +17,10 @@ use Rattle.md_copy.specs.Beginning.{MayRebuild}
 use Rattle.md_copy.specs.Filling.{FillsPass}
 use Rattle.md_copy.specs.Preparing.{IsPrepared}
 use Rattle.md_copy.specs.Rebuilding.{Begins, FillsBy}
-use Rattle.md_copy.specs.Storing.{StoresFirst}
+use Rattle.md_copy.specs.Readying.{Readies}
 use Rattle.md_copy.specs.Targets.{HasFreeRole, IsTarget, MayBeRebuilt}
 use Rattle.md_copy.proofs.EnrolReady.{may_enrol}
+use Rattle.md_copy.proofs.Readied.{IsReady, is_ready, recovering_target, unspent_so}
 
 -- ---- who may be rebuilt may be so after something was stored
 module _ (old new : ArrayView) (r : AllStayReady old new) where
@@ -44,57 +44,44 @@ module _ (old new : ArrayView) (r : AllStayReady old new) where
       let was = may_stays s.before.superblock.dev_number s.before.state (is s.before s.member) in
       subst (λ (x : MemberView). IsTarget new x) (sym s.same) was
 
--- ---- after what is due is stored
-module _ (target : ℕ) (old stored : MirrorView) (may : (m : MemberView) → IsMember old.array target m → MayRebuild old.array m) (first : StoresFirst old stored) where
+-- ---- once it is readied
+module _ (target : ℕ) (old stored : MirrorView) (member : MemberView) (at : IsMember old.array target member) (may : MayRebuild old.array member) (was : IsConsistent old) (first : Readies target member old stored) where
+  pub ready : IsReady target stored
+  ready = is_ready target old stored member at may first
+
   pub target_then : (n : MemberView) → IsMember stored.array target n → IsTarget stored.array n
-  target_then = target_stays old.array stored.array first.stores.ready target (λ m at. (may m at).settled.has_target.target)
+  target_then n there = recovering_target stored.array n.superblock.dev_number n.state (ready.recovering n there)
 
-  module _ (member : MemberView) (at : IsMember old.array target member) where
-    pub idle_then : IsIdle stored.array
-    idle_then = record {
-      running = first.stores.ready.halted ∙ (may member at).settled.has_target.running;
-      none = ap first_number first.stores.ready.others ∙ (may member at).idle.none;
-    }
+  -- ---- after the pass
+  module _ (before after : Pass) (p : IsPrepared stored target before) where
+    abbrev pub begins : Begins target p.planned old stored
+    begins = record { sound = was; member = member; at = at; may = may; first = first; now = p.member; there = p.at; plan = p.plan }
 
-    pub resynced_then : stored.array.resynced ≡ true
-    resynced_then = first.stores.goes.array.resynced ∙ (may member at).settled.resynced
+    module _ (filled : MirrorView) (f : FillsPass target before after stored filled) where
+      abbrev same : filled.array ≡ stored.array
+      same = (f.fills p).filling.array
 
-    pub unspent_then : HasSpentEvents stored.array → ⊥
-    unspent_then spent = (may member at).unspent (sym (ap (λ (a : ArrayView). a.shared.events) first.stores.ready.others) ∙ spent)
+      pub running_filled : filled.array.halted ≡ false
+      running_filled = ap (λ (a : ArrayView). a.halted) same ∙ ready.goes.idle.running
 
-    -- ---- after the pass
-    module _ (before after : Pass) (p : IsPrepared stored target before) where
-      abbrev pub begins : Begins target p.planned old stored
-      begins = record { member = member; at = at; may = may member at; first = first; now = p.member; there = p.at; plan = p.plan }
+      pub unspent_filled : HasSpentEvents filled.array → ⊥
+      unspent_filled = subst (λ (a : ArrayView). HasSpentEvents a → ⊥) (sym same) (unspent_so stored.array ready.goes)
 
-      module _ (filled : MirrorView) (f : FillsPass target before after stored filled) where
-        abbrev same : filled.array ≡ stored.array
-        same = (f.fills p).filling.array
+      pub may_filled : MayEnrol target after.copied after.orphans filled
+      may_filled = may_enrol target before after stored filled ready.sound p f (ready.recovering p.member p.at) ready.goes.resynced ready.goes.idle
 
-        pub target_filled : (n : MemberView) → IsMember filled.array target n → IsTarget filled.array n
-        target_filled = subst (λ (a : ArrayView). (n : MemberView) → IsMember a target n → IsTarget a n) (sym same) target_then
-
-        pub running_filled : filled.array.halted ≡ false
-        running_filled = ap (λ (a : ArrayView). a.halted) same ∙ idle_then.running
-
-        pub unspent_filled : HasSpentEvents filled.array → ⊥
-        unspent_filled = subst (λ (a : ArrayView). HasSpentEvents a → ⊥) (sym same) unspent_then
-
-        pub may_filled : MayEnrol target after.copied after.orphans filled
-        may_filled = may_enrol target before after stored filled first.stores.goes.sound p f resynced_then idle_then.none
-
-        pub fills_by : IsConsistent filled → FillsBy target p.planned after.copied after.orphans old filled
-        fills_by sound = record {
-          stored = stored;
-          begins = begins;
-          fills = f.fills p;
-          sets = record {
-            copied_are = record { chunks = (f.copied p).chunks ∙ sym (ap (λ (a : ArrayView). a.marks.chunks) same); bits = (f.copied p).bits };
-            orphans_are = record {
-              chunks = ap (λ (x : Pass). x.orphans.chunks) f.kept ∙ p.orphans.chunks ∙ sym (ap (λ (a : ArrayView). a.marks.chunks) same);
-              bits = λ c. ap (λ (x : Pass). is_set x.orphans.bytes c) f.kept ∙ p.orphans.bits c;
-            };
+      pub fills_by : IsConsistent filled → FillsBy target p.planned after.copied after.orphans old filled
+      fills_by sound = record {
+        stored = stored;
+        begins = begins;
+        fills = f.fills p;
+        sets = record {
+          copied_are = record { chunks = (f.copied p).chunks ∙ sym (ap (λ (a : ArrayView). a.marks.chunks) same); bits = (f.copied p).bits };
+          orphans_are = record {
+            chunks = ap (λ (x : Pass). x.orphans.chunks) f.kept ∙ p.orphans.chunks ∙ sym (ap (λ (a : ArrayView). a.marks.chunks) same);
+            bits = λ c. ap (λ (x : Pass). is_set x.orphans.bytes c) f.kept ∙ p.orphans.bits c;
           };
-          may = may_filled;
-          sound = sound;
-        }
+        };
+        may = may_filled;
+        sound = sound;
+      }

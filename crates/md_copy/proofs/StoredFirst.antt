@@ -1,10 +1,12 @@
 -- What is stored before a rebuild and after it, part by part.
-use Rattle.std.proofs.Common.{◌≡◌, ◌≢◌, ◌∙◌, ℕ, true, false, slice_get, None, refl, sym, ap, subst, inl, inr}
-use Rattle.std.proofs.lemmas.Bool.{both_ways}
+use Rattle.std.proofs.Common.{◌≡◌, ◌≢◌, ◌∙◌, ℕ, ◌+◌, ◌<◌, true, false, slice_get, None, refl, sym, ap, subst, arith, inl, inr}
+use Rattle.std.proofs.lemmas.Bool.{both_ways, cases_Bool}
+use Rattle.std.proofs.lemmas.Option.{same_Some, slice_get_within}
 use Rattle.std.specs.Prelude.{Result, Ok, Err, MatchResult}
 use Rattle.md_model.specs.Events.{Event}
 use Rattle.md_faults.specs.declared.enrol_fault.TargetFault.{TargetFault as TargetFaults}
 use Rattle.md_faults.specs.declared.enrol_fault.TargetFault.TheVariants as why
+use Rattle.md_assembly.proofs.Indices.{got_within}
 use Rattle.md_assembly.specs.States.{is_in_sync}
 use Rattle.md_kept_members.specs.View.{MemberView}
 use Rattle.md_requests.specs.Pending.{PendingView}
@@ -148,6 +150,19 @@ module _ (target : ℕ) (old new : MirrorView) where
 
 -- ---- one part after another
 module _ (target : ℕ) (old mid new : MirrorView) (g : Stores IsStoring old mid) where
+  -- a superblock that is due then was due
+  due_before : ((n : MemberView) → IsMember mid.array target n → n.due ≡ true) → (m : MemberView) → IsMember old.array target m → m.due ≡ true
+  due_before due m at =
+      let low = slice_get_within old.array.members target m at in
+      let many = g.goes.array.as_many in
+      let n = got_within mid.array.members target (omega (arith, low, many)) in
+      let s : StaysReady old.array mid.array target n.0 = g.ready.each target n.0 n.1 in
+      let same : s.before ≡ m = same_Some s.before m (sym s.member ∙ at) in
+      elim (cases_Bool m.due) [
+        | inl is ↦ is
+        | inr not ↦ absurd (both_ways n.0.due (s.recorded (ap (λ (x : MemberView). x.due) same ∙ not)) (due n.0 n.1))
+      ]
+
   pub stops_then : (fault : RebuildFault) → StoringStops target mid new fault → StoringStops target old new fault
   stops_then Halted h = absurd h
   stops_then NotSpare h = absurd h
@@ -155,7 +170,7 @@ module _ (target : ℕ) (old mid new : MirrorView) (g : Stores IsStoring old mid
   stops_then (InFlight n) h = absurd h
   stops_then (LogFull k) h = absurd h
   stops_then NoMemory h = absurd h
-  stops_then TargetFault h = record { mid = h.mid; stores = stores_on IsStoring old mid h.mid g h.stores; fails = h.fails; sound = h.sound }
+  stops_then TargetFault h = record { due = due_before h.due; mid = h.mid; stores = stores_on IsStoring old mid h.mid g h.stores; fails = h.fails; sound = h.sound }
   stops_then (MetadataFault k) h = record {
     other = h.other;
     ends = elim h.ends [
@@ -191,7 +206,7 @@ module _ (k : ℕ) (old new : MirrorView) (sound : IsConsistent old) (rebuilt : 
 
   pub target_unstored : IsConsistent new → old.array.halted ≡ false → (fault : TargetFaults) → RefusesTarget k old new fault → FailsOnTarget k old new
   target_unstored after running why.Halted r = absurd (let yes = r.reason in cc)
-  target_unstored after running why.TargetFault r = record { mid = old; stores = stores_nowhere IsStoring old sound; fails = r; sound = after }
+  target_unstored after running why.TargetFault r = record { due = due; mid = old; stores = stores_nowhere IsStoring old sound; fails = r; sound = after }
 
 -- ---- after a rebuild
 module _ (old mid new : MirrorView) where

@@ -222,11 +222,13 @@ keeps_write k w m old new tried at beside members chunks marks each state = reco
   state = state;
 }
 
+pub beside_super_of : (m : MemberView) (d e : Disk) → HasPlace m d → SameOutside (512 * 8) 4096 d.content e.content → KeepsData m d e
+beside_super_of m d e place same i l from to =
+    stays super_area 8 refl d.content e.content same (data_area m.superblock) m.superblock.data_offset refl (apart_either_way super_area (data_area m.superblock) place.placed.data_apart) i l from to
+
 pub beside_super : (a : ArrayView) (m : MemberView) (d e : Disk) → HasPlace m d → length (super_write a m).bytes ≡ 4096
     → SameOutside (512 * (super_write a m).sector) (length (super_write a m).bytes) d.content e.content → KeepsData m d e
-beside_super a m d e place size outside i l from to =
-    let same : SameOutside (512 * 8) 4096 d.content e.content = subst (λ n. SameOutside (512 * 8) n d.content e.content) size outside in
-    stays super_area 8 refl d.content e.content same (data_area m.superblock) m.superblock.data_offset refl (apart_either_way super_area (data_area m.superblock) place.placed.data_apart) i l from to
+beside_super a m d e place size outside = beside_super_of m d e place (subst (λ n. SameOutside (512 * 8) n d.content e.content) size outside)
 
 pub beside_marks : (a : ArrayView) (m : MemberView) (block : ℕ) (w : Write) (d e : Disk) → HasPlace m d → IsMarkWrite a m block w → block < bitmap_sectors m.stored.chunks
     → SameOutside (512 * w.sector) (length w.bytes) d.content e.content → KeepsData m d e

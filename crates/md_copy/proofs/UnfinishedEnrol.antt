@@ -33,7 +33,7 @@ use Rattle.md_array.specs.Events.{IsBesideArea, IsBesideMarks, IsChangedAlone, I
 use Rattle.md_array.specs.Recording.{write_of}
 use Rattle.md_array.specs.Worlds.{from_super}
 use Rattle.md_array.proofs.Rebuilding.EnrolAnswered.{can_store}
-use Rattle.md_array.proofs.Rebuilding.InBetween.{beside_area}
+use Rattle.md_array.proofs.Rebuilding.InBetween.{beside_area, recovers_rebuilt}
 use Rattle.md_array.proofs.Rebuilding.MemberStored.{log_long}
 use Rattle.md_array.proofs.Worlds.Device.{fits_on}
 use Rattle.md_array.proofs.Worlds.Outside.{sector_at_is, starts_at}
@@ -225,7 +225,7 @@ module _ (k : ℕ) (copied orphans : Bitmap) (old new : MirrorView) (c : IsConsi
     idle = record { running = r.may.running; none = may.idle };
     member = m;
     at = r.comes.at;
-    rebuilt = subst (λ (x : MemberView). is_rebuilt x.state ≡ true) (got_same old.array.members k may.member m may.at r.comes.at) may.rebuilt;
+    rebuilt = subst (λ (x : MemberView). is_rebuilt x.state ≡ true) (got_same old.array.members k may.member m may.at r.comes.at) (recovers_rebuilt may.member.state may.recovering);
   }
 
   changed_alone : FailsAtMarks r → IsChangedAlone k (IsSameBesideMarks old.array m) old.disks new.disks

@@ -21,6 +21,7 @@ use Rattle.md_copy.specs.Storing.{FailsOnTarget, Settles, StopsAt, StoresFirst}
 
 -- It was checked, what was due is stored, a spare is admitted, and a pass is planned by what is kept in memory then.
 pub record Begins (target : ℕ) (planned : Planned) (old stored : MirrorView) : Type 0 where
+  pub sound : IsConsistent old
   pub member : MemberView
   pub at : IsMember old.array target member
   pub may : MayRebuild old.array member

@@ -1,12 +1,9 @@
 // The target comes into sync once it has its chunks.
 ghost use Rattle.std.specs.Prelude.{◌≡◌, MatchResult, false};
-ghost use Rattle.md_kept_members.specs.View.{MemberView};
-ghost use Rattle.md_state.specs.Members.{IsMember};
 ghost use Rattle.md_state.specs.Rising.{HasSpentEvents};
 ghost use Rattle.md_array.specs.Consistency.{IsConsistent};
 ghost use Rattle.md_array.specs.Enrolling.{Enrols, MayEnrol};
 ghost use Rattle.md_copy.specs.Enrolled.{RefusesFilled};
-ghost use Rattle.md_copy.specs.Targets.{IsTarget};
 
 use crate::fault::RebuildFault;
 use crate::preparing::Pass;
@@ -23,7 +20,6 @@ pub(crate) fn enrol_filled<D: Device + Drop>(
 ) -> Result<(), RebuildFault>
     requires sound { IsConsistent mirror.old }
     requires running { mirror.old.array.halted ≡ false }
-    requires target { (m : MemberView) → IsMember mirror.old.array target m → IsTarget mirror.old.array m }
     requires unspent { HasSpentEvents mirror.old.array → ⊥ }
     requires may { MayEnrol target pass.now.copied pass.now.orphans mirror.old }
     ensures gives { MatchResult result (λ _. Enrols target pass.now.copied pass.now.orphans mirror.old mirror.new)
@@ -35,7 +31,7 @@ pub(crate) fn enrol_filled<D: Device + Drop>(
         Err(EnrolFault::LogFull(k)) => Err(RebuildFault::LogFull(k)),
         Err(EnrolFault::NoMemory) => Err(RebuildFault::NoMemory),
         Err(EnrolFault::TargetFault) => Err(RebuildFault::TargetFault),
-        // The mirror runs, the target can be given a role, and the count can rise.
+        // The mirror runs, and the count can rise.
         Err(EnrolFault::Halted) => unreachable!(),
         Err(EnrolFault::EventsFull) => unreachable!(),
     }

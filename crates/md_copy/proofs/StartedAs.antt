@@ -1,0 +1,169 @@
+-- A mirror from which a rebuild starts is as one before it, but for what is stored and for who is recovering: what is rebuilt from the one is
+-- rebuilt from the other.
+use Rattle.std.proofs.Common.{◌≡◌, ◌∙◌, ◌⊎◌, ◌×◌, ◌↔◌, ℕ, ◌+◌, ◌*◌, ◌^◌, ◌<◌, ◌≤◌, true, List, slice_get, Some, sym, ap, subst, arith, inl, inr}
+use Rattle.md_device.specs.Splice.{part}
+use Rattle.md_assembly.specs.States.{is_in_sync}
+use Rattle.md_badblocks.specs.declared.run.Run.{Run}
+use Rattle.md_badblocks.specs.Runs.{IsBad}
+use Rattle.md_bitmap.specs.Chunks.{InChunk}
+use Rattle.md_bitmap.specs.declared.chunks.Chunks.{Chunks}
+use Rattle.md_bitmap.specs.Marks.{Bitmap, is_set}
+use Rattle.md_kept_members.specs.Enrolling.{IsListAfter, IsOf}
+use Rattle.md_kept_members.specs.View.{MemberView}
+use Rattle.md_model.specs.Content.{Content}
+use Rattle.md_state.specs.Members.{IsMember}
+use Rattle.md_state.specs.Missing.{is_missing}
+use Rattle.md_state.specs.View.{ArrayView, Disk, MirrorView}
+use Rattle.md_array.specs.Enrolling.{HasContent, KeepsData}
+use Rattle.md_array.specs.Lending.{IsBesideChunk}
+use Rattle.md_array.specs.Worlds.{AreHonest}
+use Rattle.md_copy.specs.RebuildSources.{Serves}
+use Rattle.md_copy.specs.Rebuilt.{IsBesideCopied, IsRebuilt, IsServed}
+
+-- a member is in sync as it was, with the same list, and its data stand where they stood
+pub record IsAs (l n : MemberView) : Type 0 where
+  pub in_sync : is_in_sync n.state ≡ is_in_sync l.state
+  pub bad : n.bad ≡ l.bad
+  pub offset : n.superblock.data_offset ≡ l.superblock.data_offset
+  pub size : n.superblock.data_size ≡ l.superblock.data_size
+
+pub record StartsAs (target : ℕ) (old v : MirrorView) : Type 0 where
+  pub chunks : v.array.chunks ≡ old.array.chunks
+  pub marks : v.array.marks ≡ old.array.marks
+  pub before : (j : ℕ) (n : MemberView) → IsMember v.array j n → (l : MemberView) × IsMember old.array j l × IsAs l n
+  pub then : (j : ℕ) (l : MemberView) → IsMember old.array j l → (n : MemberView) × IsMember v.array j n × IsAs l n
+  pub disk_before : (j : ℕ) (e : Disk) → slice_get v.disks j ≡ Some e → (d : Disk) × (slice_get old.disks j ≡ Some d)
+  pub disk_then : (j : ℕ) (d : Disk) → slice_get old.disks j ≡ Some d → (e : Disk) × (slice_get v.disks j ≡ Some e)
+  pub data : (j : ℕ) (d e : Disk) (l : MemberView) → slice_get old.disks j ≡ Some d → slice_get v.disks j ≡ Some e → IsMember old.array j l → KeepsData l d e
+  pub honest : (j : ℕ) (d e : Disk) → slice_get old.disks j ≡ Some d → slice_get v.disks j ≡ Some e → e.honest ≡ d.honest
+  pub counted : (j : ℕ) (d e : Disk) → slice_get old.disks j ≡ Some d → slice_get v.disks j ≡ Some e → d.failures ≤ e.failures
+  pub missing : (l n : MemberView) → IsMember old.array target l → IsMember v.array target n → (c : ℕ) → c < old.array.marks.chunks → is_missing v.array n c ≡ is_missing old.array l c
+  pub content : AreHonest old.disks → (content : Content) → HasContent old.disks old.array content → HasContent v.disks v.array content
+
+module _ (target : ℕ) (old v : MirrorView) (st : StartsAs target old v) (copied orphans : Bitmap) (y : MirrorView) (r : IsRebuilt target copied orphans v y) where
+  was : (l : MemberView) × IsMember old.array target l × IsAs l r.member
+  was = st.before target r.member r.at
+
+  abbrev l : MemberView
+  l = was.0
+
+  as : IsAs l r.member
+  as = was.2
+
+  honest_then : AreHonest old.disks → AreHonest v.disks
+  honest_then honest j e at = let d = st.disk_before j e at in st.honest j d.0 e d.1 at ∙ honest j d.0 d.1
+
+  low_then : (c : ℕ) → c < old.array.marks.chunks → c < v.array.marks.chunks
+  low_then c low = subst (λ (b : Bitmap). c < b.chunks) (sym st.marks) low
+
+  missing_same : (c : ℕ) → c < old.array.marks.chunks → is_missing v.array r.member c ≡ is_missing old.array l c
+  missing_same c low = st.missing l r.member was.1 r.at c low
+
+  inside_then : (c q : ℕ) → InChunk old.array.chunks.sectors old.array.chunks.size c q → InChunk v.array.chunks.sectors v.array.chunks.size c q
+  inside_then c q inside = subst (λ (k : Chunks). InChunk k.sectors k.size c q) (sym st.chunks) inside
+
+  inside_before : (c q : ℕ) → InChunk v.array.chunks.sectors v.array.chunks.size c q → InChunk old.array.chunks.sectors old.array.chunks.size c q
+  inside_before c q inside = subst (λ (k : Chunks). InChunk k.sectors k.size c q) st.chunks inside
+
+  -- ---- who serves a chunk did so, and does
+  served_before : (c : ℕ) → IsServed v.array target c → IsServed old.array target c
+  served_before c h =
+      let n = h.1 in
+      let serves = h.3 in
+      let b = st.before h.0 n serves.in_sync.member in (
+        h.0,
+        b.0,
+        h.2,
+        record {
+          in_sync = record { member = b.1; in_sync = sym b.2.in_sync ∙ serves.in_sync.in_sync };
+          unlisted = λ q inside bad. serves.unlisted q (inside_then c q inside)
+              (subst (λ (runs : List Run). IsBad runs (n.superblock.data_offset + q)) (sym b.2.bad) (subst (λ (o : ℕ). IsBad b.0.bad (o + q)) (sym b.2.offset) bad));
+        },
+      )
+
+  served_then : (c : ℕ) → IsServed old.array target c → IsServed v.array target c
+  served_then c h =
+      let m = h.1 in
+      let serves = h.3 in
+      let b = st.then h.0 m serves.in_sync.member in (
+        h.0,
+        b.0,
+        h.2,
+        record {
+          in_sync = record { member = b.1; in_sync = b.2.in_sync ∙ serves.in_sync.in_sync };
+          unlisted = λ q inside bad. serves.unlisted q (inside_before c q inside)
+              (subst (λ (runs : List Run). IsBad runs (m.superblock.data_offset + q)) b.2.bad (subst (λ (o : ℕ). IsBad b.0.bad (o + q)) b.2.offset bad));
+        },
+      )
+
+  -- ---- what the member holds, its list, and what lies beside
+  holds_before : AreHonest old.disks → (content : Content) → HasContent old.disks old.array content → (e : Disk) → slice_get y.disks target ≡ Some e
+      → (c q : ℕ) → c < old.array.marks.chunks → is_set copied.bytes c ≡ true → InChunk old.array.chunks.sectors old.array.chunks.size c q
+      → part e.content (512 * (l.superblock.data_offset + q)) 512 ≡ content q
+  holds_before honest content has e at_e c q low set inside =
+      ap (λ (o : ℕ). part e.content (512 * (o + q)) 512) (sym as.offset)
+      ∙ r.holds (honest_then honest) content (st.content honest content has) e at_e c q (low_then c low) set (inside_then c q inside)
+
+  -- the sectors of a list after it
+  abbrev ListedAfter : Chunks → ℕ → List Run → ℕ → Type 0
+  ListedAfter chunks offset runs sector = (IsBad runs sector × (IsOf chunks offset copied sector → ⊥)) ⊎ (IsOf chunks offset orphans sector × (sector < 2 ^ 54))
+
+  list_before : IsListAfter old.array.chunks l copied orphans r.now.bad
+  list_before = record {
+    canonical = r.bad.canonical;
+    bad = λ sector.
+        subst (λ (k : Chunks). IsBad r.now.bad sector ↔ ListedAfter k l.superblock.data_offset l.bad sector) st.chunks
+        (subst (λ (o : ℕ). IsBad r.now.bad sector ↔ ListedAfter v.array.chunks o l.bad sector) as.offset
+        (subst (λ (runs : List Run). IsBad r.now.bad sector ↔ ListedAfter v.array.chunks r.member.superblock.data_offset runs sector) as.bad (r.bad.bad sector)));
+  }
+
+  beside_as : (i n : ℕ) → IsBesideCopied old.array l copied i n → IsBesideCopied v.array r.member copied i n
+  beside_as i n h =
+      let offset = as.offset in
+      let size = as.size in
+      record {
+        from = (let from = h.from in omega (arith, offset, from));
+        to = (let to = h.to in omega (arith, offset, size, to));
+        beside = λ c set. subst (λ (k : Chunks). IsBesideChunk k r.member.superblock.data_offset i n c) (sym st.chunks) (subst (λ (o : ℕ). IsBesideChunk old.array.chunks o i n c) (sym as.offset) (h.beside c set));
+      }
+
+  pub rebuilt_from : IsRebuilt target copied orphans old y
+  rebuilt_from = record {
+    member = l;
+    at = was.1;
+    now = r.now;
+    there = r.there;
+    state = elim r.state [
+      | inl in_sync ↦ inl in_sync
+      | inr failed ↦
+          inr (
+            failed.0,
+            λ d e at_d at_e honest.
+                (let on = st.disk_then target d at_d in
+                let counted = st.counted target d on.0 at_d on.1 in
+                let less = failed.1 on.0 e on.1 at_e (st.honest target d on.0 at_d on.1 ∙ honest) in
+                omega (arith, counted, less)),
+          )
+    ];
+    copied_chunks = r.copied_chunks ∙ ap (λ (b : Bitmap). b.chunks) st.marks;
+    orphan_chunks = r.orphan_chunks ∙ ap (λ (b : Bitmap). b.chunks) st.marks;
+    copied_are = λ c low. (
+      λ set. (let is = (r.copied_are c (low_then c low)).0 set in (sym (missing_same c low) ∙ is.0, served_before c is.1)),
+      λ h. (r.copied_are c (low_then c low)).1 (missing_same c low ∙ h.0, served_then c h.1),
+    );
+    orphans_are = λ c low. (
+      λ set. (let is = (r.orphans_are c (low_then c low)).0 set in (sym (missing_same c low) ∙ is.0, λ served. is.1 (served_then c served))),
+      λ h. (r.orphans_are c (low_then c low)).1 (missing_same c low ∙ h.0, λ served. h.1 (served_before c served)),
+    );
+    holds = holds_before;
+    bad = list_before;
+    beside = λ d e at_d at_e i n h.
+        (let on = st.disk_then target d at_d in
+        r.beside on.0 e on.1 at_e i n (beside_as i n h) ∙ st.data target d on.0 l at_d on.1 was.1 i n h.from h.to);
+    others = λ j d e m other at_d at_e at_m i k from to.
+        (let on = st.disk_then j d at_d in
+        let n = st.then j m at_m in
+        let offset = n.2.offset in
+        let size = n.2.size in
+        r.others j on.0 e n.0 other on.1 at_e n.1 i k (omega (arith, offset, from)) (omega (arith, offset, size, to)) ∙ st.data j d on.0 m at_d on.1 at_m i k from to);
+  }
