@@ -55,7 +55,7 @@ use Rattle.md_copy.proofs.EnrolReady.{target_rebuilt}
 use Rattle.md_copy.proofs.LentBack.{planned_missing}
 use Rattle.md_copy.proofs.RebuiltByCall.{IsLast, last_of}
 use Rattle.md_copy.proofs.Readied.{IsReady, ready_of, spare_rebuilt}
-use Rattle.md_copy.proofs.StartsReadied.{area_then}
+use Rattle.md_copy.proofs.StartsReadied.{starts_of}
 use Rattle.md_copy.proofs.StoredFirst.{rebuilt_still}
 use Rattle.md_copy.proofs.UnfinishedEnrol.{prepares}
 
@@ -200,7 +200,7 @@ module _ (target : ℕ) where
       both_lead Before h.after.first.stores.goes.events (event_of h.after ∷ h.then.stores.goes.events) old h.after.stored ready (storing_leads target old h.after.stored h.after.first.stores.goes)
       (both_lead Before (event_of h.after ∷ []) h.then.stores.goes.events h.after.stored h.admitted ready (admitting_leads old h.admitted h.after) (storing_leads target h.admitted ready h.then.stores.goes))
 
-  pub events_either : {old ready : MirrorView} → StoresFirst old ready ⊎ AdmitsFirst target old ready → List Event
+  abbrev pub events_either : {old ready : MirrorView} → StoresFirst old ready ⊎ AdmitsFirst target old ready → List Event
   events_either (inl h) = h.stores.goes.events
   events_either (inr h) = first_events h
 
@@ -264,9 +264,10 @@ module _ (target : ℕ) (planned : Planned) (old stored : MirrorView) (b : Begin
   -- where its data end
   pub ends_then : (filled : MirrorView) → filled.array ≡ stored.array → EndsBelow old target → EndsBelow filled target
   ends_then filled same ends m at =
-      let kept = area_then target old stored b.sound b.member b.at b.may b.first m (ap (λ (a : ArrayView). slice_get a.members target) (sym same) ∙ at) in
-      let width : filled.array.chunks ≡ old.array.chunks = ap (λ (a : ArrayView). a.chunks) same ∙ kept.chunks in
-      subst (λ (x : ℕ). x + filled.array.chunks.size ≤ 2 ^ 54) (sym kept.offset) (subst (λ (c : Chunks). b.member.superblock.data_offset + c.size ≤ 2 ^ 54) (sym width) (ends b.member b.at))
+      let starts = starts_of target planned old stored b in
+      let was = starts.before target m (ap (λ (a : ArrayView). slice_get a.members target) (sym same) ∙ at) in
+      let width : filled.array.chunks ≡ old.array.chunks = ap (λ (a : ArrayView). a.chunks) same ∙ starts.chunks in
+      subst (λ (x : ℕ). x + filled.array.chunks.size ≤ 2 ^ 54) (sym was.2.offset) (subst (λ (c : Chunks). was.0.superblock.data_offset + c.size ≤ 2 ^ 54) (sym width) (ends was.0 was.1))
 
 -- ---- it comes into sync
 module _ (target : ℕ) (planned : Planned) (copied orphans : Bitmap) (old filled : MirrorView) (by : FillsBy target planned copied orphans old filled) where

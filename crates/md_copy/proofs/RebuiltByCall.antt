@@ -26,7 +26,8 @@ use Rattle.md_copy.specs.Rebuilt.{HaltsFrom, HasRebuilt, IsRebuilt}
 use Rattle.md_copy.specs.Storing.{Settles}
 use Rattle.md_copy.proofs.RebuiltMember.{area_same, in_sync_now, is_there, list_now, now_there, others_members, rebuilt_then, size_within}
 use Rattle.md_copy.proofs.Readied.{ready_of}
-use Rattle.md_copy.proofs.StartsReadied.{from_ready}
+use Rattle.md_copy.proofs.StartedAs.{rebuilt_from}
+use Rattle.md_copy.proofs.StartsReadied.{starts_of}
 use Rattle.md_copy.proofs.StoringKeeps.{KeepsAll, device_before, device_then, member_then, places_of, storing_keeps}
 
 -- ---- after it came into sync
@@ -152,7 +153,6 @@ last_of enrolled new (inr halts) = (halts.mid, record { goes = halts.goes; ends 
 pub has_rebuilt : (target : ℕ) (told : Rebuilt) (old new : MirrorView) → Rebuilds target told old new → HasRebuilt target told old new
 has_rebuilt target told old new h =
     let by = h.by in
-    let begins = by.fills.begins in
     let last = last_of by.enrolled new by.settles in
     record {
       planned = h.planned;
@@ -163,5 +163,6 @@ has_rebuilt target told old new h =
       orphans_told = λ c. by.fills.sets.orphans_are.bits c ∙ ap (λ xs. is_in xs c) (sym h.tells.orphans);
       last = last.0;
       ends = last.1.ends;
-      rebuilt = from_ready target old by.fills.stored begins.sound begins.member begins.at begins.may h.copied h.orphans last.0 (rebuilt_on target h.planned h.copied h.orphans old new by last.0 last.1.goes) begins.first;
+      rebuilt = rebuilt_from target old by.fills.stored (starts_of target h.planned old by.fills.stored by.fills.begins) h.copied h.orphans last.0
+          (rebuilt_on target h.planned h.copied h.orphans old new by last.0 last.1.goes);
     }

@@ -40,6 +40,39 @@ pub record StartsAs (target : ℕ) (old v : MirrorView) : Type 0 where
   pub missing : (l n : MemberView) → IsMember old.array target l → IsMember v.array target n → (c : ℕ) → c < old.array.marks.chunks → is_missing v.array n c ≡ is_missing old.array l c
   pub content : AreHonest old.disks → (content : Content) → HasContent old.disks old.array content → HasContent v.disks v.array content
 
+pub starts_honest : (target : ℕ) (old v : MirrorView) → StartsAs target old v → AreHonest old.disks → AreHonest v.disks
+starts_honest target old v st honest j e at = (let d = st.disk_before j e at in st.honest j d.0 e d.1 at ∙ honest j d.0 d.1)
+
+as_on : (l m n : MemberView) → IsAs l m → IsAs m n → IsAs l n
+as_on l m n x y = record { in_sync = y.in_sync ∙ x.in_sync; bad = y.bad ∙ x.bad; offset = y.offset ∙ x.offset; size = y.size ∙ x.size }
+
+-- by one step after another
+pub starts_on : (target : ℕ) (old mid v : MirrorView) → StartsAs target old mid → StartsAs target mid v → StartsAs target old v
+starts_on target old mid v x y = record {
+  chunks = y.chunks ∙ x.chunks;
+  marks = y.marks ∙ x.marks;
+  before = λ j n at. (let m = y.before j n at in let l = x.before j m.0 m.1 in (l.0, l.1, as_on l.0 m.0 n l.2 m.2));
+  then = λ j l at. (let m = x.then j l at in let n = y.then j m.0 m.1 in (n.0, n.1, as_on l m.0 n.0 m.2 n.2));
+  disk_before = λ j f at. (let e = y.disk_before j f at in x.disk_before j e.0 e.1);
+  disk_then = λ j d at. (let e = x.disk_then j d at in y.disk_then j e.0 e.1);
+  data = λ j d f l at_d at_f at_l i k from to.
+      (let e = x.disk_then j d at_d in
+      let m = x.then j l at_l in
+      let offset = m.2.offset in
+      let size = m.2.size in
+      y.data j e.0 f m.0 e.1 at_f m.1 i k (omega (arith, offset, from)) (omega (arith, offset, size, to)) ∙ x.data j d e.0 l at_d e.1 at_l i k from to);
+  honest = λ j d f at_d at_f. (let e = x.disk_then j d at_d in y.honest j e.0 f e.1 at_f ∙ x.honest j d e.0 at_d e.1);
+  counted = λ j d f at_d at_f.
+      (let e = x.disk_then j d at_d in
+      let first = x.counted j d e.0 at_d e.1 in
+      let second = y.counted j e.0 f e.1 at_f in
+      omega (arith, first, second));
+  missing = λ l n at_l at_n c low.
+      (let m = x.then target l at_l in
+      y.missing m.0 n m.1 at_n c (subst (λ (b : Bitmap). c < b.chunks) (sym x.marks) low) ∙ x.missing l m.0 at_l m.1 c low);
+  content = λ honest content has. y.content (starts_honest target old mid x honest) content (x.content honest content has);
+}
+
 module _ (target : ℕ) (old v : MirrorView) (st : StartsAs target old v) (copied orphans : Bitmap) (y : MirrorView) (r : IsRebuilt target copied orphans v y) where
   was : (l : MemberView) × IsMember old.array target l × IsAs l r.member
   was = st.before target r.member r.at
@@ -49,9 +82,6 @@ module _ (target : ℕ) (old v : MirrorView) (st : StartsAs target old v) (copie
 
   as : IsAs l r.member
   as = was.2
-
-  honest_then : AreHonest old.disks → AreHonest v.disks
-  honest_then honest j e at = let d = st.disk_before j e at in st.honest j d.0 e d.1 at ∙ honest j d.0 d.1
 
   low_then : (c : ℕ) → c < old.array.marks.chunks → c < v.array.marks.chunks
   low_then c low = subst (λ (b : Bitmap). c < b.chunks) (sym st.marks) low
@@ -102,7 +132,7 @@ module _ (target : ℕ) (old v : MirrorView) (st : StartsAs target old v) (copie
       → part e.content (512 * (l.superblock.data_offset + q)) 512 ≡ content q
   holds_before honest content has e at_e c q low set inside =
       ap (λ (o : ℕ). part e.content (512 * (o + q)) 512) (sym as.offset)
-      ∙ r.holds (honest_then honest) content (st.content honest content has) e at_e c q (low_then c low) set (inside_then c q inside)
+      ∙ r.holds (starts_honest target old v st honest) content (st.content honest content has) e at_e c q (low_then c low) set (inside_then c q inside)
 
   -- the sectors of a list after it
   abbrev ListedAfter : Chunks → ℕ → List Run → ℕ → Type 0

@@ -15,6 +15,7 @@ use Rattle.md_kept_members.specs.TakingBack.{admitted_member}
 use Rattle.md_kept_members.specs.View.{MemberView}
 use Rattle.md_model.specs.Content.{Content}
 use Rattle.md_model.specs.Rebuilding.{lacks}
+use Rattle.md_plan.specs.declared.planner.Planned.{Planned}
 use Rattle.md_state.specs.Members.{IsMember}
 use Rattle.md_state.specs.Missing.{has_passed, is_missing}
 use Rattle.md_state.specs.View.{ArrayView, Disk, MirrorView}
@@ -28,11 +29,11 @@ use Rattle.md_array.proofs.Rebuilding.AdmittedEvent.{admit_happens, admitted_at}
 use Rattle.md_metadata.specs.Storing.{AllStayReady, StaysReady}
 use Rattle.md_copy.specs.Beginning.{MayRebuild}
 use Rattle.md_copy.specs.Readying.{AdmitsFirst, Readies}
-use Rattle.md_copy.specs.Rebuilt.{IsRebuilt}
+use Rattle.md_copy.specs.Rebuilding.{Begins}
 use Rattle.md_copy.specs.Storing.{StoresFirst}
 use Rattle.md_copy.proofs.HeldAlong.{between_of, content_stored, has_of, then_holds}
 use Rattle.md_copy.proofs.Readied.{after_so, spare_twice, stored_so}
-use Rattle.md_copy.proofs.StartedAs.{IsAs, StartsAs, rebuilt_from}
+use Rattle.md_copy.proofs.StartedAs.{IsAs, StartsAs, starts_on}
 use Rattle.md_copy.proofs.StoringKeeps.{KeepsAll, beside_super_of, device_before, device_then, member_then, places_of, storing_keeps}
 
 -- ---- what is stored
@@ -221,53 +222,22 @@ module _ (target : ℕ) (v x : MirrorView) (sound : IsConsistent v) (resynced : 
     content = content_kept;
   }
 
--- ---- where the target's data are
--- a member's data start where another's do
-pub record HasAreaOf (old v : MirrorView) (l n : MemberView) : Type 0 where
-  pub chunks : v.array.chunks ≡ old.array.chunks
-  pub offset : n.superblock.data_offset ≡ l.superblock.data_offset
-
--- by one step after another
-area_by : (target : ℕ) (old v : MirrorView) → StartsAs target old v → (l n : MemberView) → IsMember old.array target l → IsMember v.array target n → HasAreaOf old v l n
-area_by target old v st l n at_l at_n =
-    let b = st.before target n at_n in
-    let same : b.0 ≡ l = same_Some b.0 l (sym b.1 ∙ at_l) in
-    record { chunks = st.chunks; offset = b.2.offset ∙ ap (λ (z : MemberView). z.superblock.data_offset) same }
-
-area_on : (old mid v : MirrorView) (l m n : MemberView) → HasAreaOf old mid l m → HasAreaOf mid v m n → HasAreaOf old v l n
-area_on old mid v l m n x y = record { chunks = y.chunks ∙ x.chunks; offset = y.offset ∙ x.offset }
-
-module _ (target : ℕ) (old v : MirrorView) (sound : IsConsistent old) (member : MemberView) (at : IsMember old.array target member) (may : MayRebuild old.array member) where
-  area_admitted : is_spare member.state ≡ true → (h : AdmitsFirst target old v) → (n : MemberView) → IsMember v.array target n → HasAreaOf old v member n
-  area_admitted spare h n at_n =
-      let a = h.after in
-      let twice = spare_twice old.array member spare may in
-      let stored = stored_so old a.stored a.first 2 twice in
-      let admitted = after_so target old h.admitted a member spare may in
-      let s = a.admits.may.member in
-      let x = admitted_member a.admits.role s in
-      let here = admitted_at target a.stored h.admitted a.first.stores.goes.sound a.admits a.spare in
-      let first = area_by target old a.stored (starts_stored target old a.stored sound twice.resynced a.first) member s at a.admits.may.at in
-      let second = area_by target a.stored h.admitted (starts_admitted target a.stored h.admitted a.first.stores.goes.sound stored.resynced a.admits a.spare a.sound) s x a.admits.may.at here in
-      let third = area_by target h.admitted v (starts_stored target h.admitted v a.sound admitted.resynced h.then) x n here at_n in
-      area_on old h.admitted v member x n (area_on old a.stored h.admitted member s x first second) third
-
-  pub area_then : Readies target member old v → (n : MemberView) → IsMember v.array target n → HasAreaOf old v member n
-  area_then (inl h) n at_n = area_by target old v (starts_stored target old v sound may.settled.resynced h.1) member n at at_n
-  area_then (inr h) n at_n = area_admitted h.0 h.1 n at_n
-
 -- ---- all of it
-module _ (target : ℕ) (old v : MirrorView) (sound : IsConsistent old) (member : MemberView) (at : IsMember old.array target member) (may : MayRebuild old.array member) (copied orphans : Bitmap) (y : MirrorView) (r : IsRebuilt target copied orphans v y) where
-  after_admission : is_spare member.state ≡ true → AdmitsFirst target old v → IsRebuilt target copied orphans old y
-  after_admission spare h =
+module _ (target : ℕ) (old v : MirrorView) (sound : IsConsistent old) (member : MemberView) (may : MayRebuild old.array member) where
+  starts_after : is_spare member.state ≡ true → AdmitsFirst target old v → StartsAs target old v
+  starts_after spare h =
       let a = h.after in
       let twice = spare_twice old.array member spare may in
       let stored = stored_so old a.stored a.first 2 twice in
       let admitted = after_so target old h.admitted a member spare may in
-      let last = rebuilt_from target h.admitted v (starts_stored target h.admitted v a.sound admitted.resynced h.then) copied orphans y r in
-      let middle = rebuilt_from target a.stored h.admitted (starts_admitted target a.stored h.admitted a.first.stores.goes.sound stored.resynced a.admits a.spare a.sound) copied orphans y last in
-      rebuilt_from target old a.stored (starts_stored target old a.stored sound twice.resynced a.first) copied orphans y middle
+      let first = starts_stored target old a.stored sound twice.resynced a.first in
+      let second = starts_admitted target a.stored h.admitted a.first.stores.goes.sound stored.resynced a.admits a.spare a.sound in
+      let third = starts_stored target h.admitted v a.sound admitted.resynced h.then in
+      starts_on target old h.admitted v (starts_on target old a.stored h.admitted first second) third
 
-  pub from_ready : Readies target member old v → IsRebuilt target copied orphans old y
-  from_ready (inl h) = rebuilt_from target old v (starts_stored target old v sound may.settled.resynced h.1) copied orphans y r
-  from_ready (inr h) = after_admission h.0 h.1
+  pub starts_ready : Readies target member old v → StartsAs target old v
+  starts_ready (inl h) = starts_stored target old v sound may.settled.resynced h.1
+  starts_ready (inr h) = starts_after h.0 h.1
+
+pub starts_of : (target : ℕ) (planned : Planned) (old v : MirrorView) → Begins target planned old v → StartsAs target old v
+starts_of target planned old v b = starts_ready target old v b.sound b.member b.may b.first

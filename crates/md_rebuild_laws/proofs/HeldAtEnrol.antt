@@ -22,6 +22,7 @@ use Rattle.md_state.specs.Members.{IsInSync, IsMember}
 use Rattle.md_state.specs.Missing.{is_missing}
 use Rattle.md_state.specs.View.{ArrayView, Disk, MirrorView}
 use Rattle.md_super.specs.declared.superblock.Superblock.{Superblock}
+use Rattle.md_array.specs.Consistency.{IsConsistent}
 use Rattle.md_array.specs.Enrolling.{Enrols, HasContent}
 use Rattle.md_array.specs.Enrolments.{EndsBelow, IsHeldBy, lists_of, prepared}
 use Rattle.md_array.specs.Worlds.{AreHonest, lies_in}
@@ -29,15 +30,40 @@ use Rattle.md_array.proofs.General.Indices.{got_other}
 use Rattle.md_array.proofs.Rebuilding.HeldContent.{another, its_chunk, then_sector}
 use Rattle.md_array.proofs.Rebuilding.InBetween.{prepared_is, superblock, then_at, then_disk}
 use Rattle.md_array.proofs.Worlds.Bad.{test_from_bad}
-use Rattle.md_metadata.specs.Storing.{StaysReady}
 use Rattle.md_copy.specs.Filling.{IsFilling}
 use Rattle.md_copy.specs.Rebuilding.{FillsBy}
 use Rattle.md_copy.proofs.LentBack.{planned_missing, rebuilt_out}
 use Rattle.md_copy.proofs.RebuildLeads.{ends_then, now_rebuilt, plan_of}
-use Rattle.md_copy.proofs.RebuiltByCall as call
+use Rattle.md_copy.proofs.Readied.{ready_of}
+use Rattle.md_copy.proofs.StartedAs.{StartsAs, starts_honest}
+use Rattle.md_copy.proofs.StartsReadied.{starts_of}
 use Rattle.md_copy.proofs.RebuiltMember as pass
 use Rattle.md_rebuild_laws.specs.RebuiltInLife.{HeldWhatItHad}
 use Rattle.md_rebuild_laws.proofs.RebuiltHolds.{beside_other, one_chunk}
+
+-- ---- what it held before, it holds once the rebuild is readied
+module _ (target : ℕ) (content : Content) (old v : MirrorView) (st : StartsAs target old v) (sound : IsConsistent v) (had : HeldWhatItHad target content old) where
+  chunk_low : (s : ℕ) → s < v.array.chunks.size → s / v.array.chunks.sectors < old.array.marks.chunks
+  chunk_low s low =
+      let bounds = div_ceil_times v.array.chunks.size v.array.chunks.sectors sound.chunks.wide in
+      let below = div_below s v.array.chunks.sectors (div_ceil v.array.chunks.size v.array.chunks.sectors) sound.chunks.wide (omega (arith, bounds.0)) in
+      subst (λ (b : Bitmap). s / v.array.chunks.sectors < b.chunks) st.marks (subst (λ (x : ℕ). s / v.array.chunks.sectors < x) (sym sound.chunks.count) below)
+
+  pub held_readied : HeldWhatItHad target content v
+  held_readied d m at_d at_m s low present unlisted =
+      let l = st.before target m at_m in
+      let x = st.disk_before target d at_d in
+      let fits = (sound.fits.each target d m at_d at_m).placed.data_holds in
+      let size = sound.chunks.size in
+      let own = sound.chunks.member_size target m at_m in
+      let same_size = l.2.size in
+      let low_old : s < old.array.chunks.size = subst (λ (k : Chunks). s < k.size) st.chunks low in
+      let lacks_not : is_missing old.array l.0 (s / old.array.chunks.sectors) ≡ false = ap (λ (k : Chunks). is_missing old.array l.0 (s / k.sectors)) (sym st.chunks)
+      ∙ sym (st.missing l.0 m l.1 at_m (s / v.array.chunks.sectors) (chunk_low s low)) ∙ present in
+      ap (λ (o : ℕ). part d.content (512 * (o + s)) 512) l.2.offset
+      ∙ st.data target x.0 d l.0 x.1 at_d l.1 (512 * (l.0.superblock.data_offset + s)) 512 (omega arith) (omega (arith, low, fits, size, own, same_size))
+      ∙ had x.0 l.0 x.1 l.1 s low_old lacks_not
+      (λ bad. unlisted (subst (λ (runs : List Run). IsBad runs (m.superblock.data_offset + s)) (sym l.2.bad) (subst (λ (o : ℕ). IsBad l.0.bad (o + s)) (sym l.2.offset) bad)))
 
 module _ (target : ℕ) (planned : Planned) (copied orphans : Bitmap) (old filled new : MirrorView) (by : FillsBy target planned copied orphans old filled) (r : Enrols target copied orphans filled new) (ends : EndsBelow old target)
     (honest : AreHonest old.disks) (content : Content) (has : HasContent old.disks old.array content) (had : HeldWhatItHad target content old) where
@@ -58,11 +84,20 @@ module _ (target : ℕ) (planned : Planned) (copied orphans : Bitmap) (old fille
       let same : n ≡ m = same_Some n m (sym in_sync.member ∙ ap (slice_get v.array.members) here ∙ by.begins.there) in
       true≢false (sym in_sync.in_sync ∙ ap (λ (x : MemberView). is_in_sync x.state) same ∙ rebuilt_out m.state (now_rebuilt target planned old v by.begins))
 
+  starts : StartsAs target old v
+  starts = starts_of target planned old v by.begins
+
+  sound_ready : IsConsistent v
+  sound_ready = (ready_of target planned old v by.begins).sound
+
+  had_ready : HeldWhatItHad target content v
+  had_ready = held_readied target content old v starts sound_ready had
+
   honest_filled : AreHonest filled.disks
-  honest_filled = pass.honest_then target m planned v filled f (call.honest_then old v by.begins.first honest)
+  honest_filled = pass.honest_then target m planned v filled f (starts_honest target old v starts honest)
 
   has_filled : HasContent filled.disks a content
-  has_filled = pass.content_then target m planned v filled f out content (call.content_then old v by.begins.first content has)
+  has_filled = pass.content_then target m planned v filled f out content (starts.content honest content has)
 
   ends_filled : EndsBelow filled target
   ends_filled = ends_then target planned old v by.begins filled f.array ends
@@ -131,27 +166,16 @@ module _ (target : ℕ) (planned : Planned) (copied orphans : Bitmap) (old fille
           let chunks : a.chunks ≡ v.array.chunks = ap (λ (x : ArrayView). x.chunks) f.array in
           kept.same.beside (512 * sector) 512
           (λ e planned_there.
-          let missing = (planned_missing v by.begins.first.stores.goes.sound m (now_rebuilt target planned old v by.begins) planned.plan (plan_of target planned old v by.begins) e planned_there).1 in
+          let missing = (planned_missing v sound_ready m (now_rebuilt target planned old v by.begins) planned.plan (plan_of target planned old v by.begins) e planned_there).1 in
           beside_other v.array m.superblock.data_offset e c s (subst (λ (k : Chunks). InChunk k.sectors k.size c s) chunks inside)
           (λ same. true≢false (sym missing ∙ ap (is_missing v.array m) same ∙ sym (ap (λ (x : ArrayView). is_missing x m c) f.array) ∙ present)))
 
-      -- and so did what was stored before
       held_there : part d.content (512 * sector) 512 ≡ content s
       held_there =
           let b = pass.was_there target m planned v filled f target d was in
-          let z = call.device_there old v by.begins.first target b.0 b.1 in
-          let t : StaysReady old.array v.array target m = by.begins.first.stores.ready.each target m by.begins.there in
-          let chunks : a.chunks ≡ old.array.chunks = ap (λ (x : ArrayView). x.chunks) f.array ∙ ap (λ (x : ArrayView). x.chunks) by.begins.first.stores.ready.others in
-          let marks : a.marks ≡ old.array.marks = ap (λ (x : ArrayView). x.marks) f.array ∙ ap (λ (x : ArrayView). x.marks) by.begins.first.stores.ready.others in
-          let low_old : s < old.array.chunks.size = subst (λ (k : Chunks). s < k.size) chunks low in
-          let lacks_not : is_missing old.array t.before (s / old.array.chunks.sectors) ≡ false =
-          ap (λ (k : Chunks). is_missing old.array t.before (s / k.sectors)) (sym chunks)
-          ∙ ap (λ (b : Bitmap). is_missing (record old.array { marks = b }) t.before c) (sym marks)
-          ∙ sym (ap (λ (x : MemberView). is_missing a x c) t.same) ∙ present in
-          filled_same b.0 b.1
-          ∙ call.sector_kept old v by.begins.first target z.0 b.0 m z.1 b.1 by.begins.there s (subst (λ (x : ArrayView). s < x.chunks.size) f.array low)
-          ∙ ap (λ (x : MemberView). part z.0.content (512 * (x.superblock.data_offset + s)) 512) t.same
-          ∙ had z.0 t.before z.1 t.member s low_old lacks_not (λ bad. clear (subst (λ (x : MemberView). IsBad x.bad (x.superblock.data_offset + s)) (sym t.same) bad))
+          let low_ready : s < v.array.chunks.size = subst (λ (x : ArrayView). s < x.chunks.size) f.array low in
+          let lacks_not : is_missing v.array m (s / v.array.chunks.sectors) ≡ false = sym (ap (λ (x : ArrayView). is_missing x m (s / x.chunks.sectors)) f.array) ∙ present in
+          filled_same b.0 b.1 ∙ had_ready b.0 m b.1 by.begins.there s low_ready lacks_not clear
 
     told : (e : Disk) (y : MemberView) → slice_get now target ≡ Some e → IsMember a target y → (s : ℕ) → s < a.chunks.size → is_missing a y (s / a.chunks.sectors) ≡ false → lists_of a r.member s ≡ false
         → part e.content (512 * (y.superblock.data_offset + s)) 512 ≡ content s

@@ -1,4 +1,5 @@
 pub mod HeldOnDisks
+pub mod LeftByWrite
 pub mod RebuiltHolds
 pub mod StoppedRebuilds
 pub mod HeldAtEnrol

@@ -34,7 +34,7 @@ use Rattle.md_rebuild_laws.specs.StoppedRebuilds.{IsStopEnrolled, StopsEnrolled,
 use Rattle.md_rebuild_laws.proofs.EnrolledRun.{at_end, enrolled_run_with}
 use Rattle.md_rebuild_laws.proofs.HeldAtEnrol.{is_held}
 use Rattle.md_rebuild_laws.proofs.RebuiltHolds.{held_at_begin}
-use Rattle.md_rebuild_laws.proofs.StoppedRebuilds.{ends_mid, enrolling_stop, filling_stop, first_stop, full, honest_mid, in_flight_mid, lead, list, reaches, sound_mid, stops_in}
+use Rattle.md_rebuild_laws.proofs.StoppedRebuilds.{ends_mid, enrolling_stop, filling_stop, full, honest_mid, in_flight_mid, lead, list, reaches, ready_stop, sound_mid, stops_in}
 
 -- ---- the content
 -- along these events it stays
@@ -47,6 +47,7 @@ stays_along target (Event.StoreMarksFails k b ∷ es) t a last of run = (run.0, 
 stays_along target (Event.Fill k ∷ es) t a last of run = (run.0, run.1, a, run.2, refl, stays_along target es (then_as t (Event.Fill k) run.0 run.1) a last of.1 run.3)
 stays_along target (Event.Prepare k ∷ es) t a last of run = (run.0, run.1, a, run.2, refl, stays_along target es (then_as t (Event.Prepare k) run.0 run.1) a last of.1 run.3)
 stays_along target (Event.RecordTargetFails k ∷ es) t a last of run = (run.0, run.1, a, run.2, refl, stays_along target es (then_as t (Event.RecordTargetFails k) run.0 run.1) a last of.1 run.3)
+stays_along target (Event.Admit k role listed ∷ es) t a last of run = (run.0, run.1, a, run.2, refl, stays_along target es (then_as t (Event.Admit k role listed) run.0 run.1) a last of.1 run.3)
 stays_along target (e ∷ es) t a last of run = absurd (of.0)
 
 -- one run after another
@@ -204,7 +205,7 @@ stops_in_rebuild before m a start holds es rest final t b life target told new h
     let by = h.by.fills in
     let begins = by.begins in
     elim stop [
-      | inl first ↦ inl (first_stop t at.sound target h.planned by.stored begins in_flight left first)
+      | inl first ↦ inl (ready_stop t at.sound target begins.member begins.at begins.may by.stored begins.first in_flight left first)
       | inr (inl pass) ↦ inl (filling_stop t at.sound target h.planned by.stored begins h.by.filled by.fills.filling left pass)
       | inr (inr (inl enrols)) ↦ elim enrols.1 [
         | inl as_before ↦ inl (enrolling_stop t at.sound target h.planned h.copied h.orphans h.by.filled by h.by.enrolled h.by.enrols left enrols.0 as_before)

@@ -1,6 +1,6 @@
 -- What a rebuild makes of its target in the life of a mirror.
-use Rattle.std.specs.Prelude.{◌≡◌, ℕ, ◌+◌, ◌*◌, ◌/◌, ◌<◌, true, false, List, slice_get, Some}
-use Rattle.md_assembly.specs.States.{is_in_sync}
+use Rattle.std.specs.Prelude.{◌≡◌, ◌⊎◌, ℕ, ◌+◌, ◌*◌, ◌/◌, ◌<◌, true, false, List, slice_get, Some}
+use Rattle.md_assembly.specs.States.{is_recovering, is_spare}
 use Rattle.md_badblocks.specs.Runs.{IsBad}
 use Rattle.md_bitmap.specs.Chunks.{InChunk}
 use Rattle.md_bitmap.specs.Marks.{is_set}
@@ -12,8 +12,9 @@ use Rattle.md_model.specs.Devices.{Stored}
 use Rattle.md_model.specs.Events.{Event}
 use Rattle.md_model.specs.RebuiltBehind.{IsRebuiltFrom}
 use Rattle.md_state.specs.Members.{IsMember}
-use Rattle.md_state.specs.Missing.{is_missing}
+use Rattle.md_state.specs.Missing.{is_missing, is_re_added}
 use Rattle.md_state.specs.View.{Disk, MirrorView, geometry_of}
+use Rattle.md_array.specs.Consistency.{IsConsistent}
 use Rattle.md_array.specs.Enrolments.{EndsBelow, lists_of}
 use Rattle.md_array.specs.Worlds.{none_in_flight, world_of}
 use Rattle.md_laws.specs.Lives.{MirrorLifeWith}
@@ -36,23 +37,27 @@ CopiesContent = OfRebuildsInLives (λ target content told old new r.
     ((e : Disk) → slice_get r.last.disks target ≡ Some e → (c s : ℕ) → c < old.array.marks.chunks → is_set r.copied.bytes c ≡ true
     → InChunk old.array.chunks.sectors old.array.chunks.size c s → part e.content (512 * (r.rebuilt.member.superblock.data_offset + s)) 512 ≡ content s))
 
--- In chunks that it did not lack the member held it, on each sector that it did not list. One that was not re-added lacked all chunks.
+-- In chunks that it did not lack the member held it, on each sector that it did not list.
 abbrev pub HeldWhatItHad : ℕ → Content → MirrorView → Type 0
 HeldWhatItHad target content old =
     (d : Disk) (m : MemberView) → slice_get old.disks target ≡ Some d → IsMember old.array target m
     → (s : ℕ) → s < old.array.chunks.size → is_missing old.array m (s / old.array.chunks.sectors) ≡ false → (IsBad m.bad (m.superblock.data_offset + s) → ⊥)
     → part d.content (512 * (m.superblock.data_offset + s)) 512 ≡ content s
 
--- So nothing is asked of such a one.
-abbrev pub SpareHadNothing : Type 0
-SpareHadNothing =
-    (target : ℕ) (content : Content) (old : MirrorView) (m : MemberView) → IsMember old.array target m → m.re_added ≡ false → is_in_sync m.state ≡ false → HeldWhatItHad target content old
+-- a member of which nothing is rebuilt: a spare, or one that is recovering and whose offset has passed nothing
+abbrev pub HasNothing : MemberView → Type 0
+HasNothing m = (is_spare m.state ≡ true) ⊎ ((is_recovering m.state ≡ true) × (m.superblock.recovery_offset ≡ 0))
 
--- One that was re-added held it, if the device that left lies behind the content by what is marked, and it still has the data of that device
--- in chunks without a mark, and lists there what that listed, or more.
+-- It lacks every chunk, so nothing is asked of it.
+abbrev pub NewHadNothing : Type 0
+NewHadNothing =
+    (target : ℕ) (content : Content) (old : MirrorView) (m : MemberView) → IsConsistent old → IsMember old.array target m → HasNothing m → HeldWhatItHad target content old
+
+-- One that lacks the marked chunks alone, as one that was re-added does, held it, if the device that left lies behind the content by what is
+-- marked, and it still has the data of that device in chunks without a mark, and lists there what that listed, or more.
 abbrev pub TakenBackHeldIt : Type 0
 TakenBackHeldIt =
-    (t : Moment) (target : ℕ) (content : Content) (m : MemberView) → IsMember t.mirror.array target m → m.re_added ≡ true
+    (t : Moment) (target : ℕ) (content : Content) (m : MemberView) → IsMember t.mirror.array target m → is_re_added t.mirror.array m ≡ true
     → (device : Stored) → IsBehind (geometry_of t.mirror.array) content device (world_of t.mirror t.requests)
     → IsRebuiltFrom (geometry_of t.mirror.array) device (world_of t.mirror t.requests) target (lists_of t.mirror.array m) → HeldWhatItHad target content t.mirror
 

@@ -1,6 +1,7 @@
 -- What a stop within a rebuild leaves. It comes within one of its steps, from the mirror before that step to the one after it, of which the
 -- step's own contract says what may be left.
 use Rattle.std.specs.Prelude.{◌≡◌, ◌⊎◌, ℕ, false, List, [], ◌∷◌, Option, Some, None}
+use Rattle.std.proofs.Common.{inl, inr}
 use Rattle.md_assembly.specs.States.{is_in_sync}
 use Rattle.md_bitmap.specs.Marks.{Bitmap}
 use Rattle.md_kept_members.specs.View.{MemberView}
@@ -26,7 +27,8 @@ use Rattle.md_metadata.specs.Going.{GoesOn, only_others}
 use Rattle.md_metadata.specs.Storing.{IsStoring}
 use Rattle.md_copy.specs.declared.rebuilt.Rebuilt.{Rebuilt}
 use Rattle.md_copy.specs.Filling.{IsFilling}
-use Rattle.md_copy.specs.Storing.{FailsOnTarget}
+use Rattle.md_copy.specs.Readying.{AdmitsAfter, FailsAdmission, Readies}
+use Rattle.md_copy.specs.Storing.{FailsOnTarget, StoresFirst}
 use Rattle.md_copy.specs.RebuildEvents.{FailsAtMarks, IsBeforeEnrol, IsOfRebuild}
 use Rattle.md_copy.specs.Rebuilding.{Begins, EndsStoring, FillsBy, Rebuilds}
 use Rattle.md_rebuild_laws.specs.RebuildRuns.{AtMomentsWith}
@@ -95,6 +97,27 @@ StopsUnrecorded =
     ((target : ℕ) (new : MirrorView) (e : EndsStoring target t.mirror (FailsOnTarget target t.mirror new))
     → (left : List Disk) → MayAllBeLeft e.why.mid.disks new.disks (contents_of left) → IsLeftWhole (Event.Record target) e.why.mid left → IsStopBefore target t left))
 
+-- ---- while a spare is admitted
+-- the stop left the target's superblock as it was before a call, or as it is after it
+abbrev pub IsSuperWhole : ℕ → MirrorView → MirrorView → List Disk → Type 0
+IsSuperWhole target old new left =
+    AtDevice target old.disks left (λ d e. block_on e.content ≡ block_on d.content) ⊎ AtDevice target new.disks left (λ d e. block_on e.content ≡ block_on d.content)
+
+-- its superblock is written, once
+abbrev pub StopsAdmitting : Type 0
+StopsAdmitting =
+    AtMoments (λ t.
+    ((target : ℕ) (admitted : MirrorView) (h : AdmitsAfter target t.mirror admitted)
+    → (left : List Disk) → MayAllBeLeft h.stored.disks admitted.disks (contents_of left) → IsSuperWhole target h.stored admitted left → IsStopBefore target t left))
+
+-- or that write fails, and left it as it was
+abbrev pub StopsUnadmitted : Type 0
+StopsUnadmitted =
+    AtMoments (λ t.
+    ((target : ℕ) (new : MirrorView) (h : FailsAdmission target t.mirror new)
+    → (left : List Disk) → MayAllBeLeft h.stored.disks new.disks (contents_of left) → AtDevice target h.stored.disks left (λ d e. block_on e.content ≡ block_on d.content)
+    → IsStopBefore target t left))
+
 -- ---- while the target gets its chunks, whatever comes of it
 abbrev pub StopsFilling : Type 0
 StopsFilling =
@@ -140,15 +163,23 @@ StopsSettling =
     → IsStopEnrolled target t content left))
 
 -- ---- within all of a rebuild that is done
--- a stop within its enrolment left the target's superblock as it was before it, or as it is after it
-abbrev pub IsSuperWhole : ℕ → MirrorView → MirrorView → List Disk → Type 0
-IsSuperWhole target old new left =
-    AtDevice target old.disks left (λ d e. block_on e.content ≡ block_on d.content) ⊎ AtDevice target new.disks left (λ d e. block_on e.content ≡ block_on d.content)
+-- the stop came while what is due was stored
+abbrev pub StopsFirst : (old new : MirrorView) → StoresFirst old new → (requests : Requests) → AreInFlight old.array requests → List Disk → Type 0
+StopsFirst old new first requests in_flight left =
+    StopsIn first.stores.goes.events None old requests (λ m r. (m ≡ new) × (r ≡ requests)) (first.stores.goes.leads None requests in_flight) left
 
--- The stop came while what is due was stored, while the pass was made, while the target came into sync, or while what was due then was stored.
+-- So it came; or, of a spare, before it was admitted, while it was, or while what was due then was stored.
+abbrev pub StopsReadying : (target : ℕ) (m : MemberView) (old ready : MirrorView) → Readies target m old ready → (requests : Requests) → AreInFlight old.array requests → List Disk → Type 0
+StopsReadying target m old ready (inl h) requests in_flight left = StopsFirst old ready h.1 requests in_flight left
+StopsReadying target m old ready (inr h) requests in_flight left =
+    StopsFirst old h.1.after.stored h.1.after.first requests in_flight left
+    ⊎ ((MayAllBeLeft h.1.after.stored.disks h.1.admitted.disks (contents_of left) × IsSuperWhole target h.1.after.stored h.1.admitted left)
+    ⊎ ((then : AreInFlight h.1.admitted.array requests) × StopsFirst h.1.admitted ready h.1.then requests then left))
+
+-- So it came; or while the pass was made, while the target came into sync, or while what was due then was stored.
 abbrev pub StopsWithin : (target : ℕ) (told : Rebuilt) (old new : MirrorView) → Rebuilds target told old new → (requests : Requests) → AreInFlight old.array requests → List Disk → Type 0
 StopsWithin target told old new h requests in_flight left =
-    StopsIn h.by.fills.begins.first.stores.goes.events None old requests (λ m r. (m ≡ h.by.fills.stored) × (r ≡ requests)) (h.by.fills.begins.first.stores.goes.leads None requests in_flight) left
+    StopsReadying target h.by.fills.begins.member old h.by.fills.stored h.by.fills.begins.first requests in_flight left
     ⊎ (MayAllBeLeft h.by.fills.stored.disks h.by.filled.disks (contents_of left)
     ⊎ ((MayAllBeLeft h.by.filled.disks h.by.enrolled.disks (contents_of left) × IsSuperWhole target h.by.filled h.by.enrolled left)
     ⊎ ((settled : MirrorView) × (g : GoesOn only_others only_others IsStoring h.by.enrolled settled) × (then : AreInFlight h.by.enrolled.array requests)

@@ -1,8 +1,8 @@
 //! What holds of a rebuild in the life of a mirror. The functions do nothing: their contracts are the theorems.
 
 ghost use Rattle.md_rebuild_laws.specs.RebuildRuns.{RebuildIsARun, RebuildRunsOn};
-ghost use Rattle.md_rebuild_laws.specs.RebuiltInLife.{CopiesContent, RebuildsContent, SpareHadNothing, TakenBackHeldIt};
-ghost use Rattle.md_rebuild_laws.specs.StoppedRebuilds.{StopsEnrolled, StopsEnrolling, StopsFilling, StopsInRebuild, StopsSettling, StopsStoring, StopsUnenrolled, StopsUnrecorded};
+ghost use Rattle.md_rebuild_laws.specs.RebuiltInLife.{CopiesContent, NewHadNothing, RebuildsContent, TakenBackHeldIt};
+ghost use Rattle.md_rebuild_laws.specs.StoppedRebuilds.{StopsAdmitting, StopsEnrolled, StopsEnrolling, StopsFilling, StopsInRebuild, StopsSettling, StopsStoring, StopsUnadmitted, StopsUnenrolled, StopsUnrecorded};
 
 /// A mirror was opened from devices that do what they answer, whose stored marks covered what they differ in,
 /// and has come to any moment of its life. A rebuild then gives the new member the content that the life has
@@ -13,10 +13,11 @@ pub fn rebuilt_in_life()
     ensures content { RebuildsContent }
 {}
 
-/// When a member held the content where it lacked nothing. A spare lacks everything. One that was taken back did, if
-/// the device that left lies behind by what is marked, as `md_laws::laws::leaving_members` says of one that failed.
+/// When a member held the content where it lacked nothing. A spare lacks everything, and so does a recovering member
+/// whose offset is 0. One that was taken back did, if the device that left lies behind by what is marked, as
+/// `md_laws::laws::leaving_members` says of one that failed.
 pub fn held_before()
-    ensures spare { SpareHadNothing }
+    ensures new { NewHadNothing }
     ensures taken_back { TakenBackHeldIt }
 {}
 
@@ -33,6 +34,8 @@ pub fn rebuild_runs()
 pub fn stopped_rebuilds()
     ensures storing { StopsStoring }
     ensures unrecorded { StopsUnrecorded }
+    ensures admitting { StopsAdmitting }
+    ensures unadmitted { StopsUnadmitted }
     ensures filling { StopsFilling }
     ensures enrolling { StopsEnrolling }
     ensures unenrolled { StopsUnenrolled }

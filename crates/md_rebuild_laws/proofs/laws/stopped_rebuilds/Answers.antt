@@ -1,11 +1,13 @@
 use Rattle.md_rebuild_laws.proofs.RebuildRun.{stops_enrolled, stops_in_rebuild, stops_settling}
-use Rattle.md_rebuild_laws.proofs.StoppedRebuilds.{stops_enrolling, stops_filling, stops_storing, stops_unenrolled, stops_unrecorded}
+use Rattle.md_rebuild_laws.proofs.StoppedRebuilds.{stops_admitting, stops_enrolling, stops_filling, stops_storing, stops_unadmitted, stops_unenrolled, stops_unrecorded}
 use Rattle.md_rebuild_laws.proofs.laws.stopped_rebuilds.Goals as goal
 
 pub returns : goal.returns
 returns c = record {
   storing = stops_storing;
   unrecorded = stops_unrecorded;
+  admitting = stops_admitting;
+  unadmitted = stops_unadmitted;
   filling = stops_filling;
   enrolling = stops_enrolling;
   unenrolled = stops_unenrolled;
