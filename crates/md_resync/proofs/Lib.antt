@@ -5,6 +5,7 @@ pub mod StepRuns
 pub mod CopiedChunks
 pub mod Advancing
 pub mod Agreeing
+pub mod Unstored
 pub mod Settled
 pub mod Cleared
 pub mod Resynced

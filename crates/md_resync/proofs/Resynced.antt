@@ -1,5 +1,5 @@
 -- A resync is put together.
-use Rattle.std.proofs.Common.{◌≡◌, ℕ, suc, ◌/◌, ◌<◌, Bool, true, false, not, ◌||◌, List, [], ◌∷◌, length, slice_get, Some, refl, sym, ap, ◌∙◌, inl, inr, subst, arith}
+use Rattle.std.proofs.Common.{◌≡◌, ℕ, suc, ◌/◌, ◌<◌, Bool, true, false, not, ◌||◌, List, [], ◌∷◌, length, slice_get, Some, refl, sym, ap, ◌∙◌, ◌⊎◌, inl, inr, subst, arith}
 use Rattle.std.specs.Prelude.{Result, Ok, Err, MatchResult}
 use Rattle.std.specs.List.{list_any, range_with_len}
 use Rattle.std.proofs.lemmas.Option.{slice_get_within}
@@ -15,11 +15,12 @@ use Rattle.md_state.specs.View.{ArrayView, MirrorView, geometry_of}
 use Rattle.md_state.specs.MakingClean.{IsIdle}
 use Rattle.md_state.specs.Members.{AllInSync, IsAlone, is_degraded, is_filled}
 use Rattle.md_state.specs.CopyingData.{IsSource}
+use Rattle.md_state.specs.Requests.{AreInFlight}
 use Rattle.md_array.specs.Consistency.{IsConsistent}
 use Rattle.md_array.specs.Events.{Happens}
-use Rattle.md_array.specs.InTurn.{AllOf}
+use Rattle.md_array.specs.InTurn.{AllOf, Requests}
 use Rattle.md_array.specs.NotingResynced.{AllAgreeAt, AreNoted, BecomesResynced}
-use Rattle.md_array.specs.Worlds.{world_of}
+use Rattle.md_array.specs.Worlds.{AreHonest, world_of}
 use Rattle.md_array.proofs.General.Honesty.{same_honest}
 use Rattle.md_array.proofs.General.Resting.{rests_sound}
 use Rattle.md_array.proofs.Steps.Turns.{all_on, all_such}
@@ -31,13 +32,14 @@ use Rattle.md_metadata.specs.Storing.{HasAllMarks, IsMarking}
 use Rattle.md_resync.specs.declared.fault.ResyncFault.{ResyncFault}
 use Rattle.md_resync.specs.declared.fault.ResyncFault.TheVariants.{Halted, InFlight, MemberFailed, NoMemory, ReadFault}
 use Rattle.md_resync.specs.Copying.{Copies, CopyingFails, FailsReading, IsCopyIn, IsMarkedAt, LosesCopying}
-use Rattle.md_resync.specs.Resyncing.{Advances, Agrees, ClearsStored, ComesTo, FailsToAgree, FailsToWrite, HasSameMembers, IdleFails, IsCopyBelow, IsResynced, LeavesMarks, MarkingFails, Resyncs, SettlesContent, StoresMarks}
+use Rattle.md_resync.specs.Resyncing.{Advances, AgreeUnstored, Agrees, ClearsStored, ComesTo, FailsToAgree, FailsToWrite, HasSameMembers, IdleFails, IsCopyBelow, IsResynced, LeavesMarks, MarkingFails, Resyncs, SettlesContent, StoresMarks}
 use Rattle.md_resync.proofs.Advancing.{advances_on, agree_same, alone_still, fails_on, goes_on, none_flies}
 use Rattle.md_resync.proofs.Agreeing.{copies_advance, copying_goes, copying_is_calm}
 use Rattle.md_resync.proofs.Cleared.{cleared_stored, clearing_advances, content_on, same_but_marks, same_disks}
 use Rattle.md_resync.proofs.CopiedRuns.{copies_read, copies_then}
 use Rattle.md_resync.proofs.Settled.{settles}
 use Rattle.md_resync.proofs.StepsOn.{by_singles}
+use Rattle.md_resync.proofs.Unstored.{unstored_on}
 
 -- ---- members that are the same but for what is stored
 pub members_on : (a b c : ArrayView) → HasSameMembers a b → HasSameMembers b c → HasSameMembers a c
@@ -126,8 +128,16 @@ module _ (old a b c : MirrorView) (idle : IsIdle old.array) (s : StoresMarks old
       stored = x.stored;
     }
 
+    -- members agree there still when the resync ends
+    agreed_there : AreHonest old.disks → (requests : Requests) → AreInFlight old.array requests
+        → (old.array.resynced ≡ true) ⊎ AgreeUnstored (geometry_of old.array) (world_of old requests) → (b.array.resynced ≡ true) ⊎ AgreeUnstored (geometry_of b.array) (world_of b requests)
+    agreed_there honest requests in_flight (inl resynced) = inl (ap (λ (v : ArrayView). v.resynced) array_b ∙ resynced)
+    agreed_there honest requests in_flight (inr agree) =
+        inr (unstored_on a b g.advances (same_honest old.disks a.disks s.advances.same honest) requests (none_flies old.array a.array idle requests in_flight)
+        (unstored_on old a s.advances honest requests in_flight agree))
+
     content : SettlesContent old d
-    content honest requests in_flight held holds =
+    content honest requests in_flight held holds agreed =
         let first = (content_on old a b idle s.advances.same (ap geometry_of s.array) s.content g.content) honest requests in_flight held holds in
         let same_b = same_through old.disks a.disks b.disks s.advances.same g.advances.same in
         let honest_b = same_honest old.disks b.disks same_b honest in
@@ -135,7 +145,7 @@ module _ (old a b c : MirrorView) (idle : IsIdle old.array) (s : StoresMarks old
         let geometry_b : geometry_of b.array ≡ geometry_of old.array = ap geometry_of array_b in
         let geometry_c : geometry_of c.array ≡ geometry_of old.array = ap geometry_of array_c in
         let settled = settles b c happens honest_b requests (none_flies old.array b.array idle requests in_flight) held
-        (subst (λ (v : Geometry). HoldsBetween v held (world_of b requests)) (sym geometry_b) first) in
+        (subst (λ (v : Geometry). HoldsBetween v held (world_of b requests)) (sym geometry_b) first) (agreed_there honest requests in_flight agreed) in
         let there = subst (λ (v : Geometry). HoldsBetween v settled.0 (world_of c requests)) (geometry_b ∙ sym geometry_c) settled.1 in
         let last = x.content honest_c requests (none_flies old.array c.array idle requests in_flight) settled.0 there in (
           settled.0,

@@ -1,5 +1,5 @@
 -- Where it is kept that the array is resynced, its content becomes what the members in sync hold.
-use Rattle.std.proofs.Common.{◌≡◌, ℕ, ◌/◌, ◌<◌, true, false, ◌&&◌, nat_lt, inl, inr, refl, sym, ap, ◌∙◌, subst}
+use Rattle.std.proofs.Common.{◌≡◌, ℕ, ◌/◌, ◌<◌, true, false, ◌&&◌, nat_lt, ◌⊎◌, inl, inr, refl, sym, ap, ◌∙◌, subst}
 use Rattle.std.proofs.lemmas.Option.{slice_get_within}
 use Rattle.std.proofs.Math.Bool.{and-false}
 use Rattle.md_model.specs.Content.{Content, HoldsAtRest, HoldsBetween, HoldsInFlight}
@@ -12,7 +12,7 @@ use Rattle.md_state.specs.View.{MirrorView, geometry_of}
 use Rattle.md_array.specs.Events.{Happens}
 use Rattle.md_array.specs.Worlds.{world_of}
 use Rattle.md_array.proofs.Worlds.InSync.{in_sync_is}
-use Rattle.md_resync.specs.Resyncing.{SettlesContent}
+use Rattle.md_resync.specs.Resyncing.{AgreeUnstored, SettlesContent}
 
 -- where it is the same
 record IsSettledAs (g : Geometry) (w w' : World) (a b : Content) : Type 0 where
@@ -20,13 +20,17 @@ record IsSettledAs (g : Geometry) (w w' : World) (a b : Content) : Type 0 where
   unmarked : (s : ℕ) → s < g.size → w.marks (chunk_of g s) ≡ false → b s ≡ a s
   same : w.resynced ≡ true → (s : ℕ) → s < g.size → b s ≡ a s
 
-module _ (g : Geometry) (w w' : World) (step : Step g w Event.Resynced w') (written : HoldsInFlight w → HoldsInFlight w') (slot : (k : ℕ) → IsInSync w k → k < w.members) (a : Content) (t : HoldsBetween g a w) where
+module _ (g : Geometry) (w w' : World) (step : Step g w Event.Resynced w') (written : HoldsInFlight w → HoldsInFlight w') (slot : (k : ℕ) → IsInSync w k → k < w.members) (a : Content) (t : HoldsBetween g a w) (unstored : AgreeUnstored g w) where
   quiet : (s : ℕ) → IsQuiet w s
   quiet s n p e = absurd (none_some p (sym (step.1.0.idle n) ∙ e))
 
   agree : (s : ℕ) → s < g.size → (j k : ℕ) → IsInSync w j → IsInSync w k → (w.stored j).listed s ≡ false → (w.stored k).listed s ≡ false → (w.stored j).content s ≡ (w.stored k).content s
   agree s low j k one other free free_too = by_test (w.marks (chunk_of g s))
-      (λ on. step.1.0.agree j k s one other on free free_too)
+      (λ on. by_test (w.bad j s)
+      (λ noted. unstored j k s low one other noted (quiet s) free free_too)
+      (λ served. by_test (w.bad k s)
+      (λ noted. sym (unstored k j s low other one noted (quiet s) free_too free))
+      (λ served_too. step.1.0.agree j k s one other on served served_too free free_too)))
       (λ off. t.at_rest j s low one free (quiet s) (inr off) ∙ sym (t.at_rest k s low other free_too (quiet s) (inr off)))
 
   settled : Content
@@ -48,13 +52,20 @@ module _ (g : Geometry) (w w' : World) (step : Step g w Event.Resynced w') (writ
     same = λ r s low. as_before s (λ k on clear. t.at_rest k s low on clear (quiet s) (inl r));
   }
 
+-- a resynced array holds its content there too
+agreed_unstored : (g : Geometry) (w : World) (a : Content) → HoldsBetween g a w → (w.resynced ≡ true) ⊎ AgreeUnstored g w → AgreeUnstored g w
+agreed_unstored g w a holds (inl resynced) = λ j k s low one other _ at_rest free free_too.
+    holds.at_rest j s low one free at_rest (inl resynced) ∙ sym (holds.at_rest k s low other free_too at_rest (inl resynced))
+agreed_unstored g w a holds (inr agreed) = agreed
+
 pub settles : (old new : MirrorView) → Happens old Event.Resynced new → SettlesContent old new
-settles old new happens honest requests in_flight a holds =
+settles old new happens honest requests in_flight a holds agreed =
     let does = happens honest requests in_flight in
     let w = world_of old requests in
     let slot : (k : ℕ) → IsInSync w k → k < w.members = λ k on. let m = in_sync_is old.disks old.array requests k on in slice_get_within old.array.members k m.0 m.1.member in
-    let is = settles_world (geometry_of old.array) w (world_of new requests) does.step does.written slot a holds in (
-      settled (geometry_of old.array) w (world_of new requests) does.step does.written slot a holds,
+    let unstored = agreed_unstored (geometry_of old.array) w a holds agreed in
+    let is = settles_world (geometry_of old.array) w (world_of new requests) does.step does.written slot a holds unstored in (
+      settled (geometry_of old.array) w (world_of new requests) does.step does.written slot a holds unstored,
       is.holds,
       λ s low off. is.unmarked s low (ap (λ x. nat_lt (s / old.array.chunks.sectors) old.array.marks.chunks && x) off ∙ and-false (nat_lt (s / old.array.chunks.sectors) old.array.marks.chunks)),
       is.same,

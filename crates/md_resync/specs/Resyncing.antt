@@ -2,7 +2,11 @@
 use Rattle.std.specs.Prelude.{◌≡◌, ◌⊎◌, ℕ, ◌<◌, ◌≤◌, ◌/◌, true, false, List, [], ◌∷◌, ◌++◌, length, Option}
 use Rattle.md_bitmap.specs.Marks.{is_set}
 use Rattle.md_model.specs.Content.{Content, HoldsBetween}
+use Rattle.md_model.specs.Devices.{AgreeAt}
 use Rattle.md_model.specs.Events.{Event}
+use Rattle.md_model.specs.Sectors.{Geometry}
+use Rattle.md_model.specs.Worlds as worlds
+use Rattle.md_model.specs.Worlds.{IsQuiet, World}
 use Rattle.md_kept_members.specs.View.{MemberView}
 use Rattle.md_state.specs.CopyingData.{IsSource}
 use Rattle.md_state.specs.DeviceChanges.{AreSame}
@@ -64,11 +68,20 @@ pub record IsResynced (old new : ArrayView) : Type 0 where
   pub cleared : is_degraded old ≡ false → (c : ℕ) → is_set new.marks.bytes c ≡ false
   pub stored : AllInSync new (HasAllMarks new.marks)
 
+-- Where a member in sync lists a sector in memory that its device does not list yet, it agrees with the others all the same, but for
+-- requests in flight. It is so where each lists what its device lists, as after an opening; and a list grows in memory only while the
+-- array is resynced.
+abbrev pub AgreeUnstored : Geometry → World → Type 0
+AgreeUnstored g w =
+    (j k s : ℕ) → s < g.size → worlds.IsInSync w j → worlds.IsInSync w k → w.bad j s ≡ true → IsQuiet w s → AgreeAt (w.stored j) (w.stored k) s
+
 -- A content that members in sync held before it turns into one that they hold after it: the same in each chunk that had no mark in
--- memory, and throughout where the array was resynced.
+-- memory, and throughout where the array was resynced. A resync makes members agree where neither lists a sector in memory. A content
+-- is held where a device lists nothing, so of an array that was not resynced it is asked that members agreed in the sectors between.
 abbrev pub SettlesContent : MirrorView → MirrorView → Type 0
 SettlesContent old new =
     AreHonest old.disks → (requests : Requests) → AreInFlight old.array requests → (a : Content) → HoldsBetween (geometry_of old.array) a (world_of old requests)
+    → (old.array.resynced ≡ true) ⊎ AgreeUnstored (geometry_of old.array) (world_of old requests)
     → (b : Content) × HoldsBetween (geometry_of old.array) b (world_of new requests)
     × ((s : ℕ) → s < old.array.chunks.size → is_set old.array.marks.bytes (s / old.array.chunks.sectors) ≡ false → b s ≡ a s)
     × (old.array.resynced ≡ true → (s : ℕ) → s < old.array.chunks.size → b s ≡ a s)
