@@ -25,7 +25,10 @@ impl Array {
             return Marks::all(alloc, self.marks.chunks());
         }
         let mut missing = copied(alloc, &self.marks)?;
-        missing.mark_range(self.first_unpassed(member.superblock.recovery_offset), self.marks.chunks());
+        missing.mark_range(
+            self.first_unpassed(member.superblock.recovery_offset),
+            self.marks.chunks(),
+        );
         Ok(missing)
     }
 

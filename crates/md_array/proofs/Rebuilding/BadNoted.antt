@@ -117,21 +117,22 @@ module _ (k chunk : ℕ) (old new : MirrorView) (c : IsConsistent old) (r : Note
     -- a sector of the array is listed then where it was, or is of the chunk
     listed_then : (s : ℕ) → s < a.chunks.size → lies_in list (at s) ≡ (lies_in m.bad (at s) || eqb (s / a.chunks.sectors) chunk)
     listed_then s low = same_test (lies_in list (at s)) (lies_in m.bad (at s) || eqb (s / a.chunks.sectors) chunk)
-        (bad_from_test list (at s), test_from_bad list (at s))
-        ((λ on. elim (or_either (lies_in m.bad (at s)) (eqb (s / a.chunks.sectors) chunk) on) [
-          | inl was ↦ still_bad (at s) (bad_from_test m.bad (at s) was)
-          | inr here ↦
-              let inside : InChunk a.chunks.sectors a.chunks.size chunk s =
-              subst (λ (i : ℕ). InChunk a.chunks.sectors a.chunks.size i s) (eqb-true (s / a.chunks.sectors) chunk here) (its_chunk a.chunks.size a.chunks.sectors s c.chunks.wide low) in
-              (r.notes.may.list_is.bad (at s)).1 (inr (record { at = s; inside = inside; is = refl }, whole m r.notes.may.at s inside))
-        ]),
-        (λ bad. elim ((r.notes.may.list_is.bad (at s)).0 bad) [
-          | inl was ↦ or_first (lies_in m.bad (at s)) (eqb (s / a.chunks.sectors) chunk) (test_from_bad m.bad (at s) was)
-          | inr of ↦
-              let same : of.0.at ≡ s = let e = of.0.is in omega arith in
-              let its : chunk ≡ s / a.chunks.sectors = chunk_unique a.chunks.size a.chunks.sectors s chunk c.chunks.wide (subst (λ (i : ℕ). InChunk a.chunks.sectors a.chunks.size chunk i) same of.0.inside) in
-              or_second (lies_in m.bad (at s)) (eqb (s / a.chunks.sectors) chunk) (eq-eqb (s / a.chunks.sectors) chunk (sym its))
-        ]))
+        (bad_from_test list (at s), test_from_bad list (at s)) (
+          (λ on. elim (or_either (lies_in m.bad (at s)) (eqb (s / a.chunks.sectors) chunk) on) [
+            | inl was ↦ still_bad (at s) (bad_from_test m.bad (at s) was)
+            | inr here ↦
+                let inside : InChunk a.chunks.sectors a.chunks.size chunk s =
+                subst (λ (i : ℕ). InChunk a.chunks.sectors a.chunks.size i s) (eqb-true (s / a.chunks.sectors) chunk here) (its_chunk a.chunks.size a.chunks.sectors s c.chunks.wide low) in
+                (r.notes.may.list_is.bad (at s)).1 (inr (record { at = s; inside = inside; is = refl }, whole m r.notes.may.at s inside))
+          ]),
+          (λ bad. elim ((r.notes.may.list_is.bad (at s)).0 bad) [
+            | inl was ↦ or_first (lies_in m.bad (at s)) (eqb (s / a.chunks.sectors) chunk) (test_from_bad m.bad (at s) was)
+            | inr of ↦
+                let same : of.0.at ≡ s = let e = of.0.is in omega arith in
+                let its : chunk ≡ s / a.chunks.sectors = chunk_unique a.chunks.size a.chunks.sectors s chunk c.chunks.wide (subst (λ (i : ℕ). InChunk a.chunks.sectors a.chunks.size chunk i) same of.0.inside) in
+                or_second (lies_in m.bad (at s)) (eqb (s / a.chunks.sectors) chunk) (eq-eqb (s / a.chunks.sectors) chunk (sym its))
+          ]),
+        )
 
     either : (x y z low : Bool) → (low ≡ true → x ≡ (y || z)) → (low && x) ≡ ((low && y) || (low && z))
     either x y z true same = same refl

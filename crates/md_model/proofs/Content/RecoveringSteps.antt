@@ -161,13 +161,14 @@ module _ (g : Geometry) (wide : 0 < g.width) (a : Content) (w : World) (tracked 
     -- one that is taken back has what the device has, or its offset has passed nothing
     joined_former : (n.offset ≡ 0) ⊎ IsBehind g a n.device w → IsDegraded g w → AreLate v
     joined_former told empty k on = by_same k w.members
-        (λ same. subst (λ i. IsLate v i) (sym same) (⊎_elim
-          (λ (zero_is : n.offset ≡ 0). behind_holding g a (recovered g v w.members) w (λ s low off. never (is_passed g (v.offset w.members) (chunk_of g s)) (counts g v w.members s off).1
+        (λ same. subst (λ i. IsLate v i) (sym same) (
+          ⊎_elim
+              (λ (zero_is : n.offset ≡ 0). behind_holding g a (recovered g v w.members) w (λ s low off. never (is_passed g (v.offset w.members) (chunk_of g s)) (counts g v w.members s off).1
               (ap (λ o. is_passed g o (chunk_of g s)) (put-hit w.members n.offset w.offset ∙ zero_is) ∙ none_passed g s wide low)))
-          (λ (late : IsBehind g a n.device w). behind_less g a n.device (recovered g v w.members) w
+              (λ (late : IsBehind g a n.device w). behind_less g a n.device (recovered g v w.members) w
               (λ s _ off. sym (ap (λ (f : ℕ → Bool). f s) (put-hit w.members n.device.listed w.bad)) ∙ (counts g v w.members s off).0)
               (λ s _ _. ap (λ (d : Stored). d.content s) (put-hit w.members n.device w.stored)) late)
-          told,
+              told,
           empty,
         ))
         (λ apart. joined_old k apart on)

@@ -13,6 +13,6 @@ returns-then-accepted c = (
     among = c.has_all_of.ensures.0 all;
   }),
   (λ h.
-  let same : h.marks ≡ c.in-Some-marks.marks = cc in
-  c.has_all_of.ensures.1 (subst (λ (b : Bitmap). (i : ℕ) → i < c.args.self.now.marks.chunks → is_set b.bytes i ≡ true → is_set c.args.self.now.marks.bytes i ≡ true) same h.among)),
+      let same : h.marks ≡ c.in-Some-marks.marks = cc in
+      c.has_all_of.ensures.1 (subst (λ (b : Bitmap). (i : ℕ) → i < c.args.self.now.marks.chunks → is_set b.bytes i ≡ true → is_set c.args.self.now.marks.bytes i ≡ true) same h.among)),
 )

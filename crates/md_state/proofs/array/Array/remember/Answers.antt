@@ -51,7 +51,7 @@ returns c =
     let read = rw c.deref.ensures.value at c.in_ok-read.ensures in
     let kept = subst (λ (ms : List MemberView). AreKept c.in_ok-shared.shared.events cleared infos c.args.assembly.states.items ms) (sym c.with_known_offsets-members.ensures) (are_known c.in_ok-shared.shared.events cleared infos _ _ read) in
     let last = subst (λ (ms : List MemberView). IsLastClearedOr c.in_ok-shared.shared.events ms cleared) (sym c.with_known_offsets-members.ensures)
-        (last_stays cleared c.in_ok-shared.shared.events c.in_ok-read.read.items cleared (rw c.deref-2.ensures.value at c.last_cleared-events_cleared.ensures)) in
+    (last_stays cleared c.in_ok-shared.shared.events c.in_ok-read.read.items cleared (rw c.deref-2.ensures.value at c.last_cleared-events_cleared.ensures)) in
     remembered infos c.args.assembly fresh _ c.requires.whole c.requires.sound c.requires.assembled there c.in_ok-shared.ensures c.chunking_of-chunks.ensures kept (record {
       count = c.in_ok-marks.ensures.chunks ∙ c.count.ensures.count;
       bits = λ k. rw c.deref-3.ensures.value at c.in_ok-marks.ensures.bits k;
