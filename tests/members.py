@@ -168,6 +168,20 @@ class Found:
             return "stale"
         return "recovering" if member.superblock.feature_map & RECOVERY_BIT else "in sync"
 
+    def lacks(self, place):
+        """The chunks that the member at this place lacks: a recovering one those that are marked, and those that its offset has not
+        passed; one in sync none, and any other each. An offset from before marks were last cleared tells nothing."""
+        member, state = self.members[place], self.states[place]
+        if state == "in sync":
+            return set()
+        chunks = set(range(self.in_sync[0].chunks))
+        cleared = max((other.header.events_cleared for other in self.in_sync if other.is_accepted), default=self.events)
+        if state != "recovering" or member.superblock.events < cleared:
+            return chunks
+        width = self.in_sync[0].chunk_sectors
+        offset = min(member.superblock.recovery_offset, member.size)
+        return {chunk for chunk in chunks if chunk in self.marks or min((chunk + 1) * width, member.size) > offset}
+
     def summary(self):
         words = (len(self.in_sync), self.freshest.superblock.raid_disks, self.events, len(self.marks))
         return "in sync %d of %d, events %d, marked %d\n" % words

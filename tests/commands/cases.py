@@ -180,6 +180,33 @@ Marked Chunks   : 0 of 8
      1      0      0 in sync
 """
 
+DETAIL_OF_RECOVERING = """\
+Array UUID      : 00112233-4455-6677-8899-aabbccddeeff
+Name            : md
+Raid Devices    : 2
+Array Size      : 64 sectors
+In Sync         : 1
+State           : clean, degraded
+Events          : 5
+Marked Chunks   : 8 of 8
+     0      0      0 in sync
+     1      2      1 recovering
+"""
+
+# It lacks marked chunks alone.
+DETAIL_OF_RE_ADDED = """\
+Array UUID      : 00112233-4455-6677-8899-aabbccddeeff
+Name            : md
+Raid Devices    : 2
+Array Size      : 64 sectors
+In Sync         : 1
+State           : clean, degraded
+Events          : 1
+Marked Chunks   : 0 of 8
+     0      0      0 in sync
+     1      1      1 re-added
+"""
+
 # Two sectors of data, and what two sectors of a new array hold.
 DATA = b"first sector".ljust(SECTOR, b".") + b"second sector".ljust(SECTOR, b".")
 BLANK = "\0" * (2 * SECTOR)
@@ -209,6 +236,12 @@ REBUILT = (PLAN[0], PLAN[1] + "rebuilt member 2, passes 1, orphans 0\n")
 REBUILT_FROM_ONE = (
     "rounds 7, chunks 7, orphans 1\n   chunk source    round\n",
     "\ncertificate for 6 rounds: 0 1 2 3 4 6 7\norphans: 5\nrebuilt member 1, passes 1, orphans 1\n",
+)
+
+# The third chunk has a sector below 20, and others past it.
+REBUILT_FROM_SECTOR_20 = (
+    "rounds 6, chunks 6, orphans 0\n   chunk source    round\n       2      0",
+    "\ncertificate for 5 rounds: 2 3 4 5 6 7\norphans: none\nrebuilt member 1, passes 1, orphans 0\n",
 )
 
 TWO = {"a": ZEROS, "b": ZEROS}
@@ -264,6 +297,16 @@ def listing(first):
 def lacking(first):
     """The image of a member of the long array that holds the numbers of its sectors, and lists one as bad."""
     return members.with_bad_blocks(members.with_data(first, 0, NUMBERED.encode()), [(2048 + LOST, 1)])
+
+
+def rebuilt_up_to(offset):
+    """What makes, of the image of a member in sync, that of one that was rebuilt up to this sector of the array."""
+
+    def make(first):
+        features = members.BITMAP_BIT | members.RECOVERY_BIT
+        return members.with_superblock(first, feature_map=features, recovery_offset=offset)
+
+    return make
 
 
 def without_log(first):
@@ -573,7 +616,7 @@ CASES = [
             Step("check a b", AGREE),
             Made("c", "a", as_role(2, 3)),
             Step("read --sector 8 --count 1 c", DATA[:SECTOR].decode()),
-            Step("stop a b c", "in sync 3 of 3, events 5, marked 0\n"),
+            Step("stop a b c", "in sync 3 of 3, events 6, marked 0\n"),
             Step("rebuild --member 2 a b c", fault="NotSpare"),
         ],
     ),
@@ -584,7 +627,22 @@ CASES = [
             create("1", 3, 4, "--assume-clean a b missing", output="in sync 2 of 3, events 1, marked 0\n", changes="a b"),
             Step("add --device c a b", "in sync 2 of 3, events 2, marked 0\n", changes="a b c"),
             Step("rebuild --member 2 a b c", REBUILT, changes="a b c"),
-            Step("stop a b c", "in sync 3 of 3, events 3, marked 0\n"),
+            Step("stop a b c", "in sync 3 of 3, events 4, marked 0\n"),
+        ],
+    ),
+    (
+        "a member that was rebuilt up to an offset gets the rest",
+        TWO,
+        [
+            create("raid1", 2, 4, "--assume-clean a b", output=CLEAN, changes="a b"),
+            # Sector 40 is in chunk 5.
+            Made("a", "a", lambda image: members.with_data(image, 40, DATA)),
+            Made("b", "b", rebuilt_up_to(64)),
+            Step("detail a b", DETAIL_OF_RE_ADDED),
+            Made("b", "b", rebuilt_up_to(20)),
+            Step("rebuild --member 1 a b", REBUILT_FROM_SECTOR_20, changes="a b"),
+            Holds("b", "a", as_role(1, 1)),
+            Step("stop a b", "in sync 2 of 2, events 2, marked 0\n"),
         ],
     ),
     (
@@ -612,8 +670,9 @@ CASES = [
             Made("a", "a", listing),
             Step("add --device b a", "in sync 1 of 2, events 4, marked 8\n", changes="a b"),
             Made("b", "b", without_log),
-            # Its data are copied, and it stays a spare.
-            Step("rebuild --member 1 a b", fault="LogFull 1", changes="b"),
+            # It is admitted, and its data are copied. It stays a recovering member.
+            Step("rebuild --member 1 a b", fault="LogFull 1", changes="a b"),
+            Step("detail a b", DETAIL_OF_RECOVERING),
             Step("rebuild --member 1 a b", fault="LogFull 1"),
             Step("read --sector 0 --count 1 b", fault="Assemble NotEnough"),
         ],

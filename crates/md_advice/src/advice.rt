@@ -173,10 +173,12 @@ fn rebuild_advice(fault: RebuildFault) -> &'static str {
         RebuildFault::Dirty => RESYNC_FIRST,
         RebuildFault::SourceFault(_, _) => COPY_DISK,
         RebuildFault::TargetFault => {
-            "see why the device can't be written (`dmesg`, free space, write protection); `remove` it, and `add` it or another one anew"
+            "see why the device can't be written (`dmesg`, free space, write protection); `remove` it, after `fail` where it is recovering, and `add` it or another one anew"
         }
         RebuildFault::MetadataFault(_) => BEGIN_ANEW,
-        RebuildFault::LogFull(_) => "`remove` it, and `add` it again, which gives it a new log",
+        RebuildFault::LogFull(_) => {
+            "`fail` and `remove` it, and `add` it again, which gives it a new log"
+        }
         RebuildFault::EventsFull => NEW_ARRAY,
         RebuildFault::Halted => SEE_DEVICE,
         RebuildFault::InFlight(_) => AGAIN,

@@ -21,8 +21,11 @@ use Rattle.md_state.specs.Requests.{AreInFlight, among, request_of}
 use Rattle.md_state.specs.Trying.{Refuses}
 use Rattle.md_state.specs.View.{ArrayView, Disk, MirrorView}
 use Rattle.md_array.specs.Adding.{Adds, RefusesAdd}
+use Rattle.md_array.specs.Enrolling.{log_writes}
 use Rattle.md_array.specs.InTurn.{AllOf, Did, HaltsAt, Leads, Requests}
+use Rattle.md_array.specs.Listing.{AreWritten}
 use Rattle.md_array.proofs.Steps.Turns.{all_on, all_such}
+use Rattle.md_writes.specs.Writes.{Write as DiskWrite}
 use Rattle.md_laws.specs.ReadInTurn.{LeadsReading}
 use Rattle.md_metadata.specs.declared.stop_fault.StopFault.{StopFault}
 use Rattle.md_metadata.specs.declared.stop_fault.StopFault.TheVariants as stop
@@ -69,6 +72,11 @@ pub record KeepsMembers (IsOf : Event → Type 0) : Type 0 where
   pub re_adds : (own : Super) (device left : Stored) → IsOf (Event.ReAdd own device left) → ⊥
   pub enrols : (k role : ℕ) (listed : ℕ → Bool) → IsOf (Event.Enrol k role listed) → ⊥
 
+-- a log's write, where there is one
+log_written : (k : ℕ) (writes : List DiskWrite) (before after : List Disk) → AreWritten k writes before after → length after ≡ length before
+log_written k [] before after h = ap length h
+log_written k (w ∷ ws) before after h = h.1.tried.as_many
+
 did : (IsOf : Event → Type 0) → KeepsMembers IsOf → (e : Event) (old new : MirrorView) (before after : Requests) → IsOf e → Did old before e new after → AsMany old new
 did IsOf keeps (Event.Begin n p) old new before after of h = ap length h.5.disks
 did IsOf keeps (Event.Record k) old new before after of h = h.1.disks.tried.as_many
@@ -92,12 +100,18 @@ did IsOf keeps (Event.Fill k) old new before after of h = h.1.disks.as_many
 did IsOf keeps (Event.Prepare k) old new before after of h = h.1.disks.as_many
 did IsOf keeps (Event.RecordTargetFails k) old new before after of h = h.1.leaves.disks.tried.as_many
 did IsOf keeps (Event.Enrol k role listed) old new before after of h = absurd (keeps.enrols k role listed of)
+did IsOf keeps (Event.Admit k role listed) old new before after of h = h.1.admits.disks.tried.as_many
+did IsOf keeps (Event.Checkpoint k offset listed) old new before after of h = h.1.checkpoints.disks.tried.as_many
+did IsOf keeps (Event.NoteBad k c) old new before after of h = ap length h.1.disks
+did IsOf keeps (Event.StoreLog k listed) old new before after of h = log_written k (log_writes h.1.member.superblock h.1.member.bad) old.disks new.disks h.1.disks
+did IsOf keeps (Event.StoreLogFails k) old new before after of h = h.1.fails.disks.tried.as_many
 
 pub halts : (e : Event) (old new : MirrorView) (before : Requests) → HaltsAt old before e new → AsMany old new
 halts (Event.RecordFails k) old new before h = h.halts.disks.tried.as_many
 halts (Event.StoreMarksFails k b) old new before h = h.halts.disks.tried.as_many
 halts (Event.WriteMemberFails n k) old new before h = h.3.halts.disks.tried.as_many
 halts (Event.CopyFails k c) old new before h = h.halts.disks.tried.as_many
+halts (Event.StoreLogFails k) old new before h = h.halts.disks.tried.as_many
 halts e old new before h = absurd h
 
 -- ---- lists of events

@@ -14,7 +14,8 @@ use Rattle.md_copy.specs.declared.fault.RebuildFault.{RebuildFault}
 use Rattle.md_copy.specs.declared.fault.RebuildFault.TheVariants as rebuild
 use Rattle.md_copy.specs.declared.rebuilt.Rebuilt.{Rebuilt}
 use Rattle.md_copy.specs.Rebuilding.{Begins, EndsFilled, EndsInPass, FillsBy, Rebuilds, RefusesRebuild}
-use Rattle.md_copy.specs.Storing.{Settles}
+use Rattle.md_copy.specs.Readying.{AdmitsAfter, AdmitsFirst}
+use Rattle.md_copy.specs.Storing.{Settles, StopsAt}
 use Rattle.md_examine.specs.declared.sink.Sink.{Ghosts}
 use Rattle.md_commands.specs.declared.fault.DataFault.{DataFault}
 use Rattle.md_commands.specs.declared.fault.DataFault.TheVariants.{BadMember, OutputFault, Rebuild, Resync, Stop}
@@ -37,8 +38,18 @@ halted_after old new h = halts h.failing h.mid new nothing (h.halts nothing) ∙
 settled : (old new : MirrorView) → Settles old new → AsMany old new
 settled old new s = ⊎_elim (λ all. gone_on old new all.goes) (λ h. halted_after old new h) s
 
+admitted : (k : ℕ) (old new : MirrorView) → AdmitsAfter k old new → AsMany old new
+admitted k old new a = a.admits.disks.tried.as_many ∙ gone_on old a.stored a.first.stores.goes
+
+admitted_first : (k : ℕ) (old ready : MirrorView) → AdmitsFirst k old ready → AsMany old ready
+admitted_first k old ready a = gone_on a.admitted ready a.then.stores.goes ∙ admitted k old a.admitted a.after
+
 begun : (k : ℕ) (planned : Planned) (old stored : MirrorView) → Begins k planned old stored → AsMany old stored
-begun k planned old stored b = gone_on old stored b.first.stores.goes
+begun k planned old stored b = ⊎_elim (λ r. gone_on old stored r.1.stores.goes) (λ a. admitted_first k old stored a.1) b.first
+
+stopped_at : (k j : ℕ) (old new : MirrorView) → StopsAt k j old new → AsMany old new
+stopped_at k j old new s =
+    ⊎_elim (λ lost. gone_on old new lost.loses.goes) (λ at. halts at.failing at.mid new nothing (at.halts nothing) ∙ gone_on old at.mid at.stores.goes) s.ends
 
 filled : (k : ℕ) (planned : Planned) (copied orphans : Bitmap) (old new : MirrorView) → FillsBy k planned copied orphans old new → AsMany old new
 filled k planned copied orphans old new f = f.fills.filling.as_many ∙ begun k planned old f.stored f.begins
@@ -61,13 +72,16 @@ not_rebuilt rebuild.Dirty k old new h = same old new h.unchanged
 not_rebuilt (rebuild.InFlight number) k old new h = same old new h.unchanged
 not_rebuilt rebuild.EventsFull k old new h = same old new h.unchanged
 not_rebuilt (rebuild.MetadataFault j) k old new h =
-    ⊎_elim (λ lost. gone_on old new lost.loses.goes) (λ at. halts at.failing at.mid new nothing (at.halts nothing) ∙ gone_on old at.mid at.stores.goes) h.why.ends
+    ⊎_elim (λ e. stopped_at k j old new e.why) (λ e. stopped_at k j e.why.admitted new e.why.stops ∙ admitted k old e.why.admitted e.why.after) h
 not_rebuilt rebuild.TargetFault k old new h =
     ⊎_elim (λ f. f.why.fails.disks.tried.as_many ∙ gone_on old f.why.mid f.why.stores.goes)
-    (λ rest. ⊎_elim (λ e. in_pass rebuild.TargetFault k old new e) (λ e. when_filled k old new _ (λ copied orphans mid why. why.disks.as_many) e) rest)
+    (λ rest.
+    ⊎_elim (λ f. f.why.fails.disks.tried.as_many ∙ gone_on old f.why.stored f.why.first.stores.goes)
+    (λ later. ⊎_elim (λ e. in_pass rebuild.TargetFault k old new e) (λ e. when_filled k old new _ (λ copied orphans mid why. why.disks.as_many) e) later)
+    rest)
     h
 not_rebuilt rebuild.NoMemory k old new h =
-    ⊎_elim (λ n. gone_on old new n.first.stores.goes)
+    ⊎_elim (λ n. ⊎_elim (λ first. gone_on old new first.stores.goes) (λ a. admitted_first k old new a) n.first)
     (λ rest. ⊎_elim (λ e. in_pass rebuild.NoMemory k old new e) (λ e. when_filled k old new _ (λ copied orphans mid why. same mid new why) e) rest)
     h
 not_rebuilt (rebuild.SourceFault j chunk) k old new h = in_pass (rebuild.SourceFault j chunk) k old new h

@@ -26,11 +26,15 @@ not_rebuilt rebuild.NotSpare k old new p h is = unchanged old new p h.unchanged 
 not_rebuilt rebuild.Dirty k old new p h is = unchanged old new p h.unchanged is
 not_rebuilt (rebuild.InFlight number) k old new p h is = unchanged old new p h.unchanged is
 not_rebuilt rebuild.EventsFull k old new p h is = unchanged old new p h.unchanged is
-not_rebuilt (rebuild.MetadataFault j) k old new p h is = absurd (none_pending old.array p h.may.idle is)
+not_rebuilt (rebuild.MetadataFault j) k old new p h is =
+    ⊎_elim (λ e. absurd (none_pending old.array p e.may.idle is)) (λ e. absurd (none_pending old.array p e.may.idle is)) h
 not_rebuilt rebuild.TargetFault k old new p h is =
     ⊎_elim (λ f. absurd (none_pending old.array p f.may.idle is))
     (λ rest.
-    ⊎_elim (λ e. absurd (none_pending old.array p e.begins.may.idle is)) (λ e. absurd (none_pending old.array p e.fills.begins.may.idle is)) rest)
+    ⊎_elim (λ f. absurd (none_pending old.array p f.may.idle is))
+    (λ later.
+    ⊎_elim (λ e. absurd (none_pending old.array p e.begins.may.idle is)) (λ e. absurd (none_pending old.array p e.fills.begins.may.idle is)) later)
+    rest)
     h
 not_rebuilt rebuild.NoMemory k old new p h is =
     ⊎_elim (λ n. absurd (none_pending old.array p n.may.idle is))

@@ -48,7 +48,8 @@ fn expect_rebuilt<R: Abort + Threads + Wait + Sync>(rt: &R, alloc: Global, run: 
     same(rt, "what is told", told, Some(Ok(TOLD)));
     let wanted = Some(MemberState::InSync(1));
     same(rt, "its state", run.state(1), wanted);
-    same(rt, "the events", run.events(), 11);
+    // It is admitted, and then it comes into sync.
+    same(rt, "the events", run.events(), 12);
 }
 
 // The new member holds each chunk but the third, and there it holds what it held.

@@ -1,5 +1,5 @@
 // The calls that change members as values, and what they answer.
-use md_array::{AddFault, BeginFault, FailFault, ReAddFault, RemoveFault};
+use md_array::{AddFault, AdmitFault, BeginFault, FailFault, ReAddFault, RemoveFault};
 
 #[derive(Clone, Copy, Debug)]
 pub(crate) enum Call {
@@ -9,6 +9,8 @@ pub(crate) enum Call {
     ReAdd,
     // Of a device that was in no array.
     Add,
+    // Of the last member.
+    Admit,
     // Of sector 8, which is in chunk 1.
     Write,
 }
@@ -22,7 +24,8 @@ pub(crate) enum Answer {
     NotRemoved(RemoveFault),
     NotReAdded(ReAddFault),
     NotAdded(AddFault),
+    NotAdmitted(AdmitFault),
     NotWritten(BeginFault),
-    // There is no such member, or no device that left.
+    // There is no such member, or no device that left, or the last member is no spare.
     NotCalled,
 }

@@ -73,6 +73,7 @@ impl Changing {
             Call::Remove(k) => Ok(self.remove(k)),
             Call::ReAdd => Ok(self.re_add_left(alloc)),
             Call::Add => self.add_zeros(alloc),
+            Call::Admit => Ok(self.admit_last(alloc)),
             Call::Write => Ok(self.write(8)),
         }
     }
@@ -127,6 +128,21 @@ impl Changing {
         match self.mirror.add(alloc, device) {
             Ok(k) => Ok(Answer::Joined(k)),
             Err((_, fault)) => Ok(Answer::NotAdded(fault)),
+        }
+    }
+
+    fn admit_last(&mut self, alloc: Global) -> Answer {
+        let members = self.mirror.members();
+        if members == 0 {
+            return Answer::NotCalled;
+        }
+        let last = members - 1;
+        if !self.mirror.state(last).is_spare() {
+            return Answer::NotCalled;
+        }
+        match self.mirror.admit(alloc, last) {
+            Ok(()) => Answer::Done,
+            Err(fault) => Answer::NotAdmitted(fault),
         }
     }
 

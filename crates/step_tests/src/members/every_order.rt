@@ -14,7 +14,8 @@ use std::alloc::Global;
 use std::process::Abort;
 use std::test::Fail;
 
-const CALLS: [Call; 9] = [
+// The orders of four calls go without the last one.
+const CALLS: [Call; 10] = [
     Call::Fail(0),
     Call::Fail(1),
     Call::Fail(2),
@@ -24,6 +25,7 @@ const CALLS: [Call; 9] = [
     Call::ReAdd,
     Call::Add,
     Call::Write,
+    Call::Admit,
 ];
 
 // The calls that lead to the points from which the orders go on.
@@ -35,12 +37,20 @@ const RETURNED: [Call; 3] = [Call::Fail(1), Call::Remove(1), Call::ReAdd];
 
 const ENLARGED: [Call; 2] = [Call::Add, Call::Fail(0)];
 
+const ADMITTED: [Call; 3] = [Call::Add, Call::Fail(0), Call::Admit];
+
 const EVENTS: u64 = 10;
 
 // Order `n`: its calls are the digits of the number to base 9, the last one first.
-fn calls_of(n: u32) -> [Call; 4] {
+fn four_calls(n: u32) -> [Call; 4] {
     let at = |divisor: u32| CALLS[(n / divisor % 9) as usize];
     [at(1), at(9), at(81), at(729)]
+}
+
+// The same to base 10.
+fn three_calls(n: u32) -> [Call; 3] {
+    let at = |divisor: u32| CALLS[(n / divisor % 10) as usize];
+    [at(1), at(10), at(100)]
 }
 
 // Whether the mirror shows what it has to.
@@ -173,15 +183,14 @@ fn play(rt: &impl Abort, alloc: Global, point: &Point<'_>, calls: &[Call]) -> Re
 
 fn play_four(rt: &impl Abort, alloc: Global, point: &Point<'_>) -> Result<(), Fail> {
     for n in 0..6_561 {
-        play(rt, alloc, point, &calls_of(n))?;
+        play(rt, alloc, point, &four_calls(n))?;
     }
     Ok(())
 }
 
 fn play_three(rt: &impl Abort, alloc: Global, point: &Point<'_>) -> Result<(), Fail> {
-    for n in 0..729 {
-        let [a, b, c, _] = calls_of(n);
-        play(rt, alloc, point, &[a, b, c])?;
+    for n in 0..1_000 {
+        play(rt, alloc, point, &three_calls(n))?;
     }
     Ok(())
 }
@@ -263,6 +272,20 @@ fn play_at(
     let played = play_three(rt, alloc, &point);
     drop(images);
     played
+}
+
+#[test]
+fn with_admissions(rt: HostRuntime) -> Result<(), Fail> {
+    let alloc = rt.alloc();
+    play_at(&rt, alloc, &[FIRST, SECOND], &ENLARGED, EVENTS)?;
+    play_at(&rt, alloc, &[FIRST, SECOND], &ADMITTED, EVENTS)?;
+    play_at(
+        &rt,
+        alloc,
+        &[FIRST, LATE_SECOND, LATE_SPARE],
+        &OPENED,
+        EVENTS,
+    )
 }
 
 // The count reaches its limit in the lead, in each of the calls, or not at all.

@@ -1,7 +1,7 @@
 // What each call has to answer, and what it changes, by plain lists. The array has two roles, its size is
 // 64 sectors, and nothing fails. A device that left is what its superblock says of it.
 use crate::members::calls::{Answer, Call};
-use md_array::{AddFault, BeginFault, FailFault, ReAddFault, RemoveFault};
+use md_array::{AddFault, AdmitFault, BeginFault, FailFault, ReAddFault, RemoveFault};
 use md_assembly::MemberState;
 
 const DISKS: u16 = 2;
@@ -136,6 +136,7 @@ impl Expected {
             Call::Remove(k) => self.answer_remove(k),
             Call::ReAdd => self.answer_re_add(),
             Call::Add => self.add().map_or_else(Answer::NotAdded, Answer::Joined),
+            Call::Admit => self.answer_admit(),
             Call::Write => self
                 .write()
                 .map_or_else(Answer::NotWritten, |()| Answer::Done),
@@ -166,6 +167,16 @@ impl Expected {
                 .re_add(number, stored)
                 .map_or_else(Answer::NotReAdded, Answer::Joined),
             None => Answer::NotCalled,
+        }
+    }
+
+    fn answer_admit(&mut self) -> Answer {
+        let last = self.count.saturating_sub(1);
+        match self.member(last) {
+            Some(member) if member.state == MemberState::Spare => self
+                .admit(last, member.number)
+                .map_or_else(Answer::NotAdmitted, |()| Answer::Done),
+            _ => Answer::NotCalled,
         }
     }
 
@@ -238,6 +249,31 @@ impl Expected {
         self.drop_absent();
         let number = self.new_number();
         Ok(self.join(number, SPARE_ROLE, MemberState::Spare))
+    }
+
+    // The spare takes the least free role. Its own superblock is written at once. As a role was free,
+    // events_cleared stays.
+    fn admit(&mut self, k: usize, number: u32) -> Result<(), AdmitFault> {
+        let Some(role) = (0..DISKS).find(|role| !self.is_taken(*role)) else {
+            return Err(AdmitFault::NoRole);
+        };
+        if self.events == u64::MAX {
+            return Err(AdmitFault::EventsFull);
+        }
+        self.rise();
+        self.entries = self.entries.max(number as usize + 1);
+        self.set_role(number, role);
+        let events = self.events;
+        if let Some(place) = self.members.get_mut(k) {
+            place.state = MemberState::Recovering(role);
+            place.due = false;
+            place.stored = Stored {
+                events,
+                role,
+                recovering: true,
+            };
+        }
+        Ok(())
     }
 
     // The device comes in with this role. Its own superblock is written at once.

@@ -8,6 +8,7 @@ mod full;
 mod halted;
 mod leaving;
 mod new_devices;
+mod recovering;
 mod returning_devices;
 mod shown;
 mod starts;

@@ -140,7 +140,7 @@ const SIXTH: Back = Back {
     entries: 6,
     features: 3,
     events: 12,
-    recovery_offset: 0,
+    recovery_offset: 64,
     devflags: 1,
 };
 
