@@ -9,7 +9,7 @@ use Rattle.md_device.specs.Device.{held, written}
 use Rattle.md_device.specs.Stops.{IsMixed}
 use Rattle.md_device.proofs.Leaving.{three_same, in_three}
 use Rattle.md_writes.specs.Writes.{IsAnyIn, IsCutShort, Write}
-use Rattle.md_writes.proofs.Frames.{outside_none}
+use Rattle.md_writes.proofs.Frames.{outside_none, outside_then}
 use Rattle.md_writes.proofs.Runs.{cut_one}
 use Rattle.md_model.specs.Events.{Event}
 use Rattle.md_model.proofs.Puts.{by_same}
@@ -125,6 +125,38 @@ pub left_as_tried : (k : ℕ) (w : Write) (disks : List Disk) (left : List (List
 left_as_tried k w disks left but =
     let none = untouched k w disks in
     (with_contents disks left, found_tried k w disks disks left (IsAnyIn w) none but (λ d c was any. any), contents_found k w disks disks left (IsAnyIn w) none but)
+
+-- ---- what is left differs from what stands there after the write in its range at most
+module _ (k : ℕ) (w : Write) (before after : List Disk) (left : List (List ℕ)) (honest : AreHonest before) (done : IsWritten k w before after) (may : MayAllBeLeft before after left) where
+  but : IsLeftBut k (λ old c. IsCutShort old (w ∷ []) c) before left
+  but = stops_at_write k w before after left honest done may
+
+  module _ (d e : Disk) (was : slice_get before k ≡ Some d) (is : slice_get after k ≡ Some e) where
+    outside : SameOutside (512 * w.sector) (length w.bytes) d.content e.content
+    outside = done.tried.outside d e was is
+
+    back : SameOutside (512 * w.sector) (length w.bytes) e.content d.content
+    back = record { size = sym outside.size; before = sym outside.before; after = sym outside.after }
+
+    any_left : (c : List ℕ) → IsCutShort d.content (w ∷ []) c → IsAnyIn w e.content c
+    any_left c cut =
+        ⊎_elim
+        (λ (all : c ≡ written d.content w.sector w.bytes).
+        let same : e.content ≡ c = done.done d e was is (honest k d was) ∙ sym all in
+        subst (IsAnyIn w e.content) same (outside_none (512 * w.sector) (length w.bytes) e.content))
+        (λ (mixed : IsMixed w.sector w.bytes d.content c). outside_then back mixed.outside)
+        (cut_one d.content c w cut)
+
+  pub left_after_write : IsLeftBut k (IsAnyIn w) after left
+  left_after_write = record {
+    as_many = but.as_many ∙ sym done.tried.as_many;
+    others = λ j apart e c there is. but.others j apart e c (sym (done.tried.others j apart) ∙ there) is;
+    this = λ e c there is.
+        let low = slice_get_within after k e there in
+        let many = done.tried.as_many in
+        let d = got_within before k (omega arith) in
+        any_left d.0 e d.1 there c (but.this d.0 c d.1 is);
+  }
 
 pub stops_as_tried : StopsAsTried
 stops_as_tried k w before after left honest writes may =

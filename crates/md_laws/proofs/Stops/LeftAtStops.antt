@@ -55,12 +55,12 @@ use Rattle.md_array.proofs.Worlds.Supers.{super_shown}
 use Rattle.md_laws.proofs.Stops.LeftContents.{got_content, got_like, read_changed, read_in, read_same}
 use Rattle.md_laws.proofs.Runs.Moments.{IsSoundAt}
 use Rattle.md_laws.proofs.Stops.FirstSector.{cut_reads, reads_same}
-use Rattle.md_laws.proofs.Stops.AsFailed.{failed_as_tried, left_as_tried, stops_as_tried, stops_at_events}
+use Rattle.md_laws.proofs.Stops.AsFailed.{failed_as_tried, left_after_write, left_as_tried, stops_as_tried, stops_at_events}
 use Rattle.md_laws.proofs.Stops.AloneChanged.{left_prepared, stops_as_filled, stops_as_prepared, stops_at_enrol}
 use Rattle.md_laws.proofs.Stops.AtSteps.{stops_at_write}
 use Rattle.md_laws.proofs.Stops.Enrolled.{left_since, may_record_new}
 use Rattle.md_laws.proofs.Stops.TakenBack.{left_after, may_record_again}
-use Rattle.md_laws.proofs.Stops.WithinTarget.{admitted_there, checkpointed_there, left_after_write, recovering_recorded}
+use Rattle.md_laws.proofs.Stops.WithinTarget.{admitted_there, checkpointed_there, recovering_recorded}
 use Rattle.md_laws.proofs.Runs.Rests.{at_once, at_rest}
 use Rattle.md_assembly.proofs.Indices.{got_within, got_same}
 

@@ -1,14 +1,11 @@
 -- What a stop leaves within `admit` or `checkpoint`, by which a member that is rebuilt tells of it.
-use Rattle.std.proofs.Common.{◌≡◌, ◌⊎◌, ⊎_elim, ℕ, ◌*◌, inl, inr, true, false, List, [], ◌∷◌, length, map, slice_get, Some, refl, sym, ap, ◌∙◌, subst, arith}
+use Rattle.std.proofs.Common.{◌≡◌, ◌⊎◌, ℕ, ◌*◌, inl, inr, true, false, List, length, map, slice_get, Some, refl, sym, ap, ◌∙◌, subst, arith}
 use Rattle.std.proofs.lemmas.Option.{slice_get_within}
 use Rattle.md_assembly.proofs.Indices.{got_within}
 use Rattle.md_assembly.specs.declared.state.MemberState.{MemberState}
 use Rattle.md_assembly.specs.declared.state.MemberState.TheVariants.{InSync, Recovering, Stale, Spare, Faulty}
 use Rattle.md_assembly.specs.States.{is_recorded, is_recovering}
 use Rattle.md_bitmap.specs.Marks.{Bitmap}
-use Rattle.md_device.specs.Device.{written}
-use Rattle.md_device.specs.Splice.{SameOutside}
-use Rattle.md_device.specs.Stops.{IsMixed}
 use Rattle.md_device.proofs.Splices.{part-spliced}
 use Rattle.md_kept_members.specs.Members.{made_due}
 use Rattle.md_kept_members.specs.TakingBack.{admitted_member, with_offset}
@@ -16,9 +13,7 @@ use Rattle.md_kept_members.specs.View.{MemberView}
 use Rattle.md_state.specs.DiskWrites.{IsWritten}
 use Rattle.md_state.specs.Members.{IsMember}
 use Rattle.md_state.specs.View.{ArrayView, Disk, MirrorView}
-use Rattle.md_writes.specs.Writes.{IsAnyIn, IsCutShort, Write}
-use Rattle.md_writes.proofs.Frames.{outside_none, outside_then}
-use Rattle.md_writes.proofs.Runs.{cut_one}
+use Rattle.md_writes.specs.Writes.{Write}
 use Rattle.md_array.specs.Admitting.{Admits}
 use Rattle.md_array.specs.Checkpoints.{Checkpoints}
 use Rattle.md_array.specs.Consistency.{IsConsistent}
@@ -50,38 +45,6 @@ checkpointed_there k copied old new r =
     let m = r.may.member in
     ap (λ (a : ArrayView). slice_get a.members k) r.array
     ∙ at_set_same old.array.members k (record (with_offset r.offset m) { due = false }) (slice_get_within old.array.members k m r.may.at)
-
--- ---- what is left differs from what stands there after the write in its range at most
-module _ (k : ℕ) (w : Write) (before after : List Disk) (left : List (List ℕ)) (honest : AreHonest before) (done : IsWritten k w before after) (may : MayAllBeLeft before after left) where
-  but : IsLeftBut k (λ old c. IsCutShort old (w ∷ []) c) before left
-  but = stops_at_write k w before after left honest done may
-
-  module _ (d e : Disk) (was : slice_get before k ≡ Some d) (is : slice_get after k ≡ Some e) where
-    outside : SameOutside (512 * w.sector) (length w.bytes) d.content e.content
-    outside = done.tried.outside d e was is
-
-    back : SameOutside (512 * w.sector) (length w.bytes) e.content d.content
-    back = record { size = sym outside.size; before = sym outside.before; after = sym outside.after }
-
-    any_left : (c : List ℕ) → IsCutShort d.content (w ∷ []) c → IsAnyIn w e.content c
-    any_left c cut =
-        ⊎_elim
-        (λ (all : c ≡ written d.content w.sector w.bytes).
-        let same : e.content ≡ c = done.done d e was is (honest k d was) ∙ sym all in
-        subst (IsAnyIn w e.content) same (outside_none (512 * w.sector) (length w.bytes) e.content))
-        (λ (mixed : IsMixed w.sector w.bytes d.content c). outside_then back mixed.outside)
-        (cut_one d.content c w cut)
-
-  pub left_after_write : IsLeftBut k (IsAnyIn w) after left
-  left_after_write = record {
-    as_many = but.as_many ∙ sym done.tried.as_many;
-    others = λ j apart e c there is. but.others j apart e c (sym (done.tried.others j apart) ∙ there) is;
-    this = λ e c there is.
-        let low = slice_get_within after k e there in
-        let many = done.tried.as_many in
-        let d = got_within before k (omega arith) in
-        any_left d.0 e d.1 there c (but.this d.0 c d.1 is);
-  }
 
 -- ---- where both superblocks end in the first sector
 reads_there : (k : ℕ) (m : MemberView) (bytes : List ℕ) (old new : MirrorView) (left : List (List ℕ)) → IsConsistent old → IsMember old.array k m → length bytes ≡ 4096 → AreHonest old.disks
