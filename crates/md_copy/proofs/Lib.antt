@@ -7,6 +7,7 @@ pub mod EnrolReady
 pub mod HeldAlong
 pub mod LentBack
 pub mod Lists
+pub mod MadeReady
 pub mod Observed
 pub mod PlanChunks
 pub mod Planned

@@ -111,7 +111,7 @@ module _ (target : ℕ) (stored admitted : MirrorView) (r : Admits target stored
       none = ap first_number r.array ∙ may.idle.none;
     };
     resynced = ap (λ (a : ArrayView). a.resynced) r.array ∙ may.resynced;
-    can_rise = (let risen = ap (λ (a : ArrayView). a.shared.events) r.array in let can = may.can_rise in omega (arith, risen, can));
+    can_rise = (let risen : admitted.array.shared.events ≡ stored.array.shared.events + 1 = ap (λ (a : ArrayView). a.shared.events) r.array in let can = may.can_rise in omega (arith, risen, can));
   }
 
 module _ (target : ℕ) (old admitted : MirrorView) (h : AdmitsAfter target old admitted) where

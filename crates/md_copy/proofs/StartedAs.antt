@@ -1,6 +1,6 @@
 -- A mirror from which a rebuild starts is as one before it, but for what is stored and for who is recovering: what is rebuilt from the one is
 -- rebuilt from the other.
-use Rattle.std.proofs.Common.{◌≡◌, ◌∙◌, ◌⊎◌, ◌×◌, ◌↔◌, ℕ, ◌+◌, ◌*◌, ◌^◌, ◌<◌, ◌≤◌, true, List, slice_get, Some, sym, ap, subst, arith, inl, inr}
+use Rattle.std.proofs.Common.{◌≡◌, ◌∙◌, ◌⊎◌, ◌↔◌, ℕ, ◌+◌, ◌*◌, ◌^◌, ◌<◌, ◌≤◌, true, List, slice_get, Some, sym, ap, subst, arith, inl, inr}
 use Rattle.md_device.specs.Splice.{part}
 use Rattle.md_assembly.specs.States.{is_in_sync}
 use Rattle.md_badblocks.specs.declared.run.Run.{Run}
@@ -34,7 +34,7 @@ pub record StartsAs (target : ℕ) (old v : MirrorView) : Type 0 where
   pub then : (j : ℕ) (l : MemberView) → IsMember old.array j l → (n : MemberView) × IsMember v.array j n × IsAs l n
   pub disk_before : (j : ℕ) (e : Disk) → slice_get v.disks j ≡ Some e → (d : Disk) × (slice_get old.disks j ≡ Some d)
   pub disk_then : (j : ℕ) (d : Disk) → slice_get old.disks j ≡ Some d → (e : Disk) × (slice_get v.disks j ≡ Some e)
-  pub data : (j : ℕ) (d e : Disk) (l : MemberView) → slice_get old.disks j ≡ Some d → slice_get v.disks j ≡ Some e → IsMember old.array j l → KeepsData l d e
+  pub kept : (j : ℕ) (d e : Disk) (l : MemberView) → slice_get old.disks j ≡ Some d → slice_get v.disks j ≡ Some e → IsMember old.array j l → KeepsData l d e
   pub honest : (j : ℕ) (d e : Disk) → slice_get old.disks j ≡ Some d → slice_get v.disks j ≡ Some e → e.honest ≡ d.honest
   pub counted : (j : ℕ) (d e : Disk) → slice_get old.disks j ≡ Some d → slice_get v.disks j ≡ Some e → d.failures ≤ e.failures
   pub missing : (l n : MemberView) → IsMember old.array target l → IsMember v.array target n → (c : ℕ) → c < old.array.marks.chunks → is_missing v.array n c ≡ is_missing old.array l c
@@ -55,12 +55,12 @@ starts_on target old mid v x y = record {
   then = λ j l at. (let m = x.then j l at in let n = y.then j m.0 m.1 in (n.0, n.1, as_on l m.0 n.0 m.2 n.2));
   disk_before = λ j f at. (let e = y.disk_before j f at in x.disk_before j e.0 e.1);
   disk_then = λ j d at. (let e = x.disk_then j d at in y.disk_then j e.0 e.1);
-  data = λ j d f l at_d at_f at_l i k from to.
+  kept = λ j d f l at_d at_f at_l i k from to.
       (let e = x.disk_then j d at_d in
       let m = x.then j l at_l in
       let offset = m.2.offset in
       let size = m.2.size in
-      y.data j e.0 f m.0 e.1 at_f m.1 i k (omega (arith, offset, from)) (omega (arith, offset, size, to)) ∙ x.data j d e.0 l at_d e.1 at_l i k from to);
+      y.kept j e.0 f m.0 e.1 at_f m.1 i k (omega (arith, offset, from)) (omega (arith, offset, size, to)) ∙ x.kept j d e.0 l at_d e.1 at_l i k from to);
   honest = λ j d f at_d at_f. (let e = x.disk_then j d at_d in y.honest j e.0 f e.1 at_f ∙ x.honest j d e.0 at_d e.1);
   counted = λ j d f at_d at_f.
       (let e = x.disk_then j d at_d in
@@ -189,11 +189,11 @@ module _ (target : ℕ) (old v : MirrorView) (st : StartsAs target old v) (copie
     bad = list_before;
     beside = λ d e at_d at_e i n h.
         (let on = st.disk_then target d at_d in
-        r.beside on.0 e on.1 at_e i n (beside_as i n h) ∙ st.data target d on.0 l at_d on.1 was.1 i n h.from h.to);
+        r.beside on.0 e on.1 at_e i n (beside_as i n h) ∙ st.kept target d on.0 l at_d on.1 was.1 i n h.from h.to);
     others = λ j d e m other at_d at_e at_m i k from to.
         (let on = st.disk_then j d at_d in
         let n = st.then j m at_m in
         let offset = n.2.offset in
         let size = n.2.size in
-        r.others j on.0 e n.0 other on.1 at_e n.1 i k (omega (arith, offset, from)) (omega (arith, offset, size, to)) ∙ st.data j d on.0 m at_d on.1 at_m i k from to);
+        r.others j on.0 e n.0 other on.1 at_e n.1 i k (omega (arith, offset, from)) (omega (arith, offset, size, to)) ∙ st.kept j d on.0 m at_d on.1 at_m i k from to);
   }

@@ -8,6 +8,7 @@ use Rattle.std.proofs.lemmas.Option.{none-some, same_Some, slice_get-get_or, sli
 use Rattle.md_assembly.specs.declared.state.MemberState.{MemberState}
 use Rattle.md_assembly.specs.declared.state.MemberState.TheVariants.{InSync, Recovering, Stale, Spare, Faulty}
 use Rattle.md_assembly.specs.States.{is_in_sync, is_recovering, is_spare}
+use Rattle.md_bitmap.specs.declared.chunks.Chunks.{Chunks}
 use Rattle.md_bitmap.specs.Marks.{is_set}
 use Rattle.md_device.specs.Splice.{SameOutside}
 use Rattle.md_kept_members.specs.Members.{made_due}
@@ -72,7 +73,7 @@ module _ (target : ℕ) (old v : MirrorView) (sound : IsConsistent old) (resynce
     then = member_stays;
     disk_before = device_before old v keeps;
     disk_then = device_then old v keeps;
-    data = keeps.area (places_of v first.stores.goes.sound);
+    kept = keeps.area (places_of v first.stores.goes.sound);
     honest = keeps.honest;
     counted = keeps.counted;
     missing = λ l n at_l at_n c low. missing_stays l n at_l at_n c;
@@ -188,7 +189,7 @@ module _ (target : ℕ) (v x : MirrorView) (sound : IsConsistent v) (resynced : 
       let count = sound.chunks.count in
       let some : 0 < v.array.chunks.size = some_size v.array.chunks.size v.array.chunks.sectors v.array.marks.chunks c low count wide in
       let chunks : x.array.chunks ≡ v.array.chunks = ap (λ (a : ArrayView). a.chunks) r.array in
-      let passed : has_passed x.array n c ≡ false = ap (λ k. leb k.size 0 || leb ((c + 1) * k.sectors) 0) chunks
+      let passed : has_passed x.array n c ≡ false = ap (λ (k : Chunks). leb k.size 0 || leb ((c + 1) * k.sectors) 0) chunks
       ∙ none_at_start v.array.chunks.size ((c + 1) * v.array.chunks.sectors) (some_end c v.array.chunks.sectors wide) some in
       ap (λ (z : MemberView). is_missing x.array z c) y_is ∙ lacks_new (is_set x.array.marks.bytes c) (has_passed x.array n c) passed
       ∙ sym (lacks_spare m.state spare (is_set v.array.marks.bytes c) (has_passed v.array m c)) ∙ ap (λ (z : MemberView). is_missing v.array z c) (sym l_is)
@@ -215,7 +216,7 @@ module _ (target : ℕ) (v x : MirrorView) (sound : IsConsistent v) (resynced : 
     then = then_at;
     disk_before = disk_before;
     disk_then = disk_then;
-    data = data_kept;
+    kept = data_kept;
     honest = honest_same;
     counted = counted_up;
     missing = missing_both;

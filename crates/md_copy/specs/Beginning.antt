@@ -1,5 +1,5 @@
 -- Whether a rebuild of a member may begin, and the first reason why it may not (this project's own order).
-use Rattle.std.specs.Prelude.{◌≡◌, ℕ, ◌+◌, ◌^◌, ◌<◌, ◌≤◌, true, false, Some}
+use Rattle.std.specs.Prelude.{◌≡◌, ℕ, ◌+◌, ◌^◌, ◌<◌, true, false, Some}
 use Rattle.md_assembly.specs.declared.state.MemberState.{MemberState}
 use Rattle.md_assembly.specs.declared.state.MemberState.TheVariants.{InSync, Recovering, Stale, Spare, Faulty}
 use Rattle.md_kept_members.specs.View.{MemberView}
@@ -27,11 +27,15 @@ rises (Stale role) = 1
 rises Spare = 2
 rises Faulty = 1
 
--- and nothing is in flight, and the count can rise as often
+-- it can rise as often
+abbrev pub CanRise : ArrayView → MemberView → Type 0
+CanRise a m = a.shared.events + rises m.state < 2 ^ 64
+
+-- and nothing is in flight, and the count can rise
 pub record MayRebuild (a : ArrayView) (m : MemberView) : Type 0 where
   pub settled : IsSettled a m
   pub idle : IsIdle a
-  pub can_rise : a.shared.events + rises m.state < 2 ^ 64
+  pub can_rise : CanRise a m
 
 -- ---- the first that is lacking
 pub record LacksTarget (a : ArrayView) (m : MemberView) : Type 0 where
@@ -50,7 +54,7 @@ pub record IsBusy (number : ℕ) (a : ArrayView) (m : MemberView) : Type 0 where
 pub record IsSpent (a : ArrayView) (m : MemberView) : Type 0 where
   pub settled : IsSettled a m
   pub idle : IsIdle a
-  pub spent : 2 ^ 64 ≤ a.shared.events + rises m.state
+  pub spent : CanRise a m → ⊥
 
 -- no check gives another fault
 abbrev pub CannotRebuild : ArrayView → MemberView → RebuildFault → Type 0

@@ -1,8 +1,8 @@
 // What is checked of a rebuild before any device is used.
-ghost use Rattle.std.specs.Prelude.{◌≡◌, ◌<◌, MatchResult, length};
+ghost use Rattle.std.specs.Prelude.{◌≡◌, ◌<◌, ◌≤◌, MatchBool, MatchResult, length};
 ghost use Rattle.md_kept_members.specs.View.{MemberView};
 ghost use Rattle.md_state.specs.Members.{IsMember};
-ghost use Rattle.md_copy.specs.Beginning.{CannotRebuild, MayRebuild, rises};
+ghost use Rattle.md_copy.specs.Beginning.{CanRise, CannotRebuild, MayRebuild, rises};
 
 use crate::fault::RebuildFault;
 use crate::target::is_target;
@@ -31,15 +31,29 @@ pub(crate) fn check_rebuild<D: Device + Drop>(
     if let Some(number) = mirror.in_flight() {
         return Err(RebuildFault::InFlight(number));
     }
-    if mirror.events() > u64::MAX - rises(mirror.state(target)) {
+    if !can_rise(mirror, target) {
         return Err(RebuildFault::EventsFull);
     }
     Ok(())
 }
 
+// Whether the event count can rise as often as it does in a rebuild of the target.
+fn can_rise<D: Device + Drop>(mirror: &Mirror<D>, target: usize) -> bool
+    requires { target < length mirror.now.array.members }
+    ensures { (m : MemberView) → IsMember mirror.now.array target m
+        → MatchBool result (CanRise mirror.now.array m) (CanRise mirror.now.array m → ⊥) }
+{
+    let needed = rises(mirror.state(target));
+    if mirror.events() > u64::MAX - needed {
+        return false;
+    }
+    true
+}
+
 // How often the event count rises in a rebuild of a member in this state.
 fn rises(state: MemberState) -> u64
-    ensures { result ≡ rises state }
+    ensures is { result ≡ rises state }
+    ensures few { result ≤ 2 }
 {
     match state {
         MemberState::Spare => 2,

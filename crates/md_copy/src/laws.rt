@@ -26,9 +26,10 @@ pub fn rebuilt_by_call()
 {}
 
 /// A rebuild is a list of events of the array's model, so that the laws over lives speak of it. One that is
-/// done has one enrolment in it, if the target's data end at or below sector 2^54; one that is refused has
-/// none. Where `enrol` failed it is asked that its failed write was of the bitmap or of the log, and left
-/// the width of the chunks in the header.
+/// done has one enrolment in it, if the target's data end at or below sector 2^54, and an admission where the
+/// target was a spare; one that is refused has no enrolment. Where the admission failed, the list ends right
+/// before its write. Where `enrol` failed it is asked that its failed write was of the bitmap or of the log,
+/// and left the width of the chunks in the header.
 pub fn rebuild_events()
     ensures done { (target : ℕ) (told : Rebuilt) (old new : MirrorView)
         → EndsBelow old target → Rebuilds target told old new → RebuildLeads target old new }

@@ -61,7 +61,7 @@ module _ (target : ℕ) (content : Content) (old v : MirrorView) (st : StartsAs 
       let lacks_not : is_missing old.array l.0 (s / old.array.chunks.sectors) ≡ false = ap (λ (k : Chunks). is_missing old.array l.0 (s / k.sectors)) (sym st.chunks)
       ∙ sym (st.missing l.0 m l.1 at_m (s / v.array.chunks.sectors) (chunk_low s low)) ∙ present in
       ap (λ (o : ℕ). part d.content (512 * (o + s)) 512) l.2.offset
-      ∙ st.data target x.0 d l.0 x.1 at_d l.1 (512 * (l.0.superblock.data_offset + s)) 512 (omega arith) (omega (arith, low, fits, size, own, same_size))
+      ∙ st.kept target x.0 d l.0 x.1 at_d l.1 (512 * (l.0.superblock.data_offset + s)) 512 (omega arith) (omega (arith, low, fits, size, own, same_size))
       ∙ had x.0 l.0 x.1 l.1 s low_old lacks_not
       (λ bad. unlisted (subst (λ (runs : List Run). IsBad runs (m.superblock.data_offset + s)) (sym l.2.bad) (subst (λ (o : ℕ). IsBad l.0.bad (o + s)) (sym l.2.offset) bad)))
 

@@ -1,0 +1,87 @@
+use Rattle.md_state.proofs.Members.At.{told}
+use Rattle.md_copy.proofs.MadeReady.{ready_so, ready_then, rebuilt, rebuilt_admitted, refused_admission, refused_then, running, running_stored, target_stored, unspent, unspent_admitted, unspent_stored}
+use Rattle.md_copy.proofs.readying.make_ready.Goals as goal
+
+pub store_first-requires-clause-running : goal.store_first-requires-clause-running
+store_first-requires-clause-running g c = running c.args.target c.args.mirror.now c.requires.within c.requires.may
+
+pub store_first-requires-clause-target : goal.store_first-requires-clause-target
+store_first-requires-clause-target g c = rebuilt c.args.target c.args.mirror.now c.requires.within c.requires.may
+
+pub store_first-requires-clause-unspent : goal.store_first-requires-clause-unspent
+store_first-requires-clause-unspent g c = unspent c.args.target c.args.mirror.now c.requires.within c.requires.may
+
+pub returns-then-not-is_spare-clause-gives : goal.returns-then-not-is_spare-clause-gives
+returns-then-not-is_spare-clause-gives g c m at =
+    let stored = c.store_first.new.mirror in
+    ready_so c.args.target c.args.mirror.now c.requires.within c.requires.may stored c.in_default.ensures
+    (λ n there.
+    let state = told (λ x. x.state) stored.array c.args.target n c.state.result c.state.ensures there in
+    let answer = c.is_spare.ensures in
+    let no = c.if-not-is_spare.true in
+    cc)
+    m at
+
+pub admit_spare-requires-clause-running : goal.admit_spare-requires-clause-running
+admit_spare-requires-clause-running g c = running_stored c.args.target c.args.mirror.now c.requires.within c.requires.may c.store_first.new.mirror c.in_default.ensures
+
+pub admit_spare-requires-clause-target : goal.admit_spare-requires-clause-target
+admit_spare-requires-clause-target g c = target_stored c.args.target c.args.mirror.now c.requires.within c.requires.may c.store_first.new.mirror c.in_default.ensures
+
+pub admit_spare-requires-clause-unspent : goal.admit_spare-requires-clause-unspent
+admit_spare-requires-clause-unspent g c = unspent_stored c.args.target c.args.mirror.now c.requires.within c.requires.may c.store_first.new.mirror c.in_default.ensures
+
+pub returns-in-Err-admit_spare-clause-gives : goal.returns-in-Err-admit_spare-clause-gives
+returns-in-Err-admit_spare-clause-gives g c m at =
+    let stored = c.store_first.new.mirror in
+    refused_admission c.args.target c.args.mirror.now c.requires.within c.requires.may stored c.in_default.ensures
+    (λ n there.
+    let state = told (λ x. x.state) stored.array c.args.target n c.state.result c.state.ensures there in
+    let answer = c.is_spare.ensures in
+    let yes = c.if-not-is_spare.false in
+    cc)
+    c.admit_spare.new.mirror c.in-Err-admit_spare.ensures.sound c.in-Err-admit_spare.fault c.in-Err-admit_spare.ensures.gives
+
+pub store_first-requires-2-clause-target : goal.store_first-requires-2-clause-target
+store_first-requires-2-clause-target g c =
+    let stored = c.store_first.new.mirror in
+    rebuilt_admitted c.args.target c.args.mirror.now c.requires.within c.requires.may stored c.in_default.ensures
+    (λ n there.
+    let state = told (λ x. x.state) stored.array c.args.target n c.state.result c.state.ensures there in
+    let answer = c.is_spare.ensures in
+    let yes = c.if-not-is_spare.false in
+    cc)
+    c.admit_spare.new.mirror c.in_default-admit_spare.ensures.gives c.in_default-admit_spare.ensures.sound
+
+pub store_first-requires-2-clause-unspent : goal.store_first-requires-2-clause-unspent
+store_first-requires-2-clause-unspent g c =
+    let stored = c.store_first.new.mirror in
+    unspent_admitted c.args.target c.args.mirror.now c.requires.within c.requires.may stored c.in_default.ensures
+    (λ n there.
+    let state = told (λ x. x.state) stored.array c.args.target n c.state.result c.state.ensures there in
+    let answer = c.is_spare.ensures in
+    let yes = c.if-not-is_spare.false in
+    cc)
+    c.admit_spare.new.mirror c.in_default-admit_spare.ensures.gives c.in_default-admit_spare.ensures.sound
+
+pub returns-in-Err-store_first-clause-gives : goal.returns-in-Err-store_first-clause-gives
+returns-in-Err-store_first-clause-gives g c m at =
+    let stored = c.store_first.new.mirror in
+    refused_then c.args.target c.args.mirror.now c.requires.within c.requires.may stored c.in_default.ensures
+    (λ n there.
+    let state = told (λ x. x.state) stored.array c.args.target n c.state.result c.state.ensures there in
+    let answer = c.is_spare.ensures in
+    let yes = c.if-not-is_spare.false in
+    cc)
+    c.admit_spare.new.mirror c.in_default-admit_spare.ensures.gives c.in_default-admit_spare.ensures.sound c.store_first-2.new.mirror c.in-Err-store_first.fault c.in-Err-store_first.ensures
+
+pub returns-clause-gives : goal.returns-clause-gives
+returns-clause-gives g c m at =
+    let stored = c.store_first.new.mirror in
+    ready_then c.args.target c.args.mirror.now c.requires.within c.requires.may stored c.in_default.ensures
+    (λ n there.
+    let state = told (λ x. x.state) stored.array c.args.target n c.state.result c.state.ensures there in
+    let answer = c.is_spare.ensures in
+    let yes = c.if-not-is_spare.false in
+    cc)
+    c.admit_spare.new.mirror c.in_default-admit_spare.ensures.gives c.in_default-admit_spare.ensures.sound c.store_first-2.new.mirror c.in_default-store_first.ensures m at
