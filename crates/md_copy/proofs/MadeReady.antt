@@ -90,7 +90,7 @@ module _ (target : ℕ) (old : MirrorView) (within : target < length old.array.m
       refused_admission new sound (SourceFault k chunk) h = absurd h
 
       module _ (admitted : MirrorView) (r : Admits target stored admitted) (sound : IsConsistent admitted) where
-        after : AdmitsAfter target old admitted
+        abbrev after : AdmitsAfter target old admitted
         after = record { stored = stored; first = first; admits = r; spare = spare r.may.member r.may.at; sound = sound }
 
         -- it was a spare before

@@ -49,11 +49,11 @@ spare_rebuilt Faulty is = absurd cc
 
 -- who may be rebuilt is recovering, or a spare
 pub recovering_else : (a : ArrayView) (number : ℕ) (s : MemberState) → MayBeRebuilt a number s → is_spare s ≡ false → is_recovering s ≡ true
-recovering_else a number (InSync role) t no = absurd t
-recovering_else a number (Recovering role) t no = cc
-recovering_else a number (Stale role) t no = absurd t
-recovering_else a number Spare t no = absurd cc
-recovering_else a number Faulty t no = absurd t
+recovering_else a number (InSync role) t out = absurd t
+recovering_else a number (Recovering role) t out = cc
+recovering_else a number (Stale role) t out = absurd t
+recovering_else a number Spare t out = absurd cc
+recovering_else a number Faulty t out = absurd t
 
 pub some_rise : (s : MemberState) → 1 ≤ rises s
 some_rise (InSync role) = omega arith

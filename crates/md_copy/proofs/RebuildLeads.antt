@@ -24,12 +24,12 @@ use Rattle.md_state.specs.View.{ArrayView, MirrorView}
 use Rattle.md_array.specs.Admitting.{admit_event}
 use Rattle.md_array.specs.Consistency.{IsConsistent}
 use Rattle.md_array.specs.Enrolling.{Enrols, FailsToEnrol}
-use Rattle.md_array.specs.Enrolments.{EndsBelow, enrol_event, lists_of}
+use Rattle.md_array.specs.Enrolments.{EndsBelow, enrol_event}
 use Rattle.md_array.specs.Events.{Does, IsChangedAlone, IsSameBesideMissing, listed_on}
 use Rattle.md_array.specs.Filling as array
 use Rattle.md_array.specs.InTurn.{AllOf, Did, InTurn, IsInOrder, Leads, LeftWhole, Requests}
 use Rattle.md_array.specs.RecordingTarget as array_target
-use Rattle.md_array.specs.Worlds.{AreHonest}
+use Rattle.md_array.specs.Worlds.{AreHonest, lists_of}
 use Rattle.md_array.proofs.Rebuilding.AdmittedEvent.{admit_happens, admitted_is_pending}
 use Rattle.md_array.proofs.Rebuilding.EnrolUnstored.{idle_pending}
 use Rattle.md_array.proofs.Rebuilding.EnrolledEvent.{enrol_leads}

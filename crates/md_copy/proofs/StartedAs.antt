@@ -80,8 +80,8 @@ module _ (target : ℕ) (old v : MirrorView) (st : StartsAs target old v) (copie
   abbrev l : MemberView
   l = was.0
 
-  as : IsAs l r.member
-  as = was.2
+  alike : IsAs l r.member
+  alike = was.2
 
   low_then : (c : ℕ) → c < old.array.marks.chunks → c < v.array.marks.chunks
   low_then c low = subst (λ (b : Bitmap). c < b.chunks) (sym st.marks) low
@@ -131,7 +131,7 @@ module _ (target : ℕ) (old v : MirrorView) (st : StartsAs target old v) (copie
       → (c q : ℕ) → c < old.array.marks.chunks → is_set copied.bytes c ≡ true → InChunk old.array.chunks.sectors old.array.chunks.size c q
       → part e.content (512 * (l.superblock.data_offset + q)) 512 ≡ content q
   holds_before honest content has e at_e c q low set inside =
-      ap (λ (o : ℕ). part e.content (512 * (o + q)) 512) (sym as.offset)
+      ap (λ (o : ℕ). part e.content (512 * (o + q)) 512) (sym alike.offset)
       ∙ r.holds (starts_honest target old v st honest) content (st.content honest content has) e at_e c q (low_then c low) set (inside_then c q inside)
 
   -- the sectors of a list after it
@@ -143,18 +143,18 @@ module _ (target : ℕ) (old v : MirrorView) (st : StartsAs target old v) (copie
     canonical = r.bad.canonical;
     bad = λ sector.
         subst (λ (k : Chunks). IsBad r.now.bad sector ↔ ListedAfter k l.superblock.data_offset l.bad sector) st.chunks
-        (subst (λ (o : ℕ). IsBad r.now.bad sector ↔ ListedAfter v.array.chunks o l.bad sector) as.offset
-        (subst (λ (runs : List Run). IsBad r.now.bad sector ↔ ListedAfter v.array.chunks r.member.superblock.data_offset runs sector) as.bad (r.bad.bad sector)));
+        (subst (λ (o : ℕ). IsBad r.now.bad sector ↔ ListedAfter v.array.chunks o l.bad sector) alike.offset
+        (subst (λ (runs : List Run). IsBad r.now.bad sector ↔ ListedAfter v.array.chunks r.member.superblock.data_offset runs sector) alike.bad (r.bad.bad sector)));
   }
 
   beside_as : (i n : ℕ) → IsBesideCopied old.array l copied i n → IsBesideCopied v.array r.member copied i n
   beside_as i n h =
-      let offset = as.offset in
-      let size = as.size in
+      let offset = alike.offset in
+      let size = alike.size in
       record {
         from = (let from = h.from in omega (arith, offset, from));
         to = (let to = h.to in omega (arith, offset, size, to));
-        beside = λ c set. subst (λ (k : Chunks). IsBesideChunk k r.member.superblock.data_offset i n c) (sym st.chunks) (subst (λ (o : ℕ). IsBesideChunk old.array.chunks o i n c) (sym as.offset) (h.beside c set));
+        beside = λ c set. subst (λ (k : Chunks). IsBesideChunk k r.member.superblock.data_offset i n c) (sym st.chunks) (subst (λ (o : ℕ). IsBesideChunk old.array.chunks o i n c) (sym alike.offset) (h.beside c set));
       }
 
   pub rebuilt_from : IsRebuilt target copied orphans old y

@@ -1,5 +1,6 @@
 -- What a rebuild's steps hand to the next one.
-use Rattle.std.proofs.Common.{◌≡◌, ◌∙◌, ℕ, ◌<◌, true, false, sym, ap, subst}
+use Rattle.std.proofs.Common.{◌≡◌, ◌∙◌, ℕ, ◌<◌, true, false, length, sym, ap, subst}
+use Rattle.std.proofs.lemmas.Option.{slice_get_within}
 use Rattle.md_assembly.specs.declared.state.MemberState.{MemberState}
 use Rattle.md_assembly.specs.declared.state.MemberState.TheVariants.{InSync, Recovering, Stale, Spare, Faulty}
 use Rattle.md_assembly.specs.States.{takes_role}
@@ -20,6 +21,7 @@ use Rattle.md_copy.specs.Rebuilding.{Begins, FillsBy}
 use Rattle.md_copy.specs.Readying.{Readies}
 use Rattle.md_copy.specs.Targets.{HasFreeRole, IsTarget, MayBeRebuilt}
 use Rattle.md_copy.proofs.EnrolReady.{may_enrol}
+use Rattle.md_copy.proofs.StartsReadied.{starts_ready}
 use Rattle.md_copy.proofs.Readied.{IsReady, is_ready, recovering_target, unspent_so}
 
 -- ---- who may be rebuilt may be so after something was stored
@@ -51,6 +53,9 @@ module _ (target : ℕ) (old stored : MirrorView) (member : MemberView) (at : Is
 
   pub target_then : (n : MemberView) → IsMember stored.array target n → IsTarget stored.array n
   target_then n there = recovering_target stored.array n.superblock.dev_number n.state (ready.recovering n there)
+
+  pub within_then : target < length stored.array.members
+  within_then = let n = (starts_ready target old stored was member may first).then target member at in slice_get_within stored.array.members target n.0 n.1
 
   -- ---- after the pass
   module _ (before after : Pass) (p : IsPrepared stored target before) where

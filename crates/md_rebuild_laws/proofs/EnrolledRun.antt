@@ -12,9 +12,9 @@ use Rattle.md_state.specs.Requests.{AreInFlight}
 use Rattle.md_state.specs.View.{Disk, MirrorView, geometry_of}
 use Rattle.md_array.specs.Consistency.{IsConsistent}
 use Rattle.md_array.specs.Enrolling.{Enrols, MayEnrol}
-use Rattle.md_array.specs.Enrolments.{EndsBelow, IsHeldBy, Prepares, enrol_event, lists_of, prepared}
+use Rattle.md_array.specs.Enrolments.{EndsBelow, IsHeldBy, Prepares, enrol_event, prepared}
 use Rattle.md_array.specs.Events.{Does}
-use Rattle.md_array.specs.Worlds.{AreHonest, stored_of, world_of}
+use Rattle.md_array.specs.Worlds.{AreHonest, lists_of, stored_of, world_of}
 use Rattle.md_array.proofs.Rebuilding.EnrolledEvent.{does_enrol}
 use Rattle.md_array.proofs.Rebuilding.HeldContent.{it_holds}
 use Rattle.md_array.proofs.Rebuilding.InBetween.{prepared_is, prepares, then_at, then_disk}

@@ -24,8 +24,8 @@ use Rattle.md_state.specs.View.{ArrayView, Disk, MirrorView}
 use Rattle.md_super.specs.declared.superblock.Superblock.{Superblock}
 use Rattle.md_array.specs.Consistency.{IsConsistent}
 use Rattle.md_array.specs.Enrolling.{Enrols, HasContent}
-use Rattle.md_array.specs.Enrolments.{EndsBelow, IsHeldBy, lists_of, prepared}
-use Rattle.md_array.specs.Worlds.{AreHonest, lies_in}
+use Rattle.md_array.specs.Enrolments.{EndsBelow, IsHeldBy, prepared}
+use Rattle.md_array.specs.Worlds.{AreHonest, lies_in, lists_of}
 use Rattle.md_array.proofs.General.Indices.{got_other}
 use Rattle.md_array.proofs.Rebuilding.HeldContent.{another, its_chunk, then_sector}
 use Rattle.md_array.proofs.Rebuilding.InBetween.{prepared_is, superblock, then_at, then_disk}

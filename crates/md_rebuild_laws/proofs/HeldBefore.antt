@@ -16,8 +16,7 @@ use Rattle.md_model.proofs.Content.RebuiltWhole.{none_passed}
 use Rattle.md_model.proofs.Cases.{below-nat_lt, by_test}
 use Rattle.md_state.specs.Missing.{has_passed, is_missing}
 use Rattle.md_state.specs.View.{ArrayView, geometry_of}
-use Rattle.md_array.specs.Enrolments.{lists_of}
-use Rattle.md_array.specs.Worlds.{lies_in, stored_of, world_of}
+use Rattle.md_array.specs.Worlds.{lies_in, lists_of, stored_of, world_of}
 use Rattle.md_array.proofs.Steps.OneMember.{stored_there}
 use Rattle.md_array.proofs.Worlds.Bad.{bad_from_test}
 use Rattle.md_rebuild_laws.specs.RebuiltInLife.{HasNothing, NewHadNothing, TakenBackHeldIt}

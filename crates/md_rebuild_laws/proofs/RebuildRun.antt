@@ -10,10 +10,10 @@ use Rattle.md_state.specs.Requests.{AreInFlight}
 use Rattle.md_state.specs.View.{Disk, MirrorView, geometry_of}
 use Rattle.md_array.specs.Consistency.{IsConsistent}
 use Rattle.md_array.specs.Enrolling.{Enrols}
-use Rattle.md_array.specs.Enrolments.{EndsBelow, IsHeldBy, enrol_event, lists_of, prepared}
+use Rattle.md_array.specs.Enrolments.{EndsBelow, IsHeldBy, enrol_event, prepared}
 use Rattle.md_array.specs.InTurn.{AllLeftWhole, AllOf, InTurn, Requests}
 use Rattle.md_array.specs.ReadAsKept.{AreReadAsKept}
-use Rattle.md_array.specs.Worlds.{AreHonest, block_on, world_of}
+use Rattle.md_array.specs.Worlds.{AreHonest, block_on, lists_of, world_of}
 use Rattle.md_array.proofs.General.Resting.{geometry_rests, world_rests}
 use Rattle.md_array.proofs.Steps.Turns.{all_on, all_such}
 use Rattle.md_laws.specs.Left.{contents_of}

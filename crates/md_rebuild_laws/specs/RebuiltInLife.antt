@@ -15,8 +15,8 @@ use Rattle.md_state.specs.Members.{IsMember}
 use Rattle.md_state.specs.Missing.{is_missing, is_re_added}
 use Rattle.md_state.specs.View.{Disk, MirrorView, geometry_of}
 use Rattle.md_array.specs.Consistency.{IsConsistent}
-use Rattle.md_array.specs.Enrolments.{EndsBelow, lists_of}
-use Rattle.md_array.specs.Worlds.{none_in_flight, world_of}
+use Rattle.md_array.specs.Enrolments.{EndsBelow}
+use Rattle.md_array.specs.Worlds.{lists_of, none_in_flight, world_of}
 use Rattle.md_laws.specs.Lives.{MirrorLifeWith}
 use Rattle.md_laws.specs.Runs.{IsStart, Moment}
 use Rattle.md_copy.specs.declared.rebuilt.Rebuilt.{Rebuilt}

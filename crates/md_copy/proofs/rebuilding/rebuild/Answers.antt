@@ -1,6 +1,6 @@
 use Rattle.md_assembly.proofs.Indices.{got_within}
 use Rattle.md_copy.proofs.AnsweredRebuild.{rebuilds, refused_at_once, refused_filled, refused_filling, refused_pass, refused_ready}
-use Rattle.md_copy.proofs.StepsOfRebuild.{may_filled, ready, running_filled, target_then, unspent_filled}
+use Rattle.md_copy.proofs.StepsOfRebuild.{may_filled, ready, running_filled, target_then, unspent_filled, within_then}
 use Rattle.md_copy.proofs.rebuilding.rebuild.Goals as goal
 
 pub returns-in-Err-clause-gives : goal.returns-in-Err-clause-gives
@@ -14,6 +14,11 @@ returns-in-Err-make_ready-clause-gives g c =
     let at = got_within c.args.mirror.now.array.members c.args.target c.requires.within in
     refused_ready c.args.target c.args.mirror.now c.make_ready.new.mirror at.0 at.1 (c.in_default.ensures at.0 at.1) c.in-Err-make_ready.fault (c.in-Err-make_ready.ensures.gives at.0 at.1)
 
+pub prepare-requires-clause-within : goal.prepare-requires-clause-within
+prepare-requires-clause-within g c =
+    let at = got_within c.args.mirror.now.array.members c.args.target c.requires.within in
+    within_then c.args.target c.args.mirror.now c.make_ready.new.mirror at.0 at.1 (c.in_default.ensures at.0 at.1) c.requires.sound (c.in_default-make_ready.ensures.gives at.0 at.1)
+
 pub prepare-requires-clause-target : goal.prepare-requires-clause-target
 prepare-requires-clause-target g c =
     let at = got_within c.args.mirror.now.array.members c.args.target c.requires.within in
@@ -24,6 +29,11 @@ returns-in-Err-prepare-clause-gives g c =
     let at = got_within c.args.mirror.now.array.members c.args.target c.requires.within in
     refused_pass c.args.target c.args.mirror.now c.make_ready.new.mirror at.0 at.1 (c.in_default.ensures at.0 at.1) c.requires.sound (c.in_default-make_ready.ensures.gives at.0 at.1)
     c.in-Err-prepare.fault c.in-Err-prepare.ensures.refused
+
+pub fill-requires-clause-within : goal.fill-requires-clause-within
+fill-requires-clause-within g c κs bounds =
+    let at = got_within c.args.mirror.now.array.members c.args.target c.requires.within in
+    within_then c.args.target c.args.mirror.now c.make_ready.new.mirror at.0 at.1 (c.in_default.ensures at.0 at.1) c.requires.sound (c.in_default-make_ready.ensures.gives at.0 at.1)
 
 pub fill-requires-clause-idle : goal.fill-requires-clause-idle
 fill-requires-clause-idle g c κs bounds =
