@@ -27,8 +27,8 @@ lacks_all true recovering marked passed out none = absurd (true≢false out)
 lacks_all false false marked passed out none = refl
 lacks_all false true true passed out none = refl
 lacks_all false true false false out none = refl
-lacks_all false true false true out (inl no) = absurd (true≢false no)
-lacks_all false true false true out (inr no) = absurd (true≢false no)
+lacks_all false true false true out (inl is) = absurd (true≢false is)
+lacks_all false true false true out (inr is) = absurd (true≢false is)
 
 spare_out : (s : MemberState) → is_spare s ≡ true → (is_in_sync s ≡ false) × (is_recovering s ≡ false)
 spare_out (InSync role) is = absurd cc

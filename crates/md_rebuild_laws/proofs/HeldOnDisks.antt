@@ -1,5 +1,5 @@
 -- What the members in sync hold of the content in the model's world, they hold on their devices.
-use Rattle.std.proofs.Common.{◌≡◌, ◌∙◌, ℕ, ◌+◌, ◌*◌, ◌<◌, inl, false, cond, ◌&&◌, [], slice_get, Some, sym, ap}
+use Rattle.std.proofs.Common.{◌≡◌, ◌∙◌, ℕ, ◌+◌, ◌*◌, ◌<◌, inl, true, false, cond, ◌&&◌, [], slice_get, Some, sym, ap}
 use Rattle.md_device.specs.Splice.{part}
 use Rattle.md_kept_members.specs.View.{MemberView}
 use Rattle.md_model.specs.Content.{Content, Holds}
