@@ -10,7 +10,7 @@ use Rattle.md_assembly.specs.declared.state.MemberState.TheVariants.{InSync, Rec
 use Rattle.md_assembly.specs.States.{is_in_sync, is_recovering, is_spare}
 use Rattle.md_bitmap.specs.declared.chunks.Chunks.{Chunks}
 use Rattle.md_bitmap.specs.Marks.{is_set}
-use Rattle.md_device.specs.Splice.{SameOutside}
+use Rattle.md_device.specs.Splice.{SameOutside, part}
 use Rattle.md_kept_members.specs.Members.{made_due}
 use Rattle.md_kept_members.specs.TakingBack.{admitted_member}
 use Rattle.md_kept_members.specs.View.{MemberView}
@@ -87,6 +87,15 @@ none_at_start size end a b = grind (arith, nat_tests)
 
 some_end : (c w : ℕ) → 0 < w → 0 < (c + 1) * w
 some_end c w h = grind arith
+
+-- nor has an array with a chunk no sector
+none_there : (d w : ℕ) → 0 < w → d * w < 0 + w → 0 < d → ⊥
+none_there zero w wide less some = omega arith
+none_there (suc d) w wide less some = (let more : w ≤ w + d * w = omega arith in omega (arith, more, less))
+
+some_size : (size width count c : ℕ) → c < count → count ≡ div_ceil size width → 0 < width → 0 < size
+some_size zero width count c low is wide = (let bounds = div_ceil_times 0 width wide in absurd (none_there (div_ceil 0 width) width wide bounds.1 (omega (arith, low, is))))
+some_size (suc n) width count c low is wide = omega arith
 
 lacks_new : (marked passed : Bool) → passed ≡ false → lacks false true marked passed ≡ true
 lacks_new true passed none = refl
@@ -193,14 +202,6 @@ module _ (target : ℕ) (v x : MirrorView) (sound : IsConsistent v) (resynced : 
       ∙ none_at_start v.array.chunks.size ((c + 1) * v.array.chunks.sectors) (some_end c v.array.chunks.sectors wide) some in
       ap (λ (z : MemberView). is_missing x.array z c) y_is ∙ lacks_new (is_set x.array.marks.bytes c) (has_passed x.array n c) passed
       ∙ sym (lacks_spare m.state spare (is_set v.array.marks.bytes c) (has_passed v.array m c)) ∙ ap (λ (z : MemberView). is_missing v.array z c) (sym l_is)
-    where
-      some_size : (size width count c : ℕ) → c < count → count ≡ div_ceil size width → 0 < width → 0 < size
-      some_size zero width count c low is wide = (let bounds = div_ceil_times 0 width wide in absurd (none_there (div_ceil 0 width) width wide bounds.1 (omega (arith, low, is))))
-      some_size (suc n) width count c low is wide = omega arith
-
-      none_there : (d w : ℕ) → 0 < w → d * w < 0 + w → 0 < d → ⊥
-      none_there zero w wide less some = omega arith
-      none_there (suc d) w wide less some = (let more : w ≤ w + d * w = omega arith in omega (arith, more, less))
 
   content_kept : AreHonest v.disks → (content : Content) → HasContent v.disks v.array content → HasContent x.disks x.array content
   content_kept honest content has =
