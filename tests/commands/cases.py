@@ -184,6 +184,12 @@ Marked Chunks   : 0 of 8
 DATA = b"first sector".ljust(SECTOR, b".") + b"second sector".ljust(SECTOR, b".")
 BLANK = "\0" * (2 * SECTOR)
 
+# Sectors that hold their numbers, some more than a read puts out at once; and one that no member gives.
+PIECE = 2048
+LONG = PIECE + 8
+NUMBERED = "".join("%*d\n" % (SECTOR - 1, sector) for sector in range(LONG))
+LOST = PIECE + 2
+
 CLEAN = "in sync 2 of 2, events 1, marked 0\n"
 WRITTEN = "in sync 2 of 2, events 3, marked 0\n"
 MARKED = "in sync 1 of 2, events 10, marked 8\n"
@@ -206,6 +212,7 @@ REBUILT_FROM_ONE = (
 )
 
 TWO = {"a": ZEROS, "b": ZEROS}
+TWO_LONG = {"a": bytes((2048 + LONG) * SECTOR), "b": bytes((2048 + LONG) * SECTOR)}
 THREE = {"a": ZEROS, "b": ZEROS, "c": ZEROS}
 
 
@@ -252,6 +259,11 @@ def added(number):
 def listing(first):
     """The image of a member that lists a sector of chunk 5 as bad."""
     return members.with_bad_blocks(first, [(2048 + 43, 1)])
+
+
+def lacking(first):
+    """The image of a member of the long array that holds the numbers of its sectors, and lists one as bad."""
+    return members.with_bad_blocks(members.with_data(first, 0, NUMBERED.encode()), [(2048 + LOST, 1)])
 
 
 def without_log(first):
@@ -387,6 +399,19 @@ CASES = [
             Step("check b a", AGREE),
             Step("resync a b", WRITTEN),
             Step("stop a b", WRITTEN),
+        ],
+    ),
+    (
+        "more is read than is put out at once",
+        TWO_LONG,
+        [
+            create("raid1", 2, 4, "--assume-clean a b", output=CLEAN, changes="a b"),
+            Made("a", "a", lacking),
+            Made("b", "b", lacking),
+            Step("read --sector 0 --count %d a b" % LOST, NUMBERED[: LOST * SECTOR]),
+            Step("read --sector 0 --count %d a b" % LONG, NUMBERED[: LOST * SECTOR], fault="Unreadable %d" % LOST),
+            # So many are put out whole or not at all.
+            Step("read --sector 8 --count %d a b" % PIECE, fault="Unreadable %d" % LOST),
         ],
     ),
     (

@@ -7,6 +7,8 @@ mod array_checks;
 #[cfg(test)]
 mod checks;
 #[cfg(test)]
+mod failing_reads;
+#[cfg(test)]
 mod gates;
 #[cfg(test)]
 mod left;

@@ -136,7 +136,7 @@ fn data_of(member: &Member) -> [u8; WHOLE] {
     data
 }
 
-fn device_of(alloc: Global, member: &Member) -> Result<MemDevice, Fail> {
+pub(crate) fn device_of(alloc: Global, member: &Member) -> Result<MemDevice, Fail> {
     let mut device = member_image(alloc, &superblock_of(member), &bitmap_of(member))?;
     device.write(LOG, &log_of(member))?;
     device.write(DATA, &data_of(member))?;

@@ -188,7 +188,9 @@ fn read_advice(fault: UnreadFault) -> &'static str {
     match fault {
         UnreadFault::OutOfRange => WITHIN_ARRAY,
         UnreadFault::NotResynced => RESYNC_FIRST,
-        UnreadFault::Unreadable(_) => "read the sectors before it and those after it",
+        UnreadFault::Unreadable(_) => {
+            "read the sectors after it, and, where no more than 1 MiB was asked for, those before it"
+        }
         UnreadFault::Halted => SEE_DEVICE,
     }
 }

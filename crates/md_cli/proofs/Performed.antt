@@ -1,6 +1,6 @@
 -- No task wins or loses a device.
 use Rattle.std.proofs.Common.{ℕ, length, Result, Ok, Err, MatchResult, ap}
-use Rattle.md_commands.proofs.DeviceCounts.{AsMany, checks_as_many, done_check, done_fail, done_resync, done_write, fails_as_many, reads_as_many, resyncs_as_many, stops_as_many, writes_as_many, stopped, read_readied}
+use Rattle.md_commands.proofs.DeviceCounts.{AsMany, checks_as_many, done_check, done_fail, done_read, done_resync, done_write, fails_as_many, reads_as_many, resyncs_as_many, stops_as_many, writes_as_many, stopped}
 use Rattle.md_commands.proofs.RebuildCounts.{done_rebuild, rebuilds_as_many}
 use Rattle.md_commands.specs.declared.fault.DataFault.{DataFault}
 use Rattle.md_commands.specs.declared.source.Source.{Ghosts as SourceGhosts}
@@ -38,7 +38,7 @@ module _ {R S : Type 0} (r : SourceGhosts R) (s : SinkGhosts S) (opened left : M
   as_many task.Summary result h = ap (λ (v : MirrorView). length v.disks) h.0
   as_many task.Detail result h = ap (λ (v : MirrorView). length v.disks) h.0
   as_many (task.Plan k) result h = ap (λ (v : MirrorView). length v.disks) h.0
-  as_many (task.Read sector count) (Ok v) h = read_readied sector count h.1.bytes opened left h.1.reads
+  as_many (task.Read sector count) (Ok v) h = done_read s opened left old.output new.output sector count h.1
   as_many (task.Read sector count) (Err f) h =
       of_data (RefusesToRead s sector count opened left old.output new.output) f h.1 (reads_as_many s opened left old.output new.output sector count)
   as_many task.Check (Ok v) h = done_check s opened left old.output new.output h.1

@@ -1,5 +1,5 @@
 -- Of the commands that don't rebuild, only `add` wins a device, and only `remove` loses one.
-use Rattle.std.proofs.Common.{◌≡◌, ◌∙◌, ◌⊎◌, inl, inr, ⊎_elim, ℕ, ◌+◌, Bool, true, false, List, [], ◌∷◌, ◌++◌, length, Option, Some, None, Result, Ok, Err, MatchResult, refl, sym, ap}
+use Rattle.std.proofs.Common.{◌≡◌, ◌∙◌, ◌⊎◌, inl, inr, ⊎_elim, ℕ, ◌+◌, ◌/◌, Bool, true, false, List, [], ◌∷◌, ◌++◌, length, Option, Some, None, Result, Ok, Err, MatchResult, refl, sym, ap}
 use Rattle.std.proofs.lemmas.List.{length-append}
 use Rattle.std.proofs.lemmas.List.Edits.{length-remove}
 use Rattle.std.proofs.lemmas.Option.{none-some, slice_get_within}
@@ -31,7 +31,6 @@ use Rattle.md_metadata.specs.Stopping.{IsStopping, RefusesStop, Stops}
 use Rattle.md_check.specs.declared.fault.CheckFault.{CheckFault}
 use Rattle.md_check.specs.declared.fault.CheckFault.TheVariants as check
 use Rattle.md_check.specs.Checking.{RefusesCheck}
-use Rattle.md_read.specs.declared.fault.UnreadFault.{UnreadFault}
 use Rattle.md_read.specs.declared.fault.UnreadFault.TheVariants as unread
 use Rattle.md_resync.specs.declared.fault.ResyncFault.{ResyncFault}
 use Rattle.md_resync.specs.declared.fault.ResyncFault.TheVariants as resync
@@ -45,7 +44,8 @@ use Rattle.md_commands.specs.declared.source.Source.{Ghosts as SourceGhosts}
 use Rattle.md_commands.specs.Adding.{KeepsDevice}
 use Rattle.md_commands.specs.Checking.{ChecksMembers, RefusesToCheck}
 use Rattle.md_commands.specs.Failing.{RefusesToFail}
-use Rattle.md_commands.specs.Reading.{ReadsWhenReady, RefusesSectorsOf, RefusesToRead}
+use Rattle.md_commands.specs.Pieces.{ReadsPieces, ReadsSectors, ReadsSome, ReadsUpTo, RefusesSectors}
+use Rattle.md_commands.specs.Reading.{FailsReadied, ReadsArray, RefusesToRead}
 use Rattle.md_commands.specs.Removing.{HandsBack, RefusesRemoving}
 use Rattle.md_commands.specs.Resyncing.{RefusesNeededResync, RefusesToResync, ResyncsIfNeeded, needs_resync}
 use Rattle.md_commands.specs.Stopping.{FailsToStop, FailsToStopArray, RefusesToStop, StopsAfter, StopsArray, StopsArrayAfter}
@@ -226,14 +226,25 @@ stopped_after Through old new through s = stopped s.mid new s.stops ∙ through 
 pub fails_after : (Through : MirrorView → Type 0) (old new : MirrorView) (fault : StopFault) → ((mid : MirrorView) → Through mid → AsMany old mid) → FailsToStop Through new fault → AsMany old new
 fails_after Through old new fault through s = not_stopped fault s.mid new s.refused ∙ through s.mid s.through
 
-pub read_readied : (sector count : ℕ) (bytes : List ℕ) (old new : MirrorView) → ReadsWhenReady sector count bytes old new → AsMany old new
-read_readied sector count bytes old new r = r.reads.reads.rests.disks.same.as_many ∙ readied old r.ready r.readied
+pieces_read : (sector : ℕ) (pieces : List (List ℕ)) (old new : MirrorView) → ReadsPieces sector pieces old new → AsMany old new
+pieces_read sector [] old new h = same old new h
+pieces_read sector (piece ∷ pieces) old new h = pieces_read (sector + length piece / 512) pieces h.0 new h.2 ∙ h.1.reads.rests.disks.same.as_many
 
-not_read_of : (fault : UnreadFault) (sector count : ℕ) (old new : MirrorView) → RefusesSectorsOf sector count old new fault → AsMany old new
-not_read_of unread.Halted sector count old new h = refused old new _ h
-not_read_of unread.OutOfRange sector count old new h = refused old new _ h
-not_read_of unread.NotResynced sector count old new h = refused old new _ h
-not_read_of (unread.Unreadable s) sector count old new h = h.fails.refused.1.rests.disks.same.as_many ∙ readied old h.ready h.readied
+sectors_read : (sector : ℕ) (bytes : List ℕ) (old new : MirrorView) → ReadsSectors sector bytes old new → AsMany old new
+sectors_read sector bytes old new h = pieces_read sector h.pieces old new h.each
+
+read_up_to : (sector count s : ℕ) (bytes : List ℕ) (old new : MirrorView) → ReadsUpTo sector count s bytes old new → AsMany old new
+read_up_to sector count s bytes old new h = h.unread.1.rests.disks.same.as_many ∙ sectors_read sector h.done old h.mid h.reads
+
+some_read : (sector count : ℕ) (old new : MirrorView) → ReadsSome sector count old new → AsMany old new
+some_read sector count old new h = ⊎_elim (λ r. sectors_read sector r.0 old new r.2) (λ r. read_up_to sector count r.0 r.1 old new r.2) h
+
+sectors_refused : {S : Type 0} (s : SinkGhosts S) (sector count : ℕ) (old new : MirrorView) (before after : S) (fault : DataFault)
+    → RefusesSectors s sector count old new before after fault → AsMany old new
+sectors_refused s sector count old new before after NoMemory h = same old new h.0
+sectors_refused s sector count old new before after (Read (unread.Unreadable x)) h = read_up_to sector count x h.bytes old new h.reads
+sectors_refused s sector count old new before after OutputFault h = some_read sector count old new h.0
+sectors_refused s sector count old new before after fault h = absurd h
 
 not_checked : (fault : CheckFault) (old new : MirrorView) → RefusesCheck old new fault → AsMany old new
 not_checked check.Halted old new h = refused old new _ h
@@ -256,12 +267,22 @@ module _ {S : Type 0} (s : SinkGhosts S) (old new : MirrorView) (before after : 
   resyncs_as_many OutputFault h = stopped_after (Resyncs old) old new (resynced old) h.0
   resyncs_as_many fault h = absurd h
 
-  pub reads_as_many : (sector count : ℕ) (fault : DataFault) → RefusesToRead s sector count old new before after fault → AsMany old new
-  reads_as_many sector count (Read fault) h = not_read_of fault sector count old new h.0
-  reads_as_many sector count (Resync fault) h = not_readied fault old new h.1
-  reads_as_many sector count NoMemory h = readied old new h.0.readied
-  reads_as_many sector count OutputFault h = read_readied sector count h.bytes old new h.reads
-  reads_as_many sector count fault h = absurd h
+  module _ (sector count : ℕ) where
+    pub done_read : ReadsArray s sector count old new before after → AsMany old new
+    done_read h = sectors_read sector h.puts.bytes h.ready new h.puts.reads ∙ readied old h.ready h.readied.readied
+
+    fails_readied : (fault : DataFault) → FailsReadied s sector count old new before after fault → AsMany old new
+    fails_readied fault h = sectors_refused s sector count h.ready new before after fault h.refused ∙ readied old h.ready h.readied.readied
+
+    pub reads_as_many : (fault : DataFault) → RefusesToRead s sector count old new before after fault → AsMany old new
+    reads_as_many (Read unread.Halted) h = refused old new _ h.0
+    reads_as_many (Read unread.OutOfRange) h = refused old new _ h.0
+    reads_as_many (Read unread.NotResynced) h = refused old new _ h.0
+    reads_as_many (Read (unread.Unreadable x)) h = fails_readied (Read (unread.Unreadable x)) h
+    reads_as_many (Resync fault) h = not_readied fault old new h.1
+    reads_as_many NoMemory h = fails_readied NoMemory h
+    reads_as_many OutputFault h = fails_readied OutputFault h
+    reads_as_many fault h = absurd h
 
   pub done_check : ChecksMembers s old new before after → AsMany old new
   done_check h = h.checks.rests.disks.same.as_many

@@ -1,5 +1,7 @@
 pub mod Checked
 pub mod DeviceCounts
+pub mod PiecesPut
+pub mod PiecesRead
 pub mod ReadReadied
 pub mod RebuildCounts
 pub mod RebuildPending

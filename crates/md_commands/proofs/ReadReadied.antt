@@ -1,16 +1,16 @@
 -- Sectors are read after a resync, where one was needed.
-use Rattle.std.proofs.Common.{◌≡◌, ◌∙◌, ◌/◌, ◌&&◌, ℕ, Bool, true, false, not, List, length, refl, sym, ap, subst, arith}
+use Rattle.std.proofs.Common.{◌≡◌, ◌∙◌, ◌&&◌, ℕ, Bool, true, false, not, refl, sym, ap}
 use Rattle.std.specs.Prelude.{MatchResult, Result, Ok, Err}
 use Rattle.md_examine.specs.declared.sink.Sink.{Ghosts}
-use Rattle.md_read.specs.declared.fault.UnreadFault.{UnreadFault}
-use Rattle.md_read.specs.declared.fault.UnreadFault.TheVariants.{Halted, NotResynced, OutOfRange, Unreadable}
+use Rattle.md_read.specs.declared.fault.UnreadFault.TheVariants.{Unreadable}
+use Rattle.md_read.specs.Reading.{MayReadAt}
 use Rattle.md_state.specs.Members.{is_degraded}
 use Rattle.md_state.specs.Trying.{Refuses}
 use Rattle.md_state.specs.View.{ArrayView, MirrorView}
 use Rattle.md_commands.specs.declared.fault.DataFault.{DataFault}
-use Rattle.md_commands.specs.declared.fault.DataFault.TheVariants.{NoMemory, Read}
-use Rattle.md_commands.specs.Output.{FailsOutput, PutsOut}
-use Rattle.md_commands.specs.Reading.{FailsSectors, FindsNoMemory, MayReadArray, MustBeResynced, ReadsArray, ReadsWhenReady, RefusesSectors, RefusesSectorsOf, RefusesToRead}
+use Rattle.md_commands.specs.declared.fault.DataFault.TheVariants.{NoMemory, OutputFault, Read}
+use Rattle.md_commands.specs.Pieces.{PutsSectors, RefusesSectors}
+use Rattle.md_commands.specs.Reading.{IsReadied, MayReadArray, MustBeResynced, ReadsArray, RefusesToRead}
 use Rattle.md_commands.specs.Resyncing.{ResyncsIfNeeded, needs_resync}
 
 module _ (old ready : MirrorView) (readied : ResyncsIfNeeded old ready) where
@@ -40,33 +40,29 @@ module _ (old ready : MirrorView) (readied : ResyncsIfNeeded old ready) where
               reason = record { may = may; not_yet = still; complete = not_degraded (is_degraded old.array) old.array.resynced still is };
             }
 
-  module _ (sector count : ℕ) (may : MayReadArray old.array sector count) (resynced : ready.array.resynced ≡ true) (new : MirrorView) where
-    fails_readied : (fault : UnreadFault) → FailsSectors sector count ready new fault → RefusesSectorsOf sector count old new fault
-    fails_readied Halted fails =
-        let same = halted_at (needs_resync old.array) refl in
-        let halted = fails.refused.reason in
-        let running = may.running in
-        absurd cc
-    fails_readied OutOfRange fails =
+  module _ (sector count : ℕ) (may : MayReadArray old.array sector count) (resynced : ready.array.resynced ≡ true) where
+    pub may_read : MayReadAt ready.array sector count
+    may_read =
         let size = size_at (needs_resync old.array) refl in
-        let range = may.range in
-        let inside = range.inside in
-        let many : length fails.bytes / 512 ≡ count = rw fails.many (omega arith) in
-        absurd (fails.refused.reason.out (record { some = rw many range.some; inside = rw (many, size) inside }))
-    fails_readied NotResynced fails = let not_yet = fails.refused.reason.not_yet in absurd cc
-    fails_readied (Unreadable s) fails = record { may = may; ready = ready; readied = readied; fails = fails }
+        let inside = may.range.inside in
+        record {
+          running = halted_at (needs_resync old.array) refl ∙ may.running;
+          range = record { some = may.range.some; inside = rw size inside };
+          resynced = resynced;
+        }
 
-    module _ {S : Type 0} (s : Ghosts S) (before : S) where
-      pub refuses_readied : (fault : DataFault) → RefusesSectors sector count ready new fault → RefusesToRead s sector count old new before before fault
-      refuses_readied NoMemory is =
-          (subst (FindsNoMemory sector count old) (sym is) (record { may = may; readied = readied; resynced = resynced }), refl)
-      refuses_readied (Read fault) fails = (fails_readied fault fails, refl)
+    module _ {S : Type 0} (o : Ghosts S) (new : MirrorView) (before after : S) where
+      is_readied : IsReadied sector count old ready
+      is_readied = record { may = may; readied = readied; resynced = resynced }
+
+      refuses_readied : (fault : DataFault) → RefusesSectors o sector count ready new before after fault → RefusesToRead o sector count old new before after fault
+      refuses_readied NoMemory h = record { ready = ready; readied = is_readied; refused = h }
+      refuses_readied (Read (Unreadable s)) h = record { ready = ready; readied = is_readied; refused = h }
+      refuses_readied OutputFault h = record { ready = ready; readied = is_readied; refused = h }
       refuses_readied fault h = absurd h
 
--- the end of the command
-pub shown_or_not : {S : Type 0} (s : Ghosts S) (sector count : ℕ) (bytes : List ℕ) (old new : MirrorView) (before after : S) → ReadsWhenReady sector count bytes old new
-    → (result : Result (Unit {0}) DataFault) → MatchResult result (λ _. PutsOut s before after bytes) (FailsOutput s after)
-    → MatchResult result (λ _. ReadsArray s sector count old new before after) (RefusesToRead s sector count old new before after)
-shown_or_not s sector count bytes old new before after reads (Ok x) shown = record { bytes = bytes; reads = reads; shown = shown }
-shown_or_not s sector count bytes old new before after reads (Err fault) fails =
-    subst (λ (f : DataFault). RefusesToRead s sector count old new before after f) (sym fails.is) (record { bytes = bytes; reads = reads; failed = fails.failed })
+      pub read_or_not : (result : Result (Unit {0}) DataFault)
+          → MatchResult result (λ _. PutsSectors o sector count ready new before after) (RefusesSectors o sector count ready new before after)
+          → MatchResult result (λ _. ReadsArray o sector count old new before after) (RefusesToRead o sector count old new before after)
+      read_or_not (Ok x) puts = record { ready = ready; readied = is_readied; puts = puts }
+      read_or_not (Err fault) h = refuses_readied fault h

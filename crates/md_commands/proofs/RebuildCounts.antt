@@ -1,5 +1,5 @@
 -- A rebuild wins and loses no device, and of the commands that rebuild only the one that takes a device back wins it.
-use Rattle.std.proofs.Common.{◌≡◌, ◌∙◌, ⊎_elim, ℕ, ◌+◌, List, [], ◌∷◌, length, None, Some, Result, Ok, Err, MatchResult, ap}
+use Rattle.std.proofs.Common.{◌≡◌, ◌∙◌, ⊎_elim, ℕ, ◌+◌, [], ◌∷◌, length, None, Some, Result, Ok, Err, MatchResult, ap}
 use Rattle.std.proofs.lemmas.List.{length-append}
 use Rattle.md_bitmap.specs.Marks.{Bitmap}
 use Rattle.md_plan.specs.declared.planner.Planned.{Planned}

@@ -1,5 +1,5 @@
 -- A rebuild leaves each request in flight: where there is one it is refused, and does nothing.
-use Rattle.std.proofs.Common.{◌≡◌, ⊎_elim, ℕ, Some, None, Result, Ok, Err, MatchResult, sym, subst}
+use Rattle.std.proofs.Common.{◌≡◌, ⊎_elim, ℕ, Result, Ok, Err, MatchResult, sym, subst}
 use Rattle.md_requests.specs.Pending.{PendingView, extent_of}
 use Rattle.md_state.specs.MakingClean.{IsIdle}
 use Rattle.md_state.specs.Requests.{IsPending}

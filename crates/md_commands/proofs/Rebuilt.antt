@@ -5,7 +5,7 @@ use Rattle.md_examine.specs.declared.sink.Sink.{Ghosts}
 use Rattle.md_report.specs.RebuiltReport.{rebuilt_text}
 use Rattle.md_state.specs.View.{Disk, MirrorView}
 use Rattle.md_commands.specs.declared.fault.DataFault.{DataFault}
-use Rattle.md_commands.specs.declared.fault.DataFault.TheVariants.{OutputFault, ReAdd, Rebuild, Resync, Stop}
+use Rattle.md_commands.specs.declared.fault.DataFault.TheVariants.{ReAdd, Rebuild, Resync, Stop}
 use Rattle.md_commands.specs.Failing.{HasMember}
 use Rattle.md_commands.specs.Output.{FailsOutput, PutsOut}
 use Rattle.md_commands.specs.ReAdding.{ComesBackReadied, RebuildsMember, ReAddsDevice, RefusesRebuilding, RefusesToReAdd}

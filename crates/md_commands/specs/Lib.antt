@@ -8,6 +8,8 @@ pub mod Failing
 pub mod Input
 -- What a command puts out.
 pub mod Output
+-- Sectors of the array are read and put out piece by piece.
+pub mod Pieces
 -- The command that takes a device back.
 pub mod ReAdding
 -- The command that reads an array.

@@ -17,7 +17,7 @@ pub enum DataFault {
     /// A read of the input failed.
     #[error("InputFault")]
     InputFault,
-    /// There was no memory for the input, or for the sectors that are read.
+    /// There was no memory for the input, or for a piece of the sectors that are read.
     #[error("NoMemory")]
     NoMemory,
     /// The input is longer than the array.
@@ -59,7 +59,7 @@ pub enum DataFault {
     /// The array is not stopped.
     #[error("{0}")]
     Stop(StopFault),
-    /// The output failed. All else is done.
+    /// The output failed. All else is done; sectors were read as far as they were put out.
     #[error("OutputFault")]
     OutputFault,
 }

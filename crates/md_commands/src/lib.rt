@@ -10,6 +10,7 @@ mod fault;
 mod input;
 mod named_member;
 mod output;
+mod pieces;
 mod re_adding;
 mod reading;
 mod rebuilding;

@@ -1,27 +1,28 @@
 // The command that reads an array.
-ghost use Rattle.std.specs.Prelude.{MatchResult};
+ghost use Rattle.std.specs.Prelude.{◌+◌, ◌^◌, ◌<◌, IfOk, MatchResult};
 ghost use Rattle.md_requests.specs.Pending.{PendingView};
 ghost use Rattle.md_state.specs.Requests.{IsPending};
 ghost use Rattle.md_array.specs.Consistency.{IsConsistent};
-ghost use Rattle.md_commands.specs.Reading.{MayReadArray, ReadsArray, ReadsSectors, RefusesRange, RefusesSectors, RefusesToRead};
+ghost use Rattle.md_commands.specs.Reading.{MayReadArray, ReadsArray, RefusesRange, RefusesToRead};
 
-use crate::buffer::buffer;
 use crate::fault::DataFault;
-use crate::output::put_out;
+use crate::pieces::put_sectors;
 use crate::resyncing::resync_if_needed;
 use md_array::Mirror;
 use md_device::Device;
 use md_examine::Sink;
-use md_read::{UnreadFault, read};
+use md_read::UnreadFault;
 use std::alloc::Global;
 
 /// Puts out `count` sectors of an array, from this one on. A degraded array that is not resynced is resynced
-/// first. All of the bytes are held in memory before any is put out: where the array is not read to the end,
-/// the output has none.
+/// first. They are read and put out in pieces of 1 MiB, which is all the memory that they take.
 ///
 /// That the mirror is halted, or the range empty or past the end, is looked for before anything else: that is
 /// `Read` with `Halted` or `OutOfRange`. That members in sync may differ, which is `Read` with `NotResynced`, is
 /// looked for before memory is taken.
+///
+/// `Read` with `Unreadable` comes while sectors are read. Of a range of one piece nothing has been put out then, of
+/// a longer one the sectors before the unreadable one.
 ///
 ///     let mut out = Output::new(rt.stdout());
 ///     read_array(rt.alloc(), &mut mirror, 8, 2, &mut out)?; // puts out the 1024 bytes of sectors 8 and 9
@@ -42,8 +43,7 @@ pub fn read_array<D: Device + Drop, S: Sink>(
     if !mirror.resynced() {
         return Err(DataFault::Read(UnreadFault::NotResynced));
     }
-    let bytes = read_sectors(alloc, mirror, sector, count)?;
-    put_out(out, &bytes)
+    put_sectors(alloc, mirror, sector, count, out)
 }
 
 // Whether the mirror runs, and the array has these sectors.
@@ -52,7 +52,8 @@ fn check_range<D: Device + Drop>(
     sector: u64,
     count: u64,
 ) -> Result<(), UnreadFault>
-    ensures { MatchResult result (λ _. MayReadArray mirror.now.array sector count) (RefusesRange sector count mirror.now mirror.now) }
+    ensures may { MatchResult result (λ _. MayReadArray mirror.now.array sector count) (RefusesRange sector count mirror.now mirror.now) }
+    ensures fits { IfOk result (λ _. sector + count < 2 ^ 64) }
 {
     if mirror.halted() {
         return Err(UnreadFault::Halted);
@@ -62,21 +63,4 @@ fn check_range<D: Device + Drop>(
         return Err(UnreadFault::OutOfRange);
     }
     Ok(())
-}
-
-// Reads sectors of the array into memory.
-fn read_sectors<D: Device + Drop>(
-    alloc: Global,
-    mirror: &mut Mirror<D>,
-    sector: u64,
-    count: u64,
-) -> Result<Vec<u8>, DataFault>
-    requires sound { IsConsistent mirror.old }
-    ensures gives { MatchResult result (λ bytes. ReadsSectors sector count bytes.items mirror.old mirror.new) (RefusesSectors sector count mirror.old mirror.new) }
-    ensures sound { IsConsistent mirror.new }
-    ensures pending { (p : PendingView) → IsPending mirror.old.array p → IsPending mirror.new.array p }
-{
-    let mut bytes = buffer(alloc, count)?;
-    read(mirror, sector, &mut bytes)?;
-    Ok(bytes)
 }

@@ -17,11 +17,8 @@ use Rattle.md_device.specs.Device.{held}
 use Rattle.md_state.specs.Members.{IsMember}
 use Rattle.md_state.specs.ReadingData.{FailsToRead, ReadsData}
 use Rattle.md_state.specs.View.{ArrayView, MirrorView}
-use Rattle.md_state.specs.Rests.{Rests}
 use Rattle.md_state.proofs.Members.At.{told}
-use Rattle.md_read.specs.declared.roles.Answer.{Answer}
-use Rattle.md_read.specs.declared.roles.Answer.TheVariants as answer
-use Rattle.md_read.specs.Reading.{GivesIn, HasRole, IsInRole, NotGivenIn, TriesRole}
+use Rattle.md_read.specs.Reading.{GivesIn, HasRole, IsInRole, NotGivenIn}
 
 -- ---- what is listed
 
@@ -92,9 +89,9 @@ module _ (old : MirrorView) (sound : IsConsistent old) (role k sector sectors : 
       let it : m ≡ is.member = same_Some m is.member (sym at ∙ subst (λ (i : ℕ). IsMember old.array i is.member) (sym same) is.at) in
       inl (subst (λ (x : MemberView). Lists x s) (sym it) (all s from below))
 
-  -- of one sector whose read failed
-  pub one_failed : (new : MirrorView) → FailsToRead k old new → (s : ℕ) → NotGivenIn role s old new
-  one_failed new fails s j m at as_role =
+  -- its read failed
+  pub read_failed : (new : MirrorView) → FailsToRead k old new → (s : ℕ) → NotGivenIn role s old new
+  read_failed new fails s j m at as_role =
       let same : j ≡ k = only_one old sound role k j is m at as_role in
       inr (subst (λ (i : ℕ). AtDevice i old.disks new.disks (λ d e. d.honest ≡ true → d.failures < e.failures)) (sym same) fails.failed)
 
@@ -113,11 +110,3 @@ module _ (old : MirrorView) (sound : IsConsistent old) (role k sector sectors : 
         subst (λ (c : List ℕ). held c (m.superblock.data_offset + sector) (length bytes) ≡ bytes) kept
         (reads.holds e.0 m e.1 (ap (λ (a : ArrayView). slice_get a.members k) reads.rests.array ∙ there) (stays.honest ∙ honest));
   }
-
--- not read: of one sector it is known that the role does not give it
-pub unread_answer : (role sector : ℕ) (was bytes : List ℕ) (old new : MirrorView) (a : Answer) → (length was / 512 ≡ 1 → a ≡ answer.Nothing) → (1 < length was / 512 → a ≡ answer.Perhaps)
-    → 512 ≤ length was → Rests old new → (length was / 512 ≡ 1 → (s : ℕ) → sector ≤ s → s < sector + length was / 512 → NotGivenIn role s old new) → TriesRole role sector was bytes old new a
-unread_answer role sector was bytes old new a one more some rests none =
-    by_same (length was / 512) 1
-    (λ same. subst (TriesRole role sector was bytes old new) (sym (one same)) (rests, none same))
-    (λ apart. let many : 1 < length was / 512 = omega arith in subst (TriesRole role sector was bytes old new) (sym (more many)) (rests, many))

@@ -6,6 +6,8 @@ use Rattle.md_model.proofs.Puts.{by_same}
 use Rattle.md_state.specs.ReadingData.{HoldsData}
 use Rattle.md_state.specs.Rests.{Rests}
 use Rattle.md_state.specs.View.{ArrayView, MirrorView}
+use Rattle.md_array.specs.Consistency.{IsConsistent}
+use Rattle.md_array.proofs.Worlds.SectorCopied.{in_sync_as}
 use Rattle.md_laws.proofs.Runs.Rests.{rests_same, rests_then}
 use Rattle.md_read.specs.Reading.{GivesIn, GivesRun, IsGiven, IsInRole, NotGivenIn}
 use Rattle.md_assembly.proofs.Indices.{got_within}
@@ -91,6 +93,13 @@ pub record NoneBelow (role sector sectors : ℕ) (old new : MirrorView) : Type 0
 
 pub none_first : (sector sectors : ℕ) (m : MirrorView) → NoneBelow 0 sector sectors m m
 none_first sector sectors m = record { rests = rests_same m; none = λ lower low s from below. absurd (omega arith) }
+
+-- every role was tried
+pub none_in_any : (old new : MirrorView) → IsConsistent old → (last sector sectors : ℕ) → old.array.shared.raid_disks ≤ last → NoneBelow last sector sectors old new
+    → (role s : ℕ) → sector ≤ s → s < sector + sectors → NotGivenIn role s old new
+none_in_any old new sound last sector sectors all so_far role s from below k m at as_role =
+    let low = sound.roles.below k role m at (in_sync_as role m.state as_role).1 in
+    so_far.none role (omega arith) s from below k m at as_role
 
 module _ (role sector : ℕ) (old mid new : MirrorView) where
   pub none_more : (sectors : ℕ) → NoneBelow role sector sectors old mid → Rests mid new → ((s : ℕ) → sector ≤ s → s < sector + sectors → NotGivenIn role s mid new) → NoneBelow (role + 1) sector sectors old new

@@ -1,5 +1,5 @@
 -- A run of sectors that was given is so in each of them.
-use Rattle.std.proofs.Common.{◌≡◌, ℕ, ◌+◌, ◌*◌, ◌-◌, ◌/◌, ◌%◌, ◌<◌, ◌≤◌, List, ◌++◌, length, take, drop, refl, sym, ap, ◌∙◌, arith, length-append, length-drop, drop-drop}
+use Rattle.std.proofs.Common.{◌≡◌, ℕ, ◌+◌, ◌*◌, ◌/◌, ◌%◌, ◌<◌, ◌≤◌, List, ◌++◌, length, take, drop, refl, sym, ap, ◌∙◌, arith, length-append, length-drop, drop-drop}
 use Rattle.std.proofs.lemmas.List.{drop-append-le, drop-take, drop_at, length-take-le, take-append-le}
 use Rattle.std.proofs.lemmas.Slice.{take-put_mid_below}
 use borrow.Rule.Slice.PartMut.{put_mid}
@@ -23,10 +23,15 @@ part_end xs ys at n = ap (take n) (sym (drop-drop at (length xs) (xs ++ ys)) ∙
 pub held_front : (xs ys : List ℕ) (i : ℕ) → i < length xs / 512 → held (xs ++ ys) i 512 ≡ held xs i 512
 held_front xs ys i low = part_front xs ys (512 * i) 512 (omega arith)
 
--- where the list's rest, from a place on, was replaced
+pub held_end : (xs ys : List ℕ) (i : ℕ) → length xs % 512 ≡ 0 → held (xs ++ ys) (length xs / 512 + i) 512 ≡ held ys i 512
+held_end xs ys i whole =
+    let place : 512 * (length xs / 512 + i) ≡ length xs + 512 * i = omega arith in
+    ap (λ (at : ℕ). part (xs ++ ys) at 512) place ∙ part_end xs ys (512 * i) 512
+
+-- where a part of the list was replaced
 module _ (done n : ℕ) (xs ys : List ℕ) (inside : done ≤ length xs) where
-  pub length-replaced : n ≡ length xs - done → length ys ≡ n → length (put_mid done n xs ys) ≡ length xs
-  length-replaced rest as_long =
+  pub length-replaced : done + n ≤ length xs → length ys ≡ n → length (put_mid done n xs ys) ≡ length xs
+  length-replaced within as_long =
       let front = length-take-le done xs inside in
       let past = length-drop done xs in
       let none = length-drop n (drop done xs) in

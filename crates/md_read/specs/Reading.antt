@@ -99,6 +99,7 @@ pub record GivesIn (role sector : ℕ) (bytes : List ℕ) (old new : MirrorView)
 abbrev pub TriesRole : ℕ → ℕ → List ℕ → List ℕ → MirrorView → MirrorView → Answer → Type 0
 TriesRole role sector was bytes old new answer.All = Rests old new × GivesIn role sector bytes old new
 TriesRole role sector was bytes old new answer.Nothing = Rests old new × ((s : ℕ) → sector ≤ s → s < sector + length was / 512 → NotGivenIn role s old new)
+TriesRole role sector was bytes old new answer.Failed = Rests old new × ((s : ℕ) → sector ≤ s → s < sector + length was / 512 → NotGivenIn role s old new)
 TriesRole role sector was bytes old new answer.Perhaps = Rests old new × (1 < length was / 512)
 
 -- ---- a run of sectors
@@ -110,6 +111,7 @@ pub record GivesRun (sector : ℕ) (bytes : List ℕ) (old new : MirrorView) : T
 abbrev pub TriesRoles : ℕ → List ℕ → List ℕ → MirrorView → MirrorView → Answer → Type 0
 TriesRoles sector was bytes old new answer.All = Rests old new × GivesRun sector bytes old new
 TriesRoles sector was bytes old new answer.Nothing = Rests old new × ((role s : ℕ) → sector ≤ s → s < sector + length was / 512 → NotGivenIn role s old new)
+TriesRoles sector was bytes old new answer.Failed = Rests old new × ((role s : ℕ) → sector ≤ s → s < sector + length was / 512 → NotGivenIn role s old new)
 TriesRoles sector was bytes old new answer.Perhaps = Rests old new × (1 < length was / 512)
 
 -- so many of the sectors were given

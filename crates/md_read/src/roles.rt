@@ -17,9 +17,11 @@ use md_device::Device;
 pub(crate) enum Answer {
     /// The member in sync in the role gave all of them.
     All,
-    /// It gives none of them, or there is none.
+    /// It lists all of them, or there is none.
     Nothing,
-    /// It may give some of them.
+    /// A read of them failed. Of fewer it may give some.
+    Failed,
+    /// It lists some of them, and may give the others.
     Perhaps,
 }
 
@@ -97,19 +99,6 @@ pub(crate) fn read_in<D: Device + Drop>(
     }
     match mirror.read_data(k, sector, buf) {
         Ok(()) => Answer::All,
-        Err(_) => unread(sectors),
-    }
-}
-
-// Of one sector it is known that the member doesn't give it.
-fn unread(sectors: u64) -> Answer
-    requires { 0 < sectors }
-    ensures one { sectors ≡ 1 → result ≡ Answer.Nothing }
-    ensures more { 1 < sectors → result ≡ Answer.Perhaps }
-{
-    if sectors == 1 {
-        Answer::Nothing
-    } else {
-        Answer::Perhaps
+        Err(_) => Answer::Failed,
     }
 }

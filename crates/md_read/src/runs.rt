@@ -8,7 +8,9 @@ use crate::roles::{Answer, read_in};
 use md_array::Mirror;
 use md_device::Device;
 
-// Reads these sectors in the lowest role whose member may give some of them.
+// Reads these sectors in the lowest role whose member gives them. Where a read of them fails the next roles
+// are asked for all of them, so that a bad area takes one failed read and not one for each of its sectors. A
+// member that lists some of them is not passed over: the others come from it.
 fn read_run<D: Device + Drop>(mirror: &mut Mirror<D>, sector: u64, buf: &mut [u8]) -> Answer
     requires some { 512 ≤ length buf.old }
     requires whole { length buf.old % 512 ≡ 0 }
@@ -16,12 +18,17 @@ fn read_run<D: Device + Drop>(mirror: &mut Mirror<D>, sector: u64, buf: &mut [u8
     requires sound { IsConsistent mirror.old }
     ensures { TriesRoles sector buf.old buf.new mirror.old mirror.new result }
 {
+    let mut has_failed = false;
     for role in 0..mirror.shared().raid_disks {
         match read_in(mirror, role, sector, buf) {
             Answer::All => return Answer::All,
             Answer::Perhaps => return Answer::Perhaps,
+            Answer::Failed => has_failed = true,
             Answer::Nothing => {}
         }
+    }
+    if has_failed {
+        return Answer::Failed;
     }
     Answer::Nothing
 }
@@ -40,12 +47,18 @@ fn read_front<D: Device + Drop>(mirror: &mut Mirror<D>, sector: u64, buf: &mut [
         match read_run(mirror, sector, &mut buf[..512 * sectors]) {
             Answer::All => return Some(sectors as u64),
             Answer::Nothing => return None,
-            Answer::Perhaps => sectors /= 2,
+            Answer::Failed => {
+                if sectors == 1 {
+                    return None;
+                }
+            }
+            Answer::Perhaps => {}
         }
+        sectors /= 2;
     }
 }
 
-/// Reads these sectors of the array.
+/// Reads these sectors of the array. After sectors that came few at a time, twice as many are tried.
 pub(crate) fn read_runs<D: Device + Drop>(
     mirror: &mut Mirror<D>,
     sector: u64,
@@ -58,12 +71,15 @@ pub(crate) fn read_runs<D: Device + Drop>(
     ensures { MatchResult result (λ _. GivesAll sector buf.new mirror.old mirror.new) (λ fault. IsGivenUpTo sector buf.new fault mirror.old mirror.new) }
 {
     let mut done = 0;
+    let mut most = buf.len() / 512;
     while done < buf.len() {
         let at = sector + done as u64 / 512;
-        let Some(given) = read_front(mirror, at, &mut buf[done..]) else {
+        let sectors = most.min((buf.len() - done) / 512);
+        let Some(given) = read_front(mirror, at, &mut buf[done..done + 512 * sectors]) else {
             return Err(UnreadFault::Unreadable(at));
         };
         done += 512 * given as usize;
+        most = 2 * given as usize;
     }
     Ok(())
 }

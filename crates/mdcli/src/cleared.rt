@@ -2,16 +2,16 @@
 use crate::progress::Progress;
 use std::io::{Result, Write};
 
-/// A writer before whose output the line of progress is taken away.
+/// A writer before whose output the line of progress is taken away, where both are shown in one place.
 #[derive(Drop)]
 pub struct Cleared<'a, W> {
     writer: W,
-    progress: &'a Progress<'a>,
+    beside: Option<&'a Progress<'a>>,
 }
 
 impl<'a, W> Cleared<'a, W> {
-    pub fn new(writer: W, progress: &'a Progress<'a>) -> Cleared<'a, W> {
-        Cleared { writer, progress }
+    pub fn new(writer: W, beside: Option<&'a Progress<'a>>) -> Cleared<'a, W> {
+        Cleared { writer, beside }
     }
 }
 
@@ -19,7 +19,9 @@ impl<'a, W: Write> Write for Cleared<'a, W> {
     ghost contents = { λ c. W.contents c.writer };
 
     fn write(&mut self, buf: &[u8]) -> Result<usize> {
-        self.progress.clear();
+        if let Some(progress) = self.beside {
+            progress.clear();
+        }
         self.writer.write(buf)
     }
 

@@ -51,7 +51,13 @@ fn main(rt: HostRuntime) -> ExitCode {
     };
     let progress = Progress::new(&rt, task);
     let mut input = Input::new(rt.stdin());
-    let out = Cleared::new(io::writer(&rt), &progress);
+    // Output that goes elsewhere leaves the line as it is.
+    let beside = if rt.stdout().is_terminal() {
+        Some(&progress)
+    } else {
+        None
+    };
+    let out = Cleared::new(io::writer(&rt), beside);
     let status = run(
         &rt,
         rt.alloc(),
@@ -59,7 +65,7 @@ fn main(rt: HostRuntime) -> ExitCode {
         &mut FileImages::new(&rt, &progress),
         &mut input,
         &mut Buffered::new(rt.alloc(), Output::new(out)),
-        &mut Cleared::new(err, &progress),
+        &mut Cleared::new(err, Some(&progress)),
         &progress,
         messages,
     );

@@ -2,7 +2,7 @@ use Rattle.std.proofs.Common.{◌/◌, length, arith}
 use Rattle.std.proofs.lemmas.Option.{slice_get_within}
 use Rattle.md_laws.proofs.Runs.Rests.{rests_same}
 use Rattle.md_read.proofs.AllListed.{lists_more}
-use Rattle.md_read.proofs.InRoles.{all_listed, gives_in, one_failed, unread_answer}
+use Rattle.md_read.proofs.InRoles.{all_listed, gives_in, read_failed}
 use Rattle.md_read.proofs.roles.read_in.Goals as goal
 
 pub returns-in_default : goal.returns-in_default
@@ -47,7 +47,7 @@ returns-in-Ok g c =
 
 pub returns-in-Err : goal.returns-in-Err
 returns-in-Err g c =
-    let old = c.args.mirror.now in
-    let fails = c.in-Err.ensures.gives in
-    unread_answer c.args.role c.args.sector c.args.buf.now c.read_data.new.buf old c.read_data.new.self c.unread.result c.unread.ensures.one c.unread.ensures.more c.requires.some fails.rests
-    (λ one s from below. one_failed old c.requires.sound c.args.role c.in-Some.k c.args.sector (length c.args.buf.now / 512) c.in-Some.ensures c.read_data.new.self fails s)
+    let fails = c.in-Err.ensures.gives in (
+      fails.rests,
+      λ s from below. read_failed c.args.mirror.now c.requires.sound c.args.role c.in-Some.k c.args.sector (length c.args.buf.now / 512) c.in-Some.ensures c.read_data.new.self fails s,
+    )

@@ -2,10 +2,12 @@ use Rattle.std.proofs.Common.{◌≡◌, ◌∙◌, ◌*◌, ◌+◌, ◌/◌, �
 use Rattle.std.proofs.lemmas.List.{length-take-le}
 use Rattle.md_array.proofs.General.Resting.{rests_sound}
 use Rattle.md_laws.proofs.Runs.Rests.{rests_then}
+use Rattle.md_state.specs.Rests.{Rests}
 use Rattle.md_read.specs.Reading.{IsGiven}
 use Rattle.md_read.proofs.RunsRead.{not_given_earlier, run_earlier}
 use Rattle.md_read.proofs.SectorsGiven.{held_front, sector_given}
 use Rattle.md_read.proofs.runs.read_front.Goals as goal
+use Rattle.md_read.proofs.runs.read_front.Goals.{in-Failed+else-sectors-eq1, in-Perhaps}
 
 run_long : (buf : List ℕ) (sectors : ℕ) → sectors ≤ length buf / 512 → length (take (512 * sectors) buf) ≡ 512 * sectors
 run_long buf sectors few = length-take-le (512 * sectors) buf (omega arith)
@@ -30,6 +32,7 @@ returns-in-All g c =
           subst (λ (xs : List ℕ). IsGiven (c.args.sector + i) xs old new) (sym (held_front bytes rest i inside)) (sector_given old new c.args.sector bytes run i inside);
     }
 
+-- nobody gave the first of them
 pub returns-in-Nothing : goal.returns-in-Nothing
 returns-in-Nothing g c =
     let old = c.args.mirror.now in
@@ -44,6 +47,20 @@ returns-in-Nothing g c =
       none = λ role. not_given_earlier old mid new rests c.in-Nothing.ensures.0 role c.args.sector (c.in-Nothing.ensures.1 role c.args.sector (omega arith) (omega arith));
     }
 
+pub returns-then-sectors-eq1 : goal.returns-then-sectors-eq1
+returns-then-sectors-eq1 g c =
+    let old = c.args.mirror.now in
+    let mid = c.loop-sectors.mirror in
+    let new = c.read_run.new.mirror in
+    let rests = c.loop-sectors.invariant.rests in
+    let few = c.loop-sectors.invariant.few in
+    let some = c.loop-sectors.invariant.some in
+    let long = run_long c.loop-sectors.buf c.loop-sectors.sectors (let same = c.loop-sectors.invariant.long in omega arith) in
+    record {
+      rests = rests_then old mid new rests c.in-Failed.ensures.0;
+      none = λ role. not_given_earlier old mid new rests c.in-Failed.ensures.0 role c.args.sector (c.in-Failed.ensures.1 role c.args.sector (omega arith) (omega arith));
+    }
+
 pub loop-sectors-preserved : goal.loop-sectors-preserved
 loop-sectors-preserved g c =
     let old = c.args.mirror.now in
@@ -54,13 +71,16 @@ loop-sectors-preserved g c =
     let few = c.loop-sectors.invariant.few in
     let same = c.loop-sectors.invariant.long in
     let long = run_long c.loop-sectors.buf sectors (omega arith) in
-    let two = c.in-Perhaps.ensures.1 in
+    let halves : Rests mid new × (1 < sectors) = elim c.match-read_run.branch [
+      | in-Failed+else-sectors-eq1 w ↦ (w.in-Failed.ensures.0, let not_one = w.if-sectors-eq1.false in omega arith)
+      | in-Perhaps w ↦ (w.in-Perhaps.ensures.0, let two = w.in-Perhaps.ensures.1 in omega arith)
+    ] in
     let given = c.read_run.auto.buf in
     let rest = length-drop (512 * sectors) c.loop-sectors.buf in
     record {
-      rests = rests_then old mid new c.loop-sectors.invariant.rests c.in-Perhaps.ensures.0;
-      sound = rests_sound mid new c.in-Perhaps.ensures.0 c.loop-sectors.invariant.sound;
+      rests = rests_then old mid new c.loop-sectors.invariant.rests halves.0;
+      sound = rests_sound mid new halves.0 c.loop-sectors.invariant.sound;
       long = length-append c.read_run.new.buf (drop (512 * sectors) c.loop-sectors.buf) ∙ (omega arith);
-      some = omega arith;
+      some = let two = halves.1 in omega arith;
       few = omega arith;
     }

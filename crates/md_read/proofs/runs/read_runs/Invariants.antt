@@ -16,5 +16,6 @@ invariant-loop-done g l =
       long : length l.buf ≡ length l.fn.buf;
       whole : l.done % 512 ≡ 0;
       few : l.done ≤ length l.fn.buf;
+      some : l.done < length l.fn.buf → 0 < l.most;
       given : (i : ℕ) → i < l.done / 512 → IsGiven (l.sector + i) (held l.buf i 512) l.fn.mirror l.mirror;
     }

@@ -1,0 +1,141 @@
+// How many reads of members fail while sectors of the array are read, where some can't be read on one of them.
+ghost use Rattle.std.specs.Prelude.{[], IfOk, false};
+ghost use Rattle.md_array.specs.Consistency.{IsConsistent};
+
+use crate::checks::{holds, same};
+use crate::members::{DATA, NEVER, SECTORS, WHOLE, device_of, plain};
+use crate::opening::open;
+use md_array::Mirror;
+use md_device::{Device, FaultDevice, MemDevice, ReadFault, WriteFault};
+use md_read::read;
+use std::alloc::Global;
+use std::process::Abort;
+use std::test::Fail;
+
+// A device that counts its reads that fail. No contract says which do: it is not honest.
+#[derive(Drop)]
+struct Counted {
+    device: FaultDevice<MemDevice>,
+    failed: u64,
+}
+
+impl Device for Counted {
+    ghost content = { λ d. d.device.inner };
+
+    ghost honest = { λ _. false };
+
+    ghost failures = { λ _. 0 };
+
+    ghost stops = { λ _. [] };
+
+    fn sectors(&self) -> u64 {
+        self.device.sectors()
+    }
+
+    fn read(&mut self, sector: u64, buf: &mut [u8]) -> Result<(), ReadFault> {
+        let outcome = self.device.read(sector, buf);
+        if outcome.is_err() {
+            self.failed = self.failed.saturating_add(1);
+        }
+        outcome
+    }
+
+    fn write(&mut self, sector: u64, bytes: &[u8]) -> Result<(), WriteFault> {
+        self.device.write(sector, bytes)
+    }
+}
+
+// A member that is filled with its number, and can't be read in these sectors of the array.
+fn failing_member(alloc: Global, number: u8, bad: &[u64]) -> Result<Counted, Fail> {
+    let mut sectors = Vec::new(alloc);
+    for sector in bad {
+        sectors.push(DATA.saturating_add(*sector))?;
+    }
+    let device = device_of(alloc, &plain(u32::from(number), [number; SECTORS]))?;
+    Ok(Counted {
+        device: FaultDevice::new(device, sectors, NEVER, NEVER, false),
+        failed: 0,
+    })
+}
+
+// What can't be read on each of two members, and how many reads of each fail until all is read.
+struct Row {
+    bad: [&'static [u64]; 2],
+    failed: [u64; 2],
+}
+
+const ROWS: [Row; 4] = [
+    // The other member is asked for all that was asked of the first.
+    Row {
+        bad: [&[20, 21, 22, 23, 24, 25, 26, 27, 28, 29], &[]],
+        failed: [1, 0],
+    },
+    Row {
+        bad: [&[], &[20, 21, 22, 23]],
+        failed: [0, 0],
+    },
+    // Neither gives all.
+    Row {
+        bad: [&[20, 21, 22, 23, 24, 25, 26, 27], &[50]],
+        failed: [2, 1],
+    },
+    // Neither gives two in a row.
+    Row {
+        bad: [&[20, 22, 24, 26], &[21, 23, 25, 27]],
+        failed: [18, 14],
+    },
+];
+
+fn mirror_of(alloc: Global, row: &Row) -> Result<Mirror<Counted>, Fail>
+    ensures { IfOk result (λ mirror. IsConsistent mirror) }
+{
+    let mut devices = Vec::new(alloc);
+    let first = failing_member(alloc, 0, row.bad[0])?;
+    devices.push(first)?;
+    let second = failing_member(alloc, 1, row.bad[1])?;
+    devices.push(second)?;
+    open(alloc, devices)
+}
+
+// Each sector comes from a member that can be read there.
+fn are_given(buf: &[u8], row: &Row) -> bool {
+    for (k, byte) in buf.iter().enumerate() {
+        let sector = k as u64 / 512;
+        if *byte > 1 || row.bad[usize::from(*byte) % 2].contains(&sector) {
+            return false;
+        }
+    }
+    true
+}
+
+// How many reads of the members failed.
+fn failed_of(mirror: Mirror<Counted>) -> [u64; 2] {
+    let devices = mirror.into_devices();
+    let mut failed = [NEVER; 2];
+    for (k, device) in devices.iter().enumerate() {
+        if k < 2 {
+            failed[k] = device.failed;
+        }
+    }
+    drop(devices);
+    failed
+}
+
+fn expect_row(rt: &impl Abort, alloc: Global, row: &Row) -> Result<(), Fail> {
+    let mut mirror = mirror_of(alloc, row)?;
+    let mut buf = [9; WHOLE];
+    let answer = read(&mut mirror, 0, &mut buf);
+    let failed = failed_of(mirror);
+    same(rt, "the read", answer, Ok(()));
+    holds(rt, "the sectors", are_given(&buf, row));
+    same(rt, "the reads that fail", failed, row.failed);
+    Ok(())
+}
+
+#[test]
+fn a_bad_area_takes_few_failing_reads(rt: HostRuntime) -> Result<(), Fail> {
+    for row in &ROWS {
+        expect_row(&rt, rt.alloc(), row)?;
+    }
+    Ok(())
+}

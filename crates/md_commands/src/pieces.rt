@@ -1,0 +1,120 @@
+// Sectors of the array are read and put out piece by piece.
+ghost use Rattle.std.specs.Prelude.{◌≡◌, ◌+◌, ◌*◌, ◌/◌, ◌%◌, ◌^◌, ◌<◌, ◌≤◌, MatchResult, length};
+ghost use Rattle.md_requests.specs.Pending.{PendingView};
+ghost use Rattle.md_state.specs.Requests.{IsPending};
+ghost use Rattle.md_array.specs.Consistency.{IsConsistent};
+ghost use Rattle.md_read.specs.Reading.{MayReadAt};
+ghost use Rattle.md_commands.specs.Pieces.{PutsPiece, PutsSectors, RefusesPiece, RefusesSectors, piece_sectors};
+
+use crate::buffer::buffer;
+use crate::fault::DataFault;
+use crate::output::put_out;
+use md_array::Mirror;
+use md_device::Device;
+use md_examine::Sink;
+use md_read::{UnreadFault, read};
+use std::alloc::Global;
+
+// 1 MiB.
+const PIECE_SECTORS: u64 = 2048;
+
+/// Puts out `count` sectors of an array, from this one on, through one buffer. What fits into it is put out
+/// whole or not at all.
+pub(crate) fn put_sectors<D: Device + Drop, S: Sink>(
+    alloc: Global,
+    mirror: &mut Mirror<D>,
+    sector: u64,
+    count: u64,
+    out: &mut S,
+) -> Result<(), DataFault>
+    requires may { MayReadAt mirror.old.array sector count }
+    requires fits { sector + count < 2 ^ 64 }
+    requires sound { IsConsistent mirror.old }
+    ensures gives { MatchResult result (λ _. PutsSectors S.Sink sector count mirror.old mirror.new out.old out.new) (RefusesSectors S.Sink sector count mirror.old mirror.new out.old out.new) }
+    ensures sound { IsConsistent mirror.new }
+    ensures pending { (p : PendingView) → IsPending mirror.old.array p → IsPending mirror.new.array p }
+{
+    let mut piece = buffer(alloc, count.min(PIECE_SECTORS))?;
+    if count <= PIECE_SECTORS {
+        return put_whole(mirror, sector, &mut piece, out);
+    }
+    put_pieces(mirror, sector, count, &mut piece, out)
+}
+
+// Puts out as many sectors as the buffer has, once all are read.
+fn put_whole<D: Device + Drop, S: Sink>(
+    mirror: &mut Mirror<D>,
+    sector: u64,
+    piece: &mut [u8],
+    out: &mut S,
+) -> Result<(), DataFault>
+    requires whole { length piece.old % 512 ≡ 0 }
+    requires few { length piece.old / 512 ≤ piece_sectors }
+    requires may { MayReadAt mirror.old.array sector (length piece.old / 512) }
+    requires sound { IsConsistent mirror.old }
+    ensures gives { MatchResult result (λ _. PutsSectors S.Sink sector (length piece.old / 512) mirror.old mirror.new out.old out.new) (RefusesSectors S.Sink sector (length piece.old / 512) mirror.old mirror.new out.old out.new) }
+    ensures sound { IsConsistent mirror.new }
+    ensures pending { (p : PendingView) → IsPending mirror.old.array p → IsPending mirror.new.array p }
+{
+    read(mirror, sector, piece)?;
+    put_out(out, piece)
+}
+
+// Puts out more sectors than the buffer has, each piece once it is read.
+fn put_pieces<D: Device + Drop, S: Sink>(
+    mirror: &mut Mirror<D>,
+    sector: u64,
+    count: u64,
+    buffer: &mut [u8],
+    out: &mut S,
+) -> Result<(), DataFault>
+    requires room { length buffer.old ≡ 512 * piece_sectors }
+    requires more { piece_sectors < count }
+    requires may { MayReadAt mirror.old.array sector count }
+    requires fits { sector + count < 2 ^ 64 }
+    requires sound { IsConsistent mirror.old }
+    ensures gives { MatchResult result (λ _. PutsSectors S.Sink sector count mirror.old mirror.new out.old out.new) (RefusesSectors S.Sink sector count mirror.old mirror.new out.old out.new) }
+    ensures sound { IsConsistent mirror.new }
+    ensures pending { (p : PendingView) → IsPending mirror.old.array p → IsPending mirror.new.array p }
+{
+    let mut done = 0;
+    while done < count {
+        let sectors = PIECE_SECTORS.min(count - done);
+        put_piece(
+            mirror,
+            sector + done,
+            &mut buffer[..512 * sectors as usize],
+            out,
+        )?;
+        done += sectors;
+    }
+    out.flush()?;
+    Ok(())
+}
+
+// Reads a piece and puts it out. Where a sector of it is unreadable, those before it are put out.
+fn put_piece<D: Device + Drop, S: Sink>(
+    mirror: &mut Mirror<D>,
+    sector: u64,
+    piece: &mut [u8],
+    out: &mut S,
+) -> Result<(), DataFault>
+    requires whole { length piece.old % 512 ≡ 0 }
+    requires may { MayReadAt mirror.old.array sector (length piece.old / 512) }
+    requires sound { IsConsistent mirror.old }
+    ensures gives { MatchResult result (λ _. PutsPiece S.Sink sector piece.new mirror.old mirror.new out.old out.new) (RefusesPiece S.Sink sector piece.new mirror.old mirror.new out.old out.new) }
+    ensures sound { IsConsistent mirror.new }
+    ensures pending { (p : PendingView) → IsPending mirror.old.array p → IsPending mirror.new.array p }
+{
+    match read(mirror, sector, piece) {
+        Ok(()) => {
+            out.put(piece)?;
+            Ok(())
+        }
+        Err(UnreadFault::Unreadable(s)) => {
+            put_out(out, &piece[..512 * (s - sector) as usize])?;
+            Err(DataFault::Read(UnreadFault::Unreadable(s)))
+        }
+        Err(fault) => Err(DataFault::Read(fault)),
+    }
+}
