@@ -14,7 +14,7 @@ find_program() {
 }
 
 # sum_of_sources TOP: prints a sum over all that the program is built from: the sources, definitions and proofs of its crates
-# under their names, and the lines of crates.txt about them.
+# under their names, the lines of crates.txt about them, the handles that its main takes, and the kit.
 sum_of_sources() (
   set -o pipefail
   CDPATH= cd -- "$1" || exit 1
@@ -28,6 +28,7 @@ sum_of_sources() (
   done
   {
     find "${folders[@]}" -type f \( -name '*.rt' -o -name '*.antt' \) -print0 | LC_ALL=C sort -z | xargs -0 sha256sum &&
+      sha256sum HANDLES && sed -n '/^    rattle-kit/p' README.md &&
       IFS='|' && grep -E "^(${crates[*]})( [^:]*)?:" crates.txt
   } | sha256sum | cut -d ' ' -f 1
 )

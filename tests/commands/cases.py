@@ -324,6 +324,11 @@ def as_role(role, number):
     return make
 
 
+def outdated(name):
+    """What makes the bitmap of an image one that is out of date."""
+    return Made(name, name, lambda image: members.with_header(image, events=0))
+
+
 # Two members of three that agree, and a spare.
 WITH_A_SPARE = [
     create("1", 3, 4, "--assume-clean a b missing", output="in sync 2 of 3, events 1, marked 0\n", changes="a b"),
@@ -392,6 +397,23 @@ CASES = [
         "a bitmap that is out of date is marked by an addition too",
         {"a": OUT_OF_DATE, "b": ZEROS},
         [Step("add --device b a", "in sync 1 of 2, events 11, marked 8\n", told=STORED, changes="a b")],
+    ),
+    (
+        "a bitmap that is out of date is marked by each command that changes who is a member",
+        THREE,
+        [
+            create("1", 3, 4, "--assume-clean a b missing", output="in sync 2 of 3, events 1, marked 0\n", changes="a b"),
+            Step("add --device c a b", "in sync 2 of 3, events 2, marked 0\n", changes="a b c"),
+            outdated("a"),
+            Step("remove --member 2 a b c", "in sync 2 of 3, events 3, marked 8\n", told=STORED, changes="a b"),
+            Step("add --device c a b", "in sync 2 of 3, events 4, marked 8\n", changes="a b c"),
+            outdated("a"),
+            Step("rebuild --member 2 a b c", REBUILT, told=STORED, changes="a b c"),
+            Step("fail --member 2 a b c", "in sync 2 of 3, events 7, marked 0\n", changes="a b"),
+            Step("remove --member 2 a b c", "in sync 2 of 3, events 7, marked 0\n"),
+            outdated("a"),
+            Step("re-add --device c a b", "in sync 3 of 3, events 9, marked 0\n", told=STORED, changes="a b c"),
+        ],
     ),
     (
         "a refused command marks a bitmap that is out of date, and tells the fault alone",

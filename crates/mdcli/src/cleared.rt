@@ -6,12 +6,17 @@ use std::io::{Result, Write};
 #[derive(Drop)]
 pub struct Cleared<'a, W> {
     writer: W,
-    beside: Option<&'a Progress<'a>>,
+    progress: &'a Progress<'a>,
+    is_beside: bool,
 }
 
 impl<'a, W> Cleared<'a, W> {
-    pub fn new(writer: W, beside: Option<&'a Progress<'a>>) -> Cleared<'a, W> {
-        Cleared { writer, beside }
+    pub fn new(writer: W, progress: &'a Progress<'a>, is_beside: bool) -> Cleared<'a, W> {
+        Cleared {
+            writer,
+            progress,
+            is_beside,
+        }
     }
 }
 
@@ -19,8 +24,8 @@ impl<'a, W: Write> Write for Cleared<'a, W> {
     ghost contents = { λ c. W.contents c.writer };
 
     fn write(&mut self, buf: &[u8]) -> Result<usize> {
-        if let Some(progress) = self.beside {
-            progress.clear();
+        if self.is_beside {
+            self.progress.clear();
         }
         self.writer.write(buf)
     }

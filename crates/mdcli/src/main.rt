@@ -52,12 +52,8 @@ fn main(rt: HostRuntime) -> ExitCode {
     let progress = Progress::new(&rt, task);
     let mut input = Input::new(rt.stdin());
     // Output that goes elsewhere leaves the line as it is.
-    let beside = if rt.stdout().is_terminal() {
-        Some(&progress)
-    } else {
-        None
-    };
-    let out = Cleared::new(io::writer(&rt), beside);
+    let is_beside = rt.stdout().is_terminal();
+    let out = Cleared::new(io::writer(&rt), &progress, is_beside);
     let status = run(
         &rt,
         rt.alloc(),
@@ -65,7 +61,7 @@ fn main(rt: HostRuntime) -> ExitCode {
         &mut FileImages::new(&rt, &progress),
         &mut input,
         &mut Buffered::new(rt.alloc(), Output::new(out)),
-        &mut Cleared::new(err, Some(&progress)),
+        &mut Cleared::new(err, &progress, true),
         &progress,
         messages,
     );
