@@ -107,6 +107,7 @@ WritesOnce (Event.Fail k) before after = after ≡ before
 WritesOnce (Event.Fill k) before after = (a : ArrayView) × (m : MemberView) × IsChangedAlone k (IsSameBesideMissing a m) before after
 WritesOnce (Event.Prepare k) before after = (a : ArrayView) × (m : MemberView) × IsChangedAlone k (IsSameBesideMarks a m) before after
 WritesOnce (Event.RecordTargetFails k) before after = (w : Write) × IsFailed k w before after
+WritesOnce (Event.SpoilTarget k) before after = (w : Write) × IsFailed k w before after
 WritesOnce (Event.Enrol k role listed) before after = (w : Write) × IsDone k w before after
 WritesOnce (Event.Admit k role listed) before after = (w : Write) × IsWritten k w before after
 WritesOnce (Event.Checkpoint k offset listed) before after = (w : Write) × IsWritten k w before after

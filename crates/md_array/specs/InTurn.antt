@@ -132,6 +132,7 @@ Did old before Event.Unresynced new after = (after ≡ before) × NotesResynced 
 Did old before (Event.Fill k) new after = (after ≡ before) × Fills k old new
 Did old before (Event.Prepare k) new after = (after ≡ before) × Prepares k old new
 Did old before (Event.RecordTargetFails k) new after = (after ≡ before) × FailsOnTarget k old new
+Did old before (Event.SpoilTarget k) new after = ⊥
 Did old before (Event.Enrol k role listed) new after = (after ≡ before) × DidEnrol (Event.Enrol k role listed) old new
 Did old before (Event.Admit k role listed) new after = (after ≡ before) × DidAdmit (Event.Admit k role listed) old new
 Did old before (Event.Checkpoint k offset listed) new after = (after ≡ before) × DidCheckpoint (Event.Checkpoint k offset listed) old new
