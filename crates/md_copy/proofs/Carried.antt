@@ -11,11 +11,12 @@ use Rattle.md_collect.specs.Reports.{Copying}
 use Rattle.md_device.specs.declared.device.Device.{Ghosts}
 use Rattle.md_pass.specs.Beside.{KeepsBeside}
 use Rattle.md_pass.specs.Lanes.{AreOnlyRead, OnlyRead}
-use Rattle.md_pass.specs.Sources.{AreCopied, MayRead, copy_of}
+use Rattle.md_pass.specs.Sources.{MayRead, copy_of}
 use Rattle.md_pass.specs.declared.source.Source.{Source}
 use Rattle.md_state.specs.View.{Disk, MirrorView, disk_of, of_disks}
 use Rattle.md_state.specs.DiskWrites.{AtDevice}
 use Rattle.md_copy.specs.Filling.{IsCopiedSlot}
+use Rattle.md_copy.specs.OnePass.{AllCopied}
 use Rattle.md_copy.specs.RebuildSources.{AreSources, place_beside}
 use Rattle.md_copy.proofs.Beside.{beside_is, beside_within}
 use Rattle.md_copy.proofs.Lists.{got_of, mapped_at, mapped_from, removed_of}
@@ -95,7 +96,7 @@ module _ {D : Type 0} (g : Ghosts D) where
 
     -- a slot was copied
     module _ (v w : MirrorView) (v_is : v.disks ≡ seen olds) (w_is : w.disks ≡ seen news) (offset : ℕ) (slots : List Slot) (sources : List Source) (are : AreSources v target slots sources) where
-      pub slot_copied : ((d : D) → AreCopied g (copy_of slots v.array.chunks offset) sources (remove olds target) (slice_index_or olds target d) (slice_index_or news target d))
+      pub slot_copied : ((d : D) → AllCopied g (copy_of slots v.array.chunks offset) sources (remove olds target) (slice_index_or olds target d) (slice_index_or news target d))
           → All (IsCopiedSlot target offset v w) slots
       slot_copied copied k d below =
           let slot = get_or slots k d in

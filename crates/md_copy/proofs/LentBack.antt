@@ -17,7 +17,7 @@ use Rattle.md_device.specs.declared.device.Device.{Ghosts}
 use Rattle.md_kept_members.specs.View.{MemberView}
 use Rattle.md_pass.specs.Beside.{KeepsBeside, has_chunk}
 use Rattle.md_pass.specs.Lanes.{AreOnlyRead, OnlyRead}
-use Rattle.md_pass.specs.Sources.{FailsToGive, copy_of}
+use Rattle.md_pass.specs.Sources.{copy_of}
 use Rattle.md_pass.specs.declared.source.Source.{Source}
 use Rattle.md_state.specs.MakingClean.{IsIdle}
 use Rattle.md_state.specs.Members.{IsMember}
@@ -27,6 +27,7 @@ use Rattle.md_state.specs.View.{ArrayView, Disk, MirrorView, disk_of, of_disks}
 use Rattle.md_array.specs.Consistency.{IsConsistent}
 use Rattle.md_array.specs.Lending.{AreBack, ComesBack, lent}
 use Rattle.md_copy.specs.Filling.{FailsInRole, IsFilling}
+use Rattle.md_copy.specs.OnePass.{FailsToGive}
 use Rattle.md_copy.specs.RebuildSources.{AreSources, IsPlanOf, IsServedBy, IsSource, Serves}
 use Rattle.md_copy.specs.Sources.{is_missing}
 use Rattle.md_copy.proofs.Carried.{others_read, other_fails, seen, target_kept}

@@ -9,6 +9,7 @@ pub mod LentBack
 pub mod Lists
 pub mod MadeReady
 pub mod Observed
+pub mod OnePasses
 pub mod PlanChunks
 pub mod Planned
 pub mod Readied

@@ -12,6 +12,8 @@ pub mod Storing
 pub mod Readying
 -- A pass before it begins: its plan, its sources, and the sets of the chunks that it copies and of those that nobody has.
 pub mod Preparing
+-- One pass as `rebuild` answers for it so far: a read that failed ends it, with the first chunk that was not copied.
+pub mod OnePass
 -- The target gets its chunks, each from a member that serves it. No other device is written.
 pub mod Filling
 -- The target comes into sync after a pass, or it does not.

@@ -3,7 +3,7 @@ ghost use Rattle.std.specs.Prelude.{◌≡◌, ◌<◌, ℕ, All, Err, MatchResu
 ghost use Rattle.std.specs.Int.{div_ceil};
 ghost use Rattle.md_collect.specs.Reading.{Fails};
 ghost use Rattle.md_kept_members.specs.View.{MemberView};
-ghost use Rattle.md_pass.specs.Sources.{AreMarked};
+ghost use Rattle.md_pass.specs.Copied.{AreUncopied};
 ghost use Rattle.md_state.specs.DiskWrites.{AtDevice};
 ghost use Rattle.md_state.specs.MakingClean.{IsIdle};
 ghost use Rattle.md_state.specs.Members.{IsMember};
@@ -11,18 +11,19 @@ ghost use Rattle.md_state.specs.Missing.{is_rebuilt};
 ghost use Rattle.md_state.specs.View.{of_disks};
 ghost use Rattle.md_array.specs.Consistency.{IsConsistent};
 ghost use Rattle.md_copy.specs.Filling.{FailsInRole, FailsPass, FillsPass, IsCopiedSlot, IsFilling};
+ghost use Rattle.md_copy.specs.OnePass.{AreMarked};
 ghost use Rattle.md_copy.specs.Preparing.{IsPrepared};
 ghost use Rattle.md_copy.specs.RebuildSources.{AreSources, IsPlanOf};
 
 use crate::fault::RebuildFault;
-use crate::one_pass::copy_beside;
+use crate::one_pass::{OnePassFault, copy_beside};
 use crate::preparing::Pass;
 use crate::sources::member_in;
 use md_array::Mirror;
 use md_bitmap::Marks;
 use md_cert::Plan;
 use md_device::Device;
-use md_pass::{BoardCounts, Gate, PassFault, Source};
+use md_pass::{Gate, Source};
 use std::alloc::Global;
 use std::sync::Wait;
 use std::thread::Threads;
@@ -56,10 +57,10 @@ pub(crate) fn fill<D: Device + Drop + Send, G: Gate + Sync, R: Threads + Wait + 
         &mut pass.copied,
     );
     match result {
-        Ok(_) => Ok(()),
-        Err(PassFault::NoMemory) => Err(RebuildFault::NoMemory),
-        Err(PassFault::TargetFault) => Err(RebuildFault::TargetFault),
-        Err(PassFault::SourceFault(role, chunk)) => {
+        Ok(()) => Ok(()),
+        Err(OnePassFault::NoMemory) => Err(RebuildFault::NoMemory),
+        Err(OnePassFault::TargetFault) => Err(RebuildFault::TargetFault),
+        Err(OnePassFault::SourceFault(role, chunk)) => {
             Err(RebuildFault::SourceFault(member_in(mirror, role), chunk))
         }
     }
@@ -75,7 +76,7 @@ fn fill_devices<D: Device + Drop + Send, G: Gate + Sync, R: Threads + Wait + Syn
     plan: &Plan,
     sources: &[Source],
     copied: &mut Marks,
-) -> Result<BoardCounts, PassFault>
+) -> Result<(), OnePassFault>
     requires within { target < length mirror.old.array.members }
     requires sound { IsConsistent mirror.old }
     requires idle { IsIdle mirror.old.array }
@@ -83,15 +84,16 @@ fn fill_devices<D: Device + Drop + Send, G: Gate + Sync, R: Threads + Wait + Syn
     requires planned { (m : MemberView) → IsMember mirror.old.array target m → IsPlanOf mirror.old.array m plan.now }
     requires sources { AreSources mirror.old target plan.now.slots sources.now }
     requires marks { copied.old.chunks ≡ div_ceil mirror.old.array.chunks.size mirror.old.array.chunks.sectors }
+    requires uncopied { AreUncopied plan.now.slots copied.old }
 
     ensures filling { (m : MemberView) → IsMember mirror.old.array target m
         → IsFilling target m plan.now.slots mirror.old mirror.new }
     ensures copied { OnOk result ((m : MemberView) → IsMember mirror.old.array target m
         → All (IsCopiedSlot target m.superblock.data_offset mirror.old mirror.new) plan.now.slots) }
     ensures marked { OnOk result (AreMarked plan.now.slots copied.old copied.new) }
-    ensures target_fault { result ≡ Err PassFault.TargetFault
+    ensures target_fault { result ≡ Err OnePassFault.TargetFault
         → AtDevice target mirror.old.disks mirror.new.disks (Fails of_disks) }
-    ensures source_fault { (role chunk : ℕ) → result ≡ Err (PassFault.SourceFault role chunk)
+    ensures source_fault { (role chunk : ℕ) → result ≡ Err (OnePassFault.SourceFault role chunk)
         → FailsInRole target plan.now.slots role chunk mirror.old mirror.new }
     ensures sound { IsConsistent mirror.new }
 {

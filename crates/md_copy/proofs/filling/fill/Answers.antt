@@ -1,6 +1,6 @@
 use Rattle.std.proofs.Common.{rules, ◌≡◌, true, Err, subst, sym}
 use Rattle.md_collect.specs.Reports.{is_planned}
-use Rattle.md_pass.specs.declared.fault.PassFault.TheVariants.{SourceFault, TargetFault}
+use Rattle.md_copy.specs.declared.one_pass.OnePassFault.TheVariants.{SourceFault, TargetFault}
 use Rattle.md_plan.specs.declared.planner.Planned.{Planned}
 use Rattle.md_state.specs.Members.{IsMember}
 use Rattle.md_state.specs.View.{ArrayView}
@@ -8,6 +8,10 @@ use Rattle.md_copy.specs.Filling.{FailsToServe, IsFilling}
 use Rattle.md_copy.proofs.SourcesChosen.{takes_as}
 use Rattle.md_assembly.proofs.Indices.{got_within}
 use Rattle.md_copy.proofs.filling.fill.Goals as goal
+
+-- nothing was copied before
+pub fill_devices-result-requires-clause-uncopied : goal.fill_devices-result-requires-clause-uncopied
+fill_devices-result-requires-clause-uncopied g c κs within = λ i slot below. c.requires.prepared.copied.bits _
 
 pub member_in-requires : goal.member_in-requires
 member_in-requires g c =

@@ -1,4 +1,4 @@
-use Rattle.std.proofs.Common.{◌≡◌, ◌∙◌, List, ap, get_or, refl, remove, slice_get, slice_index_or, subst, sym}
+use Rattle.std.proofs.Common.{◌≡◌, ◌∙◌, Err, List, Ok, OnOk, Result, ap, get_or, refl, remove, slice_get, slice_index_or, subst, sym}
 use Rattle.std.proofs.lemmas.Option.{slice_get-get_or}
 use Rattle.md_assembly.proofs.Indices.{got_within}
 use Rattle.md_bitmap.specs.declared.chunks.Chunks.{Chunks}
@@ -6,17 +6,21 @@ use Rattle.md_collect.specs.Collecting.{ArePlanned}
 use Rattle.md_collect.specs.Places.{HasRoom}
 use Rattle.md_kept_members.specs.View.{MemberView}
 use Rattle.md_pass.specs.Beside.{KeepsBeside}
-use Rattle.md_pass.specs.Sources.{AreCopied, MayRead, copy_of}
-use Rattle.md_pass.proofs.PassSources.{on_ok}
+use Rattle.md_pass.specs.Sources.{MayRead, copy_of}
 use Rattle.md_state.specs.View.{Disk, MirrorView, disk_of, of_disks}
 use Rattle.md_array.specs.Lending.{AreBack}
 use Rattle.md_super.specs.declared.superblock.Superblock.{Superblock}
+use Rattle.md_copy.specs.OnePass.{AllCopied}
 use Rattle.md_copy.proofs.Carried.{may_read_of, seen, slot_copied, target_fails}
 use Rattle.md_copy.proofs.LentBack.{are_planned, back, fails_in_role, filling, within}
 use Rattle.md_copy.proofs.Lists.{mapped_at}
 use Rattle.md_copy.proofs.Observed.{field_of}
 use Rattle.md_copy.proofs.SourcesChosen.{has_room}
 use Rattle.md_copy.proofs.filling.fill_devices.Goals as goal
+
+on_ok : {A E P Q : Type 0} (r : Result A E) → (P → Q) → OnOk r P → OnOk r Q
+on_ok (Ok x) f p = f p
+on_ok (Err e) f p = p
 
 pub copy_beside-result-requires-clause-planned : goal.copy_beside-result-requires-clause-planned
 copy_beside-result-requires-clause-planned g c κs bounds =
@@ -91,8 +95,8 @@ returns-clause-copied g c =
     let own = field_of (λ (m : MemberView). m.superblock) _ m _ at c.own.ensures in
     let v_is : v.disks ≡ seen g.D.Device olds = sym c.lend-devices.ensures.devices in
     let low = within g.D.Device v c.requires.sound target c.requires.within m at (c.requires.target m at) c.args.plan.now (c.requires.planned m at) olds news v_is c.copy_beside-result.ensures.as_many in
-    let copied = λ (d : g.row.D.Denot). subst (λ (b : Superblock). AreCopied g.D.Device (copy_of slots v.array.chunks b.data_offset) sources (remove olds target) (slice_index_or olds target d) (slice_index_or news target d)) (sym own)
-    (subst (λ (x : Chunks). AreCopied g.D.Device (copy_of slots x c.own.result.now.data_offset) sources (remove olds target) (slice_index_or olds target d) (slice_index_or news target d)) c.chunks-chunks.ensures (done d)) in
+    let copied = λ (d : g.row.D.Denot). subst (λ (b : Superblock). AllCopied g.D.Device (copy_of slots v.array.chunks b.data_offset) sources (remove olds target) (slice_index_or olds target d) (slice_index_or news target d)) (sym own)
+    (subst (λ (x : Chunks). AllCopied g.D.Device (copy_of slots x c.own.result.now.data_offset) sources (remove olds target) (slice_index_or olds target d) (slice_index_or news target d)) c.chunks-chunks.ensures (done d)) in
     slot_copied g.D.Device olds news target low c.copy_beside-result.ensures.as_many v c.give_back.new.self v_is (ap (λ (x : MirrorView). x.disks) c.give_back.ensures.in_place) m.superblock.data_offset slots sources c.requires.sources copied)
     c.copy_beside-result.ensures.copied
 

@@ -1,6 +1,6 @@
-use Rattle.std.proofs.Common.{◌≡◌, ◌∙◌, ◌≤◌, ap, arith, if◌then◌else◌, insert, is_ok, length, not, remove, subst, sym, true}
+use Rattle.std.specs.Prelude.{IsOk, MatchResult}
+use Rattle.std.proofs.Common.{◌≡◌, ◌∙◌, ◌≤◌, All, Err, Ok, OnOk, Result, ap, arith, if◌then◌else◌, insert, is_ok, length, not, remove, subst, sym, true}
 use Rattle.md_pass.specs.Lanes.{AreOnlyRead}
-use Rattle.md_pass.specs.Sources.{FailsToGive}
 use Rattle.md_copy.proofs.Returned.{removed_again}
 use Rattle.md_copy.proofs.one_pass.copy_beside.Goals as goal
 
@@ -10,16 +10,11 @@ others_are g c =
     let rest = c.copy_pass-result.new.devices.items in
     let ok : is_ok c.insert.result ≡ true = c.is_err.ensures.negation ∙ ap not c.if-is_err.false in
     let items : c.insert.new.self.items ≡ insert rest c.args.target c.copy_pass-result.new.target = c.insert.ensures.items ∙ ap (λ b. if b then insert rest c.args.target c.copy_pass-result.new.target else rest) ok in
-    let many = c.copy_pass-result.ensures.devices.as_many in
+    let many = c.copy_pass-result.ensures.writes.sources.as_many in
     let room : c.args.target ≤ length rest = omega (arith, many, c.remove-device.ensures.len, c.requires.within) in
     ap (λ xs. remove xs c.args.target) items ∙ removed_again rest c.args.target c.copy_pass-result.new.target room
 
 pub returns-clause-others : goal.returns-clause-others
 returns-clause-others g c =
     subst (AreOnlyRead g.D.Device (remove c.args.devices.now.items c.args.target)) (sym (others_are g c))
-    (subst (λ xs. AreOnlyRead g.D.Device xs c.copy_pass-result.new.devices.items) c.remove-device.ensures.items c.copy_pass-result.ensures.devices)
-
-pub returns-clause-source_fault : goal.returns-clause-source_fault
-returns-clause-source_fault g c = λ role chunk e.
-    subst (λ xs. FailsToGive g.D.Device c.args.plan.now.slots c.args.sources.now (remove c.args.devices.now.items c.args.target) xs role chunk) (sym (others_are g c))
-    (subst (λ xs. FailsToGive g.D.Device c.args.plan.now.slots c.args.sources.now xs c.copy_pass-result.new.devices.items role chunk) c.remove-device.ensures.items (c.copy_pass-result.ensures.source_fault role chunk e))
+    (subst (λ xs. AreOnlyRead g.D.Device xs c.copy_pass-result.new.devices.items) c.remove-device.ensures.items c.copy_pass-result.ensures.writes.sources)
