@@ -7,6 +7,8 @@ pub mod FilledEvent
 -- The superblock of a member that is rebuilt could not be stored: where the write left the old one, the new one or none, that is the
 -- model's event.
 pub mod TargetEvent
+-- A write of a superblock failed on a member that is rebuilt, and left any: that is the model's event.
+pub mod SpoiledEvent
 -- The bitmap and the log of a member that is rebuilt are stored: that is the model's event.
 pub mod PreparedEvent
 -- What stands on a device once all of a member but its data is stored there.
@@ -15,7 +17,7 @@ pub mod MemberStored
 pub mod LogListed
 -- An array in which a member takes a role: what holds of it in memory.
 pub mod RoleTaken
--- A write of a new superblock failed on a member that is rebuilt, and left the old one or none: that is the model's event.
+-- A write of a new superblock failed on a member that is rebuilt: that is one of two of the model's events.
 pub mod TargetLeft
 -- A spare is admitted by the write of its superblock: that is the model's event.
 pub mod AdmittedEvent
@@ -39,6 +41,8 @@ pub mod HeldContent
 pub mod EnrolledWorld
 -- A member is prepared, and comes into sync by the write of its superblock: those are the model's events.
 pub mod EnrolledEvent
+-- An enrolment fails by the write of its superblock: the member is prepared, and spoiled, and those are the model's events.
+pub mod EnrolSpoils
 -- What a stop leaves of a member's device within the writes of an enrolment: its bitmap and its log have changed at most, or all of them are
 -- stored, and the superblock has changed at most.
 pub mod CutBefore

@@ -1,5 +1,5 @@
 -- A new device comes in as a spare: it is laid out, and stands last.
-use Rattle.std.specs.Prelude.{◌≡◌, ℕ, true, [], ◌∷◌, ◌++◌, length, slice_get, ⊤, Some, Result, MatchResult}
+use Rattle.std.specs.Prelude.{◌≡◌, ℕ, ◌^◌, ◌≤◌, true, [], ◌∷◌, ◌++◌, length, slice_get, ⊤, Some, Result, MatchResult}
 use Rattle.md_create.specs.declared.params.NewMember.{NewMember}
 use Rattle.md_create.specs.Layout.{IsHalfLaidOut, IsLaidOut, KeepsOthers, writes_of}
 use Rattle.md_create.specs.ReadBack.{IsReadable}
@@ -20,6 +20,7 @@ use Rattle.md_array.specs.Worlds.{stored_of}
 -- It was laid out with this number, and stands last. No other device was used.
 pub record LaysOutLast (k : ℕ) (device : Disk) (number : ℕ) (old new : MirrorView) : Type 0 where
   pub last : k ≡ length old.array.members
+  pub short : sectors_of device.content ≤ 2 ^ 54  -- as long as any device
   pub laid : NewMember
   pub spare : IsSpareOf old.array number (sectors_of device.content) laid
   pub readable : IsReadable laid.superblock  -- no condition: so it is of every superblock that is laid out

@@ -47,13 +47,16 @@ pub record DidAdmit (e : Event) (old new : MirrorView) : Type 0 where
   pub admits : Admits index old new
   pub event : e ≡ admit_event admits
 
--- A superblock's write that failed left the old superblock, or one that can't be decoded. Of one that left the new superblock no event
--- is known.
+-- A superblock's write that failed left the old superblock, or one that can't be decoded: then the next opening may find the device
+-- again. Whatever it left, the member is spoiled (`SpoilTarget`), and the next opening has to leave it out.
 abbrev pub IsOldOrNone : Disk → Disk → Type 0
 IsOldOrNone d e = (block_on e.content ≡ block_on d.content) ⊎ (super_in (block_on e.content) ≡ None)
 
 abbrev pub FailsOnTargetAlone : ℕ → MirrorView → MirrorView → Type 0
 FailsOnTargetAlone k old new = AtDevice k old.disks new.disks IsOldOrNone → Happens old (Event.RecordTargetFails k) new
+
+abbrev pub FailsAsTarget : ℕ → MirrorView → MirrorView → Type 0
+FailsAsTarget k old new = FailsOnTargetAlone k old new × Happens old (Event.SpoilTarget k) new
 
 abbrev pub IfAdmitFailed : Type 0 → AdmitFault → Type 0
 IfAdmitFailed P TargetFault = P
@@ -61,4 +64,4 @@ IfAdmitFailed P _ = ⊤
 
 abbrev pub AdmitHappens : ℕ → MirrorView → MirrorView → {T : Type 0} → Result T AdmitFault → Type 0
 AdmitHappens k old new result =
-    MatchResult result (λ _. (role : ℕ) × Happens old (Event.Admit k role (listed_on new k)) new) (IfAdmitFailed (FailsOnTargetAlone k old new))
+    MatchResult result (λ _. (role : ℕ) × Happens old (Event.Admit k role (listed_on new k)) new) (IfAdmitFailed (FailsAsTarget k old new))

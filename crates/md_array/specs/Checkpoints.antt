@@ -15,7 +15,7 @@ use Rattle.md_state.specs.Members.{IsMember}
 use Rattle.md_state.specs.Trying.{RefusesHalted}
 use Rattle.md_state.specs.View.{MirrorView}
 use Rattle.md_super.specs.Merge.{merged}
-use Rattle.md_array.specs.Admitting.{FailsOnTargetAlone}
+use Rattle.md_array.specs.Admitting.{FailsAsTarget}
 use Rattle.md_array.specs.Enrolling.{HasContent, HoldsCopied}
 use Rattle.md_array.specs.Events.{Happens, listed_on}
 use Rattle.md_array.specs.NotingResynced.{AreNoted}
@@ -85,4 +85,4 @@ abbrev pub CheckpointHappens : ℕ → MirrorView → MirrorView → {T : Type 0
 CheckpointHappens k old new result =
     MatchResult result
     (λ _. (offset : ℕ) × ((content : Content) → HasContent old.disks old.array content → Happens old (Event.Checkpoint k offset (listed_on new k)) new))
-    (IfCheckpointFailed (FailsOnTargetAlone k old new))
+    (IfCheckpointFailed (FailsAsTarget k old new))

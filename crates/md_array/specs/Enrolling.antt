@@ -1,5 +1,5 @@
 -- A member that was rebuilt comes into sync: its marks are stored, its log, and last its superblock (this project's own order).
-use Rattle.std.specs.Prelude.{◌≡◌, ◌≢◌, ◌⊎◌, ⊤, ℕ, ◌+◌, ◌*◌, ◌<◌, ◌≤◌, true, false, List, [], ◌∷◌, ◌++◌, if◌then◌else◌, length, slice_get, Some, None, Result, MatchResult}
+use Rattle.std.specs.Prelude.{◌≡◌, ◌≢◌, ◌⊎◌, ⊤, ℕ, ◌+◌, ◌*◌, ◌<◌, ◌≤◌, Bool, true, false, List, [], ◌∷◌, ◌++◌, if◌then◌else◌, length, slice_get, Some, None, Result, MatchResult}
 use Rattle.md_device.specs.Splice.{part}
 use Rattle.md_super.specs.declared.superblock.Superblock.{Superblock}
 use Rattle.md_super.specs.Log.{has_bad_block_log}
@@ -14,6 +14,7 @@ use Rattle.md_members.specs.Areas.{IsPlaced, bitmap_sectors, has_bitmap}
 use Rattle.md_members.specs.Members.{sectors_of}
 use Rattle.md_members.specs.Reading.{BitmapStartsAt}
 use Rattle.md_model.specs.Content.{Content}
+use Rattle.md_model.specs.Sectors.{put}
 use Rattle.md_writes.specs.Bitmaps.{bitmap_writes}
 use Rattle.md_writes.specs.Writes.{DoesWrites, FailsInWrites, Write}
 use Rattle.md_kept_members.specs.Enrolling.{HasRoomFor, log_room}
@@ -121,6 +122,7 @@ pub record FailsToEnrol (k : ℕ) (copied orphans : Bitmap) (old new : MirrorVie
   pub member : MemberView  -- as it would be
   pub comes : ComesWith k role copied orphans old.array member
   pub array : new.array ≡ old.array
+  pub readable : IsReadable (merged (enrolled old.array k member role).shared member.superblock)  -- no condition, as above
   pub writes : List Write
   pub are : AreEnrolWrites (enrolled old.array k member role) member writes
   pub disks : IsUsedAlone k old.disks new.disks (λ d e. FailsInWrites of_disks writes d e × KeepsData member d e)
@@ -132,7 +134,9 @@ RefusesEnrol k copied orphans old new (LogFull j) = Refuses old new ((j ≡ k) �
 RefusesEnrol k copied orphans old new TargetFault = FailsToEnrol k copied orphans old new
 RefusesEnrol k copied orphans old new NoMemory = Refuses old new ((role : ℕ) × MayTakeRole k old.array role)
 
--- An opening would read of the devices what is kept of the members, as before, once it is in sync.
-abbrev pub EnrolReads : MirrorView → MirrorView → {T E : Type 0} → Result T E → Type 0
-EnrolReads old new result =
-    MatchResult result (λ _. AreHonest old.disks → (failed_at : ℕ) → AreReadAsKept old failed_at → AreReadAsKept new failed_at) (λ _. ⊤)
+-- An opening would read of the devices what is kept of the members, as before, once it is in sync; and it is not spoiled any more.
+abbrev pub EnrolReads : ℕ → MirrorView → MirrorView → {T E : Type 0} → Result T E → Type 0
+EnrolReads k old new result =
+    MatchResult result
+    (λ _. AreHonest old.disks → (failed_at : ℕ) (spoiled : ℕ → Bool) → AreReadAsKept old failed_at spoiled → AreReadAsKept new failed_at (put k false spoiled))
+    (λ _. ⊤)

@@ -1,5 +1,6 @@
--- An enrolment as events: the member is prepared, and then it comes into sync by one write (this project's own).
-use Rattle.std.specs.Prelude.{◌≡◌, ℕ, ◌+◌, ◌*◌, ◌/◌, ◌^◌, ◌<◌, ◌≤◌, Bool, false, ◌&&◌, nat_lt, List, ◌++◌, set, slice_get, Option, Some, None}
+-- An enrolment as events: the member is prepared, and then it comes into sync by one write, or is spoiled where that fails (this project's
+-- own).
+use Rattle.std.specs.Prelude.{◌≡◌, ℕ, ◌+◌, ◌*◌, ◌/◌, ◌<◌, Bool, false, cond, List, [], ◌++◌, set, slice_get, Option, Some, None}
 use Rattle.md_bitmap.specs.Marks.{Bitmap}
 use Rattle.md_device.specs.Splice.{part}
 use Rattle.md_kept_members.specs.View.{MemberView}
@@ -11,7 +12,7 @@ use Rattle.md_state.specs.Missing.{is_missing}
 use Rattle.md_state.specs.View.{ArrayView, Disk, MirrorView}
 use Rattle.md_writes.specs.Bitmaps.{bitmap_writes}
 use Rattle.md_writes.specs.Writes.{Write, after}
-use Rattle.md_array.specs.Enrolling.{Enrols, HasContent, log_writes}
+use Rattle.md_array.specs.Enrolling.{Enrols, FailsToEnrol, HasContent, log_writes}
 use Rattle.md_array.specs.Events.{IsChangedAlone, IsSameBesideMarks}
 use Rattle.md_array.specs.Filling.{MayRebuild}
 use Rattle.md_array.specs.Worlds.{lists_of}
@@ -59,6 +60,27 @@ pub record IsHeldBy (k : ℕ) (listed : ℕ → Bool) (content : Content) (v : M
       → (s : ℕ) → s < v.array.chunks.size → is_missing v.array m (s / v.array.chunks.sectors) ≡ false → listed s ≡ false
       → part d.content (512 * (m.superblock.data_offset + s)) 512 ≡ content s
 
--- No list has sectors from 2^54 on: that of an orphan there could not be kept. So the data of the member is asked to end below.
-abbrev pub EndsBelow : MirrorView → ℕ → Type 0
-EndsBelow v k = (m : MemberView) → IsMember v.array k m → m.superblock.data_offset + v.array.chunks.size ≤ 2 ^ 54
+-- ---- an enrolment that fails by its last write
+-- The write that failed was that of the superblock: those before it are done.
+pub record FailsAtSuper {k : ℕ} {copied orphans : Bitmap} {old new : MirrorView} (f : FailsToEnrol k copied orphans old new) : Type 0 where
+  pub disk : Disk
+  pub is : slice_get old.disks k ≡ Some disk
+  pub left : Disk
+  pub left_is : slice_get new.disks k ≡ Some left
+  pub last : (f.disks.change disk left is left_is).0.rest ≡ []
+
+-- The device before that write, which ended as this one. Of a device that isn't honest, any may be taken.
+abbrev pub before_last : List Write → Disk → Disk → Disk
+before_last writes d e = record d { content = cond d.honest (after d.content writes) e.content }
+
+abbrev pub with_first : List Disk → ℕ → List Write → Option Disk → Option Disk → List Disk
+with_first disks k writes (Some d) (Some e) = set disks k (before_last writes d e)
+with_first disks k writes _ _ = disks
+
+abbrev pub writes_before : {k : ℕ} {copied orphans : Bitmap} {old new : MirrorView} → FailsToEnrol k copied orphans old new → List Write
+writes_before f = bitmap_writes f.are.start f.are.header f.member.stored (bitmap_sectors f.member.stored.chunks) ++ log_writes f.member.superblock f.member.bad
+
+-- The mirror in between: the member is prepared. From there it is spoiled (`SpoilsTarget`).
+abbrev pub prepared_only : {k : ℕ} {copied orphans : Bitmap} {old new : MirrorView} → FailsToEnrol k copied orphans old new → MirrorView
+prepared_only {k} {copied} {orphans} {old} {new} f =
+    record old { disks = with_first old.disks k (writes_before f) (slice_get old.disks k) (slice_get new.disks k) }

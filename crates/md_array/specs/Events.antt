@@ -1,5 +1,5 @@
 -- The steps as events of the model: what each makes of the world, where devices do what they answer.
-use Rattle.std.specs.Prelude.{◌≡◌, ◌≢◌, ◌⊎◌, ⊤, ℕ, ◌+◌, ◌*◌, ◌≤◌, Bool, true, List, [], ◌∷◌, ◌++◌, length, slice_get, None, Option, Some, Result, MatchResult}
+use Rattle.std.specs.Prelude.{◌≡◌, ◌≢◌, ◌⊎◌, ⊤, ℕ, ◌+◌, ◌*◌, ◌<◌, ◌≤◌, Bool, true, List, [], ◌∷◌, ◌++◌, length, slice_get, None, Option, Some, Result, MatchResult}
 use Rattle.std.specs.List.{remove}
 use Rattle.md_device.specs.Splice.{part}
 use Rattle.md_super.specs.Log.{has_bad_block_log}
@@ -9,7 +9,7 @@ use Rattle.md_model.specs.Devices.{Super}
 use Rattle.md_model.specs.Worlds.{Request}
 use Rattle.md_model.specs.Content.{Content, Becomes, HoldsBetween, HoldsInFlight}
 use Rattle.md_model.specs.Events.{Event, Step}
-use Rattle.md_model.specs.Runs.{failed_after}
+use Rattle.md_model.specs.Runs.{failed_after, spoiled_after}
 use Rattle.md_requests.specs.Pending.{PendingView}
 use Rattle.md_kept_members.specs.View.{MemberView}
 use Rattle.md_faults.specs.declared.step_fault.StoreFault.{StoreFault}
@@ -22,7 +22,7 @@ use Rattle.md_state.specs.Members.{IsMember}
 use Rattle.md_array.specs.Consistency.{IsConsistent}
 use Rattle.md_writes.specs.Writes.{DoesWrites, Write}
 use Rattle.md_state.specs.CopyingData.{IsDone}
-use Rattle.md_state.specs.DiskWrites.{AtDevice, IsFailed, IsWritten}
+use Rattle.md_state.specs.DiskWrites.{AtDevice, IsFailed, IsTried, IsWritten}
 use Rattle.md_state.specs.Requests.{AreInFlight, among, request_of}
 use Rattle.md_array.specs.Lending.{IsBesideMissing}
 use Rattle.md_array.specs.ReadAsKept.{AreReadAsKept, HasWidth}
@@ -82,9 +82,14 @@ pub record IsSameBesideMarks (a : ArrayView) (m : MemberView) (old new : List �
   pub beside : (at n : ℕ) → IsBesideMarks m at n → part new at n ≡ part old at n
   pub width : HasWidth a.chunks.sectors m.superblock old → HasWidth a.chunks.sectors m.superblock new
 
+-- A write failed, and any bytes may stand in its range. What a stop within it leaves is not told here.
+pub record HasFailed (k : ℕ) (w : Write) (before after : List Disk) : Type 0 where
+  pub tried : IsTried k w before after
+  pub failed : AtDevice k before after (λ d e. d.honest ≡ true → d.failures < e.failures)
+
 -- The devices before and after an event: one is written at most, and once, but for a new one, and for one that is filled or prepared. The
--- sectors of one write of a resync are an event each. Of the write by which a member comes into sync, no stop is told here: those of its
--- call are told with the writes before it.
+-- sectors of one write of a resync are an event each. Of the write by which a member comes into sync, and of one that spoils a member, no
+-- stop is told here: those of an enrolment are told with the writes before it.
 abbrev pub WritesOnce : Event → List Disk → List Disk → Type 0
 WritesOnce (Event.Record k) before after = (w : Write) × IsWritten k w before after
 WritesOnce (Event.StoreMarks k b) before after = (w : Write) × (length w.bytes ≡ 512) × IsWritten k w before after
@@ -107,6 +112,7 @@ WritesOnce (Event.Fail k) before after = after ≡ before
 WritesOnce (Event.Fill k) before after = (a : ArrayView) × (m : MemberView) × IsChangedAlone k (IsSameBesideMissing a m) before after
 WritesOnce (Event.Prepare k) before after = (a : ArrayView) × (m : MemberView) × IsChangedAlone k (IsSameBesideMarks a m) before after
 WritesOnce (Event.RecordTargetFails k) before after = (w : Write) × IsFailed k w before after
+WritesOnce (Event.SpoilTarget k) before after = (w : Write) × HasFailed k w before after
 WritesOnce (Event.Enrol k role listed) before after = (w : Write) × IsDone k w before after
 WritesOnce (Event.Admit k role listed) before after = (w : Write) × IsWritten k w before after
 WritesOnce (Event.Checkpoint k offset listed) before after = (w : Write) × IsWritten k w before after
@@ -132,7 +138,8 @@ pub record Does (old : MirrorView) (before : ℕ → Option Request) (e : Event)
       → HoldsBetween (geometry_of old.array) b (world_of new after)
   pub written : HoldsInFlight (world_of old before) → HoldsInFlight (world_of new after)
   pub sound : IsConsistent new
-  pub read : (failed_at : ℕ) → AreReadAsKept old failed_at → AreReadAsKept new (failed_after e (world_of new after) failed_at)
+  pub read : (failed_at : ℕ) (spoiled : ℕ → Bool) → AreReadAsKept old failed_at spoiled
+      → AreReadAsKept new (failed_after e (world_of new after) failed_at) (spoiled_after e (world_of old before) spoiled)
 
 -- whatever requests of its list are in flight, before and after this
 abbrev pub Happens : MirrorView → Event → MirrorView → Type 0

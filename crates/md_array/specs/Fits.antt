@@ -1,5 +1,5 @@
 -- Devices and the array that is kept of them fit one another, so that marks may be stored on the members.
-use Rattle.std.specs.Prelude.{◌≡◌, ℕ, ◌≤◌, true, List, length, slice_get, Some}
+use Rattle.std.specs.Prelude.{◌≡◌, ℕ, ◌^◌, ◌≤◌, true, List, length, slice_get, Some}
 use Rattle.md_bitmap.specs.Sound.{IsSound}
 use Rattle.md_members.specs.Areas.{IsPlaced, bitmap_sectors, has_bitmap}
 use Rattle.md_members.specs.Members.{sectors_of}
@@ -10,6 +10,7 @@ use Rattle.md_state.specs.Members.{IsMember}
 -- a member's parts lie on its device, and its chunks fit the size of the array
 pub record FitsMember (a : ArrayView) (m : MemberView) (d : Disk) : Type 0 where
   pub long : 16 ≤ sectors_of d.content
+  pub short : sectors_of d.content ≤ 2 ^ 54  -- as long as any device
   pub has : has_bitmap m.superblock ≡ true
   pub placed : IsPlaced (sectors_of d.content) m.superblock (bitmap_sectors m.stored.chunks)
   pub few_chunks : m.stored.chunks ≤ 1048576

@@ -31,6 +31,7 @@ use Rattle.md_array.specs.Admitting.{DidAdmit}
 use Rattle.md_array.specs.Checkpoints.{DidCheckpoint}
 use Rattle.md_array.specs.Listing.{FailsToStoreLog, HaltsStoringLog, HasNoShift, NotesChunk, StoresLog}
 use Rattle.md_array.specs.ReAdding.{ReAdds, re_add_event}
+use Rattle.md_array.specs.Spoiling.{SpoilsTarget}
 use Rattle.md_array.specs.Events.{Does, IsOldNewOrNone}
 use Rattle.md_array.specs.Worlds.{AreHonest}
 
@@ -132,6 +133,7 @@ Did old before Event.Unresynced new after = (after ≡ before) × NotesResynced 
 Did old before (Event.Fill k) new after = (after ≡ before) × Fills k old new
 Did old before (Event.Prepare k) new after = (after ≡ before) × Prepares k old new
 Did old before (Event.RecordTargetFails k) new after = (after ≡ before) × FailsOnTarget k old new
+Did old before (Event.SpoilTarget k) new after = (after ≡ before) × SpoilsTarget k old new
 Did old before (Event.Enrol k role listed) new after = (after ≡ before) × DidEnrol (Event.Enrol k role listed) old new
 Did old before (Event.Admit k role listed) new after = (after ≡ before) × DidAdmit (Event.Admit k role listed) old new
 Did old before (Event.Checkpoint k offset listed) new after = (after ≡ before) × DidCheckpoint (Event.Checkpoint k offset listed) old new

@@ -36,6 +36,8 @@ pub mod Lending
 pub mod Filling
 -- The superblock of a member that is rebuilt is stored, whose failure leaves the member as it was (this project's own).
 pub mod RecordingTarget
+-- A write of a superblock by which a member that is rebuilt tells of it failed, and left any (this project's own).
+pub mod Spoiling
 -- A spare is admitted: its superblock puts it in a role, where it is recovering.
 pub mod Admitting
 -- A recovering member records how far it is rebuilt.

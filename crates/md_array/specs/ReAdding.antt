@@ -1,5 +1,5 @@
 -- A device that left is taken back: it is read as a member, and then its superblock is written.
-use Rattle.std.specs.Prelude.{◌≡◌, ◌≢◌, ◌⊎◌, ℕ, ◌<◌, true, false, [], ◌∷◌, ◌++◌, length, slice_get, ⊤, Some, Result, MatchResult}
+use Rattle.std.specs.Prelude.{◌≡◌, ◌≢◌, ◌⊎◌, ℕ, ◌^◌, ◌<◌, ◌≤◌, true, false, [], ◌∷◌, ◌++◌, length, slice_get, ⊤, Some, Result, MatchResult}
 use Rattle.md_members.specs.declared.fault.MemberFault.{MemberFault}
 use Rattle.md_members.specs.declared.fault.MemberFault.TheVariants as member_fault
 use Rattle.md_members.specs.declared.info.MemberInfo.{MemberInfo}
@@ -29,6 +29,7 @@ IsOnlyRead before after = IsLeftAlone before after × StaysHonest before after
 -- The superblock of the device, as the reading left it, was written once, as the mirror keeps it, and the device stands last.
 pub record RecordsLast (k : ℕ) (device : Disk) (info : MemberInfo) (old new : MirrorView) : Type 0 where
   pub last : k ≡ length old.array.members
+  pub short : members.sectors_of device.content ≤ 2 ^ 54  -- as long as any device
   pub takes : TakesBack info old.array new.array
   pub readable : IsReadable (merged new.array.shared takes.member.superblock)  -- no condition: so it is of every superblock that is kept
   pub now : Disk

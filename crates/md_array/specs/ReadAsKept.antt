@@ -1,5 +1,5 @@
 -- What an opening would read of the members' devices is what the mirror keeps of them.
-use Rattle.std.specs.Prelude.{◌≡◌, ◌⊎◌, ℕ, ◌/◌, ◌<◌, ◌≤◌, true, false, List, slice_get, Some}
+use Rattle.std.specs.Prelude.{◌≡◌, ◌⊎◌, ℕ, ◌/◌, ◌<◌, ◌≤◌, Bool, true, false, List, slice_get, Some}
 use Rattle.md_format.specs.Fields.{number_at}
 use Rattle.md_super.specs.declared.superblock.Superblock.{Superblock}
 use Rattle.md_super.specs.Faults.{NoFault}
@@ -46,12 +46,13 @@ HasWidth sectors own content = chunk_size_on own content / 512 ≡ sectors
 abbrev pub IsFromBefore : ℕ → List ℕ → Type 0
 IsFromBefore count content = (v : Superblock) → IsSuperOn content v → v.events < count
 
--- A member that failed since the opening may have any header.
-pub record IsReadAsKept (a : ArrayView) (m : MemberView) (failed_at : ℕ) (content : List ℕ) : Type 0 where
-  pub super : HasOwnSuper a.shared m.superblock content
-  pub header : HasWidth a.chunks.sectors m.superblock content ⊎ ((is_recorded m.state ≡ false) × IsFromBefore failed_at content)
+-- A member that failed since the opening may have any header. A spoiled one, of which a write of its superblock failed, may have any
+-- superblock; its header is as it was.
+pub record IsReadAsKept (a : ArrayView) (m : MemberView) (failed_at : ℕ) (is_spoiled : Bool) (content : List ℕ) : Type 0 where
+  pub super : is_spoiled ≡ false → HasOwnSuper a.shared m.superblock content
+  pub header : HasWidth a.chunks.sectors m.superblock content ⊎ ((is_recorded m.state ≡ false) × (is_spoiled ≡ false → IsFromBefore failed_at content))
 
--- failed_at is the count after the last failure, or 0
-abbrev pub AreReadAsKept : MirrorView → ℕ → Type 0
-AreReadAsKept v failed_at =
-    (k : ℕ) (d : Disk) (m : MemberView) → slice_get v.disks k ≡ Some d → IsMember v.array k m → IsReadAsKept v.array m failed_at d.content
+-- failed_at is the count after the last failure, or 0; spoiled tells, by the index, which members are
+abbrev pub AreReadAsKept : MirrorView → ℕ → (ℕ → Bool) → Type 0
+AreReadAsKept v failed_at spoiled =
+    (k : ℕ) (d : Disk) (m : MemberView) → slice_get v.disks k ≡ Some d → IsMember v.array k m → IsReadAsKept v.array m failed_at (spoiled k) d.content

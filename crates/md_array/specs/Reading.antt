@@ -1,5 +1,5 @@
 -- Devices are read as members, one after another.
-use Rattle.std.specs.Prelude.{◌≡◌, ◌≢◌, ℕ, ◌<◌, List, length, slice_get, Some}
+use Rattle.std.specs.Prelude.{◌≡◌, ◌≢◌, ℕ, ◌^◌, ◌<◌, ◌≤◌, List, length, slice_get, Some}
 use Rattle.md_members.specs.declared.fault.MemberFault.{MemberFault}
 use Rattle.md_members.specs.declared.fault.MemberFault.TheVariants as member_fault
 use Rattle.md_members.specs.declared.fault.MemberFault.TheVariants.{NoMemory as NoMemoryOfMember}
@@ -14,6 +14,7 @@ use Rattle.md_array.specs.declared.fault.OpenFault.TheVariants.{Member, NoMemory
 pub record AreRead (disks : List Disk) (infos : List MemberInfo) : Type 0 where
   pub as_many : length infos ≡ length disks
   pub each : (k : ℕ) (d : Disk) (info : MemberInfo) → slice_get disks k ≡ Some d → slice_get infos k ≡ Some info → members.IsMember d.content d.honest info
+  pub short : (k : ℕ) (d : Disk) → slice_get disks k ≡ Some d → members.sectors_of d.content ≤ 2 ^ 54  -- as long as any device
 
 -- device k is not read as a member for this reason, and all before it are
 pub record RefusesMember (before after : List Disk) (k : ℕ) (fault : MemberFault) : Type 0 where

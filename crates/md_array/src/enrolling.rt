@@ -1,5 +1,5 @@
 // A member that was rebuilt comes into sync.
-ghost use Rattle.std.specs.Prelude.{◌≡◌, ◌*◌, ◌≤◌, ◌≤ℤ◌, ◌+ℤ◌, pos, ℕ, MatchResult, OnOk, true, false};
+ghost use Rattle.std.specs.Prelude.{◌≡◌, ◌*◌, ◌≤◌, ◌≤ℤ◌, ◌+ℤ◌, pos, ℕ, MatchResult, true, false};
 ghost use Rattle.md_badblocks.specs.Runs.{IsCanonical};
 ghost use Rattle.md_device.specs.Splice.{SameOutside};
 ghost use Rattle.md_super.specs.Log.{has_bad_block_log};
@@ -15,7 +15,7 @@ ghost use Rattle.md_array.specs.Enrolling.{EnrolReads, Enrols, IsStorable, Keeps
 ghost use Rattle.md_array.specs.Recording.{IsReadable};
 
 use crate::mirror::Mirror;
-use crate::recording::store_superblock;
+use crate::recording::block_for;
 use crate::storing::bitmap_start;
 use md_bitmap::{BitmapHeader, Marks};
 use md_device::{Device, WriteFault};
@@ -41,7 +41,7 @@ impl<D: Device + Drop> Mirror<D> {
         requires sound { IsConsistent self.old }
         requires may { MayEnrol k copied.now orphans.now self.old }
         ensures gives { MatchResult result (λ _. Enrols k copied.now orphans.now self.old self.new) (RefusesEnrol k copied.now orphans.now self.old self.new) }
-        ensures read { EnrolReads self.old self.new result }
+        ensures read { EnrolReads k self.old self.new result }
         ensures sound { IsConsistent self.new }
         ensures pending { (p : PendingView) → IsPending self.old.array p → IsPending self.new.array p }
     {
@@ -67,7 +67,8 @@ impl<D: Device + Drop> Mirror<D> {
 }
 
 // Writes all of a member but its data on its device: its marks with this header, its log, and its
-// superblock beside these fields of the array.
+// superblock beside these fields of the array. The superblock's bytes are made first, so that they are
+// known to be readable whichever write fails.
 fn store_member<D: Device>(
     device: &mut D,
     header: &BitmapHeader,
@@ -78,12 +79,13 @@ fn store_member<D: Device>(
     ensures writes { (start : ℕ) × BitmapStartsAt member.now.superblock start
         × MakesWrites D.Device (member_writes start header.now shared.now member.now) device.old device.new result }
     ensures data { KeepsData member.now (disk_of D.Device device.old) (disk_of D.Device device.new) }
-    ensures readable { OnOk result (IsReadable (merged shared.now member.now.superblock)) }
+    ensures readable { IsReadable (merged shared.now member.now.superblock) }
 {
+    let block = block_for(shared, &member.superblock);
     let start = bitmap_start(&member.superblock);
     store_bitmap(device, start, header, &member.stored)?;
     store_log(device, member)?;
-    store_superblock(device, shared, member)
+    put(device, SUPER_SECTOR, &block)
 }
 
 /// Writes a member's list in the log on its device, where its superblock names one.

@@ -1,5 +1,5 @@
 // The devices move out, for a rebuild or a check, and come back.
-ghost use Rattle.std.specs.Prelude.{◌≡◌, ℕ, List, [], map};
+ghost use Rattle.std.specs.Prelude.{◌≡◌, ℕ, Bool, List, [], map};
 ghost use Rattle.md_state.specs.MakingClean.{IsIdle};
 ghost use Rattle.md_state.specs.View.{Disk, MirrorView, disk_of};
 ghost use Rattle.md_array.specs.Consistency.{IsConsistent};
@@ -32,8 +32,8 @@ impl<D: Device + Drop> Mirror<D> {
         requires back { (before : List Disk) × AreBack self.old before (map (disk_of D.Device) devices.items) }
         ensures in_place { self.new ≡ record self.old { disks = map (disk_of D.Device) devices.items } }
         ensures sound { IsConsistent self.new }
-        ensures read { (before : List Disk) (failed_at : ℕ) → AreBack self.old before (map (disk_of D.Device) devices.items)
-            → AreReadAsKept (record self.old { disks = before }) failed_at → AreReadAsKept self.new failed_at }
+        ensures read { (before : List Disk) (failed_at : ℕ) (spoiled : ℕ → Bool) → AreBack self.old before (map (disk_of D.Device) devices.items)
+            → AreReadAsKept (record self.old { disks = before }) failed_at spoiled → AreReadAsKept self.new failed_at spoiled }
         ensures event { FillHappens self.old self.new }
     {
         self.devices = devices;

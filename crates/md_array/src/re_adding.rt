@@ -61,6 +61,7 @@ impl<D: Device + Drop> Mirror<D> {
         ensures { MatchResult result (λ k. RecordsLast k (disk_of D.Device device) info self.old self.new)
             (λ e. RefusesToRecordLast (disk_of D.Device device) (disk_of D.Device e.0) info self.old self.new e.1) }
     {
+        let _sectors = device.sectors();
         let number = info.superblock.dev_number;
         let role = info.superblock.role_of(number);
         let full = !self.array.is_degraded();

@@ -20,6 +20,7 @@ pub(crate) fn read_members<D: Device>(
 {
     let mut infos = Vec::with_capacity(alloc, devices.len())?;
     for k in 0..devices.len() {
+        let _sectors = devices[k].sectors();
         match read_member(alloc, &mut devices[k]) {
             Ok(info) => infos.push_reserved(info),
             Err(fault) => return Err(refusal(k, fault)),

@@ -1,5 +1,5 @@
 // Storing a member's superblock.
-ghost use Rattle.std.specs.Prelude.{◌<◌, ◌≤◌, ◌*◌, [], ◌∷◌, MatchResult, length};
+ghost use Rattle.std.specs.Prelude.{◌≡◌, ◌<◌, ◌≤◌, ◌*◌, [], ◌∷◌, MatchResult, length};
 ghost use Rattle.md_device.specs.Splice.{SameOutside};
 ghost use Rattle.md_members.specs.Members.{sectors_of};
 ghost use Rattle.md_super.specs.Merge.{merged};
@@ -67,7 +67,16 @@ pub(crate) fn store_fields<D: Device>(
     ensures outside { SameOutside (512 * 8) (length (own_write shared.now own.now).bytes) (D.content device.old) (D.content device.new) }
     ensures readable { IsReadable (merged shared.now own.now) }
 {
+    let block = block_for(shared, own);
+    put(device, SUPER_SECTOR, &block)
+}
+
+/// The bytes that are written for it.
+pub(crate) fn block_for(shared: &Superblock, own: &Superblock) -> [u8; 4096]
+    ensures bytes { result ≡ (own_write shared.now own.now).bytes }
+    ensures readable { IsReadable (merged shared.now own.now) }
+{
     let mut block = [0; 4096];
     encode_member(shared, own, &mut block);
-    put(device, SUPER_SECTOR, &block)
+    block
 }

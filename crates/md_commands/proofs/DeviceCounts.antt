@@ -99,6 +99,7 @@ did IsOf keeps (Event.ReAdd own device left) old new before after of h = absurd 
 did IsOf keeps (Event.Fill k) old new before after of h = h.1.disks.as_many
 did IsOf keeps (Event.Prepare k) old new before after of h = h.1.disks.as_many
 did IsOf keeps (Event.RecordTargetFails k) old new before after of h = h.1.leaves.disks.tried.as_many
+did IsOf keeps (Event.SpoilTarget k) old new before after of h = h.1.disks.tried.as_many
 did IsOf keeps (Event.Enrol k role listed) old new before after of h = absurd (keeps.enrols k role listed of)
 did IsOf keeps (Event.Admit k role listed) old new before after of h = h.1.admits.disks.tried.as_many
 did IsOf keeps (Event.Checkpoint k offset listed) old new before after of h = h.1.checkpoints.disks.tried.as_many

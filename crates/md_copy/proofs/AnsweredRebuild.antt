@@ -46,7 +46,7 @@ refused_ready target old new member at may (MetadataFault k) (inr h) = inr (reco
 refused_ready target old new member at may EventsFull h = absurd h
 refused_ready target old new member at may (SourceFault k chunk) h = absurd h
 
-pub readied_either : (target : ℕ) (m : MemberView) (old ready : MirrorView) → Readies target m old ready → StoresFirst old ready ⊎ AdmitsFirst target old ready
+abbrev pub readied_either : (target : ℕ) (m : MemberView) (old ready : MirrorView) → Readies target m old ready → StoresFirst old ready ⊎ AdmitsFirst target old ready
 readied_either target m old ready (inl h) = inl h.1
 readied_either target m old ready (inr h) = inr h.1
 

@@ -1,8 +1,8 @@
 -- A rebuild is a list of events of the array's model, one part after another.
-use Rattle.std.proofs.Common.{◌≡◌, ◌∙◌, ◌⊎◌, ℕ, ◌+◌, ◌<◌, ◌≤◌, ◌^◌, true, Option, List, [], ◌∷◌, ◌++◌, slice_get, refl, sym, ap, subst, inl, inr}
+use Rattle.std.proofs.Common.{◌≡◌, ◌∙◌, ◌⊎◌, ℕ, ◌<◌, true, Option, List, [], ◌∷◌, ◌++◌, append_assoc, slice_get, refl, sym, ap, subst, inl, inr}
+use Rattle.std.proofs.lemmas.List.{append-nil}
 use Rattle.std.proofs.lemmas.Option.{same_Some}
 use Rattle.md_bitmap.specs.Marks.{Bitmap}
-use Rattle.md_bitmap.specs.declared.chunks.Chunks.{Chunks}
 use Rattle.md_cert.specs.declared.slots.Slot.{Slot}
 use Rattle.md_device.proofs.Leaving.{leaves_less}
 use Rattle.md_kept_members.specs.TakingBack.{admitted_member}
@@ -24,18 +24,21 @@ use Rattle.md_state.specs.View.{ArrayView, MirrorView}
 use Rattle.md_array.specs.Admitting.{admit_event}
 use Rattle.md_array.specs.Consistency.{IsConsistent}
 use Rattle.md_array.specs.Enrolling.{Enrols, FailsToEnrol}
-use Rattle.md_array.specs.Enrolments.{EndsBelow, enrol_event}
+use Rattle.md_array.specs.Enrolments.{FailsAtSuper, enrol_event}
 use Rattle.md_array.specs.Events.{Does, IsChangedAlone, IsSameBesideMissing, listed_on}
 use Rattle.md_array.specs.Filling as array
 use Rattle.md_array.specs.InTurn.{AllOf, Did, InTurn, IsInOrder, Leads, LeftWhole, Requests}
 use Rattle.md_array.specs.RecordingTarget as array_target
 use Rattle.md_array.specs.Worlds.{AreHonest, lists_of}
+use Rattle.md_array.proofs.Rebuilding.AdmitAnswered.{admit_spoils}
 use Rattle.md_array.proofs.Rebuilding.AdmittedEvent.{admit_happens, admitted_is_pending}
+use Rattle.md_array.proofs.Rebuilding.EnrolSpoils.{unenrol_leads}
 use Rattle.md_array.proofs.Rebuilding.EnrolUnstored.{idle_pending}
 use Rattle.md_array.proofs.Rebuilding.EnrolledEvent.{enrol_leads}
 use Rattle.md_array.proofs.Rebuilding.FilledEvent.{fill_happens}
 use Rattle.md_array.proofs.Rebuilding.InBetween.{recovers_rebuilt}
 use Rattle.md_array.proofs.Rebuilding.PreparedEvent.{prepare_happens}
+use Rattle.md_array.proofs.Rebuilding.SpoiledEvent.{spoil_happens}
 use Rattle.md_array.proofs.Rebuilding.TargetEvent.{target_fails_happens}
 use Rattle.md_array.proofs.Rebuilding.TargetLeft.{left_happens}
 use Rattle.md_array.proofs.Steps.Turns.{all_on, all_such, turn_on, turn_then}
@@ -44,7 +47,7 @@ use Rattle.md_metadata.specs.Storing.{IsStoring}
 use Rattle.md_copy.specs.declared.fault.RebuildFault.{RebuildFault}
 use Rattle.md_copy.specs.declared.fault.RebuildFault.TheVariants.{Halted, NotSpare, Dirty, InFlight, LogFull, NoMemory, TargetFault, MetadataFault, EventsFull, SourceFault}
 use Rattle.md_copy.specs.Filling.{IsFilling}
-use Rattle.md_copy.specs.RebuildEvents.{AreOfAdmission, AreStored, AsksOfFailure, FailsAtMarks, IsBeforeEnrol, IsOfRebuild, LeadsOrStops, RebuildLeads}
+use Rattle.md_copy.specs.RebuildEvents.{AreOfAdmission, AreStored, AsksOfFailure, FailsAtMarks, IsBeforeEnrol, IsListOfUnfinished, IsOfRebuild, IsOfUnfinished, LeadsUnadmitted, LeadsUnfinished, RebuildLeads}
 use Rattle.md_copy.specs.Rebuilding.{Begins, EndsFilled, EndsInPass, EndsStoring, FillsBy, RebuildsBy, RefusesRebuild}
 use Rattle.md_copy.specs.RebuildSources.{IsPlanOf}
 use Rattle.md_copy.specs.Readying.{AdmitsAfter, AdmitsFirst, FailsAdmission, StopsAdmitted}
@@ -55,7 +58,6 @@ use Rattle.md_copy.proofs.EnrolReady.{target_rebuilt}
 use Rattle.md_copy.proofs.LentBack.{planned_missing}
 use Rattle.md_copy.proofs.RebuiltByCall.{IsLast, last_of}
 use Rattle.md_copy.proofs.Readied.{IsReady, ready_of, spare_rebuilt}
-use Rattle.md_copy.proofs.StartsReadied.{starts_of}
 use Rattle.md_copy.proofs.StoredFirst.{rebuilt_still}
 use Rattle.md_copy.proofs.UnfinishedEnrol.{prepares}
 
@@ -261,14 +263,6 @@ module _ (target : ℕ) (planned : Planned) (old stored : MirrorView) (b : Begin
   pub begin_leads : LeadsIn (IsBeforeEnrol target) begin_events old stored
   begin_leads = either_leads target old stored either
 
-  -- where its data end
-  pub ends_then : (filled : MirrorView) → filled.array ≡ stored.array → EndsBelow old target → EndsBelow filled target
-  ends_then filled same ends m at =
-      let starts = starts_of target planned old stored b in
-      let was = starts.before target m (ap (λ (a : ArrayView). slice_get a.members target) (sym same) ∙ at) in
-      let width : filled.array.chunks ≡ old.array.chunks = ap (λ (a : ArrayView). a.chunks) same ∙ starts.chunks in
-      subst (λ (x : ℕ). x + filled.array.chunks.size ≤ 2 ^ 54) (sym was.2.offset) (subst (λ (c : Chunks). was.0.superblock.data_offset + c.size ≤ 2 ^ 54) (sym width) (ends was.0 was.1))
-
 -- ---- it comes into sync
 module _ (target : ℕ) (planned : Planned) (copied orphans : Bitmap) (old filled : MirrorView) (by : FillsBy target planned copied orphans old filled) where
   -- the events until it is filled
@@ -280,7 +274,7 @@ module _ (target : ℕ) (planned : Planned) (copied orphans : Bitmap) (old fille
       both_lead (IsBeforeEnrol target) (begin_events target planned old by.stored by.begins) (Event.Fill target ∷ []) old by.stored filled (begin_leads target planned old by.stored by.begins)
       (filling_leads target planned old by.stored by.begins filled by.sound by.fills.filling)
 
-  module _ (ends : EndsBelow old target) (enrolled : MirrorView) (sound : IsConsistent enrolled) (r : Enrols target copied orphans filled enrolled) where
+  module _ (enrolled : MirrorView) (sound : IsConsistent enrolled) (r : Enrols target copied orphans filled enrolled) where
     abbrev pub enrolling_events : List Event
     enrolling_events = Event.Prepare target ∷ enrol_event r ∷ []
 
@@ -288,14 +282,14 @@ module _ (target : ℕ) (planned : Planned) (copied orphans : Bitmap) (old fille
     enrolling_leads = record {
       steps = (refl, (refl, tt));
       leads = λ previous others in_flight.
-          enrol_leads target copied orphans filled enrolled by.sound sound by.may (ends_then target planned old by.stored by.begins filled by.fills.filling.array ends) r previous others in_flight;
+          enrol_leads target copied orphans filled enrolled by.sound sound by.may r previous others in_flight;
       requests = ap (λ (a : ArrayView). a.requests) r.array;
       sound = sound;
       pending = λ o is. idle_pending filled.array o by.may.idle is;
     }
 
 -- ---- all of it
-module _ (target : ℕ) (planned : Planned) (copied orphans : Bitmap) (old new : MirrorView) (by : RebuildsBy target planned copied orphans old new) (ends : EndsBelow old target) where
+module _ (target : ℕ) (planned : Planned) (copied orphans : Bitmap) (old new : MirrorView) (by : RebuildsBy target planned copied orphans old new) where
   abbrev f : FillsBy target planned copied orphans old by.filled
   f = by.fills
 
@@ -309,7 +303,7 @@ module _ (target : ℕ) (planned : Planned) (copied orphans : Bitmap) (old new :
   opening_events = begin_events target planned old f.stored f.begins
 
   abbrev pub enrolling : List Event
-  enrolling = enrolling_events target planned copied orphans old by.filled f ends by.enrolled by.sound by.enrols
+  enrolling = enrolling_events target planned copied orphans old by.filled f by.enrolled by.sound by.enrols
 
   abbrev pub last_events : List Event
   last_events = last.1.goes.events
@@ -321,7 +315,7 @@ module _ (target : ℕ) (planned : Planned) (copied orphans : Bitmap) (old new :
   pass = as_such (IsBeforeEnrol target) Of (before_of target) (Event.Fill target ∷ []) f.stored by.filled (filling_leads target planned old f.stored f.begins by.filled f.sound f.fills.filling)
 
   enrolment : LeadsIn Of enrolling by.filled by.enrolled
-  enrolment = enrolling_leads target planned copied orphans old by.filled f ends by.enrolled by.sound by.enrols
+  enrolment = enrolling_leads target planned copied orphans old by.filled f by.enrolled by.sound by.enrols
 
   rest : LeadsIn Of last_events by.enrolled last.0
   rest = as_such IsStoring Of (storing_of target) last_events by.enrolled last.0 (stored_leads by.enrolled last.0 last.1.goes)
@@ -350,31 +344,54 @@ module _ (target : ℕ) (planned : Planned) (copied orphans : Bitmap) (old new :
   }
 
 -- ---- one that is refused
-module _ (target : ℕ) where
-  leads_there : {es : List Event} (old new : MirrorView) → LeadsIn (Before target) es old new → LeadsOrStops target old new
-  leads_there old new g = record { last = new; ends = inl refl; leads = leads_by g }
+-- of these a rebuild that is not done may be made
+pub unfinished_of : (target : ℕ) (e : Event) → IsBeforeEnrol target e → IsOfUnfinished target e
+unfinished_of target (Event.SpoilTarget k) of = absurd of
+unfinished_of target e of = of
 
-  none : (old new : MirrorView) → IsConsistent old → new ≡ old → LeadsOrStops target old new
+module _ (target : ℕ) where
+  abbrev pub Unfinished : Event → Type 0
+  Unfinished = IsOfUnfinished target
+
+  as_unfinished : (es : List Event) (old new : MirrorView) → LeadsIn (Before target) es old new → LeadsIn Unfinished es old new
+  as_unfinished es old new g = as_such (Before target) Unfinished (unfinished_of target) es old new g
+
+  unspoiled : (es : List Event) → AllOf (Before target) es → IsListOfUnfinished target es
+  unspoiled es all = record { before = es; first = all; last = []; spoils = inl refl; list = sym (append-nil es) }
+
+  leads_there : {es : List Event} (old new : MirrorView) → LeadsIn (Before target) es old new → LeadsUnfinished target old new
+  leads_there {es} old new g = record {
+    goes = record { last = new; ends = inl refl; leads = leads_by (as_unfinished es old new g) };
+    list = unspoiled es g.steps;
+  }
+
+  none : (old new : MirrorView) → IsConsistent old → new ≡ old → LeadsUnfinished target old new
   none old new sound same = leads_there old new (subst (LeadsIn (Before target) [] old) (sym same) (none_lead (Before target) old sound))
 
   -- after these events what is due was not all stored
-  stops_after : (es : List Event) (k : ℕ) (old mid new : MirrorView) → LeadsIn (Before target) es old mid → StopsAt target k mid new → LeadsOrStops target old new
+  stops_after : (es : List Event) (k : ℕ) (old mid new : MirrorView) → LeadsIn (Before target) es old mid → StopsAt target k mid new → LeadsUnfinished target old new
   stops_after es k old mid new before h = elim h.ends [
     | inl lost ↦ leads_there old new (both_lead (Before target) es lost.loses.goes.events old mid new before (storing_leads target mid new lost.loses.goes))
-    | inr at ↦ record {
-      last = at.mid;
-      ends = inr (inl (record { failing = at.failing; of = at.of; halts = at.halts }));
-      leads = leads_by (both_lead (Before target) es at.stores.goes.events old mid at.mid before (storing_leads target mid at.mid at.stores.goes));
-    }
+    | inr at ↦
+        let stored = at.stores.goes.events in
+        let g = both_lead (Before target) es stored old mid at.mid before (storing_leads target mid at.mid at.stores.goes) in
+        record {
+          goes = record {
+            last = at.mid;
+            ends = inr (record { failing = at.failing; of = at.of; halts = at.halts });
+            leads = leads_by (as_unfinished (es ++ stored) old at.mid g);
+          };
+          list = unspoiled (es ++ stored) g.steps;
+        }
   ]
 
-  stops : (k : ℕ) (old new : MirrorView) → IsConsistent old → StopsAt target k old new → LeadsOrStops target old new
+  stops : (k : ℕ) (old new : MirrorView) → IsConsistent old → StopsAt target k old new → LeadsUnfinished target old new
   stops k old new sound h = stops_after [] k old old new (none_lead (Before target) old sound) h
 
-  stops_admitted : (k : ℕ) (old new : MirrorView) → StopsAdmitted target k old new → LeadsOrStops target old new
+  stops_admitted : (k : ℕ) (old new : MirrorView) → StopsAdmitted target k old new → LeadsUnfinished target old new
   stops_admitted k old new h = stops_after (admission_events target h.after) k old h.admitted new (admission_leads target old h.admitted h.after) h.stops
 
-  unrecorded : (old new : MirrorView) → EndsStoring target old (FailsOnTarget target old new) → LeadsOrStops target old new
+  unrecorded : (old new : MirrorView) → EndsStoring target old (FailsOnTarget target old new) → LeadsUnfinished target old new
   unrecorded old new e =
       let h : FailsOnTarget target old new = e.why in
       let was : (m : MemberView) → IsMember old.array target m → is_rebuilt m.state ≡ true =
@@ -387,43 +404,83 @@ module _ (target : ℕ) where
       (λ honest whole others in_flight. target_fails_happens target h.mid new h.stores.goes.sound fails h.fails.member at (whole h.fails.member at) honest others in_flight)
       h.fails.array h.sound))
 
-  -- the target was not admitted
-  unadmitted : (old new : MirrorView) → FailsAdmission target old new → LeadsOrStops target old new
+  -- the target was not admitted, and is spoiled
+  unadmitted : (old new : MirrorView) → FailsAdmission target old new → LeadsUnfinished target old new
   unadmitted old new h =
+      let goes = h.first.stores.goes in
+      let first = storing_leads target old h.stored goes in
+      let spoils = admit_spoils target h.stored new goes.sound h.fails h.spare in
+      let last = one_leads Unfinished (Event.SpoilTarget target) h.stored new refl (λ previous. tt) (λ others. (refl, spoils))
+      (λ honest whole others in_flight. spoil_happens target h.stored new goes.sound spoils honest others in_flight) h.fails.array h.sound in
+      record {
+        goes = record {
+          last = new;
+          ends = inl refl;
+          leads = leads_by (both_lead Unfinished goes.events (Event.SpoilTarget target ∷ []) old h.stored new (as_unfinished goes.events old h.stored first) last);
+        };
+        list = record { before = goes.events; first = first.steps; last = Event.SpoilTarget target ∷ []; spoils = inr refl; list = refl };
+      }
+
+  pub unadmitted_leads : (old new : MirrorView) → FailsAdmission target old new → LeadsUnadmitted target old new
+  unadmitted_leads old new h =
       let f = h.fails in
       let shared = (admitted h.stored.array target f.may.member f.role).shared in
       let own = (admitted_member f.role f.may.member).superblock in
       record {
-        last = h.stored;
-        ends = inr (inr (record {
-          fails = f;
-          event = left_happens target h.stored new h.first.stores.goes.sound f.may.running f.may.member f.may.at (spare_rebuilt f.may.member.state h.spare) f.array shared own f.readable f.disks;
-        }));
+        mid = h.stored;
         leads = leads_by (storing_leads target old h.stored h.first.stores.goes);
+        fails = f;
+        event = left_happens target h.stored new h.first.stores.goes.sound f.may.running f.may.member f.may.at (spare_rebuilt f.may.member.state h.spare) f.array shared own f.readable f.disks;
       }
 
-  in_pass : (fault : RebuildFault) (old new : MirrorView) → IsConsistent new → EndsInPass target fault old new → LeadsOrStops target old new
+  in_pass : (fault : RebuildFault) (old new : MirrorView) → IsConsistent new → EndsInPass target fault old new → LeadsUnfinished target old new
   in_pass fault old new sound e =
       leads_there old new
       (both_lead (Before target) (begin_events target e.planned old e.stored e.begins) (Event.Fill target ∷ []) old e.stored new (begin_leads target e.planned old e.stored e.begins)
       (filling_leads target e.planned old e.stored e.begins new sound e.fails.filling))
 
-  when_filled : {Why : Bitmap → Bitmap → MirrorView → Type 0} (es : List Event) (old new : MirrorView) (e : EndsFilled target old new Why) → LeadsIn (Before target) es e.filled new → LeadsOrStops target old new
+  when_filled : {Why : Bitmap → Bitmap → MirrorView → Type 0} (es : List Event) (old new : MirrorView) (e : EndsFilled target old new Why) → LeadsIn (Before target) es e.filled new → LeadsUnfinished target old new
   when_filled es old new e rest =
       let first = filled_leads target e.planned e.copied e.orphans old e.filled e.fills in
       leads_there old new (both_lead (Before target) (filling_events target e.planned e.copied e.orphans old e.filled e.fills) es old e.filled new first rest)
 
-  filled_there : {Why : Bitmap → Bitmap → MirrorView → Type 0} (old new : MirrorView) (e : EndsFilled target old new Why) → new ≡ e.filled → LeadsOrStops target old new
+  filled_there : {Why : Bitmap → Bitmap → MirrorView → Type 0} (old new : MirrorView) (e : EndsFilled target old new Why) → new ≡ e.filled → LeadsUnfinished target old new
   filled_there old new e same = when_filled [] old new e (subst (LeadsIn (Before target) [] e.filled) (sym same) (none_lead (Before target) e.filled e.fills.sound))
 
-  unenrolled : (old new : MirrorView) → IsConsistent new → (e : EndsFilled target old new (λ copied orphans filled. FailsToEnrol target copied orphans filled new)) → FailsAtMarks e.why → LeadsOrStops target old new
-  unenrolled old new sound e f =
+  unenrolled : (old new : MirrorView) → IsConsistent new → (e : EndsFilled target old new (λ copied orphans filled. FailsToEnrol target copied orphans filled new))
+      → FailsAtMarks e.why ⊎ FailsAtSuper e.why → LeadsUnfinished target old new
+  unenrolled old new sound e (inl f) =
       let prepared = prepares target e.copied e.orphans e.filled new e.fills.sound e.why e.fills.may f in
       when_filled (Event.Prepare target ∷ []) old new e
       (one_leads (Before target) (Event.Prepare target) e.filled new refl (λ previous. tt) (λ others. (refl, prepared))
       (λ honest whole others in_flight. prepare_happens target e.filled new e.fills.sound prepared honest others in_flight) e.why.array sound)
+  unenrolled old new sound e (inr f) =
+      let until = filling_events target e.planned e.copied e.orphans old e.filled e.fills in
+      let first = filled_leads target e.planned e.copied e.orphans old e.filled e.fills in
+      let rest : LeadsIn Unfinished (Event.Prepare target ∷ Event.SpoilTarget target ∷ []) e.filled new =
+      record {
+        steps = (refl, (refl, tt));
+        leads = λ previous others in_flight. unenrol_leads target e.copied e.orphans e.filled new e.fills.sound e.why f e.fills.may previous others in_flight;
+        requests = ap (λ (a : ArrayView). a.requests) e.why.array;
+        sound = sound;
+        pending = λ o is. subst (λ (a : ArrayView). IsPending a o) (sym e.why.array) is;
+      } in
+      record {
+        goes = record {
+          last = new;
+          ends = inl refl;
+          leads = leads_by (both_lead Unfinished until (Event.Prepare target ∷ Event.SpoilTarget target ∷ []) old e.filled new (as_unfinished until old e.filled first) rest);
+        };
+        list = record {
+          before = until ++ Event.Prepare target ∷ [];
+          first = all_on (Before target) until (Event.Prepare target ∷ []) first.steps (refl, tt);
+          last = Event.SpoilTarget target ∷ [];
+          spoils = inr refl;
+          list = sym (append_assoc until (Event.Prepare target ∷ []) (Event.SpoilTarget target ∷ []));
+        };
+      }
 
-  pub refused_leads : (old new : MirrorView) → IsConsistent old → IsConsistent new → (fault : RebuildFault) → (h : RefusesRebuild target old new fault) → AsksOfFailure target old new fault h → LeadsOrStops target old new
+  pub refused_leads : (old new : MirrorView) → IsConsistent old → IsConsistent new → (fault : RebuildFault) → (h : RefusesRebuild target old new fault) → AsksOfFailure target old new fault h → LeadsUnfinished target old new
   refused_leads old new sound after Halted h asks = none old new sound h.unchanged
   refused_leads old new sound after NotSpare h asks = none old new sound h.unchanged
   refused_leads old new sound after Dirty h asks = none old new sound h.unchanged

@@ -368,6 +368,7 @@ module _ (mid next : MirrorView) (before between : Requests) (previous : Option 
   keeps_event (Event.Fill k) of order did = absurd of
   keeps_event (Event.Prepare k) of order did = absurd of
   keeps_event (Event.RecordTargetFails k) of order did = absurd of
+  keeps_event (Event.SpoilTarget k) of order did = absurd of
   keeps_event (Event.Enrol k role listed) of order did = absurd of
   keeps_event (Event.Admit k role listed) of order did = absurd of
   keeps_event (Event.Checkpoint k offset listed) of order did = absurd of

@@ -7,6 +7,7 @@ use Rattle.md_model.specs.Events.{Event}
 use Rattle.md_state.specs.View.{ArrayView, Disk, MirrorView}
 use Rattle.md_array.specs.Admitting.{FailsOnTargetAlone, FailsToAdmit}
 use Rattle.md_array.specs.Enrolling.{FailsToEnrol}
+use Rattle.md_array.specs.Enrolments.{FailsAtSuper}
 use Rattle.md_array.specs.InTurn.{AllOf}
 use Rattle.md_array.specs.ReadAsKept.{HasWidth}
 use Rattle.md_metadata.specs.Going.{LeadsBy}
@@ -17,8 +18,7 @@ use Rattle.md_copy.specs.Rebuilding.{RefusesRebuild}
 use Rattle.md_copy.specs.Rebuilt.{HaltsFrom}
 
 -- ---- which events
--- Marks and superblocks are stored; the target, a spare, is admitted; of it data change, its bitmap and its log, or a write of its
--- superblock fails.
+-- Marks and superblocks are stored; the target, a spare, is admitted; of it data change, its bitmap and its log, or its own record fails.
 abbrev pub IsBeforeEnrol : ℕ → Event → Type 0
 IsBeforeEnrol target (Event.Record k) = Unit {0}
 IsBeforeEnrol target (Event.StoreMarks k b) = Unit {0}
@@ -34,6 +34,11 @@ IsBeforeEnrol target e = ⊥
 abbrev pub IsOfRebuild : ℕ → Event → Type 0
 IsOfRebuild target (Event.Enrol k role listed) = k ≡ target
 IsOfRebuild target e = IsBeforeEnrol target e
+
+-- Or it is spoiled: a write failed by which it was to be admitted, or to come into sync, and left any superblock.
+abbrev pub IsOfUnfinished : ℕ → Event → Type 0
+IsOfUnfinished target (Event.SpoilTarget k) = k ≡ target
+IsOfUnfinished target e = IsBeforeEnrol target e
 
 -- what is due is stored, and nothing fails
 pub record AreStored (events : List Event) : Type 0 where
@@ -68,28 +73,38 @@ pub record LeadsOrHalts (IsOf : Event → Type 0) (old new : MirrorView) : Type 
   pub ends : (last ≡ new) ⊎ HaltsFrom last new
   pub leads : LeadsBy IsOf old last
 
--- The write failed by which the target is admitted. Where it left the old superblock or none, that is an event, too.
-pub record FailsFrom (target : ℕ) (last new : MirrorView) : Type 0 where
-  pub fails : FailsToAdmit target last new
-  pub event : FailsOnTargetAlone target last new
-
--- Of one that is refused they lead there, too, or to the mirror right before that write.
-pub record LeadsOrStops (target : ℕ) (old new : MirrorView) : Type 0 where
-  pub last : MirrorView
-  pub ends : (last ≡ new) ⊎ (HaltsFrom last new ⊎ FailsFrom target last new)
-  pub leads : LeadsBy (IsBeforeEnrol target) old last
-
 -- a rebuild that is done
 pub record RebuildLeads (target : ℕ) (old new : MirrorView) : Type 0 where
   pub goes : LeadsOrHalts (IsOfRebuild target) old new
   pub list : IsListOfRebuild target goes.leads.events
+
+-- ---- one that is refused
+-- The target may be spoiled by the last of them, and by no other.
+pub record IsListOfUnfinished (target : ℕ) (events : List Event) : Type 0 where
+  pub before : List Event
+  pub first : AllOf (IsBeforeEnrol target) before
+  pub last : List Event
+  pub spoils : (last ≡ []) ⊎ (last ≡ Event.SpoilTarget target ∷ [])
+  pub list : events ≡ before ++ last
+
+pub record LeadsUnfinished (target : ℕ) (old new : MirrorView) : Type 0 where
+  pub goes : LeadsOrHalts (IsOfUnfinished target) old new
+  pub list : IsListOfUnfinished target goes.leads.events
+
+-- The write failed by which the target is admitted. Where it left the old superblock or none, that is the event of a record that failed,
+-- too: then the next opening need not leave the target out.
+pub record LeadsUnadmitted (target : ℕ) (old new : MirrorView) : Type 0 where
+  pub mid : MirrorView
+  pub leads : LeadsBy (IsBeforeEnrol target) old mid
+  pub fails : FailsToAdmit target mid new
+  pub event : FailsOnTargetAlone target mid new
 
 -- ---- where `enrol` fails
 -- the header of the member's bitmap tells of chunks as wide as before
 abbrev pub KeepsWidth : ArrayView → MemberView → List ℕ → List ℕ → Type 0
 KeepsWidth a m old new = HasWidth a.chunks.sectors m.superblock old → HasWidth a.chunks.sectors m.superblock new
 
--- The write that failed was not that of the superblock, which others were to come before: it was of the bitmap or of the log. It left the
+-- The write that failed was not that of the superblock, as others were to come after it: it was of the bitmap or of the log. It left the
 -- width in the header, and so did a stop.
 pub record FailsAtMarks {target : ℕ} {copied orphans : Bitmap} {old new : MirrorView} (f : FailsToEnrol target copied orphans old new) : Type 0 where
   pub more : (d e : Disk) (at_d : slice_get old.disks target ≡ Some d) (at_e : slice_get new.disks target ≡ Some e) → (f.disks.change d e at_d at_e).0.rest ≢ []
@@ -108,7 +123,7 @@ AsksOfFailure target old new (MetadataFault k) h = Unit {0}
 AsksOfFailure target old new TargetFault (inl first) = Unit {0}
 AsksOfFailure target old new TargetFault (inr (inl admission)) = Unit {0}
 AsksOfFailure target old new TargetFault (inr (inr (inl pass))) = Unit {0}
-AsksOfFailure target old new TargetFault (inr (inr (inr ends))) = FailsAtMarks ends.why
+AsksOfFailure target old new TargetFault (inr (inr (inr ends))) = FailsAtMarks ends.why ⊎ FailsAtSuper ends.why
 AsksOfFailure target old new NoMemory h = Unit {0}
 AsksOfFailure target old new (SourceFault k chunk) h = Unit {0}
 AsksOfFailure target old new (LogFull k) h = Unit {0}

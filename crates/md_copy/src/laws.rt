@@ -4,11 +4,11 @@ ghost use Rattle.md_bitmap.specs.Marks.{Bitmap};
 ghost use Rattle.md_plan.specs.declared.planner.Planned.{Planned};
 ghost use Rattle.md_state.specs.View.{MirrorView};
 ghost use Rattle.md_array.specs.Consistency.{IsConsistent};
-ghost use Rattle.md_array.specs.Enrolments.{EndsBelow};
 ghost use Rattle.md_copy.specs.declared.fault.RebuildFault.{RebuildFault};
 ghost use Rattle.md_copy.specs.declared.rebuilt.Rebuilt.{Rebuilt};
-ghost use Rattle.md_copy.specs.RebuildEvents.{AsksOfFailure, LeadsOrStops, RebuildLeads};
+ghost use Rattle.md_copy.specs.RebuildEvents.{AsksOfFailure, LeadsUnadmitted, LeadsUnfinished, RebuildLeads};
 ghost use Rattle.md_copy.specs.Rebuilding.{Rebuilds, RebuildsBy, RefusesRebuild};
+ghost use Rattle.md_copy.specs.Readying.{FailsAdmission};
 ghost use Rattle.md_copy.specs.Rebuilt.{HasRebuilt, IsRebuiltInSync};
 
 /// From the moment at which what is due is stored to that at which the target is in sync: whatever the steps
@@ -26,14 +26,14 @@ pub fn rebuilt_by_call()
 {}
 
 /// A rebuild is a list of events of the array's model, so that the laws over lives speak of it. One that is
-/// done has one enrolment in it, if the target's data end at or below sector 2^54, and an admission where the
-/// target was a spare; one that is refused has no enrolment. Where the admission failed, the list ends right
-/// before its write. Where `enrol` failed it is asked that its failed write was of the bitmap or of the log,
-/// and left the width of the chunks in the header.
+/// done has one enrolment in it, and an admission where the target was a spare; one that is refused has no
+/// enrolment. Where a write failed by which the target was to be admitted, or the last write of `enrol`, the
+/// target is spoiled by the last event, whatever that write left. Where another write of `enrol` failed, it is
+/// asked that it left the width of the chunks in the header.
 pub fn rebuild_events()
-    ensures done { (target : ℕ) (told : Rebuilt) (old new : MirrorView)
-        → EndsBelow old target → Rebuilds target told old new → RebuildLeads target old new }
+    ensures done { (target : ℕ) (told : Rebuilt) (old new : MirrorView) → Rebuilds target told old new → RebuildLeads target old new }
     ensures refused { (target : ℕ) (old new : MirrorView) → IsConsistent old → IsConsistent new
         → (fault : RebuildFault) (h : RefusesRebuild target old new fault) → AsksOfFailure target old new fault h
-        → LeadsOrStops target old new }
+        → LeadsUnfinished target old new }
+    ensures unadmitted { (target : ℕ) (old new : MirrorView) → FailsAdmission target old new → LeadsUnadmitted target old new }
 {}

@@ -18,6 +18,8 @@ pub mod LeftContents
 pub mod OverZeros
 -- What a stop leaves of a device that comes in or comes back is read by its first sector.
 pub mod ReadAs
+-- What a stop leaves within a call by which a member that is rebuilt tells of it, the write of its superblock might leave that failed.
+pub mod Spoiled
 -- A stop within a copy of sectors leaves some of them copied: those are events, one after another.
 pub mod StoppedCopies
 -- A member that `re_add` has taken back, and what a stop within that call leaves of it.

@@ -1,6 +1,6 @@
 -- What a stop leaves of a mirror's devices: it comes between two calls or within one, of which its own contract says what may be
 -- left (`MayAllBeLeft`).
-use Rattle.std.specs.Prelude.{◌≡◌, ◌⊎◌, ℕ, ◌<◌, true, List, [], ◌∷◌, ◌++◌, length, map, Option, slice_get, Some, None}
+use Rattle.std.specs.Prelude.{◌≡◌, ◌⊎◌, ℕ, ◌<◌, Bool, true, false, List, [], ◌∷◌, ◌++◌, length, map, Option, slice_get, Some, None}
 use Rattle.md_assembly.specs.States.{is_recorded}
 use Rattle.md_bitmap.specs.Marks.{Bitmap}
 use Rattle.md_members.specs.Areas.{bitmap_sectors}
@@ -113,7 +113,9 @@ pub record IsLeftTakingBack (t : Moment) (left : List Disk) : Type 0 where
   pub within : MayAllBeLeft (before.disks ++ device ∷ []) t.mirror.disks (contents_of left)
   pub reads : AtDevice (length before.disks) t.mirror.disks left (λ now e. ReadsAs (block_on e.content) (block_on now.content))
 
--- Within the `enrol` after which t is, where the superblock of the member stands as after the call.
+-- Within the `enrol` after which t is, where the superblock of the member stands as after the call. Before the call an opening would have
+-- read there what was kept of it (`every_run`, clause `read_as_kept`): of one whose superblock was spoiled, the new one may have stood there
+-- from the first.
 pub record IsLeftEnrolled (t : Moment) (left : List Disk) : Type 0 where
   pub on : ℕ
   pub copied : Bitmap
@@ -122,7 +124,9 @@ pub record IsLeftEnrolled (t : Moment) (left : List Disk) : Type 0 where
   pub sound : IsConsistent before
   pub honest : AreHonest before.disks
   pub failed_at : ℕ
-  pub read : AreReadAsKept before failed_at
+  pub spoiled : ℕ → Bool
+  pub read : AreReadAsKept before failed_at spoiled
+  pub unspoiled : spoiled on ≡ false
   pub call : Enrols on copied orphans before t.mirror
   pub within : MayAllBeLeft before.disks t.mirror.disks (contents_of left)
   pub super : AtDevice on t.mirror.disks left (λ now e. block_on e.content ≡ block_on now.content)

@@ -21,6 +21,8 @@ pub mod Left
 pub mod StopsWithin
 -- What it leaves of a device that comes in or comes back, where the superblocks end within their first sectors.
 pub mod StopsReadAs
+-- What a stop leaves within a call by which a member that is rebuilt tells of it.
+pub mod Spoiled
 -- What a stop leaves within the copy of a run of sectors.
 pub mod StoppedCopies
 -- A life of a mirror of one member: what the laws on lives ask can be met.

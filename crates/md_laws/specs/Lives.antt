@@ -45,7 +45,8 @@ pub record HasRecorded (t : Moment) (before : List Disk) (at : ℕ → Option �
   pub there : at device ≡ Some place
   pub recorded : (d : Disk) (v : Superblock) → slice_get before place ≡ Some d → IsSuperOn d.content v → t.failed_at ≤ v.events
 
--- Among these are some of the devices that were left, in any order, and one of those has recorded the last failure.
+-- Among these are some of the devices that were left, in any order, and one of those has recorded the last failure. None of them is of a
+-- member whose superblock was spoiled.
 pub record AreFoundAgain (t : Moment) (before : List Disk) : Type 0 where
   pub left : List Disk
   pub is_left : IsLeft t left
@@ -54,6 +55,7 @@ pub record AreFoundAgain (t : Moment) (before : List Disk) : Type 0 where
   pub at : ℕ → Option ℕ  -- and where each of those is now, if it is there
   pub found : (j k : ℕ) → from j ≡ Some k → at k ≡ Some j
   pub again : (k j : ℕ) → at k ≡ Some j → IsFoundAgain t.mirror.array left before k j
+  pub unspoiled : (k j : ℕ) → at k ≡ Some j → t.spoiled k ≡ false
   pub recorded : HasRecorded t before at
 
 -- A device that the opening before left out, as a member of the next mirror: its events are not above the array's there, and no member
@@ -142,13 +144,13 @@ KeepsContent =
     → (es : List Event) (rest : List (List Event)) (final : MirrorView) (last : Moment) (b : Content) → MirrorLifeWith m a es rest final last b
     → Holds (geometry_of m.array) b (world_of last.mirror last.requests)
 
--- At each moment of each life an opening would read of the devices what the mirror keeps of them, and the array has the chunks
--- and the roles of the first opening.
+-- At each moment of each life an opening would read of the devices what the mirror keeps of them, but for a superblock that was spoiled; and
+-- the array has the chunks and the roles of the first opening.
 abbrev pub IsReadAsKeptInLives : Type 0
 IsReadAsKeptInLives =
     (before : List Disk) (m : MirrorView) → IsStart before m
     → (es : List Event) (rest : List (List Event)) (final : MirrorView) (last : Moment) → MirrorLife m es rest final last
-    → AreReadAsKept last.mirror last.failed_at
+    → AreReadAsKept last.mirror last.failed_at last.spoiled
 
 abbrev pub KeepsGeometry : Type 0
 KeepsGeometry =

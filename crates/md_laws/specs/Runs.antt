@@ -5,7 +5,7 @@ use Rattle.md_model.specs.Devices.{Covered}
 use Rattle.md_model.specs.Worlds.{Request, IsInSync}
 use Rattle.md_model.specs.Content.{Content, Becomes, Holds, Tells}
 use Rattle.md_model.specs.Events.{Event}
-use Rattle.md_model.specs.Runs.{History, away_after, failed_after, tried_after}
+use Rattle.md_model.specs.Runs.{History, away_after, failed_after, spoiled_after, tried_after}
 use Rattle.md_state.specs.Rising.{has_number}
 use Rattle.md_state.specs.View.{Disk, MirrorView, geometry_of}
 use Rattle.md_state.specs.Rests.{Rests}
@@ -20,17 +20,25 @@ pub record Moment : Type 0 where
   pub failed_at : ℕ  -- the count after the last failure, or 0
   pub tried : Bool  -- data was written to a member, or a write of it failed
   pub away : ℕ → Bool  -- no member had this number at any moment since the opening
+  pub spoiled : ℕ → Bool  -- of this member a write of its superblock failed and may have left any, and none was stored since
 
 -- the same of the mirror's world
 abbrev pub history_of : Moment → History
-history_of t = record { now = world_of t.mirror t.requests; failed_at = t.failed_at; tried = t.tried; away = t.away }
+history_of t = record { now = world_of t.mirror t.requests; failed_at = t.failed_at; tried = t.tried; away = t.away; spoiled = t.spoiled }
 
 abbrev pub opened_as : MirrorView → Moment
-opened_as m = record { mirror = m; requests = none_in_flight; failed_at = 0; tried = false; away = λ d. not (has_number m.array d) }
+opened_as m = record { mirror = m; requests = none_in_flight; failed_at = 0; tried = false; away = λ d. not (has_number m.array d); spoiled = λ _. false }
 
 abbrev pub then_as : Moment → Event → MirrorView → (ℕ → Option Request) → Moment
 then_as t e m requests =
-    record { mirror = m; requests = requests; failed_at = failed_after e (world_of m requests) t.failed_at; tried = tried_after e t.tried; away = away_after e t.away }
+    record {
+      mirror = m;
+      requests = requests;
+      failed_at = failed_after e (world_of m requests) t.failed_at;
+      tried = tried_after e t.tried;
+      away = away_after e t.away;
+      spoiled = spoiled_after e (world_of t.mirror t.requests) t.spoiled;
+    }
 
 -- since the one moment devices were only read
 pub record HasRested (t last : Moment) : Type 0 where

@@ -1,6 +1,7 @@
 -- A life of a mirror of one member: what the laws on lives ask can be met.
-use Rattle.std.specs.Prelude.{ℕ, List, [], ◌∷◌, Option}
+use Rattle.std.specs.Prelude.{ℕ, false, List, [], ◌∷◌, Option}
 use Rattle.md_model.specs.Events.{Event}
+use Rattle.md_model.specs.Sectors.{put}
 use Rattle.md_model.specs.Worlds.{Request}
 use Rattle.md_state.specs.View.{Disk, MirrorView}
 use Rattle.md_laws.specs.Lives.{MirrorLife}
@@ -11,7 +12,7 @@ pub record RunsTwice (old new : MirrorView) : Type 0 where
   pub number : ℕ
   pub request : Request
   pub requests : ℕ → Option Request
-  pub run : MirrorRun (opened_as old) (Event.Begin number request ∷ Event.Record 0 ∷ []) (record (opened_as old) { mirror = new; requests = requests })
+  pub run : MirrorRun (opened_as old) (Event.Begin number request ∷ Event.Record 0 ∷ []) (record (opened_as old) { mirror = new; requests = requests; spoiled = put 0 false (opened_as old).spoiled })
 
 -- These devices were opened, with stored marks that cover what differs. There was such a run, and then the devices were opened
 -- again as this mirror.

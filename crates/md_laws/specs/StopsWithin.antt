@@ -186,7 +186,8 @@ IsLeftJoining before after w left = IsLeftBut (length before) (λ was c. IsCutSh
 -- What a stop leaves at a moment of the call of an event: what was there before it or what is after it, or its one write cut short.
 -- Of a copy nothing is said here, as one write does many (`StoppedCopies`). Of a new device several writes are made. A member
 -- that is filled is left as before it beside the chunks that it lacks, and one that is prepared, beside its bitmap and its log. Of the
--- write by which a member comes into sync nothing is said here: its call makes others before it (`StopsAtEnrol`).
+-- write by which a member comes into sync nothing is said here: its call makes others before it (`StopsAtEnrol`). Nor of one that spoils a
+-- member, which is of several calls (`StopsAsSpoiled`).
 abbrev pub IsLeftBy : (e : Event) (before after : List Disk) → WritesOnce e before after → List (List ℕ) → Type 0
 IsLeftBy (Event.Record k) before after once left = (w : Write) × IsWritten k w before after × IsLeftBut k (λ old c. IsCutShort old (w ∷ []) c) before left
 IsLeftBy (Event.WriteMember n k) before after once left = (w : Write) × IsWritten k w before after × IsLeftBut k (λ old c. IsCutShort old (w ∷ []) c) before left
@@ -210,6 +211,7 @@ IsLeftBy (Event.Fail k) before after w left = left ≡ map (λ d. d.content) bef
 IsLeftBy (Event.Fill k) before after once left = IsLeftBut k (IsSameBesideMissing once.0 once.1) before left
 IsLeftBy (Event.Prepare k) before after once left = IsLeftBut k (IsSameBesideMarks once.0 once.1) before left
 IsLeftBy (Event.RecordTargetFails k) before after once left = (w : Write) × IsFailed k w before after × IsLeftBut k (IsAnyIn w) before left
+IsLeftBy (Event.SpoilTarget k) before after w left = Unit {0}
 IsLeftBy (Event.Enrol k role listed) before after w left = Unit {0}
 IsLeftBy (Event.Admit k role listed) before after once left = (w : Write) × IsWritten k w before after × IsLeftBut k (λ old c. IsCutShort old (w ∷ []) c) before left
 IsLeftBy (Event.Checkpoint k offset listed) before after once left = (w : Write) × IsWritten k w before after × IsLeftBut k (λ old c. IsCutShort old (w ∷ []) c) before left

@@ -1,6 +1,6 @@
 -- What is done by a call that is a list of events.
 use Rattle.std.specs.Prelude.{◌≡◌, ℕ, true, List, [], ◌∷◌, ◌++◌, Option}
-use Rattle.md_assembly.specs.States.{is_in_sync, is_spare}
+use Rattle.md_assembly.specs.States.{is_in_sync, is_recovering, is_spare}
 use Rattle.md_badblocks.specs.Runs.{IsCanonical}
 use Rattle.md_bitmap.specs.Marks.{Bitmap}
 use Rattle.md_kept_members.specs.View.{MemberView}
@@ -11,17 +11,18 @@ use Rattle.md_state.specs.Removing.{Removes}
 use Rattle.md_state.specs.Requests.{AreInFlight}
 use Rattle.md_state.specs.View.{Disk, MirrorView}
 use Rattle.md_array.specs.Adding.{Adds, add_event}
-use Rattle.md_array.specs.Admitting.{Admits, admit_event}
-use Rattle.md_array.specs.Checkpoints.{Checkpoints, checkpoint_event}
+use Rattle.md_array.specs.Admitting.{Admits, FailsToAdmit, admit_event}
+use Rattle.md_array.specs.Checkpoints.{Checkpoints, FailsToCheckpoint, checkpoint_event}
 use Rattle.md_array.specs.Consistency.{IsConsistent}
-use Rattle.md_array.specs.Enrolling.{Enrols, MayEnrol}
-use Rattle.md_array.specs.Enrolments.{EndsBelow, Prepares, enrol_event}
+use Rattle.md_array.specs.Enrolling.{Enrols, FailsToEnrol, MayEnrol}
+use Rattle.md_array.specs.Enrolments.{FailsAtSuper, Prepares, enrol_event}
 use Rattle.md_array.specs.Events.{listed_on}
 use Rattle.md_array.specs.Filling.{Fills}
 use Rattle.md_array.specs.InTurn.{AllLeftWhole, Leads, Requests}
 use Rattle.md_array.specs.Listing.{FailsToStoreLog, IsWhole, NotesChunk, StoresLog}
 use Rattle.md_array.specs.ReAdding.{ReAdds, re_add_event}
 use Rattle.md_array.specs.RecordingTarget.{FailsOnTarget}
+use Rattle.md_array.specs.Spoiling.{SpoilsTarget}
 use Rattle.md_array.specs.Worlds.{AreHonest}
 use Rattle.md_laws.specs.Runs.{MirrorRun, Moment}
 
@@ -80,14 +81,28 @@ PrepareIsACall =
     (k : ℕ) (old new : MirrorView) → IsConsistent old → Prepares k old new
     → (previous : Option Event) (requests : Requests) → AreInFlight old.array requests → Leads previous old requests (Event.Prepare k ∷ []) new requests
 
--- and `enrol`: it is prepared, and then it comes into sync, if its data ends below sector 2^54 of its device. That is an event of the model
--- where some content is held: by the members in sync, and by the new one in the chunks that it did not lack.
+-- and `enrol`: it is prepared, and then it comes into sync. That is an event of the model where some content is held: by the members in
+-- sync, and by the new one in the chunks that it did not lack.
 abbrev pub EnrolIsACall : Type 0
 EnrolIsACall =
-    (k : ℕ) (copied orphans : Bitmap) (old new : MirrorView) → IsConsistent old → IsConsistent new → MayEnrol k copied orphans old → EndsBelow old k
+    (k : ℕ) (copied orphans : Bitmap) (old new : MirrorView) → IsConsistent old → IsConsistent new → MayEnrol k copied orphans old
     → (r : Enrols k copied orphans old new)
     → (previous : Option Event) (requests : Requests) → AreInFlight old.array requests
     → Leads previous old requests (Event.Prepare k ∷ enrol_event r ∷ []) new requests
+
+-- Where the write of its superblock fails, it is prepared and spoiled, whatever that write left.
+abbrev pub FailedEnrolIsACall : Type 0
+FailedEnrolIsACall =
+    (k : ℕ) (copied orphans : Bitmap) (old new : MirrorView) → IsConsistent old → MayEnrol k copied orphans old
+    → (f : FailsToEnrol k copied orphans old new) → FailsAtSuper f
+    → (previous : Option Event) (requests : Requests) → AreInFlight old.array requests
+    → Leads previous old requests (Event.Prepare k ∷ Event.SpoilTarget k ∷ []) new requests
+
+-- Any such write that failed spoils it, that of a record too.
+abbrev pub SpoilIsACall : Type 0
+SpoilIsACall =
+    (k : ℕ) (old new : MirrorView) → IsConsistent old → SpoilsTarget k old new
+    → (previous : Option Event) (requests : Requests) → AreInFlight old.array requests → Leads previous old requests (Event.SpoilTarget k ∷ []) new requests
 
 -- So is `admit` of a spare,
 abbrev pub AdmitIsACall : Type 0
@@ -95,11 +110,23 @@ AdmitIsACall =
     (k : ℕ) (old new : MirrorView) → IsConsistent old → (r : Admits k old new) → is_spare r.may.member.state ≡ true
     → (previous : Option Event) (requests : Requests) → AreInFlight old.array requests → Leads previous old requests (admit_event r ∷ []) new requests
 
+-- one that fails,
+abbrev pub FailedAdmitIsACall : Type 0
+FailedAdmitIsACall =
+    (k : ℕ) (old new : MirrorView) → IsConsistent old → (f : FailsToAdmit k old new) → is_spare f.may.member.state ≡ true
+    → (previous : Option Event) (requests : Requests) → AreInFlight old.array requests → Leads previous old requests (Event.SpoilTarget k ∷ []) new requests
+
 -- and `checkpoint`: that is an event of the model where some content is held by the members in sync.
 abbrev pub CheckpointIsACall : Type 0
 CheckpointIsACall =
     (k : ℕ) (copied : Bitmap) (old new : MirrorView) → IsConsistent old → (r : Checkpoints k copied old new)
     → (previous : Option Event) (requests : Requests) → AreInFlight old.array requests → Leads previous old requests (checkpoint_event r ∷ []) new requests
+
+-- One that fails is an event in any case.
+abbrev pub FailedCheckpointIsACall : Type 0
+FailedCheckpointIsACall =
+    (k : ℕ) (copied : Bitmap) (old new : MirrorView) → IsConsistent old → (f : FailsToCheckpoint k copied old new) → is_recovering f.member.state ≡ true
+    → (previous : Option Event) (requests : Requests) → AreInFlight old.array requests → Leads previous old requests (Event.SpoilTarget k ∷ []) new requests
 
 -- A list that grows is in the list: in memory, of a member in sync of a resynced array,
 abbrev pub NoteBadIsACall : Type 0

@@ -1,9 +1,9 @@
 //! The laws of mirrors: what holds at each moment of each life. The bodies are empty, and the contracts are the theorems.
 
-ghost use Rattle.std.specs.Prelude.{◌≡◌, ◌+◌, ◌<◌, ◌↔◌, ℕ, List, true};
+ghost use Rattle.std.specs.Prelude.{◌≡◌, ◌+◌, ◌<◌, ◌↔◌, ℕ, List, false, true};
 ghost use Rattle.md_badblocks.specs.Runs.{IsBad};
 ghost use Rattle.md_model.specs.Devices.{Covered};
-ghost use Rattle.md_model.specs.Lives.{IsCovered};
+ghost use Rattle.md_model.specs.Lives.{IsCovered, IsSound};
 ghost use Rattle.md_model.specs.Openings as openings;
 ghost use Rattle.md_model.specs.Stops.{IsSafeAtStop, KeepsOut, StaysOut};
 ghost use Rattle.md_model.specs.Worlds.{IsInSync};
@@ -19,6 +19,7 @@ ghost use Rattle.md_laws.specs.Lives.{AtEachMoment, ContentGoesAlong, FindsAll, 
 ghost use Rattle.md_laws.specs.Recovering.{KeepsRecovering};
 ghost use Rattle.md_laws.specs.Returning.{StartsAgain};
 ghost use Rattle.md_laws.specs.Runs.{HasContent};
+ghost use Rattle.md_laws.specs.Spoiled.{StopsAsSpoiled, StopsAtEnrolAsSpoiled};
 ghost use Rattle.md_laws.specs.StopsReadAs.{ReadsAtAdd, ReadsAtReAdd, ReadsAtTarget};
 ghost use Rattle.md_laws.specs.StopsWithin.{StopsAsFailed, StopsAsFilled, StopsAsPrepared, StopsAsTried, StopsAtAdd, StopsAtEnrol, StopsAtEvents, StopsAtFailedAdd, StopsAtFailedEnrol, StopsAtFailedReAdd, StopsAtFailure, StopsAtReAdd, StopsAtRefusedAdd, StopsAtRefusedReAdd, StopsAtRemoval, StopsAtSector, StopsAtWrite, StopsInMemory, StopsUndivided};
 
@@ -38,7 +39,7 @@ pub fn opening()
     ensures listed { (before : List Disk) (m : MirrorView) → AreHonest before → IsOpenedFrom before m
         → (k : ℕ) (mv : MemberView) → IsMember m.array k mv → (s : ℕ) → s < m.array.chunks.size
         → (((world_of m none_in_flight).stored k).listed s ≡ true) ↔ IsBad mv.bad (mv.superblock.data_offset + s) }
-    ensures read { (before : List Disk) (m : MirrorView) → AreHonest before → IsOpenedFrom before m → AreReadAsKept m 0 }
+    ensures read { (before : List Disk) (m : MirrorView) → AreHonest before → IsOpenedFrom before m → AreReadAsKept m 0 (λ _. false) }
     ensures honest { (before : List Disk) (m : MirrorView) → AreHonest before → IsOpenedFrom before m → AreHonest m.disks }
     ensures fresh { StartsFresh }
     ensures fresh_stopped { StaysFresh }
@@ -71,6 +72,9 @@ pub fn every_run()
     // A stop leaves devices of which an opening finds only members in sync that were so, whose marks cover
     // what differs; and all of these, where each has recorded all but the last change.
     ensures at_stop { AtEachMoment IsSafeAtStop }
+
+    // No member in sync is one whose superblock was spoiled, so that each of them may be there.
+    ensures sound { AtEachMoment IsSound }
 
     // So each member in sync of the mirror that is opened then was in sync; and each that was, and is there, is in sync, where each
     // of these has recorded all but the last change.
@@ -173,11 +177,14 @@ pub fn stops_at_steps()
 
     // So a stop within the call of an event is before it, after it, or within its one write; and what it leaves
     // within a write, the same write might leave that failed, or was torn. What it leaves while a member is
-    // filled or prepared, another filling or preparing might leave.
+    // filled or prepared, another filling or preparing might leave. Within a call by which a member that is rebuilt tells of it, it is
+    // a stop after `SpoilTarget`, whatever it leaves.
     ensures event { StopsAtEvents }
     ensures as_failed { StopsAsFailed }
     ensures as_tried { StopsAsTried }
     ensures as_filled { StopsAsFilled }
     ensures as_prepared { StopsAsPrepared }
+    ensures as_spoiled { StopsAsSpoiled }
+    ensures enrol_as_spoiled { StopsAtEnrolAsSpoiled }
     ensures undivided { StopsUndivided }
 {}

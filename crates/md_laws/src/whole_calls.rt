@@ -3,7 +3,7 @@
 ghost use Rattle.md_laws.specs.StoppedCopies.{StopsAtCopies};
 ghost use Rattle.md_laws.specs.StopsWithin.{StopsAtLog};
 ghost use Rattle.md_laws.specs.ReadInTurn.{ReadingCallsAreRuns};
-ghost use Rattle.md_laws.specs.WholeCalls.{AddIsACall, AdmitIsACall, CallsAreRuns, CheckpointIsACall, EnrolIsACall, FailIsACall, FillIsACall, NoteBadIsACall, PrepareIsACall, ReAddIsACall, RemoveIsACall, RunsGoOn, StoreLogFailureIsACall, StoreLogIsACall, TargetFailureIsACall};
+ghost use Rattle.md_laws.specs.WholeCalls.{AddIsACall, AdmitIsACall, CallsAreRuns, CheckpointIsACall, EnrolIsACall, FailIsACall, FailedAdmitIsACall, FailedCheckpointIsACall, FailedEnrolIsACall, FillIsACall, NoteBadIsACall, PrepareIsACall, ReAddIsACall, RemoveIsACall, RunsGoOn, SpoilIsACall, StoreLogFailureIsACall, StoreLogIsACall, TargetFailureIsACall};
 
 /// A call that is a list of events (`Leads`) is a run of the mirror, from any moment of its life on, and
 /// goes on with the run before it. So `every_run` speaks of it. It is asked that devices do what they
@@ -30,18 +30,23 @@ pub fn joining_calls()
 
 /// A rebuild is in the list: what its worker gives to one member while the devices are lent, a superblock of that member that
 /// could not be stored, and `enrol`, which is two events: the member is prepared, and comes into sync by the write of its
-/// superblock. It is asked that the member's data ends below sector 2^54, from which no list goes on.
+/// superblock. Where that write fails, it is prepared and spoiled, so that the next opening has to leave it out. Of an `enrol` that
+/// fails by a write of the bitmap or the log nothing is said.
 pub fn rebuilding_calls()
     ensures fill { FillIsACall }
     ensures target { TargetFailureIsACall }
     ensures prepare { PrepareIsACall }
     ensures enrol { EnrolIsACall }
+    ensures failed_enrol { FailedEnrolIsACall }
+    ensures spoil { SpoilIsACall }
 {}
 
-/// So are `admit` of a spare, and `checkpoint` of a member that is recovering.
+/// So are `admit` of a spare, and `checkpoint` of a member that is recovering, done or failed.
 pub fn recovering_calls()
     ensures admit { AdmitIsACall }
+    ensures failed_admit { FailedAdmitIsACall }
     ensures checkpoint { CheckpointIsACall }
+    ensures failed_checkpoint { FailedCheckpointIsACall }
 {}
 
 /// A list that grows is in the list too: `note_bad`, `store_log`, and a write of the log that failed. A stop within `store_log` is

@@ -84,6 +84,19 @@ RecoveringBehind =
     → LifeWith g (IsDegraded g) final then b more others newest last c
     → IsBehind g c (recovered g then.now k) last.now
 
+-- One that might be enrolled lies behind with all that it has, by the list that was to come or a longer one. So it stays, whatever comes of its
+-- superblock: where that could not be stored, and stands or does not, its device may be taken back by this.
+abbrev pub FailedEnrolBehind : Type 0
+FailedEnrolBehind =
+    (g : Geometry) (opened : Super) (w : World) (a : Content) → IsStart g opened w → Holds g a w → RecoveringHolds g a w
+    → (es : List Event) (rest : List (List Event)) (final : Super) (then : History) (b : Content) (life : LifeWith g Anyhow opened (opening w) a es rest final then b)
+    → LifeJoins g opened (opening w) a es rest final then b life
+    → (k role : ℕ) (listed : ℕ → Bool) → MayEnrol g then.now k role listed
+    → (device : Stored) → ((s : ℕ) → s < g.size → device.content s ≡ (then.now.stored k).content s) → ((s : ℕ) → s < g.size → device.listed s ≡ false → listed s ≡ false)
+    → (more : List Event) (others : List (List Event)) (newest : Super) (last : History) (c : Content)
+    → LifeWith g (IsDegraded g) final then b more others newest last c
+    → IsBehind g c device last.now
+
 -- the same premises of a run and a life of which no content is known yet: whatever it has become by then
 abbrev pub RunTellsJoins : (g : Geometry) (h : History) (a : Content) (es : List Event) (last : History) → Run g h es last → Type 0
 RunTellsJoins g h a [] last run = Unit {0}

@@ -12,7 +12,7 @@ use Rattle.md_state.specs.Requests.{AreInFlight}
 use Rattle.md_state.specs.View.{Disk, MirrorView, geometry_of}
 use Rattle.md_array.specs.Consistency.{IsConsistent}
 use Rattle.md_array.specs.Enrolling.{Enrols, MayEnrol}
-use Rattle.md_array.specs.Enrolments.{EndsBelow, IsHeldBy, Prepares, enrol_event, prepared}
+use Rattle.md_array.specs.Enrolments.{IsHeldBy, Prepares, enrol_event, prepared}
 use Rattle.md_array.specs.Events.{Does}
 use Rattle.md_array.specs.Worlds.{AreHonest, lists_of, stored_of, world_of}
 use Rattle.md_array.proofs.Rebuilding.EnrolledEvent.{does_enrol}
@@ -24,7 +24,7 @@ use Rattle.md_laws.specs.Runs.{MirrorRun, MirrorRunWith, Moment, RestsThenDoes, 
 use Rattle.md_laws.proofs.Runs.Rests.{at_once, at_rest}
 
 module _ (target : ℕ) (copied orphans : Bitmap) (old new : MirrorView) (c : IsConsistent old) (sound : IsConsistent new) (r : Enrols target copied orphans old new) (may : MayEnrol target copied orphans old)
-    (ends : EndsBelow old target) (honest : AreHonest old.disks) (content : Content) (held : IsHeldBy target (lists_of old.array r.member) content (prepared r)) (t : Moment) (there : t.mirror ≡ old)
+    (honest : AreHonest old.disks) (content : Content) (held : IsHeldBy target (lists_of old.array r.member) content (prepared r)) (t : Moment) (there : t.mirror ≡ old)
     (in_flight : AreInFlight old.array t.requests) where
   -- the devices of the target, before and after
   pub was : (d : Disk) × (slice_get old.disks target ≡ Some d)
@@ -62,7 +62,7 @@ module _ (target : ℕ) (copied orphans : Bitmap) (old new : MirrorView) (c : Is
   does_first = prepare_happens target old mid c (subst (Prepares target old) mid_is (prepares target copied orphans old new c r may)) honest t.requests in_flight
 
   does_second : Does mid t.requests second new t.requests
-  does_second = does_enrol target copied orphans old new c sound r may ends honest was.0 was.1 is.0 is.1 t.requests in_flight content held_mid
+  does_second = does_enrol target copied orphans old new c sound r may honest was.0 was.1 is.0 is.1 t.requests in_flight content held_mid
 
   -- the member holds the content in each sector that it does not list then
   becomes : Becomes (geometry_of mid.array) second (world_of mid t.requests) content content
@@ -74,7 +74,7 @@ module _ (target : ℕ) (copied orphans : Bitmap) (old new : MirrorView) (c : Is
         stored_there (set old.disks target then) old.array target it then r.comes.at (then_at target copied orphans old new c r was.0 was.1) in
         ap (λ (x : Stored). x.content s) stored
         ∙ ap (λ b. cond b (part then.content (512 * (it.superblock.data_offset + s)) 512) []) (below-nat_lt s old.array.chunks.size low)
-        ∙ it_holds target copied orphans old new c r may ends honest was.0 was.1 content held_mid s low unlisted);
+        ∙ it_holds target copied orphans old new c r may honest was.0 was.1 content held_mid s low unlisted);
   }
 
   abbrev pub at_end : Moment

@@ -24,7 +24,7 @@ use Rattle.md_state.specs.View.{ArrayView, Disk, MirrorView}
 use Rattle.md_super.specs.declared.superblock.Superblock.{Superblock}
 use Rattle.md_array.specs.Consistency.{IsConsistent}
 use Rattle.md_array.specs.Enrolling.{Enrols, HasContent}
-use Rattle.md_array.specs.Enrolments.{EndsBelow, IsHeldBy, prepared}
+use Rattle.md_array.specs.Enrolments.{IsHeldBy, prepared}
 use Rattle.md_array.specs.Worlds.{AreHonest, lies_in, lists_of}
 use Rattle.md_array.proofs.General.Indices.{got_other}
 use Rattle.md_array.proofs.Rebuilding.HeldContent.{another, its_chunk, then_sector}
@@ -33,7 +33,7 @@ use Rattle.md_array.proofs.Worlds.Bad.{test_from_bad}
 use Rattle.md_copy.specs.Filling.{IsFilling}
 use Rattle.md_copy.specs.Rebuilding.{FillsBy}
 use Rattle.md_copy.proofs.LentBack.{planned_missing, rebuilt_out}
-use Rattle.md_copy.proofs.RebuildLeads.{ends_then, now_rebuilt, plan_of}
+use Rattle.md_copy.proofs.RebuildLeads.{now_rebuilt, plan_of}
 use Rattle.md_copy.proofs.Readied.{ready_of}
 use Rattle.md_copy.proofs.StartedAs.{StartsAs, starts_honest}
 use Rattle.md_copy.proofs.StartsReadied.{starts_of}
@@ -65,7 +65,7 @@ module _ (target : ℕ) (content : Content) (old v : MirrorView) (st : StartsAs 
       ∙ had x.0 l.0 x.1 l.1 s low_old lacks_not
       (λ bad. unlisted (subst (λ (runs : List Run). IsBad runs (m.superblock.data_offset + s)) (sym l.2.bad) (subst (λ (o : ℕ). IsBad l.0.bad (o + s)) (sym l.2.offset) bad)))
 
-module _ (target : ℕ) (planned : Planned) (copied orphans : Bitmap) (old filled new : MirrorView) (by : FillsBy target planned copied orphans old filled) (r : Enrols target copied orphans filled new) (ends : EndsBelow old target)
+module _ (target : ℕ) (planned : Planned) (copied orphans : Bitmap) (old filled new : MirrorView) (by : FillsBy target planned copied orphans old filled) (r : Enrols target copied orphans filled new)
     (honest : AreHonest old.disks) (content : Content) (has : HasContent old.disks old.array content) (had : HeldWhatItHad target content old) where
   abbrev v : MirrorView
   v = by.stored
@@ -99,9 +99,6 @@ module _ (target : ℕ) (planned : Planned) (copied orphans : Bitmap) (old fille
   has_filled : HasContent filled.disks a content
   has_filled = pass.content_then target m planned v filled f out content (starts.content honest content has)
 
-  ends_filled : EndsBelow filled target
-  ends_filled = ends_then target planned old v by.begins filled f.array ends
-
   module _ (d : Disk) (was : slice_get filled.disks target ≡ Some d) where
     abbrev then : Disk
     then = then_disk target copied orphans filled new by.sound r d was
@@ -113,7 +110,7 @@ module _ (target : ℕ) (planned : Planned) (copied orphans : Bitmap) (old fille
     has_now : HasContent now a content
     has_now = record {
       held = λ j z y there on s low unlisted.
-          (let apart = another target copied orphans filled new by.sound r by.may ends_filled honest_filled d was j y on in
+          (let apart = another target copied orphans filled new by.sound r by.may honest_filled d was j y on in
           has_filled.held j z y (sym (got_other filled.disks target j then apart) ∙ there) on s low unlisted);
     }
 
@@ -185,7 +182,7 @@ module _ (target : ℕ) (planned : Planned) (copied orphans : Bitmap) (old fille
         let mine : y ≡ m = same_Some y m (sym at_y ∙ ap (λ (x : ArrayView). slice_get x.members target) f.array ∙ by.begins.there) in
         sym (ap (λ (x : Disk). part x.content (512 * (y.superblock.data_offset + s)) 512) device)
         ∙ ap (λ (x : MemberView). part then.content (512 * (x.superblock.data_offset + s)) 512) here
-        ∙ then_sector target copied orphans filled new by.sound r by.may ends_filled honest_filled d was s low
+        ∙ then_sector target copied orphans filled new by.sound r by.may honest_filled d was s low
         ∙ ap (λ (x : MemberView). part d.content (512 * (x.superblock.data_offset + s)) 512) (sym here ∙ mine)
         ∙ held_there s low (subst (λ (x : MemberView). is_missing a x (s / a.chunks.sectors) ≡ false) mine present) unlisted
 

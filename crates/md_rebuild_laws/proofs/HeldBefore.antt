@@ -1,5 +1,5 @@
 -- What a member held of the content before it is rebuilt.
-use Rattle.std.proofs.Common.{◌≡◌, ◌∙◌, ◌⊎◌, ℕ, ◌+◌, ◌*◌, ◌/◌, ◌<◌, Bool, true, false, true≢false, cond, ◌&&◌, ◌||◌, nat_lt, leb, [], refl, sym, ap, subst, inl, inr}
+use Rattle.std.proofs.Common.{◌≡◌, ◌∙◌, ◌⊎◌, ℕ, ◌+◌, ◌*◌, ◌/◌, ◌<◌, Bool, true, false, true≢false, cond, ◌&&◌, ◌||◌, nat_lt, leb, [], slice_get, Some, refl, sym, ap, subst, inl, inr}
 use Rattle.std.proofs.lemmas.Bool.{and_parts}
 use Rattle.std.proofs.lemmas.Option.{same_Some}
 use Rattle.md_assembly.specs.declared.state.MemberState.{MemberState}
@@ -10,16 +10,29 @@ use Rattle.md_bitmap.specs.Marks.{is_set}
 use Rattle.md_device.specs.Splice.{part}
 use Rattle.md_kept_members.specs.View.{MemberView}
 use Rattle.md_model.specs.Devices.{Stored}
+use Rattle.md_model.specs.Rebuilding as model
 use Rattle.md_model.specs.Rebuilding.{lacks}
+use Rattle.md_model.specs.Recovering.{RecoveringHolds}
 use Rattle.md_model.specs.Sectors.{is_passed}
+use Rattle.md_model.specs.States as states
+use Rattle.md_model.specs.Worlds.{World}
+use Rattle.md_model.proofs.Content.RecoveringSteps.{differs_in_missing}
 use Rattle.md_model.proofs.Content.RebuiltWhole.{none_passed}
 use Rattle.md_model.proofs.Cases.{below-nat_lt, by_test}
-use Rattle.md_state.specs.Missing.{has_passed, is_missing}
-use Rattle.md_state.specs.View.{ArrayView, geometry_of}
-use Rattle.md_array.specs.Worlds.{lies_in, lists_of, stored_of, world_of}
-use Rattle.md_array.proofs.Steps.OneMember.{stored_there}
+use Rattle.md_state.specs.Members.{IsMember}
+use Rattle.md_state.specs.Missing.{has_passed, is_missing, is_re_added}
+use Rattle.md_state.specs.View.{ArrayView, Disk, geometry_of}
+use Rattle.md_array.specs.Worlds.{kind_of, lies_in, lists_of, stored_of, world_of}
+use Rattle.md_array.proofs.Steps.OneMember.{member_there, stored_there}
 use Rattle.md_array.proofs.Worlds.Bad.{bad_from_test}
-use Rattle.md_rebuild_laws.specs.RebuiltInLife.{HasNothing, NewHadNothing, TakenBackHeldIt}
+use Rattle.md_array.proofs.Worlds.States.{same_in_sync, same_recovering}
+use Rattle.md_laws.specs.Runs.{Moment}
+use Rattle.md_laws.proofs.Runs.MirrorContents.{life_held_at}
+use Rattle.md_laws.proofs.Runs.Recovering.{keeps_recovering}
+use Rattle.md_copy.proofs.EnrolReady.{target_rebuilt}
+use Rattle.md_copy.proofs.LentBack.{rebuilt_out}
+use Rattle.md_rebuild_laws.specs.RebuiltInLife.{HasNothing, HeldInLives, NewHadNothing, RebuildsResumed, RecoveringHeldIt, TakenBackHeldIt}
+use Rattle.md_rebuild_laws.proofs.RebuiltHolds.{holds_there}
 
 -- ---- one of which nothing is rebuilt
 lacks_all : (in_sync recovering marked passed : Bool) → in_sync ≡ false → (recovering ≡ false) ⊎ (passed ≡ false) → lacks in_sync recovering marked passed ≡ true
@@ -66,6 +79,14 @@ lacks_marked false true marked false out on past = absurd (true≢false (sym pas
 lacks_marked false true true true out on past = refl
 lacks_marked false true false true out on past = refl
 
+-- and no more where less is marked
+lacks_less : (in_sync recovering marked less passed : Bool) → (marked ≡ false → less ≡ false) → lacks in_sync recovering marked passed ≡ false → lacks in_sync recovering less passed ≡ false
+lacks_less true recovering marked less passed f none = refl
+lacks_less false false marked less passed f none = absurd (true≢false none)
+lacks_less false true true less passed f none = absurd (true≢false none)
+lacks_less false true false less false f none = absurd (true≢false none)
+lacks_less false true false less true f none = ap (λ b. lacks false true b true) (f refl)
+
 or_first : (a b : Bool) → a ≡ true → a || b ≡ true
 or_first true b is = refl
 or_first false b is = absurd (true≢false (sym is))
@@ -73,24 +94,80 @@ or_first false b is = absurd (true≢false (sym is))
 unmarked : (b : Bool) (is : Bool) → is ≡ false → (b && is) ≡ false
 unmarked b is none = by_test (b && is) (λ both. absurd (true≢false (sym (and_parts b is both).1 ∙ none))) (λ off. off)
 
+-- ---- a sector of a member's device, in the model
+module _ (t : Moment) (target : ℕ) (d : Disk) (m : MemberView) (at_d : slice_get t.mirror.disks target ≡ Some d) (at : IsMember t.mirror.array target m) where
+  abbrev a : ArrayView
+  a = t.mirror.array
+
+  abbrev w : World
+  w = world_of t.mirror t.requests
+
+  abbrev sector : ℕ → ℕ
+  sector s = m.superblock.data_offset + s
+
+  in_world : (s : ℕ) → s < a.chunks.size → part d.content (512 * sector s) 512 ≡ (w.stored target).content s
+  in_world s low =
+      let stored : w.stored target ≡ stored_of a m d.content = stored_there t.mirror.disks a target m d at at_d in
+      sym (ap (λ b. cond b (part d.content (512 * sector s) 512) []) (below-nat_lt s a.chunks.size low)) ∙ sym (ap (λ (x : Stored). x.content s) stored)
+
+  not_listed : (s : ℕ) → (IsBad m.bad (sector s) → ⊥) → lists_of a m s ≡ false
+  not_listed s clear = unmarked (nat_lt s a.chunks.size) (lies_in m.bad (sector s)) (by_test (lies_in m.bad (sector s)) (λ lies. absurd (clear (bad_from_test m.bad (sector s) lies))) (λ none. none))
+
+  no_mark : (c : ℕ) → is_set a.marks.bytes c ≡ false → w.marks c ≡ false
+  no_mark c = unmarked (nat_lt c a.marks.chunks) (is_set a.marks.bytes c)
+
+  -- what it lacks is no more in the model
+  state_is : w.state target ≡ kind_of m.state
+  state_is = member_there a target m states.State.Faulty (λ x. kind_of x.state) at
+
+  recovers : is_recovering m.state ≡ true → states.is_recovering (w.state target) ≡ true
+  recovers on = ap states.is_recovering state_is ∙ same_recovering m.state ∙ on
+
+  present : (c : ℕ) → is_missing a m c ≡ false → model.is_missing (geometry_of a) w target c ≡ false
+  present c is =
+      let in_sync_is : states.is_in_sync (w.state target) ≡ is_in_sync m.state = ap states.is_in_sync state_is ∙ same_in_sync m.state in
+      let recovering_is : states.is_recovering (w.state target) ≡ is_recovering m.state = ap states.is_recovering state_is ∙ same_recovering m.state in
+      let offset_is : w.offset target ≡ m.superblock.recovery_offset = member_there a target m 0 (λ x. x.superblock.recovery_offset) at in
+      let same : model.is_missing (geometry_of a) w target c ≡ lacks (is_in_sync m.state) (is_recovering m.state) (w.marks c) (has_passed a m c) =
+      λ i. lacks (in_sync_is i) (recovering_is i) (w.marks c) (is_passed (geometry_of a) (offset_is i) c) in
+      same ∙ lacks_less (is_in_sync m.state) (is_recovering m.state) (is_set a.marks.bytes c) (w.marks c) (has_passed a m c) (no_mark c) is
+
 pub taken_back_held_it : TakenBackHeldIt
 taken_back_held_it t target content m at back device behind from d n at_d at_n s low present unlisted =
     let a : ArrayView = t.mirror.array in
-    let same : n ≡ m = same_Some n m (sym at_n ∙ at) in
+    let same : m ≡ n = same_Some m n (sym at ∙ at_n) in
     let c = s / a.chunks.sectors in
-    let sector = m.superblock.data_offset + s in
-    let clear : IsBad m.bad sector → ⊥ = subst (λ (x : MemberView). IsBad x.bad (x.superblock.data_offset + s) → ⊥) same unlisted in
-    let is = and_parts (is_recovering m.state) (leb a.chunks.size m.superblock.recovery_offset) back in
-    let missing : is_missing a m c ≡ is_set a.marks.bytes c =
-    lacks_marked (is_in_sync m.state) (is_recovering m.state) (is_set a.marks.bytes c) (has_passed a m c) (recovering_out m.state is.0) is.0
-    (or_first (leb a.chunks.size m.superblock.recovery_offset) (leb ((c + 1) * a.chunks.sectors) m.superblock.recovery_offset) is.1) in
-    let mark : is_set a.marks.bytes c ≡ false = sym missing ∙ ap (λ (x : MemberView). is_missing a x c) (sym same) ∙ present in
-    let no_mark : (world_of t.mirror t.requests).marks c ≡ false = unmarked (nat_lt c a.marks.chunks) (is_set a.marks.bytes c) mark in
-    let off : lists_of a m s ≡ false = unmarked (nat_lt s a.chunks.size) (lies_in m.bad sector) (by_test (lies_in m.bad sector) (λ lies. absurd (clear (bad_from_test m.bad sector lies))) (λ none. none)) in
-    let stored : (world_of t.mirror t.requests).stored target ≡ stored_of a m d.content = stored_there t.mirror.disks a target m d at at_d in
-    let bytes = part d.content (512 * sector) 512 in
-    ap (λ (x : MemberView). part d.content (512 * (x.superblock.data_offset + s)) 512) same
-    ∙ sym (ap (λ b. cond b bytes []) (below-nat_lt s a.chunks.size low))
-    ∙ sym (ap (λ (x : Stored). x.content s) stored)
-    ∙ from.content s low no_mark
-    ∙ behind.in_memory s low (from.listed_still s low no_mark off) no_mark
+    let taken : is_re_added a n ≡ true = ap (is_re_added a) (sym same) ∙ back in
+    let is = and_parts (is_recovering n.state) (leb a.chunks.size n.superblock.recovery_offset) taken in
+    let missing : is_missing a n c ≡ is_set a.marks.bytes c =
+    lacks_marked (is_in_sync n.state) (is_recovering n.state) (is_set a.marks.bytes c) (has_passed a n c) (recovering_out n.state is.0) is.0
+    (or_first (leb a.chunks.size n.superblock.recovery_offset) (leb ((c + 1) * a.chunks.sectors) n.superblock.recovery_offset) is.1) in
+    let unset = no_mark t target d n at_d at_n c (sym missing ∙ present) in
+    let off : lists_of a m s ≡ false = ap (λ (x : MemberView). lists_of a x s) same ∙ not_listed t target d n at_d at_n s unlisted in
+    in_world t target d n at_d at_n s low ∙ from.content s low unset ∙ behind.in_memory s low (from.listed_still s low unset off) unset
+
+-- ---- any that is out of sync
+pub recovering_held_it : RecoveringHeldIt
+recovering_held_it t target content m at out holds d n at_d at_n s low has unlisted =
+    let a : ArrayView = t.mirror.array in
+    let c = s / a.chunks.sectors in
+    let out_n : is_in_sync n.state ≡ false = ap (λ (x : MemberView). is_in_sync x.state) (same_Some n m (sym at_n ∙ at)) ∙ out in
+    by_test (is_recovering n.state)
+    (λ on.
+    let bad_is = member_there a target n false (λ x. lists_of a x s) at_n in
+    in_world t target d n at_d at_n s low
+    ∙ differs_in_missing (geometry_of a) content (world_of t.mirror t.requests) holds target s low (recovers t target d n at_d at_n on) (bad_is ∙ not_listed t target d n at_d at_n s unlisted) (present t target d n at_d at_n c has))
+    (λ off. absurd (true≢false (sym (lacks_all (is_in_sync n.state) (is_recovering n.state) (is_set a.marks.bytes c) (has_passed a n c) out_n (inl off)) ∙ has)))
+
+pub held_in_lives : HeldInLives
+held_in_lives before m a start holds recovering es rest final last b life told target n at out =
+    let kept = keeps_recovering before m a start holds recovering es rest final last b life told in
+    let stays = (life_held_at before m a start holds es rest final last b life).geometry in
+    recovering_held_it last target b n at out (subst (λ g. RecoveringHolds g b (world_of last.mirror last.requests)) (sym stays) kept)
+
+pub rebuilds_resumed : RebuildsResumed
+rebuilds_resumed before m a start holds recovering es rest final last b life joins target told new h =
+    let x = holds_there before m a start holds es rest final last b life target told new h in
+    let begins = h.by.fills.begins in
+    let out = rebuilt_out begins.member.state (target_rebuilt last.mirror.array begins.member begins.may.settled.has_target.target) in
+    (x.0, x.1 (held_in_lives before m a start holds recovering es rest final last b life joins target begins.member begins.at out))

@@ -4,5 +4,6 @@ pub mod RebuiltHolds
 pub mod StoppedRebuilds
 pub mod HeldAtEnrol
 pub mod EnrolledRun
+pub mod SpoiledRebuilds
 pub mod RebuildRun
 pub mod HeldBefore

@@ -22,7 +22,7 @@ use Rattle.md_state.specs.Missing.{is_missing}
 use Rattle.md_state.specs.View.{ArrayView, Disk, MirrorView, geometry_of}
 use Rattle.md_array.specs.Consistency.{IsConsistent}
 use Rattle.md_array.specs.Enrolling.{HasContent}
-use Rattle.md_array.specs.Enrolments.{EndsBelow}
+use Rattle.md_array.proofs.Worlds.PartsApart.{ends_below}
 use Rattle.md_array.specs.Lending.{IsBesideChunk}
 use Rattle.md_array.specs.Worlds.{AreHonest, none_in_flight, world_of}
 use Rattle.md_array.proofs.Rebuilding.HeldContent.{its_chunk}
@@ -77,7 +77,7 @@ module _ (target : ℕ) (copied orphans : Bitmap) (old last : MirrorView) (sound
       → part e.content (at s) 512 ≡ content s
   copies = r.holds honest content has
 
-  module _ (had : HeldWhatItHad target content old) (ends : EndsBelow old target) (e : Disk) (at_e : slice_get last.disks target ≡ Some e) (s : ℕ) (low : s < a.chunks.size)
+  module _ (had : HeldWhatItHad target content old) (e : Disk) (at_e : slice_get last.disks target ≡ Some e) (s : ℕ) (low : s < a.chunks.size)
       (unlisted : IsBad r.now.bad (m.superblock.data_offset + s) → ⊥) where
     abbrev c : ℕ
     c = s / a.chunks.sectors
@@ -97,7 +97,7 @@ module _ (target : ℕ) (copied orphans : Bitmap) (old last : MirrorView) (sound
     lacked : is_set copied.bytes c ≡ false → is_missing a m c ≡ true → ⊥
     lacked uncopied missing =
         let orphan = (r.orphans_are c c_low).1 (missing, λ served. true≢false (sym ((r.copied_are c c_low).1 (missing, served)) ∙ uncopied)) in
-        let bound = ends m r.at in
+        let bound = ends_below old sound target m r.at in
         unlisted ((r.bad.bad (m.superblock.data_offset + s)).1 (inr (of_chunk orphans r.orphan_chunks orphan, omega arith)))
 
     not_copied : is_set copied.bytes c ≡ false → IsOf a.chunks m.superblock.data_offset copied (m.superblock.data_offset + s) → ⊥
@@ -154,7 +154,7 @@ module _ (before : List Disk) (m : MirrorView) (a : Content) (start : IsStart be
       → InChunk last.mirror.array.chunks.sectors last.mirror.array.chunks.size c s → part e.content (512 * (r.rebuilt.member.superblock.data_offset + s)) 512 ≡ b s)
   copies_there = (r, copies target r.copied r.orphans last.mirror r.last sound_there honest_there r.rebuilt b has_it)
 
-  pub holds_there : (r : HasRebuilt target told last.mirror new) × (HeldWhatItHad target b last.mirror → EndsBelow last.mirror target → (e : Disk) → slice_get r.last.disks target ≡ Some e
+  pub holds_there : (r : HasRebuilt target told last.mirror new) × (HeldWhatItHad target b last.mirror → (e : Disk) → slice_get r.last.disks target ≡ Some e
       → (s : ℕ) → s < last.mirror.array.chunks.size → (IsBad r.rebuilt.now.bad (r.rebuilt.member.superblock.data_offset + s) → ⊥) → part e.content (512 * (r.rebuilt.member.superblock.data_offset + s)) 512 ≡ b s)
   holds_there = (r, holds_all target r.copied r.orphans last.mirror r.last sound_there honest_there r.rebuilt b has_it)
 

@@ -15,7 +15,7 @@ use Rattle.md_state.specs.Requests.{AreInFlight}
 use Rattle.md_state.specs.View.{ArrayView, Disk, MirrorView}
 use Rattle.md_array.specs.Consistency.{IsConsistent}
 use Rattle.md_array.specs.Enrolling.{Enrols, FailsToEnrol, MayEnrol}
-use Rattle.md_array.specs.Enrolments.{EndsBelow, Prepares}
+use Rattle.md_array.specs.Enrolments.{Prepares}
 use Rattle.md_array.specs.Filling.{Fills}
 use Rattle.md_array.specs.InTurn.{AllLeftWhole, AllOf, Did, InTurn, IsInOrder, Leads, LeftWhole, Requests}
 use Rattle.md_array.specs.Recording.{super_write}
@@ -45,7 +45,7 @@ use Rattle.md_copy.specs.RebuildEvents.{FailsAtMarks, IsBeforeEnrol}
 use Rattle.md_copy.specs.Rebuilding.{Begins, EndsStoring, FillsBy}
 use Rattle.md_copy.proofs.EnrolReady.{target_rebuilt}
 use Rattle.md_copy.proofs.LentBack.{rebuilt_out}
-use Rattle.md_copy.proofs.RebuildLeads.{LeadsIn, admission_events, admission_leads, begin_events, begin_leads, either, ends_then, event_of, events_either, filled, filled_leads, filling_events, now_rebuilt, storing_before}
+use Rattle.md_copy.proofs.RebuildLeads.{LeadsIn, admission_events, admission_leads, begin_events, begin_leads, either, event_of, events_either, filled, filled_leads, filling_events, now_rebuilt, storing_before}
 use Rattle.md_copy.proofs.Readied.{admitted_is, recovering_admitted, spare_rebuilt}
 use Rattle.md_copy.proofs.StoringKeeps.{KeepsAll, device_then, due_within, keeps_event, keeps_none, keeps_then}
 use Rattle.md_copy.proofs.UnfinishedEnrol.{prepares}
@@ -134,7 +134,7 @@ stays_out old new sound keeps k m n at_m at_n out =
     ]
 
 -- while what is due is stored before a pass
-first_stop : (t : Moment) → AreHonest t.mirror.disks → IsConsistent t.mirror → (target : ℕ) (m : MemberView) → IsMember t.mirror.array target m → is_in_sync m.state ≡ false
+pub first_stop : (t : Moment) → AreHonest t.mirror.disks → IsConsistent t.mirror → (target : ℕ) (m : MemberView) → IsMember t.mirror.array target m → is_in_sync m.state ≡ false
     → (new : MirrorView) (first : StoresFirst t.mirror new) (in_flight : AreInFlight t.mirror.array t.requests) (left : List Disk) → StopsFirst t.mirror new first t.requests in_flight left → IsStopBefore target t left
 first_stop t honest sound target m at out new first in_flight left stop =
     let goes = first.stores.goes in
@@ -184,14 +184,14 @@ module _ (t : Moment) (sound : IsSoundAt t) where
   }
 
   -- ---- while a spare is admitted
-  stored_reached : (target : ℕ) (new : MirrorView) (first : StoresFirst t.mirror new) → Reaches t first.stores.goes.events new
+  pub stored_reached : (target : ℕ) (new : MirrorView) (first : StoresFirst t.mirror new) → Reaches t first.stores.goes.events new
   stored_reached target new first =
       let goes = first.stores.goes in
       let leads = goes.leads None t.requests sound.in_flight in
       reaches goes.events t new leads sound.honest
       (whole_of goes.events None t.mirror t.requests (λ m r. (m ≡ new) × (r ≡ t.requests)) leads (unfailing_records goes.events goes.steps first.stores.unfailing))
 
-  stored_kinds : (target : ℕ) (new : MirrorView) (first : StoresFirst t.mirror new) → AllOf (IsBeforeEnrol target) first.stores.goes.events
+  pub stored_kinds : (target : ℕ) (new : MirrorView) (first : StoresFirst t.mirror new) → AllOf (IsBeforeEnrol target) first.stores.goes.events
   stored_kinds target new first = all_such IsStoring (IsBeforeEnrol target) (storing_before target) first.stores.goes.events first.stores.goes.steps
 
   -- who is a spare then is out of sync
@@ -214,7 +214,7 @@ module _ (t : Moment) (sound : IsSoundAt t) where
     out_admitted m at = rebuilt_out m.state (recovers_rebuilt m.state (recovering_admitted target t.mirror admitted h m at))
 
     -- the devices before its write
-    honest_stored : AreHonest h.stored.disks
+    pub honest_stored : AreHonest h.stored.disks
     honest_stored =
         let r = stored_reached target h.stored h.first in
         subst (λ (x : MirrorView). AreHonest x.disks) r.there (run_keeps h.first.stores.goes.events t r.at r.run sound).honest
@@ -244,7 +244,7 @@ module _ (t : Moment) (sound : IsSoundAt t) where
     abbrev failing : Write
     failing = super_write (admitted h.stored.array target h.fails.may.member h.fails.role) (admitted_member h.fails.role h.fails.may.member)
 
-    honest_unadmitted : AreHonest h.stored.disks
+    pub honest_unadmitted : AreHonest h.stored.disks
     honest_unadmitted =
         let r = stored_reached target h.stored h.first in
         subst (λ (x : MirrorView). AreHonest x.disks) r.there (run_keeps h.first.stores.goes.events t r.at r.run sound).honest
@@ -258,10 +258,10 @@ module _ (t : Moment) (sound : IsSoundAt t) where
 
   -- ---- until a pass may be planned
   module _ (target : ℕ) (m : MemberView) (at : IsMember t.mirror.array target m) (may : MayRebuild t.mirror.array m) (stored : MirrorView) where
-    was_out : is_in_sync m.state ≡ false
+    pub was_out : is_in_sync m.state ≡ false
     was_out = rebuilt_out m.state (target_rebuilt t.mirror.array m may.settled.has_target.target)
 
-    after_stop : (h : AdmitsFirst target t.mirror stored) (left : List Disk) (then : AreInFlight h.admitted.array t.requests) → StopsFirst h.admitted stored h.then t.requests then left → IsStopBefore target t left
+    pub after_stop : (h : AdmitsFirst target t.mirror stored) (left : List Disk) (then : AreInFlight h.admitted.array t.requests) → StopsFirst h.admitted stored h.then t.requests then left → IsStopBefore target t left
     after_stop h left then stop =
         let r = admitted_reached target h.admitted h.after in
         let mid : Moment = record r.at { mirror = h.admitted; requests = t.requests } in
@@ -272,7 +272,7 @@ module _ (t : Moment) (sound : IsSoundAt t) where
         later_stop target t mid (admission_events target h.after) (admission target h.admitted h.after).steps run left
         (first_stop mid honest h.after.sound target x here (out_admitted target h.admitted h.after x here) stored h.then then left stop)
 
-    pub ready_stop : (first : Readies target m t.mirror stored) (in_flight : AreInFlight t.mirror.array t.requests) (left : List Disk) → StopsReadying target m t.mirror stored first t.requests in_flight left → IsStopBefore target t left
+    pub ready_stop : (first : Readies target m t.mirror stored) (in_flight : AreInFlight t.mirror.array t.requests) (left : List Disk) → StopsReadying IsSuperWhole target m t.mirror stored first t.requests in_flight left → IsStopBefore target t left
     ready_stop (inl h) in_flight left stop = first_stop t sound.honest sound.sound target m at was_out stored h.1 in_flight left stop
     ready_stop (inr h) in_flight left stop = elim stop [
       | inl before ↦ first_stop t sound.honest sound.sound target m at was_out h.1.after.stored h.1.after.first in_flight left before
@@ -288,7 +288,7 @@ module _ (t : Moment) (sound : IsSoundAt t) where
     abbrev first : GoesOn only_others only_others IsStoring t.mirror why.mid
     first = why.stores.goes
 
-    first_done : Reaches t first.events why.mid
+    pub first_done : Reaches t first.events why.mid
     first_done =
         let leads = first.leads None t.requests sound.in_flight in
         reaches first.events t why.mid leads sound.honest (whole_of first.events None t.mirror t.requests (λ m r. (m ≡ why.mid) × (r ≡ t.requests)) leads (unfailing_records first.events first.steps why.stores.unfailing))
@@ -443,11 +443,8 @@ module _ (t : Moment) (sound : IsSoundAt t) where
     pub in_flight_mid : AreInFlight filled.array full.at.requests
     in_flight_mid = subst (λ (x : MirrorView). AreInFlight x.array full.at.requests) full.there sound_mid.in_flight
 
-    pub ends_mid : EndsBelow t.mirror target → EndsBelow filled target
-    ends_mid = ends_then target planned t.mirror by.stored b filled by.fills.filling.array
-
 -- ---- in lives
-sound_at : (before : List Disk) (m : MirrorView) → IsStart before m → (es : List Event) (rest : List (List Event)) (final : MirrorView) (t : Moment) → MirrorLife m es rest final t → IsSoundAt t
+pub sound_at : (before : List Disk) (m : MirrorView) → IsStart before m → (es : List Event) (rest : List (List Event)) (final : MirrorView) (t : Moment) → MirrorLife m es rest final t → IsSoundAt t
 sound_at before m start es rest final t life = life_keeps m es rest final t (sound_when_opened before m start.honest start.opened) life
 
 pub stops_storing : StopsStoring

@@ -4,7 +4,6 @@ use Rattle.md_model.specs.Content.{Content, Holds}
 use Rattle.md_model.specs.Events.{Event}
 use Rattle.md_state.specs.Requests.{AreInFlight}
 use Rattle.md_state.specs.View.{Disk, MirrorView, geometry_of}
-use Rattle.md_array.specs.Enrolments.{EndsBelow}
 use Rattle.md_array.specs.InTurn.{AllLeftWhole, AllOf}
 use Rattle.md_array.specs.Worlds.{none_in_flight, world_of}
 use Rattle.md_laws.specs.Lives.{MirrorLifeWith}
@@ -35,7 +34,7 @@ pub record RunsTo (Of : Event → Type 0) (t : Moment) (content : Content) (new 
 abbrev pub RebuildIsARun : Type 0
 RebuildIsARun =
     AtMomentsWith (λ t content.
-    ((target : ℕ) (told : Rebuilt) (new : MirrorView) (h : Rebuilds target told t.mirror new) → HeldWhatItHad target content t.mirror → EndsBelow t.mirror target
+    ((target : ℕ) (told : Rebuilt) (new : MirrorView) (h : Rebuilds target told t.mirror new) → HeldWhatItHad target content t.mirror
     → RunsTo (IsOfRebuild target) t content h.by.enrolled))
 
 -- So it is to the end of the call, where what is due then is stored: by these events, of which each write of a superblock that failed left the
@@ -43,7 +42,7 @@ RebuildIsARun =
 abbrev pub RebuildRunsOn : Type 0
 RebuildRunsOn =
     AtMomentsWith (λ t content.
-    ((target : ℕ) (told : Rebuilt) (new : MirrorView) (h : Rebuilds target told t.mirror new) → HeldWhatItHad target content t.mirror → EndsBelow t.mirror target
+    ((target : ℕ) (told : Rebuilt) (new : MirrorView) (h : Rebuilds target told t.mirror new) → HeldWhatItHad target content t.mirror
     → (settled : MirrorView) (g : GoesOn only_others only_others IsStoring h.by.enrolled settled) (in_flight : AreInFlight h.by.enrolled.array t.requests)
     → AllLeftWhole g.events None h.by.enrolled t.requests (λ m r. (m ≡ settled) × (r ≡ t.requests)) (g.leads None t.requests in_flight)
     → RunsTo (IsOfRebuild target) t content settled))

@@ -1,6 +1,6 @@
 -- What a rebuild makes of its target in the life of a mirror.
 use Rattle.std.specs.Prelude.{◌≡◌, ◌⊎◌, ℕ, ◌+◌, ◌*◌, ◌/◌, ◌<◌, true, false, List, slice_get, Some}
-use Rattle.md_assembly.specs.States.{is_recovering, is_spare}
+use Rattle.md_assembly.specs.States.{is_in_sync, is_recovering, is_spare}
 use Rattle.md_badblocks.specs.Runs.{IsBad}
 use Rattle.md_bitmap.specs.Chunks.{InChunk}
 use Rattle.md_bitmap.specs.Marks.{is_set}
@@ -11,13 +11,14 @@ use Rattle.md_model.specs.Content.{Content, Holds}
 use Rattle.md_model.specs.Devices.{Stored}
 use Rattle.md_model.specs.Events.{Event}
 use Rattle.md_model.specs.RebuiltBehind.{IsRebuiltFrom}
+use Rattle.md_model.specs.Recovering.{RecoveringHolds}
 use Rattle.md_state.specs.Members.{IsMember}
 use Rattle.md_state.specs.Missing.{is_missing, is_re_added}
 use Rattle.md_state.specs.View.{Disk, MirrorView, geometry_of}
 use Rattle.md_array.specs.Consistency.{IsConsistent}
-use Rattle.md_array.specs.Enrolments.{EndsBelow}
 use Rattle.md_array.specs.Worlds.{lists_of, none_in_flight, world_of}
 use Rattle.md_laws.specs.Lives.{MirrorLifeWith}
+use Rattle.md_laws.specs.Recovering.{MirrorLifeJoins}
 use Rattle.md_laws.specs.Runs.{IsStart, Moment}
 use Rattle.md_copy.specs.declared.rebuilt.Rebuilt.{Rebuilt}
 use Rattle.md_copy.specs.Rebuilding.{Rebuilds}
@@ -61,9 +62,37 @@ TakenBackHeldIt =
     → (device : Stored) → IsBehind (geometry_of t.mirror.array) content device (world_of t.mirror t.requests)
     → IsRebuiltFrom (geometry_of t.mirror.array) device (world_of t.mirror t.requests) target (lists_of t.mirror.array m) → HeldWhatItHad target content t.mirror
 
+-- So did every member that is not in sync, if at that moment a recovering member differs from the content only in what it lacks: by what is
+-- marked, and by what its offset has not passed.
+abbrev pub RecoveringHeldIt : Type 0
+RecoveringHeldIt =
+    (t : Moment) (target : ℕ) (content : Content) (m : MemberView) → IsMember t.mirror.array target m → is_in_sync m.state ≡ false
+    → RecoveringHolds (geometry_of t.mirror.array) content (world_of t.mirror t.requests) → HeldWhatItHad target content t.mirror
+
+-- So it is at each moment of a life that is told what its recovering members have: those of an opening, and each device that is taken back.
+abbrev pub HeldInLives : Type 0
+HeldInLives =
+    (before : List Disk) (m : MirrorView) (a : Content) → IsStart before m → Holds (geometry_of m.array) a (world_of m none_in_flight)
+    → RecoveringHolds (geometry_of m.array) a (world_of m none_in_flight)
+    → (es : List Event) (rest : List (List Event)) (final : MirrorView) (last : Moment) (b : Content) (life : MirrorLifeWith m a es rest final last b)
+    → MirrorLifeJoins m a es rest final last b life
+    → (target : ℕ) (n : MemberView) → IsMember last.mirror.array target n → is_in_sync n.state ≡ false → HeldWhatItHad target b last.mirror
+
 -- A member that did holds it on each sector of the array that it does not list afterwards.
 abbrev pub RebuildsContent : Type 0
 RebuildsContent = OfRebuildsInLives (λ target content told old new r.
-    (HeldWhatItHad target content old → EndsBelow old target → (e : Disk) → slice_get r.last.disks target ≡ Some e
+    (HeldWhatItHad target content old → (e : Disk) → slice_get r.last.disks target ≡ Some e
     → (s : ℕ) → s < old.array.chunks.size → (IsBad r.rebuilt.now.bad (r.rebuilt.member.superblock.data_offset + s) → ⊥)
     → part e.content (512 * (r.rebuilt.member.superblock.data_offset + s)) 512 ≡ content s))
+
+-- So it does in each such life, with nothing asked of it.
+abbrev pub RebuildsResumed : Type 0
+RebuildsResumed =
+    (before : List Disk) (m : MirrorView) (a : Content) → IsStart before m → Holds (geometry_of m.array) a (world_of m none_in_flight)
+    → RecoveringHolds (geometry_of m.array) a (world_of m none_in_flight)
+    → (es : List Event) (rest : List (List Event)) (final : MirrorView) (last : Moment) (b : Content) (life : MirrorLifeWith m a es rest final last b)
+    → MirrorLifeJoins m a es rest final last b life
+    → (target : ℕ) (told : Rebuilt) (new : MirrorView) → Rebuilds target told last.mirror new
+    → (r : HasRebuilt target told last.mirror new) × ((e : Disk) → slice_get r.last.disks target ≡ Some e
+    → (s : ℕ) → s < last.mirror.array.chunks.size → (IsBad r.rebuilt.now.bad (r.rebuilt.member.superblock.data_offset + s) → ⊥)
+    → part e.content (512 * (r.rebuilt.member.superblock.data_offset + s)) 512 ≡ b s)

@@ -1,8 +1,8 @@
 -- What a stop within a rebuild leaves. It comes within one of its steps, from the mirror before that step to the one after it, of which the
 -- step's own contract says what may be left.
-use Rattle.std.specs.Prelude.{◌≡◌, ◌⊎◌, ℕ, false, List, [], ◌∷◌, Option, Some, None}
+use Rattle.std.specs.Prelude.{◌≡◌, ◌⊎◌, ℕ, true, false, List, [], ◌∷◌, Option, Some, None}
 use Rattle.std.proofs.Common.{inl, inr}
-use Rattle.md_assembly.specs.States.{is_in_sync}
+use Rattle.md_assembly.specs.States.{is_in_sync, is_recovering}
 use Rattle.md_bitmap.specs.Marks.{Bitmap}
 use Rattle.md_kept_members.specs.View.{MemberView}
 use Rattle.md_model.specs.Content.{Content}
@@ -14,7 +14,6 @@ use Rattle.md_state.specs.Requests.{AreInFlight}
 use Rattle.md_state.specs.View.{Disk, MirrorView}
 use Rattle.md_array.specs.Consistency.{IsConsistent}
 use Rattle.md_array.specs.Enrolling.{Enrols, FailsToEnrol}
-use Rattle.md_array.specs.Enrolments.{EndsBelow}
 use Rattle.md_array.specs.Events.{IsOldNewOrNone}
 use Rattle.md_array.specs.InTurn.{AllLeftWhole, AllOf, InTurn, Requests}
 use Rattle.md_array.specs.Recording.{super_write}
@@ -29,7 +28,7 @@ use Rattle.md_copy.specs.declared.rebuilt.Rebuilt.{Rebuilt}
 use Rattle.md_copy.specs.Filling.{IsFilling}
 use Rattle.md_copy.specs.Readying.{AdmitsAfter, FailsAdmission, Readies}
 use Rattle.md_copy.specs.Storing.{FailsOnTarget, StoresFirst}
-use Rattle.md_copy.specs.RebuildEvents.{FailsAtMarks, IsBeforeEnrol, IsOfRebuild}
+use Rattle.md_copy.specs.RebuildEvents.{FailsAtMarks, IsBeforeEnrol, IsOfRebuild, IsOfUnfinished}
 use Rattle.md_copy.specs.Rebuilding.{Begins, EndsStoring, FillsBy, Rebuilds}
 use Rattle.md_rebuild_laws.specs.RebuildRuns.{AtMomentsWith}
 use Rattle.md_rebuild_laws.specs.RebuiltInLife.{HeldWhatItHad}
@@ -53,6 +52,11 @@ pub record IsStopAfter (Of : Event → Type 0) (t : Moment) (left : List Disk) :
 -- So it is, and the target is not in sync yet.
 pub record IsStopBefore (target : ℕ) (t : Moment) (left : List Disk) : Type 0 where
   pub after : IsStopAfter (IsBeforeEnrol target) t left
+  pub out : (m : MemberView) → IsMember after.at.mirror.array target m → is_in_sync m.state ≡ false
+
+-- So it is, and at the last the target may be spoiled: then the next opening has to leave it out.
+pub record IsStopUnfinished (target : ℕ) (t : Moment) (left : List Disk) : Type 0 where
+  pub after : IsStopAfter (IsOfUnfinished target) t left
   pub out : (m : MemberView) → IsMember after.at.mirror.array target m → is_in_sync m.state ≡ false
 
 -- So it is of a run in which the target came into sync, and the content stays what it was: the members in sync hold it, and the target is one
@@ -143,12 +147,14 @@ StopsUnenrolled =
     → (f : FailsToEnrol target copied orphans filled new) → FailsAtMarks f
     → (left : List Disk) → MayAllBeLeft filled.disks new.disks (contents_of left) → IsStopBefore target t left))
 
--- Where its superblock stands as after it, the target is in sync. Of the target it is asked that it held the content where it lacked nothing.
+-- Where its superblock stands as after it, the target is in sync. Of the target it is asked that it held the content where it lacked nothing;
+-- and of one that was recovering, that its superblock was not spoiled, as that might stand so from the first.
 abbrev pub StopsEnrolled : Type 0
 StopsEnrolled =
     AtMomentsWith (λ t content.
-    ((target : ℕ) (planned : Planned) (copied orphans : Bitmap) (filled new : MirrorView) → FillsBy target planned copied orphans t.mirror filled
-    → Enrols target copied orphans filled new → IsConsistent new → HeldWhatItHad target content t.mirror → EndsBelow t.mirror target
+    ((target : ℕ) (planned : Planned) (copied orphans : Bitmap) (filled new : MirrorView) (by : FillsBy target planned copied orphans t.mirror filled)
+    → Enrols target copied orphans filled new → IsConsistent new → HeldWhatItHad target content t.mirror
+    → (is_recovering by.begins.member.state ≡ true → t.spoiled target ≡ false)
     → (left : List Disk) → MayAllBeLeft filled.disks new.disks (contents_of left) → AtDevice target new.disks left (λ d e. block_on e.content ≡ block_on d.content)
     → IsStopEnrolled target t content left))
 
@@ -156,40 +162,86 @@ StopsEnrolled =
 abbrev pub StopsSettling : Type 0
 StopsSettling =
     AtMomentsWith (λ t content.
-    ((target : ℕ) (told : Rebuilt) (new : MirrorView) (h : Rebuilds target told t.mirror new) → HeldWhatItHad target content t.mirror → EndsBelow t.mirror target
+    ((target : ℕ) (told : Rebuilt) (new : MirrorView) (h : Rebuilds target told t.mirror new) → HeldWhatItHad target content t.mirror
     → (settled : MirrorView) (g : GoesOn only_others only_others IsStoring h.by.enrolled settled) (in_flight : AreInFlight h.by.enrolled.array t.requests)
     → AllLeftWhole g.events None h.by.enrolled t.requests (λ m r. (m ≡ settled) × (r ≡ t.requests)) (g.leads None t.requests in_flight)
     → (left : List Disk) → StopsIn g.events None h.by.enrolled t.requests (λ m r. (m ≡ settled) × (r ≡ t.requests)) (g.leads None t.requests in_flight) left
     → IsStopEnrolled target t content left))
 
+-- ---- while the target tells of itself, whatever stands in place of its superblock
+abbrev pub StopsTelling : Type 0
+StopsTelling =
+    AtMoments (λ t.
+    ((target : ℕ) (new : MirrorView) (e : EndsStoring target t.mirror (FailsOnTarget target t.mirror new))
+    → (left : List Disk) → MayAllBeLeft e.why.mid.disks new.disks (contents_of left) → IsStopUnfinished target t left))
+
+-- while it is admitted
+abbrev pub StopsAdmittingAnyhow : Type 0
+StopsAdmittingAnyhow =
+    AtMoments (λ t.
+    ((target : ℕ) (admitted : MirrorView) (h : AdmitsAfter target t.mirror admitted)
+    → (left : List Disk) → MayAllBeLeft h.stored.disks admitted.disks (contents_of left) → IsStopUnfinished target t left))
+
+-- or that fails
+abbrev pub StopsUnadmittedAnyhow : Type 0
+StopsUnadmittedAnyhow =
+    AtMoments (λ t.
+    ((target : ℕ) (new : MirrorView) (h : FailsAdmission target t.mirror new)
+    → (left : List Disk) → MayAllBeLeft h.stored.disks new.disks (contents_of left) → IsStopUnfinished target t left))
+
+-- while it comes into sync
+abbrev pub StopsEnrollingAnyhow : Type 0
+StopsEnrollingAnyhow =
+    AtMoments (λ t.
+    ((target : ℕ) (planned : Planned) (copied orphans : Bitmap) (filled new : MirrorView) → FillsBy target planned copied orphans t.mirror filled
+    → Enrols target copied orphans filled new
+    → (left : List Disk) → MayAllBeLeft filled.disks new.disks (contents_of left) → IsStopUnfinished target t left))
+
 -- ---- within all of a rebuild that is done
+-- what is asked of the superblock by which the target tells of itself, within a call
+abbrev pub OfSuper : Type 1
+OfSuper = ℕ → MirrorView → MirrorView → List Disk → Type 0
+
+abbrev pub Anyhow : OfSuper
+Anyhow target old new left = Unit {0}
+
 -- the stop came while what is due was stored
 abbrev pub StopsFirst : (old new : MirrorView) → StoresFirst old new → (requests : Requests) → AreInFlight old.array requests → List Disk → Type 0
 StopsFirst old new first requests in_flight left =
     StopsIn first.stores.goes.events None old requests (λ m r. (m ≡ new) × (r ≡ requests)) (first.stores.goes.leads None requests in_flight) left
 
 -- So it came; or, of a spare, before it was admitted, while it was, or while what was due then was stored.
-abbrev pub StopsReadying : (target : ℕ) (m : MemberView) (old ready : MirrorView) → Readies target m old ready → (requests : Requests) → AreInFlight old.array requests → List Disk → Type 0
-StopsReadying target m old ready (inl h) requests in_flight left = StopsFirst old ready h.1 requests in_flight left
-StopsReadying target m old ready (inr h) requests in_flight left =
+abbrev pub StopsReadying : OfSuper → (target : ℕ) (m : MemberView) (old ready : MirrorView) → Readies target m old ready → (requests : Requests) → AreInFlight old.array requests → List Disk → Type 0
+StopsReadying Super target m old ready (inl h) requests in_flight left = StopsFirst old ready h.1 requests in_flight left
+StopsReadying Super target m old ready (inr h) requests in_flight left =
     StopsFirst old h.1.after.stored h.1.after.first requests in_flight left
-    ⊎ ((MayAllBeLeft h.1.after.stored.disks h.1.admitted.disks (contents_of left) × IsSuperWhole target h.1.after.stored h.1.admitted left)
+    ⊎ ((MayAllBeLeft h.1.after.stored.disks h.1.admitted.disks (contents_of left) × Super target h.1.after.stored h.1.admitted left)
     ⊎ ((then : AreInFlight h.1.admitted.array requests) × StopsFirst h.1.admitted ready h.1.then requests then left))
 
 -- So it came; or while the pass was made, while the target came into sync, or while what was due then was stored.
-abbrev pub StopsWithin : (target : ℕ) (told : Rebuilt) (old new : MirrorView) → Rebuilds target told old new → (requests : Requests) → AreInFlight old.array requests → List Disk → Type 0
-StopsWithin target told old new h requests in_flight left =
-    StopsReadying target h.by.fills.begins.member old h.by.fills.stored h.by.fills.begins.first requests in_flight left
+abbrev pub StopsWithin : OfSuper → (target : ℕ) (told : Rebuilt) (old new : MirrorView) → Rebuilds target told old new → (requests : Requests) → AreInFlight old.array requests → List Disk → Type 0
+StopsWithin Super target told old new h requests in_flight left =
+    StopsReadying Super target h.by.fills.begins.member old h.by.fills.stored h.by.fills.begins.first requests in_flight left
     ⊎ (MayAllBeLeft h.by.fills.stored.disks h.by.filled.disks (contents_of left)
-    ⊎ ((MayAllBeLeft h.by.filled.disks h.by.enrolled.disks (contents_of left) × IsSuperWhole target h.by.filled h.by.enrolled left)
+    ⊎ ((MayAllBeLeft h.by.filled.disks h.by.enrolled.disks (contents_of left) × Super target h.by.filled h.by.enrolled left)
     ⊎ ((settled : MirrorView) × (g : GoesOn only_others only_others IsStoring h.by.enrolled settled) × (then : AreInFlight h.by.enrolled.array requests)
     × AllLeftWhole g.events None h.by.enrolled requests (λ m r. (m ≡ settled) × (r ≡ requests)) (g.leads None requests then)
     × StopsIn g.events None h.by.enrolled requests (λ m r. (m ≡ settled) × (r ≡ requests)) (g.leads None requests then) left)))
 
--- Whenever it came, the target is not in sync yet, or the enrolment is done and the members in sync hold the content.
+-- Whenever it came, the target is not in sync yet, or the enrolment is done and the members in sync hold the content. Of one that was
+-- recovering it is asked that its superblock was not spoiled before.
 abbrev pub StopsInRebuild : Type 0
 StopsInRebuild =
     AtMomentsWith (λ t content.
-    ((target : ℕ) (told : Rebuilt) (new : MirrorView) (h : Rebuilds target told t.mirror new) → HeldWhatItHad target content t.mirror → EndsBelow t.mirror target
-    → (in_flight : AreInFlight t.mirror.array t.requests) (left : List Disk) → StopsWithin target told t.mirror new h t.requests in_flight left
+    ((target : ℕ) (told : Rebuilt) (new : MirrorView) (h : Rebuilds target told t.mirror new) → HeldWhatItHad target content t.mirror
+    → (is_recovering h.by.fills.begins.member.state ≡ true → t.spoiled target ≡ false)
+    → (in_flight : AreInFlight t.mirror.array t.requests) (left : List Disk) → StopsWithin IsSuperWhole target told t.mirror new h t.requests in_flight left
     → IsStopBefore target t left ⊎ IsStopEnrolled target t content left))
+
+-- So it is with nothing asked of the target's superblock, before or at the stop; but the target may be spoiled then.
+abbrev pub StopsAnyhow : Type 0
+StopsAnyhow =
+    AtMomentsWith (λ t content.
+    ((target : ℕ) (told : Rebuilt) (new : MirrorView) (h : Rebuilds target told t.mirror new) → HeldWhatItHad target content t.mirror
+    → (in_flight : AreInFlight t.mirror.array t.requests) (left : List Disk) → StopsWithin Anyhow target told t.mirror new h t.requests in_flight left
+    → IsStopUnfinished target t left ⊎ IsStopEnrolled target t content left))

@@ -1,8 +1,8 @@
 //! What holds of a rebuild in the life of a mirror. The functions do nothing: their contracts are the theorems.
 
 ghost use Rattle.md_rebuild_laws.specs.RebuildRuns.{RebuildIsARun, RebuildRunsOn};
-ghost use Rattle.md_rebuild_laws.specs.RebuiltInLife.{CopiesContent, NewHadNothing, RebuildsContent, TakenBackHeldIt};
-ghost use Rattle.md_rebuild_laws.specs.StoppedRebuilds.{StopsAdmitting, StopsEnrolled, StopsEnrolling, StopsFilling, StopsInRebuild, StopsSettling, StopsStoring, StopsUnadmitted, StopsUnenrolled, StopsUnrecorded};
+ghost use Rattle.md_rebuild_laws.specs.RebuiltInLife.{CopiesContent, HeldInLives, NewHadNothing, RebuildsContent, RebuildsResumed, RecoveringHeldIt, TakenBackHeldIt};
+ghost use Rattle.md_rebuild_laws.specs.StoppedRebuilds.{StopsAdmitting, StopsAdmittingAnyhow, StopsAnyhow, StopsEnrolled, StopsEnrolling, StopsEnrollingAnyhow, StopsFilling, StopsInRebuild, StopsSettling, StopsStoring, StopsTelling, StopsUnadmitted, StopsUnadmittedAnyhow, StopsUnenrolled, StopsUnrecorded};
 
 /// A mirror was opened from devices that do what they answer, whose stored marks covered what they differ in,
 /// and has come to any moment of its life. A rebuild then gives the new member the content that the life has
@@ -11,6 +11,7 @@ ghost use Rattle.md_rebuild_laws.specs.StoppedRebuilds.{StopsAdmitting, StopsEnr
 pub fn rebuilt_in_life()
     ensures copies { CopiesContent }
     ensures content { RebuildsContent }
+    ensures resumed { RebuildsResumed }
 {}
 
 /// When a member held the content where it lacked nothing. A spare lacks everything, and so does a recovering member
@@ -19,6 +20,8 @@ pub fn rebuilt_in_life()
 pub fn held_before()
     ensures new { NewHadNothing }
     ensures taken_back { TakenBackHeldIt }
+    ensures recovering { RecoveringHeldIt }
+    ensures in_lives { HeldInLives }
 {}
 
 /// A rebuild that is done is a run of the mirror, from any moment of a life on, and the content stays what it was:
@@ -30,7 +33,8 @@ pub fn rebuild_runs()
 
 /// What a stop at any moment within a rebuild leaves, is what a stop of a run leaves: so an opening finds of it what
 /// the laws over lives say. Until the superblock that brings the target into sync stands, the target is not in
-/// sync; where it stands, the enrolment is done.
+/// sync; where it stands, the enrolment is done. Where another superblock of the target stands than before or after
+/// a call, the target is spoiled, and that opening has to leave it out.
 pub fn stopped_rebuilds()
     ensures storing { StopsStoring }
     ensures unrecorded { StopsUnrecorded }
@@ -42,6 +46,13 @@ pub fn stopped_rebuilds()
     ensures enrolled { StopsEnrolled }
     ensures settling { StopsSettling }
 
+    // Whatever stands in place of the target's superblock.
+    ensures telling { StopsTelling }
+    ensures admitting_anyhow { StopsAdmittingAnyhow }
+    ensures unadmitted_anyhow { StopsUnadmittedAnyhow }
+    ensures enrolling_anyhow { StopsEnrollingAnyhow }
+
     // So of a rebuild that is done, whenever the stop came.
     ensures done { StopsInRebuild }
+    ensures anyhow { StopsAnyhow }
 {}

@@ -7,6 +7,7 @@ pub mod Advancing
 pub mod Agreeing
 pub mod Unstored
 pub mod Settled
+pub mod InLives
 pub mod Cleared
 pub mod Resynced
 pub mod MarksStored

@@ -6,5 +6,7 @@ pub mod Steps
 pub mod StepRuns
 -- A whole resync.
 pub mod Resyncing
+-- A resync in the life of a mirror.
+pub mod InLives
 -- Marked chunks are copied, run by run.
 pub mod Copying

@@ -9,6 +9,7 @@ mod chunks;
 mod comparing;
 mod fault;
 mod giving_up;
+pub mod laws;
 mod marks;
 mod members;
 mod resyncing;

@@ -1,5 +1,5 @@
 -- A mirror whose devices were only read is consistent as before.
-use Rattle.std.proofs.Common.{◌≡◌, ℕ, List, length, slice_get, Option, Some, None, refl, sym, ap, ◌∙◌, subst, arith, ◌↔◌, true}
+use Rattle.std.proofs.Common.{◌≡◌, ℕ, Bool, List, length, slice_get, Option, Some, None, refl, sym, ap, ◌∙◌, subst, arith, ◌↔◌, true}
 use Rattle.std.proofs.lemmas.Option.{none-some, slice_get_within}
 use Rattle.md_model.specs.Worlds.{Request}
 use Rattle.md_kept_members.specs.View.{MemberView}
@@ -68,10 +68,10 @@ module _ (old new : MirrorView) (r : Rests old new) where
   at_array : (P : ArrayView → Type 0) → P a → P new.array
   at_array P = subst P (sym r.array)
 
-  pub rests_read : (failed_at : ℕ) → AreReadAsKept old failed_at → AreReadAsKept new failed_at
-  rests_read failed_at are =
-      at_array (λ x. AreReadAsKept (record { disks = new.disks; array = x }) failed_at)
-      (λ k e m at member. let d = was k e at in subst (IsReadAsKept a m failed_at) (sym d.content) (are k d.disk m d.at member))
+  pub rests_read : (failed_at : ℕ) (spoiled : ℕ → Bool) → AreReadAsKept old failed_at spoiled → AreReadAsKept new failed_at spoiled
+  rests_read failed_at spoiled are =
+      at_array (λ x. AreReadAsKept (record { disks = new.disks; array = x }) failed_at spoiled)
+      (λ k e m at member. let d = was k e at in subst (IsReadAsKept a m failed_at (spoiled k)) (sym d.content) (are k d.disk m d.at member))
 
   pub rests_sound : IsConsistent old → IsConsistent new
   rests_sound sound =

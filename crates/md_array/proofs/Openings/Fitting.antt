@@ -1,5 +1,5 @@
 -- Devices fit the array that they make.
-use Rattle.std.proofs.Common.{◌≡◌, ℕ, ◌≤◌, Bool, true, List, Option, Some, None, map, refl, sym, ap, ◌∙◌, arith, subst}
+use Rattle.std.proofs.Common.{◌≡◌, ℕ, ◌≤◌, Bool, true, List, Option, Some, None, map, refl, sym, ap, ◌∙◌, arith, subst, ◌^◌}
 use Rattle.std.specs.Prelude.{slice_get, option_map}
 use Rattle.std.proofs.lemmas.Option.{none-some, same_Some, slice_get-map, slice_get_within}
 use Rattle.md_super.specs.declared.superblock.Superblock.{Superblock}
@@ -44,10 +44,12 @@ superblock_at infos i v is = by (slice_get infos i) refl where
   by None at = absurd (none-some v (sym (slice_get-map (λ info. info.superblock) infos i ∙ ap (option_map (λ info. info.superblock)) at) ∙ is))
 
 -- a member that is kept of what was read on its device
-kept_fits : (a : ArrayView) (m : MemberView) (d : Disk) (offset : ℕ) (info : MemberInfo) → 16 ≤ sectors_of d.content → m.superblock ≡ at_offset offset (kept_superblock info) → m.stored.chunks ≡ chunk_count info.superblock.size m.header.chunksize → a.shared.size ≡ info.superblock.size
+kept_fits : (a : ArrayView) (m : MemberView) (d : Disk) (offset : ℕ) (info : MemberInfo) → 16 ≤ sectors_of d.content → sectors_of d.content ≤ 2 ^ 54
+    → m.superblock ≡ at_offset offset (kept_superblock info) → m.stored.chunks ≡ chunk_count info.superblock.size m.header.chunksize → a.shared.size ≡ info.superblock.size
     → ReadsWith d.content d.honest info.superblock m.header → FitsMember a m d
-kept_fits a m d offset info long superblock chunks size read = record {
+kept_fits a m d offset info long short superblock chunks size read = record {
   long = long;
+  short = short;
   has = rw superblock (bitmap_same info.bad info.superblock ∙ read.has);
   placed = rw (superblock, chunks) (placed_next info.bad offset info.superblock (sectors_of d.content) _ read.reads.placed);
   few_chunks = rw chunks read.reads.few_chunks;
@@ -72,6 +74,6 @@ fits disks a of = record {
       let fresh = superblock_at of.infos of.assembly.freshest a.shared of.remembered.shared in
       let same = alike of.infos of.assembly.freshest k fresh.0 info.0 (whole of.assembly.freshest fresh.0 fresh.1).header m.header whole of.sound fresh.1 info.1 (whole of.assembly.freshest fresh.0 fresh.1).has_header kept.header in
       let within = member.superblock.read.within in
-      kept_fits a m d _ info.0 (omega arith) kept.superblock kept.chunks (ap (λ (v : Superblock). v.size) (sym fresh.2) ∙ same.size)
+      kept_fits a m d _ info.0 (omega arith) (of.read.short k d at_disk) kept.superblock kept.chunks (ap (λ (v : Superblock). v.size) (sym fresh.2) ∙ same.size)
       (reads_with d.content d.honest info.0.superblock info.0.header info.0.marks m.header kept.header member.bitmap);
 }

@@ -1,5 +1,5 @@
 -- Members are read one after another, and their devices stay what they are.
-use Rattle.std.proofs.Common.{◌≡◌, ◌≢◌, ℕ, ◌<◌, ◌+◌, ◌++◌, ◌∷◌, [], Bool, List, length, refl, sym, ap, ◌∙◌, arith, set, subst, ⊎_elim, get_or}
+use Rattle.std.proofs.Common.{◌≡◌, ◌≢◌, ℕ, ◌<◌, ◌+◌, ◌++◌, ◌∷◌, [], Bool, List, length, refl, sym, ap, ◌∙◌, arith, set, subst, ⊎_elim, get_or, ◌^◌, ◌≤◌}
 use Rattle.std.specs.Prelude.{slice_get, Some}
 use Rattle.std.proofs.Math.Logic.{⊎_map}
 use Rattle.std.proofs.lemmas.List.{length_push}
@@ -74,6 +74,18 @@ read_more before now infos k d info count here untouched read is = λ j a x was 
     (λ other. let total : length (infos ++ info ∷ []) ≡ length infos + 1 = length_push infos info in
     let within : j < length infos = omega (arith, slice_get_within (infos ++ info ∷ []) j x at, other.1) in
     read j a x was (at_push_before infos info x j within at))
+    (eqb_tells j k)
+
+-- so many devices are no longer than any
+abbrev pub AreShortSoFar : List Disk → ℕ → Type 0
+AreShortSoFar disks k = (j : ℕ) (d : Disk) → j < k → slice_get disks j ≡ Some d → sectors_of d.content ≤ 2 ^ 54
+
+pub short_more : (before now : List Disk) (k : ℕ) (d : Disk) → slice_get now k ≡ Some d → IsUntouched before now → sectors_of d.content ≤ 2 ^ 54
+    → AreShortSoFar before k → AreShortSoFar before (k + 1)
+short_more before now k d here untouched short earlier j a below was =
+    ⊎_elim
+    (λ same. subst (λ (content : List ℕ). sectors_of content ≤ 2 ^ 54) (untouched.content j a d was (ap (slice_get now) same.1 ∙ here)) short)
+    (λ other. earlier j a (omega (arith, below, other.1)) was)
     (eqb_tells j k)
 
 -- device k is refused, and those before it were read

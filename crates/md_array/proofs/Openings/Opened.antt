@@ -1,5 +1,5 @@
 -- Devices are opened: the members are read, assembled and remembered, and then marks are stored.
-use Rattle.std.proofs.Common.{◌≡◌, ◌⊎◌, inl, ℕ, ◌*◌, ◌≤◌, true, List, [], ◌∷◌, length, refl, sym, ap, ◌∙◌, arith, subst, get_or}
+use Rattle.std.proofs.Common.{◌≡◌, ◌⊎◌, inl, ℕ, ◌*◌, ◌≤◌, true, List, [], ◌∷◌, length, refl, sym, ap, ◌∙◌, arith, subst, get_or, ◌^◌}
 use Rattle.std.specs.Prelude.{slice_get, Some}
 use Rattle.md_device.specs.Splice.{SameOutside}
 use Rattle.md_members.specs.Areas.{IsPlaced, bitmap_sectors}
@@ -121,6 +121,7 @@ module _ (before mid : List Disk) (untouched : IsUntouched before mid) (a : Arra
         let fit = fits.each k d m was at in
         record {
           long = subst (λ (c : List ℕ). 16 ≤ sectors_of c) (sym (untouched.content k d x was is)) fit.long;
+          short = subst (λ (c : List ℕ). sectors_of c ≤ 2 ^ 54) (sym (untouched.content k d x was is)) fit.short;
           has = fit.has;
           placed = subst (λ (c : List ℕ). IsPlaced (sectors_of c) m.superblock (bitmap_sectors m.stored.chunks)) (sym (untouched.content k d x was is)) fit.placed;
           few_chunks = fit.few_chunks;

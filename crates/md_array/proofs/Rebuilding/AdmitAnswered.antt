@@ -16,10 +16,11 @@ use Rattle.md_state.specs.Requests.{IsPending}
 use Rattle.md_state.specs.View.{ArrayView, Disk, MirrorView}
 use Rattle.md_super.specs.declared.superblock.Superblock.{Superblock}
 use Rattle.md_super.specs.Merge.{merged}
-use Rattle.md_array.specs.Admitting.{Admits, FailsOnTargetAlone, FailsToAdmit}
+use Rattle.md_array.specs.Admitting.{Admits, FailsAsTarget, FailsToAdmit}
 use Rattle.md_array.specs.Consistency.{IsConsistent}
 use Rattle.md_array.specs.Recording.{IsReadable, own_write}
-use Rattle.md_array.proofs.Rebuilding.TargetLeft.{left_happens, left_is_consistent, left_is_pending}
+use Rattle.md_array.proofs.Rebuilding.TargetLeft.{left_as_target, left_is_consistent, left_is_pending, left_spoils}
+use Rattle.md_array.specs.Spoiling.{SpoilsTarget}
 
 spare_rebuilt : (s : MemberState) → is_spare s ≡ true → is_rebuilt s ≡ true
 spare_rebuilt (InSync role) e = absurd cc
@@ -73,5 +74,11 @@ module _ (k role : ℕ) (old new : MirrorView) (may : MayAdmit k old.array role)
       pub unadmitted_is_pending : (p : PendingView) → IsPending old.array p → IsPending new.array p
       unadmitted_is_pending = left_is_pending k old new c may.running m may.at (spare_rebuilt m.state spare) array shared own readable disks
 
-      pub unadmitted_happens : FailsOnTargetAlone k old new
-      unadmitted_happens = left_happens k old new c may.running m may.at (spare_rebuilt m.state spare) array shared own readable disks
+      pub unadmitted_happens : FailsAsTarget k old new
+      unadmitted_happens = left_as_target k old new c may.running m may.at (spare_rebuilt m.state spare) array shared own readable disks
+
+-- such a write that failed spoils the member
+pub admit_spoils : (k : ℕ) (old new : MirrorView) → IsConsistent old → (f : FailsToAdmit k old new) → is_spare f.may.member.state ≡ true → SpoilsTarget k old new
+admit_spoils k old new c f spare =
+    left_spoils k old new c f.may.running f.may.member f.may.at (spare_rebuilt f.may.member.state spare) f.array
+    (admitted old.array k f.may.member f.role).shared (admitted_member f.role f.may.member).superblock f.readable f.disks

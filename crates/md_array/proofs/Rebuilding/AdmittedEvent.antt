@@ -28,7 +28,7 @@ use Rattle.md_model.specs.Sectors.{put}
 use Rattle.md_model.specs.States as states
 use Rattle.md_model.specs.Worlds as worlds
 use Rattle.md_model.specs.Worlds.{Request, World}
-use Rattle.md_model.proofs.Puts.{put-at, put-self}
+use Rattle.md_model.proofs.Puts.{put-at, put-miss, put-self}
 use Rattle.md_model.proofs.Steps.Between.{between_step, in_flight_step}
 use Rattle.md_requests.specs.Pending.{PendingView}
 use Rattle.md_state.specs.Admitting.{admitted}
@@ -185,9 +185,9 @@ module _ (k : ℕ) (old new : MirrorView) (c : IsConsistent old) (r : Admits k o
         ∙ part-spliced d.content (512 * 8) (super_write new.array n).bytes 4096 (sym r.readable.size) (omega arith)
         ∙ ap (λ (x : ArrayView). (super_write x n).bytes) r.array
 
-    read_k : d.honest ≡ true → (failed_at : ℕ) → IsReadAsKept a m failed_at d.content → IsReadAsKept b n failed_at e.content
-    read_k honest failed_at had = record {
-      super = own_written b n e.content readable (block_is honest);
+    read_k : d.honest ≡ true → (failed_at : ℕ) (was_spoiled is_spoiled : Bool) → IsReadAsKept a m failed_at was_spoiled d.content → IsReadAsKept b n failed_at is_spoiled e.content
+    read_k honest failed_at was_spoiled is_spoiled had = record {
+      super = λ _. own_written b n e.content readable (block_is honest);
       header = elim had.header [
         | inl width ↦ inl (ap (λ (h : List ℕ). number_at 4 52 h / 512) (header_beside_super a m d.content e.content parts outside) ∙ width)
         | inr gone ↦ absurd (true≢false (sym (spare_recorded m.state spare) ∙ gone.0))
@@ -203,18 +203,19 @@ module _ (k : ℕ) (old new : MirrorView) (c : IsConsistent old) (r : Admits k o
       let many = r.disks.tried.as_many in
       got_within old.disks k (omega arith)
 
-  admitted_read : AreHonest old.disks → (failed_at : ℕ) → AreReadAsKept old failed_at → AreReadAsKept new failed_at
-  admitted_read honest failed_at are = subst (λ (x : ArrayView). AreReadAsKept (record { disks = new.disks; array = x }) failed_at) (sym r.array)
+  admitted_read : AreHonest old.disks → (failed_at : ℕ) (spoiled : ℕ → Bool) → AreReadAsKept old failed_at spoiled → AreReadAsKept new failed_at (put k false spoiled)
+  admitted_read honest failed_at spoiled are = subst (λ (x : ArrayView). AreReadAsKept (record { disks = new.disks; array = x }) failed_at (put k false spoiled)) (sym r.array)
       (λ j e x found member. of_set up.members k j n x member
       (λ here x_is.
       let now : slice_get new.disks k ≡ Some e = sym (ap (slice_get new.disks) here) ∙ found in
       let d = disk_was e now in
-      subst (λ (z : MemberView). IsReadAsKept b z failed_at e.content) (sym x_is) (read_k d.0 e d.1 now (honest k d.0 d.1) failed_at (are k d.0 m d.1 r.may.at)))
+      subst (λ (z : MemberView). IsReadAsKept b z failed_at (put k false spoiled j) e.content) (sym x_is)
+      (read_k d.0 e d.1 now (honest k d.0 d.1) failed_at (spoiled k) (put k false spoiled j) (are k d.0 m d.1 r.may.at)))
       (λ apart here.
       let z = at_map made_due a.members j x here in
-      kept_in a b z.0 x failed_at e.content same_fields
+      kept_in a b z.0 x failed_at (put k false spoiled j) e.content same_fields
       (record { superblock = ap (λ (y : MemberView). y.superblock) z.2; recorded = ap (λ (y : MemberView). is_recorded y.state) z.2 })
-      (are j e z.0 (sym (r.disks.tried.others j apart) ∙ found) z.1)))
+      (subst (λ (s : Bool). IsReadAsKept a z.0 failed_at s e.content) (sym (put-miss k false spoiled j apart)) (are j e z.0 (sym (r.disks.tried.others j apart) ∙ found) z.1))))
 
   -- ---- its world
   bit : has_recovery_offset n.superblock ≡ true

@@ -96,14 +96,14 @@ module _ (k chunk : ℕ) (old new : MirrorView) (c : IsConsistent old) (r : Note
   pub noted_is_pending : (p : PendingView) → IsPending old.array p → IsPending new.array p
   noted_is_pending = own_is_pending k m n nothing old new changes
 
-  noted_read : (failed_at : ℕ) → AreReadAsKept old failed_at → AreReadAsKept new failed_at
-  noted_read failed_at are j e x found member =
+  noted_read : (failed_at : ℕ) (spoiled : ℕ → Bool) → AreReadAsKept old failed_at spoiled → AreReadAsKept new failed_at spoiled
+  noted_read failed_at spoiled are j e x found member =
       let there : slice_get old.disks j ≡ Some e = ap (λ (xs : List Disk). slice_get xs j) (sym r.disks) ∙ found in
-      subst (λ (v : ArrayView). IsReadAsKept v x failed_at e.content) (sym r.notes.array)
+      subst (λ (v : ArrayView). IsReadAsKept v x failed_at (spoiled j) e.content) (sym r.notes.array)
       (of_set a.members k j n x (ap (λ (v : ArrayView). slice_get v.members j) (sym r.notes.array) ∙ member)
       (λ here x_is.
       let had = are j e m there (ap (slice_get a.members) here ∙ r.notes.may.at) in
-      subst (λ (z : MemberView). IsReadAsKept (record a { members = set a.members k n }) z failed_at e.content) (sym x_is) (record { super = had.super; header = had.header }))
+      subst (λ (z : MemberView). IsReadAsKept (record a { members = set a.members k n }) z failed_at (spoiled j) e.content) (sym x_is) (record { super = had.super; header = had.header }))
       (λ apart is. let had = are j e x there is in record { super = had.super; header = had.header }))
 
   -- ---- the event

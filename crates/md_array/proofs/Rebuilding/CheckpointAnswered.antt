@@ -16,7 +16,7 @@ use Rattle.md_state.specs.Members.{IsMember}
 use Rattle.md_state.specs.Missing.{is_rebuilt}
 use Rattle.md_state.specs.View.{ArrayView, Disk, MirrorView}
 use Rattle.md_super.specs.Merge.{merged}
-use Rattle.md_array.specs.Admitting.{FailsOnTargetAlone}
+use Rattle.md_array.specs.Admitting.{FailsAsTarget}
 use Rattle.md_array.specs.Checkpoints.{Checkpoints, FailsToCheckpoint, IfCheckpointFailed, MayCheckpoint, MovesOffset, RefusesCheckpoint}
 use Rattle.md_array.specs.Consistency.{IsConsistent}
 use Rattle.md_array.specs.Enrolling.{HasContent}
@@ -27,7 +27,8 @@ use Rattle.md_array.proofs.General.Indices.{at_set_same}
 use Rattle.md_array.proofs.Rebuilding.CheckpointEvent as event
 use Rattle.md_array.proofs.Rebuilding.InBetween.{recovers_rebuilt}
 use Rattle.md_array.proofs.Rebuilding.OffsetMoved.{moved_back}
-use Rattle.md_array.proofs.Rebuilding.TargetLeft.{left_happens}
+use Rattle.md_array.proofs.Rebuilding.TargetLeft.{left_as_target, left_spoils}
+use Rattle.md_array.specs.Spoiling.{SpoilsTarget}
 
 module _ (k : ℕ) (copied : Bitmap) (had : ℕ) (old mid : MirrorView) (c : IsConsistent old) (may : MayCheckpoint k copied old) (offset : ℕ)
     (next : (m : MemberView) → IsMember old.array k m → IsNextOffset old.array m copied offset) (moves : MovesOffset k offset had old mid) where
@@ -109,10 +110,15 @@ module _ (k : ℕ) (copied : Bitmap) (had : ℕ) (old mid : MirrorView) (c : IsC
         }
     checkpoint_refused TargetFault left = failed left
 
-    pub refusal_happens : (fault : TargetFaults) → RefusesTarget k mid late fault → IfCheckpointFailed (FailsOnTargetAlone k old new) fault
+    pub refusal_happens : (fault : TargetFaults) → RefusesTarget k mid late fault → IfCheckpointFailed (FailsAsTarget k old new) fault
     refusal_happens Halted refused = tt
     refusal_happens TargetFault left =
         let f = failed left in
         let its = got_same a.members k f.member m f.at may.at in
         let recovers : is_recovering f.member.state ≡ true = ap (λ (x : MemberView). is_recovering x.state) its ∙ may.recovering in
-        left_happens k old new c f.running f.member f.at (recovers_rebuilt f.member.state recovers) f.array a.shared (with_offset f.offset f.member).superblock f.readable f.disks
+        left_as_target k old new c f.running f.member f.at (recovers_rebuilt f.member.state recovers) f.array a.shared (with_offset f.offset f.member).superblock f.readable f.disks
+
+-- such a write that failed spoils the member
+pub checkpoint_spoils : (k : ℕ) (copied : Bitmap) (old new : MirrorView) → IsConsistent old → (f : FailsToCheckpoint k copied old new) → is_recovering f.member.state ≡ true → SpoilsTarget k old new
+checkpoint_spoils k copied old new c f recovers =
+    left_spoils k old new c f.running f.member f.at (recovers_rebuilt f.member.state recovers) f.array old.array.shared (with_offset f.offset f.member).superblock f.readable f.disks

@@ -241,5 +241,5 @@ module _ (k : ℕ) (copied : Bitmap) (had : ℕ) (old mid new : MirrorView) (c :
         content = λ x y holds becomes. between_step (geometry_of was) w event (world_of new requests) x y step becomes holds;
         written = in_flight_step (geometry_of was) w event (world_of new requests) step;
         sound = sound;
-        read = λ failed_at are. did.read failed_at (moved_read k offset had old mid c moves failed_at are);
+        read = λ failed_at spoiled are. did.read failed_at spoiled (moved_read k offset had old mid c moves failed_at spoiled are);
       }

@@ -124,13 +124,15 @@ module _ (k role : ℕ) (copied orphans : Bitmap) (old new : MirrorView) (n : Me
         disks = disks;
       }
 
-  pub fails_by : new.array ≡ old.array → IsUsedAlone k old.disks new.disks (λ d e. FailsInWrites of_disks (member_writes start h shared n) d e × KeepsData n d e) → FailsToEnrol k copied orphans old new
-  fails_by array disks = record {
+  pub fails_by : new.array ≡ old.array → IsReadable (merged shared n.superblock)
+      → IsUsedAlone k old.disks new.disks (λ d e. FailsInWrites of_disks (member_writes start h shared n) d e × KeepsData n d e) → FailsToEnrol k copied orphans old new
+  fails_by array readable disks = record {
     role = role;
     may = may;
     member = n;
     comes = comes;
     array = array;
+    readable = subst (λ (x : Superblock). IsReadable (merged x n.superblock)) same readable;
     writes = member_writes start h shared n;
     are = record { start = start; starts = starts; header = h; header_is = header; are = ap (λ (x : Superblock). member_writes start h x n) same };
     disks = disks;

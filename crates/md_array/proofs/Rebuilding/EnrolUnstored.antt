@@ -1,5 +1,5 @@
 -- A member doesn't come into sync: a write failed, or it was refused. The mirror stays consistent.
-use Rattle.std.proofs.Common.{◌≡◌, ℕ, ◌/◌, ◌≤◌, false, true≢false, length, slice_get, Some, None, refl, sym, ap, ◌∙◌, subst, arith}
+use Rattle.std.proofs.Common.{◌≡◌, ℕ, ◌/◌, ◌≤◌, false, true≢false, length, slice_get, Some, None, refl, sym, ap, ◌∙◌, subst, arith, ◌^◌}
 use Rattle.std.proofs.lemmas.Option.{slice_get_within}
 use Rattle.md_bitmap.specs.Marks.{Bitmap}
 use Rattle.md_members.specs.Areas.{IsPlaced, bitmap_sectors}
@@ -35,6 +35,7 @@ fits_as_long a m d e long fit =
     let sectors : sectors_of d.content ≡ sectors_of e.content = ap (λ (x : ℕ). x / 512) (sym long) in
     record {
       long = subst (λ (x : ℕ). 16 ≤ x) sectors fit.long;
+      short = subst (λ (x : ℕ). x ≤ 2 ^ 54) sectors fit.short;
       has = fit.has;
       placed = subst (λ (x : ℕ). IsPlaced x m.superblock (bitmap_sectors m.stored.chunks)) sectors fit.placed;
       few_chunks = fit.few_chunks;

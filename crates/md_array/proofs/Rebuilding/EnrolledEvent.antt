@@ -23,7 +23,7 @@ use Rattle.md_model.specs.States as states
 use Rattle.md_model.specs.Worlds as worlds
 use Rattle.md_model.specs.Worlds.{Request, World}
 use Rattle.md_model.proofs.Cases.{below-nat_lt, is_below, not_below-nat_lt}
-use Rattle.md_model.proofs.Puts.{by_same}
+use Rattle.md_model.proofs.Puts.{by_same, put-miss}
 use Rattle.md_model.proofs.Steps.Between.{between_step, in_flight_step}
 use Rattle.md_state.specs.CopyingData.{IsDone}
 use Rattle.md_state.specs.DeviceChanges.{StaysHonest}
@@ -37,7 +37,7 @@ use Rattle.md_super.proofs.Order.{sound_without_fault}
 use Rattle.md_super.proofs.RoleLists.{length-roles_in}
 use Rattle.md_array.specs.Consistency.{IsConsistent}
 use Rattle.md_array.specs.Enrolling.{Enrols, MayEnrol}
-use Rattle.md_array.specs.Enrolments.{EndsBelow, IsHeldBy, enrol_event, prepared}
+use Rattle.md_array.specs.Enrolments.{IsHeldBy, enrol_event, prepared}
 use Rattle.md_array.specs.Events.{Does}
 use Rattle.md_array.specs.InTurn.{Leads, Requests}
 use Rattle.md_array.specs.ReadAsKept.{AreReadAsKept, IsReadAsKept}
@@ -61,6 +61,7 @@ use Rattle.md_array.proofs.Worlds.ReadAsKept.{IsSameArray, kept_in, own_written}
 use Rattle.md_array.proofs.Worlds.Risen.{past_is_high}
 use Rattle.md_array.proofs.Worlds.Shown.{at_is, at_past, by_member}
 use Rattle.md_array.proofs.Worlds.States.{same_active}
+use Rattle.md_model.specs.Sectors.{put}
 
 module _ (k : ℕ) (copied orphans : Bitmap) (old new : MirrorView) (c : IsConsistent old) (sound : IsConsistent new) (r : Enrols k copied orphans old new) where
   abbrev array : ArrayView
@@ -105,7 +106,7 @@ module _ (k : ℕ) (copied orphans : Bitmap) (old new : MirrorView) (c : IsConsi
             absurd (true≢false (sym (below-nat_lt r.role new.array.shared.raid_disks low) ∙ sym (ap (λ x. nat_lt x new.array.shared.raid_disks) given) ∙ high))
       ]
 
-  module _ (may : MayEnrol k copied orphans old) (ends : EndsBelow old k) (honest : AreHonest old.disks) (d : Disk) (was : slice_get old.disks k ≡ Some d) (e : Disk) (is : slice_get new.disks k ≡ Some e) where
+  module _ (may : MayEnrol k copied orphans old) (honest : AreHonest old.disks) (d : Disk) (was : slice_get old.disks k ≡ Some d) (e : Disk) (is : slice_get new.disks k ≡ Some e) where
     abbrev then : Disk
     then = then_disk k copied orphans old new c r d was
 
@@ -152,7 +153,7 @@ module _ (k : ℕ) (copied orphans : Bitmap) (old new : MirrorView) (c : IsConsi
       number_apart : (j : ℕ) → worlds.IsInSync w j → w.number j ≢ w.number k
       number_apart j on same =
           let y = in_sync_is now array requests j on in
-          another k copied orphans old new c r may ends honest d was j y.0 y.1
+          another k copied orphans old new c r may honest d was j y.0 y.1
           (c.roles.numbers j k y.0 it y.1.member r.comes.at (sym (member_there array j y.0 0 (λ x. x.superblock.dev_number) y.1.member) ∙ same ∙ number_k))
 
       -- ---- its bitmap
@@ -192,7 +193,7 @@ module _ (k : ℕ) (copied orphans : Bitmap) (old new : MirrorView) (c : IsConsi
             let low = slice_get_within array.members j y on.member in
             let many = c.fits.as_many in
             let z = got_within old.disks j (omega arith) in
-            let at = got_other old.disks k j then (another k copied orphans old new c r may ends honest d was j y on) ∙ z.1 in
+            let at = got_other old.disks k j then (another k copied orphans old new c r may honest d was j y on) ∙ z.1 in
             record {
               disk = z.0;
               at_now = at;
@@ -212,7 +213,7 @@ module _ (k : ℕ) (copied orphans : Bitmap) (old new : MirrorView) (c : IsConsi
                   ap (λ (x : Stored). x.content s) o.stored
                   ∙ ap (λ b. cond b (part o.disk.content (512 * (y.0.superblock.data_offset + s)) 512) []) test
                   ∙ held.in_sync.held j o.disk y.0 o.at_now y.1 s low clear
-                  ∙ sym (it_holds k copied orphans old new c r may ends honest d was content held s low unlisted)
+                  ∙ sym (it_holds k copied orphans old new c r may honest d was content held s low unlisted)
                   ∙ sym (ap (λ b. cond b (part then.content (512 * (it.superblock.data_offset + s)) 512) []) test)
                   ∙ sym (ap (λ (x : Stored). x.content s) stored_k)
               | inr past ↦
@@ -229,7 +230,7 @@ module _ (k : ℕ) (copied orphans : Bitmap) (old new : MirrorView) (c : IsConsi
 
         not_listed : (s : ℕ) → s < array.chunks.size → is_missing array it (s / array.chunks.sectors) ≡ true → listed s ≡ false → HasIt s
         not_listed s low here unlisted =
-            let x = one_has_it k copied orphans old new c r may ends honest d was content (had_content k copied orphans old new c r may ends honest d was content held.in_sync) s low here unlisted in
+            let x = one_has_it k copied orphans old new c r may honest d was content (had_content k copied orphans old new c r may honest d was content held.in_sync) s low here unlisted in
             let o = other x.index x.member x.in_sync in
             let same : x.disk ≡ o.disk = got_same old.disks x.index x.disk o.disk x.at_disk o.at_old in (
               x.index,
@@ -241,13 +242,13 @@ module _ (k : ℕ) (copied orphans : Bitmap) (old new : MirrorView) (c : IsConsi
 
         was_copied : (s : ℕ) → s < array.chunks.size → model.is_missing (geometry_of array) w k (s / array.chunks.sectors) ≡ true → listed s ≡ false → HasIt s
         was_copied s low missing unlisted =
-            not_listed s low (sym (same_missing k mid requests (may_rebuild_it k copied orphans old new c r may) (s / array.chunks.sectors) (chunk_low k copied orphans old new c r may ends honest d was s low)) ∙ missing) unlisted
+            not_listed s low (sym (same_missing k mid requests (may_rebuild_it k copied orphans old new c r may) (s / array.chunks.sectors) (chunk_low k copied orphans old new c r may honest d was s low)) ∙ missing) unlisted
 
         was_listed : (s : ℕ) → s < array.chunks.size → w.bad k s ≡ true → listed s ≡ false → HasIt s
         was_listed s low bad unlisted =
             let had : lists_of array it s ≡ true = sym (member_there array k it false (λ x. lists_of array x s) r.comes.at) ∙ bad in
             let is : IsBad it.bad (it.superblock.data_offset + s) = bad_from_test it.bad (it.superblock.data_offset + s) (and_parts (nat_lt s array.chunks.size) _ had).1 in
-            not_listed s low (was_missing k copied orphans old new c r may ends honest d was s low is unlisted) unlisted
+            not_listed s low (was_missing k copied orphans old new c r may honest d was s low is unlisted) unlisted
 
         may_enrol : model.MayEnrol (geometry_of array) w k r.role listed
         may_enrol = record {
@@ -282,34 +283,37 @@ module _ (k : ℕ) (copied orphans : Bitmap) (old new : MirrorView) (c : IsConsi
     readable : IsReadable (merged (enrolled array k n r.role).shared n.superblock)
     readable = subst (λ (x : ArrayView). IsReadable (merged x.shared n.superblock)) r.array r.readable
 
-    read_k : (failed_at : ℕ) → IsReadAsKept (enrolled array k n r.role) n failed_at e.content
-    read_k failed_at =
+    read_k : (failed_at : ℕ) (is_spoiled : Bool) → IsReadAsKept (enrolled array k n r.role) n failed_at is_spoiled e.content
+    read_k failed_at is_spoiled =
         let holds = then_holds k copied orphans old new c r d was in
         let block = enrolled_world.block_is k copied orphans old new c sound r out small d was e is (honest k d was) in
         let kept = header_beside_super (enrolled array k n r.role) n then.content e.content (enrolled_world.parts_then k copied orphans old new c sound r out small d was e is (honest k d was))
         (enrolled_world.outside k copied orphans old new c sound r out small d was e is (honest k d was)) in
         record {
-          super = own_written (enrolled array k n r.role) n e.content readable (block ∙ ap (λ (x : ArrayView). (write_of x.shared n).bytes) r.array);
+          super = λ _. own_written (enrolled array k n r.role) n e.content readable (block ∙ ap (λ (x : ArrayView). (write_of x.shared n).bytes) r.array);
           header = inl (ap (λ (h : List ℕ). number_at 4 52 h / 512) kept
               ∙ ap (λ (v : Superblock). number_at 4 52 (header_on then.content (from_super v.bitmap_offset)) / 512) (superblock k copied orphans old new c r)
               ∙ ap (λ (x : ℕ). x / 512) (sym holds.header.chunksize ∙ r.are.header_is.chunksize ∙ ap (λ (h : BitmapHeader). h.chunksize) r.comes.comes.header)
               ∙ c.chunks.member_width k it r.comes.at);
         }
 
-    enrolled_read : (failed_at : ℕ) → AreReadAsKept mid failed_at → AreReadAsKept new failed_at
-    enrolled_read failed_at are =
+    enrolled_read : (failed_at : ℕ) (spoiled : ℕ → Bool) → AreReadAsKept mid failed_at spoiled → AreReadAsKept new failed_at (put k false spoiled)
+    enrolled_read failed_at spoiled are =
+        let then_spoiled = put k false spoiled in
         let b = enrolled array k n r.role in
         let same_fields : IsSameArray array b = record { set_uuid = refl; size = refl; raid_disks = refl; sectors = refl; events = omega arith } in
-        subst (λ (x : ArrayView). AreReadAsKept (record { disks = new.disks; array = x }) failed_at) (sym r.array)
+        subst (λ (x : ArrayView). AreReadAsKept (record { disks = new.disks; array = x }) failed_at then_spoiled) (sym r.array)
         (λ j x y found member. of_set (map made_due array.members) k j n y member
         (λ here y_is.
         let same : e ≡ x = got_same new.disks k e x is (sym (ap (slice_get new.disks) here) ∙ found) in
-        subst (λ (z : MemberView). IsReadAsKept b z failed_at x.content) (sym y_is) (subst (λ (z : Disk). IsReadAsKept b n failed_at z.content) same (read_k failed_at)))
+        subst (λ (z : MemberView). IsReadAsKept b z failed_at (then_spoiled j) x.content) (sym y_is)
+        (subst (λ (z : Disk). IsReadAsKept b n failed_at (then_spoiled j) z.content) same (read_k failed_at (then_spoiled j))))
         (λ apart is_there.
         let z = at_map made_due array.members j y is_there in
-        kept_in array b z.0 y failed_at x.content same_fields
+        kept_in array b z.0 y failed_at (then_spoiled j) x.content same_fields
         (record { superblock = ap (λ (v : MemberView). v.superblock) z.2; recorded = ap (λ (v : MemberView). is_recorded v.state) z.2 })
-        (are j x z.0 (got_other old.disks k j then apart ∙ sym (r.disks.others j apart) ∙ found) z.1)))
+        (subst (λ (s : Bool). IsReadAsKept array z.0 failed_at s x.content) (sym (put-miss k false spoiled j apart))
+        (are j x z.0 (got_other old.disks k j then apart ∙ sym (r.disks.others j apart) ∙ found) z.1))))
 
     -- ---- the write
     done : IsDone k (write_of new.array.shared n) now new.disks
@@ -356,7 +360,7 @@ module _ (k : ℕ) (copied orphans : Bitmap) (old new : MirrorView) (c : IsConsi
         }
 
 -- ---- the two events
-module _ (k : ℕ) (copied orphans : Bitmap) (old new : MirrorView) (c : IsConsistent old) (sound : IsConsistent new) (may : MayEnrol k copied orphans old) (ends : EndsBelow old k)
+module _ (k : ℕ) (copied orphans : Bitmap) (old new : MirrorView) (c : IsConsistent old) (sound : IsConsistent new) (may : MayEnrol k copied orphans old)
     (r : Enrols k copied orphans old new) where
   honest_before : (d : Disk) → slice_get old.disks k ≡ Some d → AreHonest (prepared r).disks → AreHonest old.disks
   honest_before d was all j x found =
@@ -378,7 +382,7 @@ module _ (k : ℕ) (copied orphans : Bitmap) (old new : MirrorView) (c : IsConsi
       let e = got_within new.disks k (omega arith) in
       let same = prepared_is k copied orphans old new c r d.0 d.1 in
       subst (λ (v : MirrorView). Does v requests (enrol_event r) new requests) (sym same)
-      (does_enrol k copied orphans old new c sound r may ends (honest_before d.0 d.1 all) d.0 d.1 e.0 e.1 requests in_flight held.0
+      (does_enrol k copied orphans old new c sound r may (honest_before d.0 d.1 all) d.0 d.1 e.0 e.1 requests in_flight held.0
       (subst (IsHeldBy k (lists_of old.array r.member) held.0) same held.1))
 
   pub enrol_leads : (previous : Option Event) (requests : Requests) → AreInFlight old.array requests → Leads previous old requests (Event.Prepare k ∷ enrol_event r ∷ []) new requests

@@ -23,7 +23,7 @@ use Rattle.md_state.specs.View.{ArrayView, Disk, MirrorView}
 use Rattle.md_super.specs.declared.superblock.Superblock.{Superblock}
 use Rattle.md_array.specs.Consistency.{IsConsistent}
 use Rattle.md_array.specs.Enrolling.{Enrols, HasContent, MayEnrol}
-use Rattle.md_array.specs.Enrolments.{EndsBelow, IsHeldBy}
+use Rattle.md_array.specs.Enrolments.{IsHeldBy}
 use Rattle.md_array.specs.Worlds.{AreHonest, is_listed, lies_in, lists_of}
 use Rattle.md_array.proofs.General.Indices.{got_other}
 use Rattle.md_array.proofs.Rebuilding.CopiedContent as some
@@ -32,7 +32,7 @@ use Rattle.md_array.proofs.Rebuilding.InBetween.{may_rebuild_it, superblock, the
 use Rattle.md_array.proofs.Rebuilding.PreparedEvent.{sector_kept}
 use Rattle.md_array.proofs.Steps.DevicesBack.{unrebuilt}
 use Rattle.md_array.proofs.Worlds.Bad.{test_from_bad}
-use Rattle.md_array.proofs.Worlds.PartsApart.{parts_of}
+use Rattle.md_array.proofs.Worlds.PartsApart.{ends_below, parts_of}
 
 -- the chunk of a sector
 pub its_chunk : (size width s : ℕ) → 0 < width → s < size → InChunk width size (s / width) s
@@ -55,7 +55,7 @@ chunk_unique size width s c wide inside =
     let down : s / width < c + 1 = div_below s width (c + 1) wide inside.below in
     omega arith
 
-module _ (k : ℕ) (copied orphans : Bitmap) (old new : MirrorView) (c : IsConsistent old) (r : Enrols k copied orphans old new) (may : MayEnrol k copied orphans old) (ends : EndsBelow old k)
+module _ (k : ℕ) (copied orphans : Bitmap) (old new : MirrorView) (c : IsConsistent old) (r : Enrols k copied orphans old new) (may : MayEnrol k copied orphans old)
     (honest : AreHonest old.disks) (d : Disk) (was : slice_get old.disks k ≡ Some d) where
   abbrev array : ArrayView
   array = old.array
@@ -97,7 +97,7 @@ module _ (k : ℕ) (copied orphans : Bitmap) (old new : MirrorView) (c : IsConsi
   orphan_listed : (s : ℕ) → s < array.chunks.size → is_set orphans.bytes (chunk s) ≡ true → listed s ≡ true
   orphan_listed s low set =
       let below : chunk s < orphans.chunks = subst (λ (x : ℕ). chunk s < x) (sym may.orphan_chunks) (chunk_low s low) in
-      let bound = ends it r.comes.at in
+      let bound = ends_below old c k it r.comes.at in
       let of : IsOf array.chunks it.superblock.data_offset orphans (it.superblock.data_offset + s) =
       record { chunk = chunk s; early = below; in_set = set; of_chunk = record { at = s; inside = its_chunk array.chunks.size array.chunks.sectors s c.chunks.wide low; is = refl } } in
       let bad : IsBad r.comes.list (it.superblock.data_offset + s) = (r.comes.list_is.bad (it.superblock.data_offset + s)).1 (inr (of, omega arith)) in

@@ -38,6 +38,7 @@ use Rattle.md_array.proofs.Rebuilding.EnrolledArray as array
 use Rattle.md_array.proofs.Rebuilding.MemberStored as stored
 use Rattle.md_array.proofs.Worlds.Outside.{apart_either_way, starts_at}
 use Rattle.md_array.proofs.Worlds.Writes.{HoldsBitmap}
+use Rattle.md_array.proofs.Steps.OneWrite.{at_device}
 
 -- bytes that lie beside an area are as they were where that alone was written
 pub beside_area : (start sectors : ℕ) (old new : List ℕ) → SameOutside (512 * start) (512 * sectors) old new → (at n : ℕ) → IsBesideArea start sectors at n → part new at n ≡ part old at n
@@ -50,6 +51,23 @@ recovers_rebuilt (InSync role) on = absurd cc
 recovers_rebuilt (Stale role) on = absurd cc
 recovers_rebuilt Spare on = absurd cc
 recovers_rebuilt Faulty on = absurd cc
+
+-- one device has another content, and no stop is counted
+pub set_alone : (k : ℕ) (disks : List Disk) (d : Disk) → slice_get disks k ≡ Some d → (content : List ℕ) (Related : List ℕ → List ℕ → Type 0) → length content ≡ length d.content
+    → (d.honest ≡ true → Related d.content content) → IsChangedAlone k Related disks (set disks k (record d { content = content }))
+set_alone k disks d was content Related long related =
+    let then : Disk = record d { content = content } in
+    record {
+      as_many = length-set disks k then;
+      others = λ j apart x y before after.
+          let same : y ≡ x = same_Some y x (sym after ∙ got_other disks k j then apart ∙ before) in
+          subst (λ (z : Disk). StaysHonest x z × IsLeftAlone x z) (sym same)
+          (record { honest = refl; counted = omega arith }, (refl, λ _. leaves_none x.stops (λ left. left ≡ x.content)));
+      stays = at_device disks k d then StaysHonest was (record { honest = refl; counted = omega arith });
+      size = at_device disks k d then (λ x y. length y.content ≡ length x.content) was long;
+      changed = at_device disks k d then (λ x y. x.honest ≡ true → Related x.content y.content) was related;
+      within = at_device disks k d then (λ x y. x.honest ≡ true → LeavesOn (Related x.content) x y) was (λ _. leaves_none d.stops (Related d.content));
+    }
 
 module _ (k : ℕ) (copied orphans : Bitmap) (old new : MirrorView) (c : IsConsistent old) (r : Enrols k copied orphans old new) where
   abbrev pub a : ArrayView
@@ -185,23 +203,7 @@ module _ (k : ℕ) (copied orphans : Bitmap) (old new : MirrorView) (c : IsConsi
     then_at = at_set_same old.disks k then_disk low
 
     pub changes_then : IsChangedAlone k (IsSameBesideMarks a m) old.disks (set old.disks k then_disk)
-    changes_then =
-        let now = set old.disks k then_disk in
-        let is_old : (x : Disk) → slice_get old.disks k ≡ Some x → d ≡ x = λ x before. got_same old.disks k d x was before in
-        let is_now : (x : Disk) → slice_get now k ≡ Some x → then_disk ≡ x = λ x after. got_same now k then_disk x then_at after in
-        record {
-          as_many = length-set old.disks k then_disk;
-          others = λ j apart x y before after.
-              let same : y ≡ x = same_Some y x (sym after ∙ got_other old.disks k j then_disk apart ∙ before) in
-              subst (λ (z : Disk). StaysHonest x z × IsLeftAlone x z) (sym same)
-              (record { honest = refl; counted = omega arith }, (refl, λ _. leaves_none x.stops (λ left. left ≡ x.content)));
-          stays = λ x y before after. subst (λ (z : Disk). StaysHonest z y) (is_old x before) (subst (λ (z : Disk). StaysHonest d z) (is_now y after) (record { honest = refl; counted = omega arith }));
-          size = λ x y before after. sym (ap (λ (z : Disk). length z.content) (is_now y after)) ∙ then_long ∙ ap (λ (z : Disk). length z.content) (is_old x before);
-          changed = λ x y before after _. subst (λ (z : Disk). IsSameBesideMarks a m z.content y.content) (is_old x before)
-              (subst (λ (z : Disk). IsSameBesideMarks a m d.content z.content) (is_now y after) then_beside);
-          within = λ x y before after _. subst (λ (z : Disk). LeavesOn (IsSameBesideMarks a m z.content) z y) (is_old x before)
-              (subst (λ (z : Disk). LeavesOn (IsSameBesideMarks a m d.content) d z) (is_now y after) (leaves_none d.stops (IsSameBesideMarks a m d.content)));
-        }
+    changes_then = set_alone k old.disks d was content_then (IsSameBesideMarks a m) then_long (λ _. then_beside)
 
   abbrev pub may_rebuild_it : MayEnrol k copied orphans old → MayRebuild k a
   may_rebuild_it may = record {

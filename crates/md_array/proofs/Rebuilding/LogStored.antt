@@ -177,9 +177,9 @@ module _ (k : ℕ) (old new : MirrorView) (c : IsConsistent old) (r : StoresLog 
         (λ there. log_alone a m d.content e.content parts there (outside there))
         (λ none. λ i. record (stored_of a m (same_device none i).content) { listed = (stored_of a m e.content).listed })
 
-    read_logged : HasNoShift k old → (failed_at : ℕ) → IsReadAsKept a m failed_at d.content → IsReadAsKept a n failed_at e.content
-    read_logged unshifted failed_at had = record {
-      super = own_beside a m d.content e.content block_same n.superblock refl refl refl refl (unshifted m at) had.super;
+    read_logged : HasNoShift k old → (failed_at : ℕ) (is_spoiled : Bool) → IsReadAsKept a m failed_at is_spoiled d.content → IsReadAsKept a n failed_at is_spoiled e.content
+    read_logged unshifted failed_at is_spoiled had = record {
+      super = λ un. own_beside a m d.content e.content block_same n.superblock refl refl refl refl (unshifted m at) (had.super un);
       header = elim had.header [
         | inl width ↦ inl (ap (λ (h : List ℕ). number_at 4 52 h / 512) header_same ∙ width)
         | inr gone ↦ absurd (true≢false (sym (in_sync_recorded m.state r.in_sync.in_sync) ∙ gone.0))
@@ -291,17 +291,17 @@ module _ (k : ℕ) (old new : MirrorView) (c : IsConsistent old) (r : StoresLog 
   pub logged_is_pending : (p : PendingView) → IsPending old.array p → IsPending new.array p
   logged_is_pending = own_is_pending k m n write.0 old new changes
 
-  read_all : HasNoShift k old → (failed_at : ℕ) → AreReadAsKept old failed_at → AreReadAsKept new failed_at
-  read_all unshifted failed_at are j e x found member =
+  read_all : HasNoShift k old → (failed_at : ℕ) (spoiled : ℕ → Bool) → AreReadAsKept old failed_at spoiled → AreReadAsKept new failed_at spoiled
+  read_all unshifted failed_at spoiled are j e x found member =
       let inside = slice_get_within a.members k m at in
       let many = c.fits.as_many in
       let d = got_within old.disks k (omega arith) in
-      subst (λ (v : ArrayView). IsReadAsKept v x failed_at e.content) (sym r.array)
+      subst (λ (v : ArrayView). IsReadAsKept v x failed_at (spoiled j) e.content) (sym r.array)
       (of_set a.members k j n x (ap (λ (v : ArrayView). slice_get v.members j) (sym r.array) ∙ member)
       (λ here x_is.
       let is : slice_get new.disks k ≡ Some e = ap (slice_get new.disks) (sym here) ∙ found in
-      let had = read_logged d.0 e d.1 is unshifted failed_at (are k d.0 m d.1 at) in
-      subst (λ (z : MemberView). IsReadAsKept (record a { members = set a.members k n }) z failed_at e.content) (sym x_is) (record { super = had.super; header = had.header }))
+      let had = read_logged d.0 e d.1 is unshifted failed_at (spoiled j) (subst (λ (i : ℕ). IsReadAsKept a m failed_at (spoiled i) d.0.content) (sym here) (are k d.0 m d.1 at)) in
+      subst (λ (z : MemberView). IsReadAsKept (record a { members = set a.members k n }) z failed_at (spoiled j) e.content) (sym x_is) (record { super = had.super; header = had.header }))
       (λ apart there. let had = are j e x (sym (changes.disks.others j apart) ∙ found) there in record { super = had.super; header = had.header }))
 
   pub log_happens : HasNoShift k old → Happens old (Event.StoreLog k (listed_on new k)) new
@@ -375,7 +375,7 @@ module _ (k : ℕ) (old new : MirrorView) (c : IsConsistent old) (f : FailsToSto
       let t = there_is old k x u new.disks c x_at f.fails.disks.tried in
       does_failing k u old new c f.fails x x_at requests (Event.StoreLogFails k) honest (u, f.fails.disks) in_flight
       (f.running, (left k u old new c f.fails x x_at requests, in_sync_there old.disks v requests k x f.in_sync, left_by_log requests t, member_fails k u old new c f.fails x x_at requests (in_sync_recorded x.state f.in_sync.in_sync)))
-      (λ _. refl)
+      (λ _. refl) (λ _. refl)
       (λ d e was is. own_beside v x d.content e.content (block_beside_log v x d.content e.content (parts_of old c k d x was x_at) has_log (beside_log d e was is)) x.superblock refl refl refl refl refl)
 
 -- ---- all of the refusals

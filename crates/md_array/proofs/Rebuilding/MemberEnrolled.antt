@@ -1,5 +1,5 @@
 -- A member that was rebuilt comes into sync: the mirror stays consistent, and an opening reads what is kept.
-use Rattle.std.proofs.Common.{◌≡◌, ℕ, ◌+◌, ◌/◌, inl, true, not, map, slice_get, Some, refl, sym, ap, ◌∙◌, subst, arith, ◌↔◌}
+use Rattle.std.proofs.Common.{◌≡◌, ℕ, ◌+◌, ◌/◌, inl, true, not, map, slice_get, Some, refl, sym, ap, ◌∙◌, subst, arith, ◌↔◌, Bool, false}
 use Rattle.md_array.proofs.Rebuilding.RoleTaken.{TakesRole}
 use Rattle.md_badblocks.specs.Runs.{IsBad}
 use Rattle.md_assembly.specs.declared.state.MemberState.TheVariants.{Recovering}
@@ -8,7 +8,7 @@ use Rattle.md_super.specs.declared.superblock.Superblock.{Superblock}
 use Rattle.md_super.specs.Merge.{merged}
 use Rattle.md_bitmap.specs.declared.header.BitmapHeader.{BitmapHeader}
 use Rattle.md_bitmap.specs.Marks.{Bitmap}
-use Rattle.md_model.proofs.Puts.{by_same}
+use Rattle.md_model.proofs.Puts.{by_same, put-miss}
 use Rattle.md_assembly.specs.States.{is_recorded}
 use Rattle.md_assembly.proofs.Indices.{got_same, got_within}
 use Rattle.md_writes.specs.Writes.{after}
@@ -30,6 +30,7 @@ use Rattle.md_array.proofs.Worlds.ReadAsKept.{IsSameArray, kept_in, own_written}
 use Rattle.md_array.proofs.Worlds.Risen.{risen_is_consistent}
 use Rattle.md_array.proofs.Rebuilding.MemberStored.{HoldsMember, holds_member}
 use Rattle.md_array.proofs.Rebuilding.EnrolledArray.{chunks_enrolled, few_entries, fits_enrolled, lists_enrolled, roles_enrolled, storable, super_enrolled, takes_by}
+use Rattle.md_model.specs.Sectors.{put}
 
 -- ---- the mirror, once it is in sync
 module _ (k : ℕ) (copied orphans : Bitmap) (old new : MirrorView) (c : IsConsistent old) (r : Enrols k copied orphans old new) where
@@ -113,27 +114,28 @@ module _ (k : ℕ) (copied orphans : Bitmap) (old new : MirrorView) (c : IsConsi
   same_fields : IsSameArray a b
   same_fields = record { set_uuid = refl; size = refl; raid_disks = refl; sectors = refl; events = omega arith }
 
-  read_at : (failed_at : ℕ) (h : BitmapHeader) (e : Disk) → h.chunksize ≡ n.header.chunksize → HoldsMember b.shared n h e.content → IsReadAsKept b n failed_at e.content
-  read_at failed_at h e same holds = record {
-    super = own_written b n e.content readable holds.block;
+  read_at : (failed_at : ℕ) (is_spoiled : Bool) (h : BitmapHeader) (e : Disk) → h.chunksize ≡ n.header.chunksize → HoldsMember b.shared n h e.content
+      → IsReadAsKept b n failed_at is_spoiled e.content
+  read_at failed_at is_spoiled h e same holds = record {
+    super = λ _. own_written b n e.content readable holds.block;
     header = inl (ap (λ (x : ℕ). x / 512) (sym holds.bitmap.header.chunksize ∙ same ∙ ap (λ (x : BitmapHeader). x.chunksize) r.comes.comes.header) ∙ c.chunks.member_width k m r.comes.at);
   }
 
-  pub enrolled_read : AreHonest old.disks → (failed_at : ℕ) → AreReadAsKept old failed_at → AreReadAsKept new failed_at
-  enrolled_read honest failed_at was = subst (λ (x : ArrayView). AreReadAsKept (record { disks = new.disks; array = x }) failed_at) (sym r.array)
+  pub enrolled_read : AreHonest old.disks → (failed_at : ℕ) (spoiled : ℕ → Bool) → AreReadAsKept old failed_at spoiled → AreReadAsKept new failed_at (put k false spoiled)
+  enrolled_read honest failed_at spoiled was = subst (λ (x : ArrayView). AreReadAsKept (record { disks = new.disks; array = x }) failed_at (put k false spoiled)) (sym r.array)
       (λ j e x found member. of_set (map made_due a.members) k j n x member
       (λ here x_is.
       let now : slice_get new.disks k ≡ Some e = sym (ap (slice_get new.disks) here) ∙ found in
       let inside = slice_get_within new.disks k e now in
       let many = r.disks.as_many in
       let d = got_within old.disks k (omega arith) in
-      subst (λ (z : MemberView). IsReadAsKept b z failed_at e.content) (sym x_is)
-      (read_at failed_at are.header e are.header_is.chunksize (holds_enrolled d.0 e d.1 now (honest k d.0 d.1))))
+      subst (λ (z : MemberView). IsReadAsKept b z failed_at (put k false spoiled j) e.content) (sym x_is)
+      (read_at failed_at (put k false spoiled j) are.header e are.header_is.chunksize (holds_enrolled d.0 e d.1 now (honest k d.0 d.1))))
       (λ apart here.
       let y = at_map made_due a.members j x here in
-      kept_in a b y.0 x failed_at e.content same_fields
+      kept_in a b y.0 x failed_at (put k false spoiled j) e.content same_fields
       (record { superblock = ap (λ (z : MemberView). z.superblock) y.2; recorded = ap (λ (z : MemberView). is_recorded z.state) y.2 })
-      (was j e y.0 (sym (r.disks.others j apart) ∙ found) y.1)))
+      (subst (λ (s : Bool). IsReadAsKept a y.0 failed_at s e.content) (sym (put-miss k false spoiled j apart)) (was j e y.0 (sym (r.disks.others j apart) ∙ found) y.1))))
 
   pub enrolled_honest : AreHonest old.disks → AreHonest new.disks
   enrolled_honest honest j e found = by_same j k

@@ -37,6 +37,7 @@ use Rattle.md_array.proofs.Openings.OwnFields as own_fields
 use Rattle.md_array.proofs.Worlds.Device.{fits_on}
 use Rattle.md_array.proofs.Worlds.Outside.{apart_either_way, bit_stays, header_stays, log_stays, sector_at_is, starts_at, stays}
 use Rattle.md_array.proofs.Worlds.Writes.{HoldsBitmap, holds_written, within_area}
+use Rattle.md_writes.proofs.Frames.{outside_around}
 
 -- ---- its superblock, once it is in sync
 module _ (v : Superblock) (list : List Run) where
@@ -248,6 +249,21 @@ module _ (a : ArrayView) (n : MemberView) (start : ℕ) (starts : BitmapStartsAt
   in_order =
       after-append old (bitmap_writes start h n.stored width) (log_writes own n.bad ++ write_of shared n ∷ [])
       ∙ after-append marked (log_writes own n.bad) (write_of shared n ∷ [])
+
+  pub all_long : length (after old (member_writes start h shared n)) ≡ length old
+  all_long = ap length in_order ∙ named.size ∙ listed_long
+
+  pub marks_outside : SameOutside (512 * start) (512 * width) old marked
+  marks_outside = let outside = marks_stored.outside in outside_around outside (512 * start) (512 * width) (omega arith) (omega arith)
+
+  pub data_kept : (d : Disk) → KeepsData n (record d { content = old }) (record d { content = after old (member_writes start h shared n) })
+  data_kept d =
+      let at : List ℕ → Disk = λ xs. record d { content = xs } in
+      data_then n (at old) (at marked) (at (after old (member_writes start h shared n)))
+      (data_beside_bitmap n (at old) (at marked) (sectors_of old) fit.placed fit.has start starts marks_outside)
+      (data_then n (at marked) (at listed) (at (after old (member_writes start h shared n)))
+      (by_log (λ there. data_beside_log n (at marked) (at listed) (sectors_of old) fit.placed there (listed_outside there)) (λ none. λ i m from to. ap (λ (xs : List ℕ). part xs i m) (unlisted none)))
+      (subst (λ (xs : List ℕ). KeepsData n (at listed) (at xs)) (sym in_order) (data_beside_super n (at listed) (at new) (sectors_of old) fit.placed named)))
 
   -- all of it, once the writes are done
   pub holds_member : (content : List ℕ) → content ≡ after old (member_writes start h shared n) → HoldsMember shared n h content

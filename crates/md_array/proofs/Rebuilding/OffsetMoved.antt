@@ -118,13 +118,13 @@ module _ (k offset had : ℕ) (old new : MirrorView) (c : IsConsistent old) (r :
     no_newer = x.no_newer;
   }
 
-  pub moved_read : (failed_at : ℕ) → AreReadAsKept old failed_at → AreReadAsKept new failed_at
-  moved_read failed_at are = subst (λ (v : MirrorView). AreReadAsKept v failed_at) (sym r.moved)
+  pub moved_read : (failed_at : ℕ) (spoiled : ℕ → Bool) → AreReadAsKept old failed_at spoiled → AreReadAsKept new failed_at spoiled
+  moved_read failed_at spoiled are = subst (λ (v : MirrorView). AreReadAsKept v failed_at spoiled) (sym r.moved)
       (λ j e x found member. of_set a.members k j n x member
       (λ here x_is.
       let had = are j e m found (ap (slice_get a.members) here ∙ r.at) in
-      subst (λ (z : MemberView). IsReadAsKept (with_offset_of a k m offset) z failed_at e.content) (sym x_is)
-      (record { super = own_moved e.content had.super; header = had.header }))
+      subst (λ (z : MemberView). IsReadAsKept (with_offset_of a k m offset) z failed_at (spoiled j) e.content) (sym x_is)
+      (record { super = λ un. own_moved e.content (had.super un); header = had.header }))
       (λ apart there. let had = are j e x found there in record { super = had.super; header = had.header }))
 
   -- ---- its world

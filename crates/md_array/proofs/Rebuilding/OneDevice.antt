@@ -1,5 +1,5 @@
 -- What one device of a member that is rebuilt holds changes, and nothing in memory: the mirror stays consistent, and so its world.
-use Rattle.std.proofs.Common.{◌≡◌, ◌≢◌, ℕ, inl, inr, true, true≢false, List, length, slice_get, Option, Some, None, refl, sym, ap, ◌∙◌, subst, arith}
+use Rattle.std.proofs.Common.{◌≡◌, ◌≢◌, ℕ, inl, inr, Bool, true, true≢false, List, length, slice_get, Option, Some, None, refl, sym, ap, ◌∙◌, subst, arith}
 use Rattle.std.proofs.lemmas.Bool.{cases_lt}
 use Rattle.std.proofs.lemmas.Option.{same_Some, slice_get_past, slice_get_within}
 use Rattle.md_assembly.proofs.Indices.{got_within}
@@ -9,7 +9,7 @@ use Rattle.md_model.proofs.Puts.{by_same, put-hit, put-miss}
 use Rattle.md_model.proofs.Steps.Between.{between_step, in_flight_step}
 use Rattle.md_model.specs.Devices.{Stored}
 use Rattle.md_model.specs.Events.{Event, Step}
-use Rattle.md_model.specs.Runs.{failed_after}
+use Rattle.md_model.specs.Runs.{failed_after, spoiled_after}
 use Rattle.md_model.specs.Sectors.{put}
 use Rattle.md_model.specs.Steps.{with_device}
 use Rattle.md_model.specs.Worlds.{Request}
@@ -25,6 +25,7 @@ use Rattle.md_array.specs.ReadAsKept.{AreReadAsKept, IsReadAsKept}
 use Rattle.md_array.specs.Worlds.{AreHonest, stored_of, stored_on, world_of, world_on}
 use Rattle.md_array.proofs.Steps.DevicesBack.{same_super, unrebuilt}
 use Rattle.md_array.proofs.Steps.OneMember.{fits_like, like_itself}
+use Rattle.md_array.proofs.Worlds.ReadAsKept.{IsTheSameBut}
 
 -- no device but k holds anything else
 pub record IsOnlyAt (k : ℕ) (before after : List Disk) : Type 0 where
@@ -102,19 +103,24 @@ module _ (k : ℕ) (m : MemberView) (old new : MirrorView) (c : IsConsistent old
             (λ apart. same_super n d.0 e (only.others j apart d.0 e d.1 at_disk) (c.supers running j d.0 n d.1 at_member in_sync (sym (only.honest j d.0 e d.1 at_disk) ∙ honest)));
       })
 
-  pub only_read : (failed_at : ℕ) → AtDevice k old.disks new.disks (λ d e. IsReadAsKept a m failed_at d.content → IsReadAsKept a m failed_at e.content)
-      → AreReadAsKept old failed_at → AreReadAsKept new failed_at
-  only_read failed_at keeps are j e n at_disk at_member =
+  pub only_read : (failed_at : ℕ) (spoiled then : ℕ → Bool) → IsTheSameBut k spoiled then
+      → AtDevice k old.disks new.disks (λ d e. IsReadAsKept a m failed_at (spoiled k) d.content → IsReadAsKept a m failed_at (then k) e.content)
+      → AreReadAsKept old failed_at spoiled → AreReadAsKept new failed_at then
+  only_read failed_at spoiled then others keeps are j e n at_disk at_member =
       let d = was j e at_disk in
       let there : IsMember a j n = subst (λ (x : ArrayView). IsMember x j n) array at_member in
       let had = are j d.0 n d.1 there in
-      subst (λ (x : ArrayView). IsReadAsKept x n failed_at e.content) (sym array)
+      subst (λ (x : ArrayView). IsReadAsKept x n failed_at (then j) e.content) (sym array)
       (by_same j k
       (λ here.
       let same : n ≡ m = same_Some n m (sym there ∙ ap (slice_get a.members) here ∙ at) in
-      subst (λ (x : MemberView). IsReadAsKept a x failed_at e.content) (sym same)
-      (keeps d.0 e (sym (ap (slice_get old.disks) here) ∙ d.1) (sym (ap (slice_get new.disks) here) ∙ at_disk) (subst (λ (x : MemberView). IsReadAsKept a x failed_at d.0.content) same had)))
-      (λ apart. subst (λ (x : List ℕ). IsReadAsKept a n failed_at x) (sym (only.others j apart d.0 e d.1 at_disk)) had))
+      let at_k : IsReadAsKept a m failed_at (spoiled k) d.0.content =
+      subst (λ (i : ℕ). IsReadAsKept a m failed_at (spoiled i) d.0.content) here (subst (λ (x : MemberView). IsReadAsKept a x failed_at (spoiled j) d.0.content) same had) in
+      subst (λ (x : MemberView). IsReadAsKept a x failed_at (then j) e.content) (sym same)
+      (subst (λ (i : ℕ). IsReadAsKept a m failed_at (then i) e.content) (sym here)
+      (keeps d.0 e (sym (ap (slice_get old.disks) here) ∙ d.1) (sym (ap (slice_get new.disks) here) ∙ at_disk) at_k)))
+      (λ apart. subst (λ (x : List ℕ). IsReadAsKept a n failed_at (then j) x) (sym (only.others j apart d.0 e d.1 at_disk))
+      (subst (λ (b : Bool). IsReadAsKept a n failed_at b d.0.content) (sym (others j apart)) had)))
 
   -- ---- its world
   module _ (requests : ℕ → Option Request) where
@@ -144,9 +150,11 @@ module _ (k : ℕ) (m : MemberView) (old new : MirrorView) (c : IsConsistent old
     pub only_does : (e : Event) → AreHonest old.disks → WritesOnce e old.disks new.disks → AreInFlight a requests
         → Step (geometry_of a) (world_of old requests) e (world_of new requests)
         → ((failed_at : ℕ) → failed_after e (world_of new requests) failed_at ≡ failed_at)
-        → ((failed_at : ℕ) → AtDevice k old.disks new.disks (λ d n. IsReadAsKept a m failed_at d.content → IsReadAsKept a m failed_at n.content))
+        → ((spoiled : ℕ → Bool) → IsTheSameBut k spoiled (spoiled_after e (world_of old requests) spoiled))
+        → ((failed_at : ℕ) (spoiled : ℕ → Bool) → AtDevice k old.disks new.disks
+        (λ d n. IsReadAsKept a m failed_at (spoiled k) d.content → IsReadAsKept a m failed_at (spoiled_after e (world_of old requests) spoiled k) n.content))
         → Does old requests e new requests
-    only_does e honest writes in_flight step after keeps = record {
+    only_does e honest writes in_flight step after others keeps = record {
       honest = only_honest honest;
       writes = writes;
       in_flight = subst (λ (x : ArrayView). AreInFlight x requests) (sym array) in_flight;
@@ -155,5 +163,7 @@ module _ (k : ℕ) (m : MemberView) (old new : MirrorView) (c : IsConsistent old
       content = λ x y holds becomes. between_step (geometry_of a) (world_of old requests) e (world_of new requests) x y step becomes holds;
       written = in_flight_step (geometry_of a) (world_of old requests) e (world_of new requests) step;
       sound = only_is_consistent;
-      read = λ failed_at are. subst (AreReadAsKept new) (sym (after failed_at)) (only_read failed_at (keeps failed_at) are);
+      read = λ failed_at spoiled are.
+          let then = spoiled_after e (world_of old requests) spoiled in
+          subst (λ n. AreReadAsKept new n then) (sym (after failed_at)) (only_read failed_at spoiled then (others spoiled) (keeps failed_at spoiled) are);
     }

@@ -1,5 +1,5 @@
 -- The bitmap and the log of a member that is rebuilt are stored: that is the model's event.
-use Rattle.std.proofs.Common.{◌≡◌, ℕ, ◌+◌, ◌*◌, ◌<◌, ◌≤◌, inl, inr, true, true≢false, not, ◌&&◌, ◌==◌, nat_lt, List, [], slice_get, Option, Some, pos, refl, sym, ap, ◌∙◌, subst, arith}
+use Rattle.std.proofs.Common.{◌≡◌, ℕ, ◌+◌, ◌*◌, ◌<◌, ◌≤◌, inl, inr, Bool, true, true≢false, not, ◌&&◌, ◌==◌, nat_lt, List, [], slice_get, Option, Some, pos, refl, sym, ap, ◌∙◌, subst, arith}
 use Rattle.std.specs.Ordering.{int_eq}
 use Rattle.std.proofs.lemmas.Option.{slice_get_within}
 use Rattle.md_assembly.proofs.Indices.{got_within}
@@ -126,9 +126,9 @@ module _ (k : ℕ) (old new : MirrorView) (c : IsConsistent old) (f : Prepares k
     parts : HasParts old.array m d.content
     parts = parts_of old c k d m was f.may.at
 
-    read_prepared : (failed_at : ℕ) → IsReadAsKept old.array m failed_at d.content → IsReadAsKept old.array m failed_at e.content
-    read_prepared failed_at had = record {
-      super = own_kept old.array m d.content e.content parts same had.super;
+    read_prepared : (failed_at : ℕ) (is_spoiled : Bool) → IsReadAsKept old.array m failed_at is_spoiled d.content → IsReadAsKept old.array m failed_at is_spoiled e.content
+    read_prepared failed_at is_spoiled had = record {
+      super = λ un. own_kept old.array m d.content e.content parts same (had.super un);
       header = elim had.header [
         | inl width ↦ inl (same.width width)
         | inr gone ↦ absurd (true≢false (sym (rebuilt_recorded m.state f.may.rebuilt) ∙ gone.0))
@@ -166,5 +166,5 @@ prepare_happens k old new c f honest requests in_flight =
     only_does k f.may.member old new c f.may.at f.may.rebuilt f.array (only k old new c f honest) requests (Event.Prepare k) honest
     (old.array, f.may.member, f.disks) in_flight
     (prepare_step k old new c f honest d.0 e.0 d.1 e.1 requests in_flight)
-    (λ _. refl)
-    (λ failed_at b x was is. read_prepared k old new c f honest b x was is failed_at)
+    (λ _. refl) (λ spoiled j apart. refl)
+    (λ failed_at spoiled b x was is. read_prepared k old new c f honest b x was is failed_at (spoiled k))

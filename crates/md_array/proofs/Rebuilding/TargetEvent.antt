@@ -1,6 +1,6 @@
 -- The superblock of a member that is rebuilt could not be stored: where the write left the old one, the new one or none, that is the
 -- model's event.
-use Rattle.std.proofs.Common.{◌≡◌, ℕ, ◌*◌, ◌/◌, inl, inr, true≢false, List, slice_get, Option, Some, refl, sym, ap, ◌∙◌, subst}
+use Rattle.std.proofs.Common.{◌≡◌, ℕ, ◌*◌, ◌/◌, inl, inr, Bool, true≢false, List, slice_get, Option, Some, refl, sym, ap, ◌∙◌, subst}
 use Rattle.std.proofs.lemmas.Option.{same_Some}
 use Rattle.md_device.specs.Splice.{SameOutside}
 use Rattle.md_format.specs.Fields.{number_at}
@@ -63,9 +63,9 @@ module _ (k : ℕ) (old new : MirrorView) (c : IsConsistent old) (f : FailsOnTar
               ]
         ]
 
-    read_left : (failed_at : ℕ) → IsReadAsKept a m failed_at d.content → IsReadAsKept a m failed_at e.content
-    read_left failed_at had = record {
-      super = own_left had.super;
+    read_left : (failed_at : ℕ) (is_spoiled : Bool) → IsReadAsKept a m failed_at is_spoiled d.content → IsReadAsKept a m failed_at is_spoiled e.content
+    read_left failed_at is_spoiled had = record {
+      super = λ un. own_left (had.super un);
       header = elim had.header [
         | inl width ↦ inl (ap (λ (h : List ℕ). number_at 4 52 h / 512) (header_beside_super a m d.content e.content parts outside) ∙ width)
         | inr gone ↦ absurd (true≢false (sym f.leaves.may.active ∙ gone.0))
@@ -117,5 +117,5 @@ module _ (k : ℕ) (old new : MirrorView) (c : IsConsistent old) (f : FailsOnTar
       λ d e was is. subst (λ (x : MemberView). IsOldNewOrNone (super_write a x).bytes d e) same (leaves d e was is) in
       only_does k m old new c f.leaves.may.at f.rebuilt f.leaves.array only requests (Event.RecordTargetFails k) honest (w, f.leaves.disks) in_flight
       (target_step t.old t.new t.was t.is (whole t.old t.new t.was t.is) requests)
-      (λ _. refl)
-      (λ failed_at d e was is. read_left d e was is (whole d e was is) failed_at)
+      (λ _. refl) (λ spoiled j apart. refl)
+      (λ failed_at spoiled d e was is. read_left d e was is (whole d e was is) failed_at (spoiled k))

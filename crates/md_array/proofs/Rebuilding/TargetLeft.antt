@@ -1,6 +1,6 @@
--- A write of a new superblock failed on a member that is rebuilt, and left the old one or none: that is the model's event, and the mirror is as
--- it was.
-use Rattle.std.proofs.Common.{◌≡◌, ℕ, ◌*◌, ◌/◌, inl, inr, true, false, true≢false, List, slice_get, Option, Some, refl, sym, ap, ◌∙◌, subst}
+-- A write of a new superblock failed on a member that is rebuilt. Where it left the old one or none that is the model's event, and whatever it
+-- left that is another. The mirror is as it was.
+use Rattle.std.proofs.Common.{◌≡◌, ℕ, ◌*◌, ◌/◌, inl, inr, Bool, true, false, true≢false, List, slice_get, Option, Some, refl, sym, ap, ◌∙◌, subst}
 use Rattle.md_device.specs.Splice.{SameOutside}
 use Rattle.md_format.specs.Fields.{number_at}
 use Rattle.md_kept_members.specs.View.{MemberView}
@@ -20,7 +20,7 @@ use Rattle.md_state.specs.View.{ArrayView, Disk, MirrorView, geometry_of}
 use Rattle.md_super.specs.declared.superblock.Superblock.{Superblock}
 use Rattle.md_super.specs.Merge.{merged}
 use Rattle.md_writes.specs.Writes.{Write}
-use Rattle.md_array.specs.Admitting.{FailsOnTargetAlone, IsOldOrNone}
+use Rattle.md_array.specs.Admitting.{FailsAsTarget, FailsOnTargetAlone, IsOldOrNone}
 use Rattle.md_array.specs.Consistency.{IsConsistent}
 use Rattle.md_array.specs.ReadAsKept.{HasOwnSuper, IsReadAsKept}
 use Rattle.md_array.specs.Recording.{IsReadable, own_write}
@@ -35,6 +35,8 @@ use Rattle.md_array.proofs.Worlds.InSync.{in_sync_of}
 use Rattle.md_array.proofs.Worlds.PartsApart.{HasParts, header_beside_super, log_beside_super, parts_of, super_alone}
 use Rattle.md_array.proofs.Worlds.ReadAsKept.{own_stays}
 use Rattle.md_array.proofs.Worlds.Supers.{super_shown}
+use Rattle.md_array.specs.Spoiling.{SpoilsTarget}
+use Rattle.md_array.proofs.Rebuilding.SpoiledEvent.{has_failed, spoil_happens}
 
 module _ (k : ℕ) (old new : MirrorView) (c : IsConsistent old) (running : old.array.halted ≡ false) (m : MemberView) (at : IsMember old.array k m) (rebuilt : is_rebuilt m.state ≡ true)
     (array : new.array ≡ old.array) (shared own : Superblock) (readable : IsReadable (merged shared own)) (disks : IsFailed k (own_write shared own) old.disks new.disks) where
@@ -67,9 +69,9 @@ module _ (k : ℕ) (old new : MirrorView) (c : IsConsistent old) (running : old.
       | inr none ↦ λ v on. absurd (none_some (super_of v) (sym none ∙ super_shown (block_on e.content) v on.fields on.sound))
     ]
 
-    read_left : (failed_at : ℕ) → IsReadAsKept a m failed_at d.content → IsReadAsKept a m failed_at e.content
-    read_left failed_at had = record {
-      super = own_left had.super;
+    read_left : (failed_at : ℕ) (is_spoiled : Bool) → IsReadAsKept a m failed_at is_spoiled d.content → IsReadAsKept a m failed_at is_spoiled e.content
+    read_left failed_at is_spoiled had = record {
+      super = λ un. own_left (had.super un);
       header = elim had.header [
         | inl width ↦ inl (ap (λ (h : List ℕ). number_at 4 52 h / 512) (header_beside_super a m d.content e.content parts outside) ∙ width)
         | inr gone ↦ absurd (true≢false (sym (rebuilt_recorded m.state rebuilt) ∙ gone.0))
@@ -105,5 +107,22 @@ module _ (k : ℕ) (old new : MirrorView) (c : IsConsistent old) (running : old.
       let t = there_is old k m w new.disks c at disks.tried in
       only_does k m old new c at rebuilt array only requests (Event.RecordTargetFails k) honest (w, disks) in_flight
       (left_step t.old t.new t.was t.is (leaves t.old t.new t.was t.is) requests)
-      (λ _. refl)
-      (λ failed_at d e was is. read_left d e was is (leaves d e was is) failed_at)
+      (λ _. refl) (λ spoiled j apart. refl)
+      (λ failed_at spoiled d e was is. read_left d e was is (leaves d e was is) failed_at (spoiled k))
+
+  -- whatever it left, the member is spoiled
+  pub left_spoils : SpoilsTarget k old new
+  left_spoils = record {
+    member = m;
+    at = at;
+    rebuilt = rebuilt;
+    running = running;
+    array = array;
+    write = w;
+    sector = refl;
+    size = readable.size;
+    disks = has_failed k w old.disks new.disks disks;
+  }
+
+  pub left_as_target : FailsAsTarget k old new
+  left_as_target = (left_happens, spoil_happens k old new c left_spoils)

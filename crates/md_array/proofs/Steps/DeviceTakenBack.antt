@@ -1,5 +1,5 @@
 -- The device of a member that is taken back: nothing but its superblock changes there, and an opening would read what is kept of it.
-use Rattle.std.proofs.Common.{◌≡◌, ℕ, ◌+◌, ◌*◌, ◌/◌, ◌<◌, true, not, ◌&&◌, ◌==◌, nat_lt, List, drop, inl, Option, Some, None, refl, sym, ap, ◌∙◌, subst}
+use Rattle.std.proofs.Common.{◌≡◌, ℕ, ◌+◌, ◌*◌, ◌/◌, ◌<◌, true, not, ◌&&◌, ◌==◌, nat_lt, List, drop, inl, Option, Some, None, refl, sym, ap, ◌∙◌, subst, Bool}
 use Rattle.md_array.proofs.Worlds.Member.{accepted_by}
 use Rattle.md_members.specs.Members.{IsAccepted}
 use Rattle.md_badblocks.specs.declared.run.Run.{Run}
@@ -144,8 +144,8 @@ module _ (content : List ℕ) (offset : ℕ) (info : MemberInfo) (m : MemberView
         and_same (nat_lt c a.marks.chunks) _ _ (λ low. sym (bits_there c (subst (λ n. c < n) (sym count) (is_below c a.marks.chunks low))))
         ∙ sym (ap (λ (s : Stored). s.bits c) stored_now)
 
-    pub read_now : (failed_at : ℕ) → m.header.chunksize / 512 ≡ a.chunks.sectors → IsReadAsKept a m failed_at now
-    read_now failed_at width = record {
-      super = own_written a m now r block;
+    pub read_now : (failed_at : ℕ) (is_spoiled : Bool) → m.header.chunksize / 512 ≡ a.chunks.sectors → IsReadAsKept a m failed_at is_spoiled now
+    read_now failed_at is_spoiled width = record {
+      super = λ _. own_written a m now r block;
       header = inl (ap (λ (h : List ℕ). number_at 4 52 h / 512) (header_beside_super a m content now parts outside) ∙ width_there a.chunks.sectors width);
     }

@@ -1,5 +1,5 @@
 -- Devices that were lent and have come back: the mirror is consistent again, and an opening reads what is kept.
-use Rattle.std.proofs.Common.{◌≡◌, ℕ, ◌+◌, ◌*◌, ◌/◌, ◌<◌, ◌≤◌, ◌⊎◌, inl, inr, true, false, List, slice_get, Some, pos, refl, sym, ap, ◌∙◌, subst, arith, ◌↔◌}
+use Rattle.std.proofs.Common.{◌≡◌, ℕ, ◌+◌, ◌*◌, ◌/◌, ◌<◌, ◌≤◌, ◌⊎◌, inl, inr, true, false, List, slice_get, Some, pos, refl, sym, ap, ◌∙◌, subst, arith, ◌↔◌, Bool}
 use Rattle.std.specs.Int.{div_ceil}
 use Rattle.std.proofs.Math.Nat.{add-mul, mul-le-mul_right}
 use Rattle.std.proofs.lemmas.Grind.{div_ceil_times}
@@ -138,11 +138,11 @@ module _ (old : MirrorView) (before after : List Disk) (b : AreBack old before a
         let start : ℕ = from_super m.superblock.bitmap_offset in
         in_area (bitmap_area m.superblock width) start (sector_at_is (bitmap_area m.superblock width).start has.bitmap.within.from) has.bitmap.from_data (512 * start) 256 (omega arith) (omega (arith, some.0))
 
-    pub read_back : (failed_at : ℕ) → IsReadAsKept a m failed_at d.content → IsReadAsKept a m failed_at e.content
-    read_back failed_at = read_as_kept.stays a m failed_at d.content e.content block_back log_back
+    pub read_back : (failed_at : ℕ) (is_spoiled : Bool) → IsReadAsKept a m failed_at is_spoiled d.content → IsReadAsKept a m failed_at is_spoiled e.content
+    read_back failed_at is_spoiled = read_as_kept.stays a m failed_at is_spoiled d.content e.content block_back log_back
         (λ width. ap (λ (h : List ℕ). number_at 4 52 h / 512) header_back ∙ width)
 
-  pub back_is_read : (failed_at : ℕ) → AreReadAsKept was_there failed_at → AreReadAsKept now failed_at
-  back_is_read failed_at are k e m at_disk at_member =
+  pub back_is_read : (failed_at : ℕ) (spoiled : ℕ → Bool) → AreReadAsKept was_there failed_at spoiled → AreReadAsKept now failed_at spoiled
+  back_is_read failed_at spoiled are k e m at_disk at_member =
       let d = was k e at_disk in
-      read_back m d.0 e (b.back.each k d.0 e m d.1 at_disk at_member) (parts_of was_there b.consistent k d.0 m d.1 at_member) failed_at (are k d.0 m d.1 at_member)
+      read_back m d.0 e (b.back.each k d.0 e m d.1 at_disk at_member) (parts_of was_there b.consistent k d.0 m d.1 at_member) failed_at (spoiled k) (are k d.0 m d.1 at_member)

@@ -250,8 +250,8 @@ module _ (k block : ℕ) (old new : MirrorView) (is : IsConsistent old) (low : b
         (λ first. ap (λ (x : ℕ). x / 512) (sym (header_there first).chunksize ∙ r.may.write.header_is.chunksize) ∙ is.chunks.member_width k m r.may.in_sync.member)
         (λ other. ap (λ (x : List ℕ). number_at 4 52 x / 512) (header_elsewhere a m d.content e.content (has d e before after) block low_of_member (outside d e before after) other) ∙ was)
 
-    pub read_marked : (failed_at : ℕ) → IsReadAsKept a m failed_at d.content → IsReadAsKept a m failed_at e.content
-    read_marked failed_at = stays a m failed_at d.content e.content
+    pub read_marked : (failed_at : ℕ) (is_spoiled : Bool) → IsReadAsKept a m failed_at is_spoiled d.content → IsReadAsKept a m failed_at is_spoiled e.content
+    read_marked failed_at is_spoiled = stays a m failed_at is_spoiled d.content e.content
         (same_block d e before after)
         (log_beside_marks a m d.content e.content (has d e before after) block low_of_member (outside d e before after))
         width_marked
@@ -273,5 +273,6 @@ module _ (k block : ℕ) (old new : MirrorView) (is : IsConsistent old) (low : b
         content = λ x y holds becomes. between_step (geometry_of a) (world_of old requests) (Event.StoreMarks k block) (world_of new requests) x y happens becomes holds;
         written = in_flight_step (geometry_of a) (world_of old requests) (Event.StoreMarks k block) (world_of new requests) happens;
         sound = marks_stored_is_consistent;
-        read = λ failed_at. changed_read k m n r.write old new failed_at changes (λ d' e' before after. read_marked d' e' before after (honest k d' before) requests failed_at);
+        read = λ failed_at spoiled. changed_read k m n r.write old new failed_at spoiled spoiled changes (λ j apart. refl)
+            (λ d' e' before after. read_marked d' e' before after (honest k d' before) requests failed_at (spoiled k));
       }

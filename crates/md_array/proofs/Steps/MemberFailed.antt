@@ -154,11 +154,11 @@ module _ (k : ℕ) (old new : MirrorView) (c : IsConsistent old) (fails : FailsM
   abbrev KeepsSuper : Disk → Disk → Type 0
   KeepsSuper d e = HasOwnSuper a.shared m.superblock d.content → HasOwnSuper a.shared m.superblock e.content
 
-  fail_read : (failed_at : ℕ) → AreReadAsKept old failed_at → AreReadAsKept new new.array.shared.events
+  fail_read : (failed_at : ℕ) (spoiled : ℕ → Bool) → AreReadAsKept old failed_at spoiled → AreReadAsKept new new.array.shared.events spoiled
   unfolding after
-  fail_read failed_at are =
-      subst (λ (v : MirrorView). AreReadAsKept v v.array.shared.events) (sym is_after)
-      (failed_read a k m no_write old.disks old.disks failed_at at (untried k old.disks) (at_itself KeepsSuper k old.disks (λ d has. has)) are)
+  fail_read failed_at spoiled are =
+      subst (λ (v : MirrorView). AreReadAsKept v v.array.shared.events spoiled) (sym is_after)
+      (failed_read a k m no_write old.disks old.disks failed_at spoiled at (untried k old.disks) (at_itself KeepsSuper k old.disks (λ d has. has)) are)
 
   pub fail_happens : Happens old (Event.Fail k) new
   fail_happens honest requests listed = record {

@@ -199,13 +199,13 @@ module _ (k : ℕ) (disk : Disk) (old new : MirrorView) (c : IsConsistent old) (
     step : Step (geometry_of old.array) before (Event.Remove k) (world_of new requests)
     step = (leaves.array.may.running, (not (is_degraded old.array), may, full_after, world_removed))
 
-  remove_read : (failed_at : ℕ) → AreReadAsKept old failed_at → AreReadAsKept new failed_at
+  remove_read : (failed_at : ℕ) (spoiled : ℕ → Bool) → AreReadAsKept old failed_at spoiled → AreReadAsKept new failed_at (λ j. spoiled (skip k j))
   unfolding after
-  remove_read failed_at are =
+  remove_read failed_at spoiled are =
       let like = like_if old k m at out spare in
-      subst (λ (v : MirrorView). AreReadAsKept v failed_at) (sym is_after)
-      (read_left up k (due_if old k m at out spare) (there_if old k m at out spare) (low_if old k m at out spare) (out_if old k m at out spare) old.disks failed_at
-      (unwritten_read old (record { disks = old.disks; array = up }) failed_at refl like.0 like.1 are))
+      subst (λ (v : MirrorView). AreReadAsKept v failed_at (λ j. spoiled (skip k j))) (sym is_after)
+      (read_left up k (due_if old k m at out spare) (there_if old k m at out spare) (low_if old k m at out spare) (out_if old k m at out spare) old.disks failed_at spoiled
+      (unwritten_read old (record { disks = old.disks; array = up }) failed_at spoiled refl like.0 like.1 are))
 
   honest_left : AreHonest old.disks → AreHonest new.disks
   honest_left honest = subst AreHonest (sym leaves.disks) (λ j d there. honest (skip k j) d (was_at old.disks k j d there))

@@ -1,5 +1,5 @@
 -- A device that left comes in again: the mirror stays consistent, and requests in flight stay its own.
-use Rattle.std.proofs.Common.{◌≡◌, ◌≢◌, ℕ, ◌+◌, ◌*◌, ◌/◌, ◌<◌, ◌≤◌, inl, inr, Bool, true, false, cond, not, ◌&&◌, ◌==◌, List, [], ◌∷◌, ◌++◌, length, map, count_by, Option, Some, None, Result, Ok, Err, refl, sym, ap, ◌∙◌, subst, arith}
+use Rattle.std.proofs.Common.{◌≡◌, ◌≢◌, ℕ, ◌+◌, ◌*◌, ◌/◌, ◌<◌, ◌≤◌, inl, inr, Bool, true, false, cond, not, ◌&&◌, ◌==◌, List, [], ◌∷◌, ◌++◌, length, map, count_by, Option, Some, None, Result, Ok, Err, refl, sym, ap, ◌∙◌, subst, arith, ◌^◌}
 use Rattle.md_kept_members.specs.Remembering.{IsWhole}
 use Rattle.std.specs.Int.{div_ceil}
 use Rattle.std.specs.Prelude.{MatchResult}
@@ -131,13 +131,14 @@ module _ (a : ArrayView) (offset : ℕ) (info : MemberInfo) (m : MemberView) (ta
       ∙ ap (div_ceil a.chunks.size) width_kept
       ∙ sym count
 
-  pub fits_taken : (d : Disk) → length d.content ≡ length content → FitsMember a m d
-  fits_taken d long =
+  pub fits_taken : (d : Disk) → length d.content ≡ length content → sectors_of content ≤ 2 ^ 54 → FitsMember a m d
+  fits_taken d long short =
       let within = read.superblock.read.within in
       let as_long : sectors_of content ≡ sectors_of d.content = ap (λ n. n / 512) (sym long) in
       let v = kept_superblock info in
       record {
         long = omega arith;
+        short = omega arith;
         has = ap has_bitmap taken.superblock ∙ recovering_bitmap offset v ∙ bitmap_same info.bad info.superblock ∙ reads.has;
         placed = rw (taken.superblock, reads.counted, ← as_long) (recovering_placed offset v _ _ (placed_next info.bad info.superblock.recovery_offset info.superblock _ _ reads.placed));
         few_chunks = rw reads.counted reads.few;
@@ -196,6 +197,9 @@ module _ (k : ℕ) (device : Disk) (old new : MirrorView) (c : IsConsistent old)
       let outside = r.recorded.written.tried.outside r.after_reading r.recorded.now refl refl in
       outside.size ∙ ap length r.only_read.0.0
 
+  pub short_device : sectors_of device.content ≤ 2 ^ 54
+  short_device = subst (λ (content : List ℕ). sectors_of content ≤ 2 ^ 54) r.only_read.0.0 r.recorded.short
+
   pub small : m.superblock.dev_number < 1920
   small =
       let low = may.fits.role.has_role in
@@ -218,7 +222,7 @@ module _ (k : ℕ) (device : Disk) (old new : MirrorView) (c : IsConsistent old)
       (width_kept a offset info m taken may device.content device.honest r.read)
       (count_kept a offset info m taken may device.content device.honest r.read c.chunks.size c.chunks.count)
       old.disks r.recorded.now
-      (fits_taken a offset info m taken may device.content device.honest r.read r.recorded.now as_long)
+      (fits_taken a offset info m taken may device.content device.honest r.read r.recorded.now as_long short_device)
       c)
 
   pub taken_back_keeps_pending : (p : PendingView) → IsPending old.array p → IsPending new.array p
@@ -295,12 +299,13 @@ module _ {D : Type 0} (g : Ghosts D) (was now : D) (a : ArrayView) (offset : ℕ
   shared_kept = shared ∙ ap (λ n. joined_shared a n (own_role info.superblock)) (sym number_kept)
 
   pub recorded_last : (devices devices_now : List D) (b : ArrayView) (k : ℕ) → MayReAdd a info → b ≡ joined a m (own_role info.superblock) → IsReadable (merged v m.superblock) → DoesWrites g (write_of v m ∷ []) was now
-      → k ≡ length a.members → devices_now ≡ devices ++ now ∷ []
+      → sectors_of (g.content was) ≤ 2 ^ 54 → k ≡ length a.members → devices_now ≡ devices ++ now ∷ []
       → RecordsLast k (disk_of g was) info (record { disks = map (disk_of g) devices; array = a }) (record { disks = map (disk_of g) devices_now; array = b })
-  recorded_last devices devices_now b k may array readable does last items =
+  recorded_last devices devices_now b k may array readable does short last items =
       let same : v ≡ b.shared = shared_kept ∙ sym (ap (λ (x : ArrayView). x.shared) array) in
       record {
         last = last;
+        short = short;
         takes = record { may = may; member = m; offset = offset; offset_is = offset_is; taken = taken; array = array };
         readable = subst (λ (x : Superblock). IsReadable (merged x m.superblock)) same readable;
         now = disk_of g now;

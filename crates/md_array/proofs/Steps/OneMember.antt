@@ -1,5 +1,5 @@
 -- A write goes to one device of a mirror, and its member is changed in memory: what stays of the mirror, and its world.
-use Rattle.std.proofs.Common.{◌≡◌, ℕ, ◌+◌, ◌/◌, ◌<◌, ◌≤◌, Bool, true, false, ◌&&◌, eqb, nat_lt, not, List, length, set, slice_get, count_by, Option, Some, None, refl, sym, ap, ◌∙◌, subst, arith}
+use Rattle.std.proofs.Common.{◌≡◌, ℕ, ◌+◌, ◌/◌, ◌<◌, ◌≤◌, Bool, true, false, ◌&&◌, eqb, nat_lt, not, List, length, set, slice_get, count_by, Option, Some, None, refl, sym, ap, ◌∙◌, subst, arith, ◌^◌}
 use Rattle.std.specs.Prelude.{option_map, unwrap_or}
 use Rattle.std.specs.List.{list_any}
 use Rattle.std.proofs.lemmas.List.{length-set}
@@ -90,6 +90,7 @@ fits_places a b m n d e size near long fit =
     let sectors : sectors_of d.content ≡ sectors_of e.content = ap (λ (x : ℕ). x / 512) (sym long) in
     record {
       long = subst (λ (x : ℕ). 16 ≤ x) sectors fit.long;
+      short = subst (λ (x : ℕ). x ≤ 2 ^ 54) sectors fit.short;
       has = near.has ∙ fit.has;
       placed = subst (λ (x : ℕ). IsPlaced (sectors_of e.content) n.superblock (bitmap_sectors x)) (sym near.chunks)
           (near.placed (sectors_of e.content) (bitmap_sectors m.stored.chunks) (subst (λ (x : ℕ). IsPlaced x m.superblock (bitmap_sectors m.stored.chunks)) sectors fit.placed));

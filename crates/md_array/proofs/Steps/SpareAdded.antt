@@ -1,5 +1,5 @@
 -- A new device comes in as a spare: the mirror stays consistent, and requests in flight stay its own.
-use Rattle.std.proofs.Common.{◌≡◌, ℕ, ◌+◌, ◌*◌, ◌/◌, ◌<◌, ◌≤◌, inl, inr, true, false, cond, not, ◌==◌, bit_and, List, [], ◌∷◌, ◌++◌, length, count_by, map, Result, Ok, Err, refl, sym, ap, ◌∙◌, subst, arith}
+use Rattle.std.proofs.Common.{◌≡◌, ℕ, ◌+◌, ◌*◌, ◌/◌, ◌<◌, ◌≤◌, inl, inr, true, false, cond, not, ◌==◌, bit_and, List, [], ◌∷◌, ◌++◌, length, count_by, map, Result, Ok, Err, refl, sym, ap, ◌∙◌, subst, arith, ◌^◌}
 use Rattle.std.specs.Int.{div_ceil}
 use Rattle.std.specs.Prelude.{MatchResult}
 use Rattle.std.proofs.lemmas.Bool.{cases_lt}
@@ -65,12 +65,13 @@ module _ (a : ArrayView) (number sectors : ℕ) (laid : NewMember) (may : MayAdd
       ∙ ap (div_ceil a.chunks.size) (width_there h)
       ∙ sym h.count
 
-  pub fits_there : (d : Disk) → sectors_of d.content ≡ sectors → FitsMember a (kept_of laid) d
-  fits_there d long =
+  pub fits_there : (d : Disk) → sectors_of d.content ≡ sectors → sectors ≤ 2 ^ 54 → FitsMember a (kept_of laid) d
+  fits_there d long short =
       let enough = may.long in
       let its_sectors = spare.spare.superblock.data_size in
       record {
         long = omega arith;
+        short = omega arith;
         has = ap (λ n. not (bit_and n 1 == 0)) laid.new.places.feature_map;
         placed = new_placed laid.superblock laid.new.places (sectors_of d.content) (bitmap_sectors laid.marks.chunks) (let few = few_sectors laid in omega arith) (omega arith);
         few_chunks = omega (arith, laid.new.chunks, laid.header.sound.few_chunks);
@@ -111,7 +112,7 @@ module _ (k : ℕ) (device : Disk) (old new : MirrorView) (c : IsConsistent old)
       (width_there a r.number sectors laid r.may r.comes.spare c.chunks)
       (count_there a r.number sectors laid r.may r.comes.spare c.chunks)
       old.disks r.comes.now
-      (fits_there a r.number sectors laid r.may r.comes.spare r.comes.now as_long)
+      (fits_there a r.number sectors laid r.may r.comes.spare r.comes.now as_long r.comes.short)
       c)
 
   pub added_keeps_pending : (p : PendingView) → IsPending old.array p → IsPending new.array p
@@ -177,12 +178,13 @@ module _ {D : Type 0} (g : Ghosts D) (was now : D) where
   seen : IsKept g was now → IsKept of_disks (disk_of g was) (disk_of g now)
   seen kept = record { size = kept.size; honest_kept = kept.honest_kept; counted = kept.counted }
 
-  pub laid_last : (a b : ArrayView) (number k : ℕ) (laid : NewMember) (devices devices_now : List D) → IsSpareOf a number (sectors_of (g.content was)) laid → IsReadable laid.superblock
+  pub laid_last : (a b : ArrayView) (number k : ℕ) (laid : NewMember) (devices devices_now : List D) → sectors_of (g.content was) ≤ 2 ^ 54 → IsSpareOf a number (sectors_of (g.content was)) laid → IsReadable laid.superblock
       → DoesWrites g (writes_of laid) was now → KeepsOthers laid (g.content was) (g.content now) → (g.honest was ≡ true → IsLaidOut (g.content was) laid (g.content now))
       → (g.honest was ≡ true → LeavesMore (g.stops was) (g.stops now) (IsHalfLaidOut (g.content was) laid)) → b ≡ added a laid → k ≡ length a.members → devices_now ≡ devices ++ now ∷ []
       → LaysOutLast k (disk_of g was) number (record { disks = map (disk_of g) devices; array = a }) (record { disks = map (disk_of g) devices_now; array = b })
-  laid_last a b number k laid devices devices_now spare readable does outside done within array last items = record {
+  laid_last a b number k laid devices devices_now short spare readable does outside done within array last items = record {
     last = last;
+    short = short;
     laid = laid;
     spare = spare;
     readable = readable;
@@ -208,3 +210,7 @@ module _ {D : Type 0} (g : Ghosts D) (was now : D) where
 -- the sectors of a device, as it tells them
 pub told : (sectors : ℕ) (content : List ℕ) → length content ≡ 512 * sectors → sectors ≡ sectors_of content
 told sectors content is = omega arith
+
+-- no device is longer
+pub told_short : (sectors : ℕ) (content : List ℕ) → length content ≡ 512 * sectors → sectors ≤ 2 ^ 54 → sectors_of content ≤ 2 ^ 54
+told_short sectors content is limit = let same = told sectors content is in omega arith

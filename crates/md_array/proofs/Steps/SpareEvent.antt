@@ -176,12 +176,12 @@ module _ (k : ℕ) (device : Disk) (old new : MirrorView) (c : IsConsistent old)
     step : Step (g old requests) (w old requests) (Event.Add r.number (stored_of b m now.content)) (world_of new requests)
     step = (r.may.running, (full, may, laid_out, full_after, world_added))
 
-  add_read : (failed_at : ℕ) → AreReadAsKept old failed_at → AreReadAsKept new failed_at
+  add_read : (failed_at : ℕ) (spoiled : ℕ → Bool) → AreReadAsKept old failed_at spoiled → AreReadAsKept new failed_at (put (length old.array.members) false spoiled)
   unfolding after
-  add_read failed_at are =
-      subst (λ (v : MirrorView). AreReadAsKept v failed_at) (sym (is_after k device old new c r))
-      (read_joined old.array m spare_role low_number old.disks now failed_at c.fits.as_many
-      (read_there old.array r.number sectors laid r.comes.spare r.comes.readable device.content now.content done long failed_at width)
+  add_read failed_at spoiled are =
+      subst (λ (v : MirrorView). AreReadAsKept v failed_at (put (length old.array.members) false spoiled)) (sym (is_after k device old new c r))
+      (read_joined old.array m spare_role low_number old.disks now failed_at spoiled c.fits.as_many
+      (λ s. read_there old.array r.number sectors laid r.comes.spare r.comes.readable device.content now.content done long failed_at s width)
       are)
 
   honest_now : AreHonest old.disks → AreHonest new.disks

@@ -1,6 +1,6 @@
 -- The device on which a spare was laid out: it has the superblock that the model says, all chunks are marked there, nothing is listed, and
 -- an opening would read what is kept of it.
-use Rattle.std.proofs.Common.{◌≡◌, ℕ, ◌+◌, ◌*◌, ◌/◌, ◌<◌, ◌≤◌, true, false, not, ◌&&◌, ◌==◌, bit_and, nat_lt, List, drop, length, Some, inl, sym, ap, ◌∙◌, subst, arith, lt-ltb}
+use Rattle.std.proofs.Common.{◌≡◌, ℕ, ◌+◌, ◌*◌, ◌/◌, ◌<◌, ◌≤◌, true, false, not, ◌&&◌, ◌==◌, bit_and, nat_lt, List, drop, length, Some, inl, sym, ap, ◌∙◌, subst, arith, lt-ltb, Bool}
 use Rattle.md_format.specs.Fields.{number_at}
 use Rattle.md_super.specs.declared.superblock.Superblock.{Superblock}
 use Rattle.md_super.specs.Encoding.{super_bytes}
@@ -100,5 +100,5 @@ module _ (a : ArrayView) (number sectors : ℕ) (laid : NewMember) (spare : IsSp
           no_newer = let events : u.events ≡ a.shared.events + 1 = ap (λ (x : Superblock). x.events) same ∙ s.events in omega arith;
         }
 
-    pub read_there : (failed_at : ℕ) → laid.header.chunksize / 512 ≡ a.chunks.sectors → IsReadAsKept (added a laid) (kept_of laid) failed_at now
-    read_there failed_at width = record { super = own_there; header = inl (width_on width) }
+    pub read_there : (failed_at : ℕ) (is_spoiled : Bool) → laid.header.chunksize / 512 ≡ a.chunks.sectors → IsReadAsKept (added a laid) (kept_of laid) failed_at is_spoiled now
+    read_there failed_at is_spoiled width = record { super = λ _. own_there; header = inl (width_on width) }

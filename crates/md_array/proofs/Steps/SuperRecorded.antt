@@ -21,7 +21,7 @@ use Rattle.md_model.specs.Worlds.{Request, World}
 use Rattle.md_model.specs.Steps.{KeepsList, recorded, recorded_device, super_for}
 use Rattle.md_model.specs.Events.{Event, Step}
 use Rattle.md_model.proofs.Steps.Between.{between_step, in_flight_step}
-use Rattle.md_model.proofs.Puts.{put-self}
+use Rattle.md_model.proofs.Puts.{put-miss, put-self}
 use Rattle.md_requests.specs.Pending.{PendingView}
 use Rattle.md_kept_members.specs.View.{MemberView}
 use Rattle.md_state.specs.View.{ArrayView, Disk, MirrorView, geometry_of}
@@ -138,11 +138,12 @@ module _ (k : ℕ) (old new : MirrorView) (is : IsConsistent old) (r : Records k
   pub recorded_is_pending : (p : PendingView) → IsPending old.array p → IsPending new.array p
   recorded_is_pending = changed_is_pending k m n (super_write a m) old new changes
 
-  read_recorded : (failed_at : ℕ) → (d e : Disk) → slice_get old.disks k ≡ Some d → slice_get new.disks k ≡ Some e → d.honest ≡ true → IsReadAsKept a m failed_at d.content → IsReadAsKept a m failed_at e.content
-  read_recorded failed_at d e before after honest was =
+  read_recorded : (failed_at : ℕ) (was_spoiled is_spoiled : Bool) → (d e : Disk) → slice_get old.disks k ≡ Some d → slice_get new.disks k ≡ Some e → d.honest ≡ true
+      → IsReadAsKept a m failed_at was_spoiled d.content → IsReadAsKept a m failed_at is_spoiled e.content
+  read_recorded failed_at was_spoiled is_spoiled d e before after honest was =
       let outside = super_outside d e before after in
       record {
-        super = own_written a m e.content r.may.readable (on_disk d e before after honest);
+        super = λ _. own_written a m e.content r.may.readable (on_disk d e before after honest);
         header = elim was.header [
           | inl width ↦ inl (ap (λ (h : List ℕ). number_at 4 52 h / 512) (header_beside_super a m d.content e.content (parts_of old is k d m before r.may.at) outside) ∙ width)
           | inr gone ↦ absurd (true≢false (sym r.may.active ∙ gone.0))
@@ -202,5 +203,6 @@ module _ (k : ℕ) (old new : MirrorView) (is : IsConsistent old) (r : Records k
         content = λ x y holds becomes. between_step (geometry_of a) (world_of old requests) (Event.Record k) (world_of new requests) x y happens becomes holds;
         written = in_flight_step (geometry_of a) (world_of old requests) (Event.Record k) (world_of new requests) happens;
         sound = recorded_is_consistent;
-        read = λ failed_at. changed_read k m n (super_write a m) old new failed_at changes (λ d' e' before after. read_recorded failed_at d' e' before after (honest k d' before));
+        read = λ failed_at spoiled. changed_read k m n (super_write a m) old new failed_at spoiled (put k false spoiled) changes (put-miss k false spoiled)
+            (λ d' e' before after. read_recorded failed_at (spoiled k) (put k false spoiled k) d' e' before after (honest k d' before));
       }

@@ -1,5 +1,5 @@
 -- A device that left comes in again: that is the model's event.
-use Rattle.std.proofs.Common.{◌≡◌, ◌≢◌, ◌↔◌, eq-eqb, true≢false, ℕ, ◌+◌, ◌*◌, ◌/◌, ◌<◌, Bool, true, not, ◌==◌, ◌&&◌, nat_lt, List, [], ◌∷◌, ◌++◌, length, map, slice_get, Option, Some, Result, Ok, Err, refl, sym, ap, ◌∙◌, subst, arith, cond, drop, inl, inr, ⊎_elim, ◌⊎◌}
+use Rattle.std.proofs.Common.{◌≡◌, ◌≢◌, ◌↔◌, eq-eqb, true≢false, ℕ, ◌+◌, ◌*◌, ◌/◌, ◌<◌, Bool, true, not, ◌==◌, ◌&&◌, nat_lt, List, [], ◌∷◌, ◌++◌, length, map, slice_get, Option, Some, Result, Ok, Err, refl, sym, ap, ◌∙◌, subst, arith, cond, drop, inl, inr, ⊎_elim, ◌⊎◌, false}
 use Rattle.md_super.specs.declared.superblock.Superblock.{Superblock}
 use Rattle.std.proofs.lemmas.Option.{same_Some}
 use Rattle.md_model.proofs.Cases.{is_below}
@@ -47,7 +47,7 @@ use Rattle.md_array.proofs.General.Appended.{got_last}
 use Rattle.md_array.proofs.General.Indices.{any_at}
 use Rattle.md_array.proofs.Steps.DeviceTakenBack.{known_now, read_now, stored_now, accepted_taken, bits_there, listed_is_bad}
 use Rattle.md_array.proofs.Worlds.States.{same_active}
-use Rattle.md_array.proofs.Steps.MemberTakenBack.{after, count_kept, fits_taken, is_after, number_there, room, size_kept, small, taken_back_is_consistent, width_kept}
+use Rattle.md_array.proofs.Steps.MemberTakenBack.{after, count_kept, fits_taken, is_after, number_there, room, short_device, size_kept, small, taken_back_is_consistent, width_kept}
 use Rattle.md_array.proofs.Steps.WrittenLast.{honest_last, written_last}
 use Rattle.md_array.proofs.Worlds.Joined.{degraded_joined, newcomer, read_joined, recovers_alone, role_joined, world_joined}
 use Rattle.md_array.proofs.Worlds.PartsApart.{HasParts}
@@ -126,7 +126,7 @@ module _ (k : ℕ) (device : Disk) (old new : MirrorView) (c : IsConsistent old)
       (written.tried.outside device now (got_last old.disks device) (got_last old.disks now))
 
   fit : FitsMember a m device
-  fit = fits_taken a offset info m taken r.recorded.takes.may device.content device.honest r.read device refl
+  fit = fits_taken a offset info m taken r.recorded.takes.may device.content device.honest r.read device refl (short_device k device old new c r)
 
   on_device : block_on now.content ≡ (super_write b m).bytes
   on_device =
@@ -270,12 +270,12 @@ module _ (k : ℕ) (device : Disk) (old new : MirrorView) (c : IsConsistent old)
     step : Step g w (Event.ReAdd own (stored_of b m device.content) (stored_of b m now.content)) (world_of new requests)
     step = (r.running, (full, may, device_taken, full_after, world_back))
 
-  re_add_read : (failed_at : ℕ) → AreReadAsKept old failed_at → AreReadAsKept new failed_at
+  re_add_read : (failed_at : ℕ) (spoiled : ℕ → Bool) → AreReadAsKept old failed_at spoiled → AreReadAsKept new failed_at (put (length a.members) false spoiled)
   unfolding after
-  re_add_read failed_at are =
-      subst (λ (v : MirrorView). AreReadAsKept v failed_at) (sym (is_after k device old new c r))
-      (read_joined a m role small_number old.disks now failed_at c.fits.as_many
-      (read_now device.content offset info m taken its_read b readable now.content parts outside on_device failed_at width)
+  re_add_read failed_at spoiled are =
+      subst (λ (v : MirrorView). AreReadAsKept v failed_at (put (length a.members) false spoiled)) (sym (is_after k device old new c r))
+      (read_joined a m role small_number old.disks now failed_at spoiled c.fits.as_many
+      (λ s. read_now device.content offset info m taken its_read b readable now.content parts outside on_device failed_at s width)
       are)
 
   honest_now : AreHonest old.disks → AreHonest new.disks

@@ -1,5 +1,5 @@
 -- The device of a member, before and after the opening.
-use Rattle.std.proofs.Common.{◌≡◌, ℕ, ◌+◌, ◌*◌, ◌/◌, ◌<◌, ◌≤◌, ◌⊎◌, inl, inr, true, false, List, length, drop, Some, ℤ, pos, ◌+ℤ◌, ◌≤ℤ◌, refl, sym, ap, ◌∙◌, subst, arith, lt-ltb, ◌↔◌}
+use Rattle.std.proofs.Common.{◌≡◌, ℕ, ◌+◌, ◌*◌, ◌/◌, ◌<◌, ◌≤◌, ◌⊎◌, inl, inr, true, false, List, length, drop, Some, ℤ, pos, ◌+ℤ◌, ◌≤ℤ◌, refl, sym, ap, ◌∙◌, subst, arith, lt-ltb, ◌↔◌, Bool}
 use Rattle.md_kept_members.specs.Kept.{known_offset}
 use Rattle.md_kept_members.specs.OwnFields.{kept_superblock}
 use Rattle.std.proofs.lemmas.Bool.{cases_lt}
@@ -194,9 +194,9 @@ module _ (a : ArrayView) (m : MemberView) (info : MemberInfo) (old new : Disk) (
       (λ need. ap (λ (n : ℕ). n / 512) (chunk_size_new need.in_sync) ∙ sym there.width)
       (λ none. ap (λ (content : List ℕ). chunk_size_on own content / 512) (o.unchanged none) ∙ (read.width_old a m info old.content there))
 
-  pub read_new : IsReadAsKept a m 0 new.content
-  read_new = record {
-    super = own_stays a.shared own old.content new.content same_block log_kept (read.own_old a m info old.content there);
+  pub read_new : (is_spoiled : Bool) → IsReadAsKept a m 0 is_spoiled new.content
+  read_new is_spoiled = record {
+    super = λ _. own_stays a.shared own old.content new.content same_block log_kept (read.own_old a m info old.content there);
     header = inl width_new;
   }
 

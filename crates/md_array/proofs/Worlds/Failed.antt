@@ -12,7 +12,7 @@ use Rattle.md_model.specs.Failures as failures
 use Rattle.md_model.specs.Failures.{MayFail}
 use Rattle.md_model.specs.Events as events
 use Rattle.md_model.specs.Events.{Event, Step}
-use Rattle.md_model.specs.Runs.{failed_after}
+use Rattle.md_model.specs.Runs.{failed_after, spoiled_after}
 use Rattle.md_model.proofs.Steps.Between.{between_step, in_flight_step}
 use Rattle.md_writes.specs.Writes.{Write}
 use Rattle.md_kept_members.specs.View.{MemberView}
@@ -111,9 +111,10 @@ module _ (k : ℕ) (w : Write) (old new : MirrorView) (is : IsConsistent old) (f
     -- by such an event the mirror goes to its next world
     pub does_failing : (e : Event) → AreHonest old.disks → WritesOnce e old.disks new.disks → AreInFlight a requests → Step (geometry_of a) before e (world_of new requests)
         → ((failed_at : ℕ) → failed_after e (world_of new requests) failed_at ≡ new.array.shared.events)
+        → ((spoiled : ℕ → Bool) → spoiled_after e before spoiled ≡ spoiled)
         → AtDevice k old.disks new.disks (λ d n. HasOwnSuper a.shared m.superblock d.content → HasOwnSuper a.shared m.superblock n.content)
         → Does old requests e new requests
-    does_failing e honest writes in_flight step after keeps = record {
+    does_failing e honest writes in_flight step after same keeps = record {
       honest = tried_honest k w old.disks new.disks fails.disks.tried honest;
       writes = writes;
       in_flight = subst (λ (x : ArrayView). AreInFlight x requests) (sym array_failed) in_flight;
@@ -122,7 +123,10 @@ module _ (k : ℕ) (w : Write) (old new : MirrorView) (is : IsConsistent old) (f
       content = λ x y holds becomes. between_step (geometry_of a) before e (world_of new requests) x y step becomes holds;
       written = in_flight_step (geometry_of a) before e (world_of new requests) step;
       sound = failed_is_consistent k w old new is fails;
-      read = λ failed_at are. subst (AreReadAsKept new) (sym (after failed_at ∙ ap (λ (x : ArrayView). x.shared.events) array_failed))
-          (subst (λ (x : ArrayView). AreReadAsKept (record { disks = new.disks; array = x }) (a.shared.events + 1)) (sym array_failed)
-          (failed_read a k m w old.disks new.disks failed_at at fails.disks.tried keeps are));
+      read = λ failed_at spoiled are.
+          let then = spoiled_after e before spoiled in
+          subst (λ n. AreReadAsKept new n then) (sym (after failed_at ∙ ap (λ (x : ArrayView). x.shared.events) array_failed))
+          (subst (λ (s : ℕ → Bool). AreReadAsKept new (a.shared.events + 1) s) (sym (same spoiled))
+          (subst (λ (x : ArrayView). AreReadAsKept (record { disks = new.disks; array = x }) (a.shared.events + 1) spoiled) (sym array_failed)
+          (failed_read a k m w old.disks new.disks failed_at spoiled at fails.disks.tried keeps are)));
     }

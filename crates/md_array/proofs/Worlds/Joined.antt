@@ -179,14 +179,14 @@ module _ (a : ArrayView) (m : MemberView) (role : ℕ) (small : m.superblock.dev
           as_many = let many = f.as_many in let more = length_push disks d in let too = length_push up.members m in omega arith;
           each = λ j e x there is. elim (was j x is) [
             | inl old ↦ elim (listed_push disks d e j there) [
-              | inl here ↦ let fits = f.each j e x here old in record { long = fits.long; has = fits.has; placed = fits.placed; few_chunks = fits.few_chunks; sound = fits.sound }
+              | inl here ↦ let fits = f.each j e x here old in record { long = fits.long; short = fits.short; has = fits.has; placed = fits.placed; few_chunks = fits.few_chunks; sound = fits.sound }
               | inr end ↦ let low = slice_get_within up.members j x old in let many = f.as_many in let last = end.0 in absurd (omega arith)
             ]
             | inr new ↦ elim (listed_push disks d e j there) [
               | inl here ↦ let low = slice_get_within disks j e here in let many = f.as_many in let last = new.0 in absurd (omega arith)
               | inr end ↦
                   let fits : FitsMember a x e = subst (λ (n : MemberView). FitsMember a n e) new.1 (subst (FitsMember a m) end.1 fit) in
-                  record { long = fits.long; has = fits.has; placed = fits.placed; few_chunks = fits.few_chunks; sound = fits.sound }
+                  record { long = fits.long; short = fits.short; has = fits.has; placed = fits.placed; few_chunks = fits.few_chunks; sound = fits.sound }
             ]
           ];
         }
@@ -226,22 +226,25 @@ module _ (a : ArrayView) (m : MemberView) (role : ℕ) (small : m.superblock.dev
   same_fields : IsSameArray a b
   same_fields = record { set_uuid = refl; size = refl; raid_disks = refl; sectors = refl; events = omega arith }
 
-  pub read_joined : (disks : List Disk) (d : Disk) (failed_at : ℕ) → length disks ≡ length a.members → IsReadAsKept b m failed_at d.content
-      → AreReadAsKept (record { disks = disks; array = a }) failed_at → AreReadAsKept (record { disks = disks ++ d ∷ []; array = b }) failed_at
-  read_joined disks d failed_at many last are j e x there is =
+  pub read_joined : (disks : List Disk) (d : Disk) (failed_at : ℕ) (spoiled : ℕ → Bool) → length disks ≡ length a.members → ((s : Bool) → IsReadAsKept b m failed_at s d.content)
+      → AreReadAsKept (record { disks = disks; array = a }) failed_at spoiled
+      → AreReadAsKept (record { disks = disks ++ d ∷ []; array = b }) failed_at (put (length a.members) false spoiled)
+  read_joined disks d failed_at spoiled many last are j e x there is =
       let same = length-map a.members made_due in
+      let then = put (length a.members) false spoiled in
       elim (was j x is) [
         | inl old ↦ elim (listed_push disks d e j there) [
           | inl here ↦
               let y = at_map made_due a.members j x old in
-              kept_in a b y.0 x failed_at e.content same_fields
+              let low = slice_get_within a.members j y.0 y.1 in
+              kept_in a b y.0 x failed_at (then j) e.content same_fields
               (record { superblock = ap (λ (z : MemberView). z.superblock) y.2; recorded = ap (λ (z : MemberView). is_recorded z.state) y.2 })
-              (are j e y.0 here y.1)
+              (subst (λ (s : Bool). IsReadAsKept a y.0 failed_at s e.content) (sym (put-miss (length a.members) false spoiled j (λ here. omega arith))) (are j e y.0 here y.1))
           | inr end ↦ let low = slice_get_within up.members j x old in let at = end.0 in absurd (omega arith)
         ]
         | inr new ↦ elim (listed_push disks d e j there) [
           | inl here ↦ let low = slice_get_within disks j e here in let at = new.0 in absurd (omega arith)
-          | inr end ↦ subst (λ (n : MemberView). IsReadAsKept b n failed_at e.content) new.1 (subst (λ (z : Disk). IsReadAsKept b m failed_at z.content) end.1 last)
+          | inr end ↦ subst (λ (n : MemberView). IsReadAsKept b n failed_at (then j) e.content) new.1 (subst (λ (z : Disk). IsReadAsKept b m failed_at (then j) z.content) end.1 (last (then j)))
         ]
       ]
 

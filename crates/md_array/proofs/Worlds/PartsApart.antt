@@ -1,5 +1,5 @@
 -- The parts of a member stand apart on its device: a write to one of them leaves the others as they were.
-use Rattle.std.proofs.Common.{◌≡◌, ◌≢◌, ℕ, ◌+◌, ◌*◌, ◌/◌, ◌<◌, ◌≤◌, ◌⊎◌, inl, inr, Bool, true, false, cond, ◌&&◌, nat_lt, List, [], drop, slice_get, Some, pos, refl, sym, ap, ◌∙◌, subst, arith, get_or-drop}
+use Rattle.std.proofs.Common.{◌≡◌, ◌≢◌, ℕ, ◌+◌, ◌*◌, ◌/◌, ◌<◌, ◌≤◌, ◌⊎◌, inl, inr, Bool, true, false, cond, ◌&&◌, nat_lt, List, [], drop, slice_get, Some, pos, refl, sym, ap, ◌∙◌, subst, arith, get_or-drop, ◌^◌}
 use Rattle.std.specs.Int.{div_ceil}
 use Rattle.std.proofs.lemmas.Bool.{cases_lt}
 use Rattle.std.proofs.lemmas.Grind.{div_ceil_times}
@@ -25,6 +25,8 @@ use Rattle.md_array.proofs.Worlds.Listed.{IsLogKept}
 use Rattle.md_array.proofs.Worlds.Outside.{LiesIn, apart_either_way, apart_from_part, bit_stays, block_stays, byte_stays, data_stays, header_stays, log_stays, sector_at_is}
 use Rattle.md_array.proofs.General.Tests.{and_same}
 use Rattle.md_array.proofs.Worlds.Writes.{is_set-same, within_area}
+use Rattle.std.proofs.lemmas.Option.{slice_get_within}
+use Rattle.md_assembly.proofs.Indices.{got_within}
 
 -- a member's parts on a device of this content, whose sizes are the array's
 pub record HasParts (a : ArrayView) (m : MemberView) (content : List ℕ) : Type 0 where
@@ -42,6 +44,19 @@ parts_of v c k d m at_disk at_member =
       size = c.chunks.member_size k m at_member ∙ sym c.chunks.size;
       count = c.chunks.member_count k m at_member;
     }
+
+-- no device is longer, so that no list misses a sector of the array
+pub ends_below : (v : MirrorView) → IsConsistent v → (k : ℕ) (m : MemberView) → IsMember v.array k m → m.superblock.data_offset + v.array.chunks.size ≤ 2 ^ 54
+ends_below v c k m at =
+    let low = slice_get_within v.array.members k m at in
+    let many = c.fits.as_many in
+    let d = got_within v.disks k (omega arith) in
+    let fit = c.fits.each k d.0 m d.1 at in
+    let has = parts_of v c k d.0 m d.1 at in
+    let short = fit.short in
+    let within = fit.placed.data_within in
+    let holds : v.array.chunks.size ≤ m.superblock.data_size = subst (λ (n : ℕ). n ≤ m.superblock.data_size) has.size fit.placed.data_holds in
+    omega arith
 
 pub same_if : {A : Type 0} (b : Bool) (x y z : A) → (b ≡ true → x ≡ y) → cond b x z ≡ cond b y z
 same_if true x y z h = h refl

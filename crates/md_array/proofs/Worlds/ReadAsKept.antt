@@ -1,5 +1,5 @@
 -- What an opening would read of the devices stays what is kept of the members, by a write or without one.
-use Rattle.std.proofs.Common.{◌≡◌, ℕ, ◌+◌, ◌*◌, ◌/◌, ◌<◌, ◌≤◌, inl, inr, Bool, true, false, cond, not, ◌&&◌, ◌==◌, List, map, slice_get, Some, pos, refl, sym, ap, ◌∙◌, subst, arith}
+use Rattle.std.proofs.Common.{◌≡◌, ◌≢◌, ℕ, ◌+◌, ◌*◌, ◌/◌, ◌<◌, ◌≤◌, inl, inr, Bool, true, false, cond, not, ◌&&◌, ◌==◌, List, map, slice_get, Some, pos, refl, sym, ap, ◌∙◌, subst, arith}
 use Rattle.std.specs.Ordering.{int_eq}
 use Rattle.std.proofs.lemmas.Option.{slice_get_within}
 use Rattle.md_device.specs.Splice.{part, SameOutside}
@@ -64,20 +64,20 @@ pub own_stays : (shared own : Superblock) (old new : List ℕ) → block_on new 
 own_stays shared own old new block = own_stays_as shared own old new (λ v. super_was old new v block)
 
 -- where neither its superblock nor its log changes
-pub stays : (a : ArrayView) (m : MemberView) (failed_at : ℕ) (old new : List ℕ) → block_on new ≡ block_on old → IsLogKept m.superblock old new
-    → (HasWidth a.chunks.sectors m.superblock old → HasWidth a.chunks.sectors m.superblock new) → IsReadAsKept a m failed_at old → IsReadAsKept a m failed_at new
-stays a m failed_at old new block log width was = record {
-  super = own_stays a.shared m.superblock old new block log was.super;
+pub stays : (a : ArrayView) (m : MemberView) (failed_at : ℕ) (is_spoiled : Bool) (old new : List ℕ) → block_on new ≡ block_on old → IsLogKept m.superblock old new
+    → (HasWidth a.chunks.sectors m.superblock old → HasWidth a.chunks.sectors m.superblock new) → IsReadAsKept a m failed_at is_spoiled old → IsReadAsKept a m failed_at is_spoiled new
+stays a m failed_at is_spoiled old new block log width was = record {
+  super = λ un. own_stays a.shared m.superblock old new block log (was.super un);
   header = elim was.header [
     | inl has ↦ inl (width has)
-    | inr gone ↦ inr (gone.0, λ v on. gone.1 v (super_was old new v block on))
+    | inr gone ↦ inr (gone.0, λ un v on. gone.1 un v (super_was old new v block on))
   ];
 }
 
 -- where sectors of its data are written
 pub read_beside_data : (a : ArrayView) (m : MemberView) (old new : List ℕ) → HasParts a m old → (s n : ℕ) → s + n ≤ a.chunks.size → SameOutside (512 * (m.superblock.data_offset + s)) (512 * n) old new
-    → (failed_at : ℕ) → IsReadAsKept a m failed_at old → IsReadAsKept a m failed_at new
-read_beside_data a m old new has s n inside same failed_at = stays a m failed_at old new
+    → (failed_at : ℕ) (is_spoiled : Bool) → IsReadAsKept a m failed_at is_spoiled old → IsReadAsKept a m failed_at is_spoiled new
+read_beside_data a m old new has s n inside same failed_at is_spoiled = stays a m failed_at is_spoiled old new
     (block_beside_data a m old new has s n inside same)
     (log_beside_data a m old new has s n inside same)
     (λ width. ap (λ (h : List ℕ). number_at 4 52 h / 512) (header_beside_data a m old new has s n inside same) ∙ width)
@@ -134,9 +134,10 @@ own_in a b m n content same like has =
       no_newer = let low = was.no_newer in omega arith;
     })
 
-pub kept_in : (a b : ArrayView) (m n : MemberView) (failed_at : ℕ) (content : List ℕ) → IsSameArray a b → IsSameMember m n → IsReadAsKept a m failed_at content → IsReadAsKept b n failed_at content
-kept_in a b m n failed_at content same like was = record {
-  super = own_in a b m n content same like.superblock was.super;
+pub kept_in : (a b : ArrayView) (m n : MemberView) (failed_at : ℕ) (is_spoiled : Bool) (content : List ℕ) → IsSameArray a b → IsSameMember m n
+    → IsReadAsKept a m failed_at is_spoiled content → IsReadAsKept b n failed_at is_spoiled content
+kept_in a b m n failed_at is_spoiled content same like was = record {
+  super = λ un. own_in a b m n content same like.superblock (was.super un);
   header = elim was.header [
     | inl has ↦ inl (subst (λ (own : Superblock). HasWidth b.chunks.sectors own content) (sym like.superblock) (has ∙ sym same.sectors))
     | inr gone ↦ inr (like.recorded ∙ gone.0, gone.1)
@@ -147,12 +148,13 @@ kept_in a b m n failed_at content same like was = record {
 old_enough : (a : ArrayView) (m : MemberView) (count : ℕ) (content : List ℕ) → a.shared.events < count → HasOwnSuper a.shared m.superblock content → IsFromBefore count content
 old_enough a m count content above has v on = let low = (has v on).no_newer in omega arith
 
-later : (a : ArrayView) (m : MemberView) (failed_at count : ℕ) (content : List ℕ) → a.shared.events < count → IsReadAsKept a m failed_at content → IsReadAsKept a m count content
-later a m failed_at count content above was = record {
+later : (a : ArrayView) (m : MemberView) (failed_at count : ℕ) (is_spoiled : Bool) (content : List ℕ) → a.shared.events < count
+    → IsReadAsKept a m failed_at is_spoiled content → IsReadAsKept a m count is_spoiled content
+later a m failed_at count is_spoiled content above was = record {
   super = was.super;
   header = elim was.header [
     | inl has ↦ inl has
-    | inr gone ↦ inr (gone.0, old_enough a m count content above was.super)
+    | inr gone ↦ inr (gone.0, λ un. old_enough a m count content above (was.super un))
   ];
 }
 
@@ -182,17 +184,22 @@ counted_like a full true = (
 )
 counted_like a full false = (same_array a a refl refl, λ j n is. (n, is, same_member n))
 
-pub unwritten_read : (old new : MirrorView) (failed_at : ℕ) → new.disks ≡ old.disks → IsSameArray old.array new.array
-    → MembersAreOf old.array new.array → AreReadAsKept old failed_at → AreReadAsKept new failed_at
-unwritten_read old new failed_at disks same members are k d n at_disk at_member =
+pub unwritten_read : (old new : MirrorView) (failed_at : ℕ) (spoiled : ℕ → Bool) → new.disks ≡ old.disks → IsSameArray old.array new.array
+    → MembersAreOf old.array new.array → AreReadAsKept old failed_at spoiled → AreReadAsKept new failed_at spoiled
+unwritten_read old new failed_at spoiled disks same members are k d n at_disk at_member =
     let m = members k n at_member in
-    kept_in old.array new.array m.0 n failed_at d.content same m.2 (are k d m.0 (sym (ap (λ (xs : List Disk). slice_get xs k) disks) ∙ at_disk) m.1)
+    kept_in old.array new.array m.0 n failed_at (spoiled k) d.content same m.2 (are k d m.0 (sym (ap (λ (xs : List Disk). slice_get xs k) disks) ∙ at_disk) m.1)
 
 -- ---- one device is written, and its member changes in memory
-pub changed_read : (k : ℕ) (m n : MemberView) (w : Write) (old new : MirrorView) (failed_at : ℕ) → ChangesMember k m n w old new
-    → AtDevice k old.disks new.disks (λ d e. IsReadAsKept old.array m failed_at d.content → IsReadAsKept old.array m failed_at e.content)
-    → AreReadAsKept old failed_at → AreReadAsKept new failed_at
-changed_read k m n w old new failed_at c keeps are j e x at_disk at_member =
+-- who was spoiled or is, is told alike of the others
+abbrev pub IsTheSameBut : ℕ → (ℕ → Bool) → (ℕ → Bool) → Type 0
+IsTheSameBut k before after = (j : ℕ) → j ≢ k → after j ≡ before j
+
+pub changed_read : (k : ℕ) (m n : MemberView) (w : Write) (old new : MirrorView) (failed_at : ℕ) (spoiled then : ℕ → Bool) → ChangesMember k m n w old new
+    → IsTheSameBut k spoiled then
+    → AtDevice k old.disks new.disks (λ d e. IsReadAsKept old.array m failed_at (spoiled k) d.content → IsReadAsKept old.array m failed_at (then k) e.content)
+    → AreReadAsKept old failed_at spoiled → AreReadAsKept new failed_at then
+changed_read k m n w old new failed_at spoiled then c others keeps are j e x at_disk at_member =
     let same_array : IsSameArray old.array new.array = subst (IsSameArray old.array) (sym c.array) (record { set_uuid = refl; size = refl; raid_disks = refl; sectors = refl; events = omega arith }) in
     of_set old.array.members k j n x (sym (ap (λ (a : ArrayView). slice_get a.members j) c.array) ∙ at_member)
     (λ here is.
@@ -200,17 +207,18 @@ changed_read k m n w old new failed_at c keeps are j e x at_disk at_member =
     let many = c.disks.as_many in
     let low = slice_get_within new.disks k e now in
     let d = got_within old.disks k (omega arith) in
-    subst (λ (y : MemberView). IsReadAsKept new.array y failed_at e.content) (sym is)
-    (kept_in old.array new.array m n failed_at e.content same_array (record { superblock = c.like.superblock; recorded = ap is_recorded c.like.state })
-    (keeps d.0 e d.1 now (are k d.0 m d.1 c.at))))
-    (λ apart is. kept_in old.array new.array x x failed_at e.content same_array (record { superblock = refl; recorded = refl })
-    (are j e x (sym (c.disks.others j apart) ∙ at_disk) is))
+    subst (λ (y : MemberView). IsReadAsKept new.array y failed_at (then j) e.content) (sym is)
+    (subst (λ (i : ℕ). IsReadAsKept new.array n failed_at (then i) e.content) (sym here)
+    (kept_in old.array new.array m n failed_at (then k) e.content same_array (record { superblock = c.like.superblock; recorded = ap is_recorded c.like.state })
+    (keeps d.0 e d.1 now (are k d.0 m d.1 c.at)))))
+    (λ apart is. kept_in old.array new.array x x failed_at (then j) e.content same_array (record { superblock = refl; recorded = refl })
+    (subst (λ (b : Bool). IsReadAsKept old.array x failed_at b e.content) (sym (others j apart)) (are j e x (sym (c.disks.others j apart) ∙ at_disk) is)))
 
 -- ---- a write to a member fails, and it is faulty from then on
-pub failed_read : (a : ArrayView) (k : ℕ) (m : MemberView) (w : Write) (before after : List Disk) (failed_at : ℕ) → IsMember a k m → IsTried k w before after
+pub failed_read : (a : ArrayView) (k : ℕ) (m : MemberView) (w : Write) (before after : List Disk) (failed_at : ℕ) (spoiled : ℕ → Bool) → IsMember a k m → IsTried k w before after
     → AtDevice k before after (λ d e. HasOwnSuper a.shared m.superblock d.content → HasOwnSuper a.shared m.superblock e.content)
-    → AreReadAsKept (record { disks = before; array = a }) failed_at → AreReadAsKept (record { disks = after; array = failed a k m }) (a.shared.events + 1)
-failed_read a k m w before after failed_at at tried keeps are j e x at_disk at_member =
+    → AreReadAsKept (record { disks = before; array = a }) failed_at spoiled → AreReadAsKept (record { disks = after; array = failed a k m }) (a.shared.events + 1) spoiled
+failed_read a k m w before after failed_at spoiled at tried keeps are j e x at_disk at_member =
     let b = failed a k m in
     let same_array : IsSameArray a b = record { set_uuid = refl; size = refl; raid_disks = refl; sectors = refl; events = omega arith } in
     of_set (map made_due a.members) k j (made_faulty m) x at_member
@@ -219,12 +227,13 @@ failed_read a k m w before after failed_at at tried keeps are j e x at_disk at_m
     let many = tried.as_many in
     let low = slice_get_within after k e now in
     let d = got_within before k (omega arith) in
-    let has = keeps d.0 e d.1 now (are k d.0 m d.1 at).super in
-    subst (λ (y : MemberView). IsReadAsKept b y (a.shared.events + 1) e.content) (sym is) (record {
-      super = own_in a b m (made_faulty m) e.content same_array refl has;
-      header = inr (refl, old_enough a m (a.shared.events + 1) e.content (omega arith) has);
+    let has : spoiled j ≡ false → HasOwnSuper a.shared m.superblock e.content =
+    λ un. keeps d.0 e d.1 now ((are k d.0 m d.1 at).super (sym (ap spoiled here) ∙ un)) in
+    subst (λ (y : MemberView). IsReadAsKept b y (a.shared.events + 1) (spoiled j) e.content) (sym is) (record {
+      super = λ un. own_in a b m (made_faulty m) e.content same_array refl (has un);
+      header = inr (refl, λ un. old_enough a m (a.shared.events + 1) e.content (omega arith) (has un));
     }))
     (λ apart is.
     let y = at_map made_due a.members j x is in
-    kept_in a b y.0 x (a.shared.events + 1) e.content same_array (record { superblock = ap (λ (z : MemberView). z.superblock) y.2; recorded = ap (λ (z : MemberView). is_recorded z.state) y.2 })
-    (later a y.0 failed_at (a.shared.events + 1) e.content (omega arith) (are j e y.0 (sym (tried.others j apart) ∙ at_disk) y.1)))
+    kept_in a b y.0 x (a.shared.events + 1) (spoiled j) e.content same_array (record { superblock = ap (λ (z : MemberView). z.superblock) y.2; recorded = ap (λ (z : MemberView). is_recorded z.state) y.2 })
+    (later a y.0 failed_at (a.shared.events + 1) (spoiled j) e.content (omega arith) (are j e y.0 (sym (tried.others j apart) ∙ at_disk) y.1)))

@@ -83,7 +83,7 @@ module _ (a : ArrayView) (k : ℕ) (m : MemberView) (at : IsMember a k m) (low :
           omega arith;
       each = λ j d x there is.
           let fit = f.each (skip k j) d x (was_at disks k j d there) (was j x is) in
-          record { long = fit.long; has = fit.has; placed = fit.placed; few_chunks = fit.few_chunks; sound = fit.sound };
+          record { long = fit.long; short = fit.short; has = fit.has; placed = fit.placed; few_chunks = fit.few_chunks; sound = fit.sound };
     }
 
     pub left_is_consistent : IsConsistent (record { disks = disks; array = a }) → IsConsistent (record { disks = remove disks k; array = b })
@@ -95,8 +95,9 @@ module _ (a : ArrayView) (k : ℕ) (m : MemberView) (at : IsMember a k m) (low :
       supers = λ running j d x there is. c.supers running (skip k j) d x (was_at disks k j d there) (was j x is);
     }
 
-    pub read_left : (failed_at : ℕ) → AreReadAsKept (record { disks = disks; array = a }) failed_at → AreReadAsKept (record { disks = remove disks k; array = b }) failed_at
-    read_left failed_at are j d x there is =
+    pub read_left : (failed_at : ℕ) (spoiled : ℕ → Bool) → AreReadAsKept (record { disks = disks; array = a }) failed_at spoiled
+        → AreReadAsKept (record { disks = remove disks k; array = b }) failed_at (λ j. spoiled (skip k j))
+    read_left failed_at spoiled are j d x there is =
         let read = are (skip k j) d x (was_at disks k j d there) (was j x is) in
         record { super = read.super; header = read.header }
 

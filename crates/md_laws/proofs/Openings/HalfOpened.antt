@@ -137,7 +137,10 @@ module _ (a : ArrayView) (m : MemberView) (old : Disk) (left : List ℕ) (room :
 -- ---- it is as it was left
 module _ (t : Moment) (at_t : IsSoundAt t) (before : List Disk) (is : ArrayView)
     (r : AreFoundAgain t before) (o : IsArrayOf before is)
-    (k j : ℕ) (f : IsFoundAgain t.mirror.array r.left before k j) (n : MemberView) (is_member : IsMember is j n) (left : List ℕ) where
+    (k j : ℕ) (there : r.at k ≡ Some j) (n : MemberView) (is_member : IsMember is j n) (left : List ℕ) where
+  abbrev f : IsFoundAgain t.mirror.array r.left before k j
+  f = r.again k j there
+
   abbrev was : ArrayView
   was = t.mirror.array
 
@@ -145,13 +148,13 @@ module _ (t : Moment) (at_t : IsSoundAt t) (before : List Disk) (is : ArrayView)
   m = f.member
 
   abbrev info : MemberInfo
-  info = (again t at_t before is r o k j f n is_member).info
+  info = (again t at_t before is r o k j there n is_member).info
 
   abbrev seen : IsReadMember is n info f.disk_now.content
-  seen = (again t at_t before is r o k j f n is_member).seen
+  seen = (again t at_t before is r o k j there n is_member).seen
 
   at : n.superblock.bitmap_offset ≡ m.superblock.bitmap_offset
-  at = bitmap_offset t at_t before is r o k j f n is_member
+  at = bitmap_offset t at_t before is r o k j there n is_member
 
   count : is.marks.chunks ≡ was.marks.chunks
   count = same_count t at_t before is r o
@@ -175,7 +178,7 @@ module _ (t : Moment) (at_t : IsSoundAt t) (before : List Disk) (is : ArrayView)
     -- before it counted as all marked
     refused : is_accepted (stored_of was m f.disk_now.content) ≡ false
     refused =
-        ap is_accepted (sym (same_stored t at_t before is r o k j f n is_member))
+        ap is_accepted (sym (same_stored t at_t before is r o k j there n is_member))
         ∙ by_test (is_accepted (stored_of is n f.disk_now.content)) (λ e. absurd (need.refused (read.accepted_before is n info f.disk_now.content seen e))) (λ e. e)
 
     opened_member : StoresMarks is n f.disk_now new → IsOpenedMember is n info f.disk_now new
@@ -206,7 +209,7 @@ module _ (t : Moment) (at_t : IsSoundAt t) (before : List Disk) (is : ArrayView)
 
       still_refused : is_accepted (stored_of was m new.content) ≡ false
       still_refused =
-          let alone = bitmap_alone was m f.disk_now.content new.content (again t at_t before is r o k j f n is_member).parts outside in
+          let alone = bitmap_alone was m f.disk_now.content new.content (again t at_t before is r o k j there n is_member).parts outside in
           (λ i. accepts (alone i).super (number_at 8 24 (header_kept i)) (header_fits was (header_kept i)))
           ∙ refused
 
@@ -251,8 +254,8 @@ module _ (t : Moment) (at_t : IsSoundAt t) (before : List Disk) (is : ArrayView)
 module _ (t : Moment) (at_t : IsSoundAt t) (before : List Disk) (is : ArrayView)
     (r : AreFoundAgain t before) (o : IsArrayOf before is) (left : List (List ℕ)) (half : IsHalfOpened is before left)
     (k j : ℕ) (at : r.at k ≡ Some j) (c : List ℕ) (there : slice_get left j ≡ Some c) where
-  abbrev f : IsFoundAgain t.mirror.array r.left before k j
-  f = r.again k j at
+  abbrev found : IsFoundAgain t.mirror.array r.left before k j
+  found = r.again k j at
 
   as_many : length half.after ≡ length before
   as_many = elim half.opens [
@@ -261,41 +264,41 @@ module _ (t : Moment) (at_t : IsSoundAt t) (before : List Disk) (is : ArrayView)
   ]
 
   end : (e : Disk) × (slice_get half.after j ≡ Some e)
-  end = let low = slice_get_within before j f.disk_now f.at_now in let many = as_many in got_within half.after j (omega arith)
+  end = let low = slice_get_within before j found.disk_now found.at_now in let many = as_many in got_within half.after j (omega arith)
 
   member : (n : MemberView) × IsMember is j n
   member =
-      let low = slice_get_within before j f.disk_now f.at_now in
+      let low = slice_get_within before j found.disk_now found.at_now in
       let read_many = o.read.as_many in
       let members_many = o.remembered.as_many in
       got_within is.members j (omega arith)
 
-  may : MayBeLeft f.disk_now end.0 c ⊎ (c ≡ end.0.content)
+  may : MayBeLeft found.disk_now end.0 c ⊎ (c ≡ end.0.content)
   may = elim half.when [
-    | inl within ↦ inl (within.each j f.disk_now end.0 c f.at_now end.1 there)
+    | inl within ↦ inl (within.each j found.disk_now end.0 c found.at_now end.1 there)
     | inr last ↦ inr (same_Some c end.0.content (sym there ∙ ap (λ (cs : List (List ℕ)). slice_get cs j) last ∙ got_in_map (λ (d : Disk). d.content) half.after j end.0 end.1))
   ]
 
-  by_marks : IsMarkedBy is member.0 f.disk_now end.0 → IsAsLeft t.mirror.array f.member f.disk_left.content c
-  by_marks = marked_as_left t at_t before is r o k j f member.0 member.1 c end.0 may
+  by_marks : IsMarkedBy is member.0 found.disk_now end.0 → IsAsLeft t.mirror.array found.member found.disk_left.content c
+  by_marks = marked_as_left t at_t before is r o k j at member.0 member.1 c end.0 may
 
-  by_failure : (x : FailsOnMember is before half.after left) → IsAsLeft t.mirror.array f.member f.disk_left.content c
+  by_failure : (x : FailsOnMember is before half.after left) → IsAsLeft t.mirror.array found.member found.disk_left.content c
   by_failure x = by_same j x.on
       (λ here.
       let same : member.0 ≡ x.stops.member = same_Some member.0 x.stops.member (sym member.1 ∙ ap (slice_get is.members) here ∙ x.stops.at) in
-      let was : slice_get before x.on ≡ Some f.disk_now = sym (ap (slice_get before) here) ∙ f.at_now in
-      failed_as_left t at_t before is r o k j f member.0 member.1 c end.0 may
+      let was : slice_get before x.on ≡ Some found.disk_now = sym (ap (slice_get before) here) ∙ found.at_now in
+      failed_as_left t at_t before is r o k j at member.0 member.1 c end.0 may
       (subst NeedsMarks (sym same) x.stops.needs)
-      (subst (λ (n : MemberView). FailsToStore is n f.disk_now end.0) (sym same) (x.stops.failed f.disk_now end.0 was (sym (ap (slice_get half.after) here) ∙ end.1)))
-      (subst (λ (n : MemberView). IsHeaderKept n f.disk_now.content c) (sym same) (x.header f.disk_now c was (sym (ap (slice_get left) here) ∙ there))))
+      (subst (λ (n : MemberView). FailsToStore is n found.disk_now end.0) (sym same) (x.stops.failed found.disk_now end.0 was (sym (ap (slice_get half.after) here) ∙ end.1)))
+      (subst (λ (n : MemberView). IsHeaderKept n found.disk_now.content c) (sym same) (x.header found.disk_now c was (sym (ap (slice_get left) here) ∙ there))))
       (λ apart. elim (cases_lt j x.on) [
-        | inl earlier ↦ by_marks (x.stops.earlier j f.disk_now end.0 f.at_now end.1 earlier member.0 member.1)
-        | inr behind ↦ alone_as_left t at_t before is r o k j f member.0 member.1 c end.0 may (x.stops.later j f.disk_now end.0 f.at_now end.1 (above x.on j behind (λ same. apart (sym same))))
+        | inl earlier ↦ by_marks (x.stops.earlier j found.disk_now end.0 found.at_now end.1 earlier member.0 member.1)
+        | inr behind ↦ alone_as_left t at_t before is r o k j at member.0 member.1 c end.0 may (x.stops.later j found.disk_now end.0 found.at_now end.1 (above x.on j behind (λ same. apart (sym same))))
       ])
 
-  pub as_left : IsAsLeft t.mirror.array f.member f.disk_left.content c
+  pub as_left : IsAsLeft t.mirror.array found.member found.disk_left.content c
   as_left = elim half.opens [
-    | inl marked ↦ by_marks (marked.each j f.disk_now end.0 f.at_now end.1 member.0 member.1)
+    | inl marked ↦ by_marks (marked.each j found.disk_now end.0 found.at_now end.1 member.0 member.1)
     | inr fails ↦ by_failure fails
   ]
 

@@ -1,5 +1,5 @@
 -- What the opening changed: all marks are stored where the bitmap was not accepted, and all else is as it was.
-use Rattle.std.proofs.Common.{◌≡◌, ℕ, ◌+◌, ◌<◌, ◌≤◌, ◌↔◌, inl, inr, true, cond, ◌&&◌, nat_lt, List, [], length, slice_get, Some, sym, ap, ◌∙◌, subst, arith, lt-ltb}
+use Rattle.std.proofs.Common.{◌≡◌, ℕ, ◌+◌, ◌<◌, ◌≤◌, ◌↔◌, inl, inr, true, false, cond, ◌&&◌, nat_lt, List, [], length, slice_get, Some, sym, ap, ◌∙◌, subst, arith, lt-ltb}
 use Rattle.std.proofs.lemmas.Option.{none-some, slice_get_past, slice_get_within}
 use Rattle.std.proofs.lemmas.Bool.{and_from}
 use Rattle.md_badblocks.specs.Runs.{IsBad}
@@ -124,7 +124,7 @@ module _ (before : List Disk) (m : MirrorView) (honest : AreHonest before) (o : 
       ((λ e. bad.0 (sym there ∙ e)), (λ h. there ∙ bad.1 h))
 
   -- an opening would read what is kept
-  pub opened_read : AreReadAsKept m 0
+  pub opened_read : AreReadAsKept m 0 (λ _. false)
   opened_read k d mv at_disk is =
       let t = seen k mv is in
-      subst (λ (x : Disk). IsReadAsKept a mv 0 x.content) (got_same m.disks k t.new d t.is at_disk) (read_new a mv t.info t.old t.new t.opened)
+      subst (λ (x : Disk). IsReadAsKept a mv 0 false x.content) (got_same m.disks k t.new d t.is at_disk) (read_new a mv t.info t.old t.new t.opened false)

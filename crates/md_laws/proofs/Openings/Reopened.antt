@@ -1,5 +1,5 @@
 -- What the fields of the next array read of the devices that a stop left is what those of the mirror before read.
-use Rattle.std.proofs.Common.{◌≡◌, ℕ, ◌+◌, ◌*◌, ◌/◌, ◌≤◌, inl, inr, true, cond, ◌&&◌, ◌==◌, nat_lt, List, [], drop, slice_get, Some, refl, sym, ap, ◌∙◌, subst, arith, bytes_eq}
+use Rattle.std.proofs.Common.{◌≡◌, ℕ, ◌+◌, ◌*◌, ◌/◌, ◌≤◌, inl, inr, true, false, cond, ◌&&◌, ◌==◌, nat_lt, List, [], drop, slice_get, Some, refl, sym, ap, ◌∙◌, subst, arith, bytes_eq}
 use Rattle.std.specs.Int.{div_ceil}
 use Rattle.std.proofs.lemmas.Option.{slice_get_within}
 use Rattle.md_device.specs.Splice.{part}
@@ -54,7 +54,7 @@ module _ (t : Moment) (at_t : IsSoundAt t) (before : List Disk) (is : ArrayView)
       bitmap_events = (stored_of was f.member f.disk_now.content).bitmap_events;
       bitmap_fits = (stored_of was f.member f.disk_now.content).bitmap_fits;
     }
-    pub read : IsReadAsKept was f.member t.failed_at f.disk_now.content
+    pub read : IsReadAsKept was f.member t.failed_at false f.disk_now.content
 
   member_at : (k j : ℕ) → IsFoundAgain was r.left before k j → (n : MemberView) × IsMember is j n
   member_at k j f =
@@ -63,7 +63,10 @@ module _ (t : Moment) (at_t : IsSoundAt t) (before : List Disk) (is : ArrayView)
       let members_many = o.remembered.as_many in
       got_within is.members j (omega arith)
 
-  module _ (k j : ℕ) (f : IsFoundAgain was r.left before k j) (n : MemberView) (is_member : IsMember is j n) where
+  module _ (k j : ℕ) (there : r.at k ≡ Some j) (n : MemberView) (is_member : IsMember is j n) where
+    abbrev f : IsFoundAgain was r.left before k j
+    f = r.again k j there
+
     abbrev content : List ℕ
     content = f.disk_now.content
 
@@ -81,15 +84,16 @@ module _ (t : Moment) (at_t : IsSoundAt t) (before : List Disk) (is : ArrayView)
           seen = subst (λ (x : Disk). IsReadMember is n s.info x.content) (got_same before j s.disk f.disk_now s.at f.at_now) s.member;
           parts = parts_on was f.member old content f.as_left.outside.size d.parts;
           alike = bitmap_alone was f.member old content d.parts f.as_left.outside;
-          read = stays was f.member t.failed_at old content (block_beside_bitmap was f.member old content d.parts f.as_left.outside) (log_beside_bitmap was f.member old content d.parts f.as_left.outside)
-              (λ width. ap (λ (bytes : ℕ). bytes / 512) f.as_left.chunk_size ∙ width) d.read;
+          read = stays was f.member t.failed_at false old content (block_beside_bitmap was f.member old content d.parts f.as_left.outside) (log_beside_bitmap was f.member old content d.parts f.as_left.outside)
+              (λ width. ap (λ (bytes : ℕ). bytes / 512) f.as_left.chunk_size ∙ width)
+              (subst (λ b. IsReadAsKept was f.member t.failed_at b old) (r.unspoiled k j there) d.read);
         }
 
     abbrev info : MemberInfo
     info = again.info
 
     is_own : IsOwnSuper was.shared own content info.superblock
-    is_own = again.read.super info.superblock (super_on content info.superblock again.seen.read.superblock)
+    is_own = again.read.super refl info.superblock (super_on content info.superblock again.seen.read.superblock)
 
     data_offset : n.superblock.data_offset ≡ own.data_offset
     data_offset = ap (λ (v : Superblock). v.data_offset) again.seen.kept.superblock ∙ is_own.data_offset
@@ -126,7 +130,7 @@ module _ (t : Moment) (at_t : IsSoundAt t) (before : List Disk) (is : ArrayView)
         ∙ (λ i. number_at 4 52 (header_on content (from_super (bitmap_offset i))) / 512)
         ∙ elim again.read.header [
           | inl has ↦ has
-          | inr gone ↦ let old = gone.1 info.superblock (super_on content info.superblock again.seen.read.superblock) in absurd (omega arith)
+          | inr gone ↦ let old = gone.1 refl info.superblock (super_on content info.superblock again.seen.read.superblock) in absurd (omega arith)
         ]
 
   -- ---- the array is as it was
@@ -136,37 +140,37 @@ module _ (t : Moment) (at_t : IsSoundAt t) (before : List Disk) (is : ArrayView)
   abbrev at_first : ℕ
   at_first = r.recorded.place
 
-  found_first : IsFoundAgain was r.left before at_member at_first
+  abbrev found_first : IsFoundAgain was r.left before at_member at_first
   found_first = r.again at_member at_first r.recorded.there
 
   first_member : (n : MemberView) × IsMember is at_first n
   first_member = member_at at_member at_first found_first
 
   abbrev first_info : MemberInfo
-  first_info = info at_member at_first found_first first_member.0 first_member.1
+  first_info = info at_member at_first r.recorded.there first_member.0 first_member.1
 
   recorded_there : t.failed_at ≤ first_info.superblock.events
-  recorded_there = r.recorded.recorded found_first.disk_now first_info.superblock found_first.at_now (own_there at_member at_first found_first first_member.0 first_member.1)
+  recorded_there = r.recorded.recorded found_first.disk_now first_info.superblock found_first.at_now (own_there at_member at_first r.recorded.there first_member.0 first_member.1)
 
   pub recorded_first : t.failed_at ≤ is.shared.events
   recorded_first =
       let low = recorded_there in
-      let fresh = (again at_member at_first found_first first_member.0 first_member.1).seen.fresh in
+      let fresh = (again at_member at_first r.recorded.there first_member.0 first_member.1).seen.fresh in
       omega arith
 
   same_width : is.chunks.sectors ≡ was.chunks.sectors
-  same_width = width at_member at_first found_first first_member.0 first_member.1 recorded_there
+  same_width = width at_member at_first r.recorded.there first_member.0 first_member.1 recorded_there
 
   same_size : is.chunks.size ≡ was.chunks.size
-  same_size = let n = first_member in chunks_size at_member at_first found_first n.0 n.1
+  same_size = let n = first_member in chunks_size at_member at_first r.recorded.there n.0 n.1
 
   pub same_geometry : geometry_of is ≡ geometry_of was
-  same_geometry = let n = first_member in λ i. record { raid_disks = raid_disks at_member at_first found_first n.0 n.1 i; width = same_width i; size = same_size i }
+  same_geometry = let n = first_member in λ i. record { raid_disks = raid_disks at_member at_first r.recorded.there n.0 n.1 i; width = same_width i; size = same_size i }
 
   pub same_count : is.marks.chunks ≡ was.marks.chunks
   same_count =
       let n = first_member in
-      let x = again at_member at_first found_first n.0 n.1 in
+      let x = again at_member at_first r.recorded.there n.0 n.1 in
       count_is is n.0 x.info found_first.disk_now.content x.seen
       ∙ sym (div_ceil-sectors is.chunks.size n.0.header.chunksize (sound_size is n.0 x.info found_first.disk_now.content x.seen))
       ∙ ap (div_ceil is.chunks.size) (sym x.seen.width)
@@ -174,14 +178,16 @@ module _ (t : Moment) (at_t : IsSoundAt t) (before : List Disk) (is : ArrayView)
       ∙ sym at_t.sound.chunks.count
 
   -- ---- and so is what is read of each device
-  pub same_stored : (k j : ℕ) (f : IsFoundAgain was r.left before k j) (n : MemberView) (is_member : IsMember is j n) → stored_of is n f.disk_now.content ≡ stored_of was f.member f.disk_now.content
-  same_stored k j f n is_member =
+  pub same_stored : (k j : ℕ) (there : r.at k ≡ Some j) (n : MemberView) → IsMember is j n
+      → stored_of is n (r.again k j there).disk_now.content ≡ stored_of was (r.again k j there).member (r.again k j there).disk_now.content
+  same_stored k j there n is_member =
+      let f = r.again k j there in
       let bytes = f.disk_now.content in
       let m = f.member.superblock in
-      let at = data_offset k j f n is_member in
-      let start = bitmap_offset k j f n is_member in
+      let at = data_offset k j there n is_member in
+      let start = bitmap_offset k j there n is_member in
       let lists : (s : ℕ) → is_listed n.superblock bytes (n.superblock.data_offset + s) ≡ is_listed m bytes (m.data_offset + s) =
-      λ s. listed k j f n is_member (n.superblock.data_offset + s) ∙ ap (λ (x : ℕ). is_listed m bytes (x + s)) at in
+      λ s. listed k j there n is_member (n.superblock.data_offset + s) ∙ ap (λ (x : ℕ). is_listed m bytes (x + s)) at in
       λ i. let header = header_on bytes (from_super (start i)) in
       record {
         super = super_in (block_on bytes);
@@ -189,7 +195,7 @@ module _ (t : Moment) (at_t : IsSoundAt t) (before : List Disk) (is : ArrayView)
         listed = λ s. nat_lt s (same_size i) && lists s i;
         bits = λ c. nat_lt c (same_count i) && is_set (drop (512 * from_super (start i) + 256) bytes) c;
         bitmap_events = number_at 8 24 header;
-        bitmap_fits = bytes_eq (bytes_at 16 8 header) (set_uuid k j f n is_member i) && (number_at 8 40 header == size k j f n is_member i) && (number_at 4 48 header == 0);
+        bitmap_fits = bytes_eq (bytes_at 16 8 header) (set_uuid k j there n is_member i) && (number_at 8 40 header == size k j there n is_member i) && (number_at 4 48 header == 0);
       }
 
   pub read_alike : (k j : ℕ) → r.at k ≡ Some j
@@ -198,8 +204,8 @@ module _ (t : Moment) (at_t : IsSoundAt t) (before : List Disk) (is : ArrayView)
       let f = r.again k j at in
       let n = member_at k j f in
       let left = stored_there r.left was k f.member f.disk_left f.is_member f.at_left in
-      let now = stored_there before is j n.0 f.disk_now n.1 f.at_now ∙ same_stored k j f n.0 n.1 in
-      let both = now ∙ (again k j f n.0 n.1).alike in
+      let now = stored_there before is j n.0 f.disk_now n.1 f.at_now ∙ same_stored k j at n.0 n.1 in
+      let both = now ∙ (again k j at n.0 n.1).alike in
       record {
         super = ap (λ (s : Stored). s.super) both ∙ sym (ap (λ (s : Stored). s.super) left);
         content = ap (λ (s : Stored). s.content) both ∙ sym (ap (λ (s : Stored). s.content) left);

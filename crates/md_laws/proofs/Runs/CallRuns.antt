@@ -17,16 +17,20 @@ use Rattle.md_array.specs.InTurn.{AllLeftWhole, InTurn, Requests}
 use Rattle.md_array.specs.Worlds.{AreHonest}
 use Rattle.md_laws.proofs.Stops.WithinTarget.{recovering_recorded}
 use Rattle.md_laws.specs.Runs.{MirrorRun, Moment, then_as}
-use Rattle.md_laws.specs.WholeCalls.{AddIsACall, AdmitIsACall, CallsAreRuns, CheckpointIsACall, EnrolIsACall, FailIsACall, FillIsACall, NoteBadIsACall, PrepareIsACall, ReAddIsACall, RemoveIsACall, RunsGoOn, StoreLogFailureIsACall, StoreLogIsACall, TargetFailureIsACall}
+use Rattle.md_laws.specs.WholeCalls.{AddIsACall, AdmitIsACall, CallsAreRuns, CheckpointIsACall, EnrolIsACall, FailIsACall, FailedAdmitIsACall, FailedCheckpointIsACall, FailedEnrolIsACall, FillIsACall, NoteBadIsACall, PrepareIsACall, ReAddIsACall, RemoveIsACall, RunsGoOn, SpoilIsACall, StoreLogFailureIsACall, StoreLogIsACall, TargetFailureIsACall}
 use Rattle.md_array.proofs.General.Indices.{at_set_same}
+use Rattle.md_array.proofs.Rebuilding.AdmitAnswered.{admit_spoils}
 use Rattle.md_array.proofs.Rebuilding.AdmittedEvent.{admit_happens}
 use Rattle.md_array.proofs.Rebuilding.BadNoted.{note_happens}
+use Rattle.md_array.proofs.Rebuilding.CheckpointAnswered.{checkpoint_spoils}
 use Rattle.md_array.proofs.Rebuilding.CheckpointEvent.{checkpoint_happens}
+use Rattle.md_array.proofs.Rebuilding.EnrolSpoils.{unenrol_leads}
 use Rattle.md_array.proofs.Rebuilding.EnrolledEvent.{enrol_leads}
 use Rattle.md_array.proofs.Rebuilding.FilledEvent.{fill_happens}
 use Rattle.md_array.proofs.Rebuilding.LogStored.{log_happens, store_log_fails_happens}
 use Rattle.md_array.proofs.Rebuilding.OffsetMoved.{moved_is_consistent, set_again}
 use Rattle.md_array.proofs.Rebuilding.PreparedEvent.{prepare_happens}
+use Rattle.md_array.proofs.Rebuilding.SpoiledEvent.{spoil_happens}
 use Rattle.md_array.proofs.Rebuilding.TargetEvent.{target_fails_happens}
 use Rattle.md_array.proofs.Steps.MemberFailed.{fail_happens}
 use Rattle.md_array.proofs.Steps.MemberRemoved.{remove_happens}
@@ -85,12 +89,22 @@ prepare_is_a_call k old new sound prepares previous requests listed =
     (new, requests, tt, (refl, prepares), λ honest whole. prepare_happens k old new sound prepares honest requests listed, (refl, refl))
 
 pub enrol_is_a_call : EnrolIsACall
-enrol_is_a_call k copied orphans old new before after may ends r previous requests listed = enrol_leads k copied orphans old new before after may ends r previous requests listed
+enrol_is_a_call k copied orphans old new before after may r previous requests listed = enrol_leads k copied orphans old new before after may r previous requests listed
+
+pub failed_enrol_is_a_call : FailedEnrolIsACall
+failed_enrol_is_a_call k copied orphans old new sound may f super previous requests listed = unenrol_leads k copied orphans old new sound f super may previous requests listed
+
+pub spoil_is_a_call : SpoilIsACall
+spoil_is_a_call k old new sound spoils previous requests listed =
+    (new, requests, tt, (refl, spoils), λ honest whole. spoil_happens k old new sound spoils honest requests listed, (refl, refl))
 
 -- ---- a member that is recovering
 pub admit_is_a_call : AdmitIsACall
 admit_is_a_call k old new sound r spare previous requests listed =
     (new, requests, tt, (refl, record { index = k; admits = r; event = refl }), λ honest whole. admit_happens k old new sound r spare honest requests listed, (refl, refl))
+
+pub failed_admit_is_a_call : FailedAdmitIsACall
+failed_admit_is_a_call k old new sound f spare = spoil_is_a_call k old new sound (admit_spoils k old new sound f spare)
 
 -- the offset changes in memory, and then the superblock is recorded
 module _ (k : ℕ) (copied : Bitmap) (old new : MirrorView) (sound : IsConsistent old) (r : Checkpoints k copied old new) where
@@ -131,6 +145,9 @@ module _ (k : ℕ) (copied : Bitmap) (old new : MirrorView) (sound : IsConsisten
 pub checkpoint_is_a_call : CheckpointIsACall
 checkpoint_is_a_call k copied old new sound r previous requests listed =
     (new, requests, tt, (refl, record { index = k; copied = copied; checkpoints = r; event = refl }), λ honest whole. checkpointed k copied old new sound r whole.0 whole.1 honest requests listed, (refl, refl))
+
+pub failed_checkpoint_is_a_call : FailedCheckpointIsACall
+failed_checkpoint_is_a_call k copied old new sound f recovers = spoil_is_a_call k old new sound (checkpoint_spoils k copied old new sound f recovers)
 
 -- ---- a list that grows
 pub note_bad_is_a_call : NoteBadIsACall

@@ -10,6 +10,7 @@ use Rattle.md_model.specs.Content.{Content}
 use Rattle.md_model.specs.Devices.{Stored, Super}
 use Rattle.md_model.specs.Sectors.{Geometry}
 use Rattle.md_model.specs.Worlds.{World}
+use Rattle.md_model.proofs.Lives.Lives.{sound_in_sync}
 use Rattle.md_super.specs.declared.superblock.Superblock.{Superblock}
 use Rattle.md_super.specs.Log.{has_bad_block_log}
 use Rattle.md_state.specs.View.{ArrayView, Disk, MirrorView, geometry_of}
@@ -17,13 +18,15 @@ use Rattle.md_array.specs.ReAdding.{ReAdds}
 use Rattle.md_array.specs.ReadAsKept.{HasOwnSuper, IsOwnSuper, IsSuperOn}
 use Rattle.md_array.specs.Worlds.{block_on, from_super, is_listed, is_logged, list_bit, stored_of, super_in, super_of, world_of}
 use Rattle.md_array.proofs.Steps.OneMember.{stored_there}
+use Rattle.md_array.proofs.Worlds.InSync.{in_sync_there}
 use Rattle.md_array.proofs.Worlds.Listed.{listed_kept_of}
 use Rattle.md_array.proofs.Worlds.PartsApart.{HasParts, bitmap_alone, block_beside_bitmap, log_beside_bitmap, parts_of}
 use Rattle.md_array.proofs.Worlds.ReadAsKept.{own_stays}
 use Rattle.md_array.proofs.Worlds.Supers.{super_shown}
 use Rattle.md_laws.specs.LeftBehind.{FailedJoins, IsStill, MissingJoins}
+use Rattle.md_laws.specs.Runs.{history_of}
 use Rattle.md_laws.proofs.Openings.Reopened.{super_on}
-use Rattle.md_laws.proofs.Runs.LeftBehind.{failed_behind, failed_later, missing_later}
+use Rattle.md_laws.proofs.Runs.LeftBehind.{failed_behind, failed_clear, failed_later, missing_later}
 use Rattle.md_laws.proofs.Runs.MirrorContents.{life_held_at}
 use Rattle.md_laws.proofs.Stops.LeftAtStops.{sorted}
 
@@ -103,7 +106,7 @@ failed_joins before m a start holds es rest final t b life k f o d is_member the
     let later = failed_later before m a start holds es rest final t b life k f more others newest last c degraded in
     let sound = then.held.sound in
     let shown = stored_there f.mirror.disks f.mirror.array k o d is_member there in
-    inr (joined_behind f.mirror.array o d.content (parts_of f.mirror sound.sound k d o there is_member) (sound.read k d o there is_member).super
+    inr (joined_behind f.mirror.array o d.content (parts_of f.mirror sound.sound k d o there is_member) ((sound.read k d o there is_member).super (failed_clear before m a start holds es rest final t b life k f))
     j device last.mirror new r honest still (same_sizes g last.mirror.array f.mirror.array later.held.geometry then.held.geometry) g (world_of last.mirror last.requests) c
     (subst (λ (x : Stored). IsBehind g c x (world_of last.mirror last.requests)) shown later.behind))
 
@@ -113,5 +116,6 @@ missing_joins before m a start holds es rest final t b life k next r c becomes m
     let held = life_held_at before m a start holds es rest final t b life in
     let later = missing_later before m a start holds es rest final t b life k next r c becomes more others newest last d degraded in
     let x = (sorted t held.sound r.again.devices.left r.again.devices.is_left).device k r.device r.member r.at r.in_sync.member in
-    inr (joined_behind t.mirror.array r.member r.device.content x.parts x.read.super
+    let clear = sound_in_sync g (super_of final.array.shared) (history_of t) held.held.kept k (in_sync_there t.mirror.disks t.mirror.array t.requests k r.member r.in_sync) in
+    inr (joined_behind t.mirror.array r.member r.device.content x.parts (x.read.super clear)
     j device last.mirror new back honest still (same_sizes g last.mirror.array t.mirror.array later.held.geometry held.geometry) g (world_of last.mirror last.requests) d later.behind)

@@ -1,5 +1,5 @@
 -- A member that failed differs from the content only in marked chunks, as long as some role is empty.
-use Rattle.std.proofs.Common.{◌≡◌, ℕ, ◌≤◌, inl, inr, true, true≢false, List, [], ◌∷◌, length, Option, slice_get, Some, refl, sym, ap, ◌∙◌, subst, arith}
+use Rattle.std.proofs.Common.{◌≡◌, ℕ, ◌≤◌, inl, inr, Bool, true, false, true≢false, List, [], ◌∷◌, length, Option, slice_get, Some, refl, sym, ap, ◌∙◌, subst, arith}
 use Rattle.md_model.specs.Sectors.{Geometry}
 use Rattle.md_model.specs.Behind.{IsBehind, IsDegraded, Leaves}
 use Rattle.md_model.specs.Content.{Content, Becomes, BecomesAtOpening, Holds}
@@ -9,8 +9,9 @@ use Rattle.md_model.specs.Events.{Event, Step}
 use Rattle.md_model.specs.Openings.{IsWithinLimits}
 use Rattle.md_model.specs.Lives.{Reopens}
 use Rattle.md_model.specs.Runs as runs
+use Rattle.md_model.specs.Runs.{spoiled_after}
 use Rattle.md_model.specs.Worlds.{Request, World}
-use Rattle.md_model.proofs.Lives.Lives.{start_again}
+use Rattle.md_model.proofs.Lives.Lives.{sound_in_sync, start_again}
 use Rattle.md_model.proofs.Content.BehindSteps.{behind_leaving, behind_step}
 use Rattle.md_model.specs.States as states
 use Rattle.md_model.proofs.Cases.{none_some}
@@ -62,7 +63,7 @@ module _ (g : Geometry) (small : IsWithinLimits g) (opened : Super) where
       let w = world_of m requests in
       record {
         held = record { kept = kept_step g small opened h e w is.held.kept s; holds = holds_step g a b h.now e w is.held.kept.tracked is.held.holds s becomes };
-        sound = record { sound = leads.sound; read = leads.read t.failed_at is.sound.read; honest = x.does.honest; in_flight = x.does.in_flight };
+        sound = record { sound = leads.sound; read = leads.read t.failed_at t.spoiled is.sound.read; honest = x.does.honest; in_flight = x.does.in_flight };
         geometry = leads.geometry ∙ is.geometry;
       }
 
@@ -183,13 +184,13 @@ behind_life g small d opened t a es (more ∷ rest) final last b chunks is life 
     behind_life g small d life.1 (opened_as life.1) life.3 more rest final last b (same g small opened chunks life.0 life.2 mid.held life.1 life.6 life.3 life.7)
     (behind_again g small opened chunks life.0 life.2 mid.held life.1 life.6 life.3 life.7 d life.5 mid.behind) life.8
 
--- a failure changes nothing of the content
-same_content : (g : Geometry) (w : World) (a : Content) (k : ℕ) (e : Event) → Leaves e k → Becomes g e w a a
-same_content g w a k (Event.Fail j) it = refl
-same_content g w a k (Event.RecordFails j) it = refl
-same_content g w a k (Event.StoreMarksFails j b) it = refl
-same_content g w a k (Event.WriteMemberFails n j) it = refl
-same_content g w a k (Event.CopyFails j c) it = refl
+-- a failure changes nothing of the content, nor whose superblock is spoiled
+same_content : (g : Geometry) (w : World) (a : Content) (k : ℕ) (e : Event) → Leaves e k → Becomes g e w a a × ((spoiled : ℕ → Bool) → spoiled_after e w spoiled ≡ spoiled)
+same_content g w a k (Event.Fail j) it = (refl, λ _. refl)
+same_content g w a k (Event.RecordFails j) it = (refl, λ _. refl)
+same_content g w a k (Event.StoreMarksFails j b) it = (refl, λ _. refl)
+same_content g w a k (Event.WriteMemberFails n j) it = (refl, λ _. refl)
+same_content g w a k (Event.CopyFails j c) it = (refl, λ _. refl)
 same_content g w a k (Event.Begin n p) it = absurd it
 same_content g w a k (Event.Record j) it = absurd it
 same_content g w a k (Event.StoreMarks j b) it = absurd it
@@ -206,6 +207,7 @@ same_content g w a k (Event.ReAdd own device left) it = absurd it
 same_content g w a k (Event.Fill j) it = absurd it
 same_content g w a k (Event.Prepare j) it = absurd it
 same_content g w a k (Event.RecordTargetFails j) it = absurd it
+same_content g w a k (Event.SpoilTarget j) it = absurd it
 same_content g w a k (Event.Enrol j role listed) it = absurd it
 same_content g w a k (Event.Admit j role listed) it = absurd it
 same_content g w a k (Event.Checkpoint j offset listed) it = absurd it
@@ -225,9 +227,21 @@ failed_behind before m a start holds es rest final t b life k f =
     let s = leads_to g small opened t b is f.event f.mirror f.requests f.does in
     let on = in_sync_there t.mirror.disks t.mirror.array t.requests k f.member f.in_sync in
     record {
-      held = held_then g small opened t b is f.event f.mirror f.requests f.does b (same_content g w b k f.event f.it);
+      held = held_then g small opened t b is f.event f.mirror f.requests f.does b (same_content g w b k f.event f.it).0;
       behind = behind_leaving g b w is.held.kept.tracked is.held.holds k on f.event f.it (world_of f.mirror f.requests) s.1;
     }
+
+-- it was in sync, so its superblock is not spoiled
+pub failed_clear : (before : List Disk) (m : MirrorView) (a : Content) → IsStart before m → Holds (geometry_of m.array) a (world_of m none_in_flight)
+    → (es : List Event) (rest : List (List Event)) (final : MirrorView) (t : Moment) (b : Content) → MirrorLifeWith m a es rest final t b
+    → (k : ℕ) (f : Fails t k) → (failed_then t k f).spoiled k ≡ false
+failed_clear before m a start holds es rest final t b life k f =
+    let g = geometry_of m.array in
+    let w = world_of t.mirror t.requests in
+    let is = life_held_at before m a start holds es rest final t b life in
+    let stays : spoiled_after f.event w t.spoiled ≡ t.spoiled = (same_content g w b k f.event f.it).1 t.spoiled in
+    ap (λ (s : ℕ → Bool). s k) stays
+    ∙ sound_in_sync g (super_of final.array.shared) (history_of t) is.held.kept k (in_sync_there t.mirror.disks t.mirror.array t.requests k f.member f.in_sync)
 
 pub failed_later : (before : List Disk) (m : MirrorView) (a : Content) → IsStart before m → Holds (geometry_of m.array) a (world_of m none_in_flight)
     → (es : List Event) (rest : List (List Event)) (final : MirrorView) (t : Moment) (b : Content) → MirrorLifeWith m a es rest final t b

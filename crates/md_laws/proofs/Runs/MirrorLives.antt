@@ -7,7 +7,7 @@ use Rattle.md_model.specs.Devices.{Stored, Super, is_marked}
 use Rattle.md_model.specs.Assembly.{IsFound, IsFreshest, state_by}
 use Rattle.md_model.specs.Events.{Event}
 use Rattle.md_model.specs.Lives as lives
-use Rattle.md_model.specs.Lives.{Always, IsCovered, Reopens}
+use Rattle.md_model.specs.Lives.{Always, IsCovered, IsSound, Reopens}
 use Rattle.md_model.specs.Openings as openings
 use Rattle.md_model.specs.Openings.{IsWithinLimits}
 use Rattle.md_model.specs.Runs as runs
@@ -20,7 +20,7 @@ use Rattle.md_assembly.specs.States.{state_of}
 use Rattle.md_model.specs.Worlds as worlds
 use Rattle.md_model.proofs.Lives.OpeningCovers.{own_of}
 use Rattle.md_model.proofs.Lives.Fits as fits
-use Rattle.md_model.proofs.Lives.Lives.{always, always_covered, always_out, always_safe, always_stays_out, start_again}
+use Rattle.md_model.proofs.Lives.Lives.{always, always_covered, always_out, always_safe, always_sound, always_stays_out, start_again}
 use Rattle.md_model.proofs.Lives.Opened.{kept_opened}
 use Rattle.md_model.proofs.Lives.Safe.{keeps_out, safe_at_stop, stays_out}
 use Rattle.md_model.proofs.Steps.Keeps.{IsKept, kept_run}
@@ -77,11 +77,13 @@ module _ (t : Moment) (at_t : IsSoundAt t) (next : MirrorView)
         | inr none ↦ inr (half.super ∙ none)
       ]
 
-  are_left : stops.IsLeft g (history_of stop).now made_of
+  are_left : stops.IsLeft g (history_of stop) made_of
   are_left = (
     left.cut,
     left.is_cut,
     λ k. by_option (devices.at k) (λ gone. inr (ap (λ (x : Stored). x.super) (at_none k gone))) (left_at k),
+    λ k spoiled. by_option (devices.at k) (λ gone. ap (λ (x : Stored). x.super) (at_none k gone))
+        (λ j is. absurd (true≢false (sym spoiled ∙ left.spoiled k (devices.unspoiled k j is)))),
   )
 
   pub opens : openings.IsOpenedFrom g read (super_of next.array.shared) (world_of next none_in_flight)
@@ -451,7 +453,7 @@ fits_when_there before m start one es t r found next devices all opens late =
     (fits.fits_when_there g (super_of m.array.shared) (world_of m none_in_flight) (starts before m start) one (es ++ s.events) (history_of s.moment)
     (model_run g (es ++ s.events) (opened_as m) s.moment refl (run_then es s.events (opened_as m) t s.moment r s.run))
     there (super_of next.array.shared)
-    (subst (λ x. stops.IsLeft x (history_of s.moment).now there) same (are_left t at_t next found devices opens))
+    (subst (λ x. stops.IsLeft x (history_of s.moment) there) same (are_left t at_t next found devices opens))
     (freshest t at_t next found devices opens all) late (subst (λ (n : ℕ). n ≤ next.array.shared.events) (sym s.counted) (recorded_first t at_t found next.array devices opens.array)))
 
 at_each : (P : Geometry → Super → runs.History → Type 0) → Always P → AtEachMoment P
@@ -463,6 +465,9 @@ at_each P always before m start es rest final last life =
 
 pub life_covered : AtEachMoment IsCovered
 life_covered = at_each IsCovered always_covered
+
+pub life_sound : AtEachMoment IsSound
+life_sound = at_each IsSound always_sound
 
 pub life_safe : AtEachMoment stops.IsSafeAtStop
 life_safe = at_each stops.IsSafeAtStop always_safe

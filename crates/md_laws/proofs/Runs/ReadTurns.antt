@@ -57,6 +57,7 @@ left_whole (Event.ReAdd own device left) old new is = tt
 left_whole (Event.Fill k) old new is = tt
 left_whole (Event.Prepare k) old new is = tt
 left_whole (Event.RecordTargetFails k) old new is = absurd is
+left_whole (Event.SpoilTarget k) old new is = tt
 left_whole (Event.Enrol k role listed) old new is = absurd is
 left_whole (Event.Admit k role listed) old new is = tt
 left_whole (Event.Checkpoint k offset listed) old new is = absurd is

@@ -1,10 +1,10 @@
 -- A mirror whose devices were only read is as good as before.
-use Rattle.std.proofs.Common.{◌≡◌, ℕ, List, slice_get, Option, Some, refl, sym, ap, ◌∙◌, subst, arith}
+use Rattle.std.proofs.Common.{◌≡◌, ℕ, Bool, List, slice_get, Option, Some, refl, sym, ap, ◌∙◌, subst, arith}
 use Rattle.std.proofs.lemmas.Option.{slice_get_within}
 use Rattle.md_device.specs.Stops.{LeavesMore}
 use Rattle.md_device.proofs.Leaving.{leaves_then}
 use Rattle.md_model.specs.Events.{Event, Step}
-use Rattle.md_model.specs.Runs.{failed_after}
+use Rattle.md_model.specs.Runs.{failed_after, spoiled_after}
 use Rattle.md_model.specs.Worlds.{Request, World}
 use Rattle.md_state.specs.View.{Disk, MirrorView, geometry_of}
 use Rattle.md_state.specs.DeviceChanges.{IsUntouched}
@@ -58,7 +58,7 @@ pub record Leads (old : MirrorView) (before : ℕ → Option Request) (e : Event
   pub geometry : geometry_of new.array ≡ geometry_of old.array
   pub step : Step (geometry_of old.array) (world_of old before) e (world_of new after)
   pub sound : IsConsistent new
-  pub read : (failed_at : ℕ) → AreReadAsKept old failed_at → AreReadAsKept new (failed_after e (world_of new after) failed_at)
+  pub read : (failed_at : ℕ) (spoiled : ℕ → Bool) → AreReadAsKept old failed_at spoiled → AreReadAsKept new (failed_after e (world_of new after) failed_at) (spoiled_after e (world_of old before) spoiled)
 
 -- an event after it
 pub rests_does : (old new : MirrorView) (before after : ℕ → Option Request) (e : Event) → RestsThenDoes old before e new after → Leads old before e new after
@@ -69,7 +69,9 @@ rests_does old new before after e x =
       step = subst (λ g. Step g (world_of old before) e (world_of new after)) (geometry_rests old mid x.rests)
           (subst (λ (w : World). Step (geometry_of mid.array) w e (world_of new after)) (world_rests old mid x.rests before) x.does.step);
       sound = x.does.sound;
-      read = λ failed_at are. x.does.read failed_at (rests_read old mid x.rests failed_at are);
+      read = λ failed_at spoiled are.
+          subst (λ (w : World). AreReadAsKept new (failed_after e (world_of new after) failed_at) (spoiled_after e w spoiled)) (world_rests old mid x.rests before)
+          (x.does.read failed_at spoiled (rests_read old mid x.rests failed_at spoiled are));
     }
 
 -- ---- a moment at which devices were only read since another
@@ -79,8 +81,8 @@ module _ (t last : Moment) (r : HasRested t last) where
       ap history_of r.is
       ∙ (λ i. record (history_of t) { now = world_rests t.mirror last.mirror r.rests t.requests i })
 
-  pub moment_keeps : IsConsistent t.mirror → AreReadAsKept t.mirror t.failed_at → IsConsistent last.mirror × AreReadAsKept last.mirror last.failed_at
+  pub moment_keeps : IsConsistent t.mirror → AreReadAsKept t.mirror t.failed_at t.spoiled → IsConsistent last.mirror × AreReadAsKept last.mirror last.failed_at last.spoiled
   moment_keeps sound are = (
     rests_sound t.mirror last.mirror r.rests sound,
-    subst (AreReadAsKept last.mirror) (sym (ap (λ (x : Moment). x.failed_at) r.is)) (rests_read t.mirror last.mirror r.rests t.failed_at are),
+    subst (λ (x : Moment). AreReadAsKept last.mirror x.failed_at x.spoiled) (sym r.is) (rests_read t.mirror last.mirror r.rests t.failed_at t.spoiled are),
   )

@@ -1,5 +1,5 @@
 -- An opening with devices that come back before any data was let through is a start.
-use Rattle.std.proofs.Common.{◌≡◌, ◌⊎◌, ℕ, inl, inr, cond, nat_lt, List, length, Some, None, refl, sym, ap, ◌∙◌, subst}
+use Rattle.std.proofs.Common.{◌≡◌, ◌⊎◌, ℕ, inl, inr, cond, nat_lt, List, length, Some, None, true≢false, refl, sym, ap, ◌∙◌, subst}
 use Rattle.std.proofs.lemmas.List.{length-map}
 use Rattle.md_model.specs.Sectors.{Geometry, chunk_of}
 use Rattle.md_model.specs.States.{is_in_sync}
@@ -62,11 +62,13 @@ module _ (before : List Disk) (m : MirrorView) (start : IsStart before m) (es : 
   left_at k j is = inl (subst (λ (x : Stored). stops.IsHalfOpened g x (left k)) (read_same t.mirror.array devices.left t.mirror.disks same k)
       (subst (stops.IsHalfOpened g (read_in t.mirror.array devices.left k)) (sym (at_some t at_t next found devices from_these k j is)) (read_alike t at_t found next.array devices from_these.array k j is)))
 
-  is_left : stops.IsLeft g (history_of t).now left
+  is_left : stops.IsLeft g (history_of t) left
   is_left = (
     (world_of t.mirror t.requests).stored,
     inl refl,
     λ k. by_option (devices.at k) (λ gone. inr (ap (λ (x : Stored). x.super) (at_none t at_t next found devices from_these k gone))) (left_at k),
+    λ k spoiled. by_option (devices.at k) (λ gone. ap (λ (x : Stored). x.super) (at_none t at_t next found devices from_these k gone))
+        (λ j is. absurd (true≢false (sym spoiled ∙ devices.unspoiled k j is))),
   )
 
   -- and those that come back, as the next opening has them all
@@ -102,7 +104,7 @@ module _ (before : List Disk) (m : MirrorView) (start : IsStart before m) (es : 
       subst (λ x. CoversAll x all) (sym kept) (subst (CoversAll (geometry_of m.array)) (sym all_beside)
       (covers_returns (geometry_of m.array) opened (world_of m none_in_flight) (starts before m start) back away es (history_of t) keeps
       (model_run (geometry_of m.array) es (opened_as m) t refl r) untried left first
-      (subst (λ x. stops.IsLeft x (history_of t).now left) kept is_left)
+      (subst (λ x. stops.IsLeft x (history_of t) left) kept is_left)
       (subst (λ (x : ℕ → Stored). IsFreshest x first) all_beside freshest) fit))
 
   -- a member in sync of the next mirror is found so among them

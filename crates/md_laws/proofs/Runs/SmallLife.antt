@@ -1,10 +1,11 @@
 -- A mirror of one member that is opened, has a run of two events and is opened again has a life.
-use Rattle.std.proofs.Common.{◌≡◌, ℕ, ◌<◌, inl, cond, nat_lt, ◌*◌, List, [], ◌∷◌, length, slice_get, Option, Some, None, refl, sym, ap, ◌∙◌, subst, arith, lt-ltb}
+use Rattle.std.proofs.Common.{◌≡◌, ℕ, ◌<◌, inl, Bool, true, false, cond, eqb, nat_lt, ◌*◌, List, [], ◌∷◌, length, slice_get, Option, Some, None, refl, sym, ap, ◌∙◌, subst, arith, lt-ltb}
 use Rattle.std.proofs.lemmas.Option.{none-some, same_Some, slice_get_within}
 use Rattle.md_writes.proofs.Frames.{outside_none}
 use Rattle.md_members.specs.Areas.{bitmap_sectors}
 use Rattle.md_model.specs.Devices.{AgreeAt, Stored}
 use Rattle.md_model.specs.Events.{Event}
+use Rattle.md_model.specs.Sectors.{put}
 use Rattle.md_model.proofs.Cases.{by_test, is_below}
 use Rattle.md_requests.specs.Pending.{PendingView}
 use Rattle.md_state.specs.View.{Disk, MirrorView}
@@ -53,6 +54,14 @@ lone_start before m honest opened one = record {
       subst (λ (n : ℕ). AgreeAt (stored j) (stored n) s) same (λ _ _. refl);
 }
 
+-- the superblock of member 0 was stored, and no member was spoiled before
+none_spoiled : (k : ℕ) → put 0 false (λ _. false) k ≡ false
+none_spoiled k = same_either (eqb k 0)
+  where
+    same_either : (b : Bool) → cond b false false ≡ false
+    same_either true = refl
+    same_either false = refl
+
 -- where device k is found again: where it was
 abbrev at : (disks : List Disk) → ℕ → Option ℕ
 at disks k = cond (nat_lt k (length disks)) (Some k) None
@@ -90,7 +99,7 @@ again v sound k j is =
 pub small_life : (before : List Disk) (m mid next : MirrorView) → IsOpenedFrom before m → length m.array.members ≡ 1 → RunsTwice m mid → IsOpenedFrom mid.disks next
     → m.array.shared.events < next.array.shared.events → AreHonest before → HasSmallLife before next
 small_life before m mid next opened one r opens late honest =
-    let t : Moment = record (opened_as m) { mirror = mid; requests = r.requests } in
+    let t : Moment = record (opened_as m) { mirror = mid; requests = r.requests; spoiled = put 0 false (opened_as m).spoiled } in
     let at_t = run_keeps (Event.Begin r.number r.request ∷ Event.Record 0 ∷ []) (opened_as m) t r.run (sound_when_opened before m honest opened) in
     let members_many = opens.array.remembered.as_many in
     let read_many = opens.array.read.as_many in
@@ -106,6 +115,7 @@ small_life before m mid next opened one r opens late honest =
         at = at mid.disks;
         found = at_back mid.disks;
         again = again mid at_t.sound;
+        unspoiled = λ k _ _. none_spoiled k;
         recorded = record { device = 0; place = 0; there = at_itself mid.disks 0 (omega arith); recorded = λ d v there on. omega arith };
       };
       others = λ j n member none. let low = slice_get_within next.array.members j n member in absurd (none-some j (sym none ∙ at_itself mid.disks j (omega arith)));

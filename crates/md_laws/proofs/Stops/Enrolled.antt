@@ -1,5 +1,5 @@
 -- A member that came into sync, and what a stop within that call leaves of it, once its superblock is written.
-use Rattle.std.proofs.Common.{◌≡◌, ℕ, ◌*◌, ◌≤◌, inl, inr, List, slice_get, Some, sym, ap, ◌∙◌, subst, arith}
+use Rattle.std.proofs.Common.{◌≡◌, ℕ, ◌*◌, ◌≤◌, inl, inr, Bool, false, List, slice_get, Some, sym, ap, ◌∙◌, subst, arith}
 use Rattle.std.proofs.lemmas.Option.{slice_get_within}
 use Rattle.md_assembly.proofs.Indices.{got_within}
 use Rattle.md_assembly.specs.States.{is_recorded}
@@ -27,7 +27,7 @@ outside_both : (at n : ℕ) (xs ys zs : List ℕ) → SameOutside at n xs ys →
 outside_both at n xs ys zs a b = record { size = b.size ∙ sym a.size; before = b.before ∙ sym a.before; after = b.after ∙ sym a.after }
 
 module _ (k : ℕ) (copied orphans : Bitmap) (old new : MirrorView) (c : IsConsistent old) (sound : IsConsistent new) (r : Enrols k copied orphans old new) (honest : AreHonest old.disks)
-    (failed_at : ℕ) (read : AreReadAsKept old failed_at) where
+    (failed_at : ℕ) (spoiled : ℕ → Bool) (read : AreReadAsKept old failed_at spoiled) (clear : spoiled k ≡ false) where
   abbrev n : MemberView
   n = r.member
 
@@ -43,7 +43,7 @@ module _ (k : ℕ) (copied orphans : Bitmap) (old new : MirrorView) (c : IsConsi
   not_before : (d e : Disk) → slice_get old.disks k ≡ Some d → slice_get new.disks k ≡ Some e → block_on d.content ≡ block_on e.content → ⊥
   not_before d e was is same =
       let block = same ∙ block_is k copied orphans old new c sound r (out k copied orphans old new c sound r) (small k copied orphans old new c sound r) d was e is (honest k d was) in
-      let own = (read k d r.comes.member was r.comes.at).super (record (merged new.array.shared n.superblock) { sb_csum = r.readable.sum })
+      let own = (read k d r.comes.member was r.comes.at).super clear (record (merged new.array.shared n.superblock) { sb_csum = r.readable.sum })
       (record { fields = subst (λ (b : List ℕ). IsSuper b (record (merged new.array.shared n.superblock) { sb_csum = r.readable.sum })) (sym block) r.readable.fields; sound = subst NoFault (sym block) r.readable.sound }) in
       let low : new.array.shared.events ≤ old.array.shared.events = own.no_newer in
       let risen = ap (λ (x : ArrayView). x.shared.events) r.array in

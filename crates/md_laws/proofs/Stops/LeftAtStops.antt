@@ -1,5 +1,5 @@
 -- What a stop leaves within a call is what one leaves between two calls, or in the midst of a write of data.
-use Rattle.std.proofs.Common.{◌≡◌, ◌≢◌, ℕ, ◌+◌, ◌*◌, ◌/◌, ◌<◌, ◌≤◌, ◌⊎◌, inl, inr, true, false, true≢false, List, [], ◌∷◌, length, set, slice_get, Option, Some, None, refl, sym, ap, ◌∙◌, subst, arith, length-set}
+use Rattle.std.proofs.Common.{◌≡◌, ◌≢◌, ℕ, ◌+◌, ◌*◌, ◌/◌, ◌<◌, ◌≤◌, ◌⊎◌, inl, inr, Bool, true, false, true≢false, List, [], ◌∷◌, length, set, slice_get, Option, Some, None, refl, sym, ap, ◌∙◌, subst, arith, length-set}
 use Rattle.std.proofs.lemmas.List.{length_push}
 use Rattle.std.proofs.lemmas.Option.{same_Some, slice_get_within}
 use Rattle.md_device.specs.Device.{written}
@@ -18,7 +18,7 @@ use Rattle.md_model.specs.Steps as model_steps
 use Rattle.md_model.specs.Stops as stops
 use Rattle.md_model.specs.Worlds.{World}
 use Rattle.md_model.proofs.Cases.{none_some}
-use Rattle.md_model.proofs.Puts.{by_same}
+use Rattle.md_model.proofs.Puts.{by_same, put-at}
 use Rattle.md_requests.specs.Pending.{request_sectors}
 use Rattle.md_assembly.specs.States.{is_recorded}
 use Rattle.md_kept_members.specs.TakingBack.{admitted_member, with_offset}
@@ -77,9 +77,9 @@ parts_on a m old new long has =
     }
 
 -- an opening would read of it what is kept
-pub record IsLeftDevice (a : ArrayView) (m : MemberView) (failed_at : ℕ) (content : List ℕ) : Type 0 where
+pub record IsLeftDevice (a : ArrayView) (m : MemberView) (failed_at : ℕ) (spoiled : Bool) (content : List ℕ) : Type 0 where
   pub parts : HasParts a m content
-  pub read : IsReadAsKept a m failed_at content
+  pub read : IsReadAsKept a m failed_at spoiled content
 
 -- ---- what is left, sorted: after no event, or after one within whose call the stop came
 pub record IsSorted (t : Moment) (left : List Disk) : Type 0 where
@@ -91,12 +91,13 @@ pub record IsSorted (t : Moment) (left : List Disk) : Type 0 where
   pub counted : moment.failed_at ≡ t.failed_at
   pub away : (d : ℕ) → moment.away d ≡ t.away d
   pub tried : moment.tried ≡ t.tried
+  pub spoiled : (k : ℕ) → t.spoiled k ≡ false → moment.spoiled k ≡ false
   pub state : (k : ℕ) → (history_of moment).now.state k ≡ (world_of t.mirror t.requests).state k
   pub count : (history_of moment).now.events ≡ (world_of t.mirror t.requests).events
   pub cut : ℕ → Stored
   pub is_cut : stops.IsCut (geometry_of t.mirror.array) (history_of moment).now cut
   pub read : (k : ℕ) → (read_in t.mirror.array left k ≡ cut k) ⊎ ((read_in t.mirror.array left k).super ≡ None)
-  pub device : (k : ℕ) (e : Disk) (m : MemberView) → slice_get left k ≡ Some e → IsMember t.mirror.array k m → IsLeftDevice t.mirror.array m t.failed_at e.content
+  pub device : (k : ℕ) (e : Disk) (m : MemberView) → slice_get left k ≡ Some e → IsMember t.mirror.array k m → IsLeftDevice t.mirror.array m t.failed_at (t.spoiled k) e.content
 
 sorted_like : (t : Moment) (found left : List Disk) → contents_of found ≡ contents_of left → IsSorted t found → IsSorted t left
 sorted_like t found left same s = record {
@@ -108,6 +109,7 @@ sorted_like t found left same s = record {
   counted = s.counted;
   away = s.away;
   tried = s.tried;
+  spoiled = s.spoiled;
   state = s.state;
   count = s.count;
   cut = s.cut;
@@ -116,7 +118,7 @@ sorted_like t found left same s = record {
     | inl is ↦ inl (here ∙ is)
     | inr none ↦ inr (ap (λ (x : Stored). x.super) here ∙ none)
   ];
-  device = λ k e m at is. let d = got_like found left same k e at in subst (IsLeftDevice t.mirror.array m t.failed_at) d.2 (s.device k d.0 m d.1 is);
+  device = λ k e m at is. let d = got_like found left same k e at in subst (IsLeftDevice t.mirror.array m t.failed_at (t.spoiled k)) d.2 (s.device k d.0 m d.1 is);
 }
 
 -- the stop came within a write of data, which is let through at that moment
@@ -143,7 +145,7 @@ module _ (t : Moment) (at : IsSoundAt t) where
   abbrev a : ArrayView
   a = t.mirror.array
 
-  as_it_was : (k : ℕ) (d : Disk) (m : MemberView) → slice_get v.disks k ≡ Some d → IsMember a k m → IsLeftDevice a m t.failed_at d.content
+  as_it_was : (k : ℕ) (d : Disk) (m : MemberView) → slice_get v.disks k ≡ Some d → IsMember a k m → IsLeftDevice a m t.failed_at (t.spoiled k) d.content
   as_it_was k d m there is = record { parts = parts_of v at.sound k d m there is; read = at.read k d m there is }
 
   between : IsSorted t v.disks
@@ -156,6 +158,7 @@ module _ (t : Moment) (at : IsSoundAt t) where
     counted = refl;
     away = λ _. refl;
     tried = refl;
+    spoiled = λ _ clear. clear;
     state = λ _. refl;
     count = refl;
     cut = (world_of v t.requests).stored;
@@ -169,14 +172,14 @@ module _ (t : Moment) (at : IsSoundAt t) where
     there_before : (e : Disk) → slice_get disks k ≡ Some e → (d : Disk) × (slice_get v.disks k ≡ Some d)
     there_before e is = let low = slice_get_within disks k e is in let many = tried.as_many in got_within v.disks k (omega arith)
 
-    each_device : ((d e : Disk) → slice_get v.disks k ≡ Some d → slice_get disks k ≡ Some e → IsLeftDevice a m t.failed_at e.content)
-        → (j : ℕ) (e : Disk) (n : MemberView) → slice_get disks j ≡ Some e → IsMember a j n → IsLeftDevice a n t.failed_at e.content
+    each_device : ((d e : Disk) → slice_get v.disks k ≡ Some d → slice_get disks k ≡ Some e → IsLeftDevice a m t.failed_at (t.spoiled k) e.content)
+        → (j : ℕ) (e : Disk) (n : MemberView) → slice_get disks j ≡ Some e → IsMember a j n → IsLeftDevice a n t.failed_at (t.spoiled j) e.content
     each_device this j e n there is = by_same j k
         (λ here.
         let now : slice_get disks k ≡ Some e = sym (ap (slice_get disks) here) ∙ there in
         let d = there_before e now in
         let same : n ≡ m = same_Some n m (sym is ∙ ap (slice_get a.members) here ∙ is_member) in
-        subst (λ (x : MemberView). IsLeftDevice a x t.failed_at e.content) (sym same) (this d.0 e d.1 now))
+        subst (λ (i : ℕ). IsLeftDevice a n t.failed_at (t.spoiled i) e.content) (sym here) (subst (λ (x : MemberView). IsLeftDevice a x t.failed_at (t.spoiled k) e.content) (sym same) (this d.0 e d.1 now)))
         (λ apart. as_it_was j e n (sym (tried.others j apart) ∙ there) is)
 
     elsewhere : (j : ℕ) → j ≢ k → read_in a disks j ≡ read_in a v.disks j
@@ -196,7 +199,7 @@ module _ (t : Moment) (at : IsSoundAt t) where
     is_member : IsMember a k m
     is_member = torn.may.intent.in_sync.member
 
-    torn_device : (d e : Disk) → slice_get v.disks k ≡ Some d → slice_get torn.found k ≡ Some e → IsLeftDevice a m t.failed_at e.content
+    torn_device : (d e : Disk) → slice_get v.disks k ≡ Some d → slice_get torn.found k ≡ Some e → IsLeftDevice a m t.failed_at (t.spoiled k) e.content
     torn_device d e was is =
         let parts = parts_of v at.sound k d m was is_member in
         let same = torn.tried.outside d e was is in
@@ -204,7 +207,7 @@ module _ (t : Moment) (at : IsSoundAt t) where
           parts = parts_on a m d.content e.content same.size parts;
           read = read_beside_data a m d.content e.content parts l.request.sector (request_sectors l.request) (inside_of v l.request at.sound l.pending)
               (subst (λ (x : ℕ). SameOutside (512 * (m.superblock.data_offset + l.request.sector)) x d.content e.content) (whole_of a l.request l.pending) same)
-              t.failed_at (at.read k d m was is_member);
+              t.failed_at (t.spoiled k) (at.read k d m was is_member);
         }
 
     torn_cut : stops.IsTorn (geometry_of a) (world_of v (among l.request l.others)) (read_in a torn.found)
@@ -244,6 +247,7 @@ module _ (t : Moment) (at : IsSoundAt t) where
         counted = refl;
         away = λ _. refl;
         tried = refl;
+        spoiled = λ _ clear. clear;
         state = λ _. refl;
         count = refl;
         cut = read_in a torn.found;
@@ -277,13 +281,13 @@ module _ (t : Moment) (at : IsSoundAt t) where
     abbrev e_marks : Event
     e_marks = Event.StoreMarks k block
 
-    marked_device : (d e : Disk) → slice_get v.disks k ≡ Some d → slice_get next.disks k ≡ Some e → IsLeftDevice a r.member t.failed_at e.content
+    marked_device : (d e : Disk) → slice_get v.disks k ≡ Some d → slice_get next.disks k ≡ Some e → IsLeftDevice a r.member t.failed_at (t.spoiled k) e.content
     marked_device d e was is =
         let m = r.member in
         let is_member = r.may.in_sync.member in
         record {
           parts = parts_on a m d.content e.content (r.disks.tried.outside d e was is).size (parts_of v at.sound k d m was is_member);
-          read = read_marked k block v next at.sound inside r d e was is (at.honest k d was) t.requests t.failed_at (at.read k d m was is_member);
+          read = read_marked k block v next at.sound inside r d e was is (at.honest k d was) t.requests t.failed_at (t.spoiled k) (at.read k d m was is_member);
         }
 
     marked : IsSorted t next.disks
@@ -298,6 +302,7 @@ module _ (t : Moment) (at : IsSoundAt t) where
           counted = refl;
           away = λ _. refl;
           tried = refl;
+          spoiled = λ _ clear. clear;
           state = λ j. ap (λ (w : World). w.state j) does.step.1.1;
           count = ap (λ (w : World). w.events) does.step.1.1;
           cut = (world_of next t.requests).stored;
@@ -337,7 +342,7 @@ module _ (t : Moment) (at : IsSoundAt t) where
           stored_there disks a k m e is_member is ∙ super_alone a m d.content e.content parts beside
           ∙ (λ i. record (stored_of a m d.content) { super = same i; listed = lists_alike a m content e.content lists i })
 
-      super_device : HasOwnSuper a.shared m.superblock e.content → IsLeftDevice a m t.failed_at e.content
+      super_device : (t.spoiled k ≡ false → HasOwnSuper a.shared m.superblock e.content) → IsLeftDevice a m t.failed_at (t.spoiled k) e.content
       super_device has = record {
         parts = parts_on a m d.content e.content beside.size parts;
         read = record {
@@ -352,9 +357,10 @@ module _ (t : Moment) (at : IsSoundAt t) where
       abbrev block : List ℕ
       block = block_on e.content
 
-      each_super : HasOwnSuper a.shared m.superblock e.content → (j : ℕ) (x : Disk) (n : MemberView) → slice_get disks j ≡ Some x → IsMember a j n → IsLeftDevice a n t.failed_at x.content
+      each_super : (t.spoiled k ≡ false → HasOwnSuper a.shared m.superblock e.content) → (j : ℕ) (x : Disk) (n : MemberView) → slice_get disks j ≡ Some x → IsMember a j n
+          → IsLeftDevice a n t.failed_at (t.spoiled j) x.content
       each_super has = each_device k m at_super disks is_member tried
-          (λ b x _ there. subst (λ (y : Disk). IsLeftDevice a m t.failed_at y.content) (got_same disks k e x is there) (super_device has))
+          (λ b x _ there. subst (λ (y : Disk). IsLeftDevice a m t.failed_at (t.spoiled k) y.content) (got_same disks k e x is there) (super_device has))
 
       -- the old one is read there, or none
       unrecorded : ReadsAs block (block_on d.content) ⊎ (super_in block ≡ None) → IsSorted t disks
@@ -367,6 +373,7 @@ module _ (t : Moment) (at : IsSoundAt t) where
         counted = refl;
         away = λ _. refl;
         tried = refl;
+        spoiled = λ _ clear. clear;
         state = λ _. refl;
         count = refl;
         cut = (world_of v t.requests).stored;
@@ -377,9 +384,9 @@ module _ (t : Moment) (at : IsSoundAt t) where
               | inr none ↦ inr (ap (λ (x : Stored). x.super) (stored_there disks a k m e is_member is) ∙ none)
             ]))
             (λ apart. inl (elsewhere k m at_super disks is_member tried j apart));
-        device = each_super (elim reads [
+        device = each_super (λ clear. elim reads [
           | inl same ↦ own_stays_as a.shared m.superblock d.content e.content (λ v on. let was = same.read v on.fields on.sound in record { fields = was.0; sound = was.1 })
-              log_kept (at.read k d m was is_member).super
+              log_kept ((at.read k d m was is_member).super clear)
           | inr none ↦ λ v on. absurd (none_some (super_of v) (sym none ∙ super_shown block v on.fields on.sound))
         ]);
       }
@@ -464,12 +471,13 @@ module _ (t : Moment) (at : IsSoundAt t) where
               counted = refl;
               away = λ _. refl;
               tried = refl;
+              spoiled = λ j clear. put-at k false t.spoiled j (λ b. b ≡ false) (λ _. refl) (λ _. clear);
               state = λ j. ap (λ (w : World). w.state j) does.step.1.3;
               count = ap (λ (w : World). w.events) does.step.1.3;
               cut = (world_of next t.requests).stored;
               is_cut = inl refl;
               read = λ j. inl (read_next j);
-              device = each_super k m may.at may.active w.bytes may.readable.size disks tried d e was is (own_written_as a m e.content may.readable (λ v on. (reads.read v on.fields on.sound).0));
+              device = each_super k m may.at may.active w.bytes may.readable.size disks tried d e was is (λ _. own_written_as a m e.content may.readable (λ v on. (reads.read v on.fields on.sound).0));
             }
 
   -- such a write left the old one, the new one or none
@@ -568,8 +576,9 @@ module _ (t : Moment) (at : IsSoundAt t) where
       → ((x : Content) → Becomes (geometry_of a) e (world_of v t.requests) x x)
       → ((j : ℕ) → (world_of mid t.requests).state j ≡ (world_of v t.requests).state j) → (world_of mid t.requests).events ≡ (world_of v t.requests).events
       → (then_as t e mid t.requests).tried ≡ t.tried → (then_as t e mid t.requests).failed_at ≡ t.failed_at → ((n : ℕ) → (then_as t e mid t.requests).away n ≡ t.away n)
+      → ((n : ℕ) → (then_as t e mid t.requests).spoiled n ≡ t.spoiled n)
       → IsSorted t mid.disks
-  changed e mid does same becomes state count tried counted away = record {
+  changed e mid does same becomes state count tried counted away spoiled = record {
     events = e ∷ [];
     few = omega arith;
     moment = then_as t e mid t.requests;
@@ -578,6 +587,7 @@ module _ (t : Moment) (at : IsSoundAt t) where
     counted = counted;
     away = away;
     tried = tried;
+    spoiled = λ n clear. spoiled n ∙ clear;
     state = state;
     count = count;
     cut = (world_of mid t.requests).stored;
@@ -585,21 +595,24 @@ module _ (t : Moment) (at : IsSoundAt t) where
     read = λ j. inl (ap (λ (x : ArrayView). read_in x mid.disks j) (sym same));
     device = λ j x n there is.
         let is_there : IsMember mid.array j n = subst (λ (y : ArrayView). IsMember y j n) (sym same) is in
-        subst (λ (y : ArrayView). IsLeftDevice y n t.failed_at x.content) same
-        (record { parts = parts_of mid does.sound j x n there is_there; read = subst (λ at. IsReadAsKept mid.array n at x.content) counted (does.read t.failed_at at.read j x n there is_there) });
+        subst (λ (y : ArrayView). IsLeftDevice y n t.failed_at (t.spoiled j) x.content) same (record {
+          parts = parts_of mid does.sound j x n there is_there;
+          read = subst (λ b. IsReadAsKept mid.array n t.failed_at b x.content) (spoiled j)
+              (subst (λ at. IsReadAsKept mid.array n at ((then_as t e mid t.requests).spoiled j) x.content) counted (does.read t.failed_at t.spoiled at.read j x n there is_there));
+        });
   }
 
   -- within a filling: after one that leaves no more than this
   filled : (k : ℕ) (mid : MirrorView) → Fills k v mid → IsSorted t mid.disks
   filled k mid fills =
       let does = fill_happens k v mid at.sound fills at.honest t.requests at.in_flight in
-      changed (Event.Fill k) mid does fills.array (λ _. refl) (λ j. ap (λ (w : World). w.state j) does.step.1.3) (ap (λ (w : World). w.events) does.step.1.3) refl refl (λ _. refl)
+      changed (Event.Fill k) mid does fills.array (λ _. refl) (λ j. ap (λ (w : World). w.state j) does.step.1.3) (ap (λ (w : World). w.events) does.step.1.3) refl refl (λ _. refl) (λ _. refl)
 
   -- and so within a preparing
   prepared : (k : ℕ) (mid : MirrorView) → Prepares k v mid → IsSorted t mid.disks
   prepared k mid prepares =
       let does = prepare_happens k v mid at.sound prepares at.honest t.requests at.in_flight in
-      changed (Event.Prepare k) mid does prepares.array (λ _. refl) (λ j. ap (λ (w : World). w.state j) does.step.1.3) (ap (λ (w : World). w.events) does.step.1.3) refl refl (λ _. refl)
+      changed (Event.Prepare k) mid does prepares.array (λ _. refl) (λ j. ap (λ (w : World). w.state j) does.step.1.3) (ap (λ (w : World). w.events) does.step.1.3) refl refl (λ _. refl) (λ _. refl)
 
   preparing : (left : List Disk) → IsLeftPreparing t left → IsSorted t left
   preparing left l =
@@ -625,9 +638,9 @@ module _ (t : Moment) (at : IsSoundAt t) where
   enrolled : (left : List Disk) → IsLeftEnrolled t left → IsSorted t left
   enrolled left l =
       let m = l.call.member in
-      let may = may_record_new l.on l.copied l.orphans l.before v l.sound at.sound l.call l.honest l.failed_at l.read in
+      let may = may_record_new l.on l.copied l.orphans l.before v l.sound at.sound l.call l.honest l.failed_at l.spoiled l.read l.unspoiled in
       let but = stops_at_enrol l.on l.copied l.orphans l.before v (contents_of left) l.honest l.call l.within in
-      let since = left_since l.on l.copied l.orphans l.before v l.sound at.sound l.call l.honest l.failed_at l.read (contents_of left) but
+      let since = left_since l.on l.copied l.orphans l.before v l.sound at.sound l.call l.honest l.failed_at l.spoiled l.read l.unspoiled (contents_of left) but
       (λ e x is found. let y = got_content left l.on x found in ap block_on (sym y.2) ∙ l.super e y.0 is y.1) in
       let f = left_as_tried l.on (super_write a m) v.disks (contents_of left) since in
       let low = slice_get_within a.members l.on m may.at in

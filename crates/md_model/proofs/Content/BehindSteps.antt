@@ -1,10 +1,10 @@
 -- A member that left stays behind by what is marked.
-use Rattle.std.proofs.Common.{◌≡◌, ℕ, Bool, true, false, ◌⊎◌, inl, inr, ⊎_elim, refl, sym, ap, ◌∙◌, subst}
+use Rattle.std.proofs.Common.{◌≡◌, ℕ, ◌<◌, Bool, true, false, ◌⊎◌, inl, inr, ⊎_elim, refl, sym, ap, ◌∙◌, subst}
 use Rattle.md_model.specs.Sectors.{Geometry, chunk_of, put}
 use Rattle.md_model.specs.Devices.{Stored}
 use Rattle.md_model.specs.Worlds.{Request, touches, World, IsInSync}
 use Rattle.md_model.specs.Steps.{touches_chunk, begun, with_device, recorded}
-use Rattle.md_model.specs.Failures.{failed}
+use Rattle.md_model.specs.Failures.{failed, LeftByLog}
 use Rattle.md_model.specs.Events.{Event, Fails, Happens}
 use Rattle.md_model.specs.Content.{Content, with_request, Becomes, Holds}
 use Rattle.md_model.specs.Behind.{IsBehind, Leaves, IsDegraded}
@@ -14,7 +14,6 @@ use Rattle.md_model.proofs.Steps.Tracked.{IsTracked, IsFewer}
 use Rattle.md_model.proofs.Steps.TrackedSteps.{fewer_recorded, fewer_failed, left_off, off_marked, bits_written}
 use Rattle.md_model.proofs.Steps.TrackedCalls.{bits_copied}
 use Rattle.md_model.specs.States.{is_in_sync}
-use Rattle.md_model.specs.States.State.{Recovering, Spare}
 use Rattle.md_model.specs.Counts.{risen}
 use Rattle.md_model.specs.Membership.{former_member, is_spare, joined, new_member, removed, skip, Newcomer}
 use Rattle.md_model.proofs.Steps.Membership.{same_device, was_member}
@@ -104,6 +103,7 @@ module _ (g : Geometry) (d : Stored) where
   behind_step a b w (Event.Fill k) w' _ _ t s c = behind_as a b w' c (behind_target a w k s.0 s.1.rebuild.target w' s.3 t)
   behind_step a b w (Event.Prepare k) w' _ _ t s c = behind_as a b w' c (behind_target a w k s.0 s.1.target w' s.3 t)
   behind_step a b w (Event.RecordTargetFails k) w' _ _ t s c = behind_as a b w' c (behind_target a w k s.0 s.1.0 w' s.1.2 t)
+  behind_step a b w (Event.SpoilTarget k) w' _ _ t s c = behind_as a b w' c (behind_target a w k s.0 s.1.0 w' s.1.2 t)
   behind_step a b w (Event.Enrol k role listed) w' _ _ t s c = behind_as a b w' c.same (subst (IsBehind g a d) (sym s.3) (behind_enrolled a w k role listed s.0 s.1 t))
   behind_step a b w (Event.Admit k role listed) w' _ _ t s c = behind_as a b w' c (subst (IsBehind g a d) (sym s.3)
       (behind_fewer a w (admitted g w k role listed s.0) (fewer_admitted g w k role listed s.0 (spare_target (w.state k) s.1.spare)) t))
@@ -149,6 +149,15 @@ module _ (g : Geometry) (a : Content) (w : World) (tracked : IsTracked g w) (t :
       (λ (m : w.marks c ≡ false). never (w.marks c) marked m)
       (λ (x : (i : ℕ) × IsInSync w i × ((w.stored i).bits c ≡ false)). never ((w.stored x.0).bits c) (sym (tracked.known x.0 c x.1) ∙ known x.0 x.1) x.2)
 
+  -- One whose log could not be stored: its data is as it was, and what counts of it lists no less than it did.
+  pub behind_log : (left : Stored) (w' : World) → LeftByLog w k left → Fails g w k left w' → (device : Stored) → ((s : ℕ) → s < g.size → device.content s ≡ (w.stored k).content s)
+      → ((s : ℕ) → s < g.size → device.listed s ≡ false → (w.stored k).listed s ≡ false) → IsBehind g a device w'
+  behind_log left w' l f device content listed = subst (IsBehind g a device) (sym f.3)
+      (behind_fewer g device a w (failed g (with_device w k left) k f.0) (fewer_failed g w k left f.0) (record {
+        in_memory = λ s low off m. content s low ∙ t.at_rest k s low on (listed s low off) (quiet_unmarked g w tracked s m) (inr m);
+        on_members = λ i s low x off bit. content s low ∙ t.unmarked i k s low x on (listed s low off) bit;
+      }))
+
   pub behind_leaving : (e : Event) → Leaves e k → (w' : World) → Happens g w e w' → IsBehind g a (w'.stored k) w'
   behind_leaving (Event.Fail j) same w' s = late j (w.stored j) w' same s.1 (λ _ off. off) (λ _ _. refl)
   behind_leaving (Event.RecordFails j) same w' s = late j s.0 w' same s.2 (s.1.listed (ap (λ i. is_in_sync (w.state i)) same ∙ on)).had (λ x _. ap (λ (d : Stored). d.content x) s.1.rest)
@@ -177,6 +186,7 @@ module _ (g : Geometry) (a : Content) (w : World) (tracked : IsTracked g w) (t :
   behind_leaving (Event.Fill j) same w' s = absurd same
   behind_leaving (Event.Prepare j) same w' s = absurd same
   behind_leaving (Event.RecordTargetFails j) same w' s = absurd same
+  behind_leaving (Event.SpoilTarget j) same w' s = absurd same
   behind_leaving (Event.Enrol j role listed) same w' s = absurd same
   behind_leaving (Event.Admit j role listed) same w' s = absurd same
   behind_leaving (Event.Checkpoint j offset listed) same w' s = absurd same

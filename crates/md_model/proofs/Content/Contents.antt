@@ -13,7 +13,6 @@ use Rattle.md_model.proofs.Steps.Tracked.{IsTracked, IsFewer}
 use Rattle.md_model.proofs.Steps.TrackedSteps.{fewer_recorded, fewer_failed, content_marked, listed_marked, off_marked, content_written, listed_written, bits_written, bit_written}
 use Rattle.md_model.proofs.Steps.TrackedCalls.{bits_copied}
 use Rattle.md_model.specs.States.{is_in_sync}
-use Rattle.md_model.specs.States.State.{Recovering, Spare}
 use Rattle.md_model.specs.Counts.{risen}
 use Rattle.md_model.specs.Membership.{former_member, is_spare, joined, new_member, removed, skip, Newcomer}
 use Rattle.md_model.proofs.Steps.Membership.{same_device, was_member}
@@ -110,6 +109,7 @@ module _ (g : Geometry) (a : Content) where
   unmarked_step b w (Event.Fill k) w' _ t s c = same b w' c (unmarked_target w k s.0 s.1.rebuild.target w' s.3 t.unmarked)
   unmarked_step b w (Event.Prepare k) w' _ t s c = same b w' c (unmarked_target w k s.0 s.1.target w' s.3 t.unmarked)
   unmarked_step b w (Event.RecordTargetFails k) w' _ t s c = same b w' c (unmarked_target w k s.0 s.1.0 w' s.1.2 t.unmarked)
+  unmarked_step b w (Event.SpoilTarget k) w' _ t s c = same b w' c (unmarked_target w k s.0 s.1.0 w' s.1.2 t.unmarked)
   unmarked_step b w (Event.Enrol k role listed) w' tracked t s c =
       same b w' c.same (subst (HoldsUnmarked g a) (sym s.3) (unmarked_enrolled w k role listed s.0 b s.1 c tracked t))
   unmarked_step b w (Event.Admit k role listed) w' _ t s c = same b w' c (subst (HoldsUnmarked g a) (sym s.3)

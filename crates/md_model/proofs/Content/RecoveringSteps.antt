@@ -1,22 +1,21 @@
 -- Every event keeps what is said of recovering members.
 use Rattle.std.proofs.Common.{◌≡◌, ◌≢◌, ℕ, ◌<◌, Bool, true, false, ◌&&◌, ◌||◌, ◌⊎◌, inl, inr, ⊎_elim, refl, sym, ap, ◌∙◌, subst, eqb, true≢false}
-use Rattle.std.specs.Prelude.{Some, not, nat_lt}
+use Rattle.std.specs.Prelude.{not, nat_lt}
 use Rattle.std.proofs.lemmas.Bool.{or_parts}
-use Rattle.std.proofs.lemmas.Bool.Decides.{nat_tests}
 use Rattle.md_model.specs.Sectors.{Geometry, chunk_of, is_passed, put}
 use Rattle.md_model.specs.States.{State, is_in_sync, is_recovering}
-use Rattle.md_model.specs.States.State.{InSync, Recovering, Spare, Faulty}
-use Rattle.md_model.specs.Devices.{Super, Stored, offset_of}
+use Rattle.md_model.specs.States.State.{Faulty}
+use Rattle.md_model.specs.Devices.{Stored}
 use Rattle.md_model.specs.Worlds.{Request, World, IsInSync}
 use Rattle.md_model.specs.Counts.{risen}
 use Rattle.md_model.specs.Steps.{begun, with_device, recorded, recorded_device, marks_stored, member_written, finished, unmarked, written_device}
 use Rattle.md_model.specs.Failures.{failed}
 use Rattle.md_model.specs.Resyncing.{copied, copied_device, made_clean, made_resynced}
-use Rattle.md_model.specs.Membership.{former_member, is_spare, joined, new_member, removed, skip, MayReAdd, Newcomer}
-use Rattle.md_model.specs.Rebuilding.{admitted, as_in_sync, as_recovering, checkpointed, enrolled, is_missing, is_target, taking_device, takes_role, with_offset, IsCopiedAt, IsStillMarked, LeftByFilling, MayAdmit, MayCheckpoint, MayEnrol, MayFill, Taking}
+use Rattle.md_model.specs.Membership.{former_member, is_spare, joined, new_member, removed, skip, Newcomer}
+use Rattle.md_model.specs.Rebuilding.{as_in_sync, as_recovering, checkpointed, is_missing, taking_device, takes_role, with_offset, IsCopiedAt, IsStillMarked, LeftByFilling, MayCheckpoint, MayEnrol, MayFill, Taking}
 use Rattle.md_model.specs.Listing.{log_stored, noted_bad}
 use Rattle.md_model.specs.Events.{Event, Fails, Happens}
-use Rattle.md_model.specs.Content.{Content, Becomes, Holds, HoldsAtRest}
+use Rattle.md_model.specs.Content.{Content, Becomes, HoldsAtRest}
 use Rattle.md_model.specs.Behind.{IsBehind, IsDegraded}
 use Rattle.md_model.specs.Recovering.{recovered, RecoveringHolds, DiffersInMissing, TellsRecovering, JoinsBehind}
 use Rattle.md_model.proofs.Cases.{by_test, never, none_some}
@@ -289,6 +288,7 @@ module _ (g : Geometry) (wide : 0 < g.width) (a : Content) (w : World) (tracked 
   late_before (Event.Fill k) w' s _ = subst AreLate (sym s.3) (filled_old k s.0 s.1 s.2)
   late_before (Event.Prepare k) w' s _ = subst AreLate (sym s.3) (target_old k s.0 (λ x. ap (λ (d : Stored). d.content x) s.2.rest))
   late_before (Event.RecordTargetFails k) w' s _ = subst AreLate (sym s.1.2) (target_old k s.0 (λ x. ap (λ (d : Stored). d.content x) s.1.1.rest))
+  late_before (Event.SpoilTarget k) w' s _ = subst AreLate (sym s.1.2) (target_old k s.0 (λ x. ap (λ (d : Stored). d.content x) s.1.1.rest))
   late_before (Event.Enrol k role listed) w' s _ = subst AreLate (sym s.3) (taking_in_sync k (as_in_sync (risen g w s.0) role listed) s.0 refl)
   late_before (Event.Admit k role listed) w' s _ = subst AreLate (sym s.3) (taking_first k (as_recovering w k role listed) s.0 refl (degraded_free g w role s.1.below s.1.free))
   late_before (Event.Checkpoint k offset listed) w' s _ = subst AreLate (sym s.1) (checkpoint_old k offset listed s.0)
@@ -311,3 +311,11 @@ tells_recovering g a w t holds k role listed may s low there off = by_test (w.ba
     (λ at. let x = may.unlisted s low at off in
     sym (may.agrees x.0 s x.1 x.2 off) ∙ holds x.0 s low x.1 x.2 (λ n p e. absurd (none_some p (sym (may.rebuild.idle n) ∙ e))) (inl may.resynced))
     (λ bad. differs_in_missing g a w t k s low may.recovering bad there)
+
+-- one that might be enrolled has all of it, but for what it will list
+pub enrolled_holds : (g : Geometry) (a : Content) (w : World) → RecoveringHolds g a w → HoldsAtRest g a w → (k role : ℕ) (listed : ℕ → Bool) → MayEnrol g w k role listed
+    → (s : ℕ) → s < g.size → listed s ≡ false → (w.stored k).content s ≡ a s
+enrolled_holds g a w t holds k role listed may s low off = by_test (is_missing g w k (chunk_of g s))
+    (λ at. let x = may.copied s low at off in
+    sym (may.agrees x.0 s x.1 x.2 off) ∙ holds x.0 s low x.1 x.2 (λ n p e. absurd (none_some p (sym (may.rebuild.idle n) ∙ e))) (inl may.resynced))
+    (λ there. tells_recovering g a w t holds k role listed may s low there off)

@@ -1,5 +1,5 @@
 -- The mirror of two members: the list of a member in sync grows, in memory, in its log, and by its superblock; or its log can't be stored.
-use Rattle.std.proofs.Common.{◌≡◌, ℕ, Bool, false, ◌&&◌, nat_lt, [], ◌∷◌, inl, refl}
+use Rattle.std.proofs.Common.{ℕ, Bool, false, ◌&&◌, nat_lt, [], ◌∷◌, inl, refl}
 use Rattle.std.specs.Prelude.{eqb}
 use Rattle.md_model.specs.Sectors.{chunk_of}
 use Rattle.md_model.specs.Worlds.{World}

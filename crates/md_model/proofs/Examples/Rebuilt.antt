@@ -1,6 +1,6 @@
 -- The mirror of two members: one fails and leaves, a sector is written without it, and it comes again, or another one. That is filled
 -- with what it lacks, and comes into sync.
-use Rattle.std.proofs.Common.{◌≡◌, ◌≢◌, ℕ, zero, suc, ◌<◌, ◌≤◌, ◌+◌, Bool, true, false, cond, ◌&&◌, ◌||◌, ◌++◌, [], ◌∷◌, inl, refl, sym, ap, ◌∙◌, subst, true≢false, arith}
+use Rattle.std.proofs.Common.{◌≡◌, ◌≢◌, ℕ, zero, suc, ◌<◌, ◌+◌, Bool, true, false, cond, ◌&&◌, ◌||◌, ◌++◌, [], ◌∷◌, inl, refl, sym, ap, ◌∙◌, subst, true≢false, arith}
 use Rattle.std.specs.Prelude.{Some, None, leb, not}
 use Rattle.std.proofs.lemmas.Bool.Decides.{nat_tests}
 use Rattle.md_model.specs.Sectors.{chunk_of, is_passed, put}
@@ -131,11 +131,15 @@ module _ (n : Newcomer) (is : IsNewcomer n) where
   abbrev z10 : World
   z10 = with_device z9 1 filled
 
+  -- its superblock could not be stored, and is as it was
+  abbrev zs : World
+  zs = with_device z10 1 filled
+
   abbrev prepared : Stored
   prepared = record filled { bits = z7.marks; bitmap_events = z8.events + 1; bitmap_fits = true; listed = λ _. false }
 
   abbrev z11 : World
-  z11 = with_device z10 1 prepared
+  z11 = with_device zs 1 prepared
 
   abbrev z12 : World
   z12 = enrolled small_geometry z11 1 1 (λ _. false) true
@@ -210,7 +214,8 @@ module _ (n : Newcomer) (is : IsNewcomer n) where
   is_rebuilt h same =
       let h9 = then_in h (Event.Fill 1) z9 in
       let h10 = then_in h9 (Event.RecordTargetFails 1) z10 in
-      let h11 = then_in h10 (Event.Prepare 1) z11 in (
+      let hs = then_in h10 (Event.SpoilTarget 1) zs in
+      let h11 = then_in hs (Event.Prepare 1) z11 in (
         then_in h11 (Event.Enrol 1 1 (λ _. false)) z12,
         (
           z9,
@@ -219,9 +224,13 @@ module _ (n : Newcomer) (is : IsNewcomer n) where
             z10,
             (refl, (filled, (is.target, record { rest = refl; listed = λ on. absurd (true≢false (sym on ∙ target_out n.state is.target)); super = inl refl }, refl))),
             (
-              z11,
-              (refl, (prepared, record { idle = idle; target = is.target }, record { rest = refl }, refl)),
-              (z12, (refl, (true, may_enrol, ((λ _. both_in), (λ _. refl)), refl)), refl),
+              zs,
+              (refl, (filled, (is.target, record { rest = refl }, refl))),
+              (
+                z11,
+                (refl, (prepared, record { idle = idle; target = is.target }, record { rest = refl }, refl)),
+                (z12, (refl, (true, may_enrol, ((λ _. both_in), (λ _. refl)), refl)), refl),
+              ),
             ),
           ),
         ),

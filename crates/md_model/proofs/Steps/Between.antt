@@ -16,7 +16,6 @@ use Rattle.md_model.proofs.Steps.Tracked.{IsFewer, in_flight_fewer}
 use Rattle.md_model.proofs.Steps.TrackedSteps.{fewer_recorded, fewer_failed, quiet_but, content_marked, listed_marked, content_written, listed_written, quiet_written, in_flight_risen, in_flight_entered, in_flight_finished, in_flight_unmarked, in_flight_marks_stored, in_flight_written}
 use Rattle.md_model.proofs.Steps.TrackedCalls.{content_copied, content_at_copy, listed_copied, in_flight_copied, in_flight_resynced, in_flight_made_clean}
 use Rattle.md_model.specs.States.{is_in_sync}
-use Rattle.md_model.specs.States.State.{Recovering, Spare}
 use Rattle.md_model.specs.Membership.{former_member, is_spare, joined, new_member, removed, skip, Newcomer}
 use Rattle.md_model.specs.Rebuilding.{is_target, admitted, checkpointed, enrolled, MayEnrol}
 use Rattle.md_model.specs.Listing.{log_stored, noted_bad}
@@ -171,6 +170,7 @@ module _ (g : Geometry) (a : Content) where
   between b w (Event.Fill k) w' s c t = same b w' c (between_target w k s.0 s.1.rebuild.target w' s.3 t)
   between b w (Event.Prepare k) w' s c t = same b w' c (between_target w k s.0 s.1.target w' s.3 t)
   between b w (Event.RecordTargetFails k) w' s c t = same b w' c (between_target w k s.0 s.1.0 w' s.1.2 t)
+  between b w (Event.SpoilTarget k) w' s c t = same b w' c (between_target w k s.0 s.1.0 w' s.1.2 t)
   between b w (Event.Enrol k role listed) w' s c t = same b w' c.same (subst (HoldsBetween g a) (sym s.3) (between_enrolled w k role listed s.0 b s.1 c t))
   between b w (Event.Admit k role listed) w' s c t = same b w' c (subst (HoldsBetween g a) (sym s.3)
       (between_fewer w (admitted g w k role listed s.0) (fewer_admitted g w k role listed s.0 (spare_target (w.state k) s.1.spare)) t))
@@ -216,6 +216,7 @@ module _ (g : Geometry) where
   flight w (Event.Fill k) w' s t = flight_target w k s.0 s.1.rebuild.target w' s.3 t
   flight w (Event.Prepare k) w' s t = flight_target w k s.0 s.1.target w' s.3 t
   flight w (Event.RecordTargetFails k) w' s t = flight_target w k s.0 s.1.0 w' s.1.2 t
+  flight w (Event.SpoilTarget k) w' s t = flight_target w k s.0 s.1.0 w' s.1.2 t
   flight w (Event.Enrol k role listed) w' s t = subst HoldsInFlight (sym s.3) (in_flight_enrolled g w k role listed s.0 s.1 t)
   flight w (Event.Admit k role listed) w' s t = subst HoldsInFlight (sym s.3)
       (in_flight_fewer w (admitted g w k role listed s.0) (fewer_admitted g w k role listed s.0 (spare_target (w.state k) s.1.spare)) t)

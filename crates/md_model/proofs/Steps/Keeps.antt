@@ -7,26 +7,26 @@ use Rattle.md_model.specs.States.{State, is_recorded, is_in_sync, is_recovering}
 use Rattle.md_model.specs.Devices.{Super, Stored, AgreeAt}
 use Rattle.md_model.specs.Worlds.{Request, touches, World, IsInFlight, IsInSync}
 use Rattle.md_model.specs.Counts.{role_at_rise, risen, risen_if, HasToRise}
-use Rattle.md_model.specs.Steps.{begun, with_device, super_for, recorded, recorded_device, marked_device, marks_stored, written_device, member_written, MayBegin, MayWrite}
-use Rattle.md_model.specs.Failures.{failed, MayFail, LeftBySuper}
-use Rattle.md_model.specs.Resyncing.{copied_device, copied, MayResync}
-use Rattle.md_model.specs.States.State.{Recovering, Spare}
-use Rattle.md_model.specs.Membership.{former_member, is_spare, new_member, removed}
-use Rattle.md_model.specs.Rebuilding.{is_target, admitted, as_in_sync, as_recovering, checkpointed, with_offset}
+use Rattle.md_model.specs.Steps.{begun, finished, unmarked, with_device, super_for, recorded, recorded_device, marked_device, marks_stored, written_device, member_written, MayBegin, MayWrite}
+use Rattle.md_model.specs.Failures.{failed, MayFail}
+use Rattle.md_model.specs.Resyncing.{copied_device, copied, made_clean, made_resynced, MayResync}
+use Rattle.md_model.specs.Membership.{added, former_member, is_spare, new_member, re_added, removed, skip}
+use Rattle.md_model.specs.Rebuilding.{is_target, admitted, as_in_sync, as_recovering, checkpointed, enrolled, enrolled_device, taking_device, with_offset}
 use Rattle.md_model.specs.Listing.{log_stored, noted_bad}
 use Rattle.md_model.proofs.Steps.Membership.{former_joins, number_absent, recorded_joined, recorded_removed, spare_joins, tracked_joined, tracked_removed}
 use Rattle.md_model.proofs.Steps.Rebuilding.{fewer_admitted, fewer_checkpointed, fewer_log_stored, fewer_noted_bad, fewer_target, recorded_left, recorded_taking, recorded_target, recovering_target, spare_target, still_due, target_recorded, tracked_enrolled}
-use Rattle.md_model.specs.Events.{Event, Fails, Happens, Step}
+use Rattle.md_model.specs.Events.{Event, Fails, FailsOnTarget, Happens, Spoils, Step}
 use Rattle.md_model.specs.Openings.{IsWithinLimits}
-use Rattle.md_model.specs.Runs.{History, away_after, failed_after, tried_after, then_in, Run}
+use Rattle.md_model.specs.Runs.{History, away_after, failed_after, spoiled_after, tried_after, then_in, Run}
 use Rattle.md_model.proofs.Cases.{by_test, none_some, is_below, not_below}
-use Rattle.md_model.proofs.Puts.{put-at, put-same, put-hit, put-twice}
+use Rattle.md_model.proofs.Puts.{put-at, put-hit, put-twice}
 use Rattle.md_model.proofs.Steps.Tracked.{IsTracked, tracked_fewer}
 use Rattle.md_model.proofs.Steps.TrackedSteps.{fewer_recorded, fewer_failed, tracked_risen, tracked_entered, tracked_finished, tracked_unmarked, tracked_marks_stored, tracked_written, other_flights}
 use Rattle.md_model.proofs.Steps.TrackedCalls.{tracked_copied, tracked_resynced, tracked_made_clean}
 use Rattle.md_model.proofs.Steps.Unstored.{unstored_step, IsUnstored}
 use Rattle.md_model.proofs.Steps.Recorded.{Book, book_of, IsRecorded, recorded_in_sync}
 use Rattle.md_model.proofs.Steps.RecordedSteps.{absent_none, recorded_risen, recorded_recorded, recorded_without}
+use Rattle.md_model.proofs.Steps.Seen.{anew, as_before, hidden, hidden_from, hidden_left, kept_super, seen, seen_begun, seen_fails, seen_left, seen_may_remove, seen_may_write, seen_removed}
 
 -- where marked chunks were copied, the members in sync agree everywhere
 pub all_agree : (g : Geometry) (w : World) → MayResync g w → IsTracked g w → IsUnstored w → (j k s : ℕ) → IsInSync w j → IsInSync w k → AgreeAt (w.stored j) (w.stored k) s
@@ -48,7 +48,7 @@ IsAlone g away w = (n : ℕ) (p : Request) (d : ℕ) → IsInFlight w n p → aw
 pub record IsKept (g : Geometry) (opened : Super) (h : History) : Type 0 where
   pub tracked : IsTracked g h.now
   pub unstored : IsUnstored h.now
-  pub recorded : IsRecorded g opened h.failed_at h.tried h.away (book_of h.now)
+  pub recorded : IsRecorded g opened h.failed_at h.tried h.away (book_of (seen h.spoiled h.now))
   pub alone : IsAlone g h.away h.now
 
 -- a request may begin after the rise, if it may before
@@ -91,6 +91,7 @@ module _ (g : Geometry) (small : IsWithinLimits g) where
   tracked_step w u (Event.Fill k) w' t s = target_tracked w k s.0 s.1.rebuild.target w' s.3 t
   tracked_step w u (Event.Prepare k) w' t s = target_tracked w k s.0 s.1.target w' s.3 t
   tracked_step w u (Event.RecordTargetFails k) w' t s = target_tracked w k s.0 s.1.0 w' s.1.2 t
+  tracked_step w u (Event.SpoilTarget k) w' t s = target_tracked w k s.0 s.1.0 w' s.1.2 t
   tracked_step w u (Event.Enrol k role listed) w' t s = subst (IsTracked g) (sym s.3) (tracked_enrolled g w k role listed s.0 s.1 t)
   tracked_step w u (Event.Admit k role listed) w' t s = subst (IsTracked g) (sym s.3)
       (tracked_fewer g w (admitted g w k role listed s.0) (fewer_admitted g w k role listed s.0 (spare_target (w.state k) s.1.spare)) t)
@@ -206,100 +207,156 @@ module _ (g : Geometry) (small : IsWithinLimits g) (opened : Super) (away : ℕ 
 
   -- with the devices that stay away
   pub record Before (h : History) : Type 0 where
-    pub recorded : Records h.failed_at h.tried h.now
+    pub recorded : Records h.failed_at h.tried (seen h.spoiled h.now)
     pub alone : IsAlone g away h.now
-
-  removed_step : (h : History) (k : ℕ) (w' : World) → Records h.failed_at h.tried h.now → ((d : ℕ) → away d ≡ true → w'.present d ≡ false) → Happens g h.now (Event.Remove k) w' → Records h.failed_at h.tried w'
-  removed_step h k w' r gone s = subst (Records h.failed_at h.tried) (sym s.3)
-      (recorded_removed g small.few opened h.failed_at h.tried away h.now k s.0 s.1 (λ d off. ap (λ (v : World). v.present d) (sym s.3) ∙ gone d off) r)
-
-  added_step : (h : History) (d : ℕ) (left : Stored) (w' : World) → Records h.failed_at h.tried h.now → ((d : ℕ) → away d ≡ true → w'.present d ≡ false) → Happens g h.now (Event.Add d left) w' → Records h.failed_at h.tried w'
-  added_step h d left w' r gone s = subst (Records h.failed_at h.tried) (sym s.4)
-      (recorded_joined g small.few opened h.failed_at h.tried away (risen g h.now s.0) (new_member d left)
-      (spare_joins g (risen g h.now s.0) d left small.few (number_absent g h.now d s.1.number) s.2)
-      (λ j own e. let b = r.below j own e in let t : own.events < h.now.events + 1 = omega arith in t)
-      (let l = r.later in let t : opened.events < h.now.events + 1 = omega arith in t)
-      (λ e off. ap (λ (v : World). v.present e) (sym s.4) ∙ gone e off)
-      (recorded_risen g small.few opened h.failed_at h.tried away h.now s.0 r))
-
-  taken_back_step : (h : History) (own : Super) (device left : Stored) (w' : World) → Records h.failed_at h.tried h.now → ((d : ℕ) → away d ≡ true → w'.present d ≡ false)
-      → Happens g h.now (Event.ReAdd own device left) w' → Records h.failed_at h.tried w'
-  taken_back_step h own device left w' r gone s = subst (Records h.failed_at h.tried) (sym s.4)
-      (recorded_joined g small.few opened h.failed_at h.tried away (risen g h.now s.0) (former_member own left)
-      (former_joins g (risen g h.now s.0) own device left s.1.absent s.1.small s.2)
-      (λ j other e. let b = r.below j other e in let t : other.events < h.now.events + 1 = omega arith in t)
-      (let l = r.later in let t : opened.events < h.now.events + 1 = omega arith in t)
-      (λ e off. ap (λ (v : World). v.present e) (sym s.4) ∙ gone e off)
-      (recorded_risen g small.few opened h.failed_at h.tried away h.now s.0 r))
-
-  target_recorded_step : (h : History) (k : ℕ) (left : Stored) → is_target (h.now.state k) ≡ true → (w' : World) → w' ≡ with_device h.now k left
-      → ((own : Super) → left.super ≡ Some own → (h.now.stored k).super ≡ Some own) → Records h.failed_at h.tried h.now → Records h.failed_at h.tried w'
-  target_recorded_step h k left out w' is from r = subst (Records h.failed_at h.tried) (sym is) (recorded_target g small.few opened h.failed_at h.tried away h.now k left out from r)
-
-  enrolled_step : (h : History) (k role : ℕ) (listed : ℕ → Bool) (w' : World) → Records h.failed_at h.tried h.now → Happens g h.now (Event.Enrol k role listed) w' → Records h.failed_at h.tried w'
-  enrolled_step h k role listed w' r s = subst (Records h.failed_at h.tried) (sym s.3)
-      (recorded_taking g opened h.failed_at h.tried away (risen g h.now s.0) k (as_in_sync (risen g h.now s.0) role listed) s.1.rebuild.target s.1.below s.1.small
-      refl (λ e. let x = ap is_in_sync e in true≢false x) (λ e. absurd (true≢false (sym e))) (λ _. refl)
-      (λ j own e. let b = r.below j own e in let t : own.events < h.now.events + 1 = omega arith in t)
-      (let l = r.later in let t : opened.events < h.now.events + 1 = omega arith in t)
-      (recorded_risen g small.few opened h.failed_at h.tried away h.now s.0 r))
-
-  admitted_step : (h : History) (k role : ℕ) (listed : ℕ → Bool) (w' : World) → Records h.failed_at h.tried h.now → Happens g h.now (Event.Admit k role listed) w' → Records h.failed_at h.tried w'
-  admitted_step h k role listed w' r s = subst (Records h.failed_at h.tried) (sym s.3)
-      (recorded_taking g opened h.failed_at h.tried away (risen g h.now s.0) k (as_recovering h.now k role listed) (spare_target (h.now.state k) s.1.spare) s.1.below s.1.small
-      refl (λ e. let x = ap is_recovering e in true≢false x) (λ _. refl) (λ e. absurd (true≢false (sym e)))
-      (λ j own e. let b = r.below j own e in let t : own.events < h.now.events + 1 = omega arith in t)
-      (let l = r.later in let t : opened.events < h.now.events + 1 = omega arith in t)
-      (recorded_risen g small.few opened h.failed_at h.tried away h.now s.0 r))
 
   -- a superblock that is due again
   due_again : (failed_at : ℕ) (tried : Bool) (w : World) (k : ℕ) → Records failed_at tried w → Records failed_at tried (record w { due = put k true w.due })
   due_again failed_at tried w k = still_due g small.few opened failed_at tried away (book_of w) (put k true w.due)
       (λ j. put-at k true w.due j (λ x. x ≡ false → w.due j ≡ false) (λ _ off. absurd (true≢false off)) (λ _ off. off))
 
-  recorded_step : (h : History) (e : Event) (w' : World) → Before h → ((d : ℕ) → away d ≡ true → w'.present d ≡ false) → Happens g h.now e w' → Records (failed_after e w' h.failed_at) (tried_after e h.tried) w'
-  recorded_step h (Event.Begin n p) w' t gone s = subst (Records h.failed_at h.tried) (sym s.5) (rise_recorded h.now n p s.0 s.1 h.failed_at h.tried t.recorded)
-  recorded_step h (Event.Record k) w' t gone s = subst (Records h.failed_at h.tried) (sym s.3) (recorded_recorded g small.few opened h.failed_at h.tried away h.now k s.0 s.2 t.recorded)
-  recorded_step h (Event.StoreMarks k b) w' t gone s = subst (Records h.failed_at h.tried) (sym s.1)
-      (same_supers h.failed_at h.tried h.now (marks_stored h.now k b).stored (λ j. put-same (λ d. d.super) k (marked_device h.now k b) h.now.stored j refl) t.recorded)
-  recorded_step h (Event.WriteMember n k) w' t gone s = subst (Records h.failed_at true) (sym s.2)
-      (same_supers h.failed_at true h.now (member_written h.now n s.0 k).stored (λ j. put-same (λ d. d.super) k (written_device h.now k s.0) h.now.stored j refl)
-      (tried_now h.failed_at h.tried h.now n s.0 k s.1 t.alone t.recorded))
-  recorded_step h (Event.Finish n) w' t gone s = subst (Records h.failed_at h.tried) (sym s.2) t.recorded
-  recorded_step h (Event.ClearIdle c) w' t gone s = subst (Records h.failed_at h.tried) (sym s.1) t.recorded
-  recorded_step h (Event.Fail k) w' t gone s = fails_recorded h.now k (h.now.stored k) w' h.failed_at h.tried (λ own e. e) s.1 t.recorded
-  recorded_step h (Event.RecordFails k) w' t gone s = record_fails h.now k s.0 w' h.failed_at h.tried s.1.super s.2 t.recorded
-  recorded_step h (Event.StoreMarksFails k b) w' t gone s =
-      fails_recorded h.now k s.0 w' h.failed_at h.tried (λ own e. sym (ap (λ (d : Stored). d.super) s.2.rest) ∙ e) s.3 t.recorded
-  recorded_step h (Event.WriteMemberFails n k) w' t gone s =
-      fails_recorded h.now k s.0 w' h.failed_at true (λ own e. sym (ap (λ (d : Stored). d.super) s.3.rest) ∙ e) s.4
-      (tried_now h.failed_at h.tried h.now n s.1 k s.2 t.alone t.recorded)
-  recorded_step h (Event.CopyFails k c) w' t gone s =
-      fails_recorded h.now k s.0 w' h.failed_at h.tried (λ own e. sym (ap (λ (d : Stored). d.super) s.3.rest) ∙ e) s.4 t.recorded
-  recorded_step h (Event.Copy from k x) w' t gone s = subst (Records h.failed_at h.tried) (sym s.1)
-      (same_supers h.failed_at h.tried h.now (copied h.now from k x).stored (λ j. put-same (λ d. d.super) k (copied_device h.now from k x) h.now.stored j refl) t.recorded)
-  recorded_step h Event.Resynced w' t gone s = subst (Records h.failed_at h.tried) (sym s.1) t.recorded
-  recorded_step h Event.Unresynced w' t gone s = subst (Records h.failed_at h.tried) (sym s.1) t.recorded
-  recorded_step h Event.MakeClean w' t gone s = subst (Records h.failed_at h.tried) (sym s.3) (recorded_risen g small.few opened h.failed_at h.tried away h.now s.0 t.recorded)
-  recorded_step h (Event.Remove k) w' t gone s = removed_step h k w' t.recorded gone s
-  recorded_step h (Event.Add d left) w' t gone s = added_step h d left w' t.recorded gone s
-  recorded_step h (Event.ReAdd own device left) w' t gone s = taken_back_step h own device left w' t.recorded gone s
-  recorded_step h (Event.Fill k) w' t gone s =
-      target_recorded_step h k s.0 s.1.rebuild.target w' s.3 (λ own e. sym (ap (λ (d : Stored). d.super) s.2.rest) ∙ e) t.recorded
-  recorded_step h (Event.Prepare k) w' t gone s =
-      target_recorded_step h k s.0 s.1.target w' s.3 (λ own e. sym (ap (λ (d : Stored). d.super) s.2.rest) ∙ e) t.recorded
-  recorded_step h (Event.RecordTargetFails k) w' t gone s = subst (Records h.failed_at h.tried) (sym s.1.2)
-      (recorded_left g small.few opened h.failed_at h.tried away h.now k s.0 s.1.0 s.1.1 t.recorded)
-  recorded_step h (Event.Enrol k role listed) w' t gone s = enrolled_step h k role listed w' t.recorded s
-  recorded_step h (Event.Admit k role listed) w' t gone s = admitted_step h k role listed w' t.recorded s
-  recorded_step h (Event.Checkpoint k offset listed) w' t gone s = subst (Records h.failed_at h.tried) (sym s.1)
-      (recorded_recorded g small.few opened h.failed_at h.tried away (with_offset h.now k offset) k listed
-      (target_recorded (h.now.state k) (recovering_target (h.now.state k) s.0.recovering)) t.recorded)
-  recorded_step h (Event.NoteBad k c) w' t gone s = subst (Records h.failed_at h.tried) (sym s.1) t.recorded
-  recorded_step h (Event.StoreLog k listed) w' t gone s = subst (Records h.failed_at h.tried) (sym s.2)
-      (due_again h.failed_at h.tried (record h.now { stored = (log_stored h.now k listed).stored }) k
-      (same_supers h.failed_at h.tried h.now (log_stored h.now k listed).stored (λ j. put-same (λ (d : Stored). d.super) k (record (h.now.stored k) { listed = listed }) h.now.stored j refl) t.recorded))
-  recorded_step h (Event.StoreLogFails k) w' t gone s = record_fails h.now k s.0 w' h.failed_at h.tried s.2.super s.3 t.recorded
+  module _ (h : History) (t : Before h) where
+    abbrev w : World
+    w = h.now
+
+    -- the superblocks that are not spoiled
+    abbrev seen_now : World
+    seen_now = seen h.spoiled h.now
+
+    abbrev Holds : World → Type 0
+    Holds u = Records h.failed_at h.tried u
+
+    -- as the device of member k has a superblock that was stored just now
+    stored_anew : (u : World) (k : ℕ) (left : Stored) → Holds (record u { stored = put k left seen_now.stored }) → Holds (record u { stored = (seen (put k false h.spoiled) (with_device w k left)).stored })
+    stored_anew u k left r = same_supers h.failed_at h.tried (record u { stored = put k left seen_now.stored }) (seen (put k false h.spoiled) (with_device w k left)).stored
+        (anew h.spoiled w k left false) r
+
+    -- or the one that it had
+    stored_same : (u : World) (k : ℕ) (left : Stored) → left.super ≡ (w.stored k).super → Holds (record u { stored = seen_now.stored }) → Holds (record u { stored = (seen h.spoiled (with_device w k left)).stored })
+    stored_same u k left same r = same_supers h.failed_at h.tried (record u { stored = seen_now.stored }) (seen h.spoiled (with_device w k left)).stored (kept_super h.spoiled w k left same) r
+
+    removed_step : (k : ℕ) (w' : World) → ((d : ℕ) → away d ≡ true → w'.present d ≡ false) → Happens g w (Event.Remove k) w' → Holds (seen (λ j. h.spoiled (skip k j)) w')
+    removed_step k w' gone s = subst (λ u. Holds (seen (λ j. h.spoiled (skip k j)) u)) (sym s.3)
+        (subst Holds (seen_removed h.spoiled w g k (is_spare (w.state k)) s.0)
+        (recorded_removed g small.few opened h.failed_at h.tried away seen_now k s.0 (seen_may_remove h.spoiled w k s.1)
+        (λ d off. ap (λ (u : World). u.present d) (seen_removed h.spoiled w g k (is_spare (w.state k)) s.0) ∙ ap (λ (u : World). u.present d) (sym s.3) ∙ gone d off) t.recorded))
+
+    -- the count is higher than any that is stored
+    under_risen : (j : ℕ) (own : Super) → (seen_now.stored j).super ≡ Some own → own.events < w.events + 1
+    under_risen j own e = let b = t.recorded.below j own e in omega arith
+
+    later_risen : opened.events < w.events + 1
+    later_risen = let l = t.recorded.later in omega arith
+
+    added_step : (d : ℕ) (left : Stored) (w' : World) → ((d : ℕ) → away d ≡ true → w'.present d ≡ false) → Happens g w (Event.Add d left) w' → Holds (seen (put w.members false h.spoiled) w')
+    added_step d left w' gone s = subst (λ u. Holds (seen (put w.members false h.spoiled) u)) (sym s.4)
+        (stored_anew (added g w d left s.0) w.members left
+        (recorded_joined g small.few opened h.failed_at h.tried away (risen g seen_now s.0) (new_member d left)
+        (spare_joins g (risen g seen_now s.0) d left small.few (number_absent g seen_now d s.1.number) (record { super = s.2.super; listed = s.2.listed; bits = s.2.bits }))
+        under_risen later_risen
+        (λ e off. ap (λ (u : World). u.present e) (sym s.4) ∙ gone e off)
+        (recorded_risen g small.few opened h.failed_at h.tried away seen_now s.0 t.recorded)))
+
+    taken_back_step : (own : Super) (device left : Stored) (w' : World) → ((d : ℕ) → away d ≡ true → w'.present d ≡ false)
+        → Happens g w (Event.ReAdd own device left) w' → Holds (seen (put w.members false h.spoiled) w')
+    taken_back_step own device left w' gone s = subst (λ u. Holds (seen (put w.members false h.spoiled) u)) (sym s.4)
+        (stored_anew (re_added g w own left s.0) w.members left
+        (recorded_joined g small.few opened h.failed_at h.tried away (risen g seen_now s.0) (former_member own left)
+        (former_joins g (risen g seen_now s.0) own device left s.1.absent s.1.small (record { was = s.2.was; offset = s.2.offset; passes = s.2.passes; rest = s.2.rest }))
+        under_risen later_risen
+        (λ e off. ap (λ (u : World). u.present e) (sym s.4) ∙ gone e off)
+        (recorded_risen g small.few opened h.failed_at h.tried away seen_now s.0 t.recorded)))
+
+    -- the device of a member that is rebuilt changes, and its superblock does not
+    target_same : (k : ℕ) (left : Stored) → left.super ≡ (w.stored k).super → (w' : World) → w' ≡ with_device w k left → Holds (seen h.spoiled w')
+    target_same k left same w' is = subst (λ u. Holds (seen h.spoiled u)) (sym is) (stored_same w k left same t.recorded)
+
+    target_left : (k : ℕ) (left : Stored) (w' : World) → FailsOnTarget w k left w' → Holds (seen h.spoiled w')
+    target_left k left w' s = subst (λ u. Holds (seen h.spoiled u)) (sym s.2)
+        (same_supers h.failed_at h.tried (with_device seen_now k (hidden (h.spoiled k) left)) (seen h.spoiled (with_device w k left)).stored (as_before h.spoiled w k left)
+        (recorded_left g small.few opened h.failed_at h.tried away seen_now k (hidden (h.spoiled k) left) s.0 (seen_left h.spoiled w k left s.1) t.recorded))
+
+    -- it has any superblock, which is not looked at
+    target_spoiled : (k : ℕ) (left : Stored) (w' : World) → Spoils w k left w' → Holds (seen (put k true h.spoiled) w')
+    target_spoiled k left w' s = subst (λ u. Holds (seen (put k true h.spoiled) u)) (sym s.2)
+        (same_supers h.failed_at h.tried (with_device seen_now k (hidden true left)) (seen (put k true h.spoiled) (with_device w k left)).stored (anew h.spoiled w k left true)
+        (recorded_target g small.few opened h.failed_at h.tried away seen_now k (hidden true left) s.0 (λ own e. absurd (none_some own e)) t.recorded))
+
+    enrolled_step : (k role : ℕ) (listed : ℕ → Bool) (w' : World) → Happens g w (Event.Enrol k role listed) w' → Holds (seen (put k false h.spoiled) w')
+    enrolled_step k role listed w' s = subst (λ u. Holds (seen (put k false h.spoiled) u)) (sym s.3)
+        (stored_anew (enrolled g w k role listed s.0) k (enrolled_device (risen g w s.0) k role listed)
+        (recorded_taking g opened h.failed_at h.tried away (risen g seen_now s.0) k (as_in_sync (risen g w s.0) role listed) s.1.rebuild.target s.1.below s.1.small
+        refl (λ e. let x = ap is_in_sync e in true≢false x) (λ e. absurd (true≢false (sym e))) (λ _. refl)
+        under_risen later_risen
+        (recorded_risen g small.few opened h.failed_at h.tried away seen_now s.0 t.recorded)))
+
+    admitted_step : (k role : ℕ) (listed : ℕ → Bool) (w' : World) → Happens g w (Event.Admit k role listed) w' → Holds (seen (put k false h.spoiled) w')
+    admitted_step k role listed w' s = subst (λ u. Holds (seen (put k false h.spoiled) u)) (sym s.3)
+        (stored_anew (admitted g w k role listed s.0) k (taking_device (risen g w s.0) k (as_recovering w k role listed))
+        (recorded_taking g opened h.failed_at h.tried away (risen g seen_now s.0) k (as_recovering w k role listed) (spare_target (w.state k) s.1.spare) s.1.below s.1.small
+        refl (λ e. let x = ap is_recovering e in true≢false x) (λ _. refl) (λ e. absurd (true≢false (sym e)))
+        under_risen later_risen
+        (recorded_risen g small.few opened h.failed_at h.tried away seen_now s.0 t.recorded)))
+
+    -- a member fails, whose device has the superblock that it had
+    fails_same : (tried : Bool) (k : ℕ) (left : Stored) (w' : World) → left.super ≡ (w.stored k).super → Fails g w k left w' → Records h.failed_at tried seen_now
+        → Records w'.events tried (seen h.spoiled w')
+    fails_same tried k left w' same f r = fails_recorded seen_now k (hidden (h.spoiled k) left) (seen h.spoiled w') h.failed_at tried
+        (hidden_from (h.spoiled k) left.super (w.stored k).super (λ own e. sym same ∙ e)) (seen_fails h.spoiled w g k left w' f) r
+
+    -- or the one that was being written, or none
+    fails_super : (k : ℕ) (left : Stored) (w' : World) → (left.super ≡ (w.stored k).super) ⊎ ((left.super ≡ Some (super_for w k)) ⊎ (left.super ≡ None))
+        → Fails g w k left w' → Records w'.events h.tried (seen h.spoiled w')
+    fails_super k left w' l f = record_fails seen_now k (hidden (h.spoiled k) left) (seen h.spoiled w') h.failed_at h.tried
+        (hidden_left (h.spoiled k) left.super (w.stored k).super (Some (super_for w k)) l) (seen_fails h.spoiled w g k left w' f) t.recorded
+
+    tried_seen : (n : ℕ) (p : Request) (k : ℕ) → MayWrite g w n p k → Records h.failed_at true seen_now
+    tried_seen n p k may = tried_now h.failed_at h.tried seen_now n p k (seen_may_write h.spoiled w g n p k may) t.alone t.recorded
+
+    abbrev After : Event → World → Type 0
+    After e w' = Records (failed_after e w' h.failed_at) (tried_after e h.tried) (seen (spoiled_after e w h.spoiled) w')
+
+    -- nothing changes of it
+    as_seen : (w' u : World) → w' ≡ u → Holds (seen h.spoiled u) → Holds (seen h.spoiled w')
+    as_seen w' u is r = subst (λ x. Holds (seen h.spoiled x)) (sym is) r
+
+    recorded_step : (e : Event) (w' : World) → ((d : ℕ) → away d ≡ true → w'.present d ≡ false) → Happens g w e w' → After e w'
+    recorded_step (Event.Begin n p) w' gone s = as_seen w' (begun g w n p s.0 s.1) s.5
+        (subst Holds (seen_begun h.spoiled w g n p s.0 s.1) (rise_recorded seen_now n p s.0 s.1 h.failed_at h.tried t.recorded))
+    recorded_step (Event.Record k) w' gone s = subst (λ u. Holds (seen (put k false h.spoiled) u)) (sym s.3)
+        (stored_anew (recorded w k s.0) k (recorded_device w k s.0) (recorded_recorded g small.few opened h.failed_at h.tried away seen_now k s.0 s.2 t.recorded))
+    recorded_step (Event.StoreMarks k b) w' gone s = as_seen w' (marks_stored w k b) s.1 (stored_same (marks_stored w k b) k (marked_device w k b) refl t.recorded)
+    recorded_step (Event.WriteMember n k) w' gone s = subst (λ u. Records h.failed_at true (seen h.spoiled u)) (sym s.2)
+        (same_supers h.failed_at true seen_now (seen h.spoiled (member_written w n s.0 k)).stored (kept_super h.spoiled w k (written_device w k s.0) refl) (tried_seen n s.0 k s.1))
+    recorded_step (Event.Finish n) w' gone s = as_seen w' (finished w n) s.2 t.recorded
+    recorded_step (Event.ClearIdle c) w' gone s = as_seen w' (unmarked w c) s.1 t.recorded
+    recorded_step (Event.Fail k) w' gone s = fails_same h.tried k (w.stored k) w' refl s.1 t.recorded
+    recorded_step (Event.RecordFails k) w' gone s = fails_super k s.0 w' s.1.super s.2
+    recorded_step (Event.StoreMarksFails k b) w' gone s = fails_same h.tried k s.0 w' (ap (λ (d : Stored). d.super) s.2.rest) s.3 t.recorded
+    recorded_step (Event.WriteMemberFails n k) w' gone s = fails_same true k s.0 w' (ap (λ (d : Stored). d.super) s.3.rest) s.4 (tried_seen n s.1 k s.2)
+    recorded_step (Event.CopyFails k c) w' gone s = fails_same h.tried k s.0 w' (ap (λ (d : Stored). d.super) s.3.rest) s.4 t.recorded
+    recorded_step (Event.Copy from k x) w' gone s = as_seen w' (copied w from k x) s.1 (stored_same (copied w from k x) k (copied_device w from k x) refl t.recorded)
+    recorded_step Event.Resynced w' gone s = as_seen w' (made_resynced w true) s.1 t.recorded
+    recorded_step Event.Unresynced w' gone s = as_seen w' (made_resynced w false) s.1 t.recorded
+    recorded_step Event.MakeClean w' gone s = as_seen w' (made_clean g w s.0) s.3 (recorded_risen g small.few opened h.failed_at h.tried away seen_now s.0 t.recorded)
+    recorded_step (Event.Remove k) w' gone s = removed_step k w' gone s
+    recorded_step (Event.Add d left) w' gone s = added_step d left w' gone s
+    recorded_step (Event.ReAdd own device left) w' gone s = taken_back_step own device left w' gone s
+    recorded_step (Event.Fill k) w' gone s = target_same k s.0 (ap (λ (d : Stored). d.super) s.2.rest) w' s.3
+    recorded_step (Event.Prepare k) w' gone s = target_same k s.0 (ap (λ (d : Stored). d.super) s.2.rest) w' s.3
+    recorded_step (Event.RecordTargetFails k) w' gone s = target_left k s.0 w' s.1
+    recorded_step (Event.SpoilTarget k) w' gone s = target_spoiled k s.0 w' s.1
+    recorded_step (Event.Enrol k role listed) w' gone s = enrolled_step k role listed w' s
+    recorded_step (Event.Admit k role listed) w' gone s = admitted_step k role listed w' s
+    recorded_step (Event.Checkpoint k offset listed) w' gone s = subst (λ u. Holds (seen (put k false h.spoiled) u)) (sym s.1)
+        (stored_anew (checkpointed w k offset listed) k (recorded_device (with_offset w k offset) k listed)
+        (recorded_recorded g small.few opened h.failed_at h.tried away (with_offset seen_now k offset) k listed
+        (target_recorded (w.state k) (recovering_target (w.state k) s.0.recovering)) t.recorded))
+    recorded_step (Event.NoteBad k c) w' gone s = as_seen w' (noted_bad g w k c) s.1 t.recorded
+    recorded_step (Event.StoreLog k listed) w' gone s = as_seen w' (log_stored w k listed) s.2
+        (due_again h.failed_at h.tried (seen h.spoiled (with_device w k (record (w.stored k) { listed = listed }))) k
+        (stored_same w k (record (w.stored k) { listed = listed }) refl t.recorded))
+    recorded_step (Event.StoreLogFails k) w' gone s = fails_super k s.0 w' s.2.super s.3
 
   -- a failure takes no role to an absent device
   fails_alone : (w : World) (k : ℕ) (left : Stored) (w' : World) → ((d : ℕ) → away d ≡ true → w.present d ≡ false) → Fails g w k left w' → IsAlone g away w'
@@ -342,6 +399,7 @@ module _ (g : Geometry) (small : IsWithinLimits g) (opened : Super) (away : ℕ 
   alone_step w here (Event.Fill k) w' gone then t s = subst (IsAlone g away) (sym s.3) t
   alone_step w here (Event.Prepare k) w' gone then t s = subst (IsAlone g away) (sym s.3) t
   alone_step w here (Event.RecordTargetFails k) w' gone then t s = subst (IsAlone g away) (sym s.1.2) t
+  alone_step w here (Event.SpoilTarget k) w' gone then t s = subst (IsAlone g away) (sym s.1.2) t
   alone_step w here (Event.Enrol k role listed) w' gone then t s = subst (IsAlone g away) (sym s.3) (λ m q d e. absurd (none_some q (sym (s.1.rebuild.idle m) ∙ e)))
   alone_step w here (Event.Admit k role listed) w' gone then t s = subst (IsAlone g away) (sym s.3) (λ m q d _ off low. put-at (w.number k) role (role_at_rise g w) d (λ x. x < g.raid_disks → ⊥)
       (λ same _. true≢false (sym (here k (target_recorded (w.state k) (spare_target (w.state k) s.1.spare))) ∙ sym (ap w.present same) ∙ gone d off)) (λ _ l. absent_none g w d small.few (gone d off) l) low)
@@ -373,6 +431,7 @@ still_away Event.MakeClean before d x = x
 still_away (Event.Fill k) before d x = x
 still_away (Event.Prepare k) before d x = x
 still_away (Event.RecordTargetFails k) before d x = x
+still_away (Event.SpoilTarget k) before d x = x
 still_away (Event.Enrol k role listed) before d x = x
 still_away (Event.Admit k role listed) before d x = x
 still_away (Event.Checkpoint k offset listed) before d x = x
@@ -424,6 +483,7 @@ gone_step g w (Event.ReAdd own device left) w' before gone s d x =
 gone_step g w (Event.Fill k) w' before gone s d x = ap (λ (v : World). v.present d) s.3 ∙ gone d x
 gone_step g w (Event.Prepare k) w' before gone s d x = ap (λ (v : World). v.present d) s.3 ∙ gone d x
 gone_step g w (Event.RecordTargetFails k) w' before gone s d x = ap (λ (v : World). v.present d) s.1.2 ∙ gone d x
+gone_step g w (Event.SpoilTarget k) w' before gone s d x = ap (λ (v : World). v.present d) s.1.2 ∙ gone d x
 gone_step g w (Event.Enrol k role listed) w' before gone s d x = ap (λ (v : World). v.present d) s.3 ∙ gone d x
 gone_step g w (Event.Admit k role listed) w' before gone s d x = ap (λ (v : World). v.present d) s.3 ∙ gone d x
 gone_step g w (Event.Checkpoint k offset listed) w' before gone s d x = ap (λ (v : World). v.present d) s.1 ∙ gone d x
@@ -470,12 +530,12 @@ module _ (g : Geometry) (small : IsWithinLimits g) (opened : Super) where
       let away = (then_in h e w').away in
       let from : (d : ℕ) → away d ≡ true → h.away d ≡ true = λ d. still_away e h.away d in
       let gone : (d : ℕ) → away d ≡ true → w'.present d ≡ false = gone_step g h.now e w' h.away t.recorded.gone s.1 in
-      let r = narrower g opened h.failed_at h.tried h.away away (book_of h.now) from t.recorded in
+      let r = narrower g opened h.failed_at h.tried h.away away (book_of (seen h.spoiled h.now)) from t.recorded in
       let alone : IsAlone g away h.now = λ n p d e off. t.alone n p d e (from d off) in
       record {
         tracked = tracked_step g small h.now t.unstored e w' t.tracked s.1;
         unstored = unstored_step g h.now e w' t.tracked t.unstored s.1;
-        recorded = recorded_step g small opened away h e w' (record { recorded = r; alone = alone }) gone s.1;
+        recorded = recorded_step g small opened away h (record { recorded = r; alone = alone }) e w' gone s.1;
         alone = alone_step g small opened away h.now (λ j on. r.present j (r.there j on)) e w' r.gone gone alone s.1;
       }
 

@@ -1,17 +1,16 @@
 -- Once resynced, each member in sync has the marks of memory stored, but for chunks of requests in flight; and every event keeps that.
-use Rattle.std.proofs.Common.{◌≡◌, ◌≢◌, ℕ, ◌<◌, ◌≤◌, ◌+◌, ◌-◌, ◌*◌, ◌/◌, Bool, true, false, cond, ◌&&◌, ◌||◌, ⊎_elim, leb, refl, sym, ap, ◌∙◌, subst, true≢false, eqb, arith, List, [], ◌∷◌}
-use Rattle.std.specs.Prelude.{Some, None, Option, nat_lt}
-use Rattle.std.proofs.lemmas.Bool.{leb-true, le-leb, and_from, and_parts, or_parts}
+use Rattle.std.proofs.Common.{◌≡◌, ◌≢◌, ℕ, ◌<◌, ◌≤◌, ◌+◌, ◌-◌, ◌*◌, ◌/◌, Bool, true, false, cond, ◌||◌, ⊎_elim, leb, refl, sym, ap, ◌∙◌, subst, true≢false, eqb, arith, List, [], ◌∷◌}
+use Rattle.std.specs.Prelude.{Some, None, nat_lt}
+use Rattle.std.proofs.lemmas.Bool.{leb-true, le-leb, and_from, and_parts}
 use Rattle.std.proofs.Math.Nat.{div-mul-le_self, mul-div_cancel, mul-le-mul_right}
 use Rattle.std.proofs.lemmas.Nat.{le-div}
 use Rattle.md_model.specs.Sectors.{Geometry, chunk_of, block_of, put}
-use Rattle.md_model.specs.States.{State, is_in_sync}
+use Rattle.md_model.specs.States.{is_in_sync}
 use Rattle.md_model.specs.Devices.{Super, Stored}
 use Rattle.md_model.specs.Worlds.{Request, touches, World, IsInSync, IsInFlight}
 use Rattle.md_model.specs.Counts.{risen}
 use Rattle.md_model.specs.Steps.{begun, bits_after, entered, finished, marks_stored, member_written, recorded, touches_chunk, unmarked, with_device, MayBegin, MayFinish}
 use Rattle.md_model.specs.Failures.{failed}
-use Rattle.md_model.specs.Resyncing.{copied, made_clean, made_resynced}
 use Rattle.md_model.specs.Membership.{former_member, is_spare, joined, new_member, removed, skip, Newcomer}
 use Rattle.md_model.specs.Rebuilding.{admitted, checkpointed, enrolled, is_target, MayEnrol}
 use Rattle.md_model.specs.Listing.{log_stored, noted_bad}
@@ -21,7 +20,7 @@ use Rattle.md_model.specs.Lives.{Always, IsNoted}
 use Rattle.md_model.proofs.Cases.{by_test, never, none_some, some-injective, below-nat_lt, is_above}
 use Rattle.md_model.proofs.Puts.{by_same, put-at, put-hit, put-miss}
 use Rattle.md_model.proofs.Steps.Tracked.{IsFewer, IsTracked}
-use Rattle.md_model.proofs.Steps.TrackedSteps.{fewer_recorded, fewer_failed, flights, left_off, other_flights}
+use Rattle.md_model.proofs.Steps.TrackedSteps.{fewer_recorded, fewer_failed, flights, other_flights}
 use Rattle.md_model.proofs.Steps.Membership.{was_member}
 use Rattle.md_model.proofs.Steps.Rebuilding.{fewer_admitted, fewer_checkpointed, fewer_log_stored, fewer_noted_bad, fewer_target, recovering_target, spare_target, was_in_sync}
 use Rattle.md_model.proofs.Steps.Keeps.{kept_run, kept_step, IsKept}
@@ -187,6 +186,7 @@ module _ (g : Geometry) (wide : 0 < g.width) where
   noted_step w (Event.Fill k) w' _ t s = noted_target w k s.0 s.1.rebuild.target w' s.3 t
   noted_step w (Event.Prepare k) w' _ t s = noted_target w k s.0 s.1.target w' s.3 t
   noted_step w (Event.RecordTargetFails k) w' _ t s = noted_target w k s.0 s.1.0 w' s.1.2 t
+  noted_step w (Event.SpoilTarget k) w' _ t s = noted_target w k s.0 s.1.0 w' s.1.2 t
   noted_step w (Event.Enrol k role listed) w' _ t s = subst (HasNoted g) (sym s.3) (noted_enrolled w k role listed s.0 s.1 t)
   noted_step w (Event.Admit k role listed) w' _ t s = subst (HasNoted g) (sym s.3)
       (noted_fewer w (admitted g w k role listed s.0) (fewer_admitted g w k role listed s.0 (spare_target (w.state k) s.1.spare)) t)

@@ -1,25 +1,25 @@
 -- Active members have roles of their own: so while one is recovering, some role has no member in sync.
-use Rattle.std.proofs.Common.{◌≡◌, ◌≢◌, ℕ, ◌<◌, Bool, true, false, refl, sym, ap, ◌∙◌, subst, true≢false, eqb, arith}
-use Rattle.std.specs.Prelude.{Some, nat_lt}
+use Rattle.std.proofs.Common.{◌≡◌, ◌≢◌, ℕ, ◌<◌, Bool, true, false, refl, sym, ap, ◌∙◌, subst, true≢false}
+use Rattle.std.specs.Prelude.{nat_lt}
 use Rattle.md_model.specs.Sectors.{Geometry, put}
 use Rattle.md_model.specs.States.{State, is_active, is_in_sync, is_recorded, is_recovering}
 use Rattle.md_model.specs.States.State.{InSync, Recovering, Stale, Spare, Faulty}
 use Rattle.md_model.specs.Devices.{Super, Stored}
-use Rattle.md_model.specs.Worlds.{Request, World, IsInSync}
+use Rattle.md_model.specs.Worlds.{Request, World}
 use Rattle.md_model.specs.Counts.{risen}
 use Rattle.md_model.specs.Steps.{begun, with_device}
 use Rattle.md_model.specs.Failures.{failed}
-use Rattle.md_model.specs.Membership.{former_member, is_spare, joined, new_member, removed, skip, MayReAdd, Newcomer}
-use Rattle.md_model.specs.Rebuilding.{admitted, as_in_sync, as_recovering, enrolled, takes_role, MayAdmit, MayEnrol, Taking}
+use Rattle.md_model.specs.Membership.{former_member, is_spare, joined, new_member, removed, skip, Newcomer}
+use Rattle.md_model.specs.Rebuilding.{as_in_sync, as_recovering, takes_role, Taking}
 use Rattle.md_model.specs.Events.{Event, Fails, Happens}
 use Rattle.md_model.specs.Behind.{IsDegraded}
 use Rattle.md_model.specs.Openings.{IsOpened, IsWithinLimits}
-use Rattle.md_model.specs.Runs.{History, opening, IsStart}
+use Rattle.md_model.specs.Runs.{History, IsStart}
 use Rattle.md_model.proofs.Cases.{by_test, is_below, not_below}
 use Rattle.md_model.proofs.Puts.{by_same, put-at, put-hit, put-miss}
 use Rattle.md_model.proofs.Table.{says_recovering}
 use Rattle.md_model.proofs.Steps.Keeps.{IsKept}
-use Rattle.md_model.proofs.Steps.Recorded.{book_of, other_entry, IsRecorded}
+use Rattle.md_model.proofs.Steps.Recorded.{other_entry}
 use Rattle.md_model.proofs.Steps.RecordedSteps.{present_keeps}
 use Rattle.md_model.proofs.Steps.Membership.{number_absent, skip-injective}
 use Rattle.md_model.proofs.Steps.Rebuilding.{recovering_out}
@@ -250,6 +250,7 @@ module _ (g : Geometry) (small : IsWithinLimits g) (opened : Super) (h : History
   roles_step (Event.Fill k) w' s = subst (HasRoles g) (sym s.3) (as_was g w _ refl refl refl t)
   roles_step (Event.Prepare k) w' s = subst (HasRoles g) (sym s.3) (as_was g w _ refl refl refl t)
   roles_step (Event.RecordTargetFails k) w' s = subst (HasRoles g) (sym s.1.2) (as_was g w _ refl refl refl t)
+  roles_step (Event.SpoilTarget k) w' s = subst (HasRoles g) (sym s.1.2) (as_was g w _ refl refl refl t)
   roles_step (Event.Enrol k role listed) w' s = subst (HasRoles g) (sym s.3) (roles_taking k (as_in_sync (risen g w s.0) role listed) s.0 (target_there k s.1.recovering) s.1.below s.1.free)
   roles_step (Event.Admit k role listed) w' s = subst (HasRoles g) (sym s.3)
       (roles_taking k (as_recovering w k role listed) s.0 (kept.recorded.there k (spare_recorded (w.state k) s.1.spare)) s.1.below (λ j _ on. s.1.free j on))

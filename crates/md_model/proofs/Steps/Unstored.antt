@@ -6,7 +6,7 @@ use Rattle.std.proofs.lemmas.Bool.{or_parts}
 use Rattle.md_model.specs.Sectors.{Geometry, chunk_of, put}
 use Rattle.md_model.specs.States.{State, is_in_sync}
 use Rattle.md_model.specs.Devices.{Stored, AgreeAt}
-use Rattle.md_model.specs.Worlds.{Request, touches, World, IsInSync, IsInFlight, IsQuiet}
+use Rattle.md_model.specs.Worlds.{Request, touches, World, IsInSync, IsQuiet}
 use Rattle.md_model.specs.Counts.{risen}
 use Rattle.md_model.specs.Steps.{begun, entered, finished, marks_stored, member_written, recorded, recorded_device, with_device, KeepsList, MayBegin, MayFinish, MayWrite}
 use Rattle.md_model.specs.Failures.{failed}
@@ -21,7 +21,7 @@ use Rattle.md_model.proofs.Steps.Tracked.{IsFewer, IsTracked}
 use Rattle.md_model.proofs.Steps.TrackedSteps.{fewer_recorded, fewer_failed, quiet_but, content_marked, listed_marked, content_written, listed_written, quiet_written}
 use Rattle.md_model.proofs.Steps.TrackedCalls.{content_copied, content_at_copy, listed_copied}
 use Rattle.md_model.proofs.Steps.Membership.{same_device, was_member}
-use Rattle.md_model.proofs.Steps.Rebuilding.{by_device, fewer_admitted, fewer_checkpointed, fewer_log_stored, fewer_noted_bad, fewer_target, not_target, recovering_out, recovering_target, spare_target, was_in_sync}
+use Rattle.md_model.proofs.Steps.Rebuilding.{by_device, fewer_admitted, fewer_checkpointed, fewer_log_stored, fewer_target, not_target, recovering_out, recovering_target, spare_target, was_in_sync}
 
 pub record IsUnstored (w : World) : Type 0 where
   pub listed : (k s : ℕ) → IsInSync w k → w.bad k s ≡ false → (w.stored k).listed s ≡ false
@@ -177,6 +177,7 @@ module _ (g : Geometry) where
   unstored_step w (Event.Fill k) w' t u s = unstored_target w k s.0 s.1.rebuild.target w' s.3 u
   unstored_step w (Event.Prepare k) w' t u s = unstored_target w k s.0 s.1.target w' s.3 u
   unstored_step w (Event.RecordTargetFails k) w' t u s = unstored_target w k s.0 s.1.0 w' s.1.2 u
+  unstored_step w (Event.SpoilTarget k) w' t u s = unstored_target w k s.0 s.1.0 w' s.1.2 u
   unstored_step w (Event.Enrol k role listed) w' t u s = subst IsUnstored (sym s.3) (unstored_enrolled w k role listed s.0 s.1 u)
   unstored_step w (Event.Admit k role listed) w' t u s = subst IsUnstored (sym s.3)
       (unstored_same w (admitted g w k role listed s.0) (fewer_admitted g w k role listed s.0 (spare_target (w.state k) s.1.spare))

@@ -1,10 +1,10 @@
-use Rattle.std.proofs.Common.{ℕ, ◌*◌, ◌++◌, ◌∷◌, [], subst}
+use Rattle.std.proofs.Common.{◌≡◌, ℕ, ◌*◌, List, ◌++◌, ◌∷◌, [], ap, ◌∙◌, subst, length}
 use Rattle.md_device.specs.Splice.{SameOutside}
 use Rattle.md_members.specs.Areas.{bitmap_sectors}
 use Rattle.md_members.specs.Members.{sectors_of}
 use Rattle.md_members.specs.Reading.{BitmapStartsAt}
 use Rattle.md_writes.specs.Bitmaps.{bitmap_writes}
-use Rattle.md_writes.specs.Writes.{DoesWrites, FailsInWrites}
+use Rattle.md_writes.specs.Writes.{DoesWrites, FailsInWrites, MakesWrites}
 use Rattle.md_writes.proofs.Runs.{does_any, stops_any, stops_front, stops_then}
 use Rattle.md_kept_members.specs.View.{MemberView}
 use Rattle.md_state.specs.View.{disk_of}
@@ -74,6 +74,10 @@ returns-in_err-store_log-clause-data g c =
     data_then c.args.member.now (of c.args.device.now) (of c.store_bitmap.new.device) (of c.store_log.new.device)
     (beside_bitmap g (goal.at.returns-in_err-store_log-clause-data g c).After-store_bitmap) c.in_err-store_log.ensures.data
 
+-- the bytes that are written last
+block_is : (g : given.Over) (c : After-store_bitmap g) → c.block_for-block.result ≡ (write_of c.args.shared.now c.args.member.now).bytes
+block_is g c = c.block_for-block.ensures.bytes ∙ ap (λ (m : MemberView). (write_of c.args.shared.now m).bytes) c.member.view_is
+
 pub returns-clause-writes : goal.returns-clause-writes
 returns-clause-writes g c =
     let at = (goal.at.returns-clause-writes g c).After-store_bitmap in
@@ -86,12 +90,13 @@ returns-clause-writes g c =
     let was = c.args.device.now in
     let marked = c.store_bitmap.new.device in
     let listed = c.store_log.new.device in
-    let now = c.store_superblock.new.device in
+    let now = c.put.new.device in
+    let stored = subst (λ (bytes : List ℕ). MakesWrites g.D.Device (record { sector = 8; bytes = bytes } ∷ []) listed now c.put.result) (block_is g at) c.put.ensures.writes in
     let made = subst (λ (m : MemberView). DoesWrites g.D.Device (bitmap_writes s h m.stored (bitmap_sectors m.stored.chunks)) was marked) c.member.view_is c.in_ok-store_bitmap.ensures.writes in (
       s,
       starts g at,
-      does_any g.D.Device bitmap (log ++ write_of v n ∷ []) was marked now c.store_superblock.result made
-          (does_any g.D.Device log (write_of v n ∷ []) marked listed now c.store_superblock.result c.in_ok-store_log.ensures.writes c.store_superblock.ensures.writes),
+      does_any g.D.Device bitmap (log ++ write_of v n ∷ []) was marked now c.put.result made
+          (does_any g.D.Device log (write_of v n ∷ []) marked listed now c.put.result c.in_ok-store_log.ensures.writes stored),
     )
 
 pub returns-clause-data : goal.returns-clause-data
@@ -101,9 +106,9 @@ returns-clause-data g c =
     let was = of c.args.device.now in
     let marked = of c.store_bitmap.new.device in
     let listed = of c.store_log.new.device in
-    let now = of c.store_superblock.new.device in
+    let now = of c.put.new.device in
     data_then n was marked now
     (beside_bitmap g (goal.at.returns-clause-data g c).After-store_bitmap)
     (data_then n marked listed now c.in_ok-store_log.ensures.data
     (data_beside_super n listed now (sectors_of was.content) c.requires.placed
-    (subst (λ (x : ℕ). SameOutside (512 * 8) x listed.content now.content) c.store_superblock.ensures.readable.size c.store_superblock.ensures.outside)))
+    (subst (λ (x : ℕ). SameOutside (512 * 8) x listed.content now.content) (ap length c.block_for-block.ensures.bytes ∙ c.block_for-block.ensures.readable.size) c.put.ensures.outside)))

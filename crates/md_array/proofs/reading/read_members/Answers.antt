@@ -5,8 +5,9 @@ use Rattle.md_members.specs.declared.info.MemberInfo.{MemberInfo}
 use Rattle.md_state.specs.DeviceChanges.{IsUntouched, LeavesAsWas, StaysHonest}
 use Rattle.md_array.specs.Reading.{RefusesRead, refusal_of}
 use Rattle.md_array.proofs.Openings.DevicesInTurn.{disk_at, still_untouched}
-use Rattle.md_array.proofs.Openings.MembersRead.{AreReadSoFar, read_more, refused_at}
+use Rattle.md_array.proofs.Openings.MembersRead.{AreReadSoFar, read_more, refused_at, short_more}
 use Rattle.md_array.proofs.reading.read_members.Goals as goal
+use Rattle.md_array.proofs.Steps.SpareAdded.{told_short}
 
 untouched : {D : Type 0} (disk : D → Disk) (before : List Disk) (devices : List D) (k : ℕ) (x new : D) → k < length devices → IsUntouched before (map disk devices)
     → StaysHonest (disk (get_or devices k x)) (disk new) → (disk new).content ≡ (disk (get_or devices k x)).content → LeavesAsWas (disk (get_or devices k x)) (disk new) → IsUntouched before (map disk (set devices k new))
@@ -17,29 +18,33 @@ untouched disk before devices k x new within same stays kept leaves =
 pub returns-in-Err : goal.returns-in-Err
 returns-in-Err g c =
     let disk = disk_of g.D.Device in
-    let was = get_or c.loop-k.devices c.loop-k.k c.index-devices-k.result in
+    let was = get_or c.loop-k.devices c.loop-k.k c.index-devices-k-in-loop-k.result in
     record {
-      untouched = untouched disk (map disk c.args.devices.now) c.loop-k.devices c.loop-k.k c.index-devices-k.result c.read_member.new.device (omega arith) c.loop-k.invariant.untouched
+      untouched = untouched disk (map disk c.args.devices.now) c.loop-k.devices c.loop-k.k c.index-devices-k-in-loop-k.result c.read_member.new.device (omega arith) c.loop-k.invariant.untouched
           (record { honest = c.read_member.ensures.honest; counted = c.read_member.ensures.counted }) c.read_member.ensures.kept c.read_member.ensures.within;
       read = subst (RefusesRead (map disk c.args.devices.now) (map disk (set c.loop-k.devices c.loop-k.k c.read_member.new.device))) (sym c.refusal.ensures)
           (subst (λ (now : List Disk). RefusesRead (map disk c.args.devices.now) now (refusal_of c.loop-k.k c.in-Err.fault)) (sym (map-set disk c.loop-k.devices c.loop-k.k c.read_member.new.device))
           (refused_at (map disk c.args.devices.now) (map disk c.loop-k.devices) c.loop-k.infos.items c.loop-k.k (disk was) (disk c.read_member.new.device) c.in-Err.fault c.loop-k.invariant.count
-          (disk_at disk c.loop-k.devices c.loop-k.k c.index-devices-k.result (omega arith))
+          (disk_at disk c.loop-k.devices c.loop-k.k c.index-devices-k-in-loop-k.result (omega arith))
           c.loop-k.invariant.untouched c.loop-k.invariant.read c.in-Err.ensures.reads));
     }
 
 pub loop-k-preserved : goal.loop-k-preserved
 loop-k-preserved g c =
     let disk = disk_of g.D.Device in
-    let was = get_or c.loop-k.devices c.loop-k.k c.index-devices-k.result in
+    let was = get_or c.loop-k.devices c.loop-k.k c.index-devices-k-in-loop-k.result in
+    let told = get_or c.loop-k.devices c.loop-k.k c.index-devices-k.result in
     let pushed : length c.push_reserved.new.self.items ≡ length c.loop-k.infos.items + 1 = ap length c.push_reserved.ensures.items ∙ length_push c.loop-k.infos.items c.in-Ok.info in
     record {
-      untouched = untouched disk (map disk c.args.devices.now) c.loop-k.devices c.loop-k.k c.index-devices-k.result c.read_member.new.device (omega arith) c.loop-k.invariant.untouched
+      untouched = untouched disk (map disk c.args.devices.now) c.loop-k.devices c.loop-k.k c.index-devices-k-in-loop-k.result c.read_member.new.device (omega arith) c.loop-k.invariant.untouched
           (record { honest = c.read_member.ensures.honest; counted = c.read_member.ensures.counted }) c.read_member.ensures.kept c.read_member.ensures.within;
       read = subst (λ (infos : List MemberInfo). AreReadSoFar (map disk c.args.devices.now) infos) (sym c.push_reserved.ensures.items)
           (read_more (map disk c.args.devices.now) (map disk c.loop-k.devices) c.loop-k.infos.items c.loop-k.k (disk was) c.in-Ok.info c.loop-k.invariant.count
-          (disk_at disk c.loop-k.devices c.loop-k.k c.index-devices-k.result (omega arith))
+          (disk_at disk c.loop-k.devices c.loop-k.k c.index-devices-k-in-loop-k.result (omega arith))
           c.loop-k.invariant.untouched c.loop-k.invariant.read c.in-Ok.ensures.reads);
+      short = short_more (map disk c.args.devices.now) (map disk c.loop-k.devices) c.loop-k.k (disk told)
+          (disk_at disk c.loop-k.devices c.loop-k.k c.index-devices-k.result (omega arith)) c.loop-k.invariant.untouched
+          (told_short c.sectors-sectors.result (g.D.Device.content told) c.sectors-sectors.ensures.size c.sectors-sectors.ensures.limit) c.loop-k.invariant.short;
       count = pushed ∙ ap (λ n. n + 1) c.loop-k.invariant.count;
       size = search rules;
       room = search rules;

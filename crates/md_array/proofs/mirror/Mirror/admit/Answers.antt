@@ -6,7 +6,7 @@ use Rattle.md_kept_members.specs.View.{MemberView}
 use Rattle.md_state.specs.Admitting.{MayAdmit}
 use Rattle.md_state.specs.Members.{IsMember}
 use Rattle.md_state.specs.View.{MirrorView, disk_of}
-use Rattle.md_array.specs.Admitting.{Admits, FailsOnTargetAlone, FailsToAdmit}
+use Rattle.md_array.specs.Admitting.{Admits, FailsAsTarget, FailsToAdmit}
 use Rattle.md_array.specs.Consistency.{IsConsistent}
 use Rattle.md_array.specs.Recording.{own_write}
 use Rattle.md_state.proofs.Members.At.{member_read}
@@ -64,7 +64,7 @@ returns-then-is_err-clause-event g c =
     let at = (goal.at.returns-then-is_err-clause-event g c).After-index_mut in
     let was : MirrorView = record { disks = map disk devices; array = c.self.inside.array } in
     let new : MirrorView = record { disks = map disk (set devices c.args.k c.store_fields.new.device); array = c.self.inside.array } in
-    subst (λ (v : MirrorView). FailsOnTargetAlone c.args.k v new) c.self.view_is
+    subst (λ (v : MirrorView). FailsAsTarget c.args.k v new) c.self.view_is
     (unadmitted_happens c.args.k c.in_ok-role.role was new c.in_ok-role.ensures c.in-Ok.own c.in-Ok-shared_with.shared (own_is g at c.in_ok-role.ensures) c.in-Ok-shared_with.ensures c.store_fields.ensures.readable refl
     (is_failed g.D.Device devices c.args.k c.index_mut.result.now c.index_mut.ensures.value c.store_fields.new.device (own_write c.in-Ok-shared_with.shared c.in-Ok.own) (on_device g at) c.store_fields.ensures.outside
     (err_of c.store_fields.result _ _ c.if-is_err.ensures.value c.store_fields.ensures.writes))

@@ -9,7 +9,7 @@ use Rattle.md_state.specs.View.{MirrorView, disk_of}
 use Rattle.md_array.specs.Consistency.{IsConsistent}
 use Rattle.md_array.specs.Enrolling.{Enrols, FailsToEnrol}
 use Rattle.md_array.specs.declared.mirror.Mirror.TheInside.{Inside}
-use Rattle.md_array.proofs.General.Answered.{err_of, ok_gives, ok_of}
+use Rattle.md_array.proofs.General.Answered.{err_of, ok_of}
 use Rattle.md_array.proofs.Steps.OneWrite.{here, within_devices}
 use Rattle.md_array.proofs.Rebuilding.MemberEnrolled.{enrolled_is_consistent, enrolled_read}
 use Rattle.md_array.proofs.Rebuilding.EnrolUnstored.{out_of_sync, idle_pending, unenrolled_is_consistent}
@@ -76,7 +76,7 @@ fails g c =
     let writes = c.store_member.ensures.writes in
     subst (λ (old : MirrorView). FailsToEnrol c.args.k c.args.copied.now c.args.orphans.now old new) c.self.view_is
     (fails_by c.args.k c.in_ok-role.role c.args.copied.now c.args.orphans.now (record { disks = map of devices; array = a }) new n c.in_ok-role.ensures c.in_ok-member.ensures
-    writes.0 writes.1 c.header_under-header.result (header g at) c.in-Ok.shared (same_shared g at) (λ i. a)
+    writes.0 writes.1 c.header_under-header.result (header g at) c.in-Ok.shared (same_shared g at) (λ i. a) c.store_member.ensures.readable
     (failed_alone g.D.Device devices c.args.k c.index_mut.result.now c.index_mut.ensures.value (on_device g at) c.store_member.new.device n c.store_member.ensures.data _
     (err_of c.store_member.result _ _ c.if-is_err.ensures.value writes.2)))
 
@@ -106,7 +106,7 @@ returns g c =
     subst (λ (v : MirrorView). Enrols c.args.k c.args.copied.now c.args.orphans.now v new) c.self.view_is
     (enrols_by c.args.k c.in_ok-role.role c.args.copied.now c.args.orphans.now (record { disks = map of devices; array = a }) new n c.in_ok-role.ensures c.in_ok-member.ensures
     writes.0 writes.1 c.header_under-header.result (header g at) c.in-Ok.shared (same_shared g at) array
-    (ok_gives c.store_member.result _ c.if-is_err.ensures.value c.store_member.ensures.readable)
+    c.store_member.ensures.readable
     (stored_alone g.D.Device devices c.args.k c.index_mut.result.now c.index_mut.ensures.value (on_device g at) c.store_member.new.device n c.store_member.ensures.data _
     (ok_of c.store_member.result _ _ c.if-is_err.ensures.value writes.2))) in
     record {

@@ -14,10 +14,10 @@ returns-clause-sound g c =
     subst IsConsistent (sym same) (back_is_consistent c.args.self.now c.requires.back.0 after c.requires.back.1)
 
 pub returns-clause-read : goal.returns-clause-read
-returns-clause-read g c before failed_at back are =
+returns-clause-read g c before failed_at spoiled back are =
     let after : List Disk = map (disk_of g.D.Device) c.args.devices.items in
     let same = ap (λ (v : MirrorView). record v { disks = after }) c.self.view_is in
-    subst (λ (v : MirrorView). AreReadAsKept v failed_at) (sym same) (back_is_read c.args.self.now before after back failed_at are)
+    subst (λ (v : MirrorView). AreReadAsKept v failed_at spoiled) (sym same) (back_is_read c.args.self.now before after back failed_at spoiled are)
 
 pub returns-clause-event : goal.returns-clause-event
 returns-clause-event g c =

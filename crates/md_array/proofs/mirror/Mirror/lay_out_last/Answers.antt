@@ -10,7 +10,7 @@ use Rattle.md_array.specs.Consistency.{IsConsistent}
 use Rattle.md_array.specs.declared.mirror.Mirror.TheInside.{Inside}
 use Rattle.md_array.proofs.General.Answered.{err_of, ok_gives, ok_of}
 use Rattle.md_array.proofs.Steps.MemberTakenBack.{joined_is}
-use Rattle.md_array.proofs.Steps.SpareAdded.{laid_last, not_laid, told}
+use Rattle.md_array.proofs.Steps.SpareAdded.{laid_last, not_laid, told, told_short}
 use Rattle.md_array.proofs.mirror.Mirror.lay_out_last.Goals as goal
 
 pub push_reserved-requires : goal.push_reserved-requires
@@ -72,7 +72,8 @@ returns g c =
     let count = ap length items ∙ length_push devices c.lay_out.new.device in
     let last : c.len.result - 1 ≡ length before.members = omega (arith, c.len.ensures, c.push_reserved-2.new.self.ok.0) in
     subst (λ (v : MirrorView). LaysOutLast (c.len.result - 1) (of c.args.device) c.args.number v new) c.self.view_is
-    (laid_last g.D.Device c.args.device c.lay_out.new.device before c.note_joined.new.self c.args.number (c.len.result - 1) laid devices c.push_reserved-2.new.self.items spare
+    (laid_last g.D.Device c.args.device c.lay_out.new.device before c.note_joined.new.self c.args.number (c.len.result - 1) laid devices c.push_reserved-2.new.self.items
+    (told_short c.sectors.result (g.D.Device.content c.args.device) c.sectors.ensures.size c.sectors.ensures.limit) spare
     (ok_gives c.lay_out.result _ c.if-is_err-3.ensures.value c.lay_out.ensures.readable)
     (ok_of c.lay_out.result _ _ c.if-is_err-3.ensures.value c.lay_out.ensures.writes)
     c.lay_out.ensures.outside

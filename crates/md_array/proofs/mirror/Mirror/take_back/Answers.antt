@@ -13,6 +13,7 @@ use Rattle.md_array.specs.ReAdding.{RecordsLast}
 use Rattle.md_array.proofs.General.Answered.{err_of, ok_gives, ok_of}
 use Rattle.md_array.proofs.Steps.MemberTakenBack.{has_marks_for, joined_is, not_recorded, recorded_last}
 use Rattle.md_array.proofs.mirror.Mirror.take_back.Goals as goal
+use Rattle.md_array.proofs.Steps.SpareAdded.{told_short}
 
 pub offset_back-offset-requires-clause-chunks : goal.offset_back-offset-requires-clause-chunks
 offset_back-offset-requires-clause-chunks g c =
@@ -84,4 +85,5 @@ returns g c =
     (subst (λ (v : MirrorView). MayReAdd v.array c.args.info) (sym c.self.view_is) c.requires.may)
     array c.store_superblock.ensures.readable
     (ok_of c.store_superblock.result _ _ c.if-is_err-3.ensures.value c.store_superblock.ensures.writes)
+    (told_short c.sectors-sectors.result (g.D.Device.content c.args.device) c.sectors-sectors.ensures.size c.sectors-sectors.ensures.limit)
     last items)

@@ -1,0 +1,37 @@
+-- What a stop leaves within a call by which a member that is rebuilt tells of it, whatever stands in place of the superblock.
+use Rattle.std.specs.Prelude.{◌≡◌, ◌⊎◌, ℕ, true, List, map}
+use Rattle.md_bitmap.specs.Marks.{Bitmap}
+use Rattle.md_kept_members.specs.View.{MemberView}
+use Rattle.md_state.specs.Members.{IsMember}
+use Rattle.md_state.specs.Missing.{is_rebuilt}
+use Rattle.md_state.specs.View.{MirrorView}
+use Rattle.md_array.specs.Consistency.{IsConsistent}
+use Rattle.md_array.specs.Enrolling.{Enrols, MayEnrol}
+use Rattle.md_array.specs.Enrolments.{Prepares}
+use Rattle.md_array.specs.Recording.{Records}
+use Rattle.md_array.specs.RecordingTarget.{LeavesUnrecorded}
+use Rattle.md_array.specs.Spoiling.{SpoilsTarget}
+use Rattle.md_array.specs.Worlds.{AreHonest}
+use Rattle.md_laws.specs.Left.{IsTargetCall}
+use Rattle.md_laws.specs.StopsWithin.{MayAllBeLeft}
+
+-- the write of a superblock might leave this that failed
+pub record IsLeftSpoiled (k : ℕ) (old : MirrorView) (left : List (List ℕ)) : Type 0 where
+  pub other : MirrorView
+  pub spoils : SpoilsTarget k old other
+  pub contents : map (λ d. d.content) other.disks ≡ left
+
+-- So it is within `admit`, `checkpoint` and the record of a member that is rebuilt, whatever comes of the write: the stop is one after the
+-- event `SpoilTarget`, and the next opening has to leave the device out. (Where the superblock reads as before the call or as after it, or
+-- none is read, it may be there: `IsLeft`.)
+abbrev pub StopsAsSpoiled : Type 0
+StopsAsSpoiled =
+    (k : ℕ) (m : MemberView) (old new : MirrorView) (left : List (List ℕ)) → AreHonest old.disks → IsMember old.array k m → is_rebuilt m.state ≡ true
+    → IsTargetCall k old new ⊎ (Records k old new ⊎ LeavesUnrecorded k old new) → MayAllBeLeft old.disks new.disks left → IsLeftSpoiled k old left
+
+-- Within `enrol` it is one after a preparing, or after that and such a write.
+abbrev pub StopsAtEnrolAsSpoiled : Type 0
+StopsAtEnrolAsSpoiled =
+    (k : ℕ) (copied orphans : Bitmap) (old new : MirrorView) (left : List (List ℕ)) → IsConsistent old → AreHonest old.disks → MayEnrol k copied orphans old
+    → Enrols k copied orphans old new → MayAllBeLeft old.disks new.disks left
+    → (mid : MirrorView) × Prepares k old mid × ((map (λ d. d.content) mid.disks ≡ left) ⊎ IsLeftSpoiled k mid left)
