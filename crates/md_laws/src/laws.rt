@@ -3,7 +3,7 @@
 ghost use Rattle.std.specs.Prelude.{◌≡◌, ◌+◌, ◌<◌, ◌↔◌, ℕ, List, false, true};
 ghost use Rattle.md_badblocks.specs.Runs.{IsBad};
 ghost use Rattle.md_model.specs.Devices.{Covered};
-ghost use Rattle.md_model.specs.Lives.{IsCovered, IsSound};
+ghost use Rattle.md_model.specs.Lives.{AgreesUnstored, IsCovered, IsSound};
 ghost use Rattle.md_model.specs.Openings as openings;
 ghost use Rattle.md_model.specs.Stops.{IsSafeAtStop, KeepsOut, StaysOut};
 ghost use Rattle.md_model.specs.Worlds.{IsInSync};
@@ -19,7 +19,7 @@ ghost use Rattle.md_laws.specs.Lives.{AtEachMoment, ContentGoesAlong, FindsAll, 
 ghost use Rattle.md_laws.specs.Recovering.{KeepsRecovering};
 ghost use Rattle.md_laws.specs.Returning.{StartsAgain};
 ghost use Rattle.md_laws.specs.Runs.{HasContent};
-ghost use Rattle.md_laws.specs.Spoiled.{StopsAsSpoiled, StopsAtEnrolAsSpoiled};
+ghost use Rattle.md_laws.specs.Spoiled.{StopsAsSpoiled, StopsAtEnrolAsSpoiled, StopsAtFailedEnrolAsSpoiled};
 ghost use Rattle.md_laws.specs.StopsReadAs.{ReadsAtAdd, ReadsAtReAdd, ReadsAtTarget};
 ghost use Rattle.md_laws.specs.StopsWithin.{StopsAsFailed, StopsAsFilled, StopsAsPrepared, StopsAsTried, StopsAtAdd, StopsAtEnrol, StopsAtEvents, StopsAtFailedAdd, StopsAtFailedEnrol, StopsAtFailedReAdd, StopsAtFailure, StopsAtReAdd, StopsAtRefusedAdd, StopsAtRefusedReAdd, StopsAtRemoval, StopsAtSector, StopsAtWrite, StopsInMemory, StopsUndivided};
 
@@ -75,6 +75,10 @@ pub fn every_run()
 
     // No member in sync is one whose superblock was spoiled, so that each of them may be there.
     ensures sound { AtEachMoment IsSound }
+
+    // Where a list in memory has a sector that its device does not list yet, its member agrees with the others in sync all the same,
+    // but for requests in flight.
+    ensures agrees_unstored { AtEachMoment AgreesUnstored }
 
     // So each member in sync of the mirror that is opened then was in sync; and each that was, and is there, is in sync, where each
     // of these has recorded all but the last change.
@@ -186,5 +190,6 @@ pub fn stops_at_steps()
     ensures as_prepared { StopsAsPrepared }
     ensures as_spoiled { StopsAsSpoiled }
     ensures enrol_as_spoiled { StopsAtEnrolAsSpoiled }
+    ensures failed_enrol_as_spoiled { StopsAtFailedEnrolAsSpoiled }
     ensures undivided { StopsUndivided }
 {}
