@@ -10,7 +10,7 @@ use Rattle.md_commands.specs.declared.fault.DataFault.{DataFault}
 use Rattle.md_commands.specs.declared.fault.DataFault.TheVariants.{NoMemory, OutputFault, Read}
 use Rattle.md_commands.specs.Output.{PutsOut}
 
--- a piece has so many sectors at most: 1 MiB
+-- a piece has so many sectors at most: 1 MiB. A range of up to so many is one piece
 abbrev pub piece_sectors : ℕ
 piece_sectors = 2048
 

@@ -15,11 +15,14 @@ use md_examine::Sink;
 use md_read::{UnreadFault, read};
 use std::alloc::Global;
 
-// 1 MiB.
-const PIECE_SECTORS: u64 = 2048;
+// 1 MiB: a range of up to so many sectors is one piece.
+const WHOLE_SECTORS: u64 = 2048;
 
-/// Puts out `count` sectors of an array, from this one on, through one buffer. What fits into it is put out
-/// whole or not at all.
+// 256 KiB, the pieces of a longer range: what was read is still in the cache beside a processor when it is put out.
+const PIECE_SECTORS: u64 = 512;
+
+/// Puts out `count` sectors of an array, from this one on, through one buffer. Up to 1 MiB is put out whole
+/// or not at all.
 pub(crate) fn put_sectors<D: Device + Drop, S: Sink>(
     alloc: Global,
     mirror: &mut Mirror<D>,
@@ -34,10 +37,11 @@ pub(crate) fn put_sectors<D: Device + Drop, S: Sink>(
     ensures sound { IsConsistent mirror.new }
     ensures pending { (p : PendingView) → IsPending mirror.old.array p → IsPending mirror.new.array p }
 {
-    let mut piece = buffer(alloc, count.min(PIECE_SECTORS))?;
-    if count <= PIECE_SECTORS {
+    if count <= WHOLE_SECTORS {
+        let mut piece = buffer(alloc, count)?;
         return put_whole(mirror, sector, &mut piece, out);
     }
+    let mut piece = buffer(alloc, PIECE_SECTORS)?;
     put_pieces(mirror, sector, count, &mut piece, out)
 }
 
@@ -60,7 +64,7 @@ fn put_whole<D: Device + Drop, S: Sink>(
     put_out(out, piece)
 }
 
-// Puts out more sectors than the buffer has, each piece once it is read.
+// Puts out more sectors than 1 MiB has, each piece once it is read.
 fn put_pieces<D: Device + Drop, S: Sink>(
     mirror: &mut Mirror<D>,
     sector: u64,
@@ -68,7 +72,7 @@ fn put_pieces<D: Device + Drop, S: Sink>(
     buffer: &mut [u8],
     out: &mut S,
 ) -> Result<(), DataFault>
-    requires room { length buffer.old ≡ 512 * piece_sectors }
+    requires room { length buffer.old ≡ 512 * 512 }
     requires more { piece_sectors < count }
     requires may { MayReadAt mirror.old.array sector count }
     requires fits { sector + count < 2 ^ 64 }

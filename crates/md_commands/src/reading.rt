@@ -15,7 +15,8 @@ use md_read::UnreadFault;
 use std::alloc::Global;
 
 /// Puts out `count` sectors of an array, from this one on. A degraded array that is not resynced is resynced
-/// first. They are read and put out in pieces of 1 MiB, which is all the memory that they take.
+/// first. Up to 1 MiB is read and put out in one piece, and more in pieces of 256 KiB: a piece is all the memory
+/// that they take.
 ///
 /// That the mirror is halted, or the range empty or past the end, is looked for before anything else: that is
 /// `Read` with `Halted` or `OutOfRange`. That members in sync may differ, which is `Read` with `NotResynced`, is

@@ -8,7 +8,7 @@ use Rattle.md_commands.proofs.PiecesPut.{PutsSoFar, not_flushed, puts_all, puts_
 use Rattle.md_commands.proofs.pieces.put_pieces.Goals as goal
 
 -- the sectors of a piece
-piece_of : (buffer : List ℕ) (done count sectors : ℕ) → done < count → length buffer ≡ 512 * piece_sectors → sectors ≡ min piece_sectors (count - done)
+piece_of : (buffer : List ℕ) (done count sectors : ℕ) → done < count → length buffer ≡ 512 * 512 → sectors ≡ min 512 (count - done)
     → (0 < sectors) × (sectors ≤ piece_sectors) × (done + sectors ≤ count) × (length (take (512 * sectors) buffer) ≡ 512 * sectors)
 piece_of buffer done count sectors before room is = (omega arith, omega arith, omega arith, length-take-le (512 * sectors) buffer (omega arith))
 
