@@ -23,8 +23,9 @@ impl<D: Device + Drop> Mirror<D> {
     /// that of the last member. The fault is the first in the order of `ReAddFault`, but that memory is taken
     /// before the write. The device is given back with it, unwritten unless the fault is `WriteFault`.
     ///
-    /// `missing` then names the marked chunks alone. The device has all others if it is as its failure left
-    /// it and some role had no member in sync at each moment since.
+    /// `missing` then names the marked chunks alone, or every chunk where the device was used elsewhere since it
+    /// left: where its own bitmap is not accepted, or marks a chunk that the array does not. In the first case the
+    /// device has all others if it is as its failure left it and some role had no member in sync at each moment since.
     pub fn re_add(&mut self, alloc: Global, device: D) -> Result<usize, (D, ReAddFault)>
         requires sound { IsConsistent self.old }
         ensures gives { MatchResult result (λ k. ReAdds k (disk_of D.Device device) self.old self.new)

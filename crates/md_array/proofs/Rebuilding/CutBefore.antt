@@ -98,7 +98,7 @@ module _ (k : ℕ) (copied orphans : Bitmap) (old new : MirrorView) (c : IsConsi
       }
 
   -- before the superblock's write
-  cut_first : (left : List ℕ) → IsCutShort d.content (first ++ log_writes n.superblock n.bad) left → IsSameBesideMarks old.array it d.content left
+  pub cut_first : (left : List ℕ) → IsCutShort d.content (first ++ log_writes n.superblock n.bad) left → IsSameBesideMarks old.array it d.content left
   cut_first left cut = by_log (has_bad_block_log n.superblock) refl
     where
       by_log : (b : _) → has_bad_block_log n.superblock ≡ b → IsSameBesideMarks old.array it d.content left

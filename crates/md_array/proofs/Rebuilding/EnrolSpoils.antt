@@ -39,7 +39,7 @@ not_empty : (ws : List Write) (w : Write) → ws ++ w ∷ [] ≢ []
 not_empty [] w e = let d : ◌≡◌ {A = List Write} (w ∷ []) [] = e in cc
 not_empty (x ∷ ws) w e = let d : ◌≡◌ {A = List Write} (x ∷ (ws ++ w ∷ [])) [] = e in cc
 
-ends_alike : (xs ys : List Write) (x y : Write) → xs ++ x ∷ [] ≡ ys ++ y ∷ [] → (xs ≡ ys) × (x ≡ y)
+pub ends_alike : (xs ys : List Write) (x y : Write) → xs ++ x ∷ [] ≡ ys ++ y ∷ [] → (xs ≡ ys) × (x ≡ y)
 ends_alike [] [] x y e = let d : ◌≡◌ {A = List Write} (x ∷ []) (y ∷ []) = e in (refl, cc)
 ends_alike [] (w ∷ ys) x y e = let d : ◌≡◌ {A = List Write} (x ∷ []) (w ∷ (ys ++ y ∷ [])) = e in absurd (not_empty ys y cc)
 ends_alike (w ∷ xs) [] x y e = let d : ◌≡◌ {A = List Write} (w ∷ (xs ++ x ∷ [])) (y ∷ []) = e in absurd (not_empty xs x cc)
@@ -71,10 +71,10 @@ module _ (k : ℕ) (copied orphans : Bitmap) (old new : MirrorView) (c : IsConsi
     storable : IsStorable n d.content
     storable = can_store k f.role copied orphans old c n f.comes d was
 
-    abbrev done : Disk
+    abbrev pub done : Disk
     done = record d { content = after d.content f.writes }
 
-    abbrev instead : MirrorView
+    abbrev pub instead : MirrorView
     instead = record { disks = set old.disks k done; array = b }
 
     done_long : length done.content ≡ length d.content
@@ -93,7 +93,7 @@ module _ (k : ℕ) (copied orphans : Bitmap) (old new : MirrorView) (c : IsConsi
       within = λ _. leaves_none d.stops (IsCutShort d.content f.writes);
     }
 
-    abbrev enrols_instead : Enrols k copied orphans old instead
+    abbrev pub enrols_instead : Enrols k copied orphans old instead
     enrols_instead = record {
       role = f.role;
       may = f.may;
