@@ -1,17 +1,19 @@
 -- A pass over devices, as it is seen of the mirror that has lent them.
-use Rattle.std.proofs.Common.{◌≡◌, ◌≢◌, ◌∙◌, ℕ, ◌<◌, true, List, length, map, remove, get_or, slice_get, slice_index_or, Some, All, sym, ap, subst, arith}
+use Rattle.std.proofs.Common.{◌≡◌, ◌≢◌, ◌∙◌, ℕ, ◌+◌, ◌<◌, ◌≤◌, true, List, length, map, remove, get_or, slice_get, slice_index_or, Some, All, sym, ap, subst, arith}
 use Rattle.std.proofs.lemmas.List.{length-map}
 use Rattle.std.proofs.lemmas.Option.{get_or_from_slice_get, same_Some, slice_get-get_or, slice_get_within}
 use Rattle.md_assembly.specs.States.{is_in_sync_as}
 use Rattle.md_bitmap.specs.declared.chunks.Chunks.{Chunks}
+use Rattle.md_bitmap.specs.Marks.{Bitmap, is_set}
 use Rattle.md_cert.specs.declared.slots.Slot.{Slot}
 use Rattle.md_collect.specs.Places.{HasRoom, chunk_on}
 use Rattle.md_collect.specs.Reading.{Fails}
 use Rattle.md_collect.specs.Reports.{Copying}
 use Rattle.md_device.specs.declared.device.Device.{Ghosts}
-use Rattle.md_pass.specs.Beside.{KeepsBeside}
+use Rattle.md_pass.specs.Beside.{KeepsBeside, SameBesideCopied}
 use Rattle.md_pass.specs.Lanes.{AreOnlyRead, OnlyRead}
-use Rattle.md_pass.specs.Sources.{AreCopied, MayRead, copy_of}
+use Rattle.md_pass.specs.Copied.{AreCopied}
+use Rattle.md_pass.specs.Sources.{MayRead, copy_of}
 use Rattle.md_pass.specs.declared.source.Source.{Source}
 use Rattle.md_state.specs.View.{Disk, MirrorView, disk_of, of_disks}
 use Rattle.md_state.specs.DiskWrites.{AtDevice}
@@ -84,20 +86,36 @@ module _ {D : Type 0} (g : Ghosts D) where
         (subst (Fails g (get_or olds target x.from)) (get_or_from_slice_get news target y.from x.from y.at) (fails x.from)) in
         subst (λ (z : Disk). Fails of_disks z e) x.is (subst (Fails of_disks (disk_of g x.from)) y.is both)
 
-    pub other_fails : (j : ℕ) → j ≢ target → ((d : D) → Fails g (slice_index_or (remove olds target) (place_beside target j) d) (slice_index_or (remove news target) (place_beside target j) d))
-        → (d e : Disk) → slice_get (seen olds) j ≡ Some d → slice_get (seen news) j ≡ Some e → Fails of_disks d e
-    other_fails j other fails d e at_d at_e =
+    pub target_beside : (chunks : Chunks) (offset : ℕ) (before after : Bitmap) → ((d : D) → SameBesideCopied chunks offset before after (g.content (slice_index_or olds target d)) (g.content (slice_index_or news target d)))
+        → AtDevice target (seen olds) (seen news) (λ d e. SameBesideCopied chunks offset before after d.content e.content)
+    target_beside chunks offset before after same d e at_d at_e =
+        let x = mapped_from (disk_of g) olds target d at_d in
+        let y = mapped_from (disk_of g) news target e at_e in
+        let both = subst (λ (z : D). SameBesideCopied chunks offset before after (g.content z) (g.content y.from)) (get_or_from_slice_get olds target x.from x.from x.at)
+        (subst (λ (z : D). SameBesideCopied chunks offset before after (g.content (get_or olds target x.from)) (g.content z)) (get_or_from_slice_get news target y.from x.from y.at) (same x.from)) in
+        subst (λ (z : Disk). SameBesideCopied chunks offset before after z.content e.content) x.is (subst (λ (z : Disk). SameBesideCopied chunks offset before after (g.content x.from) z.content) y.is both)
+
+    -- the device of a source has counted its failed slots
+    pub other_counts : (j n : ℕ) → j ≢ target
+        → ((d : D) → g.honest (slice_index_or (remove olds target) (place_beside target j) d) ≡ true → g.failures (slice_index_or (remove olds target) (place_beside target j) d) + n ≤ g.failures (slice_index_or (remove news target) (place_beside target j) d))
+        → (d e : Disk) → slice_get (seen olds) j ≡ Some d → slice_get (seen news) j ≡ Some e → d.honest ≡ true → d.failures + n ≤ e.failures
+    other_counts j n other counts d e at_d at_e honest =
         let x = mapped_from (disk_of g) olds j d at_d in
         let y = mapped_from (disk_of g) news j e at_e in
-        let both = subst (λ (z : D). Fails g z y.from) (beside_old j x.from other x.at x.from)
-        (subst (Fails g (get_or (remove olds target) (place_beside target j) x.from)) (beside_new j y.from other y.at x.from) (fails x.from)) in
-        subst (λ (z : Disk). Fails of_disks z e) x.is (subst (Fails of_disks (disk_of g x.from)) y.is both)
+        let old = beside_old j x.from other x.at x.from in
+        let new = beside_new j y.from other y.at x.from in
+        let up = counts x.from (ap g.honest old ∙ ap (λ (z : Disk). z.honest) x.is ∙ honest) in
+        let a = ap g.failures old in
+        let b = ap g.failures new in
+        let c = ap (λ (z : Disk). z.failures) x.is in
+        let h = ap (λ (z : Disk). z.failures) y.is in
+        omega (arith, up, a, b, c, h)
 
     -- a slot was copied
     module _ (v w : MirrorView) (v_is : v.disks ≡ seen olds) (w_is : w.disks ≡ seen news) (offset : ℕ) (slots : List Slot) (sources : List Source) (are : AreSources v target slots sources) where
-      pub slot_copied : ((d : D) → AreCopied g (copy_of slots v.array.chunks offset) sources (remove olds target) (slice_index_or olds target d) (slice_index_or news target d))
-          → All (IsCopiedSlot target offset v w) slots
-      slot_copied copied k d below =
+      pub slot_copied : (set : Bitmap) → ((d : D) → AreCopied g (copy_of slots v.array.chunks offset) set sources (remove olds target) (slice_index_or olds target d) (slice_index_or news target d))
+          → All (λ slot. is_set set.bytes slot.chunk ≡ true → IsCopiedSlot target offset v w slot) slots
+      slot_copied set copied k d below mark =
           let slot = get_or slots k d in
           let found = are.served k d below in
           let by = found.4 in
@@ -118,7 +136,7 @@ module _ {D : Type 0} (g : Ghosts D) where
                 let x_honest : g.honest x.from ≡ true = ap (λ (z : Disk). z.honest) x.is ∙ from_honest in
                 let place : get_or (remove olds target) s.place x.from ≡ x.from = ap (λ n. get_or (remove olds target) n x.from) by.is.place ∙ beside_old by.at x.from by.is.other x.at x.from in
                 let role : (get_or sources found.0 s).role ≡ slot.source = ap (λ (z : Source). z.role) found.3 ∙ by.role in
-                let holds = copied x.from k d below found.0 s found.2 role in
+                let holds = copied x.from k d below mark found.0 s found.2 role in
                 let source_is = found.3 in
                 let at_place : get_or (remove olds target) (get_or sources found.0 s).place x.from ≡ x.from = ap (λ (z : Source). get_or (remove olds target) z.place x.from) source_is ∙ place in
                 let same = holds x.from t_honest (ap g.honest at_place ∙ x_honest) in

@@ -1,24 +1,20 @@
 -- Devices that were lent for a pass come back, and what the mirror has then.
-use Rattle.std.proofs.Common.{◌≡◌, ◌∙◌, ℕ, ◌<◌, ◌==◌, ◌||◌, ◌&&◌, Bool, true, false, not, cond, List, length, remove, get_or, slice_get, slice_index_or, refl, sym, ap, subst, arith, inl, inr}
-use Rattle.std.proofs.lemmas.Bool.{and_parts, cases_eq, eqb-true}
+use Rattle.std.proofs.Common.{◌≡◌, ◌∙◌, ℕ, ◌<◌, true, false, List, length, remove, slice_get, slice_index_or, refl, sym, ap, subst, arith, inl, inr}
+use Rattle.std.proofs.lemmas.Bool.{cases_eq}
 use Rattle.std.proofs.lemmas.List.{length-map}
-use Rattle.std.proofs.lemmas.List.Folds.{Any-from_list_any}
 use Rattle.std.proofs.lemmas.Option.{same_Some}
 use Rattle.md_assembly.specs.declared.state.MemberState.{MemberState}
 use Rattle.md_assembly.specs.declared.state.MemberState.TheVariants.{InSync, Recovering, Stale, Spare, Faulty}
-use Rattle.md_assembly.specs.States.{is_in_sync, is_in_sync_as}
-use Rattle.md_bitmap.specs.Marks.{is_set}
+use Rattle.md_assembly.specs.States.{is_in_sync}
 use Rattle.md_cert.specs.declared.plan.Plan.{Plan}
 use Rattle.md_cert.specs.declared.slots.Slot.{Slot}
 use Rattle.md_collect.specs.Collecting.{ArePlanned}
-use Rattle.md_collect.specs.Reading.{Fails}
 use Rattle.md_device.specs.Splice.{part}
 use Rattle.md_device.specs.declared.device.Device.{Ghosts}
 use Rattle.md_kept_members.specs.View.{MemberView}
 use Rattle.md_pass.specs.Beside.{KeepsBeside, has_chunk}
 use Rattle.md_pass.specs.Lanes.{AreOnlyRead, OnlyRead}
-use Rattle.md_pass.specs.Sources.{FailsToGive, copy_of}
-use Rattle.md_pass.specs.declared.source.Source.{Source}
+use Rattle.md_pass.specs.Sources.{copy_of}
 use Rattle.md_state.specs.MakingClean.{IsIdle}
 use Rattle.md_state.specs.Members.{IsMember}
 use Rattle.md_state.specs.Missing as state
@@ -26,13 +22,10 @@ use Rattle.md_state.specs.Missing.{is_rebuilt}
 use Rattle.md_state.specs.View.{ArrayView, Disk, MirrorView, disk_of, of_disks}
 use Rattle.md_array.specs.Consistency.{IsConsistent}
 use Rattle.md_array.specs.Lending.{AreBack, ComesBack, lent}
-use Rattle.md_copy.specs.Filling.{FailsInRole, IsFilling}
-use Rattle.md_copy.specs.RebuildSources.{AreSources, IsPlanOf, IsServedBy, IsSource, Serves}
-use Rattle.md_copy.specs.Sources.{is_missing}
-use Rattle.md_copy.proofs.Carried.{others_read, other_fails, seen, target_kept}
+use Rattle.md_copy.specs.Filling.{IsFilling}
+use Rattle.md_copy.specs.RebuildSources.{IsPlanOf}
+use Rattle.md_copy.proofs.Carried.{others_read, seen, target_kept}
 use Rattle.md_copy.proofs.PlanChunks.{planned_given, slot_given}
-use Rattle.md_copy.proofs.Planned.{allowed}
-use Rattle.md_copy.proofs.SourcesChosen.{served_by}
 
 -- ---- what a member that is rebuilt lacks
 pub rebuilt_out : (s : MemberState) → is_rebuilt s ≡ true → is_in_sync s ≡ false
@@ -112,29 +105,3 @@ module _ {D : Type 0} (g : Ghosts D) (v : MirrorView) (sound : IsConsistent v) (
                 ];
           };
         }
-
-  -- a source failed
-  pub fails_in_role : (w : MirrorView) → w.disks ≡ seen g news → (sources : List Source) (role chunk : ℕ) → AreSources v target plan.slots sources
-      → FailsToGive g plan.slots sources (remove olds target) (remove news target) role chunk → FailsInRole target plan.slots role chunk v w
-  fails_in_role w w_is sources role chunk are fails =
-      let hit = Any-from_list_any (λ (slot : Slot). slot.chunk == chunk && slot.source == role) plan.slots fails.planned in
-      let tests = and_parts (hit.1.chunk == chunk) (hit.1.source == role) hit.4 in
-      let slot = get_or plan.slots hit.0 hit.1 in
-      let chunk_is : slot.chunk ≡ chunk = ap (λ (x : Slot). x.chunk) hit.3 ∙ eqb-true hit.1.chunk chunk tests.0 in
-      let source_is : slot.source ≡ role = ap (λ (x : Slot). x.source) hit.3 ∙ eqb-true hit.1.source role tests.1 in
-      let may = allowed v.array member plan is_plan hit.0 hit.1 hit.2 in
-      let found = fails.fails in
-      let s = found.1 in
-      let source = subst (IsSource v target) found.3 (are.each found.0 found.1 found.2) in
-      let by : IsServedBy v target slot s = served_by v sound target low slot s source (found.4.0 ∙ sym source_is) may.permitted in
-      record {
-        planned = fails.planned;
-        at = by.at;
-        member = by.member;
-        other = by.is.other;
-        in_role = subst (λ r. is_in_sync_as r by.member.state ≡ true) found.4.0 by.is.in_sync;
-        serves = subst (λ c. Serves v.array by.at by.member c) chunk_is by.serves;
-        failed = λ d e at_d at_e.
-            (let failing = subst (λ n. (x : D) → Fails g (slice_index_or (remove olds target) n x) (slice_index_or (remove news target) n x)) by.is.place found.4.1 in
-            other_fails g olds news target within as_many by.at by.is.other failing d e (ap (λ xs. slice_get xs by.at) (sym v_is) ∙ at_d) (ap (λ xs. slice_get xs by.at) (sym w_is) ∙ at_e));
-      }

@@ -1,9 +1,9 @@
 -- What a rebuild is readied for: what is stored first and the admission of a spare leave it able to go on, and then its target is recovering.
-use Rattle.std.proofs.Common.{◌≡◌, ◌∙◌, ℕ, ◌+◌, ◌^◌, ◌<◌, ◌≤◌, true, false, sym, ap, subst, arith, inl, inr}
+use Rattle.std.proofs.Common.{◌≡◌, ◌∙◌, ℕ, ◌+◌, ◌^◌, ◌<◌, ◌≤◌, true, false, refl, sym, ap, subst, arith, inl, inr}
 use Rattle.std.proofs.lemmas.Option.{same_Some}
 use Rattle.md_assembly.specs.declared.state.MemberState.{MemberState}
 use Rattle.md_assembly.specs.declared.state.MemberState.TheVariants.{InSync, Recovering, Stale, Spare, Faulty}
-use Rattle.md_assembly.specs.States.{is_recovering, is_spare}
+use Rattle.md_assembly.specs.States.{is_in_sync, is_recorded, is_recovering, is_spare}
 use Rattle.md_bitmap.specs.Marks.{Bitmap, is_set}
 use Rattle.md_kept_members.specs.TakingBack.{admitted_member}
 use Rattle.md_kept_members.specs.View.{MemberView}
@@ -19,9 +19,9 @@ use Rattle.md_array.proofs.Rebuilding.AdmittedEvent.{admitted_at}
 use Rattle.md_metadata.specs.Storing.{AllStayReady, StaysReady}
 use Rattle.md_metadata.proofs.Going.{same_state}
 use Rattle.md_copy.specs.Beginning.{MayRebuild, rises}
-use Rattle.md_plan.specs.declared.planner.Planned.{Planned}
 use Rattle.md_copy.specs.Rebuilding.{Begins}
 use Rattle.md_copy.specs.Readying.{AdmitsAfter, AdmitsFirst, Readies}
+use Rattle.md_copy.specs.Ready.{IsReady, MayGoOn}
 use Rattle.md_copy.specs.Storing.{StoresFirst}
 use Rattle.md_copy.specs.Targets.{IsTarget, MayBeRebuilt}
 
@@ -55,6 +55,13 @@ recovering_else a number (Stale role) t out = absurd t
 recovering_else a number Spare t out = absurd cc
 recovering_else a number Faulty t out = absurd t
 
+pub recorded_in_sync : (s : MemberState) → is_in_sync s ≡ true → is_recorded s ≡ true
+recorded_in_sync (InSync role) is = refl
+recorded_in_sync (Recovering role) is = absurd cc
+recorded_in_sync (Stale role) is = absurd cc
+recorded_in_sync Spare is = absurd cc
+recorded_in_sync Faulty is = absurd cc
+
 pub some_rise : (s : MemberState) → 1 ≤ rises s
 some_rise (InSync role) = omega arith
 some_rise (Recovering role) = omega arith
@@ -63,12 +70,6 @@ some_rise Spare = omega arith
 some_rise Faulty = omega arith
 
 -- ---- a rebuild that may go on
--- nothing is in flight, the array is resynced, and the count can rise so often
-pub record MayGoOn (n : ℕ) (a : ArrayView) : Type 0 where
-  pub idle : IsIdle a
-  pub resynced : a.resynced ≡ true
-  pub can_rise : a.shared.events + n < 2 ^ 64
-
 pub begins_so : (a : ArrayView) (m : MemberView) → MayRebuild a m → MayGoOn (rises m.state) a
 begins_so a m may = record { idle = may.idle; resynced = may.settled.resynced; can_rise = may.can_rise }
 
@@ -128,18 +129,13 @@ module _ (target : ℕ) (old admitted : MirrorView) (h : AdmitsAfter target old 
   after_so m spare may = admitted_so target h.stored admitted h.admits (stored_so old h.stored h.first 2 (spare_twice old.array m spare may))
 
 -- ---- once it is readied
-pub record IsReady (target : ℕ) (v : MirrorView) : Type 0 where
-  pub sound : IsConsistent v
-  pub goes : MayGoOn 1 v.array
-  pub noted : AreNoted v.array
-  pub recovering : (n : MemberView) → IsMember v.array target n → is_recovering n.state ≡ true
-
 module _ (target : ℕ) (old ready : MirrorView) (member : MemberView) (at : IsMember old.array target member) (may : MayRebuild old.array member) where
   ready_stored : is_recovering member.state ≡ true → StoresFirst old ready → IsReady target ready
   ready_stored recovers first = record {
     sound = first.stores.goes.sound;
     goes = stored_so old ready first 1 (once old.array (rises member.state) (some_rise member.state) (begins_so old.array member may));
     noted = noted_then old ready first;
+    recorded = λ i n on. first.recorded i n on.member (recorded_in_sync n.state on.in_sync);
     recovering = λ n there. ap is_recovering (state_then old ready first target member n at there) ∙ recovers;
   }
 
@@ -148,6 +144,7 @@ module _ (target : ℕ) (old ready : MirrorView) (member : MemberView) (at : IsM
     sound = h.then.stores.goes.sound;
     goes = stored_so h.admitted ready h.then 1 (after_so target old h.admitted h.after member spare may);
     noted = noted_then h.admitted ready h.then;
+    recorded = λ i n on. h.then.recorded i n on.member (recorded_in_sync n.state on.in_sync);
     recovering = λ n there.
         (let m = admitted_member h.after.admits.role h.after.admits.may.member in
         let here = admitted_is target old h.admitted h.after in
@@ -158,5 +155,5 @@ module _ (target : ℕ) (old ready : MirrorView) (member : MemberView) (at : IsM
   is_ready (inl h) = ready_stored h.0 h.1
   is_ready (inr h) = ready_admitted h.0 h.1
 
-pub ready_of : (target : ℕ) (planned : Planned) (old ready : MirrorView) → Begins target planned old ready → IsReady target ready
-ready_of target planned old ready b = is_ready target old ready b.member b.at b.may b.first
+pub ready_of : (target : ℕ) (old ready : MirrorView) (none : Bitmap) → Begins target old ready none → IsReady target ready
+ready_of target old ready none b = is_ready target old ready b.member b.at b.may b.first

@@ -14,7 +14,7 @@ use Rattle.md_bitmap.proofs.Numbers.{range_more}
 abbrev pub missing_below : ArrayView → MemberView → ℕ → List ℕ
 missing_below a m n = filter (is_missing a m) (range_with_len 0 n)
 
-missing_more : (a : ArrayView) (m : MemberView) (n : ℕ) → missing_below a m (n + 1) ≡ missing_below a m n ++ cond (is_missing a m n) (n ∷ []) []
+pub missing_more : (a : ArrayView) (m : MemberView) (n : ℕ) → missing_below a m (n + 1) ≡ missing_below a m n ++ cond (is_missing a m n) (n ∷ []) []
 missing_more a m n = ap (filter (is_missing a m)) (range_more n) ∙ filter-append (is_missing a m) (range_with_len 0 n) (n ∷ [])
 
 pub rows_more : (a : ArrayView) (m : MemberView) (rows : List Row) (row : Row) → chunks_of rows ≡ missing_below a m row.chunk → is_missing a m row.chunk ≡ true → chunks_of (rows ++ row ∷ []) ≡ missing_below a m (row.chunk + 1)

@@ -2,7 +2,7 @@
 -- rebuilt from the other.
 use Rattle.std.proofs.Common.{◌≡◌, ◌∙◌, ◌⊎◌, ◌↔◌, ℕ, ◌+◌, ◌*◌, ◌^◌, ◌<◌, ◌≤◌, true, List, slice_get, Some, sym, ap, subst, arith, inl, inr}
 use Rattle.md_device.specs.Splice.{part}
-use Rattle.md_assembly.specs.States.{is_in_sync}
+use Rattle.md_assembly.specs.States.{is_in_sync, is_in_sync_as}
 use Rattle.md_badblocks.specs.declared.run.Run.{Run}
 use Rattle.md_badblocks.specs.Runs.{IsBad}
 use Rattle.md_bitmap.specs.Chunks.{InChunk}
@@ -17,12 +17,12 @@ use Rattle.md_state.specs.View.{ArrayView, Disk, MirrorView}
 use Rattle.md_array.specs.Enrolling.{HasContent, KeepsData}
 use Rattle.md_array.specs.Lending.{IsBesideChunk}
 use Rattle.md_array.specs.Worlds.{AreHonest}
-use Rattle.md_copy.specs.RebuildSources.{Serves}
-use Rattle.md_copy.specs.Rebuilt.{IsBesideCopied, IsRebuilt, IsServed}
+use Rattle.md_copy.specs.Rebuilt.{IsBesideCopied, IsRebuilt, IsServedThen}
 
 -- a member is in sync as it was, with the same list, and its data stand where they stood
 pub record IsAs (l n : MemberView) : Type 0 where
   pub in_sync : is_in_sync n.state ≡ is_in_sync l.state
+  pub roles : (role : ℕ) → is_in_sync_as role n.state ≡ is_in_sync_as role l.state
   pub bad : n.bad ≡ l.bad
   pub offset : n.superblock.data_offset ≡ l.superblock.data_offset
   pub size : n.superblock.data_size ≡ l.superblock.data_size
@@ -44,7 +44,7 @@ pub starts_honest : (target : ℕ) (old v : MirrorView) → StartsAs target old 
 starts_honest target old v st honest j e at = (let d = st.disk_before j e at in st.honest j d.0 e d.1 at ∙ honest j d.0 d.1)
 
 as_on : (l m n : MemberView) → IsAs l m → IsAs m n → IsAs l n
-as_on l m n x y = record { in_sync = y.in_sync ∙ x.in_sync; bad = y.bad ∙ x.bad; offset = y.offset ∙ x.offset; size = y.size ∙ x.size }
+as_on l m n x y = record { in_sync = y.in_sync ∙ x.in_sync; roles = λ role. y.roles role ∙ x.roles role; bad = y.bad ∙ x.bad; offset = y.offset ∙ x.offset; size = y.size ∙ x.size }
 
 -- by one step after another
 pub starts_on : (target : ℕ) (old mid v : MirrorView) → StartsAs target old mid → StartsAs target mid v → StartsAs target old v
@@ -92,37 +92,34 @@ module _ (target : ℕ) (old v : MirrorView) (st : StartsAs target old v) (copie
   inside_then : (c q : ℕ) → InChunk old.array.chunks.sectors old.array.chunks.size c q → InChunk v.array.chunks.sectors v.array.chunks.size c q
   inside_then c q inside = subst (λ (k : Chunks). InChunk k.sectors k.size c q) (sym st.chunks) inside
 
-  inside_before : (c q : ℕ) → InChunk v.array.chunks.sectors v.array.chunks.size c q → InChunk old.array.chunks.sectors old.array.chunks.size c q
-  inside_before c q inside = subst (λ (k : Chunks). InChunk k.sectors k.size c q) st.chunks inside
-
   -- ---- who serves a chunk did so, and does
-  served_before : (c : ℕ) → IsServed v.array target c → IsServed old.array target c
+  served_before : (c : ℕ) → IsServedThen v.array y.array target c → IsServedThen old.array y.array target c
   served_before c h =
-      let n = h.1 in
-      let serves = h.3 in
-      let b = st.before h.0 n serves.in_sync.member in (
+      let s = h.1 in
+      let b = st.before h.0 s.before s.in_sync.member in (
         h.0,
-        b.0,
-        h.2,
         record {
-          in_sync = record { member = b.1; in_sync = sym b.2.in_sync ∙ serves.in_sync.in_sync };
-          unlisted = λ q inside bad. serves.unlisted q (inside_then c q inside)
-              (subst (λ (runs : List Run). IsBad runs (n.superblock.data_offset + q)) (sym b.2.bad) (subst (λ (o : ℕ). IsBad b.0.bad (o + q)) (sym b.2.offset) bad));
+          other = s.other;
+          before = b.0;
+          in_sync = record { member = b.1; in_sync = sym b.2.in_sync ∙ s.in_sync.in_sync };
+          after = s.after;
+          at = s.at;
+          unlisted = s.unlisted;
         },
       )
 
-  served_then : (c : ℕ) → IsServed old.array target c → IsServed v.array target c
+  served_then : (c : ℕ) → IsServedThen old.array y.array target c → IsServedThen v.array y.array target c
   served_then c h =
-      let m = h.1 in
-      let serves = h.3 in
-      let b = st.then h.0 m serves.in_sync.member in (
+      let s = h.1 in
+      let b = st.then h.0 s.before s.in_sync.member in (
         h.0,
-        b.0,
-        h.2,
         record {
-          in_sync = record { member = b.1; in_sync = b.2.in_sync ∙ serves.in_sync.in_sync };
-          unlisted = λ q inside bad. serves.unlisted q (inside_before c q inside)
-              (subst (λ (runs : List Run). IsBad runs (m.superblock.data_offset + q)) b.2.bad (subst (λ (o : ℕ). IsBad b.0.bad (o + q)) b.2.offset bad));
+          other = s.other;
+          before = b.0;
+          in_sync = record { member = b.1; in_sync = b.2.in_sync ∙ s.in_sync.in_sync };
+          after = s.after;
+          at = s.at;
+          unlisted = s.unlisted;
         },
       )
 

@@ -7,16 +7,15 @@ use Rattle.std.proofs.lemmas.Grind.{div_ceil_times}
 use Rattle.std.proofs.lemmas.Option.{none-some, same_Some, slice_get-get_or, slice_get_within}
 use Rattle.md_assembly.specs.declared.state.MemberState.{MemberState}
 use Rattle.md_assembly.specs.declared.state.MemberState.TheVariants.{InSync, Recovering, Stale, Spare, Faulty}
-use Rattle.md_assembly.specs.States.{is_in_sync, is_recovering, is_spare}
+use Rattle.md_assembly.specs.States.{is_in_sync, is_in_sync_as, is_recovering, is_spare}
 use Rattle.md_bitmap.specs.declared.chunks.Chunks.{Chunks}
-use Rattle.md_bitmap.specs.Marks.{is_set}
+use Rattle.md_bitmap.specs.Marks.{Bitmap, is_set}
 use Rattle.md_device.specs.Splice.{SameOutside, part}
 use Rattle.md_kept_members.specs.Members.{made_due}
 use Rattle.md_kept_members.specs.TakingBack.{admitted_member}
 use Rattle.md_kept_members.specs.View.{MemberView}
 use Rattle.md_model.specs.Content.{Content}
 use Rattle.md_model.specs.Rebuilding.{lacks}
-use Rattle.md_plan.specs.declared.planner.Planned.{Planned}
 use Rattle.md_state.specs.Members.{IsMember}
 use Rattle.md_state.specs.Missing.{has_passed, is_missing}
 use Rattle.md_state.specs.View.{ArrayView, Disk, MirrorView}
@@ -48,6 +47,7 @@ module _ (target : ℕ) (old v : MirrorView) (sound : IsConsistent old) (resynce
   as_before : (j : ℕ) (n : MemberView) (s : StaysReady old.array v.array j n) → IsAs s.before n
   as_before j n s = record {
     in_sync = ap (λ (z : MemberView). is_in_sync z.state) s.same;
+    roles = λ role. ap (λ (z : MemberView). is_in_sync_as role z.state) s.same;
     bad = ap (λ (z : MemberView). z.bad) s.same;
     offset = ap (λ (z : MemberView). z.superblock.data_offset) s.same;
     size = ap (λ (z : MemberView). z.superblock.data_size) s.same;
@@ -107,6 +107,13 @@ spare_unsynced (Stale role) is = refl
 spare_unsynced Spare is = refl
 spare_unsynced Faulty is = refl
 
+spare_unserving : (role : ℕ) (s : MemberState) → is_spare s ≡ true → is_in_sync_as role s ≡ false
+spare_unserving role (InSync own) is = absurd cc
+spare_unserving role (Recovering own) is = refl
+spare_unserving role (Stale own) is = refl
+spare_unserving role Spare is = refl
+spare_unserving role Faulty is = refl
+
 module _ (target : ℕ) (v x : MirrorView) (sound : IsConsistent v) (resynced : v.array.resynced ≡ true) (r : Admits target v x) (spare : is_spare r.may.member.state ≡ true) (x_sound : IsConsistent x) where
   abbrev m : MemberView
   m = r.may.member
@@ -123,10 +130,10 @@ module _ (target : ℕ) (v x : MirrorView) (sound : IsConsistent v) (resynced : 
       ap (λ (a : ArrayView). slice_get a.members j) r.array ∙ got_other (map made_due v.array.members) target j n other ∙ got_in_map made_due v.array.members j l at
 
   as_admitted : IsAs m n
-  as_admitted = record { in_sync = sym (spare_unsynced m.state spare); bad = refl; offset = refl; size = refl }
+  as_admitted = record { in_sync = sym (spare_unsynced m.state spare); roles = λ role. sym (spare_unserving role m.state spare); bad = refl; offset = refl; size = refl }
 
   as_due : (l : MemberView) → IsAs l (made_due l)
-  as_due l = record { in_sync = refl; bad = refl; offset = refl; size = refl }
+  as_due l = record { in_sync = refl; roles = λ role. refl; bad = refl; offset = refl; size = refl }
 
   then_at : (j : ℕ) (l : MemberView) → IsMember v.array j l → (y : MemberView) × IsMember x.array j y × IsAs l y
   then_at j l at = elim (cases_eq j target) [
@@ -240,5 +247,5 @@ module _ (target : ℕ) (old v : MirrorView) (sound : IsConsistent old) (member 
   starts_ready (inl h) = starts_stored target old v sound may.settled.resynced h.1
   starts_ready (inr h) = starts_after h.0 h.1
 
-pub starts_of : (target : ℕ) (planned : Planned) (old v : MirrorView) → Begins target planned old v → StartsAs target old v
-starts_of target planned old v b = starts_ready target old v b.sound b.member b.may b.first
+pub starts_of : (target : ℕ) (old v : MirrorView) (none : Bitmap) → Begins target old v none → StartsAs target old v
+starts_of target old v none b = starts_ready target old v b.sound b.member b.may b.first

@@ -6,7 +6,7 @@ use Rattle.md_kept_members.specs.View.{MemberView}
 use Rattle.md_state.specs.View.{ArrayView}
 use Rattle.md_state.specs.MakingClean.{IsIdle, first_number}
 use Rattle.md_copy.specs.declared.fault.RebuildFault.{RebuildFault}
-use Rattle.md_copy.specs.declared.fault.RebuildFault.TheVariants.{Halted, NotSpare, Dirty, InFlight, LogFull, NoMemory, TargetFault, MetadataFault, EventsFull, SourceFault}
+use Rattle.md_copy.specs.declared.fault.RebuildFault.TheVariants.{Halted, NotSpare, Dirty, InFlight, LogFull, NoMemory, TargetFault, MetadataFault, EventsFull}
 use Rattle.md_copy.specs.Targets.{IsTarget}
 
 -- the mirror runs, and the member may be rebuilt
@@ -67,7 +67,6 @@ CannotRebuild a m NoMemory = ⊥
 CannotRebuild a m TargetFault = ⊥
 CannotRebuild a m (MetadataFault k) = ⊥
 CannotRebuild a m EventsFull = IsSpent a m
-CannotRebuild a m (SourceFault k chunk) = ⊥
 
 -- why there is no table of what the member lacks: it may not be rebuilt; or it may, and memory was refused
 abbrev pub RefusesTable : ArrayView → MemberView → RebuildFault → Type 0

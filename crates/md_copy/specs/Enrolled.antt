@@ -1,11 +1,16 @@
--- The target comes into sync after a pass, or it does not.
-use Rattle.std.specs.Prelude.{◌≡◌, ℕ}
-use Rattle.md_bitmap.specs.Marks.{Bitmap}
+-- The target comes into sync after its passes, or it does not.
+use Rattle.std.specs.Prelude.{◌≡◌, ℕ, ◌<◌, ◌&&◌, List, length}
+use Rattle.md_bitmap.specs.Marks.{Bitmap, is_set}
+use Rattle.md_kept_members.specs.View.{MemberView}
+use Rattle.md_plan.specs.declared.planner.Planned.{Planned}
 use Rattle.md_state.specs.Enrolling.{HasFullLog}
+use Rattle.md_state.specs.Missing.{is_missing}
 use Rattle.md_state.specs.View.{MirrorView}
-use Rattle.md_array.specs.Enrolling.{FailsToEnrol}
+use Rattle.md_array.specs.Enrolling.{Enrols, FailsToEnrol, MayEnrol}
 use Rattle.md_copy.specs.declared.fault.RebuildFault.{RebuildFault}
 use Rattle.md_copy.specs.declared.fault.RebuildFault.TheVariants.{LogFull, NoMemory, TargetFault}
+use Rattle.md_copy.specs.declared.rebuilt.Rebuilt.{Rebuilt}
+use Rattle.md_copy.specs.Preparing.{IsSetOf, is_in, uncopied_chunks}
 
 -- its list needs more room than its log has, and nothing was written for it
 pub record HasNoRoom (target : ℕ) (copied orphans : Bitmap) (old new : MirrorView) : Type 0 where
@@ -18,3 +23,38 @@ RefusesFilled target copied orphans old new (LogFull k) = (k ≡ target) × HasN
 RefusesFilled target copied orphans old new NoMemory = new ≡ old
 RefusesFilled target copied orphans old new TargetFault = FailsToEnrol target copied orphans old new
 RefusesFilled target copied orphans old new fault = ⊥
+
+-- The chunks with which it comes into sync: of those that it lacks still, the ones that were copied, and the others, the orphans. Of those that
+-- were copied it lacks still such as are marked, or lie after one that was not.
+pub record AreSets (copied kept orphans : Bitmap) (chunks : List ℕ) (v : MirrorView) (m : MemberView) : Type 0 where
+  pub kept_are : (c : ℕ) → c < v.array.marks.chunks → is_set kept.bytes c ≡ (is_missing v.array m c && is_set copied.bytes c)
+  pub orphans_are : IsSetOf v.array (is_in chunks) orphans
+  pub chunks_are : chunks ≡ uncopied_chunks v.array m copied
+
+-- It may come into sync with these sets.
+pub record HasSets (target : ℕ) (copied kept orphans : Bitmap) (chunks : List ℕ) (v : MirrorView) : Type 0 where
+  pub may : MayEnrol target kept orphans v
+  pub sets : AreSets copied kept orphans chunks v may.member
+
+-- It does, and this is told of it and of these plans.
+pub record EnrolsCopied (target : ℕ) (plans : List Planned) (copied : Bitmap) (old new : MirrorView) (told : Rebuilt) : Type 0 where
+  pub kept : Bitmap
+  pub orphans : Bitmap
+  pub has : HasSets target copied kept orphans told.orphans.items old
+  pub enrols : Enrols target kept orphans old new
+  pub passes_are : told.passes ≡ length plans
+  pub plans_are : told.plans.items ≡ plans
+
+-- It does not.
+pub record EndsWithSets (target : ℕ) (copied : Bitmap) (old : MirrorView) (Why : Bitmap → Bitmap → Type 0) : Type 0 where
+  pub kept : Bitmap
+  pub orphans : Bitmap
+  pub chunks : List ℕ
+  pub has : HasSets target copied kept orphans chunks old
+  pub why : Why kept orphans
+
+abbrev pub FailsCopied : ℕ → Bitmap → MirrorView → MirrorView → RebuildFault → Type 0
+FailsCopied target copied old new (LogFull k) = (k ≡ target) × EndsWithSets target copied old (λ kept orphans. HasNoRoom target kept orphans old new)
+FailsCopied target copied old new NoMemory = new ≡ old
+FailsCopied target copied old new TargetFault = EndsWithSets target copied old (λ kept orphans. FailsToEnrol target kept orphans old new)
+FailsCopied target copied old new fault = ⊥

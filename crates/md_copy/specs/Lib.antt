@@ -8,15 +8,25 @@ pub mod Beginning
 pub mod RebuildSources
 -- What the members have to know is stored before a rebuild, and after it (this project's own order).
 pub mod Storing
+-- What a recovering target holds of the array, as long as it is copied from members that are in sync.
+pub mod Held
+-- When a rebuild may go on, and when how far it came may be recorded.
+pub mod Ready
+-- How far the target is rebuilt is recorded on it before a fault is answered (this project's own).
+pub mod Leaving
 -- Before a pass what the members have to know is stored, and a spare is admitted (this project's own order).
 pub mod Readying
--- A pass before it begins: its plan, its sources, and the sets of the chunks that it copies and of those that nobody has.
+-- Sets of chunks, and what is told of a rebuild.
 pub mod Preparing
--- The target gets its chunks, each from a member that serves it. No other device is written.
+-- The target gets chunks, each from a member that serves it. No other device is written.
 pub mod Filling
--- The target comes into sync after a pass, or it does not.
+-- Chunks that could not be read are listed as bad on their sources, and the lists are stored.
+pub mod Listing
+-- A rebuild's passes over a mirror, step by step.
+pub mod Passing
+-- The target comes into sync after its passes, or it does not.
 pub mod Enrolled
--- A rebuild in one pass, step by step (this project's own).
+-- A rebuild step by step (this project's own).
 pub mod Rebuilding
 -- What a rebuild makes of its target, in plain terms, whatever the steps were (this project's own).
 pub mod Rebuilt

@@ -8,26 +8,31 @@ use Rattle.md_state.specs.View.{ArrayView, Disk, MirrorView}
 use Rattle.md_array.specs.Admitting.{FailsOnTargetAlone, FailsToAdmit}
 use Rattle.md_array.specs.Enrolling.{FailsToEnrol}
 use Rattle.md_array.specs.Enrolments.{FailsAtSuper}
-use Rattle.md_array.specs.InTurn.{AllOf}
+use Rattle.md_array.specs.InTurn.{AllOf, HaltsAt, Requests}
 use Rattle.md_array.specs.ReadAsKept.{HasWidth}
 use Rattle.md_metadata.specs.Going.{LeadsBy}
 use Rattle.md_metadata.specs.Storing.{IsNoFailure, IsStoring}
 use Rattle.md_copy.specs.declared.fault.RebuildFault.{RebuildFault}
-use Rattle.md_copy.specs.declared.fault.RebuildFault.TheVariants.{Halted, NotSpare, Dirty, InFlight, LogFull, NoMemory, TargetFault, MetadataFault, EventsFull, SourceFault}
-use Rattle.md_copy.specs.Rebuilding.{RefusesRebuild}
-use Rattle.md_copy.specs.Rebuilt.{HaltsFrom}
+use Rattle.md_copy.specs.declared.fault.RebuildFault.TheVariants.{Halted, NotSpare, Dirty, InFlight, LogFull, NoMemory, TargetFault, MetadataFault, EventsFull}
+use Rattle.md_copy.specs.Listing.{IsNoting, IsStoringList}
+use Rattle.md_copy.specs.Rebuilding.{LosesTarget, RefusesRebuild}
 
 -- ---- which events
--- Marks and superblocks are stored; the target, a spare, is admitted; of it data change, its bitmap and its log, or its own record fails.
+-- Marks, lists and superblocks are stored; the target, a spare, is admitted; of it data change, how far it is rebuilt is recorded, its bitmap and
+-- its log change, or its own record fails.
 abbrev pub IsBeforeEnrol : ℕ → Event → Type 0
 IsBeforeEnrol target (Event.Record k) = Unit {0}
 IsBeforeEnrol target (Event.StoreMarks k b) = Unit {0}
+IsBeforeEnrol target (Event.NoteBad k c) = Unit {0}
+IsBeforeEnrol target (Event.StoreLog k listed) = Unit {0}
 IsBeforeEnrol target (Event.RecordFails k) = Unit {0}
 IsBeforeEnrol target (Event.StoreMarksFails k b) = Unit {0}
+IsBeforeEnrol target (Event.StoreLogFails k) = Unit {0}
 IsBeforeEnrol target (Event.Fill k) = k ≡ target
 IsBeforeEnrol target (Event.Prepare k) = k ≡ target
 IsBeforeEnrol target (Event.RecordTargetFails k) = k ≡ target
 IsBeforeEnrol target (Event.Admit k role listed) = k ≡ target
+IsBeforeEnrol target (Event.Checkpoint k offset listed) = k ≡ target
 IsBeforeEnrol target e = ⊥
 
 -- these, or the target comes into sync
@@ -35,7 +40,7 @@ abbrev pub IsOfRebuild : ℕ → Event → Type 0
 IsOfRebuild target (Event.Enrol k role listed) = k ≡ target
 IsOfRebuild target e = IsBeforeEnrol target e
 
--- Or it is spoiled: a write failed by which it was to be admitted, or to come into sync, and left any superblock.
+-- Or it is spoiled: a write failed by which it was to be admitted, to record how far it is rebuilt, or to come into sync, and left any superblock.
 abbrev pub IsOfUnfinished : ℕ → Event → Type 0
 IsOfUnfinished target (Event.SpoilTarget k) = k ≡ target
 IsOfUnfinished target e = IsBeforeEnrol target e
@@ -55,22 +60,55 @@ pub record AreOfAdmission (target : ℕ) (events : List Event) : Type 0 where
   pub then : AreStored after
   pub list : events ≡ before ++ Event.Admit target role listed ∷ after
 
--- in this order: what is due is stored, and the target admitted if it is a spare; it is filled, prepared, and comes into sync; what is due
--- then is stored
+-- ---- passes
+-- each member's list is stored, and nothing fails
+pub record AreListsStored (events : List Event) : Type 0 where
+  pub stores : AllOf IsStoringList events
+  pub unfailing : AllOf IsNoFailure events
+
+-- The target is filled, and this is recorded. What failed is noted, and then all lists are stored.
+pub record AreOfPass (target : ℕ) (events : List Event) : Type 0 where
+  pub offset : ℕ
+  pub listed : ℕ → Bool
+  pub noted : List Event
+  pub notes : AllOf IsNoting noted
+  pub stored : List Event
+  pub stores : AreListsStored stored
+  pub list : events ≡ Event.Fill target ∷ Event.Checkpoint target offset listed ∷ (noted ++ stored)
+
+-- so again and again
+abbrev pub AreOfPasses : ℕ → List (List Event) → List Event → Type 0
+AreOfPasses target [] events = events ≡ []
+AreOfPasses target (first ∷ more) events = AreOfPass target first × ((rest : List Event) × AreOfPasses target more rest × (events ≡ first ++ rest))
+
+-- In this order: what is due is stored, and the target admitted if it is a spare; passes are made of which slots failed; then the last is made, the
+-- target prepared, and it comes into sync; what is due then is stored.
 pub record IsListOfRebuild (target : ℕ) (events : List Event) : Type 0 where
   pub before : List Event
   pub first : AreStored before ⊎ AreOfAdmission target before
+  pub parts : List (List Event)
+  pub passes : List Event
+  pub passes_are : AreOfPasses target parts passes
+  pub offset : ℕ
+  pub recorded : ℕ → Bool
   pub role : ℕ
   pub listed : ℕ → Bool
   pub after : List Event
   pub last : AllOf IsStoring after
-  pub list : events ≡ before ++ (Event.Fill target ∷ Event.Prepare target ∷ Event.Enrol target role listed ∷ after)
+  pub list : events
+      ≡ before ++ (passes ++ Event.Fill target ∷ Event.Checkpoint target offset recorded ∷ Event.Prepare target ∷ Event.Enrol target role listed ∷ after)
 
 -- ---- where they lead
+-- The write of an event of a kind failed on a member that can't be made faulty, and the mirror is halted.
+pub record HaltsIn (IsOf : Event → Type 0) (last new : MirrorView) : Type 0 where
+  pub failing : Event
+  pub of : IsOf failing
+  pub halts : (others : Requests) → HaltsAt last others failing new
+
 -- Events of a kind lead to the mirror after the call, or to the one right before a write that failed and halted it.
 pub record LeadsOrHalts (IsOf : Event → Type 0) (old new : MirrorView) : Type 0 where
   pub last : MirrorView
-  pub ends : (last ≡ new) ⊎ HaltsFrom last new
+  pub ends : (last ≡ new) ⊎ HaltsIn IsOf last new
   pub leads : LeadsBy IsOf old last
 
 -- a rebuild that is done
@@ -112,6 +150,12 @@ pub record FailsAtMarks {target : ℕ} {copied orphans : Bitmap} {old new : Mirr
   pub within : (d e : Disk) (at_d : slice_get old.disks target ≡ Some d) (at_e : slice_get new.disks target ≡ Some e) (honest : d.honest ≡ true)
       → All (KeepsWidth old.array f.comes.member d.content) ((f.disks.change d e at_d at_e).0.within honest).more
 
+-- what is asked of it
+abbrev pub AsksOfEnrol : {target : ℕ} {m : MemberView} {none : Bitmap} {ready new : MirrorView} → LosesTarget target m none ready new → Type 0
+AsksOfEnrol (inl pass) = Unit {0}
+AsksOfEnrol (inr (inl recording)) = Unit {0}
+AsksOfEnrol (inr (inr ends)) = FailsAtMarks ends.why ⊎ FailsAtSuper ends.why
+
 -- what is asked of a rebuild that is refused
 abbrev pub AsksOfFailure : (target : ℕ) (old new : MirrorView) (fault : RebuildFault) → RefusesRebuild target old new fault → Type 0
 AsksOfFailure target old new Halted h = Unit {0}
@@ -122,8 +166,6 @@ AsksOfFailure target old new EventsFull h = Unit {0}
 AsksOfFailure target old new (MetadataFault k) h = Unit {0}
 AsksOfFailure target old new TargetFault (inl first) = Unit {0}
 AsksOfFailure target old new TargetFault (inr (inl admission)) = Unit {0}
-AsksOfFailure target old new TargetFault (inr (inr (inl pass))) = Unit {0}
-AsksOfFailure target old new TargetFault (inr (inr (inr ends))) = FailsAtMarks ends.why ⊎ FailsAtSuper ends.why
+AsksOfFailure target old new TargetFault (inr (inr ends)) = AsksOfEnrol ends.why
 AsksOfFailure target old new NoMemory h = Unit {0}
-AsksOfFailure target old new (SourceFault k chunk) h = Unit {0}
 AsksOfFailure target old new (LogFull k) h = Unit {0}

@@ -14,12 +14,12 @@ use Rattle.md_kept_members.specs.View.{MemberView}
 use Rattle.md_state.specs.View.{ArrayView, Disk, MirrorView, of_disks}
 use Rattle.md_state.specs.Members.{IsInSync, IsMember}
 use Rattle.md_pass.specs.declared.source.Source.{Source}
-use Rattle.md_copy.specs.Sources.{IsTableOf}
+use Rattle.md_copy.specs.Sources.{IsTableIn}
 
--- a plan of the chunks that the member lacks
+-- a plan of chunks that the member lacks
 pub record IsPlanOf (a : ArrayView) (m : MemberView) (plan : Plan) : Type 0 where
   pub rows : List Row
-  pub table : IsTableOf a m rows
+  pub table : IsTableIn a m rows
   pub certificate : Certificate
   pub certified : IsCertified rows plan certificate
 

@@ -1,117 +1,161 @@
--- A rebuild in one pass, step by step (this project's own): what is due is stored, a spare is admitted, the pass is made, the target comes
--- into sync, and the others are told.
-use Rattle.std.specs.Prelude.{◌≡◌, ◌⊎◌, ℕ}
+-- A rebuild step by step (this project's own): what is due is stored, a spare is admitted, passes are made until no slot failed, the target
+-- comes into sync, and the others are told.
+use Rattle.std.specs.Prelude.{◌≡◌, ◌⊎◌, ℕ, false, List}
 use Rattle.md_bitmap.specs.Marks.{Bitmap}
 use Rattle.md_kept_members.specs.View.{MemberView}
-use Rattle.md_pass.specs.Beside.{has_chunk}
-use Rattle.md_plan.specs.declared.planner.Planned.{Planned}
+use Rattle.md_passes.specs.Passes.{PassView}
 use Rattle.md_state.specs.Members.{IsMember}
 use Rattle.md_state.specs.View.{MirrorView}
 use Rattle.md_array.specs.Consistency.{IsConsistent}
-use Rattle.md_array.specs.Enrolling.{Enrols, FailsToEnrol, MayEnrol}
+use Rattle.md_array.specs.Enrolling.{Enrols, FailsToEnrol}
 use Rattle.md_copy.specs.declared.fault.RebuildFault.{RebuildFault}
-use Rattle.md_copy.specs.declared.fault.RebuildFault.TheVariants.{Halted, NotSpare, Dirty, InFlight, LogFull, NoMemory, TargetFault, MetadataFault, EventsFull, SourceFault}
+use Rattle.md_copy.specs.declared.fault.RebuildFault.TheVariants.{Halted, NotSpare, Dirty, InFlight, LogFull, NoMemory, TargetFault, MetadataFault, EventsFull}
 use Rattle.md_copy.specs.declared.rebuilt.Rebuilt.{Rebuilt}
 use Rattle.md_copy.specs.Beginning.{CannotRebuild, MayRebuild}
-use Rattle.md_copy.specs.Enrolled.{HasNoRoom}
-use Rattle.md_copy.specs.Filling.{FailsToFill, Fills}
-use Rattle.md_copy.specs.Preparing.{IsLeastPlan, IsSetOf, Tells, is_in}
-use Rattle.md_copy.specs.Readying.{AdmitsFirst, FailsAdmission, Readies, StopsAdmitted}
+use Rattle.md_copy.specs.Enrolled.{HasNoRoom, HasSets}
+use Rattle.md_copy.specs.Leaving.{LeavesAfter}
+use Rattle.md_copy.specs.Passing.{BreaksOff, CopiesAll, EndsBetween, FailsListing, FailsRecording}
+use Rattle.md_copy.specs.Preparing.{IsSetOf, Tells, uncopied_chunks}
+use Rattle.md_copy.specs.Readying.{FailsAdmission, Readies, StopsAdmitted}
 use Rattle.md_copy.specs.Storing.{FailsOnTarget, Settles, StopsAt, StoresFirst}
 
--- It was checked, what was due is stored, a spare is admitted, and a pass is planned by what is kept in memory then.
-pub record Begins (target : ℕ) (planned : Planned) (old stored : MirrorView) : Type 0 where
+-- It was checked, what is due is stored, and a spare is admitted. No chunk is copied yet.
+pub record Begins (target : ℕ) (old ready : MirrorView) (none : Bitmap) : Type 0 where
   pub sound : IsConsistent old
   pub member : MemberView
   pub at : IsMember old.array target member
   pub may : MayRebuild old.array member
-  pub first : Readies target member old stored
+  pub first : Readies target member old ready
   pub now : MemberView
-  pub there : IsMember stored.array target now
-  pub plan : IsLeastPlan stored.array now planned
+  pub there : IsMember ready.array target now
+  pub is_none : IsSetOf ready.array (λ c. false) none
 
--- the chunks of the plan, and those that nobody may give, are the sets with which the target comes into sync
-pub record AreSets (planned : Planned) (v : MirrorView) (copied orphans : Bitmap) : Type 0 where
-  pub copied_are : IsSetOf v.array (has_chunk planned.plan.slots) copied
-  pub orphans_are : IsSetOf v.array (is_in planned.orphans) orphans
-
--- The target has the chunks of the plan. It may come into sync: the chunks of the plan and those that nobody may give are all that it
--- lacked, and in those of the plan it holds whatever content the members in sync hold.
-pub record FillsBy (target : ℕ) (planned : Planned) (copied orphans : Bitmap) (old filled : MirrorView) : Type 0 where
-  pub stored : MirrorView
-  pub begins : Begins target planned old stored
-  pub fills : Fills target begins.now planned.plan.slots stored filled
-  pub sets : AreSets planned filled copied orphans
-  pub may : MayEnrol target copied orphans filled
+-- ---- from there on
+-- All passes are made. It may come into sync: these chunks are the orphans.
+pub record FillsBy (target : ℕ) (m : MemberView) (passes : List PassView) (none copied kept orphans : Bitmap) (chunks : List ℕ) (ready filled : MirrorView) : Type 0 where
+  pub copies : CopiesAll target m passes none copied ready filled
+  pub chunks_are : chunks ≡ uncopied_chunks ready.array m copied
+  pub has : HasSets target copied kept orphans chunks filled
   pub sound : IsConsistent filled
 
--- all of it
-pub record RebuildsBy (target : ℕ) (planned : Planned) (copied orphans : Bitmap) (old new : MirrorView) : Type 0 where
+-- It comes into sync, and the others are told.
+pub record EnrolsBy (target : ℕ) (m : MemberView) (passes : List PassView) (none copied kept orphans : Bitmap) (chunks : List ℕ) (ready new : MirrorView) : Type 0 where
   pub filled : MirrorView
-  pub fills : FillsBy target planned copied orphans old filled
+  pub fills : FillsBy target m passes none copied kept orphans chunks ready filled
   pub enrolled : MirrorView
-  pub enrols : Enrols target copied orphans filled enrolled
+  pub enrols : Enrols target kept orphans filled enrolled
   pub sound : IsConsistent enrolled
   pub settles : Settles enrolled new
 
+-- this is told of it
+pub record RebuildsReadied (target : ℕ) (m : MemberView) (none : Bitmap) (ready new : MirrorView) (told : Rebuilt) : Type 0 where
+  pub passes : List PassView
+  pub copied : Bitmap
+  pub kept : Bitmap
+  pub orphans : Bitmap
+  pub chunks : List ℕ
+  pub tells : Tells passes chunks told
+  pub by : EnrolsBy target m passes none copied kept orphans chunks ready new
+
+-- The target has all that could be copied, and it does not come into sync.
+pub record EndsFilled (target : ℕ) (m : MemberView) (none : Bitmap) (ready : MirrorView) (Why : Bitmap → Bitmap → MirrorView → Type 0) : Type 0 where
+  pub passes : List PassView
+  pub copied : Bitmap
+  pub kept : Bitmap
+  pub orphans : Bitmap
+  pub chunks : List ℕ
+  pub filled : MirrorView
+  pub fills : FillsBy target m passes none copied kept orphans chunks ready filled
+  pub why : Why kept orphans filled
+
+-- All was copied, and no more was done.
+pub record EndsCopied (target : ℕ) (m : MemberView) (none : Bitmap) (ready stopped : MirrorView) : Type 0 where
+  pub passes : List PassView
+  pub copied : Bitmap
+  pub copies : CopiesAll target m passes none copied ready stopped
+
+-- Memory was refused: before a pass, within one, while failed chunks are listed, or as the target was to come into sync.
+abbrev pub LacksMemory : ℕ → MemberView → Bitmap → MirrorView → MirrorView → Type 0
+LacksMemory target m none ready stopped =
+    EndsBetween target m none ready (λ left copied now. stopped ≡ now)
+    ⊎ (EndsBetween target m none ready (λ left copied now. (after : Bitmap) × BreaksOff target NoMemory left copied after now stopped)
+    ⊎ (EndsBetween target m none ready (λ left copied now. (after : Bitmap) × FailsListing target NoMemory left copied after now stopped)
+    ⊎ EndsCopied target m none ready stopped))
+
+-- A log has no room: that of a member that could not be read, or the target's.
+abbrev pub LacksRoom : ℕ → ℕ → MemberView → Bitmap → MirrorView → MirrorView → Type 0
+LacksRoom k target m none ready stopped =
+    EndsBetween target m none ready (λ left copied now. (after : Bitmap) × FailsListing target (LogFull k) left copied after now stopped)
+    ⊎ ((k ≡ target) × EndsFilled target m none ready (λ kept orphans filled. HasNoRoom target kept orphans filled stopped))
+
+-- A list could not be stored on member k, which was a source.
+abbrev pub LosesSource : ℕ → ℕ → MemberView → Bitmap → MirrorView → MirrorView → Type 0
+LosesSource k target m none ready stopped =
+    EndsBetween target m none ready (λ left copied now. (after : Bitmap) × FailsListing target (MetadataFault k) left copied after now stopped)
+
+-- The target could not be written: in a pass, after one, or as it was to come into sync.
+abbrev pub LosesTarget : ℕ → MemberView → Bitmap → MirrorView → MirrorView → Type 0
+LosesTarget target m none ready new =
+    EndsBetween target m none ready (λ left copied now. (after : Bitmap) × BreaksOff target TargetFault left copied after now new)
+    ⊎ (EndsBetween target m none ready (λ left copied now. FailsRecording target left copied now new)
+    ⊎ EndsFilled target m none ready (λ kept orphans filled. FailsToEnrol target kept orphans filled new))
+
+abbrev pub StopsReadied : ℕ → MemberView → Bitmap → MirrorView → MirrorView → RebuildFault → Type 0
+StopsReadied target m none ready stopped NoMemory = LacksMemory target m none ready stopped
+StopsReadied target m none ready stopped (LogFull k) = LacksRoom k target m none ready stopped
+StopsReadied target m none ready stopped (MetadataFault k) = LosesSource k target m none ready stopped
+StopsReadied target m none ready stopped TargetFault = LosesTarget target m none ready stopped
+StopsReadied target m none ready stopped fault = ⊥
+
+-- ---- the whole call
 -- The member is rebuilt, and this is told of it.
 pub record Rebuilds (target : ℕ) (told : Rebuilt) (old new : MirrorView) : Type 0 where
-  pub planned : Planned
-  pub tells : Tells planned told
-  pub copied : Bitmap
-  pub orphans : Bitmap
-  pub by : RebuildsBy target planned copied orphans old new
+  pub ready : MirrorView
+  pub none : Bitmap
+  pub begins : Begins target old ready none
+  pub rebuilds : RebuildsReadied target begins.now none ready new told
 
--- ---- what is refused
--- before anything was done
+-- It was refused before anything was done.
 pub record RefusesAtOnce (target : ℕ) (fault : RebuildFault) (old new : MirrorView) : Type 0 where
   pub unchanged : new ≡ old
   pub member : MemberView
   pub at : IsMember old.array target member
   pub cannot : CannotRebuild old.array member fault
 
--- it might begin, and not all that was due is stored, or a spare is not admitted
+-- It might begin, and did not come so far that a pass may be planned.
 pub record EndsStoring (target : ℕ) (old : MirrorView) (Why : Type 0) : Type 0 where
   pub member : MemberView
   pub at : IsMember old.array target member
   pub may : MayRebuild old.array member
   pub why : Why
 
--- the pass was not made: memory was refused for it, or before that for the admission of a spare
-pub record HasNoPass (target : ℕ) (old new : MirrorView) : Type 0 where
-  pub member : MemberView
-  pub at : IsMember old.array target member
-  pub may : MayRebuild old.array member
-  pub first : StoresFirst old new ⊎ AdmitsFirst target old new
+-- It came so far.
+pub record EndsReadied (target : ℕ) (old : MirrorView) (Why : MemberView → Bitmap → MirrorView → Type 0) : Type 0 where
+  pub ready : MirrorView
+  pub none : Bitmap
+  pub begins : Begins target old ready none
+  pub why : Why begins.now none ready
 
--- it ended before its end, with this fault
-pub record EndsInPass (target : ℕ) (fault : RebuildFault) (old new : MirrorView) : Type 0 where
-  pub planned : Planned
-  pub stored : MirrorView
-  pub begins : Begins target planned old stored
-  pub fails : FailsToFill target begins.now planned.plan.slots fault stored new
+-- Memory was refused for the set of the chunks, so that nothing was done; or for the admission of a spare.
+abbrev pub LacksMemoryFirst : MirrorView → MirrorView → Type 0
+LacksMemoryFirst old new = (new ≡ old) ⊎ StoresFirst old new
 
--- The target has the chunks of the plan, and it does not come into sync.
-pub record EndsFilled (target : ℕ) (old new : MirrorView) (Why : Bitmap → Bitmap → MirrorView → Type 0) : Type 0 where
-  pub planned : Planned
-  pub copied : Bitmap
-  pub orphans : Bitmap
-  pub filled : MirrorView
-  pub fills : FillsBy target planned copied orphans old filled
-  pub why : Why copied orphans filled
-
+-- Once the target is recovering, how far it is rebuilt is recorded before the fault is answered, but where the target could not be written.
 abbrev pub RefusesRebuild : ℕ → MirrorView → MirrorView → RebuildFault → Type 0
 RefusesRebuild target old new Halted = RefusesAtOnce target Halted old new
 RefusesRebuild target old new NotSpare = RefusesAtOnce target NotSpare old new
 RefusesRebuild target old new Dirty = RefusesAtOnce target Dirty old new
 RefusesRebuild target old new (InFlight number) = RefusesAtOnce target (InFlight number) old new
 RefusesRebuild target old new EventsFull = RefusesAtOnce target EventsFull old new
-RefusesRebuild target old new (MetadataFault k) = EndsStoring target old (StopsAt target k old new) ⊎ EndsStoring target old (StopsAdmitted target k old new)
+RefusesRebuild target old new (MetadataFault k) =
+    EndsStoring target old (StopsAt target k old new)
+    ⊎ (EndsStoring target old (LeavesAfter target (StopsAdmitted target k old) new)
+    ⊎ LeavesAfter target (λ stopped. EndsReadied target old (λ m none ready. LosesSource k target m none ready stopped)) new)
 RefusesRebuild target old new TargetFault =
     EndsStoring target old (FailsOnTarget target old new)
     ⊎ (EndsStoring target old (FailsAdmission target old new)
-    ⊎ (EndsInPass target TargetFault old new ⊎ EndsFilled target old new (λ copied orphans filled. FailsToEnrol target copied orphans filled new)))
+    ⊎ EndsReadied target old (λ m none ready. LosesTarget target m none ready new))
 RefusesRebuild target old new NoMemory =
-    HasNoPass target old new ⊎ (EndsInPass target NoMemory old new ⊎ EndsFilled target old new (λ copied orphans filled. new ≡ filled))
-RefusesRebuild target old new (SourceFault k chunk) = EndsInPass target (SourceFault k chunk) old new
-RefusesRebuild target old new (LogFull k) = (k ≡ target) × EndsFilled target old new (λ copied orphans filled. HasNoRoom target copied orphans filled new)
+    EndsStoring target old (LacksMemoryFirst old new)
+    ⊎ LeavesAfter target (λ stopped. EndsReadied target old (λ m none ready. LacksMemory target m none ready stopped)) new
+RefusesRebuild target old new (LogFull k) = LeavesAfter target (λ stopped. EndsReadied target old (λ m none ready. LacksRoom k target m none ready stopped)) new

@@ -1,16 +1,18 @@
 -- What a rebuild makes of its target, in plain terms, whatever the steps were (this project's own).
-use Rattle.std.specs.Prelude.{◌≡◌, ◌≢◌, ◌⊎◌, ◌↔◌, ℕ, ◌+◌, ◌*◌, ◌<◌, ◌≤◌, true, slice_get, Some}
+use Rattle.std.specs.Prelude.{◌≡◌, ◌≢◌, ◌⊎◌, ◌↔◌, ℕ, ◌+◌, ◌*◌, ◌<◌, ◌≤◌, true, List, [], ◌∷◌, ◌++◌, length, count_by, slice_get, Some}
 use Rattle.md_assembly.specs.declared.state.MemberState.TheVariants.{Faulty}
-use Rattle.md_assembly.specs.States.{is_in_sync}
+use Rattle.md_assembly.specs.States.{is_in_sync, is_in_sync_as}
+use Rattle.md_badblocks.specs.Runs.{IsBad}
 use Rattle.md_bitmap.specs.Chunks.{InChunk}
 use Rattle.md_bitmap.specs.Marks.{Bitmap, is_set}
+use Rattle.md_cert.specs.declared.slots.Slot.{Slot}
 use Rattle.md_collect.specs.Reading.{Fails}
 use Rattle.md_device.specs.Splice.{part}
 use Rattle.md_kept_members.specs.Enrolling.{IsListAfter}
 use Rattle.md_kept_members.specs.View.{MemberView}
 use Rattle.md_model.specs.Content.{Content}
 use Rattle.md_state.specs.DiskWrites.{AtDevice}
-use Rattle.md_state.specs.Members.{IsMember}
+use Rattle.md_state.specs.Members.{IsInSync, IsMember}
 use Rattle.md_state.specs.Missing.{is_missing}
 use Rattle.md_state.specs.View.{ArrayView, Disk, MirrorView, of_disks}
 use Rattle.md_array.specs.Enrolling.{HasContent, KeepsData}
@@ -19,15 +21,24 @@ use Rattle.md_array.specs.Worlds.{AreHonest}
 use Rattle.md_array.specs.InTurn.{HaltsAt, Requests}
 use Rattle.md_metadata.specs.Storing.{IsStoring}
 use Rattle.md_model.specs.Events.{Event}
-use Rattle.md_pass.specs.Beside.{has_chunk}
-use Rattle.md_plan.specs.declared.planner.Planned.{Planned}
+use Rattle.md_pass.specs.Readings.{is_of}
+use Rattle.md_passes.specs.Listed.{ArrayPasses, IsOfFailed, ServesAs, most_failures}
+use Rattle.md_passes.specs.Passes.{IsCopiedIn, PassView}
 use Rattle.md_copy.specs.declared.rebuilt.Rebuilt.{Rebuilt}
-use Rattle.md_copy.specs.Preparing.{Tells, is_in}
-use Rattle.md_copy.specs.RebuildSources.{Serves}
+use Rattle.md_copy.specs.Preparing.{Tells, is_in, uncopied_chunks}
+use Rattle.md_copy.specs.Sources.{missing_chunks}
 
--- some other member is in sync and lists no sector of the chunk
-abbrev pub IsServed : ArrayView → ℕ → ℕ → Type 0
-IsServed a target chunk = (j : ℕ) × (n : MemberView) × (j ≢ target) × Serves a j n chunk
+-- The member was in sync before, and lists no sector of the chunk then.
+pub record ServesThen (old new : ArrayView) (target k chunk : ℕ) : Type 0 where
+  pub other : k ≢ target
+  pub before : MemberView
+  pub in_sync : IsInSync old k before
+  pub after : MemberView
+  pub at : IsMember new k after
+  pub unlisted : (s : ℕ) → InChunk new.chunks.sectors new.chunks.size chunk s → IsBad after.bad (after.superblock.data_offset + s) → ⊥
+
+abbrev pub IsServedThen : ArrayView → ArrayView → ℕ → ℕ → Type 0
+IsServedThen old new target chunk = (k : ℕ) × ServesThen old new target k chunk
 
 -- these bytes lie in the member's data area, beside the chunks of a set
 pub record IsBesideCopied (a : ArrayView) (m : MemberView) (copied : Bitmap) (at n : ℕ) : Type 0 where
@@ -41,8 +52,9 @@ OthersKeepData target old new =
     (j : ℕ) (d e : Disk) (m : MemberView) → j ≢ target → slice_get old.disks j ≡ Some d → slice_get new.disks j ≡ Some e
     → IsMember old.array j m → KeepsData m d e
 
--- Of the chunks that the target lacked, those are copied that another member could give, and it holds the array's content there; it
--- lists the others, the orphans. Beside the copied chunks its data are as before, and so are those of all other members.
+-- Of the chunks that the target lacked, those are copied that another member could give, by the lists as they are then, and it holds the
+-- array's content there; it lists the others, the orphans. Beside the copied chunks its data are as before, and so are those of all other
+-- members.
 pub record IsRebuilt (target : ℕ) (copied orphans : Bitmap) (old new : MirrorView) : Type 0 where
   pub member : MemberView
   pub at : IsMember old.array target member
@@ -53,9 +65,9 @@ pub record IsRebuilt (target : ℕ) (copied orphans : Bitmap) (old new : MirrorV
   pub copied_chunks : copied.chunks ≡ old.array.marks.chunks
   pub orphan_chunks : orphans.chunks ≡ old.array.marks.chunks
   pub copied_are : (c : ℕ) → c < old.array.marks.chunks
-      → (is_set copied.bytes c ≡ true) ↔ ((is_missing old.array member c ≡ true) × IsServed old.array target c)
+      → (is_set copied.bytes c ≡ true) ↔ ((is_missing old.array member c ≡ true) × IsServedThen old.array new.array target c)
   pub orphans_are : (c : ℕ) → c < old.array.marks.chunks
-      → (is_set orphans.bytes c ≡ true) ↔ ((is_missing old.array member c ≡ true) × (IsServed old.array target c → ⊥))
+      → (is_set orphans.bytes c ≡ true) ↔ ((is_missing old.array member c ≡ true) × (IsServedThen old.array new.array target c → ⊥))
   -- whatever content the members in sync held
   pub holds : AreHonest old.disks → (content : Content) → HasContent old.disks old.array content
       → (e : Disk) → slice_get new.disks target ≡ Some e → (c s : ℕ) → c < old.array.marks.chunks
@@ -71,6 +83,35 @@ pub record IsRebuiltInSync (target : ℕ) (copied orphans : Bitmap) (old new : M
   pub rebuilt : IsRebuilt target copied orphans old new
   pub in_sync : is_in_sync rebuilt.now.state ≡ true
 
+-- ---- the passes
+-- the slots that failed in them
+abbrev pub failed_of : List PassView → List Slot
+failed_of [] = []
+failed_of (p ∷ ps) = p.failed ++ failed_of ps
+
+-- The list of each other member grew by the chunks of its slots that failed, and no list otherwise.
+abbrev pub ListsGrow : ℕ → List Slot → ArrayView → ArrayView → Type 0
+ListsGrow target failed old new =
+    (k : ℕ) (m n : MemberView) → k ≢ target → IsMember old k m → IsMember new k n
+    → (sector : ℕ) → IsBad n.bad sector ↔ (IsBad m.bad sector ⊎ IsOfFailed old.chunks failed m sector)
+
+-- The device of each member in sync has counted a failure for each of its slots that failed, or more.
+abbrev pub AllCounted : List Slot → MirrorView → MirrorView → Type 0
+AllCounted failed old new =
+    AreHonest old.disks → (k role : ℕ) (m : MemberView) → IsMember old.array k m → is_in_sync_as role m.state ≡ true
+    → AtDevice k old.disks new.disks (λ d e. d.failures + count_by (is_of role) failed ≤ e.failures)
+
+-- The first pass is planned by who serves a chunk before the call, the others by who does once what failed before is listed, and each is
+-- least. There are no more of them than chunks to read, counted for each member in sync, and one.
+pub record AreItsPasses (target : ℕ) (passes : List PassView) (chunks : List ℕ) (old : MirrorView) (last : MirrorView) : Type 0 where
+  pub first : ArrayView
+  pub served : (c role : ℕ) → ServesAs first c role ↔ ServesAs old.array c role
+  pub end : ArrayView
+  pub are : ArrayPasses passes first chunks end
+  pub few : length passes ≤ most_failures old.array + 1
+  pub lists : ListsGrow target (failed_of passes) old.array last.array
+  pub counted : AllCounted (failed_of passes) old last
+
 -- ---- the whole call
 -- The write of a mark or of a superblock failed on a member that can't be made faulty, and the mirror is halted.
 pub record HaltsFrom (last new : MirrorView) : Type 0 where
@@ -79,14 +120,16 @@ pub record HaltsFrom (last new : MirrorView) : Type 0 where
   pub halts : (others : Requests) → HaltsAt last others failing new
 
 -- It is rebuilt at the end of the call, or where a write that failed halted the mirror after it came into sync, right before that write.
--- Its chunks are those that are told of.
+-- This is told of its passes, and of the orphans.
 pub record HasRebuilt (target : ℕ) (told : Rebuilt) (old new : MirrorView) : Type 0 where
-  pub planned : Planned
-  pub tells : Tells planned told
+  pub passes : List PassView
+  pub tells : Tells passes told.orphans.items told
   pub copied : Bitmap
   pub orphans : Bitmap
-  pub copied_told : (c : ℕ) → is_set copied.bytes c ≡ has_chunk planned.plan.slots c
+  pub copied_told : (c : ℕ) → (is_set copied.bytes c ≡ true) ↔ IsCopiedIn passes c
   pub orphans_told : (c : ℕ) → is_set orphans.bytes c ≡ is_in told.orphans.items c
   pub last : MirrorView
   pub ends : (last ≡ new) ⊎ HaltsFrom last new
   pub rebuilt : IsRebuilt target copied orphans old last
+  pub orphans_are : told.orphans.items ≡ uncopied_chunks old.array rebuilt.member copied
+  pub passes_are : AreItsPasses target passes (missing_chunks old.array rebuilt.member) old last

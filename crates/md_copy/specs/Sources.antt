@@ -23,6 +23,16 @@ pub record IsTableOf (a : ArrayView) (m : MemberView) (rows : List Row) : Type 0
   pub chunks : chunks_of rows ≡ missing_chunks a m
   pub sources : All (HasSources a) rows
 
+-- the member lacks the chunk
+pub record IsLacking (a : ArrayView) (m : MemberView) (c : ℕ) : Type 0 where
+  pub low : c < div_ceil a.chunks.size a.chunks.sectors
+  pub missing : is_missing a m c ≡ true
+
+-- the rows are chunks that the member lacks, if not all of them, each with its sources
+pub record IsTableIn (a : ArrayView) (m : MemberView) (rows : List Row) : Type 0 where
+  pub lacking : All (λ row. IsLacking a m row.chunk) rows
+  pub sources : All (HasSources a) rows
+
 -- a member is in sync in the role
 abbrev pub IsInSyncAs : ArrayView → ℕ → Type 0
 IsInSyncAs a role = (k : ℕ) × (m : MemberView) × IsMember a k m × (is_in_sync_as role m.state ≡ true)

@@ -1,32 +1,78 @@
 // The target comes into sync once it has its chunks.
-ghost use Rattle.std.specs.Prelude.{◌≡◌, MatchResult, false};
+ghost use Rattle.std.specs.Prelude.{◌≡◌, ◌^◌, ◌<◌, IfErr, MatchResult, false, length};
+ghost use Rattle.md_kept_members.specs.View.{MemberView};
+ghost use Rattle.md_state.specs.Members.{IsMember};
 ghost use Rattle.md_state.specs.Rising.{HasSpentEvents};
 ghost use Rattle.md_array.specs.Consistency.{IsConsistent};
 ghost use Rattle.md_array.specs.Enrolling.{Enrols, MayEnrol};
-ghost use Rattle.md_copy.specs.Enrolled.{RefusesFilled};
+ghost use Rattle.md_copy.specs.Enrolled.{EnrolsCopied, FailsCopied, RefusesFilled};
+ghost use Rattle.md_copy.specs.Held.{AreHeld};
+ghost use Rattle.md_copy.specs.Leaving.{MayLeave};
+ghost use Rattle.md_copy.specs.Ready.{IsReady};
 
 use crate::fault::RebuildFault;
-use crate::preparing::Pass;
+use crate::orphans::{keep_missing, marks_of, uncopied_chunks};
+use crate::rebuilt::Rebuilt;
 use md_array::{EnrolFault, Mirror};
+use md_bitmap::Marks;
 use md_device::Device;
+use md_plan::Planned;
 use std::alloc::Global;
 
-/// The target of a pass comes into sync.
-pub(crate) fn enrol_filled<D: Device + Drop>(
+/// The target comes into sync with the chunks that were copied, and lists the others that it lacks. What is told
+/// of it is answered. `copied` keeps the chunks that the target lacked still.
+pub(crate) fn enrol_copied<D: Device + Drop>(
     alloc: Global,
     mirror: &mut Mirror<D>,
     target: usize,
-    pass: &Pass,
+    plans: Vec<Planned>,
+    copied: &mut Marks,
+) -> Result<Rebuilt, RebuildFault>
+    requires within { target < length mirror.old.array.members }
+    requires ready { IsReady target mirror.old }
+    requires held { AreHeld mirror.old target copied.old }
+    requires few { length plans.items < 2 ^ 32 }
+    ensures gives { MatchResult result (EnrolsCopied target plans.items copied.old mirror.old mirror.new)
+        (FailsCopied target copied.old mirror.old mirror.new) }
+    ensures leaves { IfErr result (MayLeave target copied.new mirror.new) }
+    ensures sound { IsConsistent mirror.new }
+{
+    let chunks = match uncopied_chunks(alloc, mirror, target, copied) {
+        Ok(chunks) => chunks,
+        Err(_) => return Err(RebuildFault::NoMemory),
+    };
+    let orphans = match marks_of(alloc, copied.chunks(), chunks.as_slice()) {
+        Ok(orphans) => orphans,
+        Err(_) => return Err(RebuildFault::NoMemory),
+    };
+    keep_missing(mirror, target, copied);
+    if let Err(fault) = enrol_filled(alloc, mirror, target, copied, &orphans) {
+        return Err(fault);
+    }
+    Ok(Rebuilt {
+        passes: plans.len() as u32,
+        plans,
+        orphans: chunks,
+    })
+}
+
+// The target comes into sync.
+fn enrol_filled<D: Device + Drop>(
+    alloc: Global,
+    mirror: &mut Mirror<D>,
+    target: usize,
+    copied: &Marks,
+    orphans: &Marks,
 ) -> Result<(), RebuildFault>
     requires sound { IsConsistent mirror.old }
     requires running { mirror.old.array.halted ≡ false }
     requires unspent { HasSpentEvents mirror.old.array → ⊥ }
-    requires may { MayEnrol target pass.now.copied pass.now.orphans mirror.old }
-    ensures gives { MatchResult result (λ _. Enrols target pass.now.copied pass.now.orphans mirror.old mirror.new)
-        (RefusesFilled target pass.now.copied pass.now.orphans mirror.old mirror.new) }
+    requires may { MayEnrol target copied.now orphans.now mirror.old }
+    ensures gives { MatchResult result (λ _. Enrols target copied.now orphans.now mirror.old mirror.new)
+        (RefusesFilled target copied.now orphans.now mirror.old mirror.new) }
     ensures sound { IsConsistent mirror.new }
 {
-    match mirror.enrol(alloc, target, &pass.copied, &pass.orphans) {
+    match mirror.enrol(alloc, target, copied, orphans) {
         Ok(()) => Ok(()),
         Err(EnrolFault::LogFull(k)) => Err(RebuildFault::LogFull(k)),
         Err(EnrolFault::NoMemory) => Err(RebuildFault::NoMemory),

@@ -18,7 +18,8 @@ pub enum RebuildFault {
     /// The request of this number is in flight. It is the first in the list.
     #[error("InFlight {0}")]
     InFlight(u64),
-    /// The log of this member has less room than its list would need.
+    /// The log of this member, the target or one that could not be read, has less room than its list would
+    /// need.
     #[error("LogFull {0}")]
     LogFull(usize),
     /// Memory was refused.
@@ -34,9 +35,6 @@ pub enum RebuildFault {
     /// The event count has to rise, for a spare twice, and can't.
     #[error("EventsFull")]
     EventsFull,
-    /// This member could not be read in this chunk.
-    #[error("SourceFault {0} {1}")]
-    SourceFault(usize, u32),
 }
 
 impl From<AllocError> for RebuildFault {

@@ -1,25 +1,15 @@
 //! What holds of every rebuild by its steps. The functions do nothing: their contracts are the theorems.
 ghost use Rattle.std.specs.Prelude.{ℕ};
-ghost use Rattle.md_bitmap.specs.Marks.{Bitmap};
-ghost use Rattle.md_plan.specs.declared.planner.Planned.{Planned};
 ghost use Rattle.md_state.specs.View.{MirrorView};
 ghost use Rattle.md_array.specs.Consistency.{IsConsistent};
 ghost use Rattle.md_copy.specs.declared.fault.RebuildFault.{RebuildFault};
 ghost use Rattle.md_copy.specs.declared.rebuilt.Rebuilt.{Rebuilt};
-ghost use Rattle.md_copy.specs.RebuildEvents.{AsksOfFailure, LeadsUnadmitted, LeadsUnfinished, RebuildLeads};
-ghost use Rattle.md_copy.specs.Rebuilding.{Rebuilds, RebuildsBy, RefusesRebuild};
 ghost use Rattle.md_copy.specs.Readying.{FailsAdmission};
-ghost use Rattle.md_copy.specs.Rebuilt.{HasRebuilt, IsRebuiltInSync};
+ghost use Rattle.md_copy.specs.RebuildEvents.{AsksOfFailure, LeadsUnadmitted, LeadsUnfinished, RebuildLeads};
+ghost use Rattle.md_copy.specs.Rebuilding.{Rebuilds, RefusesRebuild};
+ghost use Rattle.md_copy.specs.Rebuilt.{HasRebuilt};
 
-/// From the moment at which what is due is stored to that at which the target is in sync: whatever the steps
-/// of a rebuild, its target is rebuilt.
-pub fn rebuilt_member()
-    ensures { (target : ℕ) (planned : Planned) (copied orphans : Bitmap) (old new : MirrorView)
-        → (by : RebuildsBy target planned copied orphans old new)
-        → IsRebuiltInSync target copied orphans by.fills.stored by.enrolled }
-{}
-
-/// From before the call to after it.
+/// From before the call to after it: whatever the steps of a rebuild, its target is rebuilt.
 pub fn rebuilt_by_call()
     ensures { (target : ℕ) (told : Rebuilt) (old new : MirrorView)
         → Rebuilds target told old new → HasRebuilt target told old new }
@@ -27,11 +17,12 @@ pub fn rebuilt_by_call()
 
 /// A rebuild is a list of events of the array's model, so that the laws over lives speak of it. One that is
 /// done has one enrolment in it, and an admission where the target was a spare; one that is refused has no
-/// enrolment. Where a write failed by which the target was to be admitted, or the last write of `enrol`, the
-/// target is spoiled by the last event, whatever that write left. Where another write of `enrol` failed, it is
-/// asked that it left the width of the chunks in the header.
+/// enrolment. Where a write failed by which the target was to be admitted, or to record how far it is rebuilt,
+/// or the last write of `enrol`, the target is spoiled by the last event, whatever that write left. Where
+/// another write of `enrol` failed, it is asked that it left the width of the chunks in the header.
 pub fn rebuild_events()
-    ensures done { (target : ℕ) (told : Rebuilt) (old new : MirrorView) → Rebuilds target told old new → RebuildLeads target old new }
+    ensures done { (target : ℕ) (told : Rebuilt) (old new : MirrorView)
+        → Rebuilds target told old new → RebuildLeads target old new }
     ensures refused { (target : ℕ) (old new : MirrorView) → IsConsistent old → IsConsistent new
         → (fault : RebuildFault) (h : RefusesRebuild target old new fault) → AsksOfFailure target old new fault h
         → LeadsUnfinished target old new }

@@ -1,12 +1,12 @@
 // A pass over the devices of a mirror, among which the target's stands.
-ghost use Rattle.std.specs.Prelude.{◌≡◌, ◌<◌, ◌≤◌, ℕ, length, remove, slice_index_or, Err, OnOk};
+ghost use Rattle.std.specs.Prelude.{◌≡◌, ◌<◌, MatchResult, length, remove, slice_index_or};
 ghost use Rattle.std.specs.Int.{div_ceil};
 ghost use Rattle.md_collect.specs.Collecting.{ArePlanned};
 ghost use Rattle.md_collect.specs.Places.{HasRoom};
-ghost use Rattle.md_collect.specs.Reading.{Fails};
 ghost use Rattle.md_pass.specs.Beside.{KeepsBeside};
+ghost use Rattle.md_pass.specs.Copied.{AreUncopied, BreaksOff, EndsPass, pass_state};
 ghost use Rattle.md_pass.specs.Lanes.{AreOnlyRead};
-ghost use Rattle.md_pass.specs.Sources.{AreCopied, AreMarked, FailsToGive, MayRead, copy_of};
+ghost use Rattle.md_pass.specs.Sources.{MayRead, copy_of};
 
 use md_bitmap::{Chunks, Marks};
 use md_cert::Plan;
@@ -32,17 +32,18 @@ pub(crate) fn copy_beside<D: Device + Drop + Send, G: Gate + Sync, R: Threads + 
 ) -> Result<BoardCounts, PassFault>
     requires within { target < length devices.old.items }
     requires planned { ArePlanned chunks plan.now.slots }
+    requires uncopied { AreUncopied plan.now.slots copied.old }
     requires sources { MayRead D.Device chunks plan.now.slots sources.now (remove devices.old.items target) }
     requires room { (d : D) → HasRoom (D.content (slice_index_or devices.old.items target d)) offset chunks }
     requires marks { copied.old.chunks ≡ div_ceil chunks.size chunks.sectors }
 
-    ensures marked { OnOk result (AreMarked plan.now.slots copied.old copied.new) }
-    ensures copied { OnOk result ((d : D) → AreCopied D.Device (copy_of plan.now.slots chunks offset) sources.now
-        (remove devices.old.items target) (slice_index_or devices.old.items target d) (slice_index_or devices.new.items target d)) }
-    ensures target_fault { result ≡ Err PassFault.TargetFault
-        → (d : D) → Fails D.Device (slice_index_or devices.old.items target d) (slice_index_or devices.new.items target d) }
-    ensures source_fault { (role chunk : ℕ) → result ≡ Err (PassFault.SourceFault role chunk)
-        → FailsToGive D.Device plan.now.slots sources.now (remove devices.old.items target) (remove devices.new.items target) role chunk }
+    ensures gives { (d : D) → MatchResult result
+        (EndsPass D.Device (copy_of plan.now.slots chunks offset) sources.now
+        (pass_state (remove devices.old.items target) (slice_index_or devices.old.items target d) copied.old)
+        (pass_state (remove devices.new.items target) (slice_index_or devices.new.items target d) copied.new))
+        (BreaksOff D.Device (copy_of plan.now.slots chunks offset) sources.now
+        (pass_state (remove devices.old.items target) (slice_index_or devices.old.items target d) copied.old)
+        (pass_state (remove devices.new.items target) (slice_index_or devices.new.items target d) copied.new)) }
 
     ensures as_many { length devices.new.items ≡ length devices.old.items }
     ensures others { AreOnlyRead D.Device (remove devices.old.items target) (remove devices.new.items target) }

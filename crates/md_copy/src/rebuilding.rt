@@ -1,17 +1,23 @@
 // A member is rebuilt.
-ghost use Rattle.std.specs.Prelude.{◌<◌, MatchResult, length};
+ghost use Rattle.std.specs.Prelude.{◌≡◌, ◌<◌, IfErr, MatchResult, false, length};
 ghost use Rattle.md_array.specs.Consistency.{IsConsistent};
-ghost use Rattle.md_copy.specs.Rebuilding.{Rebuilds, RefusesRebuild};
+ghost use Rattle.md_kept_members.specs.View.{MemberView};
+ghost use Rattle.md_state.specs.Members.{IsMember};
+ghost use Rattle.md_copy.specs.Leaving.{MayLeave};
+ghost use Rattle.md_copy.specs.Preparing.{IsSetOf};
+ghost use Rattle.md_copy.specs.Ready.{IsReady};
+ghost use Rattle.md_copy.specs.Rebuilding.{RebuildsReadied, Rebuilds, RefusesRebuild, StopsReadied};
 
 use crate::checking::check_rebuild;
-use crate::enrol_filled::enrol_filled;
+use crate::enrol_filled::enrol_copied;
 use crate::fault::RebuildFault;
-use crate::filling::fill;
-use crate::preparing::prepare;
+use crate::leaving::leave;
+use crate::passes::copy_passes;
 use crate::readying::make_ready;
 use crate::rebuilt::Rebuilt;
 use crate::settling::settle;
 use md_array::Mirror;
+use md_bitmap::Marks;
 use md_device::Device;
 use md_pass::Gate;
 use std::alloc::Global;
@@ -19,8 +25,11 @@ use std::sync::Wait;
 use std::thread::Threads;
 
 /// Copies to the target, a spare or recovering, each chunk that it lacks and another member can give, in the
-/// fewest rounds. Then it is in sync, and lists the others as bad. A spare is admitted first, so that it is
-/// recovering from then on, whatever comes of the rebuild.
+/// fewest rounds. Chunks that could not be read are listed as bad on the member that was to give them, and another
+/// pass takes them from the others. Then the target is in sync, and lists the chunks that nobody could give. A
+/// spare is admitted first, so that it is recovering from then on, whatever comes of the rebuild; and how far it
+/// came is recorded after each pass, and where it ends for want of memory, of room in a log, or of a member that
+/// was to be written.
 pub fn rebuild<D: Device + Drop + Send, G: Gate + Sync, R: Threads + Wait + Sync>(
     rt: &R,
     alloc: Global,
@@ -36,19 +45,48 @@ pub fn rebuild<D: Device + Drop + Send, G: Gate + Sync, R: Threads + Wait + Sync
     if let Err(fault) = check_rebuild(mirror, target) {
         return Err(fault);
     }
-    if let Err(fault) = make_ready(alloc, mirror, target) {
+    let mut copied = match Marks::none(alloc, mirror.chunks().count()) {
+        Ok(copied) => copied,
+        Err(_) => return Err(RebuildFault::NoMemory),
+    };
+    if let Err(fault) = make_ready(alloc, mirror, target, &mut copied) {
         return Err(fault);
     }
-    let mut pass = match prepare(alloc, mirror, target) {
-        Ok(pass) => pass,
+    match rebuild_readied(rt, alloc, mirror, target, gate, &mut copied) {
+        Ok(told) => Ok(told),
+        Err(fault) => {
+            leave(mirror, target, &mut copied, fault);
+            Err(fault)
+        }
+    }
+}
+
+// The passes are made, the target comes into sync, and the others are told.
+fn rebuild_readied<D: Device + Drop + Send, G: Gate + Sync, R: Threads + Wait + Sync>(
+    rt: &R,
+    alloc: Global,
+    mirror: &mut Mirror<D>,
+    target: usize,
+    gate: &G,
+    copied: &mut Marks,
+) -> Result<Rebuilt, RebuildFault>
+    requires within { target < length mirror.old.array.members }
+    requires ready { IsReady target mirror.old }
+    requires none { IsSetOf mirror.old.array (λ c. false) copied.old }
+    ensures gives { (m : MemberView) → IsMember mirror.old.array target m → MatchResult result
+        (RebuildsReadied target m copied.old mirror.old mirror.new)
+        (StopsReadied target m copied.old mirror.old mirror.new) }
+    ensures leaves { IfErr result (MayLeave target copied.new mirror.new) }
+    ensures sound { IsConsistent mirror.new }
+{
+    let plans = match copy_passes(rt, alloc, mirror, target, gate, copied) {
+        Ok(plans) => plans,
         Err(fault) => return Err(fault),
     };
-    if let Err(fault) = fill(rt, alloc, mirror, target, gate, &mut pass) {
-        return Err(fault);
-    }
-    if let Err(fault) = enrol_filled(alloc, mirror, target, &pass) {
-        return Err(fault);
-    }
+    let told = match enrol_copied(alloc, mirror, target, plans, copied) {
+        Ok(told) => told,
+        Err(fault) => return Err(fault),
+    };
     settle(mirror);
-    Ok(pass.told)
+    Ok(told)
 }

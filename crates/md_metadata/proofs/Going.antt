@@ -17,7 +17,7 @@ use Rattle.md_array.proofs.Steps.Turns.{all_on, all_such, turn_on, turn_then}
 use Rattle.md_metadata.specs.declared.fault.PartFault.{PartFault}
 use Rattle.md_metadata.specs.declared.fault.PartFault.TheVariants.{Halted, MemberFailed}
 use Rattle.md_metadata.specs.Going.{GoesOn, HaltsAfter, IsFaulty, IsSameArray, LosesMember, StepsBy, only_others, recorded_count}
-use Rattle.md_metadata.specs.Storing.{AllStayReady, FailsAtLast, FailsInSync, HaltsStoring, IsFailureOf, IsMarking, IsNoFailure, IsRecording, IsSector, IsStoring, IsUpToDate, LosesStoring, SectorFails, StaysReady, Stores, StoresAll, StoringFails}
+use Rattle.md_metadata.specs.Storing.{AllStayReady, FailsAtLast, FailsInSync, HaltsAtWrite, HaltsStoring, IsFailureOf, IsMarking, IsNoFailure, IsRecording, IsSector, IsStoring, IsUpToDate, LosesStoring, SectorFails, StaysReady, Stores, StoresAll, StoringFails}
 
 pub same_refl : (a : ArrayView) → IsSameArray a a
 same_refl a = record { chunks = refl; marks = refl; as_many = refl; requests = refl; resynced = refl; fewer = omega arith }
@@ -57,6 +57,10 @@ goes_step F G IsOf e old new s order = record {
   sound = s.sound;
   pending = s.pending;
 }
+
+-- one event as one of another kind
+pub step_of : (F G : Requests → Requests) (Of Such : Event → Type 0) (e : Event) (old new : MirrorView) → Such e → StepsBy F G Of e old new → StepsBy F G Such e old new
+step_of F G Of Such e old new is s = record { of = is; did = s.did; happens = s.happens; array = s.array; sound = s.sound; pending = s.pending }
 
 module _ (F G H : Requests → Requests) (IsOf : Event → Type 0) (old mid new : MirrorView) where
   -- two events, of which the second is in its turn after the first
@@ -174,7 +178,7 @@ sector_in_sync k block old new (MemberFailed j) is h =
 -- ---- kinds of events
 module _ (Of Such : Event → Type 0) (widen : (e : Event) → Of e → Such e) where
   pub step_as : (F G : Requests → Requests) (e : Event) (old new : MirrorView) → StepsBy F G Of e old new → StepsBy F G Such e old new
-  step_as F G e old new s = record { of = widen e s.of; did = s.did; happens = s.happens; array = s.array; sound = s.sound; pending = s.pending }
+  step_as F G e old new s = step_of F G Of Such e old new (widen e s.of) s
 
   pub goes_as : (F G : Requests → Requests) (old new : MirrorView) → GoesOn F G Of old new → GoesOn F G Such old new
   goes_as F G old new g = record {
@@ -334,3 +338,86 @@ module _ (Of : Event → Type 0) where
     pub stops_on : (fault : PartFault) → Stores Of old mid → StoringFails Of mid new fault → StoringFails Of old new fault
     stops_on Halted g h = halts_then g h
     stops_on (MemberFailed k) g h = loses_then k g h
+
+-- ---- events of which none failed, whatever becomes of the members
+pub record GoesUnfailing (Of : Event → Type 0) (old new : MirrorView) : Type 0 where
+  pub goes : GoesOn only_others only_others Of old new
+  pub unfailing : AllOf IsNoFailure goes.events
+  pub halted : new.array.halted ≡ old.array.halted
+
+module _ (Of : Event → Type 0) where
+  pub unfailing_none : (m : MirrorView) → IsConsistent m → (g : GoesUnfailing Of m m) × (g.goes.events ≡ [])
+  unfolding goes_nowhere
+  unfailing_none m sound = (record { goes = goes_nowhere only_others Of m sound; unfailing = tt; halted = refl }, refl)
+
+  pub unfailing_step : (e : Event) (old new : MirrorView) → IsNoFailure e → StepsBy only_others only_others Of e old new → ((previous : Option Event) → IsInOrder previous old.array e)
+      → new.array.halted ≡ old.array.halted → (g : GoesUnfailing Of old new) × (g.goes.events ≡ e ∷ [])
+  unfolding goes_step
+  unfailing_step e old new is s order halted = (record { goes = goes_step only_others only_others Of e old new s order; unfailing = (is, tt); halted = halted }, refl)
+
+  pub unfailing_two : (old mid new : MirrorView) (e f : Event) → IsNoFailure e → IsNoFailure f → StepsBy only_others only_others Of e old mid
+      → ((previous : Option Event) → IsInOrder previous old.array e) → StepsBy only_others only_others Of f mid new → IsInOrder (Some e) mid.array f → new.array.halted ≡ old.array.halted
+      → (g : GoesUnfailing Of old new) × (g.goes.events ≡ e ∷ f ∷ [])
+  unfolding goes_two
+  unfailing_two old mid new e f first_is second_is s first t second halted =
+      (record { goes = goes_two only_others only_others only_others Of old mid new e f s first t second; unfailing = (first_is, (second_is, tt)); halted = halted }, refl)
+
+  -- the very first write halts the mirror
+  pub halts_at_once : (k : ℕ) (e : Event) (old new : MirrorView) → IsConsistent old → Of e → IsFailureOf k e → ((others : Requests) → HaltsAt old others e new) → IsConsistent new
+      → ((o : PendingView) → IsPending old.array o → IsPending new.array o) → HaltsAtWrite Of k old new
+  unfolding goes_nowhere
+  halts_at_once k e old new before is named halts sound pending = record {
+    halts = record { mid = old; goes = goes_nowhere only_others Of old before; failing = e; of = is; halts = halts; sound = sound; pending = pending };
+    unfailing = tt;
+    named = named;
+  }
+
+  module _ (old mid new : MirrorView) (g : GoesUnfailing Of old mid) where
+    pub unfailing_on : (h : GoesUnfailing Of mid new) → (x : GoesUnfailing Of old new) × (x.goes.events ≡ g.goes.events ++ h.goes.events)
+    unfolding goes_on
+    unfailing_on h = (
+      record {
+        goes = goes_on only_others only_others only_others Of old mid new g.goes h.goes;
+        unfailing = all_on IsNoFailure g.goes.events h.goes.events g.unfailing h.unfailing;
+        halted = h.halted ∙ g.halted;
+      },
+      refl,
+    )
+
+    pub unfailing_loses : (k : ℕ) → IsUpToDate old.array k → LosesStoring Of k mid new → LosesStoring Of k old new
+    unfolding goes_on loses_on
+    unfailing_loses k was h = record {
+      loses = loses_on only_others only_others only_others Of old mid new g.goes g.halted h.loses;
+      was = was;
+      last = fails_after k g.goes.events h.loses.goes.events g.unfailing h.last;
+      faulty = h.faulty;
+    }
+
+    pub unfailing_halts : (k : ℕ) → HaltsAtWrite Of k mid new → HaltsAtWrite Of k old new
+    unfolding goes_on halts_on
+    unfailing_halts k h = record {
+      halts = halts_on only_others only_others only_others Of old mid new g.goes h.halts;
+      unfailing = all_on IsNoFailure g.goes.events h.halts.goes.events g.unfailing h.unfailing;
+      named = h.named;
+    }
+
+module _ (Of Such : Event → Type 0) (widen : (e : Event) → Of e → Such e) (old new : MirrorView) where
+  pub unfailing_as : (g : GoesUnfailing Of old new) → (h : GoesUnfailing Such old new) × (h.goes.events ≡ g.goes.events)
+  unfolding goes_as
+  unfailing_as g = (record { goes = goes_as Of Such widen only_others only_others old new g.goes; unfailing = g.unfailing; halted = g.halted }, refl)
+
+  pub halts_as : (k : ℕ) → HaltsAtWrite Of k old new → HaltsAtWrite Such k old new
+  unfolding goes_as
+  halts_as k h = record {
+    halts = record {
+      mid = h.halts.mid;
+      goes = goes_as Of Such widen only_others only_others old h.halts.mid h.halts.goes;
+      failing = h.halts.failing;
+      of = widen h.halts.failing h.halts.of;
+      halts = h.halts.halts;
+      sound = h.halts.sound;
+      pending = h.halts.pending;
+    };
+    unfailing = h.unfailing;
+    named = h.named;
+  }

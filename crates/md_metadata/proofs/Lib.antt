@@ -6,4 +6,5 @@ pub mod Steps
 pub mod StoredMembers
 pub mod StoredSectors
 pub mod StoredRecords
+pub mod StoredLists
 pub mod Stopped

@@ -28,17 +28,15 @@ use Rattle.md_array.proofs.General.Indices.{at_set_same}
 use Rattle.md_array.proofs.Worlds.States.{in_sync_recorded}
 use Rattle.md_metadata.specs.declared.fault.PartFault.TheVariants as part
 use Rattle.md_metadata.specs.Going.{IsFaulty, IsSameArray, LosesMember, StepsBy, only_others, recorded_count}
-use Rattle.md_metadata.specs.Storing.{AllStayReady, HaltsStoring, IsRecording, IsSector, RecordingFails, RecordsOn, SectorFails, StoresOn}
+use Rattle.md_metadata.specs.Storing.{AllStayReady, HaltsRecordingOn, HaltsStoring, IsRecording, IsSector, RecordingFails, RecordsOn, SectorFails, StoresOn}
 use Rattle.md_metadata.proofs.Counts.{count_map, set_alike, set_fewer}
 use Rattle.md_metadata.proofs.Going.{goes_step, halts_first, step_loses}
 
 -- ---- a member is changed
-module _ (a b : ArrayView) (k : ℕ) (m n : MemberView) (at : IsMember a k m) (like : n ≡ record m { stored = n.stored; due = n.due }) (is : b ≡ record a { members = set a.members k n }) where
-  state : n.state ≡ m.state
-  state = ap (λ (x : MemberView). x.state) like
-
-  pub same_array : IsSameArray a b
-  same_array = record {
+module _ (a b : ArrayView) (k : ℕ) (m n : MemberView) (at : IsMember a k m) (is : b ≡ record a { members = set a.members k n }) where
+  -- and is in the state in which it was
+  pub same_but : n.state ≡ m.state → IsSameArray a b
+  same_but state = record {
     chunks = ap (λ (x : ArrayView). x.chunks) is;
     marks = ap (λ (x : ArrayView). x.marks) is;
     as_many = ap (λ (x : ArrayView). length x.members) is ∙ length-set a.members k n;
@@ -47,6 +45,16 @@ module _ (a b : ArrayView) (k : ℕ) (m n : MemberView) (at : IsMember a k m) (l
     fewer = subst (λ (x : ArrayView). recorded_count x ≤ recorded_count a) (sym is)
         (set_alike (λ (x : MemberView). is_recorded x.state) a.members k m n at (ap is_recorded state));
   }
+
+  -- member k after it
+  pub is_now : (x : MemberView) → IsMember b k x → x ≡ n
+  is_now x there =
+      of_set a.members k k n x (ap (λ (y : ArrayView). slice_get y.members k) (sym is) ∙ there)
+      (λ same it. it) (λ apart other. absurd (apart refl))
+
+module _ (a b : ArrayView) (k : ℕ) (m n : MemberView) (at : IsMember a k m) (like : n ≡ record m { stored = n.stored; due = n.due }) (is : b ≡ record a { members = set a.members k n }) where
+  pub same_array : IsSameArray a b
+  same_array = same_but a b k m n at is (ap (λ (x : MemberView). x.state) like)
 
   pub stay_ready : ((c : ℕ) → is_set m.stored.bytes c ≡ is_set a.marks.bytes c → is_set n.stored.bytes c ≡ is_set a.marks.bytes c) → (IsNotDue m → IsNotDue n) → AllStayReady a b
   stay_ready marks due = record {
@@ -64,11 +72,8 @@ module _ (a b : ArrayView) (k : ℕ) (m n : MemberView) (at : IsMember a k m) (l
     halted = ap (λ (x : ArrayView). x.halted) is;
   }
 
-  -- member k after it
   pub now_at : (x : MemberView) → IsMember b k x → x ≡ n
-  now_at x there =
-      of_set a.members k k n x (ap (λ (y : ArrayView). slice_get y.members k) (sym is) ∙ there)
-      (λ same it. it) (λ apart other. absurd (apart refl))
+  now_at = is_now a b k m n at is
 
 -- ---- a member failed
 module _ (a b : ArrayView) (k : ℕ) (f : Fails k a b) (in_use : is_recorded f.member.state ≡ true) where
@@ -212,9 +217,9 @@ module _ (old new : MirrorView) (k : ℕ) (sound : IsConsistent new) (pending : 
         },
       )
 
-  pub record_halts : old.array.halted ≡ false → IsConsistent old → RefusesRecord k old new Halted → HaltsStoring IsRecording old new
+  pub record_halts : old.array.halted ≡ false → IsConsistent old → RefusesRecord k old new Halted → HaltsRecordingOn k old new
   record_halts run before (inl r) = never_halted old new run r
-  record_halts run before (inr h) = halts_first IsRecording (Event.RecordFails k) old new before tt (λ others. h) sound pending
+  record_halts run before (inr h) = record { stores = halts_first IsRecording (Event.RecordFails k) old new before tt (λ others. h) sound pending; at_once = h }
 
 pub record_refused : {P : Type 0} (old new : MirrorView) (k : ℕ) → ((m : MemberView) → IsMember old.array k m → is_recorded m.state ≡ true) → RefusesRecord k old new NotActive → P
 record_refused old new k is r = absurd (let yes = is r.reason.member r.reason.at in let no = r.reason.inactive in cc)

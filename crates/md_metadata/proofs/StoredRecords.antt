@@ -32,7 +32,7 @@ module _ (k : ℕ) (old mid : MirrorView) (s : StoresOn k 0 old mid) where
   is_now : (m : MemberView) → IsMember mid.array k m → m ≡ now
   is_now = now_at old.array mid.array k s.gives.member now s.gives.may.in_sync.member refl s.gives.array
 
-  now_in_sync : IsInSync mid.array k now
+  pub now_in_sync : IsInSync mid.array k now
   now_in_sync = record {
     member = ap (λ (x : ArrayView). slice_get x.members k) s.gives.array
         ∙ at_set_same old.array.members k now (slice_get_within old.array.members k s.gives.member s.gives.may.in_sync.member);
@@ -67,7 +67,7 @@ module _ (k : ℕ) (old mid : MirrorView) (s : StoresOn k 0 old mid) where
     stops_after (MemberFailed j) (at, l) = subst (λ (i : ℕ). LosesStoring IsRecording i old new) (sym at)
         (two_lose IsRecording old mid new k (Event.StoreMarks k 0) (Event.RecordFails k) tt refl header (λ previous. first) l.step second
         (let x = s.step.array.fewer in let y = l.lost in omega arith) (l.halted ∙ s.ready.halted) (kept_before old.array mid.array k s.ready l.was) l.faulty)
-    stops_after Halted h = stops_on IsRecording old mid new Halted (stores_step IsRecording (Event.StoreMarks k 0) old mid tt header (λ previous. first) s.ready) h
+    stops_after Halted h = stops_on IsRecording old mid new Halted (stores_step IsRecording (Event.StoreMarks k 0) old mid tt header (λ previous. first) s.ready) h.stores
 
     pub recorded_or_stops : {T : Type 0} (result : Result T PartFault) → MatchResult result (λ _. RecordsOn k mid new) (RecordingFails k mid new)
         → MatchResult result (λ _. StoresAt IsRecording k IsNotDue old new) (StoringFails IsRecording old new)
@@ -91,7 +91,7 @@ module _ (k : ℕ) (old new : MirrorView) where
     other_stops : (fault : PartFault) → RecordingFails k old new fault → StoringFails IsRecording old new fault
     other_stops (MemberFailed j) (at, l) = subst (λ (i : ℕ). LosesStoring IsRecording i old new) (sym at)
         (step_loses IsRecording k (Event.RecordFails k) old new refl l.step order l.lost l.halted l.was l.faulty)
-    other_stops Halted h = h
+    other_stops Halted h = h.stores
 
     pub other_or_stops : {T : Type 0} (result : Result T PartFault) → MatchResult result (λ _. RecordsOn k old new) (RecordingFails k old new)
         → MatchResult result (λ _. RecordsAt k old new) (StoringFails IsRecording old new)

@@ -9,6 +9,7 @@ use Rattle.md_state.specs.View.{ArrayView, MirrorView}
 use Rattle.md_state.specs.StoringMarks.{StoresMarkSector}
 use Rattle.md_state.specs.WritingMember.{IsNotDue}
 use Rattle.md_array.specs.InTurn.{AllOf}
+use Rattle.md_array.specs.Recording.{HaltsRecording}
 use Rattle.md_metadata.specs.declared.fault.PartFault.{PartFault}
 use Rattle.md_metadata.specs.declared.fault.PartFault.TheVariants.{Halted, MemberFailed}
 use Rattle.md_metadata.specs.Going.{GoesOn, HaltsAfter, IsFaulty, LosesMember, StepsBy, only_others, recorded_count}
@@ -47,6 +48,7 @@ IsStoring e = ⊥
 abbrev pub IsFailureOf : ℕ → Event → Type 0
 IsFailureOf k (Event.RecordFails j) = j ≡ k
 IsFailureOf k (Event.StoreMarksFails j b) = j ≡ k
+IsFailureOf k (Event.StoreLogFails j) = j ≡ k
 IsFailureOf k (Event.WriteMemberFails n j) = j ≡ k
 IsFailureOf k (Event.CopyFails j c) = j ≡ k
 IsFailureOf k e = ⊥
@@ -55,6 +57,7 @@ IsFailureOf k e = ⊥
 abbrev pub IsNoFailure : Event → Type 0
 IsNoFailure (Event.RecordFails k) = ⊥
 IsNoFailure (Event.StoreMarksFails k b) = ⊥
+IsNoFailure (Event.StoreLogFails k) = ⊥
 IsNoFailure (Event.WriteMemberFails n k) = ⊥
 IsNoFailure (Event.CopyFails k c) = ⊥
 IsNoFailure e = Unit {0}
@@ -107,6 +110,12 @@ pub record HaltsStoring (Of : Event → Type 0) (old new : MirrorView) : Type 0 
   pub halts : HaltsAfter only_others only_others Of old new
   pub unfailing : AllOf IsNoFailure halts.goes.events
   pub ready : AllStayReady old.array halts.mid.array
+
+-- After events of which none failed, whatever became of the members, a write to member k failed, and the mirror is halted.
+pub record HaltsAtWrite (Of : Event → Type 0) (k : ℕ) (old new : MirrorView) : Type 0 where
+  pub halts : HaltsAfter only_others only_others Of old new
+  pub unfailing : AllOf IsNoFailure halts.goes.events
+  pub named : IsFailureOf k halts.failing
 
 -- why they do not come to their end
 abbrev pub StoringFails : (Event → Type 0) → MirrorView → MirrorView → PartFault → Type 0
@@ -178,8 +187,13 @@ pub record LosesRecording (k : ℕ) (old new : MirrorView) : Type 0 where
   pub was : IsUpToDate old.array k
   pub faulty : IsFaulty k new.array
 
+-- so that the mirror is halted
+pub record HaltsRecordingOn (k : ℕ) (old new : MirrorView) : Type 0 where
+  pub stores : HaltsStoring IsRecording old new
+  pub at_once : HaltsRecording k old new
+
 abbrev pub RecordingFails : ℕ → MirrorView → MirrorView → PartFault → Type 0
-RecordingFails k old new Halted = HaltsStoring IsRecording old new
+RecordingFails k old new Halted = HaltsRecordingOn k old new
 RecordingFails k old new (MemberFailed j) = (j ≡ k) × LosesRecording k old new
 
 -- the member has all marks stored as these are

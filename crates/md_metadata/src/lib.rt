@@ -8,6 +8,7 @@
 mod all_marks;
 mod clearing;
 mod fault;
+mod lists;
 mod records;
 mod sectors;
 mod stop_fault;
@@ -16,6 +17,7 @@ mod stopping;
 pub use all_marks::store_all_marks;
 pub use clearing::clear_marks;
 pub use fault::PartFault;
+pub use lists::store_list;
 pub use records::{store_other_records, store_record, store_records};
 pub use sectors::store_sector;
 pub use stop_fault::StopFault;

@@ -1,38 +1,47 @@
 -- A pass ends: devices are back in their list.
-use Rattle.std.proofs.Common.{◌≡◌, ℕ, suc, ◌<◌, ◌||◌, ◌==◌, Bool, true, false, [], ◌∷◌, List, length, map, count_by, sum_by, get_or, slice_index, Contains, refl, ap, sym, ◌∙◌, arith, subst}
+use Rattle.std.proofs.Common.{◌≡◌, ℕ, suc, ◌+◌, ◌<◌, ◌≤◌, Bool, true, false, inl, inr, [], ◌∷◌, List, length, map, count_by, sum_by, get_or, slice_index, Contains, refl, ap, sym, ◌∙◌, arith, subst}
 use Rattle.std.specs.List.{All, Any}
 use Rattle.std.proofs.lemmas.List.{get_or-map, length-map}
 use Rattle.std.proofs.lemmas.List.Sums.{sum_by-cons}
-use Rattle.std.proofs.lemmas.List.Elements.{Contains-get_or}
-use Rattle.std.proofs.lemmas.List.Folds.{Any-from_list_any}
-use Rattle.std.proofs.lemmas.Bool.{eqb-true}
+use Rattle.std.proofs.lemmas.List.Elements.{All-filter, Contains-get_or}
+use Rattle.std.proofs.lemmas.Bool.{cases_lt}
+use Rattle.std.proofs.Math.Seq.{take-length}
 use Rattle.md_cert.specs.declared.slots.Slot.{Slot}
 use Rattle.md_device.specs.declared.device.Device.{Ghosts}
-use Rattle.md_bitmap.specs.Marks.{is_set}
+use Rattle.md_bitmap.specs.Marks.{Bitmap, is_set}
 use Rattle.md_collect.specs.Places.{chunk_on}
-use Rattle.md_collect.specs.Reading.{Fails}
-use Rattle.md_collect.specs.Reports.{Copying, is_planned}
+use Rattle.md_collect.specs.Collecting.{CollectorView, copying}
+use Rattle.md_collect.specs.Reports.{Copying}
 use Rattle.md_pass.specs.declared.lane.Lane.{Lane}
+use Rattle.md_pass.specs.declared.fault.PassFault.{PassFault}
+use Rattle.md_pass.specs.declared.fault.PassFault.TheVariants.{NoMemory, TargetFault}
+use Rattle.md_pass.specs.declared.preparing.Preparation.{Preparation}
 use Rattle.md_pass.specs.declared.reading.Reading.{Reading}
 use Rattle.md_pass.specs.declared.source.Source.{Source}
 use Rattle.md_pass.specs.Beside.{has_chunk}
 use Rattle.md_pass.specs.Lanes.{OnlyRead, AreOnlyRead, is_failed}
 use Rattle.md_pass.specs.Places.{AreInTurn, AreTaken}
-use Rattle.md_pass.specs.Readings.{IsLaneOf, IsOrderOf, slots_of}
-use Rattle.md_pass.specs.Settling.{Books}
-use Rattle.md_pass.specs.Sources.{AreMarked, FailsToGive, MayRead}
-use Rattle.md_pass.specs.Passes.{FailsIn, HasLanded, IsPassing, IsUnderWay, LanesOnlyRead}
+use Rattle.md_pass.specs.Readings.{IsLaneOf, IsOrderOf, is_of, slots_of}
+use Rattle.md_pass.specs.Settling.{Books, books}
+use Rattle.md_pass.specs.Copied.{AreJoined, CountFailed, HasCopied, OnFault, PassState, failed_slots, is_failed_slot, pass_state}
+use Rattle.md_pass.specs.Preparing.{CanCopy}
+use Rattle.md_pass.specs.Sources.{MayRead}
+use Rattle.md_pass.specs.Passes.{HasLanded, IsPassing, IsUnderWay, LanesOnlyRead, count_left, is_left}
 use Rattle.md_pass.proofs.Departures.{related}
 use Rattle.md_pass.proofs.OnlyReads.{not_read}
-use Rattle.md_pass.proofs.Orders.{order_covers, order_planned}
-use Rattle.md_pass.proofs.PassStarts.{all_fit, device_at, reading_like, source_at}
-use Rattle.md_pass.proofs.Totals.{same_sums, sum_none}
+use Rattle.md_pass.proofs.Orders.{order_covers}
+use Rattle.md_pass.proofs.PassStarts.{all_fit, device_at, in_turn, reading_like, source_at}
+use Rattle.md_pass.proofs.Lefts.{order_left}
+use Rattle.md_pass.proofs.Totals.{all_counted, same_sums, same_totals, sum_none}
 use Rattle.md_pass.proofs.Workers.{chunks_kept}
 
 same_tests : (a b : Bool) → (a ≡ true → b ≡ true) → (b ≡ true → a ≡ true) → a ≡ b
 same_tests true b f h = sym (f refl)
 same_tests false true f h = h refl
 same_tests false false f h = refl
+
+both_ways : (b : Bool) → b ≡ true → b ≡ false → ⊥
+both_ways b t f = cc
 
 -- the devices of some sources have left for lanes
 pub record HaveLeft {D L M : Type 0} (g : Ghosts D) (start : Books) (devices rest : List D) (places : List ℕ) (rs : List Reading) (firsts : List (Lane D L M)) : Type 0 where
@@ -42,6 +51,17 @@ pub record HaveLeft {D L M : Type 0} (g : Ghosts D) (start : Books) (devices res
   pub same : length firsts ≡ length rs
   pub taken : AreTaken devices places (map (λ (l : Lane D L M). l.device) firsts) rest
   pub are : (i : ℕ) (r : Reading) (d : Lane D L M) → i < length rs → IsLaneOf (get_or rs i r) (get_or firsts i d)
+
+-- so of a pass that was prepared
+pub have_left : {D L M : Type 0} {g : Ghosts D} (p : Preparation) (old : PassState D) (rest : List D) (places : List ℕ) (firsts : List (Lane D L M)) → CanCopy g p old → places ≡ p.places.items
+    → length firsts ≡ length p.readings.items → AreTaken old.devices places (map (λ (l : Lane D L M). l.device) firsts) rest → ((i : ℕ) (r : Reading) (d : Lane D L M) → i < length p.readings.items → IsLaneOf (get_or p.readings.items i r) (get_or firsts i d))
+    → HaveLeft g (books p.collector (g.content old.target) old.copied) old.devices rest places p.readings.items firsts
+have_left p old rest places firsts can at same taken are = record { may = can.sources; orders = can.ordered.orders; turn = in_turn p places at can.ordered; same = same; taken = taken; are = are }
+
+-- why a pass was broken off decides what holds
+pub on_fault : {P Q P' Q' : Type 0} (fault : PassFault) → (P → P') → (Q → Q') → OnFault P Q fault → OnFault P' Q' fault
+on_fault NoMemory p q holds = p holds
+on_fault TargetFault p q holds = q holds
 
 -- the slots of lanes, by their shares
 pub lanes_parts : {D L M : Type 0} (rs : List Reading) (lanes : List (Lane D L M)) → length lanes ≡ length rs → ((i : ℕ) (r : Reading) (d : Lane D L M) → i < length rs → IsLaneOf (get_or rs i r) (get_or lanes i d))
@@ -79,40 +99,44 @@ module _ {D L M : Type 0} {g : Ghosts D} where
   first_device {devices = devices} {rest = rest} {places = places} {rs = rs} {firsts = firsts} t k d e s below =
       sym (get_or-map (λ (l : Lane D L M). l.device) firsts k d e (omega (arith, t.same, below))) ∙ device_at devices devices (map (λ (l : Lane D L M). l.device) firsts) rest rs places t.may t.turn refl t.taken k e e s below
 
-  -- a slot of source k has landed
-  slot_landed : {th : Bool} {start now : Books} {devices rest : List D} {places : List ℕ} {rs : List Reading} {firsts lanes : List (Lane D L M)} → HaveLeft g start devices rest places rs firsts → IsPassing g th firsts lanes start now → All (λ lane. (lane.done ≡ length lane.chunks.items) × (lane.reports ≡ [])) lanes
-      → (slot : Slot) → Contains start.collector.slots slot → (k : ℕ) (s : Source) (d : Lane D L M) → k < length rs → (get_or (map (λ (r : Reading). r.source) rs) k s).role ≡ slot.source → HasLanded g th now (get_or firsts k d) slot.chunk
-  slot_landed {th = th} {start = start} {now = now} {devices = devices} {rest = rest} {places = places} {rs = rs} {firsts = firsts} {lanes = lanes} t p done slot there k s d below role =
+  -- a slot of source k whose chunk was copied has landed
+  slot_landed : {th : Bool} {start now : Books} {devices rest : List D} {places : List ℕ} {rs : List Reading} {firsts lanes : List (Lane D L M)} → HaveLeft g start devices rest places rs firsts → IsPassing g th firsts lanes start now
+      → (slot : Slot) → Contains start.collector.slots slot → is_set now.copied.bytes slot.chunk ≡ true → (k : ℕ) (s : Source) (d : Lane D L M) → k < length rs → (get_or (map (λ (r : Reading). r.source) rs) k s).role ≡ slot.source → HasLanded g th now (get_or firsts k d) slot.chunk
+  slot_landed {th = th} {start = start} {now = now} {rs = rs} {firsts = firsts} {lanes = lanes} t p slot there mark k s d below role =
       let r = get_or rs k (reading_like d) in
       let is : r.source.role ≡ slot.source = ap (λ (x : Source). x.role) (sym (source_at rs k (reading_like d) s below)) ∙ role in
       let (j, within, at) = order_covers (t.orders k (reading_like d) below) slot there (sym is) in
       let chunks : (get_or firsts k d).chunks ≡ r.chunks = (t.are k (reading_like d) d below).chunks in
       let here : k < length firsts = omega (arith, t.same, below) in
       let way = p.each k d here in
-      let whole : (get_or lanes k d).done ≡ length r.chunks.items = (done k d (omega (arith, p.as_many, here))).0 ∙ ap (λ (v : _). length v.items) (chunks_kept way.read ∙ chunks) in
-      subst (λ c. HasLanded g th now (get_or firsts k d) c) (ap (λ (v : _). slice_index v.items j) chunks ∙ at) (way.landed j (omega (arith, whole, within)))
+      let short : j < length (get_or firsts k d).chunks.items = rw chunks within in
+      let place : slice_index (get_or firsts k d).chunks.items j ≡ slot.chunk = ap (λ (v : _). slice_index v.items j) chunks ∙ at in
+      let unset : is_set start.copied.bytes slot.chunk ≡ false = subst (λ c. is_set start.copied.bytes c ≡ false) place ((p.begins k d here).uncopied j short) in
+      elim (cases_lt j (get_or lanes k d).done) [
+        | inl less ↦ subst (λ c. HasLanded g th now (get_or firsts k d) c) place (way.landed j less)
+        | inr from ↦ absurd (both_ways (is_set now.collector.reported.bytes slot.chunk) (p.books.marks slot.chunk mark unset) (subst (λ c. is_set now.collector.reported.bytes c ≡ false) place (way.waiting j from short)))
+      ]
 
-  pub all_marked : {th : Bool} {start now : Books} {devices rest : List D} {places : List ℕ} {rs : List Reading} {firsts lanes : List (Lane D L M)} → HaveLeft g start devices rest places rs firsts → IsPassing g th firsts lanes start now → All (λ lane. (lane.done ≡ length lane.chunks.items) × (lane.reports ≡ [])) lanes → AreMarked start.collector.slots start.copied now.copied
-  all_marked {th = th} {start = start} {now = now} {devices = devices} {rest = rest} {places = places} {rs = rs} {firsts = firsts} {lanes = lanes} t p done = record { chunks = p.books.count; bits = λ c. p.books.marks c ∙ ap (λ b. b || is_set start.copied.bytes c) (same_tests _ _ (p.books.planned c) (reported c)) }
+  -- planned chunks alone were marked
+  all_joined : {th : Bool} {start now : Books} {firsts lanes : List (Lane D L M)} → IsPassing g th firsts lanes start now → AreJoined start.collector.slots start.copied now.copied
+  all_joined {start = start} {now = now} p = record {
+    chunks = p.books.count;
+    kept = p.books.kept;
+    planned = λ c none. same_tests (is_set now.copied.bytes c) (is_set start.copied.bytes c) (λ set. before c none set (is_set start.copied.bytes c) refl) (p.books.kept c);
+  }
     where
-      of_source : (slot : Slot) → Contains start.collector.slots slot → Any (λ s. s.role ≡ slot.source) (map (λ (r : Reading). r.source) rs) → (ls : List (Lane D L M)) → firsts ≡ ls → is_set now.collector.reported.bytes slot.chunk ≡ true
-      of_source slot there (k, s, below, at, role) [] none = absurd (let n = length-map rs (λ (r : Reading). r.source) in let z = ap length none in omega (arith, below, n, t.same, z))
-      of_source slot there (k, s, below, at, role) (f ∷ fs) some =
-          let n = length-map rs (λ (r : Reading). r.source) in
-          (slot_landed t p done slot there k s f (omega (arith, below, n)) (ap (λ (x : Source). x.role) at ∙ role)).reported
+      before : (c : ℕ) → has_chunk start.collector.slots c ≡ false → is_set now.copied.bytes c ≡ true → (b : Bool) → is_set start.copied.bytes c ≡ b → is_set start.copied.bytes c ≡ true
+      before c none set true e = e
+      before c none set false e = absurd (both_ways (has_chunk start.collector.slots c) (p.books.planned c (p.books.marks c set e)) none)
 
-      reported : (c : ℕ) → has_chunk start.collector.slots c ≡ true → is_set now.collector.reported.bytes c ≡ true
-      reported c has =
-          let (i, slot, below, at, is) = Any-from_list_any (λ (x : Slot). x.chunk == c) start.collector.slots has in
-          let served = subst (λ (x : Slot). Any (λ s. s.role ≡ x.source) (map (λ (r : Reading). r.source) rs)) at (t.may.serves i slot below) in
-          subst (λ x. is_set now.collector.reported.bytes x ≡ true) (eqb-true slot.chunk c is) (of_source slot (i, below, at) served firsts refl)
-
-  pub all_copied : {th : Bool} {start now : Books} {devices rest : List D} {places : List ℕ} {rs : List Reading} {firsts lanes : List (Lane D L M)} → HaveLeft g start devices rest places rs firsts → IsPassing g th firsts lanes start now → All (λ lane. (lane.done ≡ length lane.chunks.items) × (lane.reports ≡ [])) lanes
+  -- what was copied is its source's
+  all_copied : {th : Bool} {start now : Books} {devices rest : List D} {places : List ℕ} {rs : List Reading} {firsts lanes : List (Lane D L M)} → HaveLeft g start devices rest places rs firsts → IsPassing g th firsts lanes start now
       → (i : ℕ) (slot : Slot) → i < length start.collector.slots → (k : ℕ) (s : Source) → k < length (map (λ (r : Reading). r.source) rs) → (get_or (map (λ (r : Reading). r.source) rs) k s).role ≡ (get_or start.collector.slots i slot).source
+      → is_set now.copied.bytes (get_or start.collector.slots i slot).chunk ≡ true
       → (e : D) → th ≡ true → g.honest (get_or devices (get_or (map (λ (r : Reading). r.source) rs) k s).place e) ≡ true
       → chunk_on now.target start.collector.offset start.collector.chunks (get_or start.collector.slots i slot).chunk
       ≡ chunk_on (g.content (get_or devices (get_or (map (λ (r : Reading). r.source) rs) k s).place e)) (get_or (map (λ (r : Reading). r.source) rs) k s).offset start.collector.chunks (get_or start.collector.slots i slot).chunk
-  all_copied {th = th} {start = start} {now = now} {devices = devices} {rest = rest} {places = places} {rs = rs} {firsts = firsts} {lanes = lanes} t p done i slot wi k s wk role e ht h = by firsts refl
+  all_copied {th = th} {start = start} {now = now} {devices = devices} {rest = rest} {places = places} {rs = rs} {firsts = firsts} {lanes = lanes} t p i slot wi k s wk role mark e ht h = by firsts refl
     where
       by : (ls : List (Lane D L M)) → firsts ≡ ls
           → chunk_on now.target start.collector.offset start.collector.chunks (get_or start.collector.slots i slot).chunk
@@ -121,60 +145,77 @@ module _ {D L M : Type 0} {g : Ghosts D} where
       by (f ∷ fs) some =
           let n = length-map rs (λ (r : Reading). r.source) in
           let below : k < length rs = omega (arith, wk, n) in
-          let has = slot_landed t p done (get_or start.collector.slots i slot) (Contains-get_or start.collector.slots i slot wi) k s f below role in
+          let has = slot_landed t p (get_or start.collector.slots i slot) (Contains-get_or start.collector.slots i slot wi) mark k s f below role in
           let device = first_device t k f e s below in
           let offset : (get_or firsts k f).offset ≡ (get_or (map (λ (r : Reading). r.source) rs) k s).offset = (t.are k (reading_like f) f below).offset ∙ ap (λ (x : Source). x.offset) (sym (source_at rs k (reading_like f) s below)) in
           let chunks : now.collector.chunks ≡ start.collector.chunks = ap (λ (c : Copying). c.chunks) p.books.same_copy in
           let start_at : now.collector.offset ≡ start.collector.offset = ap (λ (c : Copying). c.offset) p.books.same_copy in
-          rw (← chunks, ← start_at, ← device, ← offset) (has.holds (ap g.honest device ∙ h) ht)
+          rw (← chunks, ← start_at, ← device, ← offset) (has.holds mark (ap g.honest device ∙ h) ht)
 
-  pub fails_to_give : {start : Books} {devices rest : List D} {places : List ℕ} {rs : List Reading} {firsts lanes : List (Lane D L M)} → HaveLeft g start devices rest places rs firsts → (news : List D) (role chunk : ℕ) → length news ≡ length devices → length lanes ≡ length firsts → AreTaken news places (map (λ (l : Lane D L M). l.device) lanes) rest → FailsIn g role chunk firsts lanes
-      → FailsToGive g start.collector.slots (map (λ (r : Reading). r.source) rs) devices news role chunk
-  fails_to_give {start = start} {devices = devices} {rest = rest} {places = places} {rs = rs} {firsts = firsts} {lanes = lanes} t news role chunk long many taken' fails = by firsts refl
+  -- what was copied by now, whether the pass is done or not
+  pub has_copied : (old new : D) (collector collector' : CollectorView) (copied copied' : Bitmap) {devices news rest : List D} {places : List ℕ} {rs : List Reading} {firsts lanes : List (Lane D L M)}
+      → HaveLeft g (books collector (g.content old) copied) devices rest places rs firsts
+      → IsPassing g (g.honest old) firsts lanes (books collector (g.content old) copied) (books collector' (g.content new) copied')
+      → HasCopied g (copying collector) (map (λ (r : Reading). r.source) rs) (pass_state devices old copied) (pass_state news new copied')
+  has_copied old new collector collector' copied copied' t p = record {
+    joined = all_joined p;
+    holds = λ i slot wi mark k s wk role e ht h. all_copied t p i slot wi k s wk role mark e ht h;
+    beside = p.books.beside;
+  }
+
+  -- the slots of source k that failed, by the share of its lane
+  lane_failed : {th : Bool} {start now : Books} {devices rest : List D} {places : List ℕ} {rs : List Reading} {firsts lanes : List (Lane D L M)} → HaveLeft g start devices rest places rs firsts → IsPassing g th firsts lanes start now → All (λ lane. (lane.done ≡ length lane.chunks.items) × (lane.reports ≡ [])) lanes
+      → (k : ℕ) (d : Lane D L M) (s : Source) → k < length rs → (get_or lanes k d).share.failed ≡ count_by (is_of (get_or (map (λ (r : Reading). r.source) rs) k s).role) (failed_slots start.collector.slots now.copied)
+  lane_failed {start = start} {now = now} {rs = rs} {firsts = firsts} {lanes = lanes} t p done k d s below =
+      let here : k < length firsts = omega (arith, t.same, below) in
+      let way = p.each k d here in
+      let is = t.are k (reading_like d) d below in
+      let lane = get_or lanes k d in
+      let first = get_or firsts k d in
+      let there = done k d (omega (arith, p.as_many, here)) in
+      let none : count_by is_failed lane.reports ≡ 0 = ap (count_by is_failed) there.1 in
+      let zero : first.share.failed ≡ 0 = is.none_failed in
+      let whole : lane.done ≡ length first.chunks.items = there.0 ∙ ap (λ (v : _). length v.items) (chunks_kept way.read) in
+      let all : count_left now.copied first.chunks.items lane.done ≡ count_by (is_left now.copied) first.chunks.items
+      = ap (count_left now.copied first.chunks.items) whole ∙ ap (count_by (is_left now.copied)) (take-length first.chunks.items) in
+      let own : count_by (is_left now.copied) first.chunks.items ≡ count_by (is_of (get_or rs k (reading_like d)).source.role) (failed_slots start.collector.slots now.copied)
+      = ap (λ (v : _). count_by (is_left now.copied) v.items) is.chunks ∙ order_left now.copied start.collector.slots (get_or rs k (reading_like d)).source.role (get_or rs k (reading_like d)).chunks.items (t.orders k (reading_like d) below) in
+      let role = ap (λ (x : Source). count_by (is_of x.role) (failed_slots start.collector.slots now.copied)) (sym (source_at rs k (reading_like d) s below)) in
+      way.read.failed ∙ (let z : first.share.failed + (count_left now.copied first.chunks.items lane.done + count_by is_failed lane.reports) ≡ count_left now.copied first.chunks.items lane.done = omega (arith, none, zero) in z) ∙ all ∙ own ∙ role
+
+  -- the devices have counted them
+  pub count_failed : {th : Bool} {start now : Books} {devices rest : List D} {places : List ℕ} {rs : List Reading} {firsts lanes : List (Lane D L M)} → HaveLeft g start devices rest places rs firsts → IsPassing g th firsts lanes start now → All (λ lane. (lane.done ≡ length lane.chunks.items) × (lane.reports ≡ [])) lanes
+      → (news : List D) → length news ≡ length devices → AreTaken news places (map (λ (l : Lane D L M). l.device) lanes) rest
+      → CountFailed g start.collector.slots now.copied (map (λ (r : Reading). r.source) rs) devices news
+  count_failed {start = start} {now = now} {devices = devices} {rest = rest} {places = places} {rs = rs} {firsts = firsts} {lanes = lanes} t p done news long taken' k s wk e h = by firsts refl
     where
-      n : length (map (λ (r : Reading). r.source) rs) ≡ length rs
-      n = length-map rs (λ (r : Reading). r.source)
-
-      at : ℕ
-      at = fails.at
-
-      below : at < length rs
-      below = let w = fails.within in omega (arith, w, t.same)
-
-      by : (ls : List (Lane D L M)) → firsts ≡ ls → FailsToGive g start.collector.slots (map (λ (r : Reading). r.source) rs) devices news role chunk
-      by [] none = absurd (let z = ap length none in let w = fails.within in omega (arith, w, z))
+      by : (ls : List (Lane D L M)) → firsts ≡ ls
+          → g.failures (get_or devices (get_or (map (λ (r : Reading). r.source) rs) k s).place e) + count_by (is_of (get_or (map (λ (r : Reading). r.source) rs) k s).role) (failed_slots start.collector.slots now.copied)
+          ≤ g.failures (get_or news (get_or (map (λ (r : Reading). r.source) rs) k s).place e)
+      by [] none = absurd (let n = length-map rs (λ (r : Reading). r.source) in let z = ap length none in omega (arith, wk, n, t.same, z))
       by (f ∷ fs) some =
-          let is = t.are at (reading_like f) f below in
-          let r = get_or rs at (reading_like f) in
-          let from = source_at rs at (reading_like f) r.source below in
-          let (j, wj, ej) = fails.chunk_is f in
-          let role_is : r.source.role ≡ role = sym is.role ∙ fails.role_is f in
-          let wj' : j < length r.chunks.items = rw (← is.chunks) wj in
-          let planned : is_planned start.collector.slots (slice_index r.chunks.items j) r.source.role ≡ true = order_planned (t.orders at (reading_like f) below) j wj' in
-          let chunk_is : slice_index r.chunks.items j ≡ chunk = ap (λ (v : _). slice_index v.items j) (sym is.chunks) ∙ ej in
-          record {
-            planned = subst (λ n. is_planned start.collector.slots chunk n ≡ true) role_is (subst (λ n. is_planned start.collector.slots n r.source.role ≡ true) chunk_is planned);
-            fails = (
-              at,
-              r.source,
-              omega (arith, below, n),
-              from,
-              (
-                role_is,
-                λ e.
-                    let old = first_device t at f e r.source below ∙ ap (λ (s : Source). get_or devices s.place e) from in
-                    let new = sym (get_or-map (λ (l : Lane D L M). l.device) lanes at f e (omega (arith, below, t.same, many))) ∙ device_at devices news (map (λ (l : Lane D L M). l.device) lanes) rest rs places t.may t.turn long taken' at e e r.source below ∙ ap (λ (s : Source). get_or news s.place e) from in
-                    subst (λ x. Fails g x (get_or news r.source.place e)) old (subst (λ x. Fails g (get_or firsts at f).device x) new (fails.fails f)),
-              ),
-            );
-          }
+          let n = length-map rs (λ (r : Reading). r.source) in
+          let below : k < length rs = omega (arith, wk, n) in
+          let here : k < length firsts = omega (arith, t.same, below) in
+          let way = p.each k f here in
+          let old = first_device t k f e s below in
+          let new : (get_or lanes k f).device ≡ get_or news (get_or (map (λ (r : Reading). r.source) rs) k s).place e
+          = sym (get_or-map (λ (l : Lane D L M). l.device) lanes k f e (omega (arith, here, p.as_many))) ∙ device_at devices news (map (λ (l : Lane D L M). l.device) lanes) rest rs places t.may t.turn long taken' k e e s below in
+          let up = way.read.risen (ap g.honest old ∙ h) in
+          let zero : (get_or firsts k f).share.failed ≡ 0 = (t.are k (reading_like f) f below).none_failed in
+          let all = lane_failed t p done k f s below in
+          let a = ap g.failures old in
+          let b = ap g.failures new in
+          omega (arith, up, zero, all, a, b)
 
   -- the shares of lanes that are done
-  pub none_left : {th : Bool} {start now : Books} (firsts lanes : List (Lane D L M)) → IsPassing g th firsts lanes start now → All (λ lane. (lane.done ≡ length lane.chunks.items) × (lane.reports ≡ [])) lanes
-      → (sum_by (λ (l : Lane D L M). l.share.left) lanes ≡ 0) × (sum_by (λ (l : Lane D L M). l.share.failed) lanes ≡ 0) × (sum_by (λ (l : Lane D L M). l.share.parts) lanes ≡ sum_by (λ (l : Lane D L M). l.share.parts) firsts)
-  none_left {th = th} {now = now} firsts lanes p done = (
+  pub none_left : {th : Bool} {start now : Books} {devices rest : List D} {places : List ℕ} {rs : List Reading} {firsts lanes : List (Lane D L M)} → HaveLeft g start devices rest places rs firsts → IsPassing g th firsts lanes start now → All (λ lane. (lane.done ≡ length lane.chunks.items) × (lane.reports ≡ [])) lanes
+      → (sum_by (λ (l : Lane D L M). l.share.left) lanes ≡ 0) × (sum_by (λ (l : Lane D L M). l.share.failed) lanes ≡ length (failed_slots start.collector.slots now.copied)) × (sum_by (λ (l : Lane D L M). l.share.parts) lanes ≡ sum_by (λ (l : Lane D L M). l.share.parts) firsts)
+  none_left {th = th} {start = start} {now = now} {rs = rs} {firsts = firsts} {lanes = lanes} t p done = (
     sum_none (λ (l : Lane D L M). l.share.left) lanes left,
-    sum_none (λ (l : Lane D L M). l.share.failed) lanes (λ k d below. (way k d below).read.failed ∙ ap (count_by is_failed) (done k d below).1),
+    same_totals (λ (l : Lane D L M). l.share.failed) (λ (s : Source). count_by (is_of s.role) (failed_slots start.collector.slots now.copied)) lanes (map (λ (r : Reading). r.source) rs) (p.as_many ∙ t.same ∙ sym (length-map rs (λ (r : Reading). r.source)))
+        (λ k d s below. lane_failed t p done k d s (omega (arith, below, p.as_many, t.same)))
+        ∙ all_counted (failed_slots start.collector.slots now.copied) (map (λ (r : Reading). r.source) rs) t.may.rising (All-filter (is_failed_slot now.copied) (λ (slot : Slot). Any (λ (s : Source). s.role ≡ slot.source) (map (λ (r : Reading). r.source) rs)) start.collector.slots t.may.serves),
     parts,
   )
     where

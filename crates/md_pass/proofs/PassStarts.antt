@@ -1,22 +1,26 @@
 -- A pass begins: devices have left for lanes.
-use Rattle.std.proofs.Common.{◌≡◌, ℕ, ◌<◌, ◌≤◌, ◌||◌, Bool, true, false, inl, inr, [], List, length, map, get_or, slice_index, refl, ap, sym, ◌∙◌, arith, subst}
+use Rattle.std.proofs.Common.{◌≡◌, ℕ, ◌<◌, ◌≤◌, Bool, true, false, inl, inr, [], List, length, map, get_or, slice_index, refl, ap, sym, ◌∙◌, arith, subst}
 use Rattle.std.specs.List.{All}
 use Rattle.std.specs.Int.{div_ceil}
 use Rattle.std.proofs.lemmas.Bool.{cases_lt}
 use Rattle.std.proofs.lemmas.List.{get_or-map, length-map}
+use Rattle.std.proofs.lemmas.List.Elements.{All-contains}
 use Rattle.std.proofs.lemmas.Simd.{map-map}
 use Rattle.md_device.specs.declared.device.Device.{Ghosts}
 use Rattle.md_bitmap.specs.Marks.{is_set}
 use Rattle.md_collect.specs.Places.{HasRoom}
 use Rattle.md_collect.specs.Collecting.{ArePlanned, IsFresh}
 use Rattle.md_pass.specs.declared.lane.Lane.{Lane}
+use Rattle.md_pass.specs.declared.preparing.Preparation.{Preparation}
 use Rattle.md_pass.specs.declared.reading.Reading.{Reading}
 use Rattle.md_pass.specs.declared.source.Source.{Source}
 use Rattle.md_pass.specs.Places.{AreInTurn, AreTaken, FitPlaces, AreApart}
 use Rattle.md_pass.specs.Readings.{IsLaneOf, IsOrderOf}
 use Rattle.md_pass.specs.Settling.{Books}
+use Rattle.md_pass.specs.Preparing.{IsOrdered}
 use Rattle.md_pass.specs.Sources.{MayRead}
-use Rattle.md_pass.specs.Passes.{HasBooks, IsFirst, IsUnderWay, IsPassing}
+use Rattle.md_pass.specs.Lanes.{HasRead}
+use Rattle.md_pass.specs.Passes.{HasBooks, IsFirst, IsUnderWay, IsPassing, count_left}
 use Rattle.md_pass.proofs.InTurn.{taken_at, turns_fit}
 use Rattle.md_pass.proofs.Orders.{one_slot, order_apart, order_chunk, order_planned, slot_at}
 use Rattle.md_pass.proofs.Rounds.{first_goes}
@@ -32,6 +36,10 @@ source_at rs k r s below = get_or-map (λ (x : Reading). x.source) rs k r s belo
 place_at : (rs : List Reading) (k : ℕ) → k < length rs → slice_index (map (λ (r : Reading). r.source.place) rs) k ≡ (get_or (map (λ (r : Reading). r.source) rs) k no_source).place
 place_at rs k below =
     ap (λ (xs : List ℕ). slice_index xs k) (sym (map-map (λ (s : Source). s.place) (λ (r : Reading). r.source) rs)) ∙ get_or-map (λ (s : Source). s.place) (map (λ (r : Reading). r.source) rs) k no_source 0 (omega (arith, below, length-map rs (λ (r : Reading). r.source)))
+
+-- the places of a pass that was prepared
+pub in_turn : (p : Preparation) (places : List ℕ) → places ≡ p.places.items → IsOrdered p → AreInTurn (map (λ (r : Reading). r.source.place) p.readings.items) places
+in_turn p places at ordered = rw at ordered.places
 
 module _ {D : Type 0} {g : Ghosts D} where
   pub places_apart : {chunks : _} {slots : _} {devices : List D} (rs : List Reading) → MayRead g chunks slots (map (λ (r : Reading). r.source) rs) devices → AreApart (map (λ (r : Reading). r.source.place) rs)
@@ -75,9 +83,6 @@ module _ {D : Type 0} {g : Ghosts D} where
         | inr up ↦ elim (cases_lt j i) [ inl less ↦ absurd (let low = may.rising j i s less wi in omega (arith, low, e)) | inr down ↦ omega arith ]
       ]
 
-nothing_more : (a b : Bool) → a ≡ false → b ≡ (a || b)
-nothing_more a b e = rw e refl
-
 still : (start : Books) → IsFresh start.collector → HasBooks start start
 still start fresh = record {
   same_copy = refl;
@@ -85,7 +90,9 @@ still start fresh = record {
   size = refl;
   planned = λ c e. absurd (impossible (is_set start.collector.reported.bytes c) e (fresh.none c));
   count = refl;
-  marks = λ c. nothing_more (is_set start.collector.reported.bytes c) (is_set start.copied.bytes c) (fresh.none c);
+  kept = λ c e. e;
+  marks = λ c set unset. absurd (impossible (is_set start.copied.bytes c) set unset);
+  beside = record { size = refl; beside = λ at n beside. refl };
 }
   where
     impossible : (b : Bool) → b ≡ true → b ≡ false → ⊥
@@ -98,18 +105,19 @@ reading_like lane = record { source = no_source; chunks = lane.chunks; reports =
 module _ {D L M : Type 0} {g : Ghosts D} where
   begun : (th : Bool) (start : Books) (lane : Lane D L M) → IsFirst g start lane → IsUnderWay g th start lane lane
   begun th start lane first = record {
-    read = none_read lane (record { goes = first_goes start start.collector.chunks lane first refl; none_waits = first.none_waits; none_failed = first.none_failed });
+    read = subst (λ n. HasRead g start.collector.chunks (count_left start.copied lane.chunks.items n) lane lane) (sym first.none_done) (none_read lane (record { goes = first_goes start start.collector.chunks lane first refl; none_waits = first.none_waits }));
     landed = λ j below. absurd (let z = first.none_done in omega (arith, z, below));
     waiting = λ j from below. first.unreported j below;
   }
 
-  first_of : (start : Books) (r : Reading) (lane : Lane D L M) → IsFresh start.collector → ArePlanned start.collector.chunks start.collector.slots → IsOrderOf start.collector.slots r.source.role r.chunks.items → IsLaneOf r lane
+  first_of : (start : Books) (r : Reading) (lane : Lane D L M) → IsFresh start.collector → ArePlanned start.collector.chunks start.collector.slots → All (λ slot. is_set start.copied.bytes slot.chunk ≡ false) start.collector.slots → IsOrderOf start.collector.slots r.source.role r.chunks.items → IsLaneOf r lane
       → HasRoom (g.content lane.device) r.source.offset start.collector.chunks → IsFirst g start lane
-  first_of start r lane fresh planned order is room = record {
+  first_of start r lane fresh planned uncopied order is room = record {
     room = rw is.offset room;
     planned = rw (is.chunks, is.role) (order_planned order);
     chunk = rw is.chunks (order_chunk order start.collector.chunks planned);
     unreported = λ j below. fresh.none (slice_index lane.chunks.items j);
+    uncopied = rw is.chunks (λ j below. let at = slot_at order j below in subst (λ c. is_set start.copied.bytes c ≡ false) at.chunk_is (All-contains (λ (s : _). is_set start.copied.bytes s.chunk ≡ false) start.collector.slots at.slot uncopied at.there));
     none_done = is.none_done;
     none_waits = is.none_waits;
     left = is.left ∙ ap (λ (v : _). length v.items) (sym is.chunks);
@@ -117,13 +125,13 @@ module _ {D L M : Type 0} {g : Ghosts D} where
   }
 
   -- lanes that were made of readings
-  pub starts : (th : Bool) (start : Books) (devices rest : List D) (places : List ℕ) (rs : List Reading) (lanes : List (Lane D L M)) → IsFresh start.collector → ArePlanned start.collector.chunks start.collector.slots
+  pub starts : (th : Bool) (start : Books) (devices rest : List D) (places : List ℕ) (rs : List Reading) (lanes : List (Lane D L M)) → IsFresh start.collector → ArePlanned start.collector.chunks start.collector.slots → All (λ slot. is_set start.copied.bytes slot.chunk ≡ false) start.collector.slots
       → MayRead g start.collector.chunks start.collector.slots (map (λ (r : Reading). r.source) rs) devices → All (λ (r : Reading). IsOrderOf start.collector.slots r.source.role r.chunks.items) rs
       → AreInTurn (map (λ (r : Reading). r.source.place) rs) places → HasRoom start.target start.collector.offset start.collector.chunks → start.copied.chunks ≡ div_ceil start.collector.chunks.size start.collector.chunks.sectors
       → length lanes ≡ length rs → AreTaken devices places (map (λ (l : Lane D L M). l.device) lanes) rest
       → ((i : ℕ) (r : Reading) (d : Lane D L M) → i < length rs → IsLaneOf (get_or rs i r) (get_or lanes i d))
       → IsPassing g th lanes lanes start start
-  starts th start devices rest places rs lanes fresh planned may orders turn room marks same taken are = record {
+  starts th start devices rest places rs lanes fresh planned uncopied may orders turn room marks same taken are = record {
     begins = firsts;
     apart = apart;
     room = room;
@@ -148,7 +156,7 @@ module _ {D L M : Type 0} {g : Ghosts D} where
           = sym (get_or-map (λ (l : Lane D L M). l.device) lanes k d d.device within) ∙ device_at devices devices (map (λ (l : Lane D L M). l.device) lanes) rest rs places may turn refl taken k d.device d.device no_source here ∙ ap (λ (s : Source). get_or devices s.place d.device) from in
           let wide : HasRoom (g.content (get_or devices r.source.place d.device)) r.source.offset start.collector.chunks
           = subst (λ (s : Source). HasRoom (g.content (get_or devices s.place d.device)) s.offset start.collector.chunks) from (may.room k no_source (omega (arith, here, length-map rs (λ (x : Reading). x.source))) d.device) in
-          first_of start r (get_or lanes k d) fresh planned (orders k (reading_like d) here) (are k (reading_like d) d here) (rw at wide)
+          first_of start r (get_or lanes k d) fresh planned uncopied (orders k (reading_like d) here) (are k (reading_like d) d here) (rw at wide)
 
       apart : (k m i j : ℕ) (d : Lane D L M) → k < length lanes → m < length lanes → i < length (get_or lanes k d).chunks.items → j < length (get_or lanes m d).chunks.items
           → slice_index (get_or lanes k d).chunks.items i ≡ slice_index (get_or lanes m d).chunks.items j → (k ≡ m) × (i ≡ j)

@@ -7,9 +7,9 @@ use Rattle.md_collect.specs.Places.{IsChunk, HasRoom}
 use Rattle.md_collect.specs.Reports.{ReportView, Copying}
 use Rattle.md_pass.specs.declared.lane.Lane.{Lane}
 use Rattle.md_pass.specs.Settling.{Books, IsAllowed, IsTaken, IsSettled}
-use Rattle.md_pass.specs.Passes.{IsUnderWay, IsPassing, Goes}
+use Rattle.md_pass.specs.Passes.{Goes, HaveSettled, IsUnderWay, IsPassing, SameDevices}
 use Rattle.md_pass.proofs.Besides.{planned_has}
-use Rattle.md_pass.proofs.Settles.{Changes, allowed, books_more, first_waits, other_stays, planned_by, same_stays}
+use Rattle.md_pass.proofs.Settles.{Changes, allowed, books_more, first_uncopied, first_waits, now_uncopied, other_stays, planned_by, same_stays}
 
 pub same_or_other : (j k : ℕ) → (j ≡ k) ⊎ (j ≢ k)
 same_or_other j k =
@@ -64,14 +64,14 @@ module _ {D L M : Type 0} {g : Ghosts D} {th : Bool} {firsts lanes : List (Lane 
         as_many = length-set lanes k lane' ∙ p.as_many;
         each = λ j d below. each_set (λ f l. IsUnderWay g th new f l) firsts lanes k lane' within p.as_many
             (λ d'. let same : get_or firsts k d' ≡ first = get_or_default firsts k d' lane here in
-            rw same (same_stays first taken out (λ i m wi wm eq. (p.apart k k i m lane here here wi wm eq).1) (room_now p) chunk e way))
+            rw same (same_stays first taken out (now_uncopied r rest begins p.books way e) (λ i m wi wm eq. (p.apart k k i m lane here here wi wm eq).1) (room_now p) chunk e way))
             (λ j' d' e' below' other. other_stays (get_or firsts j' d') (get_or lanes j' e') taken out
             (λ i wi eq.
             let same : get_or firsts k d' ≡ first = get_or_default firsts k d' lane here in
             other (p.apart j' k i lane.done d' below' here wi (rw same some) (eq ∙ a.chunk_is ∙ ap (λ (f : Lane D L M). slice_index f.chunks.items lane.done) (sym same))).0)
             (subst (λ l. IsUnderWay g th old (get_or firsts j' d') l) (get_or_default lanes j' d' e' (omega (arith, p.as_many, below'))) (p.each j' d' below')))
             j d d below;
-        books = books_more taken out p.books (planned_has start.collector.slots r.chunk r.source (planned_by r rest begins way e));
+        books = books_more taken out p.books (planned_has start.collector.slots r.chunk r.source (planned_by r rest begins way e)) (first_uncopied r rest begins way e) (now_uncopied r rest begins p.books way e);
       }
 
   pub settled_one : {new : Books} (k : ℕ) (lane lane' : Lane D L M) → IsPassing g th firsts lanes start old → k < length lanes → lane ≡ get_or lanes k lane
@@ -109,6 +109,28 @@ goes_one {D = D} {L = L} {M = M} th old new lane lane' is = by lane.reports refl
 
 pub goes_on : {D L M : Type 0} (a b c : Lane D L M) → Goes a b → Goes b c → Goes a c
 goes_on a b c first second = record { starved = second.starved ∙ first.starved; read = second.read ∙ first.read }
+
+pub devices_then : {D L M : Type 0} (xs ys zs : List (Lane D L M)) → SameDevices xs ys → SameDevices ys zs → SameDevices xs zs
+devices_then xs ys zs first second = record {
+  as_many = second.as_many ∙ first.as_many;
+  each = λ k d below. second.each k d (let many = first.as_many in omega (arith, many, below)) ∙ first.each k d below;
+}
+
+pub devices_set : {D L M : Type 0} (olds lanes : List (Lane D L M)) (k : ℕ) (new : Lane D L M) → SameDevices olds lanes → k < length lanes → ((d : Lane D L M) → new.device ≡ (get_or lanes k d).device) → SameDevices olds (set lanes k new)
+devices_set olds lanes k new same within own = record {
+  as_many = length-set lanes k new ∙ same.as_many;
+  each = λ j d below.
+      elim (same_or_other j k) [
+        | inl here ↦ rw (here, get_or-set_same lanes k new d within) (own d ∙ same.each k d (let many = same.as_many in omega (arith, many, within)))
+        | inr other ↦ rw (get_or-set_other lanes k j new d other) (same.each j d below)
+      ];
+}
+
+pub settled_then : {D L M : Type 0} {g : Ghosts D} (th : Bool) (a b c : Books) (xs ys zs : List (Lane D L M)) → length ys ≡ length xs → HaveSettled g th a b xs ys → HaveSettled g th b c ys zs → HaveSettled g th a c xs zs
+settled_then th a b c xs ys zs many first second = record {
+  passing = λ firsts start p. second.passing firsts start (first.passing firsts start p);
+  goes = λ k d below. goes_on (get_or xs k d) (get_or ys k d) (get_or zs k d) (first.goes k d below) (second.goes k d (omega (arith, many, below)));
+}
 
 pub none_left : {X : Type 0} (xs : List X) → length xs ≡ 0 → xs ≡ []
 none_left [] none = refl

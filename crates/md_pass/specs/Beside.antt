@@ -1,13 +1,15 @@
 -- What a pass leaves of its target: all but the chunks of the plan.
-use Rattle.std.specs.Prelude.{◌≡◌, ℕ, ◌+◌, ◌*◌, ◌≤◌, ◌==◌, ◌⊎◌, Bool, true, List, length}
+use Rattle.std.specs.Prelude.{◌≡◌, ℕ, ◌+◌, ◌*◌, ◌≤◌, ◌==◌, ◌⊎◌, Bool, true, false, List, length}
 use Rattle.std.specs.List.{list_any}
 use Rattle.md_cert.specs.declared.slots.Slot.{Slot}
 use Rattle.md_bitmap.specs.declared.chunks.Chunks.{Chunks}
+use Rattle.md_bitmap.specs.Marks.{Bitmap, is_set}
 use Rattle.md_device.specs.Splice.{part}
 use Rattle.md_device.specs.Stops.{LeavesMore}
 use Rattle.md_device.specs.declared.device.Device.{Ghosts}
 use Rattle.md_collect.specs.Places.{start_of, bytes_of}
 use Rattle.md_collect.specs.Reports.{Copying}
+use Rattle.md_collect.specs.Collecting.{CollectorView, copying}
 
 -- a slot has the chunk
 abbrev pub has_chunk : List Slot → ℕ → Bool
@@ -28,3 +30,13 @@ pub record KeepsBeside {D : Type 0} (g : Ghosts D) (copy : Copying) (old new : D
   pub honest_kept : g.honest new ≡ g.honest old
   pub counted : g.failures old ≤ g.failures new
   pub stops : g.honest old ≡ true → LeavesMore (g.stops old) (g.stops new) (SameBeside copy (g.content old))
+
+-- a collector and its target before and after it took reports
+pub record WritesBeside {D : Type 0} (g : Ghosts D) (old new : CollectorView) (before after : D) : Type 0 where
+  pub copy : copying new ≡ copying old
+  pub target : KeepsBeside g (copying old) before after
+
+-- two contents that are the same beside the chunks that were copied in between
+pub record SameBesideCopied (chunks : Chunks) (offset : ℕ) (before after : Bitmap) (old new : List ℕ) : Type 0 where
+  pub size : length new ≡ length old
+  pub beside : (at n : ℕ) → ((c : ℕ) → is_set after.bytes c ≡ true → is_set before.bytes c ≡ false → IsBeside chunks offset at n c) → part new at n ≡ part old at n

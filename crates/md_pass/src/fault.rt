@@ -1,4 +1,5 @@
 // Why a pass ends before its last turn.
+use md_device::WriteFault;
 use std::alloc::AllocError;
 use thiserror::Error;
 
@@ -11,9 +12,6 @@ pub enum PassFault {
     /// The target could not be written.
     #[error("TargetFault")]
     TargetFault,
-    /// The member in this role could not be read in this chunk.
-    #[error("SourceFault({0}, {1})")]
-    SourceFault(u8, u32),
 }
 
 impl From<AllocError> for PassFault {
@@ -35,5 +33,16 @@ impl From<md_cert::NoMemory> for PassFault {
 
     fn from(_: md_cert::NoMemory) -> PassFault {
         PassFault::NoMemory
+    }
+}
+
+impl From<WriteFault> for PassFault {
+    ghost use Rattle.std.specs.Prelude.{◌≡◌};
+    ghost use Rattle.md_pass.specs.declared.fault.PassFault.TheVariants.{TargetFault};
+
+    ghost from_gives = { λ _ e. e ≡ TargetFault };
+
+    fn from(_: WriteFault) -> PassFault {
+        PassFault::TargetFault
     }
 }

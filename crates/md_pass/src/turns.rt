@@ -1,11 +1,12 @@
 // All turns of a pass.
-ghost use Rattle.std.specs.Prelude.{◌≡◌, ◌+◌, ◌<◌, ◌≤◌, length, true, false, [], ℕ, Err, OnOk};
+ghost use Rattle.std.specs.Prelude.{◌≡◌, ◌+◌, ◌<◌, ◌≤◌, length, true, false, [], ℕ, IfErr, OnOk};
 ghost use Rattle.std.specs.List.{All};
 ghost use Rattle.md_collect.specs.Reading.{Fails};
 ghost use Rattle.md_collect.specs.Collecting.{copying};
 ghost use Rattle.md_pass.specs.Beside.{KeepsBeside};
+ghost use Rattle.md_pass.specs.Copied.{OnFault};
 ghost use Rattle.md_pass.specs.Settling.{books};
-ghost use Rattle.md_pass.specs.Passes.{FailsIn, IsPassing, LanesOnlyRead};
+ghost use Rattle.md_pass.specs.Passes.{IsPassing, LanesOnlyRead};
 
 use crate::board::Board;
 use crate::fault::PassFault;
@@ -51,9 +52,10 @@ pub(crate) fn run_turns<
         (books collector.old (D.content target.old) copied.old) (books collector.new (D.content target.new) copied.new)) }
     ensures done { OnOk result (All (λ lane. (lane.done ≡ length lane.chunks.items) × (lane.reports ≡ []))
         lanes.new.items) }
-    ensures target_fault { result ≡ Err PassFault.TargetFault → Fails D.Device target.old target.new }
-    ensures source_fault { (role chunk : ℕ) → result ≡ Err (PassFault.SourceFault role chunk)
-        → FailsIn D.Device role chunk lanes.old.items lanes.new.items }
+    ensures broken { IfErr result (OnFault
+        (IsPassing D.Device (D.honest target.old) lanes.old.items lanes.new.items
+        (books collector.old (D.content target.old) copied.old) (books collector.new (D.content target.new) copied.new))
+        (Fails D.Device target.old target.new)) }
 
     ensures sources { LanesOnlyRead D.Device lanes.old.items lanes.new.items }
     ensures target { KeepsBeside D.Device (copying collector.old) target.old target.new }

@@ -1,4 +1,4 @@
-use Rattle.std.proofs.Common.{◌≡◌, ◌∙◌, List, ap, get_or, refl, remove, slice_get, slice_index_or, subst, sym}
+use Rattle.std.proofs.Common.{◌≡◌, ◌∙◌, List, MatchResult, ap, get_or, refl, remove, slice_get, slice_index_or, subst, sym}
 use Rattle.std.proofs.lemmas.Option.{slice_get-get_or}
 use Rattle.md_assembly.proofs.Indices.{got_within}
 use Rattle.md_bitmap.specs.declared.chunks.Chunks.{Chunks}
@@ -6,13 +6,14 @@ use Rattle.md_collect.specs.Collecting.{ArePlanned}
 use Rattle.md_collect.specs.Places.{HasRoom}
 use Rattle.md_kept_members.specs.View.{MemberView}
 use Rattle.md_pass.specs.Beside.{KeepsBeside}
-use Rattle.md_pass.specs.Sources.{AreCopied, MayRead, copy_of}
-use Rattle.md_pass.proofs.PassSources.{on_ok}
+use Rattle.md_pass.specs.Copied.{BreaksOff, EndsPass, pass_state}
+use Rattle.md_pass.specs.Sources.{MayRead, copy_of}
 use Rattle.md_state.specs.View.{Disk, MirrorView, disk_of, of_disks}
 use Rattle.md_array.specs.Lending.{AreBack}
 use Rattle.md_super.specs.declared.superblock.Superblock.{Superblock}
-use Rattle.md_copy.proofs.Carried.{may_read_of, seen, slot_copied, target_fails}
-use Rattle.md_copy.proofs.LentBack.{are_planned, back, fails_in_role, filling, within}
+use Rattle.md_copy.proofs.Carried.{may_read_of, seen}
+use Rattle.md_copy.proofs.Filled.{passed}
+use Rattle.md_copy.proofs.LentBack.{are_planned, back, within}
 use Rattle.md_copy.proofs.Lists.{mapped_at}
 use Rattle.md_copy.proofs.Observed.{field_of}
 use Rattle.md_copy.proofs.SourcesChosen.{has_room}
@@ -64,56 +65,27 @@ give_back-requires-clause-back g c =
           c.copy_beside-result.ensures.others keeps c.requires.idle),
     )
 
-pub returns-clause-filling : goal.returns-clause-filling
-returns-clause-filling g c m at =
-    let v = c.args.mirror.now in
-    let slots = c.args.plan.now.slots in
-    let olds = c.lend-devices.result.items in
-    let news = c.copy_beside-result.new.devices.items in
-    let target = c.args.target in
-    let own = field_of (λ (m : MemberView). m.superblock) _ m _ at c.own.ensures in
-    let keeps = λ (d : g.row.D.Denot). subst (λ (b : Superblock). KeepsBeside g.D.Device (copy_of slots v.array.chunks b.data_offset) (slice_index_or olds target d) (slice_index_or news target d)) (sym own)
-    (subst (λ (x : Chunks). KeepsBeside g.D.Device (copy_of slots x c.own.result.now.data_offset) (slice_index_or olds target d) (slice_index_or news target d)) c.chunks-chunks.ensures (c.copy_beside-result.ensures.target d)) in
-    filling g.D.Device v c.requires.sound target c.requires.within m at (c.requires.target m at) c.args.plan.now (c.requires.planned m at) olds news (sym c.lend-devices.ensures.devices) c.copy_beside-result.ensures.as_many
-    c.copy_beside-result.ensures.others keeps c.give_back.new.self
-    (ap (λ (x : MirrorView). x.array) c.give_back.ensures.in_place ∙ ap (λ (x : MirrorView). x.array) c.lend-devices.ensures.out) (ap (λ (x : MirrorView). x.disks) c.give_back.ensures.in_place)
-
-pub returns-clause-copied : goal.returns-clause-copied
-returns-clause-copied g c =
+pub returns-clause-gives : goal.returns-clause-gives
+returns-clause-gives g c m at =
     let v = c.args.mirror.now in
     let slots = c.args.plan.now.slots in
     let sources = c.args.sources.now in
     let olds = c.lend-devices.result.items in
     let news = c.copy_beside-result.new.devices.items in
     let target = c.args.target in
-    on_ok c.copy_beside-result.result
-    (λ done m at.
+    let before = c.args.copied.now in
+    let after = c.copy_beside-result.new.copied in
     let own = field_of (λ (m : MemberView). m.superblock) _ m _ at c.own.ensures in
-    let v_is : v.disks ≡ seen g.D.Device olds = sym c.lend-devices.ensures.devices in
-    let low = within g.D.Device v c.requires.sound target c.requires.within m at (c.requires.target m at) c.args.plan.now (c.requires.planned m at) olds news v_is c.copy_beside-result.ensures.as_many in
-    let copied = λ (d : g.row.D.Denot). subst (λ (b : Superblock). AreCopied g.D.Device (copy_of slots v.array.chunks b.data_offset) sources (remove olds target) (slice_index_or olds target d) (slice_index_or news target d)) (sym own)
-    (subst (λ (x : Chunks). AreCopied g.D.Device (copy_of slots x c.own.result.now.data_offset) sources (remove olds target) (slice_index_or olds target d) (slice_index_or news target d)) c.chunks-chunks.ensures (done d)) in
-    slot_copied g.D.Device olds news target low c.copy_beside-result.ensures.as_many v c.give_back.new.self v_is (ap (λ (x : MirrorView). x.disks) c.give_back.ensures.in_place) m.superblock.data_offset slots sources c.requires.sources copied)
-    c.copy_beside-result.ensures.copied
-
-pub returns-clause-target_fault : goal.returns-clause-target_fault
-returns-clause-target_fault g c e d f at_d at_f =
-    let v = c.args.mirror.now in
-    let olds = c.lend-devices.result.items in
-    let news = c.copy_beside-result.new.devices.items in
-    let target = c.args.target in
-    let at = got_within v.array.members target c.requires.within in
-    let v_is : v.disks ≡ seen g.D.Device olds = sym c.lend-devices.ensures.devices in
-    let low = within g.D.Device v c.requires.sound target c.requires.within at.0 at.1 (c.requires.target at.0 at.1) c.args.plan.now (c.requires.planned at.0 at.1) olds news v_is c.copy_beside-result.ensures.as_many in
-    target_fails g.D.Device olds news target low c.copy_beside-result.ensures.as_many (c.copy_beside-result.ensures.target_fault e) d f
-    (ap (λ (xs : List Disk). slice_get xs target) (sym v_is) ∙ at_d) (ap (λ (x : MirrorView). slice_get x.disks target) (sym c.give_back.ensures.in_place) ∙ at_f)
-
-pub returns-clause-source_fault : goal.returns-clause-source_fault
-returns-clause-source_fault g c role chunk e =
-    let v = c.args.mirror.now in
-    let olds = c.lend-devices.result.items in
-    let news = c.copy_beside-result.new.devices.items in
-    let target = c.args.target in
-    let at = got_within v.array.members target c.requires.within in
-    fails_in_role g.D.Device v c.requires.sound target c.requires.within at.0 at.1 (c.requires.target at.0 at.1) c.args.plan.now (c.requires.planned at.0 at.1) olds news (sym c.lend-devices.ensures.devices) c.copy_beside-result.ensures.as_many
-    c.give_back.new.self (ap (λ (x : MirrorView). x.disks) c.give_back.ensures.in_place) c.args.sources.now role chunk c.requires.sources (c.copy_beside-result.ensures.source_fault role chunk e)
+    let keeps = λ (d : g.row.D.Denot). subst (λ (b : Superblock). KeepsBeside g.D.Device (copy_of slots v.array.chunks b.data_offset) (slice_index_or olds target d) (slice_index_or news target d)) (sym own)
+    (subst (λ (x : Chunks). KeepsBeside g.D.Device (copy_of slots x c.own.result.now.data_offset) (slice_index_or olds target d) (slice_index_or news target d)) c.chunks-chunks.ensures (c.copy_beside-result.ensures.target d)) in
+    passed g.D.Device v c.requires.sound target c.requires.within m at (c.requires.target m at) c.args.plan.now (c.requires.planned m at) olds news (sym c.lend-devices.ensures.devices) c.copy_beside-result.ensures.as_many
+    c.copy_beside-result.ensures.others keeps c.give_back.new.self
+    (ap (λ (x : MirrorView). x.array) c.give_back.ensures.in_place ∙ ap (λ (x : MirrorView). x.array) c.lend-devices.ensures.out) (ap (λ (x : MirrorView). x.disks) c.give_back.ensures.in_place)
+    sources c.requires.sources before after c.copy_beside-result.result
+    (λ d. subst (λ (b : Superblock). MatchResult c.copy_beside-result.result
+    (EndsPass g.D.Device (copy_of slots v.array.chunks b.data_offset) sources (pass_state (remove olds target) (slice_index_or olds target d) before) (pass_state (remove news target) (slice_index_or news target d) after))
+    (BreaksOff g.D.Device (copy_of slots v.array.chunks b.data_offset) sources (pass_state (remove olds target) (slice_index_or olds target d) before) (pass_state (remove news target) (slice_index_or news target d) after))) (sym own)
+    (subst (λ (x : Chunks). MatchResult c.copy_beside-result.result
+    (EndsPass g.D.Device (copy_of slots x c.own.result.now.data_offset) sources (pass_state (remove olds target) (slice_index_or olds target d) before) (pass_state (remove news target) (slice_index_or news target d) after))
+    (BreaksOff g.D.Device (copy_of slots x c.own.result.now.data_offset) sources (pass_state (remove olds target) (slice_index_or olds target d) before) (pass_state (remove news target) (slice_index_or news target d) after))) c.chunks-chunks.ensures
+    (c.copy_beside-result.ensures.gives d)))

@@ -1,45 +1,40 @@
-use Rattle.std.proofs.Common.{◌≡◌, length, map, refl, ap, sym, ◌∙◌, arith, subst}
-use Rattle.md_collect.specs.Collecting.{copying}
-use Rattle.md_pass.specs.declared.reading.Reading.{Reading}
-use Rattle.md_pass.specs.Sources.{AreCopied, FailsToGive, copy_of}
-use Rattle.md_pass.proofs.Orders.{few_slots}
-use Rattle.md_pass.proofs.PassSources.{copied_of_all, fails_of_all, may_read_those, on_ok, with_slots}
+use Rattle.std.proofs.Common.{rules, ◌≡◌, Err, subst}
+use Rattle.std.specs.Prelude.{MatchResult}
+use Rattle.md_collect.specs.Reports.{Copying}
+use Rattle.md_pass.specs.declared.fault.PassFault.TheVariants.{NoMemory}
+use Rattle.md_pass.specs.Copied.{BreaksOff, EndsPass, WritesPlanned, pass_state}
+use Rattle.md_pass.specs.Preparing.{sources_of}
+use Rattle.md_pass.specs.Sources.{copy_of}
+use Rattle.md_pass.proofs.PassSources.{can_copy, gives_of_all, nothing_copied, nothing_written}
 use Rattle.md_pass.proofs.pass.copy_pass.Goals as goal
 
-pub overflow_cast-slots : goal.overflow_cast-slots
-overflow_cast-slots g c =
-    let few = few_slots c.args.chunks c.args.plan.now.slots c.requires.planned in
-    let e = ap length c.as_slice-slots.ensures in
-    omega (arith, few, e)
+pub returns-in_err-prepared-clause-gives : goal.returns-in_err-prepared-clause-gives
+returns-in_err-prepared-clause-gives g c =
+    let is : c.from_residual.result ≡ Err NoMemory = search rules in
+    rw is (nothing_copied g.D.Device (copy_of c.args.plan.now.slots c.args.chunks c.args.offset) c.args.sources.now (pass_state c.args.devices.now.items c.args.target.now c.args.copied.now) c.requires.uncopied)
 
-pub copy_readings-requires-clause-slots : goal.copy_readings-requires-clause-slots
-copy_readings-requires-clause-slots g c κs within =
-    let few = few_slots c.args.chunks c.args.plan.now.slots c.requires.planned in
-    let e = ap length c.as_slice-slots.ensures in
-    (ap length c.in_ok-collector.ensures.slots ∙ sym e, omega (arith, few, e))
+pub returns-in_err-prepared-clause-writes : goal.returns-in_err-prepared-clause-writes
+returns-in_err-prepared-clause-writes g c =
+    nothing_written g.D.Device (copy_of c.args.plan.now.slots c.args.chunks c.args.offset) (pass_state c.args.devices.now.items c.args.target.now c.args.copied.now)
 
-pub copy_readings-requires-clause-sources : goal.copy_readings-requires-clause-sources
-copy_readings-requires-clause-sources g c κs within =
+pub copy_prepared-requires-clause-can : goal.copy_prepared-requires-clause-can
+copy_prepared-requires-clause-can g c κs within =
+    can_copy g.D.Device c.args.plan.now.slots c.args.chunks c.args.offset c.args.sources.now c.in_ok-prepared.prepared (pass_state c.args.devices.now.items c.args.target.now c.args.copied.now)
+    c.in_ok-prepared.ensures c.requires.planned c.requires.sources c.requires.room c.requires.marks c.requires.uncopied
+
+pub returns-clause-gives : goal.returns-clause-gives
+returns-clause-gives g c =
     let slots = c.args.plan.now.slots in
-    let those : map (λ (r : Reading). r.source) c.in_ok-readings.readings.items ≡ with_slots slots c.args.sources.now = c.in_ok-readings.ensures.sources ∙ ap (λ xs. with_slots xs c.args.sources.now) c.as_slice-slots.ensures in
-    rw (c.in_ok-collector.ensures.chunks, c.in_ok-collector.ensures.slots, those) (may_read_those g.D.Device slots c.args.sources.now c.args.devices.now.items c.requires.sources)
-
-pub returns-clause-copied : goal.returns-clause-copied
-returns-clause-copied g c =
-    let slots = c.args.plan.now.slots in
+    let sources = c.args.sources.now in
     let copy = copy_of slots c.args.chunks c.args.offset in
-    let those : map (λ (r : Reading). r.source) c.in_ok-readings.readings.items ≡ with_slots slots c.args.sources.now = c.in_ok-readings.ensures.sources ∙ ap (λ xs. with_slots xs c.args.sources.now) c.as_slice-slots.ensures in
-    let same : copying c.in_ok-collector.collector ≡ copy = rw (c.in_ok-collector.ensures.slots, c.in_ok-collector.ensures.chunks, c.in_ok-collector.ensures.offset) refl in
-    on_ok c.copy_readings.result
-    (λ done. copied_of_all g.D.Device copy c.args.sources.now c.args.devices.now.items c.args.target.now c.copy_readings.new.target
-    (subst (λ v. AreCopied g.D.Device v (with_slots slots c.args.sources.now) c.args.devices.now.items c.args.target.now c.copy_readings.new.target) same
-    (subst (λ ss. AreCopied g.D.Device (copying c.in_ok-collector.collector) ss c.args.devices.now.items c.args.target.now c.copy_readings.new.target) those done)))
-    c.copy_readings.ensures.copied
+    let p = c.in_ok-prepared.prepared in
+    let old = pass_state c.args.devices.now.items c.args.target.now c.args.copied.now in
+    let new = pass_state c.copy_prepared.new.devices.items c.copy_prepared.new.target c.copy_prepared.new.copied in
+    gives_of_all g.D.Device copy sources old new c.copy_prepared.result c.copy_prepared.ensures.writes.sources c.requires.sources.within
+    (subst (λ (ss : _). MatchResult c.copy_prepared.result (EndsPass g.D.Device copy ss old new) (BreaksOff g.D.Device copy ss old new)) c.in_ok-prepared.ensures.reads
+    (subst (λ (x : Copying). MatchResult c.copy_prepared.result (EndsPass g.D.Device x (sources_of p) old new) (BreaksOff g.D.Device x (sources_of p) old new)) c.in_ok-prepared.ensures.copy c.copy_prepared.ensures.gives))
 
-pub returns-clause-source_fault : goal.returns-clause-source_fault
-returns-clause-source_fault g c = λ role chunk e.
-    let slots = c.args.plan.now.slots in
-    let those : map (λ (r : Reading). r.source) c.in_ok-readings.readings.items ≡ with_slots slots c.args.sources.now = c.in_ok-readings.ensures.sources ∙ ap (λ xs. with_slots xs c.args.sources.now) c.as_slice-slots.ensures in
-    fails_of_all g.D.Device slots c.args.sources.now c.args.devices.now.items c.copy_readings.new.devices.items role chunk
-    (subst (λ ss. FailsToGive g.D.Device slots ss c.args.devices.now.items c.copy_readings.new.devices.items role chunk) those
-    (subst (λ xs. FailsToGive g.D.Device xs (map (λ (r : Reading). r.source) c.in_ok-readings.readings.items) c.args.devices.now.items c.copy_readings.new.devices.items role chunk) c.in_ok-collector.ensures.slots (c.copy_readings.ensures.source_fault role chunk e)))
+pub returns-clause-writes : goal.returns-clause-writes
+returns-clause-writes g c =
+    subst (λ (x : Copying). WritesPlanned g.D.Device x (pass_state c.args.devices.now.items c.args.target.now c.args.copied.now) (pass_state c.copy_prepared.new.devices.items c.copy_prepared.new.target c.copy_prepared.new.copied))
+    c.in_ok-prepared.ensures.copy c.copy_prepared.ensures.writes

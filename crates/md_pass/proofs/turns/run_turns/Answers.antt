@@ -1,14 +1,14 @@
-use Rattle.std.proofs.Common.{rules, ◌≡◌, ◌<◌, ◌≤◌, Bool, Err, List, length, get_or, refl, ap, sym, ◌∙◌, arith, subst, false}
+use Rattle.std.proofs.Common.{rules, Err, ◌≡◌, ◌<◌, ◌≤◌, Bool, List, length, get_or, refl, ap, sym, ◌∙◌, arith, subst, false}
 use Rattle.std.specs.List.{All}
 use Rattle.md_collect.specs.Reports.{Copying}
 use Rattle.md_collect.specs.Collecting.{copying}
-use Rattle.md_pass.specs.declared.fault.PassFault.TheVariants.{SourceFault}
+use Rattle.md_pass.specs.declared.fault.PassFault.TheVariants.{TargetFault}
 use Rattle.md_pass.specs.declared.lane.Lane.{Lane}
 use Rattle.md_pass.specs.Beside.{KeepsBeside}
 use Rattle.md_pass.specs.Lanes.{IsReady}
 use Rattle.md_pass.specs.Settling.{books}
 use Rattle.md_pass.specs.Passes.{IsPassing}
-use Rattle.md_pass.proofs.Besides.{keeps_then}
+use Rattle.md_pass.proofs.Besides.{fails_later, keeps_then}
 use Rattle.md_pass.proofs.Workers.{chunks_kept}
 use Rattle.md_pass.proofs.Rounds.{all_done, all_ready, next_done, sources_read, turned}
 use Rattle.md_pass.proofs.turns.run_turns.Goals as goal
@@ -18,6 +18,13 @@ returns-then-is_starved-clause-sources g c =
     let inv = c.loop-turn.invariant in
     let same : c.loop-turn.collector.chunks ≡ c.args.chunks = ap (λ (v : Copying). v.chunks) inv.passing.books.same_copy ∙ sym c.requires.chunks in
     sources_read c.turn.new.lanes.items (turned c.turn.new.lanes.items inv.passing inv.taken c.turn.ensures.len (λ k d below. rw same (c.turn.ensures.worked k d below))) refl (λ k d below. refl)
+
+-- where a worker got no memory, the reports of the others wait, and nothing else has changed
+pub returns-then-is_starved-clause-broken : goal.returns-then-is_starved-clause-broken
+returns-then-is_starved-clause-broken g c =
+    let inv = c.loop-turn.invariant in
+    let same : c.loop-turn.collector.chunks ≡ c.args.chunks = ap (λ (v : Copying). v.chunks) inv.passing.books.same_copy ∙ sym c.requires.chunks in
+    turned c.turn.new.lanes.items inv.passing inv.taken c.turn.ensures.len (λ k d below. rw same (c.turn.ensures.worked k d below))
 
 pub turn-requires-after_bounds : goal.turn-requires-after_bounds
 turn-requires-after_bounds g c κs within =
@@ -34,25 +41,22 @@ settle_all-requires g c =
       rw inv.target.honest_kept (turned c.turn.new.lanes.items inv.passing inv.taken c.turn.ensures.len (λ k d below. rw same (c.turn.ensures.worked k d below))),
     )
 
-pub returns-in_err-settle_all-clause-source_fault : goal.returns-in_err-settle_all-clause-source_fault
-returns-in_err-settle_all-clause-source_fault g c = λ role chunk e.
-    let inv = c.loop-turn.invariant in
-    let same : c.loop-turn.collector.chunks ≡ c.args.chunks = ap (λ (v : Copying). v.chunks) inv.passing.books.same_copy ∙ sym c.requires.chunks in
-    let was : c.settle_all.result ≡ Err (SourceFault role chunk) = search rules in
-    c.settle_all.ensures.source_fault role chunk was c.args.lanes.now.items (books c.args.collector.now (g.D.Device.content c.args.target.now) c.args.copied.now)
-    (rw inv.target.honest_kept (turned c.turn.new.lanes.items inv.passing inv.taken c.turn.ensures.len (λ k d below. rw same (c.turn.ensures.worked k d below))))
+pub returns-in_err-settle_all-clause-broken : goal.returns-in_err-settle_all-clause-broken
+returns-in_err-settle_all-clause-broken g c =
+    let is : c.from_residual.result ≡ Err TargetFault = search rules in
+    rw is (fails_later (copying c.args.collector.now) c.args.target.now c.loop-turn.target c.settle_all.new.target c.loop-turn.invariant.target c.in_err-settle_all.ensures.failed)
 
 pub returns-in_err-settle_all-clause-sources : goal.returns-in_err-settle_all-clause-sources
 returns-in_err-settle_all-clause-sources g c =
     let inv = c.loop-turn.invariant in
     let same : c.loop-turn.collector.chunks ≡ c.args.chunks = ap (λ (v : Copying). v.chunks) inv.passing.books.same_copy ∙ sym c.requires.chunks in
-    sources_read c.settle_all.new.lanes.items (turned c.turn.new.lanes.items inv.passing inv.taken c.turn.ensures.len (λ k d below. rw same (c.turn.ensures.worked k d below))) c.settle_all.ensures.len c.settle_all.ensures.devices
+    sources_read c.settle_all.new.lanes.items (turned c.turn.new.lanes.items inv.passing inv.taken c.turn.ensures.len (λ k d below. rw same (c.turn.ensures.worked k d below))) c.settle_all.ensures.devices.as_many c.settle_all.ensures.devices.each
 
 pub returns-in_err-settle_all-clause-target : goal.returns-in_err-settle_all-clause-target
 returns-in_err-settle_all-clause-target g c =
     let inv = c.loop-turn.invariant in
     keeps_then (copying c.args.collector.now) c.args.target.now c.loop-turn.target c.settle_all.new.target inv.target
-    (subst (λ v. KeepsBeside g.D.Device v c.loop-turn.target c.settle_all.new.target) inv.passing.books.same_copy c.settle_all.ensures.target)
+    (subst (λ v. KeepsBeside g.D.Device v c.loop-turn.target c.settle_all.new.target) inv.passing.books.same_copy c.settle_all.ensures.writes.target)
 
 pub returns-clause-sources : goal.returns-clause-sources
 returns-clause-sources g c = sources_read c.loop-turn.lanes.items c.loop-turn.invariant.passing refl (λ k d below. refl)
@@ -70,7 +74,7 @@ loop-turn-preserved g c =
     = turned mids inv.passing inv.taken c.turn.ensures.len (λ k d below. rw same (c.turn.ensures.worked k d below)) in
     let next : IsPassing g.D.Device (g.D.Device.honest c.args.target.now) firsts news start (books c.settle_all.new.collector (g.D.Device.content c.settle_all.new.target) c.settle_all.new.copied)
     = subst (λ (b : Bool). IsPassing g.D.Device b firsts news start (books c.settle_all.new.collector (g.D.Device.content c.settle_all.new.target) c.settle_all.new.copied)) inv.target.honest_kept
-    (c.in_ok-settle_all.ensures.passing firsts start (rw inv.target.honest_kept mid)) in
+    (c.in_ok-settle_all.ensures.settled.passing firsts start (rw inv.target.honest_kept mid)) in
     let fed : All (λ (lane : Lane _ _ _). lane.starved ≡ false) mids = subst (λ (xs : List (Lane _ _ _)). All (λ (lane : Lane _ _ _). lane.starved ≡ false) xs) c.as_slice-in-loop-turn.ensures.value (c.is_starved.ensures c.if-is_starved.false) in
     record {
       passing = next;
@@ -79,10 +83,10 @@ loop-turn-preserved g c =
           let between : k < length mids = omega (arith, here, c.turn.ensures.len) in
           let kept : (get_or news k d).chunks ≡ (get_or olds k d).chunks = chunks_kept (next.each k d (omega (arith, below, next.as_many))).read ∙ sym (chunks_kept (inv.passing.each k d (omega (arith, below, next.as_many))).read) in
           next_done g.D.Device c.args.chunks c.loop-turn._turn (get_or olds k d) (get_or mids k d) (get_or news k d)
-          (c.turn.ensures.worked k d here) (fed k d between) (c.in_ok-settle_all.ensures.goes k d between) (c.in_ok-settle_all.ensures.taken k d below) kept (inv.done k d here);
+          (c.turn.ensures.worked k d here) (fed k d between) (c.in_ok-settle_all.ensures.settled.goes k d between) (c.in_ok-settle_all.ensures.taken k d below) kept (inv.done k d here);
       taken = c.in_ok-settle_all.ensures.taken;
       target = keeps_then (copying c.args.collector.now) c.args.target.now c.loop-turn.target c.settle_all.new.target inv.target
-          (subst (λ v. KeepsBeside g.D.Device v c.loop-turn.target c.settle_all.new.target) inv.passing.books.same_copy c.settle_all.ensures.target);
+          (subst (λ v. KeepsBeside g.D.Device v c.loop-turn.target c.settle_all.new.target) inv.passing.books.same_copy c.settle_all.ensures.writes.target);
     }
 
 pub returns-then-are_done-clause-sources : goal.returns-then-are_done-clause-sources

@@ -1,0 +1,168 @@
+-- A chunk that a source failed to give is listed as bad on it: first in memory, slot by slot, and then the lists are stored, member by member (this
+-- project's own order).
+use Rattle.std.specs.Prelude.{◌≡◌, ◌≢◌, ◌⊎◌, ℕ, Bool, true, false, List, [], ◌∷◌, ◌++◌, length, slice_get, All}
+use Rattle.std.specs.List.{Any}
+use Rattle.md_assembly.specs.States.{is_in_sync, is_in_sync_as}
+use Rattle.md_bitmap.specs.Marks.{Bitmap}
+use Rattle.md_cert.specs.declared.slots.Slot.{Slot}
+use Rattle.md_kept_members.specs.Enrolling.{HasRoomFor}
+use Rattle.md_kept_members.specs.View.{MemberView}
+use Rattle.md_model.specs.Events.{Event}
+use Rattle.md_state.specs.DeviceChanges.{StaysHonest}
+use Rattle.md_state.specs.DiskWrites.{AtDevice}
+use Rattle.md_state.specs.Members.{AllInSync, IsInSync, IsMember}
+use Rattle.md_state.specs.NotingBad.{HasFullLogFor}
+use Rattle.md_state.specs.View.{ArrayView, MirrorView}
+use Rattle.md_state.specs.WritingMember.{IsNotDue}
+use Rattle.md_array.specs.Enrolling.{KeepsData}
+use Rattle.md_array.specs.InTurn.{AllOf}
+use Rattle.md_metadata.specs.Going.{GoesOn, only_others}
+use Rattle.md_metadata.specs.Storing.{HaltsAtWrite, IsNoFailure, LosesStoring}
+use Rattle.md_metadata.specs.StoringLists.{HasStoredList, list_events}
+use Rattle.md_passes.specs.Listed.{IsSourceOf, ListsFailed}
+use Rattle.md_copy.specs.declared.fault.RebuildFault.{RebuildFault}
+use Rattle.md_copy.specs.declared.fault.RebuildFault.TheVariants.{LogFull, MetadataFault, NoMemory}
+
+-- ---- in memory
+abbrev pub IsNoting : Event → Type 0
+IsNoting (Event.NoteBad k c) = Unit {0}
+IsNoting e = ⊥
+
+-- Of a member its list alone changed, if it is in sync, and else nothing. If it did, its log has room for it.
+pub record ChangesListAlone (m n : MemberView) : Type 0 where
+  pub same : n ≡ record m { bad = n.bad }
+  pub out : is_in_sync m.state ≡ false → n ≡ m
+  pub room : (n ≡ m) ⊎ HasRoomFor n.superblock n.bad
+
+-- the members in sync in the roles of these slots have room in their logs for their lists
+abbrev pub HaveRoom : List Slot → ArrayView → Type 0
+HaveRoom failed a = All (λ s. (k : ℕ) (m : MemberView) → IsMember a k m → is_in_sync_as s.source m.state ≡ true → HasRoomFor m.superblock m.bad) failed
+
+-- The chunks of these slots came to the lists of their sources. No device is used.
+pub record NotesLists (failed : List Slot) (old new : MirrorView) : Type 0 where
+  pub goes : GoesOn only_others only_others IsNoting old new
+  pub disks : new.disks ≡ old.disks
+  pub lists : ListsFailed failed old.array new.array
+  pub members : (k : ℕ) (m n : MemberView) → IsMember old.array k m → IsMember new.array k n → ChangesListAlone m n
+  pub others : new.array ≡ record old.array { members = new.array.members }
+  pub room : HaveRoom failed new.array
+
+-- why the slot's chunk is not listed: its source's log has no room for it, or memory was refused
+abbrev pub WhyNotNoted : Slot → ArrayView → RebuildFault → Type 0
+WhyNotNoted slot a (LogFull k) = IsSourceOf a k slot.source × HasFullLogFor k slot.chunk a
+WhyNotNoted slot a NoMemory = Unit {0}
+WhyNotNoted slot a fault = ⊥
+
+-- so it is of a slot, and all is as before
+pub record RefusesSlot (slot : Slot) (old new : MirrorView) (fault : RebuildFault) : Type 0 where
+  pub unchanged : new ≡ old
+  pub why : WhyNotNoted slot old.array fault
+
+-- The chunks of the first of these slots are listed, in memory alone, and that of the next is not.
+pub record StopsNoting (failed : List Slot) (old new : MirrorView) (fault : RebuildFault) : Type 0 where
+  pub taken : List Slot
+  pub next : Slot
+  pub rest : List Slot
+  pub slots : failed ≡ taken ++ next ∷ rest
+  pub notes : NotesLists taken old new
+  pub why : WhyNotNoted next new.array fault
+
+-- ---- on the devices
+-- a log is stored, the first sector of a bitmap, or a superblock; done or failed
+abbrev pub IsStoringList : Event → Type 0
+IsStoringList (Event.StoreLog k listed) = Unit {0}
+IsStoringList (Event.StoreLogFails k) = Unit {0}
+IsStoringList (Event.StoreMarks k b) = b ≡ 0
+IsStoringList (Event.StoreMarksFails k b) = b ≡ 0
+IsStoringList (Event.Record k) = Unit {0}
+IsStoringList (Event.RecordFails k) = Unit {0}
+IsStoringList e = ⊥
+
+-- these members' lists are stored, one after another, each with what it lists
+abbrev pub all_list_events : List (ℕ × (ℕ → Bool)) → List Event
+all_list_events [] = []
+all_list_events (l ∷ ls) = list_events l.0 l.1 ++ all_list_events ls
+
+-- some slot that failed is the member's
+abbrev pub HasFailed : List Slot → MemberView → Type 0
+HasFailed failed m = Any (λ s. is_in_sync_as s.source m.state ≡ true) failed
+
+-- At most the metadata of members in sync were written, and no other device was used.
+pub record WritesMetadata (old new : MirrorView) : Type 0 where
+  pub as_many : length new.disks ≡ length old.disks
+  pub others : (k : ℕ) → ((m : MemberView) → IsInSync old.array k m → ⊥) → slice_get new.disks k ≡ slice_get old.disks k
+  pub stays : (k : ℕ) → AtDevice k old.disks new.disks StaysHonest
+  pub size : (k : ℕ) → AtDevice k old.disks new.disks (λ d e. length e.content ≡ length d.content)
+  pub keeps : (k : ℕ) (m : MemberView) → IsMember old.array k m → AtDevice k old.disks new.disks (KeepsData m)
+
+-- a member's list is stored, if a slot of its own failed, and else it is as it was
+abbrev pub StoresIfFailed : List Slot → Bitmap → MemberView → MemberView → Type 0
+StoresIfFailed failed marks m n = (HasFailed failed m × HasStoredList marks m n) ⊎ ((HasFailed failed m → ⊥) × (n ≡ m))
+
+-- So of member k, and of no other.
+pub record StoresListIf (failed : List Slot) (k : ℕ) (old new : MirrorView) : Type 0 where
+  pub goes : GoesOn only_others only_others IsStoringList old new
+  pub unfailing : AllOf IsNoFailure goes.events
+  pub stored : List (ℕ × (ℕ → Bool))
+  pub events : goes.events ≡ all_list_events stored
+  pub member : (m n : MemberView) → IsMember old.array k m → IsMember new.array k n → StoresIfFailed failed old.array.marks m n
+  pub beside : (j : ℕ) → j ≢ k → slice_get new.array.members j ≡ slice_get old.array.members j
+  pub others : new.array ≡ record old.array { members = new.array.members }
+  pub recorded : AllInSync new.array IsNotDue
+  pub writes : WritesMetadata old new
+
+-- Each member of which a slot failed has its list stored. Nothing failed, and no superblock of a member in sync is due.
+pub record StoresLists (failed : List Slot) (old new : MirrorView) : Type 0 where
+  pub goes : GoesOn only_others only_others IsStoringList old new
+  pub unfailing : AllOf IsNoFailure goes.events
+  pub stored : List (ℕ × (ℕ → Bool))
+  pub events : goes.events ≡ all_list_events stored
+  pub members : (k : ℕ) (m n : MemberView) → IsMember old.array k m → IsMember new.array k n → StoresIfFailed failed old.array.marks m n
+  pub others : new.array ≡ record old.array { members = new.array.members }
+  pub recorded : AllInSync new.array IsNotDue
+  pub writes : WritesMetadata old new
+
+-- After lists were stored, and nothing failed, a write to member k failed. It is in sync, and no other member is, so that the mirror is halted.
+pub record HaltsAtList (k : ℕ) (old new : MirrorView) : Type 0 where
+  pub halts : HaltsAtWrite IsStoringList k old new
+  pub member : MemberView
+  pub in_sync : IsInSync new.array k member
+  pub alone : (j : ℕ) (n : MemberView) → IsInSync new.array j n → j ≡ k
+
+-- A member's list is as before, and its data are where they were. Of one that is not in sync nothing changed but that it may be due.
+pub record KeepsList (m n : MemberView) : Type 0 where
+  pub bad : n.bad ≡ m.bad
+  pub offset : n.superblock.data_offset ≡ m.superblock.data_offset
+  pub size : n.superblock.data_size ≡ m.superblock.data_size
+  pub out : is_in_sync m.state ≡ false → n ≡ record m { due = n.due }
+
+-- A write to member k failed, which a failed slot is of, and that was the end: it is faulty, or the mirror is halted.
+pub record StopsAtList (failed : List Slot) (k : ℕ) (old new : MirrorView) : Type 0 where
+  pub member : MemberView
+  pub was : IsInSync old.array k member
+  pub source : HasFailed failed member
+  pub ends : LosesStoring IsStoringList k old new ⊎ HaltsAtList k old new
+  pub members : (j : ℕ) (m n : MemberView) → IsMember old.array j m → IsMember new.array j n → KeepsList m n × (j ≢ k → n.state ≡ m.state)
+  pub writes : WritesMetadata old new
+
+abbrev pub StopsStoringLists : List Slot → MirrorView → MirrorView → RebuildFault → Type 0
+StopsStoringLists failed old new (MetadataFault k) = StopsAtList failed k old new
+StopsStoringLists failed old new fault = ⊥
+
+-- ---- both
+-- The chunks of these slots are listed and stored, and nothing failed.
+pub record ListsAll (failed : List Slot) (old new : MirrorView) : Type 0 where
+  pub noted : MirrorView
+  pub notes : NotesLists failed old noted
+  pub stores : StoresLists failed noted new
+  pub lists : ListsFailed failed old.array new.array
+  pub others : new.array ≡ record old.array { members = new.array.members }
+  pub out : (k : ℕ) (m n : MemberView) → IsMember old.array k m → IsMember new.array k n → is_in_sync m.state ≡ false → n ≡ m
+  pub writes : WritesMetadata old new
+
+-- They are not all listed: only in memory, or all are, and not all stored.
+abbrev pub StopsListing : List Slot → MirrorView → MirrorView → RebuildFault → Type 0
+StopsListing failed old new (LogFull k) = StopsNoting failed old new (LogFull k)
+StopsListing failed old new NoMemory = StopsNoting failed old new NoMemory
+StopsListing failed old new (MetadataFault k) = (noted : MirrorView) × NotesLists failed old noted × StopsAtList failed k noted new
+StopsListing failed old new fault = ⊥

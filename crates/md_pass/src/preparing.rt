@@ -1,0 +1,51 @@
+// What a pass takes memory for before a device leaves its list.
+ghost use Rattle.std.specs.Prelude.{◌≡◌, ◌≤◌, IfOk, length};
+ghost use Rattle.md_collect.specs.Collecting.{ArePlanned};
+ghost use Rattle.md_pass.specs.Preparing.{IsPreparedFor};
+
+use crate::places::places_in_turn;
+use crate::reading::Reading;
+use crate::readings::readings_of;
+use crate::source::Source;
+use md_bitmap::Chunks;
+use md_cert::{NoMemory, Plan};
+use md_collect::Collector;
+use std::alloc::Global;
+
+/// What a pass takes memory for before a device leaves its list.
+#[derive(Drop)]
+pub(crate) struct Preparation {
+    pub(crate) collector: Collector,
+    pub(crate) chunks: Chunks,
+    /// How many slots the plan has.
+    pub(crate) slots: u32,
+    /// What each source reads that has a slot.
+    pub(crate) readings: Vec<Reading>,
+    /// The places at which their devices leave the list, one after another.
+    pub(crate) places: Vec<usize>,
+}
+
+/// Makes ready what a plan needs for a target whose data start at sector `offset` of its device.
+pub(crate) fn prepare(
+    alloc: Global,
+    plan: &Plan,
+    chunks: Chunks,
+    sources: &[Source],
+    offset: u64,
+) -> Result<Preparation, NoMemory>
+    requires planned { ArePlanned chunks plan.now.slots }
+    ensures { IfOk result (IsPreparedFor plan.now.slots chunks offset sources.now) }
+{
+    let slots = plan.slots.as_slice();
+    let many = slots.len() as u32;
+    let collector = Collector::new(alloc, plan, chunks, offset)?;
+    let readings = readings_of(alloc, slots, sources, chunks)?;
+    let places = places_in_turn(alloc, readings.as_slice())?;
+    Ok(Preparation {
+        collector,
+        chunks,
+        slots: many,
+        readings,
+        places,
+    })
+}
