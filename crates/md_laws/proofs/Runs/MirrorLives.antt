@@ -478,7 +478,7 @@ life_keeps_out = at_each stops.KeepsOut always_out
 pub life_stays_out : AtEachMoment stops.StaysOut
 life_stays_out = at_each stops.StaysOut always_stays_out
 
-life_kept : AtEachMoment IsKept
+pub life_kept : AtEachMoment IsKept
 life_kept = at_each IsKept (always IsKept (λ g small opened h t. t))
 
 -- ---- what an opening finds
