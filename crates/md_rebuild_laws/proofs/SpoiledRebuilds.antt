@@ -38,7 +38,7 @@ use Rattle.md_copy.proofs.Readied.{spare_rebuilt}
 use Rattle.md_copy.proofs.RefusedLeads.{unfinished_of}
 use Rattle.md_copy.proofs.StoredFirst.{rebuilt_still}
 use Rattle.md_copy.proofs.TargetStates.{target_rebuilt}
-use Rattle.md_rebuild_laws.specs.StoppedRebuilds.{Anyhow, HasFilled, IsStopBefore, IsStopUnfinished, StopsAdmittingAnyhow, StopsCopying, StopsEnrollingAnyhow, StopsInListed, StopsInPass, StopsInPasses, StopsReadying, StopsRecordingAnyhow, StopsTelling, StopsUnadmittedAnyhow}
+use Rattle.md_rebuild_laws.specs.StoppedRebuilds.{Anyhow, HasFilled, IsStopBefore, IsStopUnfinished, StopsAdmittingAnyhow, StopsAtCheckpointAnyhow, StopsCopying, StopsEnrollingAnyhow, StopsInListed, StopsInPass, StopsInPasses, StopsReadying, StopsRecordingAnyhow, StopsTelling, StopsUnadmittedAnyhow}
 use Rattle.md_rebuild_laws.proofs.RebuildSteps.{Before, IfSome, if_some, listed_comes, so_last, un_listed, until_last}
 use Rattle.md_rebuild_laws.proofs.Steady.{Comes, IsSteadyAt, end, end_steady, steady_at}
 use Rattle.md_rebuild_laws.proofs.StoppedRebuilds.{after_stop, all_filled, before_admission, before_failure, before_stop, begun, first_done, listing_stop, pass_filling_stop, recovers_filled, recovers_made, so_begun, un_begun, until_filled, until_made}
@@ -170,14 +170,12 @@ pub passes_anyhow : (target : ℕ) (ps : List PassView) (chunks rest : List ℕ)
     → (new : MirrorView) (h : AreListedPasses target ps chunks rest before after t.mirror new) → IfSome ps (Unshifted t.mirror.array)
     → (left : List Disk) → StopsInPasses Anyhow target ps chunks rest before after t.mirror new h t.requests left → IsStopUnfinished target t left
 passes_anyhow target [] chunks rest before after t at so new h un left stop = absurd stop
-passes_anyhow target (p ∷ ps) chunks rest before after t at so new h un left stop = elim stop [
-  | inl here ↦ listed_anyhow target chunks p before h.0 t at so h.1 h.2 un left here
-  | inr later ↦
-      (let c = listed_comes target chunks p before h.0 t at so h.1 h.2 un in
-      later_anyhow target t c left
-      (passes_anyhow target ps (failed_chunks p) rest h.0 after (end c) (end_steady c at) (listed_holds target chunks p before h.0 t.mirror h.1 h.2 so) new h.3
-      (if_some ps (un_listed target chunks p before h.0 t at so h.1 h.2 un)) left later))
-]
+passes_anyhow target (p ∷ ps) chunks rest before after t at so new h un left (inl here) = listed_anyhow target chunks p before h.0 t at so h.1 h.2 un left here
+passes_anyhow target (p ∷ ps) chunks rest before after t at so new h un left (inr later) =
+    let c = listed_comes target chunks p before h.0 t at so h.1 h.2 un in
+    later_anyhow target t c left
+    (passes_anyhow target ps (failed_chunks p) rest h.0 after (end c) (end_steady c at) (listed_holds target chunks p before h.0 t.mirror h.1 h.2 so) new h.3
+    (if_some ps (un_listed target chunks p before h.0 t at so h.1 h.2 un)) left later)
 
 -- ---- within all of a rebuild until the target is filled, and while it comes into sync
 module _ (target : ℕ) (kept orphans : Bitmap) (t : Moment) (at : IsSteadyAt t) (filled : MirrorView) (h : HasFilled target kept orphans t.mirror filled) where
@@ -259,6 +257,10 @@ stops_recording_anyhow before m start es rest final t life target chunks copied 
     let at = steady_at before m start es rest final t life in
     let c = until_made target chunks copied after t at now made h p is in
     later_anyhow target t c left (offset_anyhow target (end c) (end_steady c at) (recovers_made target chunks copied after t at now made h p is) after new call left within)
+
+pub stops_at_checkpoint_anyhow : StopsAtCheckpointAnyhow
+stops_at_checkpoint_anyhow before m start es rest final t life target copied new call recovers left within =
+    offset_anyhow target t (steady_at before m start es rest final t life) recovers copied new call left within
 
 pub stops_enrolling_anyhow : StopsEnrollingAnyhow
 stops_enrolling_anyhow before m start es rest final t life target kept orphans filled new h r left within =

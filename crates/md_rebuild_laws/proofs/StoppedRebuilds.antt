@@ -16,8 +16,9 @@ use Rattle.md_state.specs.Requests.{AreInFlight}
 use Rattle.md_state.specs.View.{ArrayView, Disk, MirrorView}
 use Rattle.md_array.specs.Checkpoints.{Checkpoints, FailsToCheckpoint}
 use Rattle.md_array.specs.Enrolling.{Enrols, FailsToEnrol, MayEnrol}
+use Rattle.md_array.specs.Events.{Does}
 use Rattle.md_array.specs.Filling.{Fills}
-use Rattle.md_array.specs.InTurn.{AllLeftWhole, AllOf, Did, InTurn, IsInOrder, Requests}
+use Rattle.md_array.specs.InTurn.{AllLeftWhole, AllOf, Did, InTurn, IsInOrder, LeftWhole, Requests}
 use Rattle.md_array.specs.Worlds.{AreHonest, block_on}
 use Rattle.md_array.proofs.Rebuilding.InBetween.{recovers_rebuilt}
 use Rattle.md_array.proofs.Steps.Turns.{all_on, all_such}
@@ -50,7 +51,7 @@ use Rattle.md_copy.proofs.RebuildLeads.{begin_holds, filled, listing_before, sto
 use Rattle.md_copy.proofs.StoringKeeps.{due_within}
 use Rattle.md_copy.proofs.TargetStates.{target_rebuilt}
 use Rattle.md_copy.proofs.UnfinishedEnrol.{prepares}
-use Rattle.md_rebuild_laws.specs.StoppedRebuilds.{HasFilled, HasPassed, IsLeftWhole, IsStopAfter, IsStopBefore, IsSuperWhole, StopsAdmitting, StopsCopying, StopsEnrolling, StopsFilling, StopsFirst, StopsIn, StopsInListed, StopsInPass, StopsInPasses, StopsListing, StopsPassUnrecorded, StopsReadying, StopsRecording, StopsStoring, StopsUnadmitted, StopsUnenrolled, StopsUnrecorded}
+use Rattle.md_rebuild_laws.specs.StoppedRebuilds.{HasFilled, HasPassed, IsLeftWhole, IsStopAfter, IsStopBefore, IsSuperWhole, StopsAdmitting, StopsAtCheckpoint, StopsAtFailedCheckpoint, StopsCopying, StopsEnrolling, StopsFilling, StopsFirst, StopsIn, StopsInListed, StopsInPass, StopsInPasses, StopsListing, StopsPassUnrecorded, StopsReadying, StopsRecording, StopsStoring, StopsUnadmitted, StopsUnenrolled, StopsUnrecorded}
 use Rattle.md_rebuild_laws.proofs.RebuildSteps.{Before, ComesUnspoiled, IfSome, admission_comes, checkpoint_comes, checkpoint_unspoils, fill_comes, filled_comes, if_some, listed_comes, noted_comes, noting_comes, passes_come, ready_comes, recorded_comes, so_last, some_map, stored_comes, stores_come, then_unspoiled, un_listed, un_noted, unshifted_if, until_last, whole_stores}
 use Rattle.md_rebuild_laws.proofs.Steady.{Comes, IsSteadyAt, comes_by, comes_then, end, end_steady, steady_at}
 use Rattle.md_rebuild_laws.proofs.Unshifted.{Unshifted, unshifted_ready, whole_lists}
@@ -102,42 +103,43 @@ pub record StopsKeeping (Of : Event → Type 0) (t : Moment) (left : List Disk) 
   pub after : IsStopAfter Of t left
   pub keeps : StaysOut t.mirror.array after.at.mirror.array
 
-module _ (Of : Event → Type 0) (is : (e : Event) → Of e → IsOnMembers e) where
-  pub stops_in : (es : List Event) (previous : Option Event) (t : Moment) (Then : MirrorView → Requests → Type 0) (turn : InTurn previous t.mirror t.requests es Then) → AllOf Of es → AreHonest t.mirror.disks
-      → AllLeftWhole es previous t.mirror t.requests Then turn → (left : List Disk) → StopsIn es previous t.mirror t.requests Then turn left → StopsKeeping Of t left
-  stops_in [] previous t Then turn of honest whole left stop = absurd stop
-  stops_in (e ∷ es) previous t Then turn of honest whole left stop =
-      let does = turn.4 honest whole.0 in
-      let next = then_as t e turn.0 turn.1 in
-      let calm = calm_of e (is e of.0) in
-      let stays = stays_all calm.0 (e ∷ []) previous t.mirror turn.0 t.requests turn.1 (is e of.0, tt) (calm.1, tt) (turn.0, turn.1, turn.2, turn.3, turn.4, (refl, refl)) in
-      let keeps : StaysOut t.mirror.array turn.0.array = λ i y on. (let x = stays.each i y on in (x.0, x.1)) in
-      elim stop [
-        | inl here ↦
-            elim (within_storing e previous t turn.0 turn.1 (is e of.0) turn.2 turn.3 honest left here.0 here.1) [
-              | inl is_left ↦ record {
-                after = record { events = []; steps = tt; at = t; run = at_rest t; is_left = is_left };
-                keeps = λ i y on. (y, on);
-              }
-              | inr done ↦ record {
-                after = record {
-                  events = e ∷ [];
-                  steps = (of.0, tt);
-                  at = next;
-                  run = (turn.0, turn.1, at_once t.mirror turn.0 t.requests turn.1 e does, at_rest next);
-                  is_left = inl done;
-                };
-                keeps = keeps;
-              }
-            ]
-        | inr later ↦
-            (let rest = stops_in es (Some e) next Then turn.5 of.1 does.honest whole.1 left later in
-            let x = rest.after in
-            record {
-              after = record { events = e ∷ x.events; steps = (of.0, x.steps); at = x.at; run = (turn.0, turn.1, at_once t.mirror turn.0 t.requests turn.1 e does, x.run); is_left = x.is_left };
-              keeps = out_then t.mirror.array turn.0.array x.at.mirror.array keeps rest.keeps;
-            })
-      ]
+keeps_event : (e : Event) (previous : Option Event) (t : Moment) (mid : MirrorView) (between : Requests) → IsOnMembers e → IsInOrder previous t.mirror.array e → Did t.mirror t.requests e mid between
+    → (AreHonest t.mirror.disks → LeftWhole t.mirror e mid → Does t.mirror t.requests e mid between) → StaysOut t.mirror.array mid.array
+keeps_event e previous t mid between of order did happens i y on =
+    let calm = calm_of e of in
+    let stays = stays_all calm.0 (e ∷ []) previous t.mirror mid t.requests between (of, tt) (calm.1, tt) (mid, between, order, did, happens, (refl, refl)) in
+    let x = stays.each i y on in
+    (x.0, x.1)
+
+module _ (Of : Event → Type 0) (e : Event) (of : Of e) (t : Moment) (mid : MirrorView) (between : Requests) (does : Does t.mirror t.requests e mid between) (keeps : StaysOut t.mirror.array mid.array) where
+  abbrev next : Moment
+  next = then_as t e mid between
+
+  stops_here : (left : List Disk) → IsLeft t left ⊎ (contents_of left ≡ contents_of mid.disks) → StopsKeeping Of t left
+  stops_here left (inl is_left) = record { after = record { events = []; steps = tt; at = t; run = at_rest t; is_left = is_left }; keeps = λ i y on. (y, on) }
+  stops_here left (inr done) = record {
+    after = record { events = e ∷ []; steps = (of, tt); at = next; run = (mid, between, at_once t.mirror mid t.requests between e does, at_rest next); is_left = inl done };
+    keeps = keeps;
+  }
+
+  stops_later : (left : List Disk) → StopsKeeping Of next left → StopsKeeping Of t left
+  stops_later left rest =
+      let x = rest.after in
+      record {
+        after = record { events = e ∷ x.events; steps = (of, x.steps); at = x.at; run = (mid, between, at_once t.mirror mid t.requests between e does, x.run); is_left = x.is_left };
+        keeps = out_then t.mirror.array mid.array x.at.mirror.array keeps rest.keeps;
+      }
+
+pub stops_in : (Of : Event → Type 0) → ((e : Event) → Of e → IsOnMembers e) → (es : List Event) (previous : Option Event) (t : Moment) (Then : MirrorView → Requests → Type 0) (turn : InTurn previous t.mirror t.requests es Then)
+    → AllOf Of es → AreHonest t.mirror.disks → AllLeftWhole es previous t.mirror t.requests Then turn → (left : List Disk) → StopsIn es previous t.mirror t.requests Then turn left → StopsKeeping Of t left
+stops_in Of is [] previous t Then turn of honest whole left stop = absurd stop
+stops_in Of is (e ∷ es) previous t Then turn of honest whole left (inl here) =
+    stops_here Of e of.0 t turn.0 turn.1 (turn.4 honest whole.0) (keeps_event e previous t turn.0 turn.1 (is e of.0) turn.2 turn.3 turn.4) left
+    (within_storing e previous t turn.0 turn.1 (is e of.0) turn.2 turn.3 honest left here.0 here.1)
+stops_in Of is (e ∷ es) previous t Then turn of honest whole left (inr later) =
+    let does = turn.4 honest whole.0 in
+    stops_later Of e of.0 t turn.0 turn.1 does (keeps_event e previous t turn.0 turn.1 (is e of.0) turn.2 turn.3 turn.4) left
+    (stops_in Of is es (Some e) (then_as t e turn.0 turn.1) Then turn.5 of.1 does.honest whole.1 left later)
 
 pub on_members : (e : Event) → IsStoring e → IsOnMembers e
 on_members (Event.Record k) of = tt
@@ -439,14 +441,12 @@ pub passes_stop : (target : ℕ) (ps : List PassView) (chunks rest : List ℕ) (
     → (new : MirrorView) (h : AreListedPasses target ps chunks rest before after t.mirror new) → IfSome ps (Unshifted t.mirror.array)
     → (left : List Disk) → StopsInPasses IsSuperWhole target ps chunks rest before after t.mirror new h t.requests left → IsStopBefore target t left
 passes_stop target [] chunks rest before after t at so new h un left stop = absurd stop
-passes_stop target (p ∷ ps) chunks rest before after t at so new h un left stop = elim stop [
-  | inl here ↦ listed_stop target chunks p before h.0 t at so h.1 h.2 un left here
-  | inr later ↦
-      (let c = listed_comes target chunks p before h.0 t at so h.1 h.2 un in
-      later_stop target t c left
-      (passes_stop target ps (failed_chunks p) rest h.0 after (end c) (end_steady c at) (listed_holds target chunks p before h.0 t.mirror h.1 h.2 so) new h.3
-      (if_some ps (un_listed target chunks p before h.0 t at so h.1 h.2 un)) left later))
-]
+passes_stop target (p ∷ ps) chunks rest before after t at so new h un left (inl here) = listed_stop target chunks p before h.0 t at so h.1 h.2 un left here
+passes_stop target (p ∷ ps) chunks rest before after t at so new h un left (inr later) =
+    let c = listed_comes target chunks p before h.0 t at so h.1 h.2 un in
+    later_stop target t c left
+    (passes_stop target ps (failed_chunks p) rest h.0 after (end c) (end_steady c at) (listed_holds target chunks p before h.0 t.mirror h.1 h.2 so) new h.3
+    (if_some ps (un_listed target chunks p before h.0 t at so h.1 h.2 un)) left later)
 
 module _ (target : ℕ) (m : MemberView) (passes : List PassView) (before after : Bitmap) (t : Moment) (at : IsSteadyAt t) (so : HoldsSoFar target t.mirror before (missing_chunks t.mirror.array m)) (new : MirrorView)
     (h : CopiesAll target m passes before after t.mirror new) (un : IfSome h.listed (Unshifted t.mirror.array)) where
@@ -586,6 +586,14 @@ stops_pass_unrecorded before m start es rest final t life target chunks copied a
     let at = steady_at before m start es rest final t life in
     let c = until_made target chunks copied after t at now made h p is in
     later_stop target t c left (unrecorded_offset_stop target (end c) (end_steady c at) (recovers_made target chunks copied after t at now made h p is) after new f left within same)
+
+pub stops_at_checkpoint : StopsAtCheckpoint
+stops_at_checkpoint before m start es rest final t life target copied new r left within super =
+    recording_stop target t (steady_at before m start es rest final t life) (λ n there. ap (λ (x : MemberView). is_recovering x.state) (same_Some n r.may.member (sym there ∙ r.may.at)) ∙ r.may.recovering) copied new r left within super
+
+pub stops_at_failed_checkpoint : StopsAtFailedCheckpoint
+stops_at_failed_checkpoint before m start es rest final t life target copied new f recovers left within same =
+    unrecorded_offset_stop target t (steady_at before m start es rest final t life) recovers copied new f left within same
 
 pub stops_listing : StopsListing
 stops_listing before m start es rest final t life target chunks copied after now recorded noted last h p is notes g in_flight whole left stop =

@@ -2,7 +2,7 @@
 -- step's own contract says what may be left.
 use Rattle.std.specs.Prelude.{◌≡◌, ◌⊎◌, ℕ, true, false, List, [], ◌∷◌, Option, Some, None}
 use Rattle.std.proofs.Common.{inl, inr}
-use Rattle.md_assembly.specs.States.{is_in_sync}
+use Rattle.md_assembly.specs.States.{is_in_sync, is_recovering}
 use Rattle.md_bitmap.specs.Marks.{Bitmap}
 use Rattle.md_kept_members.specs.View.{MemberView}
 use Rattle.md_model.specs.Content.{Content}
@@ -166,6 +166,21 @@ StopsPassUnrecorded =
     → (left : List Disk) → MayAllBeLeft filled.disks new.disks (contents_of left) → AtDevice target filled.disks left (λ d e. block_on e.content ≡ block_on d.content)
     → IsStopBefore target t left))
 
+-- Wherever a life has come to, as where a rebuild ends with a fault, it is recorded of a member that is recovering how far it is rebuilt.
+abbrev pub StopsAtCheckpoint : Type 0
+StopsAtCheckpoint =
+    AtMoments (λ t.
+    ((target : ℕ) (copied : Bitmap) (new : MirrorView) → Checkpoints target copied t.mirror new
+    → (left : List Disk) → MayAllBeLeft t.mirror.disks new.disks (contents_of left) → IsSuperWhole target t.mirror new left → IsStopBefore target t left))
+
+-- or that fails
+abbrev pub StopsAtFailedCheckpoint : Type 0
+StopsAtFailedCheckpoint =
+    AtMoments (λ t.
+    ((target : ℕ) (copied : Bitmap) (new : MirrorView) → FailsToCheckpoint target copied t.mirror new → ((m : MemberView) → IsMember t.mirror.array target m → is_recovering m.state ≡ true)
+    → (left : List Disk) → MayAllBeLeft t.mirror.disks new.disks (contents_of left) → AtDevice target t.mirror.disks left (λ d e. block_on e.content ≡ block_on d.content)
+    → IsStopBefore target t left))
+
 -- While the lists of sources are stored: by these events, of which some may have failed. Each log is one that was read without a shift, or stored
 -- since, and each superblock that failed left the old one, the new one or none (`AllLeftWhole`).
 abbrev pub StopsListing : Type 0
@@ -255,6 +270,14 @@ StopsRecordingAnyhow =
     ((target : ℕ) (chunks : List ℕ) (copied after : Bitmap) (now filled new : MirrorView) → HasPassed target chunks copied t.mirror now
     → (p : PassView) → MakesPass target chunks p copied after now filled → Checkpoints target after filled new ⊎ FailsToCheckpoint target after filled new
     → (left : List Disk) → MayAllBeLeft filled.disks new.disks (contents_of left) → IsStopUnfinished target t left))
+
+-- so wherever a life has come to
+abbrev pub StopsAtCheckpointAnyhow : Type 0
+StopsAtCheckpointAnyhow =
+    AtMoments (λ t.
+    ((target : ℕ) (copied : Bitmap) (new : MirrorView) → Checkpoints target copied t.mirror new ⊎ FailsToCheckpoint target copied t.mirror new
+    → ((m : MemberView) → IsMember t.mirror.array target m → is_recovering m.state ≡ true)
+    → (left : List Disk) → MayAllBeLeft t.mirror.disks new.disks (contents_of left) → IsStopUnfinished target t left))
 
 -- while it comes into sync
 abbrev pub StopsEnrollingAnyhow : Type 0

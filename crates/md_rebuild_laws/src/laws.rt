@@ -2,7 +2,7 @@
 
 ghost use Rattle.md_rebuild_laws.specs.RebuildRuns.{RebuildIsARun, RebuildRunsOn};
 ghost use Rattle.md_rebuild_laws.specs.RebuiltInLife.{CopiesContent, HeldInLives, NewHadNothing, RebuildsContent, RebuildsResumed, RecoveringHeldIt, TakenBackHeldIt};
-ghost use Rattle.md_rebuild_laws.specs.StoppedRebuilds.{StopsAdmitting, StopsAdmittingAnyhow, StopsAnyhow, StopsEnrolled, StopsEnrolling, StopsEnrollingAnyhow, StopsFilling, StopsInRebuild, StopsListing, StopsPassUnrecorded, StopsRecording, StopsRecordingAnyhow, StopsSettling, StopsStoring, StopsTelling, StopsUnadmitted, StopsUnadmittedAnyhow, StopsUnenrolled, StopsUnrecorded};
+ghost use Rattle.md_rebuild_laws.specs.StoppedRebuilds.{StopsAdmitting, StopsAdmittingAnyhow, StopsAnyhow, StopsAtCheckpoint, StopsAtCheckpointAnyhow, StopsAtFailedCheckpoint, StopsEnrolled, StopsEnrolling, StopsEnrollingAnyhow, StopsFilling, StopsInRebuild, StopsListing, StopsPassUnrecorded, StopsRecording, StopsRecordingAnyhow, StopsSettling, StopsStoring, StopsTelling, StopsUnadmitted, StopsUnadmittedAnyhow, StopsUnenrolled, StopsUnrecorded};
 
 /// A mirror was opened from devices that do what they answer, whose stored marks covered what they differ in,
 /// and has come to any moment of its life. A rebuild then gives the new member the content that the life has
@@ -44,6 +44,8 @@ pub fn stopped_rebuilds()
     ensures filling { StopsFilling }
     ensures recording { StopsRecording }
     ensures pass_unrecorded { StopsPassUnrecorded }
+    ensures checkpoint { StopsAtCheckpoint }
+    ensures failed_checkpoint { StopsAtFailedCheckpoint }
     ensures listing { StopsListing }
     ensures enrolling { StopsEnrolling }
     ensures unenrolled { StopsUnenrolled }
@@ -55,6 +57,7 @@ pub fn stopped_rebuilds()
     ensures admitting_anyhow { StopsAdmittingAnyhow }
     ensures unadmitted_anyhow { StopsUnadmittedAnyhow }
     ensures recording_anyhow { StopsRecordingAnyhow }
+    ensures checkpoint_anyhow { StopsAtCheckpointAnyhow }
     ensures enrolling_anyhow { StopsEnrollingAnyhow }
 
     // So of a rebuild that is done, whenever the stop came.
