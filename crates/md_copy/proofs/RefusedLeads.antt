@@ -397,7 +397,7 @@ module _ (target : ℕ) where
   refused_leads old new sound after (InFlight number) h asks = none old new sound h.unchanged
   refused_leads old new sound after EventsFull h asks = none old new sound h.unchanged
   refused_leads old new sound after (MetadataFault k) (inl h) asks = stops k old new sound h.why
-  refused_leads old new sound after (MetadataFault k) (inr (inl h)) asks = left_leads old h.why.stopped new (stops_admitted k old h.why.stopped h.why.why) h.why.leaves after
+  refused_leads old new sound after (MetadataFault k) (inr (inl h)) asks = stops_there old new (stops_admitted k old new h.why)
   refused_leads old new sound after (MetadataFault k) (inr (inr h)) asks =
       let Why = λ m none ready. LosesSource k target m none ready h.stopped in
       left_leads old h.stopped new (lost_stops h.why.begins.now h.why.none old h.why.ready (opening old Why h.why) (opens old Why h.why) (holds old Why h.why) k h.stopped h.why.why) h.leaves after

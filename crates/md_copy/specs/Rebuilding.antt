@@ -140,7 +140,8 @@ pub record EndsReadied (target : ℕ) (old : MirrorView) (Why : MemberView → B
 abbrev pub LacksMemoryFirst : MirrorView → MirrorView → Type 0
 LacksMemoryFirst old new = (new ≡ old) ⊎ StoresFirst old new
 
--- Once the target is recovering, how far it is rebuilt is recorded before the fault is answered, but where the target could not be written.
+-- Once passes may be made, how far the target is rebuilt is recorded before the fault is answered, but where the target could not be written. Before
+-- that nothing is copied, and it is not.
 abbrev pub RefusesRebuild : ℕ → MirrorView → MirrorView → RebuildFault → Type 0
 RefusesRebuild target old new Halted = RefusesAtOnce target Halted old new
 RefusesRebuild target old new NotSpare = RefusesAtOnce target NotSpare old new
@@ -149,7 +150,7 @@ RefusesRebuild target old new (InFlight number) = RefusesAtOnce target (InFlight
 RefusesRebuild target old new EventsFull = RefusesAtOnce target EventsFull old new
 RefusesRebuild target old new (MetadataFault k) =
     EndsStoring target old (StopsAt target k old new)
-    ⊎ (EndsStoring target old (LeavesAfter target (StopsAdmitted target k old) new)
+    ⊎ (EndsStoring target old (StopsAdmitted target k old new)
     ⊎ LeavesAfter target (λ stopped. EndsReadied target old (λ m none ready. LosesSource k target m none ready stopped)) new)
 RefusesRebuild target old new TargetFault =
     EndsStoring target old (FailsOnTarget target old new)

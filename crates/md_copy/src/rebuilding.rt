@@ -49,7 +49,7 @@ pub fn rebuild<D: Device + Drop + Send, G: Gate + Sync, R: Threads + Wait + Sync
         Ok(copied) => copied,
         Err(_) => return Err(RebuildFault::NoMemory),
     };
-    if let Err(fault) = make_ready(alloc, mirror, target, &mut copied) {
+    if let Err(fault) = make_ready(alloc, mirror, target) {
         return Err(fault);
     }
     match rebuild_readied(rt, alloc, mirror, target, gate, &mut copied) {
