@@ -399,17 +399,17 @@ module _ (target : ℕ) where
   refused_leads old new sound after (MetadataFault k) (inl h) asks = stops k old new sound h.why
   refused_leads old new sound after (MetadataFault k) (inr (inl h)) asks = stops_there old new (stops_admitted k old new h.why)
   refused_leads old new sound after (MetadataFault k) (inr (inr h)) asks =
-      let Why = λ m none ready. LosesSource k target m none ready h.stopped in
+      let Why : MemberView → Bitmap → MirrorView → Type 0 = λ m none ready. LosesSource k target m none ready h.stopped in
       left_leads old h.stopped new (lost_stops h.why.begins.now h.why.none old h.why.ready (opening old Why h.why) (opens old Why h.why) (holds old Why h.why) k h.stopped h.why.why) h.leaves after
   refused_leads old new sound after TargetFault (inl h) asks = unrecorded old new h
   refused_leads old new sound after TargetFault (inr (inl h)) asks = unadmitted old new h.why
   refused_leads old new sound after TargetFault (inr (inr h)) asks =
-      let Why = λ m none ready. LosesTarget target m none ready new in
+      let Why : MemberView → Bitmap → MirrorView → Type 0 = λ m none ready. LosesTarget target m none ready new in
       loses_target h.begins.now h.none old h.ready (opening old Why h) (opens old Why h) (holds old Why h) new h.why asks after
   refused_leads old new sound after NoMemory (inl h) asks = elim h.why [ inl same ↦ none old new sound same | inr first ↦ leads_there old new (storing_leads target old new first.stores.goes) ]
   refused_leads old new sound after NoMemory (inr h) asks =
-      let Why = λ m none ready. LacksMemory target m none ready h.stopped in
+      let Why : MemberView → Bitmap → MirrorView → Type 0 = λ m none ready. LacksMemory target m none ready h.stopped in
       left_there old h.stopped new (lacks_memory h.why.begins.now h.why.none old h.why.ready (opening old Why h.why) (opens old Why h.why) (holds old Why h.why) h.stopped h.why.why) h.leaves after
   refused_leads old new sound after (LogFull k) h asks =
-      let Why = λ m none ready. LacksRoom k target m none ready h.stopped in
+      let Why : MemberView → Bitmap → MirrorView → Type 0 = λ m none ready. LacksRoom k target m none ready h.stopped in
       left_there old h.stopped new (lacks_room h.why.begins.now h.why.none old h.why.ready (opening old Why h.why) (opens old Why h.why) (holds old Why h.why) k h.stopped h.why.why) h.leaves after
