@@ -75,7 +75,7 @@ fn rebuild_readied<D: Device + Drop + Send, G: Gate + Sync, R: Threads + Wait + 
     requires none { IsSetOf mirror.old.array (λ c. false) copied.old }
     ensures gives { (m : MemberView) → IsMember mirror.old.array target m → MatchResult result
         (RebuildsReadied target m copied.old mirror.old mirror.new)
-        (StopsReadied target m copied.old mirror.old mirror.new) }
+        (StopsReadied target m copied.old copied.new mirror.old mirror.new) }
     ensures leaves { IfErr result (MayLeave target copied.new mirror.new) }
     ensures sound { IsConsistent mirror.new }
 {
