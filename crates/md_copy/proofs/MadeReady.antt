@@ -1,6 +1,7 @@
 -- A rebuild is readied, step by step.
 use Rattle.std.proofs.Common.{◌≡◌, ◌∙◌, ℕ, ◌<◌, true, false, length, sym, ap, subst, arith, inl, inr}
 use Rattle.std.proofs.lemmas.Bool.{both_ways}
+use Rattle.std.proofs.lemmas.Option.{slice_get_within}
 use Rattle.md_assembly.proofs.Indices.{got_within}
 use Rattle.md_assembly.specs.States.{is_spare}
 use Rattle.md_kept_members.specs.TakingBack.{admitted_member}
@@ -82,7 +83,14 @@ module _ (target : ℕ) (old : MirrorView) (within : target < length old.array.m
       refused_admission new sound Dirty h = absurd h
       refused_admission new sound (InFlight n) h = absurd h
       refused_admission new sound (LogFull k) h = absurd h
-      refused_admission new sound NoMemory h = subst (StoresFirst old) (sym h) first
+      refused_admission new sound NoMemory h = record {
+        first = subst (StoresFirst old) (sym h) first;
+        spare = λ m at.
+            (let low = slice_get_within old.array.members target m at in
+            let many = first.stores.goes.array.as_many in
+            let n = got_within stored.array.members target (omega (arith, low, many)) in
+            sym (state_is m n.0 at n.1) ∙ spare n.0 n.1);
+      }
       refused_admission new sound TargetFault h = inr (record { stored = stored; first = first; fails = h; spare = spare h.may.member h.may.at; sound = sound })
       refused_admission new sound (MetadataFault k) h = absurd h
       refused_admission new sound EventsFull h = absurd h

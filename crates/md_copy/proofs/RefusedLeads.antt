@@ -408,7 +408,7 @@ module _ (target : ℕ) where
   refused_leads old new sound after TargetFault (inr (inr h)) asks =
       let Why : MemberView → Bitmap → MirrorView → Type 0 = λ m none ready. LosesTarget target m none ready new in
       loses_target h.begins.now h.none old h.ready (opening old Why h) (opens old Why h) (holds old Why h) new h.why asks after
-  refused_leads old new sound after NoMemory (inl h) asks = elim h.why [ inl same ↦ none old new sound same | inr first ↦ leads_there old new (storing_leads target old new first.stores.goes) ]
+  refused_leads old new sound after NoMemory (inl h) asks = elim h.why [ inl same ↦ none old new sound same | inr lacks ↦ leads_there old new (storing_leads target old new lacks.first.stores.goes) ]
   refused_leads old new sound after NoMemory (inr h) asks =
       let Why : MemberView → Bitmap → MirrorView → Type 0 = λ m none ready. LacksMemory target m none h.copied ready h.stopped in
       left_there h.copied old h.stopped new (lacks_memory h.why.begins.now h.why.none old h.why.ready (opening old Why h.why) (opens old Why h.why) (holds old Why h.why) h.copied h.stopped h.why.why) h.leaves after

@@ -2,6 +2,7 @@
 use Rattle.std.specs.Prelude.{◌≡◌, ◌⊎◌, ℕ, true}
 use Rattle.md_assembly.specs.States.{is_recovering, is_spare}
 use Rattle.md_kept_members.specs.View.{MemberView}
+use Rattle.md_state.specs.Members.{IsMember}
 use Rattle.md_state.specs.View.{MirrorView}
 use Rattle.md_array.specs.Admitting.{Admits, FailsToAdmit}
 use Rattle.md_array.specs.Consistency.{IsConsistent}
@@ -49,9 +50,13 @@ pub record StopsAdmitted (target k : ℕ) (old new : MirrorView) : Type 0 where
   pub after : AdmitsAfter target old admitted
   pub stops : StopsAt target k admitted new
 
--- Where memory was refused for the admission, what was due is stored.
+-- Memory was refused for the admission of a spare. What was due is stored.
+pub record LacksAdmission (target : ℕ) (old new : MirrorView) : Type 0 where
+  pub first : StoresFirst old new
+  pub spare : (m : MemberView) → IsMember old.array target m → is_spare m.state ≡ true
+
 abbrev pub RefusesReady : ℕ → MirrorView → MirrorView → RebuildFault → Type 0
 RefusesReady target old new (MetadataFault k) = StopsAt target k old new ⊎ StopsAdmitted target k old new
 RefusesReady target old new TargetFault = FailsOnTarget target old new ⊎ FailsAdmission target old new
-RefusesReady target old new NoMemory = StoresFirst old new
+RefusesReady target old new NoMemory = LacksAdmission target old new
 RefusesReady target old new fault = ⊥

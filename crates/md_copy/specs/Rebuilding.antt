@@ -16,8 +16,8 @@ use Rattle.md_copy.specs.Enrolled.{HasNoRoom, HasSets}
 use Rattle.md_copy.specs.Leaving.{HasNone, LeavesAfter}
 use Rattle.md_copy.specs.Passing.{BreaksOff, CopiesAll, EndsBetween, FailsListing, FailsRecording}
 use Rattle.md_copy.specs.Preparing.{IsSetOf, Tells, uncopied_chunks}
-use Rattle.md_copy.specs.Readying.{FailsAdmission, Readies, StopsAdmitted}
-use Rattle.md_copy.specs.Storing.{FailsOnTarget, Settles, StopsAt, StoresFirst}
+use Rattle.md_copy.specs.Readying.{FailsAdmission, LacksAdmission, Readies, StopsAdmitted}
+use Rattle.md_copy.specs.Storing.{FailsOnTarget, Settles, StopsAt}
 
 -- It was checked, what is due is stored, and a spare is admitted. No chunk is copied yet.
 pub record Begins (target : ℕ) (old ready : MirrorView) (none : Bitmap) : Type 0 where
@@ -137,8 +137,8 @@ pub record EndsReadied (target : ℕ) (old : MirrorView) (Why : MemberView → B
   pub why : Why begins.now none ready
 
 -- Memory was refused for the set of the chunks, so that nothing was done; or for the admission of a spare.
-abbrev pub LacksMemoryFirst : MirrorView → MirrorView → Type 0
-LacksMemoryFirst old new = (new ≡ old) ⊎ StoresFirst old new
+abbrev pub LacksMemoryFirst : ℕ → MirrorView → MirrorView → Type 0
+LacksMemoryFirst target old new = (new ≡ old) ⊎ LacksAdmission target old new
 
 -- Once passes may be made, how far the target is rebuilt is recorded before the fault is answered, but where the target could not be written. Before
 -- that nothing is copied, and it is not.
@@ -157,7 +157,7 @@ RefusesRebuild target old new TargetFault =
     ⊎ (EndsStoring target old (FailsAdmission target old new)
     ⊎ EndsReadied target old (λ m none ready. LosesTarget target m none ready new))
 RefusesRebuild target old new NoMemory =
-    EndsStoring target old (LacksMemoryFirst old new)
+    EndsStoring target old (LacksMemoryFirst target old new)
     ⊎ LeavesAfter target (λ copied stopped. EndsReadied target old (λ m none ready. LacksMemory target m none copied ready stopped)) new
 RefusesRebuild target old new (LogFull k) =
     LeavesAfter target (λ copied stopped. EndsReadied target old (λ m none ready. LacksRoom k target m none copied ready stopped)) new
