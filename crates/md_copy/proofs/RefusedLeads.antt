@@ -5,7 +5,7 @@ use Rattle.std.proofs.lemmas.List.{append-nil}
 use Rattle.std.proofs.lemmas.Option.{same_Some}
 use Rattle.md_assembly.specs.States.{is_in_sync, is_recovering}
 use Rattle.md_bitmap.specs.Marks.{Bitmap}
-use Rattle.md_kept_members.specs.TakingBack.{admitted_member}
+use Rattle.md_kept_members.specs.TakingBack.{admitted_member, with_offset}
 use Rattle.md_kept_members.specs.View.{MemberView}
 use Rattle.md_model.specs.Events.{Event}
 use Rattle.md_passes.specs.Listed.{IsArrayPass}
@@ -25,6 +25,7 @@ use Rattle.md_array.specs.Spoiling.{SpoilsTarget}
 use Rattle.md_array.proofs.Rebuilding.AdmitAnswered.{admit_spoils}
 use Rattle.md_array.proofs.Rebuilding.CheckpointAnswered.{checkpoint_spoils}
 use Rattle.md_array.proofs.Rebuilding.EnrolSpoils.{unenrol_leads}
+use Rattle.md_array.proofs.Rebuilding.InBetween.{recovers_rebuilt}
 use Rattle.md_array.proofs.Rebuilding.PreparedEvent.{prepare_happens}
 use Rattle.md_array.proofs.Rebuilding.SpoiledEvent.{spoil_happens}
 use Rattle.md_array.proofs.Rebuilding.TargetEvent.{target_fails_happens}
@@ -36,7 +37,7 @@ use Rattle.md_copy.specs.Filling.{IsFilling}
 use Rattle.md_copy.specs.Leaving.{Leaves, LeavesAfter}
 use Rattle.md_copy.specs.Listing.{StopsAtList, StopsNoting}
 use Rattle.md_copy.specs.Passing.{BreaksOff, CopiesAll, EndsBetween, FailsListing, FailsRecording}
-use Rattle.md_copy.specs.RebuildEvents.{AsksOfEnrol, AsksOfFailure, FailsAtMarks, HaltsIn, IsBeforeEnrol, IsListOfUnfinished, IsOfUnfinished, LeadsUnadmitted, LeadsUnfinished}
+use Rattle.md_copy.specs.RebuildEvents.{AsksOfEnrol, AsksOfFailure, FailsAfterPass, FailsAtMarks, FailsCheckpoint, FailsLeaving, HaltsIn, IsBeforeEnrol, IsListOfUnfinished, IsOfUnfinished, LeadsUnadmitted, LeadsUnfinished, LeadsUnrecorded}
 use Rattle.md_copy.specs.Rebuilding.{EndsCopied, EndsFilled, EndsReadied, EndsStoring, FillsBy, LacksMemory, LacksRoom, LosesSource, LosesTarget, RefusesRebuild}
 use Rattle.md_copy.specs.Enrolled.{HasNoRoom}
 use Rattle.md_copy.specs.Ready.{IsReady}
@@ -149,6 +150,25 @@ module _ (target : ℕ) where
   left_leads copied old stopped new h left sound = elim h [
     | inl c ↦ left_there copied old stopped new c left sound
     | inr e ↦ subst (LeadsUnfinished target old) (sym (same_left copied stopped new left e.halted)) (leads_halted old e.last stopped e.leads e.halts)
+  ]
+
+  -- the write failed by which it was to be recorded
+  unrecorded_by : {es : List Event} (copied : Bitmap) (old mid new : MirrorView) → LeadsIn (Before target) es old mid → (f : FailsToCheckpoint target copied mid new) → is_recovering f.member.state ≡ true
+      → LeadsUnrecorded target old new
+  unrecorded_by {es} copied old mid new g f recovers = record {
+    copied = copied;
+    mid = mid;
+    leads = leads_by g;
+    fails = f;
+    event = left_happens target mid new g.sound f.running f.member f.at (recovers_rebuilt f.member.state recovers) f.array mid.array.shared (with_offset f.offset f.member).superblock f.readable f.disks;
+  }
+
+  left_unrecorded : (copied : Bitmap) (old stopped new : MirrorView) → StopsSo old stopped → (left : Leaves target copied stopped new) → FailsLeaving left → LeadsUnrecorded target old new
+  left_unrecorded copied old stopped new h (inl same) fails = absurd fails
+  left_unrecorded copied old stopped new h (inr (inl r)) fails = absurd fails
+  left_unrecorded copied old stopped new h (inr (inr f)) fails = elim h [
+    | inl c ↦ unrecorded_by copied old stopped new c.leads f (c.recovers f.running f.member f.at)
+    | inr e ↦ absurd (both_ways stopped.array.halted f.running e.halted)
   ]
 
   -- as it stopped it is told
@@ -342,6 +362,14 @@ module _ (target : ℕ) where
         let c = then_fills (λ left copied now. FailsRecording target left copied now new) e f.pass n f.makes.at f.filled f.makes.is f.makes.copies.filling f.makes.sound in
         leads_spoiled old f.filled new c.leads (checkpoint_spoils target f.after f.filled new f.makes.sound f.fails (c.recovers f.fails.running f.fails.member f.fails.at)) after
 
+    pass_unrecorded : (new : MirrorView) (h : LosesTarget target m none ready new) → FailsAfterPass h → LeadsUnrecorded target old new
+    pass_unrecorded new (inl e) fails = absurd fails
+    pass_unrecorded new (inr (inl e)) fails =
+        let f = e.why in
+        let c = then_fills (λ left copied now. FailsRecording target left copied now new) e f.pass f.makes.member f.makes.at f.filled f.makes.is f.makes.copies.filling f.makes.sound in
+        unrecorded_by f.after old f.filled new c.leads f.fails (c.recovers f.fails.running f.fails.member f.fails.at)
+    pass_unrecorded new (inr (inr e)) fails = absurd fails
+
     not_enrolled : (new : MirrorView) (e : EndsFilled target m none ready (λ kept orphans filled. FailsToEnrol target kept orphans filled new)) → FailsAtMarks e.why ⊎ FailsAtSuper e.why → IsConsistent new → LeadsUnfinished target old new
     not_enrolled new e (inl f) after =
         let prepared = prepares target e.kept e.orphans e.filled new e.fills.sound e.why e.fills.has.may f in
@@ -415,3 +443,30 @@ module _ (target : ℕ) where
   refused_leads old new sound after (LogFull k) h asks =
       let Why : MemberView → Bitmap → MirrorView → Type 0 = λ m none ready. LacksRoom k target m none h.copied ready h.stopped in
       left_there h.copied old h.stopped new (lacks_room h.why.begins.now h.why.none old h.why.ready (opening old Why h.why) (opens old Why h.why) (holds old Why h.why) k h.copied h.stopped h.why.why) h.leaves after
+
+  pub unrecorded_leads : (old new : MirrorView) (fault : RebuildFault) (h : RefusesRebuild target old new fault) → FailsCheckpoint target old new fault h → LeadsUnrecorded target old new
+  unrecorded_leads old new Halted h fails = absurd fails
+  unrecorded_leads old new NotSpare h fails = absurd fails
+  unrecorded_leads old new Dirty h fails = absurd fails
+  unrecorded_leads old new (InFlight number) h fails = absurd fails
+  unrecorded_leads old new EventsFull h fails = absurd fails
+  unrecorded_leads old new (MetadataFault k) (inl h) fails = absurd fails
+  unrecorded_leads old new (MetadataFault k) (inr (inl h)) fails = absurd fails
+  unrecorded_leads old new (MetadataFault k) (inr (inr h)) fails =
+      let Why : MemberView → Bitmap → MirrorView → Type 0 = λ m none ready. LosesSource k target m none ready h.stopped in
+      let e = h.why.1 in
+      left_unrecorded h.copied old h.stopped new (lost_stops e.begins.now e.none old e.ready (opening old Why e) (opens old Why e) (holds old Why e) k h.stopped e.why) h.leaves fails
+  unrecorded_leads old new TargetFault (inl h) fails = absurd fails
+  unrecorded_leads old new TargetFault (inr (inl h)) fails = absurd fails
+  unrecorded_leads old new TargetFault (inr (inr h)) fails =
+      let Why : MemberView → Bitmap → MirrorView → Type 0 = λ m none ready. LosesTarget target m none ready new in
+      pass_unrecorded h.begins.now h.none old h.ready (opening old Why h) (opens old Why h) (holds old Why h) new h.why fails
+  unrecorded_leads old new NoMemory (inl h) fails = absurd fails
+  unrecorded_leads old new NoMemory (inr h) fails =
+      let Why : MemberView → Bitmap → MirrorView → Type 0 = λ m none ready. LacksMemory target m none h.copied ready h.stopped in
+      left_unrecorded h.copied old h.stopped new
+      (inl (lacks_memory h.why.begins.now h.why.none old h.why.ready (opening old Why h.why) (opens old Why h.why) (holds old Why h.why) h.copied h.stopped h.why.why)) h.leaves fails
+  unrecorded_leads old new (LogFull k) h fails =
+      let Why : MemberView → Bitmap → MirrorView → Type 0 = λ m none ready. LacksRoom k target m none h.copied ready h.stopped in
+      left_unrecorded h.copied old h.stopped new
+      (inl (lacks_room h.why.begins.now h.why.none old h.why.ready (opening old Why h.why) (opens old Why h.why) (holds old Why h.why) k h.copied h.stopped h.why.why)) h.leaves fails
