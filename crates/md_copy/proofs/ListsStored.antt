@@ -244,14 +244,14 @@ module _ (failed : List Slot) (k : ℕ) where
 any_more : {X : Type 0} (P : X → Type 0) (xs : List X) (y : X) → Any P xs → Any P (xs ++ y ∷ [])
 any_more P xs y (i, x, low, is, holds) = (i, x, grind (arith, common_steps), grind (arith, common_steps), holds)
 
-abbrev IsBelow : List Slot → ArrayView → ℕ → (ℕ × (ℕ → Bool)) → Type 0
+abbrev pub IsBelow : List Slot → ArrayView → ℕ → (ℕ × (ℕ → Bool)) → Type 0
 IsBelow failed a k l = (l.0 < k) × ((m : MemberView) × IsMember a l.0 m × HasFailed failed m)
 
 -- those of the members before this one
-record AreListsBelow (failed : List Slot) (k : ℕ) (a : ArrayView) (stored : List (ℕ × (ℕ → Bool))) : Type 0 where
-  each : (j : ℕ) (m : MemberView) → j < k → IsMember a j m → HasFailed failed m → Any (λ (l : ℕ × (ℕ → Bool)). l.0 ≡ j) stored
-  only : All (IsBelow failed a k) stored
-  rising : AllPairs (λ (l o : ℕ × (ℕ → Bool)). l.0 < o.0) stored
+pub record AreListsBelow (failed : List Slot) (k : ℕ) (a : ArrayView) (stored : List (ℕ × (ℕ → Bool))) : Type 0 where
+  pub each : (j : ℕ) (m : MemberView) → j < k → IsMember a j m → HasFailed failed m → Any (λ (l : ℕ × (ℕ → Bool)). l.0 ≡ j) stored
+  pub only : All (IsBelow failed a k) stored
+  pub rising : AllPairs (λ (l o : ℕ × (ℕ → Bool)). l.0 < o.0) stored
 
 module _ (failed : List Slot) (k : ℕ) (a : ArrayView) (ls : List (ℕ × (ℕ → Bool))) (b : AreListsBelow failed k a ls) where
   still_below : All (IsBelow failed a (k + 1)) ls
@@ -348,7 +348,7 @@ module _ (failed : List Slot) where
 
     -- the next one is as it was
     own_before : (now : List (ℕ × (ℕ → Bool))) → StoresOwn failed k mid.array now → StoresOwn failed k old.array now
-    own_before now (inl (m, at, more)) = inl (m, sym (x.above k (omega arith)) ∙ at, more)
+    own_before now (inl (m, at, has, listed, is)) = inl (m, sym (x.above k (omega arith)) ∙ at, has, listed, is)
     own_before now (inr (none, is)) = inr (λ m at. none m (x.above k (omega arith) ∙ at), is)
 
     pub below_more : (new : MirrorView) → StoresListIf failed k mid new → StoresBelow failed (k + 1) old new

@@ -102,7 +102,7 @@ StoresIfFailed failed marks m n = (HasFailed failed m × HasStoredList marks m n
 -- member k's list is stored, if a slot of it failed, and else none
 abbrev pub StoresOwn : List Slot → ℕ → ArrayView → List (ℕ × (ℕ → Bool)) → Type 0
 StoresOwn failed k a stored =
-    ((m : MemberView) × IsMember a k m × HasFailed failed m × ((listed : ℕ → Bool) × (stored ≡ (k, listed) ∷ [])))
+    ((m : MemberView) × IsMember a k m × HasFailed failed m × (listed : ℕ → Bool) × (stored ≡ (k, listed) ∷ []))
     ⊎ (((m : MemberView) → IsMember a k m → HasFailed failed m → ⊥) × (stored ≡ []))
 
 -- These are the lists of the members of which a slot failed, each once, by index.
