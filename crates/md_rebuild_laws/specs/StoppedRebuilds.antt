@@ -1,6 +1,6 @@
 -- What a stop within a rebuild leaves. It comes within one of its steps, from the mirror before that step to the one after it, of which the
 -- step's own contract says what may be left.
-use Rattle.std.specs.Prelude.{◌≡◌, ◌⊎◌, ℕ, true, false, List, [], ◌∷◌, Option, Some, None}
+use Rattle.std.specs.Prelude.{◌≡◌, ◌⊎◌, ℕ, true, false, List, [], ◌∷◌, slice_get, Option, Some, None}
 use Rattle.std.proofs.Common.{inl, inr}
 use Rattle.md_assembly.specs.States.{is_in_sync, is_recovering}
 use Rattle.md_bitmap.specs.Marks.{Bitmap}
