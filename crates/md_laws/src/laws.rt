@@ -15,8 +15,8 @@ ghost use Rattle.md_array.specs.ReadAsKept.{AreReadAsKept};
 ghost use Rattle.md_array.specs.Worlds.{AreHonest, none_in_flight, super_of, world_of, world_on};
 ghost use Rattle.md_laws.specs.Fresh.{StartsFresh, StaysFresh};
 ghost use Rattle.md_laws.specs.LeftBehind.{FailedJoins, LiesBehind, MissingJoins, MissingLiesBehind};
-ghost use Rattle.md_laws.specs.Lives.{AtEachMoment, ContentGoesAlong, FindsAll, FindsInSync, FindsOut, FitsWhenThere, IsReadAsKeptInLives, KeepsContent, KeepsGeometry, StaysAsLeft};
-ghost use Rattle.md_laws.specs.Recovering.{KeepsRecovering};
+ghost use Rattle.md_laws.specs.Lives.{AtEachMoment, FindsAll, FindsInSync, FindsOut, FitsWhenThere, IsReadAsKeptInLives, KeepsContent, KeepsGeometry, StaysAsLeft};
+ghost use Rattle.md_laws.specs.Recovering.{ContentGoesAlong, KeepsRecovering, OffsetsAreKept, SaysNoMoreWhenOpened};
 ghost use Rattle.md_laws.specs.Returning.{StartsAgain};
 ghost use Rattle.md_laws.specs.Runs.{HasContent};
 ghost use Rattle.md_laws.specs.Spoiled.{StopsAsSpoiled, StopsAtEnrolAsSpoiled};
@@ -59,6 +59,10 @@ pub fn opening()
 /// rebuilt counts as left at any moment of its filling, and of `enrol` where its superblock stands as before or as after. Nothing is said of a stop
 /// within a write of marks, or of a copy, that fails, or within an `enrol` that fails.
 ///
+/// A member that is rebuilt is spoiled where `enrol`, `admit` or `checkpoint` could not write its superblock, whatever stands there then, or
+/// where a stop came within that write (`SpoilTarget`, `stops_at_steps`). Its mirror goes on. It is spoiled until its superblock is stored, and
+/// until then no opening after a stop may be of its device (`AreFoundAgain`).
+///
 /// An opening after a stop is of devices that were left, in any order, some of them missing (`IsReopened`). Beside
 /// them may be further ones, which the opening before left out (`IsFurther`): the mirror that is opened does not have
 /// them in sync, which is asked only of those that nothing shuts out (`finds_out`). Its superblock is fit, which leaves
@@ -94,8 +98,8 @@ pub fn every_run()
 
     // There is a content that the members in sync hold at the first opening; any such content goes along the
     // life, and they hold what it becomes. Only the end of a request changes it, and a resync or an opening in
-    // chunks that each of them has marked. Of each member that comes into sync it is asked that it holds the content in
-    // the chunks that it did not lack (`MirrorLifeTells`): only one that was re-added has such chunks.
+    // chunks that each of them has marked. It is asked to be held by members that recover too, where they lack nothing: at the first
+    // opening, and of devices that come in later as `recovering_members` asks it. At enrolments nothing is asked.
     ensures has_content { HasContent }
     ensures content_along { ContentGoesAlong }
     ensures keeps_content { KeepsContent }
@@ -137,11 +141,14 @@ pub fn leaving_members()
 {}
 
 /// What a recovering member holds of the array's content: on sectors that it does not list, all but the marked chunks and those
-/// that its offset has not passed. So a rebuild that copies what `missing` names is enough, at any moment after the `re_add`. It is
-/// asked that each `re_add` is told, as `leaving_members` tells of a device that still is as it was left; and that an opening that
-/// finds members recovering is told of them, the first one too.
+/// that its offset has not passed. So a rebuild that copies what `missing` names is enough, at any moment after a `re_add` or an `admit`,
+/// also after a stop and the next opening. It is asked that each `re_add` is told, as `leaving_members` tells of a device that still is as
+/// it was left, and that the first opening is told of the members that it finds recovering. A later one is told of further devices alone, if
+/// each of those that were left says no more than the mirror kept of it (`SaysNoMore`).
 pub fn recovering_members()
     ensures kept { KeepsRecovering }
+    ensures as_opened { SaysNoMoreWhenOpened }
+    ensures offsets { OffsetsAreKept }
 {}
 
 /// An interrupted open of a mirror's devices, at any moment of its life, leaves each as it was left, so that

@@ -1,5 +1,5 @@
 -- What a stop leaves within a call by which a member that is rebuilt tells of it, the write of its superblock might leave that failed.
-use Rattle.std.proofs.Common.{◌≡◌, ◌≢◌, ◌⊎◌, ℕ, zero, suc, ◌+◌, ◌*◌, ◌<◌, inl, inr, true, List, [], ◌∷◌, length, length-set, map, set, slice_get, Some, false, refl, sym, ap, ◌∙◌, subst, arith}
+use Rattle.std.proofs.Common.{◌≡◌, ◌≢◌, ℕ, zero, suc, ◌+◌, ◌*◌, ◌<◌, inl, inr, true, List, [], ◌∷◌, length, length-set, map, set, slice_get, Some, false, refl, sym, ap, ◌∙◌, subst, arith}
 use Rattle.std.proofs.lemmas.Option.{none-some, same_Some, slice_get_within}
 use Rattle.md_assembly.proofs.Indices.{got_same, got_within}
 use Rattle.md_bitmap.specs.Marks.{Bitmap}
@@ -16,7 +16,6 @@ use Rattle.md_array.specs.Enrolling.{Enrols, MayEnrol}
 use Rattle.md_array.specs.Enrolments.{Prepares, prepared}
 use Rattle.md_array.specs.Events.{HasFailed, IsSameBesideMarks}
 use Rattle.md_array.specs.Recording.{write_of}
-use Rattle.md_array.specs.Spoiling.{SpoilsTarget}
 use Rattle.md_array.specs.Worlds.{AreHonest}
 use Rattle.md_laws.specs.Spoiled.{IsLeftSpoiled, StopsAsSpoiled, StopsAtEnrolAsSpoiled}
 use Rattle.md_laws.specs.StopsWithin.{IsLeftBut, MayAllBeLeft}
