@@ -43,7 +43,7 @@ abbrev pub SaysNoMoreWhenOpened : Type 0
 SaysNoMoreWhenOpened = (before : List Disk) (m : MirrorView) → IsStart before m → (k : ℕ) → KeepsOffset m k → SaysNoMore (opened_as m) m.disks k
 
 -- Where they are all kept, the offset that is told by what any stop leaves until the next opening is no greater, unless the member is
--- spoiled. So of one whose list in memory is empty all of it is known.
+-- spoiled.
 abbrev pub OffsetsAreKept : Type 0
 OffsetsAreKept =
     (before : List Disk) (m : MirrorView) → IsStart before m → ((k : ℕ) → KeepsOffset m k)
@@ -51,6 +51,13 @@ OffsetsAreKept =
     → (k : ℕ) → t.spoiled k ≡ false
     → (own : Super) → (stored_on t.mirror.array (slice_get t.mirror.array.members k) (slice_get left k)).super ≡ Some own
     → own.offset ≤ (world_of t.mirror t.requests).offset k
+
+-- So of one whose list in memory is empty it is so at each such stop.
+abbrev pub SaysNoMoreWithoutList : Type 0
+SaysNoMoreWithoutList =
+    (before : List Disk) (m : MirrorView) → IsStart before m → ((k : ℕ) → KeepsOffset m k)
+    → (es : List Event) (t : Moment) → MirrorRun (opened_as m) es t → (left : List Disk) → IsLeft t left
+    → (k : ℕ) → t.spoiled k ≡ false → ((s : ℕ) → (world_of t.mirror t.requests).bad k s ≡ false) → SaysNoMore t left k
 
 -- A recovering member of the next mirror is such a device that was left; or it is told of what it has, as of one that was left out before.
 abbrev pub MirrorOpensBehind : (opened : MirrorView) (t : Moment) (next : MirrorView) → IsReopened opened t next → Content → Type 0

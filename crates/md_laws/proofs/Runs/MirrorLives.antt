@@ -7,7 +7,7 @@ use Rattle.md_model.specs.Devices.{Stored, Super, is_marked}
 use Rattle.md_model.specs.Assembly.{IsFound, IsFreshest, state_by}
 use Rattle.md_model.specs.Events.{Event}
 use Rattle.md_model.specs.Lives as lives
-use Rattle.md_model.specs.Lives.{Always, IsCovered, IsSound, Reopens}
+use Rattle.md_model.specs.Lives.{AgreesUnstored, Always, IsCovered, IsSound, Reopens}
 use Rattle.md_model.specs.Openings as openings
 use Rattle.md_model.specs.Openings.{IsWithinLimits}
 use Rattle.md_model.specs.Runs as runs
@@ -24,6 +24,7 @@ use Rattle.md_model.proofs.Lives.Lives.{always, always_covered, always_out, alwa
 use Rattle.md_model.proofs.Lives.Opened.{kept_opened}
 use Rattle.md_model.proofs.Lives.Safe.{keeps_out, safe_at_stop, stays_out}
 use Rattle.md_model.proofs.Steps.Keeps.{IsKept, kept_run}
+use Rattle.md_model.proofs.Steps.Lists.{always_agrees}
 use Rattle.md_kept_members.specs.View.{MemberView}
 use Rattle.md_state.specs.View.{Disk, MirrorView, geometry_of}
 use Rattle.md_state.specs.Members.{IsInSync, IsMember}
@@ -491,6 +492,9 @@ life_covered = at_each IsCovered always_covered
 
 pub life_sound : AtEachMoment IsSound
 life_sound = at_each IsSound always_sound
+
+pub life_unstored : AtEachMoment AgreesUnstored
+life_unstored = at_each AgreesUnstored always_agrees
 
 pub life_safe : AtEachMoment stops.IsSafeAtStop
 life_safe = at_each stops.IsSafeAtStop always_safe

@@ -16,7 +16,7 @@ use Rattle.md_model.proofs.Cases.{none_some}
 use Rattle.md_model.proofs.Puts.{by_same, put-at, put-hit, put-miss}
 use Rattle.md_state.specs.View.{geometry_of}
 use Rattle.md_array.specs.Worlds.{world_of}
-use Rattle.md_laws.specs.Recovering.{OffsetsAreKept}
+use Rattle.md_laws.specs.Recovering.{OffsetsAreKept, SaysNoMoreWithoutList}
 use Rattle.md_laws.specs.Runs.{MirrorRun, Moment, history_of, opened_as, then_as}
 use Rattle.md_laws.proofs.Runs.Moments.{run_keeps, sound_when_opened}
 use Rattle.md_laws.proofs.Runs.Rests.{history_rests, rests_does}
@@ -154,3 +154,7 @@ offsets_are_kept before m start at_first es t r left is k clear own told =
           subst (λ (n : ℕ). own.offset ≤ n) (s.memory.offset k) (kept k (s.spoiled k clear) own super)
       | inr none ↦ absurd (none_some own (sym none ∙ told))
     ]
+
+pub says_no_more_without_list : SaysNoMoreWithoutList
+says_no_more_without_list before m start at_first es t r left is k clear none =
+    inl (record { offset = λ own told. offsets_are_kept before m start at_first es t r left is k clear own told; listed = λ s off. none s })

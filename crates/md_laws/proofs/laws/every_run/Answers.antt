@@ -9,6 +9,7 @@ returns c = record {
   covered = lives.life_covered;
   at_stop = lives.life_safe;
   sound = lives.life_sound;
+  agrees_unstored = lives.life_unstored;
   finds_in_sync = lives.finds_in_sync;
   finds_all = lives.finds_all;
   finds_out = lives.finds_out;
