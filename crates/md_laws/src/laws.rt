@@ -14,7 +14,7 @@ ghost use Rattle.md_array.specs.Opening.{IsOpenedFrom};
 ghost use Rattle.md_array.specs.ReadAsKept.{AreReadAsKept};
 ghost use Rattle.md_array.specs.Worlds.{AreHonest, none_in_flight, super_of, world_of, world_on};
 ghost use Rattle.md_laws.specs.Fresh.{StartsFresh, StaysFresh};
-ghost use Rattle.md_laws.specs.LeftBehind.{FailedJoins, LiesBehind, MissingJoins, MissingLiesBehind};
+ghost use Rattle.md_laws.specs.LeftBehind.{FailedJoins, LiesBehind, LogLiesBehind, MissingJoins, MissingLiesBehind};
 ghost use Rattle.md_laws.specs.Lives.{AtEachMoment, FindsAll, FindsInSync, FindsOut, FitsWhenThere, IsReadAsKeptInLives, KeepsContent, KeepsGeometry, StaysAsLeft};
 ghost use Rattle.md_laws.specs.Recovering.{ContentGoesAlong, KeepsRecovering, OffsetsAreKept, SaysNoMoreWhenOpened, SaysNoMoreWithoutList};
 ghost use Rattle.md_laws.specs.Returning.{StartsAgain};
@@ -133,9 +133,11 @@ pub fn returning_devices()
 /// the chunks that `missing` names suffice; that each device that `re_add` takes back is such a one is not said. It
 /// may leave by `remove`, and the mirror may be stopped, at any moment of any of its calls, and opened again: so it is
 /// over each life that goes on from there. It is so too of a member that was in sync at a stop, as the stop left it, whatever the
-/// next opening finds of it: it may be missing there, as one whose cable was pulled.
+/// next opening finds of it: it may be missing there, as one whose cable was pulled. The log of one whose log could not be stored may
+/// be any: of it that is said in sectors that it did not list before, and that what counts of it does not list.
 pub fn leaving_members()
     ensures behind { LiesBehind }
+    ensures log { LogLiesBehind }
     ensures missing { MissingLiesBehind }
 
     // So a `re_add` that takes back such a device, still as it was left, takes back one of which the content is known in all chunks

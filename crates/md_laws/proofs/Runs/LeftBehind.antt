@@ -12,9 +12,10 @@ use Rattle.md_model.specs.Runs as runs
 use Rattle.md_model.specs.Runs.{spoiled_after}
 use Rattle.md_model.specs.Worlds.{Request, World}
 use Rattle.md_model.proofs.Lives.Lives.{sound_in_sync, start_again}
-use Rattle.md_model.proofs.Content.BehindSteps.{behind_leaving, behind_step}
+use Rattle.md_model.proofs.Content.BehindSteps.{behind_leaving, behind_log, behind_step}
 use Rattle.md_model.specs.States as states
 use Rattle.md_model.proofs.Cases.{none_some}
+use Rattle.md_model.proofs.Puts.{put-hit}
 use Rattle.md_model.proofs.Content.ContentLives as model
 use Rattle.md_model.proofs.Content.ContentLives.{IsHeld, held_again, stays_behind}
 use Rattle.md_model.proofs.Content.Contents.{holds_step}
@@ -28,7 +29,7 @@ use Rattle.md_array.proofs.Steps.OneMember.{stored_there}
 use Rattle.md_array.proofs.Worlds.Supers.{super_shown}
 use Rattle.md_array.proofs.Worlds.InSync.{in_sync_there}
 use Rattle.md_array.proofs.Worlds.Risen.{full_when_not_degraded}
-use Rattle.md_laws.specs.LeftBehind.{DegradedLifeWith, DegradedRunWith, Fails, IsLeftOut, LiesBehind, MissingLiesBehind, failed_then}
+use Rattle.md_laws.specs.LeftBehind.{DegradedLifeWith, DegradedRunWith, Fails, FailsWithLog, IsLeftOut, LiesBehind, LogLiesBehind, MissingLiesBehind, failed_then, log_failed_then}
 use Rattle.md_laws.specs.Lives.{IsReopened, MirrorLifeWith}
 use Rattle.md_laws.specs.Runs.{IsStart, MirrorRunWith, Moment, RestsThenDoes, history_of, opened_as, then_as}
 use Rattle.md_laws.proofs.Openings.Reopened.{same_geometry}
@@ -263,6 +264,25 @@ failed_later before m a start holds es rest final t b life k f more others newes
 pub left_behind : LiesBehind
 left_behind before m a start holds es rest final t b life k f more others newest last c degraded =
     (failed_later before m a start holds es rest final t b life k f more others newest last c degraded).behind
+
+-- its log could not be stored
+pub log_left_behind : LogLiesBehind
+log_left_behind before m a start holds es rest final t b life k f device content listed more others newest last c degraded =
+    let g = geometry_of m.array in
+    let opened = super_of final.array.shared in
+    let small = starts_small before m start in
+    let is = life_held_at before m a start holds es rest final t b life in
+    let w = world_of t.mirror t.requests in
+    let now = world_of f.mirror f.requests in
+    let on = in_sync_there t.mirror.disks t.mirror.array t.requests k f.member f.in_sync in
+    let s = (leads_to g small opened t b is (Event.StoreLogFails k) f.mirror f.requests f.does).1 in
+    let left_there : (now.stored k) ≡ s.0 = ap (λ (v : World). v.stored k) s.3.3 ∙ put-hit k s.0 w.stored in
+    behind_life g small device final (log_failed_then t k f) b more others newest last c (final_geometry before m a start holds es rest final t b life)
+    (record {
+      held = held_then g small opened t b is (Event.StoreLogFails k) f.mirror f.requests f.does b refl;
+      behind = behind_log g b w is.held.kept.tracked is.held.holds k on s.0 now s.2 s.3 device (λ y low. content y low ∙ ap (λ (d : Stored). d.content y) (left_there ∙ s.2.rest)) listed;
+    })
+    degraded
 
 -- what the stop left of one that was in sync is read as it was kept
 pub missing_later : (before : List Disk) (m : MirrorView) (a : Content) → IsStart before m → Holds (geometry_of m.array) a (world_of m none_in_flight)
