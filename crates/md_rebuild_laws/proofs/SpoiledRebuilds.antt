@@ -1,5 +1,5 @@
 -- A stop within a call by which the target of a rebuild tells of itself, whatever stands in place of its superblock.
-use Rattle.std.proofs.Common.{◌≡◌, ◌∙◌, ℕ, true, false, List, [], ◌∷◌, ◌++◌, inl, inr, refl, sym, ap, subst, slice_get}
+use Rattle.std.proofs.Common.{◌≡◌, ◌∙◌, ◌⊎◌, ℕ, true, false, List, [], ◌∷◌, ◌++◌, inl, inr, refl, sym, ap, subst, slice_get}
 use Rattle.std.proofs.lemmas.Option.{same_Some}
 use Rattle.md_assembly.specs.States.{is_in_sync}
 use Rattle.md_bitmap.specs.Marks.{Bitmap}
@@ -10,8 +10,8 @@ use Rattle.md_state.specs.Members.{IsMember}
 use Rattle.md_state.specs.Missing.{is_rebuilt}
 use Rattle.md_state.specs.Requests.{AreInFlight}
 use Rattle.md_state.specs.View.{ArrayView, Disk, MirrorView}
-use Rattle.md_array.specs.Enrolling.{Enrols}
-use Rattle.md_array.specs.Enrolments.{Prepares}
+use Rattle.md_array.specs.Enrolling.{Enrols, FailsToEnrol}
+use Rattle.md_array.specs.Enrolments.{FailsAtSuper, Prepares}
 use Rattle.md_array.specs.InTurn.{AllOf}
 use Rattle.md_array.specs.Worlds.{AreHonest}
 use Rattle.md_array.proofs.Rebuilding.PreparedEvent.{prepare_happens}
@@ -23,7 +23,7 @@ use Rattle.md_laws.specs.Spoiled.{IsLeftSpoiled}
 use Rattle.md_laws.specs.StopsWithin.{MayAllBeLeft}
 use Rattle.md_laws.proofs.Runs.Moments.{IsSoundAt, run_keeps, run_then}
 use Rattle.md_laws.proofs.Runs.Rests.{at_once, at_rest}
-use Rattle.md_laws.proofs.Stops.Spoiled.{stops_as_spoiled, stops_at_enrol_as_spoiled}
+use Rattle.md_laws.proofs.Stops.Spoiled.{stops_as_spoiled, stops_at_enrol_as_spoiled, stops_at_failed_enrol_as_spoiled}
 use Rattle.md_metadata.specs.Storing.{IsStoring}
 use Rattle.md_copy.specs.Beginning.{MayRebuild}
 use Rattle.md_copy.specs.Readying.{AdmitsAfter, AdmitsFirst, FailsAdmission, Readies}
@@ -35,7 +35,7 @@ use Rattle.md_copy.proofs.LentBack.{rebuilt_out}
 use Rattle.md_copy.proofs.Readied.{spare_rebuilt}
 use Rattle.md_copy.proofs.RebuildLeads.{storing_before, unfinished_of}
 use Rattle.md_copy.proofs.StoredFirst.{rebuilt_still}
-use Rattle.md_rebuild_laws.specs.StoppedRebuilds.{Anyhow, IsStopBefore, IsStopUnfinished, StopsAdmittingAnyhow, StopsEnrollingAnyhow, StopsReadying, StopsTelling, StopsUnadmittedAnyhow}
+use Rattle.md_rebuild_laws.specs.StoppedRebuilds.{Anyhow, IsStopBefore, IsStopUnfinished, StopsAdmittingAnyhow, StopsEnrollingAnyhow, StopsReadying, StopsTelling, StopsUnadmittedAnyhow, StopsUnenrolledAnyhow}
 use Rattle.md_rebuild_laws.proofs.StoppedRebuilds.{Reaches, after_stop, first_done, first_stop, full, honest_mid, honest_stored, honest_unadmitted, in_flight_mid, lead, list, sound_at, stored_kinds, stored_reached, was_out}
 
 -- one in which the target is not spoiled is such a stop
@@ -165,22 +165,29 @@ module _ (t : Moment) (sound : IsSoundAt t) (target : ℕ) where
           let same : m ≡ p.may.member = same_Some m p.may.member (sym there ∙ ap (λ (a : ArrayView). slice_get a.members target) p.array ∙ p.may.at) in
           ap (λ (x : MemberView). is_in_sync x.state) same ∙ rebuilt_out p.may.member.state p.may.rebuilt
 
+    -- a stop after that, or after the target was spoiled then
+    either_stop : (left : List Disk) → (mid : MirrorView) × Prepares target filled mid × ((contents_of mid.disks ≡ contents_of left) ⊎ IsLeftSpoiled target mid (contents_of left)) → IsStopUnfinished target t left
+    either_stop left x = elim x.2 [
+      | inl same ↦ unfinished target t left (record {
+        after = record {
+          events = until ++ Event.Prepare target ∷ [];
+          steps = kinds_prepared x.0 x.1;
+          at = prepared x.0 x.1;
+          run = run_prepared x.0 x.1;
+          is_left = inl (sym same);
+        };
+        out = out_prepared x.0 x.1;
+      })
+      | inr spoiled ↦ spoiled_stop (until ++ Event.Prepare target ∷ []) (kinds_prepared x.0 x.1) (prepared x.0 x.1) (run_prepared x.0 x.1) left spoiled
+    ]
+
     pub enrolling_anyhow : (new : MirrorView) → Enrols target copied orphans filled new → (left : List Disk) → MayAllBeLeft filled.disks new.disks (contents_of left) → IsStopUnfinished target t left
     enrolling_anyhow new r left may =
-        let x = stops_at_enrol_as_spoiled target copied orphans filled new (contents_of left) by.sound (honest_mid t sound target planned copied orphans filled by) by.may r may in
-        elim x.2 [
-          | inl same ↦ unfinished target t left (record {
-            after = record {
-              events = until ++ Event.Prepare target ∷ [];
-              steps = kinds_prepared x.0 x.1;
-              at = prepared x.0 x.1;
-              run = run_prepared x.0 x.1;
-              is_left = inl (sym same);
-            };
-            out = out_prepared x.0 x.1;
-          })
-          | inr spoiled ↦ spoiled_stop (until ++ Event.Prepare target ∷ []) (kinds_prepared x.0 x.1) (prepared x.0 x.1) (run_prepared x.0 x.1) left spoiled
-        ]
+        either_stop left (stops_at_enrol_as_spoiled target copied orphans filled new (contents_of left) by.sound (honest_mid t sound target planned copied orphans filled by) by.may r may)
+
+    pub unenrolled_anyhow : (new : MirrorView) (f : FailsToEnrol target copied orphans filled new) → FailsAtSuper f → (left : List Disk) → MayAllBeLeft filled.disks new.disks (contents_of left) → IsStopUnfinished target t left
+    unenrolled_anyhow new f at_super left may =
+        either_stop left (stops_at_failed_enrol_as_spoiled target copied orphans filled new (contents_of left) by.sound (honest_mid t sound target planned copied orphans filled by) by.may f at_super may)
 
 -- ---- in lives
 pub stops_telling : StopsTelling
@@ -195,3 +202,7 @@ stops_unadmitted_anyhow before m start es rest final t life target new h left wi
 pub stops_enrolling_anyhow : StopsEnrollingAnyhow
 stops_enrolling_anyhow before m start es rest final t life target planned copied orphans filled new by r left within =
     enrolling_anyhow t (sound_at before m start es rest final t life) target planned copied orphans filled by new r left within
+
+pub stops_unenrolled_anyhow : StopsUnenrolledAnyhow
+stops_unenrolled_anyhow before m start es rest final t life target planned copied orphans filled new by f at_super left within =
+    unenrolled_anyhow t (sound_at before m start es rest final t life) target planned copied orphans filled new f at_super left within
