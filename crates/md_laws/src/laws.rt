@@ -16,7 +16,7 @@ ghost use Rattle.md_array.specs.Worlds.{AreHonest, none_in_flight, super_of, wor
 ghost use Rattle.md_laws.specs.Fresh.{StartsFresh, StaysFresh};
 ghost use Rattle.md_laws.specs.LeftBehind.{FailedJoins, LiesBehind, LogLiesBehind, MissingJoins, MissingLiesBehind};
 ghost use Rattle.md_laws.specs.Lives.{AtEachMoment, FindsAll, FindsInSync, FindsOut, FitsWhenThere, IsReadAsKeptInLives, KeepsContent, KeepsGeometry, StaysAsLeft};
-ghost use Rattle.md_laws.specs.Recovering.{ContentGoesAlong, KeepsRecovering, OffsetsAreKept, SaysNoMoreWhenOpened, SaysNoMoreWithoutList};
+ghost use Rattle.md_laws.specs.Recovering.{ContentGoesAlong, KeepsRecovering, OffsetsAreKept, SaysNoMoreWhenOpened, SaysNoMoreWhenRecorded, SaysNoMoreWithoutList};
 ghost use Rattle.md_laws.specs.Returning.{StartsAgain};
 ghost use Rattle.md_laws.specs.Runs.{HasContent};
 ghost use Rattle.md_laws.specs.Spoiled.{StopsAsSpoiled, StopsAtEnrolAsSpoiled, StopsAtFailedEnrolAsSpoiled};
@@ -152,12 +152,13 @@ pub fn leaving_members()
 /// it was left, and that the first opening is told of the members that it finds recovering. A later one is told of further devices alone, if
 /// each of those that were left says no more than the mirror kept of it (`SaysNoMore`). So each does right after an opening that took no
 /// offset as 0. Until the next one its offset stays such, unless it is spoiled; so where its list in memory is empty it says no more at any
-/// stop. Of a longer list that is asked, as a log that failed may be any.
+/// stop. Of a longer list that is asked, as a log that failed may be any; a record keeps it so.
 pub fn recovering_members()
     ensures kept { KeepsRecovering }
     ensures as_opened { SaysNoMoreWhenOpened }
     ensures offsets { OffsetsAreKept }
     ensures unlisted { SaysNoMoreWithoutList }
+    ensures recorded { SaysNoMoreWhenRecorded }
 {}
 
 /// An interrupted open of a mirror's devices, at any moment of its life, leaves each as it was left, so that
