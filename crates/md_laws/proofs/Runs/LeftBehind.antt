@@ -29,7 +29,7 @@ use Rattle.md_array.proofs.Steps.OneMember.{stored_there}
 use Rattle.md_array.proofs.Worlds.Supers.{super_shown}
 use Rattle.md_array.proofs.Worlds.InSync.{in_sync_there}
 use Rattle.md_array.proofs.Worlds.Risen.{full_when_not_degraded}
-use Rattle.md_laws.specs.LeftBehind.{DegradedLifeWith, DegradedRunWith, Fails, FailsWithLog, IsLeftOut, LiesBehind, LogLiesBehind, MissingLiesBehind, failed_then, log_failed_then}
+use Rattle.md_laws.specs.LeftBehind.{DegradedLifeWith, DegradedRunWith, Fails, IsLeftOut, LiesBehind, LogLiesBehind, MissingLiesBehind, failed_then, log_failed_then}
 use Rattle.md_laws.specs.Lives.{IsReopened, MirrorLifeWith}
 use Rattle.md_laws.specs.Runs.{IsStart, MirrorRunWith, Moment, RestsThenDoes, history_of, opened_as, then_as}
 use Rattle.md_laws.proofs.Openings.Reopened.{same_geometry}
@@ -277,12 +277,12 @@ log_left_behind before m a start holds es rest final t b life k f device content
     let on = in_sync_there t.mirror.disks t.mirror.array t.requests k f.member f.in_sync in
     let s = (leads_to g small opened t b is (Event.StoreLogFails k) f.mirror f.requests f.does).1 in
     let left_there : (now.stored k) ≡ s.0 = ap (λ (v : World). v.stored k) s.3.3 ∙ put-hit k s.0 w.stored in
-    behind_life g small device final (log_failed_then t k f) b more others newest last c (final_geometry before m a start holds es rest final t b life)
+    (behind_life g small device final (log_failed_then t k f) b more others newest last c (final_geometry before m a start holds es rest final t b life)
     (record {
       held = held_then g small opened t b is (Event.StoreLogFails k) f.mirror f.requests f.does b refl;
       behind = behind_log g b w is.held.kept.tracked is.held.holds k on s.0 now s.2 s.3 device (λ y low. content y low ∙ ap (λ (d : Stored). d.content y) (left_there ∙ s.2.rest)) listed;
     })
-    degraded
+    degraded).behind
 
 -- what the stop left of one that was in sync is read as it was kept
 pub missing_later : (before : List Disk) (m : MirrorView) (a : Content) → IsStart before m → Holds (geometry_of m.array) a (world_of m none_in_flight)

@@ -1,5 +1,5 @@
 -- A record of a member whose log is read stores what is kept of it, and leaves the log.
-use Rattle.std.proofs.Common.{◌≡◌, ℕ, ◌+◌, ◌*◌, ◌<◌, ◌≤◌, Bool, true, false, ◌&&◌, nat_lt, List, slice_get, Option, Some, sym, ap, ◌∙◌, subst, arith}
+use Rattle.std.proofs.Common.{◌≡◌, ℕ, ◌+◌, ◌*◌, ◌≤◌, Bool, true, false, ◌&&◌, nat_lt, List, slice_get, Option, Some, sym, ap, ◌∙◌, subst, arith}
 use Rattle.std.proofs.lemmas.Bool.{and_from, and_parts}
 use Rattle.std.proofs.lemmas.Option.{same_Some, slice_get_within}
 use Rattle.md_assembly.proofs.Indices.{got_within}
@@ -17,7 +17,7 @@ use Rattle.md_state.specs.Members.{IsMember}
 use Rattle.md_state.specs.View.{ArrayView, Disk, MirrorView}
 use Rattle.md_array.specs.Consistency.{IsConsistent}
 use Rattle.md_array.specs.Recording.{Records, super_write}
-use Rattle.md_array.specs.Worlds.{AreHonest, block_on, from_super, is_listed, is_listed_next, is_logged, lies_in, lists_of, reads_log_on, stored_of, super_in, super_of, world_of}
+use Rattle.md_array.specs.Worlds.{block_on, from_super, is_listed, is_listed_next, is_logged, lies_in, lists_of, reads_log_on, super_in, super_of, world_of}
 use Rattle.md_array.proofs.General.Indices.{at_set_same}
 use Rattle.md_array.proofs.Steps.OneMember.{member_there, stored_there}
 use Rattle.md_array.proofs.Steps.SuperRecorded.{listed_written, readable_super}

@@ -1,5 +1,5 @@
 -- A mirror of one member that is opened, has a run of two events and is opened again has a life.
-use Rattle.std.proofs.Common.{◌≡◌, ℕ, ◌<◌, inl, false, cond, nat_lt, ◌*◌, List, [], ◌∷◌, length, slice_get, Option, Some, None, refl, sym, ap, ◌∙◌, subst, arith, lt-ltb}
+use Rattle.std.proofs.Common.{◌≡◌, ℕ, ◌<◌, inl, Bool, true, false, cond, eqb, nat_lt, ◌*◌, List, [], ◌∷◌, length, slice_get, Option, Some, None, refl, sym, ap, ◌∙◌, subst, arith, lt-ltb}
 use Rattle.std.proofs.lemmas.Option.{none-some, same_Some, slice_get_within}
 use Rattle.md_writes.proofs.Frames.{outside_none}
 use Rattle.md_members.specs.Areas.{bitmap_sectors}
@@ -7,7 +7,6 @@ use Rattle.md_model.specs.Devices.{AgreeAt, Stored}
 use Rattle.md_model.specs.Events.{Event}
 use Rattle.md_model.specs.Sectors.{put}
 use Rattle.md_model.proofs.Cases.{by_test, is_below}
-use Rattle.md_model.proofs.Puts.{put-at}
 use Rattle.md_requests.specs.Pending.{PendingView}
 use Rattle.md_state.specs.View.{Disk, MirrorView}
 use Rattle.md_state.specs.Requests.{among, request_of}
@@ -28,7 +27,6 @@ runs_twice m began new p begins records honest =
     let first = begins honest none_in_flight (λ n q is. absurd (none-some q is)) in
     let requests = among p none_in_flight in
     let second = records first.honest requests first.in_flight in
-    let none_then : (j : ℕ) → put 0 false (λ _. false) j ≡ false = λ j. put-at 0 false (λ _. false) j (λ b. b ≡ false) (λ _. refl) (λ _. refl) in
     record {
       number = p.ticket.number;
       request = request_of p;
@@ -37,7 +35,7 @@ runs_twice m began new p begins records honest =
         began,
         requests,
         at_once m began none_in_flight requests (Event.Begin p.ticket.number (request_of p)) first,
-        (new, requests, at_once began new requests requests (Event.Record 0) second, record { rests = rests_same new; is = λ i. record (record (opened_as m) { mirror = new; requests = requests }) { spoiled = λ j. sym (none_then j) i } }),
+        (new, requests, at_once began new requests requests (Event.Record 0) second, record { rests = rests_same new; is = refl }),
       );
     }
 
@@ -117,7 +115,7 @@ small_life before m mid next opened one r opens late honest =
         at = at mid.disks;
         found = at_back mid.disks;
         again = again mid at_t.sound;
-        unspoiled = λ _ _ _. refl;
+        unspoiled = λ k _ _. none_spoiled k;
         recorded = record { device = 0; place = 0; there = at_itself mid.disks 0 (omega arith); recorded = λ d v there on. omega arith };
       };
       others = λ j n member none. let low = slice_get_within next.array.members j n member in absurd (none-some j (sym none ∙ at_itself mid.disks j (omega arith)));
