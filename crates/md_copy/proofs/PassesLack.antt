@@ -1,5 +1,5 @@
 -- What was not copied the target lacks after passes as it did before them.
-use Rattle.std.proofs.Common.{◌≡◌, ◌∙◌, ℕ, suc, zero, ◌+◌, ◌<◌, Bool, true, false, not, List, [], ◌∷◌, Contains, filter, slice_get, refl, sym, ap, subst, arith, inl, inr}
+use Rattle.std.proofs.Common.{◌≡◌, ◌∙◌, ℕ, suc, zero, ◌<◌, Bool, true, false, not, List, [], ◌∷◌, Contains, filter, slice_get, refl, sym, ap, subst, arith, inl, inr}
 use Rattle.std.specs.Int.{div_ceil}
 use Rattle.std.specs.List.{range_with_len}
 use Rattle.std.proofs.lemmas.Bool.{both_ways, cases_Bool, not-true}
