@@ -346,9 +346,10 @@ module _ (old new : MirrorView) where
       (subst (λ i. LeavesBeside i old new) of (log_failed j h.member h.write h.in_sync.member h.room h.among h.halts.disks.tried changes), subst (λ i. Halts i old.array new.array) of h.halts.array)
   halts_event k (Event.StoreMarks j b) of h = absurd h
   halts_event k (Event.StoreMarksFails j b) of h =
-      let changes = same_changes j old.array new.array (ap (λ (v : ArrayView). v.members) h.halts.array.array) in
-      (subst (λ i. LeavesBeside i old new) of.0 (marks_event j b h.member h.write of.1 h.may.in_sync.member h.may.write h.halts.disks.tried changes),
-      subst (λ i. Halts i old.array new.array) of.0 h.halts.array)
+      let changes = same_changes j old.array new.array (ap (λ (v : ArrayView). v.members) h.halts.array.array) in (
+        subst (λ i. LeavesBeside i old new) of.0 (marks_event j b h.member h.write of.1 h.may.in_sync.member h.may.write h.halts.disks.tried changes),
+        subst (λ i. Halts i old.array new.array) of.0 h.halts.array,
+      )
   halts_event k (Event.Record j) of h = absurd h
   halts_event k (Event.RecordFails j) of h =
       let changes = same_changes j old.array new.array (ap (λ (v : ArrayView). v.members) h.halts.array.array) in

@@ -393,10 +393,10 @@ module _ (target : ℕ) (m : MemberView) (none : Bitmap) (first now : MirrorView
         let held_n = mid_held.chunks ∙ sym (ap (λ (b : Bitmap). b.chunks) h.1.lists.marks) in
         elim stops.ends [
           | inl lost ↦ (
-              held_n ∙ sym (ap (λ (b : Bitmap). b.chunks) lost.loses.goes.array.marks),
-              lost.loses.goes.sound,
-              λ running. list_lost target k noted new is_other lost running (recordable target noted ready_n),
-            )
+            held_n ∙ sym (ap (λ (b : Bitmap). b.chunks) lost.loses.goes.array.marks),
+            lost.loses.goes.sound,
+            λ running. list_lost target k noted new is_other lost running (recordable target noted ready_n),
+          )
           | inr halts ↦
               let at = halts.halts.halts in
               let is_halted = list_halted at.mid new (λ n. None) at.failing at.of (at.halts (λ n. None)) in (
