@@ -1,13 +1,13 @@
 -- What a pass over the devices that were lent is for the mirror that has them back.
-use Rattle.std.proofs.Common.{◌≡◌, ◌≢◌, ◌∙◌, ◌⊎◌, ℕ, ◌+◌, ◌<◌, ◌≤◌, ◌==◌, Bool, true, false, List, [], ◌∷◌, length, remove, count_by, get_or, slice_get, slice_index_or, Some, All, Result, Ok, Err, MatchResult, refl, sym, ap, subst, arith, inl, inr}
-use Rattle.std.specs.List.{Any, list_any}
+use Rattle.std.proofs.Common.{◌≡◌, ◌≢◌, ◌∙◌, ℕ, ◌+◌, ◌<◌, ◌≤◌, ◌==◌, Bool, true, false, List, [], ◌∷◌, length, remove, count_by, get_or, slice_get, slice_index_or, Some, All, Result, Ok, Err, MatchResult, refl, sym, ap, subst, arith, inl, inr}
+use Rattle.std.specs.List.{list_any}
 use Rattle.std.proofs.lemmas.Bool.{both_ways, cases_Bool, eq-eqb, eqb-true}
-use Rattle.std.proofs.lemmas.List.Elements.{All-cons, All-filter, All-head, All-tail}
+use Rattle.std.proofs.lemmas.List.Elements.{All-filter, All-head, All-tail}
 use Rattle.std.proofs.lemmas.List.Folds.{Any-from_list_any, list_any_at}
-use Rattle.std.proofs.lemmas.Option.{same_Some, slice_get-get_or}
+use Rattle.std.proofs.lemmas.Option.{same_Some}
 use Rattle.md_assembly.proofs.Indices.{got_within}
 use Rattle.md_assembly.specs.States.{is_in_sync, is_in_sync_as}
-use Rattle.md_bitmap.specs.Marks.{Bitmap, is_set}
+use Rattle.md_bitmap.specs.Marks.{Bitmap}
 use Rattle.md_cert.specs.declared.plan.Plan.{Plan}
 use Rattle.md_cert.specs.declared.slots.Slot.{Slot}
 use Rattle.md_collect.specs.Reports.{Copying}
@@ -25,7 +25,7 @@ use Rattle.md_pass.specs.declared.source.Source.{Source}
 use Rattle.md_state.specs.DiskWrites.{AtDevice}
 use Rattle.md_state.specs.Members.{IsMember}
 use Rattle.md_state.specs.Missing.{is_rebuilt}
-use Rattle.md_state.specs.View.{ArrayView, Disk, MirrorView, of_disks}
+use Rattle.md_state.specs.View.{Disk, MirrorView}
 use Rattle.md_array.specs.Consistency.{IsConsistent}
 use Rattle.md_copy.specs.Filling.{CopiesChunks, CountsFailed, FailsOnWrite, FillsPass, IsFilling}
 use Rattle.md_copy.specs.RebuildSources.{AreSources, IsPlanOf, IsSourceAt}
@@ -37,11 +37,11 @@ use Rattle.md_copy.proofs.SourcesChosen.{takes_as}
 -- none is counted
 none_counted : (role : ℕ) (xs : List Slot) → All (λ (s : Slot). s.source ≡ role → ⊥) xs → count_by (is_of role) xs ≡ 0
 none_counted role [] none = refl
-none_counted role (x ∷ xs) none = by (x.source == role) refl
+none_counted role (x ∷ xs) none = by (none_counted role xs (All-tail (λ (s : Slot). s.source ≡ role → ⊥) x xs none)) (x.source == role) refl
   where
-    by : (b : Bool) → (x.source == role) ≡ b → count_by (is_of role) (x ∷ xs) ≡ 0
-    by true same = absurd (All-head (λ (s : Slot). s.source ≡ role → ⊥) x xs none (eqb-true x.source role same))
-    by false other = rw other (none_counted role xs (All-tail (λ (s : Slot). s.source ≡ role → ⊥) x xs none))
+    by : count_by (is_of role) xs ≡ 0 → (b : Bool) → (x.source == role) ≡ b → count_by (is_of role) (x ∷ xs) ≡ 0
+    by rest true same = absurd (All-head (λ (s : Slot). s.source ≡ role → ⊥) x xs none (eqb-true x.source role same))
+    by rest false other = rw other rest
 
 module _ {D : Type 0} (g : Ghosts D) (v : MirrorView) (sound : IsConsistent v) (target : ℕ) (low : target < length v.array.members) (member : MemberView) (at : IsMember v.array target member) (rebuilt : is_rebuilt member.state ≡ true) (plan : Plan)
     (is_plan : IsPlanOf v.array member plan) (olds news : List D) (v_is : v.disks ≡ seen g olds) (as_many : length news ≡ length olds)

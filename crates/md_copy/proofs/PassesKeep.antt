@@ -1,6 +1,6 @@
 -- What passes leave as it was: the data of all members but the target, the target's beside the chunks that are copied, and all lists but those of the
 -- sources that failed.
-use Rattle.std.proofs.Common.{◌≡◌, ◌≢◌, ◌∙◌, ℕ, ◌+◌, ◌*◌, ◌<◌, ◌≤◌, Bool, true, false, List, [], ◌∷◌, ◌++◌, append-nil, length, filter, count_by, get_or, slice_get, Some, refl, sym, ap, subst, arith, inl, inr}
+use Rattle.std.proofs.Common.{◌≡◌, ◌≢◌, ◌∙◌, ℕ, ◌+◌, ◌*◌, ◌≤◌, Bool, true, false, List, [], ◌∷◌, ◌++◌, append-nil, length, filter, count_by, get_or, slice_get, Some, refl, sym, ap, subst, arith, inl, inr}
 use Rattle.std.proofs.lemmas.Bool.{both_ways, cases_Bool, cases_eq}
 use Rattle.std.proofs.lemmas.List.{length-append}
 use Rattle.std.proofs.lemmas.List.Elements.{filter-append}
@@ -104,6 +104,9 @@ keeps_on target l1 l2 f1 f2 x y z u v w one two = record {
       omega (arith, first, second, both));
 }
   where
+    clear_first : (c : ℕ) → is_set y.bytes c ≡ false → is_set x.bytes c ≡ false
+    clear_first c clear = elim (cases_Bool (is_set x.bytes c)) [ inl set ↦ absurd (both_ways (is_set y.bytes c) clear (one.kept c set)) | inr none ↦ none ]
+
     later : (m o : MemberView) → o.superblock.data_offset ≡ m.superblock.data_offset → o.superblock.data_size ≡ m.superblock.data_size → (i n : ℕ) → IsBesideSince u.array m x z i n → IsBesideSince v.array o y z i n
     later m o offset size i n h = record {
       from = (let from = h.from in omega (arith, offset, from));
@@ -112,9 +115,6 @@ keeps_on target l1 l2 f1 f2 x y z u v w one two = record {
           subst (λ (q : Chunks). IsBesideChunk q o.superblock.data_offset i n c) (sym one.lists.chunks)
           (subst (λ p. IsBesideChunk u.array.chunks p i n c) (sym offset) (h.beside c set (clear_first c clear)));
     }
-
-    clear_first : (c : ℕ) → is_set y.bytes c ≡ false → is_set x.bytes c ≡ false
-    clear_first c clear = elim (cases_Bool (is_set x.bytes c)) [ inl set ↦ absurd (both_ways (is_set y.bytes c) clear (one.kept c set)) | inr none ↦ none ]
 
 -- ---- one pass
 module _ (target : ℕ) (chunks : List ℕ) (p : PassView) (before after : Bitmap) (v x : MirrorView) (h : RecordsPass target chunks p before after v x) where
