@@ -16,6 +16,7 @@ use Rattle.md_state.specs.View.{Disk, MirrorView}
 use Rattle.md_array.specs.Checkpoints.{Checkpoints, FailsToCheckpoint}
 use Rattle.md_array.specs.Consistency.{IsConsistent}
 use Rattle.md_array.specs.Enrolling.{Enrols, FailsToEnrol}
+use Rattle.md_array.specs.Enrolments.{FailsAtSuper}
 use Rattle.md_array.specs.Events.{IsOldNewOrNone}
 use Rattle.md_array.specs.InTurn.{AllLeftWhole, AllOf, InTurn, Requests}
 use Rattle.md_array.specs.Recording.{super_write}
@@ -284,6 +285,14 @@ abbrev pub StopsEnrollingAnyhow : Type 0
 StopsEnrollingAnyhow =
     AtMoments (λ t.
     ((target : ℕ) (kept orphans : Bitmap) (filled new : MirrorView) → HasFilled target kept orphans t.mirror filled → Enrols target kept orphans filled new
+    → (left : List Disk) → MayAllBeLeft filled.disks new.disks (contents_of left) → IsStopUnfinished target t left))
+
+-- or the last write of that fails
+abbrev pub StopsUnenrolledAnyhow : Type 0
+StopsUnenrolledAnyhow =
+    AtMoments (λ t.
+    ((target : ℕ) (kept orphans : Bitmap) (filled new : MirrorView) → HasFilled target kept orphans t.mirror filled
+    → (f : FailsToEnrol target kept orphans filled new) → FailsAtSuper f
     → (left : List Disk) → MayAllBeLeft filled.disks new.disks (contents_of left) → IsStopUnfinished target t left))
 
 -- ---- within all of a rebuild that is done
