@@ -13,7 +13,6 @@ use Rattle.md_state.specs.View.{ArrayView, Disk, MirrorView}
 use Rattle.md_array.specs.Checkpoints.{Checkpoints, FailsToCheckpoint}
 use Rattle.md_array.specs.Enrolling.{Enrols, FailsToEnrol}
 use Rattle.md_array.specs.Enrolments.{FailsAtSuper, Prepares}
-use Rattle.md_array.specs.InTurn.{AllOf}
 use Rattle.md_array.proofs.Rebuilding.InBetween.{recovers_rebuilt}
 use Rattle.md_array.proofs.Rebuilding.PreparedEvent.{prepare_happens}
 use Rattle.md_array.proofs.Rebuilding.SpoiledEvent.{spoil_happens}
