@@ -1,6 +1,6 @@
 -- What the members in sync hold of the content in the model's world, they hold on their devices; and wherever nothing is in flight and the array is
 -- resynced, they hold some.
-use Rattle.std.proofs.Common.{◌≡◌, ◌∙◌, ℕ, ◌+◌, ◌*◌, ◌<◌, inl, true, false, cond, ◌&&◌, List, [], slice_get, Some, sym, ap}
+use Rattle.std.proofs.Common.{◌≡◌, ◌∙◌, ℕ, ◌+◌, ◌*◌, ◌<◌, inl, true, false, cond, ◌&&◌, [], slice_get, Some, sym, ap}
 use Rattle.std.proofs.lemmas.Option.{slice_get_within}
 use Rattle.md_device.specs.Splice.{part}
 use Rattle.md_kept_members.specs.View.{MemberView}

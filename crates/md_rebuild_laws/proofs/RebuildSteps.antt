@@ -1,21 +1,22 @@
 -- The steps of a rebuild, each from a moment of a mirror's life: by its events a run leads to the mirror after it.
-use Rattle.std.proofs.Common.{◌≡◌, ◌∙◌, ◌++◌, ℕ, true, false, List, [], ◌∷◌, None, Option, Some, refl, sym, ap, subst, inl, inr}
+use Rattle.std.proofs.Common.{◌≡◌, ◌∙◌, ◌++◌, ℕ, Bool, true, false, List, [], ◌∷◌, None, Option, Some, refl, sym, ap, subst, inl, inr}
 use Rattle.md_assembly.specs.States.{is_spare}
 use Rattle.md_bitmap.specs.Marks.{Bitmap}
 use Rattle.md_cert.specs.declared.slots.Slot.{Slot}
 use Rattle.md_kept_members.specs.View.{MemberView}
 use Rattle.md_model.specs.Events.{Event}
 use Rattle.md_model.proofs.Puts.{put-hit}
-use Rattle.md_passes.specs.Passes.{PassView, failed_chunks, slots_of}
+use Rattle.md_passes.specs.Passes.{PassView, failed_chunks}
 use Rattle.md_state.specs.Requests.{AreInFlight}
-use Rattle.md_state.specs.View.{ArrayView, MirrorView}
+use Rattle.md_state.specs.View.{MirrorView}
 use Rattle.md_array.specs.Admitting.{Admits, admit_event}
 use Rattle.md_array.specs.Checkpoints.{Checkpoints, checkpoint_event}
+use Rattle.md_array.specs.Events.{listed_on}
 use Rattle.md_array.specs.Filling.{Fills}
 use Rattle.md_array.specs.InTurn.{AllLeftWhole, AllOf, InTurn, LeftWhole, Requests}
 use Rattle.md_array.proofs.Steps.Turns.{all_on, all_such}
 use Rattle.md_laws.specs.ReadInTurn.{IsNoFailedRecord}
-use Rattle.md_laws.specs.Runs.{MirrorRun, Moment}
+use Rattle.md_laws.specs.Runs.{MirrorRun, Moment, then_as}
 use Rattle.md_laws.proofs.Runs.CallRuns.{admit_is_a_call, call_is_run, checkpoint_is_a_call, fill_is_a_call}
 use Rattle.md_laws.proofs.Runs.Moments.{run_then}
 use Rattle.md_metadata.specs.Going.{GoesOn, only_others}
@@ -98,15 +99,17 @@ pub fill_comes : (target : ℕ) (t : Moment) → IsSteadyAt t → (new : MirrorV
 fill_comes target t at new f =
     comes_by (Before target) t new (Event.Fill target ∷ []) (refl, tt) (fill_is_a_call target t.mirror new at.sound.sound f None t.requests at.sound.in_flight) at (tt, tt)
 
-pub checkpoint_comes : (target : ℕ) (copied : Bitmap) (t : Moment) → IsSteadyAt t → (new : MirrorView) → Checkpoints target copied t.mirror new → Comes (Before target) t new
-checkpoint_comes target copied t at new r =
-    comes_by (Before target) t new (checkpoint_event r ∷ []) (refl, tt) (checkpoint_is_a_call target copied t.mirror new at.sound.sound r None t.requests at.sound.in_flight) at
-    (holds_some t at r.may.idle r.may.resynced, tt)
-
--- that stores its superblock, so that it is not spoiled
+-- the target is not spoiled then
 pub record ComesUnspoiled (target : ℕ) (t : Moment) (new : MirrorView) : Type 0 where
   pub comes : Comes (Before target) t new
   pub unspoiled : comes.past.spoiled target ≡ false
+
+-- a checkpoint stores its superblock
+stored_super : (target offset : ℕ) (listed : ℕ → Bool) (t last : Moment) → MirrorRun t (Event.Checkpoint target offset listed ∷ []) last → last.spoiled target ≡ false
+stored_super target offset listed t last run =
+    let next : Moment = record (then_as t (Event.Checkpoint target offset listed) run.0 run.1) { mirror = last.mirror } in
+    let is : last ≡ next = run.3.is in
+    ap (λ (x : Moment). x.spoiled target) is ∙ put-hit target false t.spoiled
 
 pub checkpoint_unspoils : (target : ℕ) (copied : Bitmap) (t : Moment) → IsSteadyAt t → (new : MirrorView) → Checkpoints target copied t.mirror new → ComesUnspoiled target t new
 checkpoint_unspoils target copied t at new r =
@@ -119,8 +122,11 @@ checkpoint_unspoils target copied t at new r =
         past = x.0;
         run = subst (MirrorRun t (checkpoint_event r ∷ [])) (λ i. record x.0 { mirror = x.2.0 i; requests = x.2.1 i }) x.1;
       };
-      unspoiled = ap (λ (y : Moment). y.spoiled target) x.1.3.is ∙ put-hit target false t.spoiled;
+      unspoiled = stored_super target r.offset (listed_on new target) t x.0 x.1;
     }
+
+pub checkpoint_comes : (target : ℕ) (copied : Bitmap) (t : Moment) → IsSteadyAt t → (new : MirrorView) → Checkpoints target copied t.mirror new → Comes (Before target) t new
+checkpoint_comes target copied t at new r = (checkpoint_unspoils target copied t at new r).comes
 
 pub then_unspoiled : (target : ℕ) (t : Moment) {mid new : MirrorView} (c : Comes (Before target) t mid) → ComesUnspoiled target (end c) new → ComesUnspoiled target t new
 then_unspoiled target t {mid} {new} c d = record {

@@ -11,9 +11,8 @@ use Rattle.md_state.specs.Missing.{is_rebuilt}
 use Rattle.md_state.specs.Requests.{AreInFlight}
 use Rattle.md_state.specs.View.{ArrayView, Disk, MirrorView}
 use Rattle.md_array.specs.Checkpoints.{Checkpoints, FailsToCheckpoint}
-use Rattle.md_array.specs.Enrolling.{Enrols}
-use Rattle.md_array.specs.Enrolments.{Prepares}
-use Rattle.md_array.specs.InTurn.{AllOf}
+use Rattle.md_array.specs.Enrolling.{Enrols, FailsToEnrol}
+use Rattle.md_array.specs.Enrolments.{FailsAtSuper, Prepares}
 use Rattle.md_array.proofs.Rebuilding.InBetween.{recovers_rebuilt}
 use Rattle.md_array.proofs.Rebuilding.PreparedEvent.{prepare_happens}
 use Rattle.md_array.proofs.Rebuilding.SpoiledEvent.{spoil_happens}
@@ -24,7 +23,7 @@ use Rattle.md_laws.specs.Spoiled.{IsLeftSpoiled}
 use Rattle.md_laws.specs.StopsWithin.{MayAllBeLeft}
 use Rattle.md_laws.proofs.Runs.Moments.{run_then}
 use Rattle.md_laws.proofs.Runs.Rests.{at_once, at_rest}
-use Rattle.md_laws.proofs.Stops.Spoiled.{stops_as_spoiled, stops_at_enrol_as_spoiled}
+use Rattle.md_laws.proofs.Stops.Spoiled.{stops_as_spoiled, stops_at_enrol_as_spoiled, stops_at_failed_enrol_as_spoiled}
 use Rattle.md_copy.specs.Beginning.{MayRebuild}
 use Rattle.md_copy.specs.Passing.{AreListedPasses, CopiesAll, ListsPass, RecordsPass}
 use Rattle.md_copy.specs.Readying.{AdmitsAfter, FailsAdmission, Readies}
@@ -38,7 +37,7 @@ use Rattle.md_copy.proofs.Readied.{spare_rebuilt}
 use Rattle.md_copy.proofs.RefusedLeads.{unfinished_of}
 use Rattle.md_copy.proofs.StoredFirst.{rebuilt_still}
 use Rattle.md_copy.proofs.TargetStates.{target_rebuilt}
-use Rattle.md_rebuild_laws.specs.StoppedRebuilds.{Anyhow, HasFilled, IsStopBefore, IsStopUnfinished, StopsAdmittingAnyhow, StopsAtCheckpointAnyhow, StopsCopying, StopsEnrollingAnyhow, StopsInListed, StopsInPass, StopsInPasses, StopsReadying, StopsRecordingAnyhow, StopsTelling, StopsUnadmittedAnyhow}
+use Rattle.md_rebuild_laws.specs.StoppedRebuilds.{Anyhow, HasFilled, IsStopBefore, IsStopUnfinished, StopsAdmittingAnyhow, StopsAtCheckpointAnyhow, StopsCopying, StopsEnrollingAnyhow, StopsInListed, StopsInPass, StopsInPasses, StopsReadying, StopsRecordingAnyhow, StopsTelling, StopsUnadmittedAnyhow, StopsUnenrolledAnyhow}
 use Rattle.md_rebuild_laws.proofs.RebuildSteps.{Before, IfSome, if_some, listed_comes, so_last, un_listed, until_last}
 use Rattle.md_rebuild_laws.proofs.Steady.{Comes, IsSteadyAt, end, end_steady, steady_at}
 use Rattle.md_rebuild_laws.proofs.StoppedRebuilds.{after_stop, all_filled, before_admission, before_failure, before_stop, begun, first_done, listing_stop, pass_filling_stop, recovers_filled, recovers_made, so_begun, un_begun, until_filled, until_made}
@@ -242,6 +241,11 @@ module _ (target : ℕ) (kept orphans : Bitmap) (t : Moment) (at : IsSteadyAt t)
       let x = stops_at_enrol_as_spoiled target kept orphans filled new (contents_of left) h.fills.sound (end_steady done at).sound.honest h.fills.has.may r may in
       prepared_stop x.0 x.1 left x.2
 
+  pub unenrolled_anyhow : (new : MirrorView) (f : FailsToEnrol target kept orphans filled new) → FailsAtSuper f → (left : List Disk) → MayAllBeLeft filled.disks new.disks (contents_of left) → IsStopUnfinished target t left
+  unenrolled_anyhow new f at_super left may =
+      let x = stops_at_failed_enrol_as_spoiled target kept orphans filled new (contents_of left) h.fills.sound (end_steady done at).sound.honest h.fills.has.may f at_super may in
+      prepared_stop x.0 x.1 left x.2
+
 -- ---- in lives
 pub stops_telling : StopsTelling
 stops_telling before m start es rest final t life target new e left within = telling_anyhow target t (steady_at before m start es rest final t life) new e left within
@@ -265,3 +269,7 @@ stops_at_checkpoint_anyhow before m start es rest final t life target copied new
 pub stops_enrolling_anyhow : StopsEnrollingAnyhow
 stops_enrolling_anyhow before m start es rest final t life target kept orphans filled new h r left within =
     enrolling_anyhow target kept orphans t (steady_at before m start es rest final t life) filled h new r left within
+
+pub stops_unenrolled_anyhow : StopsUnenrolledAnyhow
+stops_unenrolled_anyhow before m start es rest final t life target kept orphans filled new h f at_super left within =
+    unenrolled_anyhow target kept orphans t (steady_at before m start es rest final t life) filled h new f at_super left within

@@ -1,5 +1,5 @@
 -- A moment of a mirror's life, and moments to which events lead from there.
-use Rattle.std.proofs.Common.{◌≡◌, ◌∙◌, ℕ, true, List, [], ◌∷◌, ◌++◌, None, refl, sym, ap, subst}
+use Rattle.std.proofs.Common.{◌≡◌, true, List, [], ◌++◌, None, refl, sym, subst}
 use Rattle.md_model.specs.Content.{Content, Holds}
 use Rattle.md_model.specs.Devices.{Super}
 use Rattle.md_model.specs.Events.{Event}

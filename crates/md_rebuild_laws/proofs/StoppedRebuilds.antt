@@ -1,10 +1,9 @@
 -- A stop within a rebuild is a stop of a run.
-use Rattle.std.proofs.Common.{◌≡◌, ◌∙◌, ◌⊎◌, ◌++◌, ℕ, Bool, true, false, true≢false, List, [], ◌∷◌, Option, Some, None, inl, inr, refl, sym, ap, subst, slice_get}
+use Rattle.std.proofs.Common.{◌≡◌, ◌∙◌, ◌⊎◌, ◌++◌, ℕ, true, false, true≢false, List, [], ◌∷◌, Option, Some, None, inl, inr, refl, sym, ap, subst}
 use Rattle.std.proofs.lemmas.List.{append-nil}
 use Rattle.std.proofs.lemmas.Option.{same_Some}
 use Rattle.md_assembly.specs.States.{is_in_sync, is_recorded, is_recovering, is_spare}
 use Rattle.md_bitmap.specs.Marks.{Bitmap}
-use Rattle.md_kept_members.specs.TakingBack.{admitted_member}
 use Rattle.md_kept_members.specs.View.{MemberView}
 use Rattle.md_model.specs.Events.{Event}
 use Rattle.md_model.proofs.Cases.{by_test}
@@ -15,15 +14,14 @@ use Rattle.md_state.specs.Missing.{is_rebuilt}
 use Rattle.md_state.specs.Requests.{AreInFlight}
 use Rattle.md_state.specs.View.{ArrayView, Disk, MirrorView}
 use Rattle.md_array.specs.Checkpoints.{Checkpoints, FailsToCheckpoint}
-use Rattle.md_array.specs.Enrolling.{Enrols, FailsToEnrol, MayEnrol}
+use Rattle.md_array.specs.Enrolling.{Enrols, FailsToEnrol}
 use Rattle.md_array.specs.Events.{Does}
 use Rattle.md_array.specs.Filling.{Fills}
 use Rattle.md_array.specs.InTurn.{AllLeftWhole, AllOf, Did, InTurn, IsInOrder, LeftWhole, Requests}
 use Rattle.md_array.specs.Worlds.{AreHonest, block_on}
-use Rattle.md_array.proofs.Rebuilding.InBetween.{recovers_rebuilt}
 use Rattle.md_array.proofs.Steps.Turns.{all_on, all_such}
 use Rattle.md_laws.specs.Left.{IsLeft, IsLeftEnrolled, IsLeftEnrolling, IsLeftFilling, IsLeftPreparing, IsLeftRecording, IsLeftTargeted, IsLeftTargeting, contents_of}
-use Rattle.md_laws.specs.Runs.{MirrorRun, Moment, then_as}
+use Rattle.md_laws.specs.Runs.{Moment, then_as}
 use Rattle.md_laws.specs.StopsReadAs.{ReadsAs}
 use Rattle.md_laws.specs.StopsWithin.{MayAllBeLeft}
 use Rattle.md_laws.proofs.Runs.Moments.{run_then}
@@ -36,7 +34,7 @@ use Rattle.md_copy.specs.Beginning.{MayRebuild}
 use Rattle.md_copy.specs.Listing.{IsStoringList, NotesLists}
 use Rattle.md_copy.specs.Passing.{AreListedPasses, CopiesAll, ListsPass, MakesPass, RecordsPass}
 use Rattle.md_copy.specs.Readying.{AdmitsAfter, AdmitsFirst, FailsAdmission, Readies}
-use Rattle.md_copy.specs.RebuildEvents.{FailsAtMarks, IsBeforeEnrol}
+use Rattle.md_copy.specs.RebuildEvents.{FailsAtMarks}
 use Rattle.md_copy.specs.Rebuilding.{EndsStoring}
 use Rattle.md_copy.specs.Rebuilt.{failed_of}
 use Rattle.md_copy.specs.Sources.{missing_chunks}
@@ -45,7 +43,7 @@ use Rattle.md_copy.proofs.HeldRecorded.{out_of_sync, target_same}
 use Rattle.md_copy.proofs.LentBack.{rebuilt_out}
 use Rattle.md_copy.proofs.PassesTold.{HoldsSoFar, chain_holds, listed_holds}
 use Rattle.md_copy.proofs.PassRecorded.{filled_ready, recorded_ready}
-use Rattle.md_copy.proofs.Readied.{admitted_is, recovering_admitted, spare_is, spare_rebuilt}
+use Rattle.md_copy.proofs.Readied.{recovering_admitted, spare_is, spare_rebuilt}
 use Rattle.md_copy.proofs.ReadyStill.{IsCalm, IsOnMembers, ready_filled, ready_noted, stays_all}
 use Rattle.md_copy.proofs.RebuildLeads.{begin_holds, filled, listing_before, storing_before}
 use Rattle.md_copy.proofs.StoringKeeps.{due_within}
@@ -53,7 +51,7 @@ use Rattle.md_copy.proofs.TargetStates.{target_rebuilt}
 use Rattle.md_copy.proofs.UnfinishedEnrol.{prepares}
 use Rattle.md_rebuild_laws.specs.StoppedRebuilds.{HasFilled, HasPassed, IsLeftWhole, IsStopAfter, IsStopBefore, IsSuperWhole, StopsAdmitting, StopsAtCheckpoint, StopsAtFailedCheckpoint, StopsCopying, StopsEnrolling, StopsFilling, StopsFirst, StopsIn, StopsInListed, StopsInPass, StopsInPasses, StopsListing, StopsPassUnrecorded, StopsReadying, StopsRecording, StopsStoring, StopsUnadmitted, StopsUnenrolled, StopsUnrecorded}
 use Rattle.md_rebuild_laws.proofs.RebuildSteps.{Before, ComesUnspoiled, IfSome, admission_comes, checkpoint_comes, checkpoint_unspoils, fill_comes, filled_comes, if_some, listed_comes, noted_comes, noting_comes, passes_come, ready_comes, recorded_comes, so_last, some_map, stored_comes, stores_come, then_unspoiled, un_listed, un_noted, unshifted_if, until_last, whole_stores}
-use Rattle.md_rebuild_laws.proofs.Steady.{Comes, IsSteadyAt, comes_by, comes_then, end, end_steady, steady_at}
+use Rattle.md_rebuild_laws.proofs.Steady.{Comes, IsSteadyAt, comes_then, end, end_steady, steady_at}
 use Rattle.md_rebuild_laws.proofs.Unshifted.{Unshifted, unshifted_ready, whole_lists}
 
 -- ---- who is in sync

@@ -1,5 +1,5 @@
 -- Logs that were read without a shift stay so, or are stored: of the members in sync, by each step of a rebuild up to its enrolment.
-use Rattle.std.proofs.Common.{◌≡◌, ◌∙◌, ◌++◌, ℕ, true, false, List, [], ◌∷◌, Option, Some, map, set, slice_get, refl, sym, ap, subst, inl, inr}
+use Rattle.std.proofs.Common.{◌≡◌, ◌∙◌, ℕ, true, false, List, [], ◌∷◌, Option, Some, map, set, slice_get, refl, sym, ap, inl, inr}
 use Rattle.std.proofs.lemmas.Bool.{both_ways}
 use Rattle.std.proofs.lemmas.Option.{same_Some}
 use Rattle.md_assembly.specs.States.{is_in_sync}
@@ -9,7 +9,7 @@ use Rattle.md_kept_members.specs.Members.{made_due}
 use Rattle.md_kept_members.specs.TakingBack.{admitted_member, with_offset}
 use Rattle.md_kept_members.specs.View.{MemberView}
 use Rattle.md_model.specs.Events.{Event}
-use Rattle.md_state.specs.Members.{IsInSync, IsMember}
+use Rattle.md_state.specs.Members.{IsInSync}
 use Rattle.md_state.specs.NotingBad.{logged}
 use Rattle.md_state.specs.View.{ArrayView, MirrorView}
 use Rattle.md_array.specs.Admitting.{Admits}
@@ -19,7 +19,7 @@ use Rattle.md_array.proofs.General.Indices.{at_map}
 use Rattle.md_array.proofs.General.Replaced.{of_set}
 use Rattle.md_metadata.specs.Storing.{IsNoFailure}
 use Rattle.md_copy.specs.Listing.{IsStoringList, ListsAll, NotesLists}
-use Rattle.md_copy.specs.Readying.{AdmitsAfter, AdmitsFirst, Readies}
+use Rattle.md_copy.specs.Readying.{AdmitsFirst, Readies}
 use Rattle.md_copy.specs.Storing.{StoresFirst}
 use Rattle.md_copy.proofs.HeldRecorded.{out_of_sync}
 

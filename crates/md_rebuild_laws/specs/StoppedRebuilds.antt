@@ -291,8 +291,8 @@ StopsEnrollingAnyhow =
 abbrev pub StopsUnenrolledAnyhow : Type 0
 StopsUnenrolledAnyhow =
     AtMoments (λ t.
-    ((target : ℕ) (planned : Planned) (copied orphans : Bitmap) (filled new : MirrorView) → FillsBy target planned copied orphans t.mirror filled
-    → (f : FailsToEnrol target copied orphans filled new) → FailsAtSuper f
+    ((target : ℕ) (kept orphans : Bitmap) (filled new : MirrorView) → HasFilled target kept orphans t.mirror filled
+    → (f : FailsToEnrol target kept orphans filled new) → FailsAtSuper f
     → (left : List Disk) → MayAllBeLeft filled.disks new.disks (contents_of left) → IsStopUnfinished target t left))
 
 -- ---- within all of a rebuild that is done

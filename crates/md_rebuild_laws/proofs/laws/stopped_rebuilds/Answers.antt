@@ -1,5 +1,5 @@
 use Rattle.md_rebuild_laws.proofs.RebuildRun.{stops_anyhow, stops_enrolled, stops_in_rebuild, stops_settling}
-use Rattle.md_rebuild_laws.proofs.SpoiledRebuilds.{stops_admitting_anyhow, stops_at_checkpoint_anyhow, stops_enrolling_anyhow, stops_recording_anyhow, stops_telling, stops_unadmitted_anyhow}
+use Rattle.md_rebuild_laws.proofs.SpoiledRebuilds.{stops_admitting_anyhow, stops_at_checkpoint_anyhow, stops_enrolling_anyhow, stops_recording_anyhow, stops_telling, stops_unadmitted_anyhow, stops_unenrolled_anyhow}
 use Rattle.md_rebuild_laws.proofs.StoppedRebuilds.{stops_admitting, stops_at_checkpoint, stops_at_failed_checkpoint, stops_enrolling, stops_filling, stops_listing, stops_pass_unrecorded, stops_recording, stops_storing, stops_unadmitted, stops_unenrolled, stops_unrecorded}
 use Rattle.md_rebuild_laws.proofs.laws.stopped_rebuilds.Goals as goal
 
@@ -25,6 +25,7 @@ returns c = record {
   recording_anyhow = stops_recording_anyhow;
   checkpoint_anyhow = stops_at_checkpoint_anyhow;
   enrolling_anyhow = stops_enrolling_anyhow;
+  unenrolled_anyhow = stops_unenrolled_anyhow;
   done = stops_in_rebuild;
   anyhow = stops_anyhow;
 }
