@@ -66,6 +66,11 @@ impl<'a> Progress<'a> {
         self.draw_if_due();
     }
 
+    /// Counts a read that failed.
+    pub fn add_failed_read(&self) {
+        self.copying.count_failed();
+    }
+
     /// Counts bytes that were written.
     pub fn add_written(&self, bytes: usize) {
         self.written.fetch_add(bytes as u64, Ordering::SeqCst);
