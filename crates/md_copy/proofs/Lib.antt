@@ -2,6 +2,7 @@ pub mod Answered
 pub mod Begun
 pub mod Beside
 pub mod Carried
+pub mod CheckpointDone
 pub mod Chosen
 pub mod Covered
 pub mod EnrolSets
@@ -31,8 +32,10 @@ pub mod PlanChunks
 pub mod Planned
 pub mod Readied
 pub mod ReadyStill
+pub mod RebuildLeads
 pub mod RebuiltByCall
 pub mod RebuiltMember
+pub mod RefusedLeads
 pub mod Returned
 pub mod Rows
 pub mod Sectors
@@ -44,4 +47,5 @@ pub mod StartsReadied
 pub mod StoredFirst
 pub mod StoringKeeps
 pub mod TargetStates
+pub mod UnfinishedEnrol
 pub mod Unmarked

@@ -224,18 +224,31 @@ loses_recordable target k v w other same stays sound running ready = record {
 }
 
 module _ (Of : Event → Type 0) (is : (e : Event) → Of e → IsOnMembers e) (target k : ℕ) (v w : MirrorView) (other : k ≢ target) where
-  pub lost_recordable : LosesStoring Of k v w → w.array.halted ≡ false → IsRecordable target v → IsRecordable target w
-  lost_recordable l running ready =
+  lost_stays : LosesStoring Of k v w → StaysBut k v.array w.array
+  lost_stays l =
       let goes = l.loses.goes in
-      loses_recordable target k v w other goes.array
-      (stays_all k goes.events None v w (λ n. None) (λ n. None) (all_on_members Of is goes.events goes.steps) (calm_at_last k goes.events l.last) (goes.leads None (λ n. None) (λ n p e. absurd (none-some p e))))
-      goes.sound running ready
+      stays_all k goes.events None v w (λ n. None) (λ n. None) (all_on_members Of is goes.events goes.steps) (calm_at_last k goes.events l.last) (goes.leads None (λ n. None) (λ n p e. absurd (none-some p e)))
+
+  pub lost_recordable : LosesStoring Of k v w → w.array.halted ≡ false → IsRecordable target v → IsRecordable target w
+  lost_recordable l running ready = loses_recordable target k v w other l.loses.goes.array (lost_stays l) l.loses.goes.sound running ready
+
+  -- the target is recovering still
+  pub lost_recovering : LosesStoring Of k v w → ((x : MemberView) → IsMember v.array target x → is_recovering x.state ≡ true) → (y : MemberView) → IsMember w.array target y → is_recovering y.state ≡ true
+  lost_recovering l was y at = (let x = (lost_stays l).state target y (λ e. other (sym e)) at in ap is_recovering x.2 ∙ was x.0 x.1)
 
 pub storing_lost : (target k : ℕ) (v w : MirrorView) → k ≢ target → LosesStoring IsStoring k v w → w.array.halted ≡ false → IsRecordable target v → IsRecordable target w
 storing_lost target k v w other = lost_recordable IsStoring on_members target k v w other
 
 pub list_lost : (target k : ℕ) (v w : MirrorView) → k ≢ target → LosesStoring IsStoringList k v w → w.array.halted ≡ false → IsRecordable target v → IsRecordable target w
 list_lost target k v w other = lost_recordable IsStoringList list_on_members target k v w other
+
+pub storing_recovers : (target k : ℕ) (v w : MirrorView) → k ≢ target → LosesStoring IsStoring k v w → ((x : MemberView) → IsMember v.array target x → is_recovering x.state ≡ true)
+    → (y : MemberView) → IsMember w.array target y → is_recovering y.state ≡ true
+storing_recovers target k v w other = lost_recovering IsStoring on_members target k v w other
+
+pub list_recovers : (target k : ℕ) (v w : MirrorView) → k ≢ target → LosesStoring IsStoringList k v w → ((x : MemberView) → IsMember v.array target x → is_recovering x.state ≡ true)
+    → (y : MemberView) → IsMember w.array target y → is_recovering y.state ≡ true
+list_recovers target k v w other = lost_recovering IsStoringList list_on_members target k v w other
 
 -- where the mirror is halted, it is
 pub halted_then : (mid new : MirrorView) (others : Requests) (e : Event) → IsOnMembers e → HaltsAt mid others e new → new.array.halted ≡ true

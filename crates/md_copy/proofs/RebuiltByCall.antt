@@ -3,6 +3,8 @@ use Rattle.std.proofs.Common.{◌≡◌, ◌∙◌, ◌⊎◌, ◌↔◌, ℕ, s
 use Rattle.std.specs.Int.{div_ceil}
 use Rattle.std.specs.List.{range_with_len}
 use Rattle.std.proofs.lemmas.List.FromFn.{get_or-range_with_len, length-range_with_len}
+use Rattle.std.proofs.lemmas.Option.{same_Some}
+use Rattle.md_assembly.specs.States.{is_in_sync}
 use Rattle.md_badblocks.specs.Runs.{IsBad}
 use Rattle.md_bitmap.specs.declared.chunks.Chunks.{Chunks}
 use Rattle.md_bitmap.specs.Chunks.{InChunk}
@@ -11,6 +13,7 @@ use Rattle.md_kept_members.specs.Enrolling.{IsOfChunk}
 use Rattle.md_kept_members.specs.View.{MemberView}
 use Rattle.md_metadata.specs.Going.{GoesOn, only_others}
 use Rattle.md_metadata.specs.Storing.{IsStoring}
+use Rattle.md_metadata.proofs.Going.{goes_nowhere}
 use Rattle.md_passes.proofs.ArrayPasses.{copies_add}
 use Rattle.md_passes.specs.Listed.{ArrayPasses, IsOfFailed, ServesAs, most_failures}
 use Rattle.md_state.specs.Members.{IsMember}
@@ -19,12 +22,12 @@ use Rattle.md_state.specs.View.{MirrorView}
 use Rattle.md_copy.specs.declared.rebuilt.Rebuilt.{Rebuilt}
 use Rattle.md_copy.specs.Preparing.{is_in}
 use Rattle.md_copy.specs.Rebuilding.{Rebuilds, RebuildsReadied}
-use Rattle.md_copy.specs.Rebuilt.{AllCounted, HaltsFrom, HasRebuilt, IsRebuilt, ListsGrow, failed_of}
+use Rattle.md_copy.specs.Rebuilt.{AllCounted, HaltsFrom, HasRebuilt, IsRebuilt, IsRebuiltInSync, ListsGrow, failed_of}
 use Rattle.md_copy.specs.Sources.{missing_chunks}
 use Rattle.md_copy.specs.Storing.{Settles}
 use Rattle.md_copy.proofs.PassesTold.{HoldsSoFar, begins_holding}
 use Rattle.md_copy.proofs.Readied.{ready_of}
-use Rattle.md_copy.proofs.RebuiltMember.{all_so, copied_so, counted_so, lists_so, passes_so, rebuilt_so}
+use Rattle.md_copy.proofs.RebuiltMember.{all_so, copied_so, counted_so, in_sync_now, lists_so, now_there, passes_so, rebuilt_so}
 use Rattle.md_copy.proofs.StartedAs.{IsAs, StartsAs, rebuilt_from}
 use Rattle.md_copy.proofs.StartsReadied.{starts_of}
 
@@ -152,6 +155,17 @@ module _ (target : ℕ) (told : Rebuilt) (old new : MirrorView) (h : Rebuilds ta
   few =
       let most = copies_add.most old.array in
       (all_so target m h.none v new told r at_m so h.begins.is_none.bits last.0 last.1.goes).few (most_failures old.array) (most.0, most.1, λ c role serves. most.2 c role ((serves_both c role).0 serves))
+
+  -- once it is in sync
+  pub rebuilt_member : IsRebuiltInSync target r.copied r.orphans v r.by.enrolled
+  rebuilt_member =
+      let goes = goes_nowhere only_others IsStoring r.by.enrolled r.by.sound in
+      let is = rebuilt_so target m h.none v new told r at_m so h.begins.is_none.bits r.by.enrolled goes in
+      record {
+        rebuilt = is;
+        in_sync = ap (λ (n : MemberView). is_in_sync n.state) (same_Some is.now r.by.enrols.member (sym is.there ∙ now_there target m h.none v new told r at_m so h.begins.is_none.bits r.by.enrolled goes))
+            ∙ in_sync_now target m h.none v new told r at_m so h.begins.is_none.bits r.by.enrolled goes;
+      }
 
   pub has_rebuilt : HasRebuilt target told old new
   has_rebuilt = record {

@@ -142,7 +142,7 @@ module _ (target : ℕ) (m : MemberView) (none : Bitmap) (v new : MirrorView) (t
   comes_is : h.by.enrols.comes.member ≡ mf
   comes_is = same_Some h.by.enrols.comes.member mf (sym h.by.enrols.comes.at ∙ at_f)
 
-  now_there : IsMember x.array target nx
+  pub now_there : IsMember x.array target nx
   now_there =
       let low = slice_get_within f.array.members target mf at_f in
       let many = length-map f.array.members made_due in

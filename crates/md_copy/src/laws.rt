@@ -7,7 +7,14 @@ ghost use Rattle.md_copy.specs.declared.rebuilt.Rebuilt.{Rebuilt};
 ghost use Rattle.md_copy.specs.Readying.{FailsAdmission};
 ghost use Rattle.md_copy.specs.RebuildEvents.{AsksOfFailure, LeadsUnadmitted, LeadsUnfinished, RebuildLeads};
 ghost use Rattle.md_copy.specs.Rebuilding.{Rebuilds, RefusesRebuild};
-ghost use Rattle.md_copy.specs.Rebuilt.{HasRebuilt};
+ghost use Rattle.md_copy.specs.Rebuilt.{HasRebuilt, IsRebuiltInSync};
+
+/// From the moment at which a pass may be planned to that at which the target is in sync: whatever the steps of a
+/// rebuild, its target is rebuilt.
+pub fn rebuilt_member()
+    ensures { (target : ℕ) (told : Rebuilt) (old new : MirrorView) → (h : Rebuilds target told old new)
+        → IsRebuiltInSync target h.rebuilds.copied h.rebuilds.orphans h.ready h.rebuilds.by.enrolled }
+{}
 
 /// From before the call to after it: whatever the steps of a rebuild, its target is rebuilt.
 pub fn rebuilt_by_call()

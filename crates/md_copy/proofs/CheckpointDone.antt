@@ -1,0 +1,56 @@
+-- A checkpoint is an event of the array's model, and one that fails spoils its member.
+use Rattle.std.proofs.Common.{◌≡◌, ◌∙◌, ℕ, false, List, set, refl, sym, ap}
+use Rattle.std.proofs.lemmas.Option.{slice_get_within}
+use Rattle.md_bitmap.specs.Marks.{Bitmap}
+use Rattle.md_kept_members.specs.TakingBack.{with_offset}
+use Rattle.md_kept_members.specs.View.{MemberView}
+use Rattle.md_model.specs.Content.{Content}
+use Rattle.md_state.specs.Checkpoints.{with_offset_of}
+use Rattle.md_state.specs.View.{ArrayView, MirrorView}
+use Rattle.md_array.specs.Checkpoints.{Checkpoints, MovesOffset, checkpoint_event}
+use Rattle.md_array.specs.Consistency.{IsConsistent}
+use Rattle.md_array.specs.Enrolling.{HasContent}
+use Rattle.md_array.specs.Events.{Happens}
+use Rattle.md_array.specs.Recording.{Records}
+use Rattle.md_array.proofs.General.Indices.{at_set_same}
+use Rattle.md_array.proofs.Rebuilding.CheckpointEvent as event
+use Rattle.md_array.proofs.Rebuilding.InBetween.{recovers_rebuilt}
+use Rattle.md_array.proofs.Rebuilding.OffsetMoved.{moved_is_consistent, set_again}
+use Rattle.md_array.proofs.Steps.SuperRecorded.{record_happens}
+use Rattle.md_array.proofs.Steps.TargetUnrecorded.{rebuilt_recorded}
+
+module _ (k : ℕ) (copied : Bitmap) (old new : MirrorView) (c : IsConsistent old) (r : Checkpoints k copied old new) (sound : IsConsistent new) where
+  abbrev m : MemberView
+  m = r.may.member
+
+  abbrev n : MemberView
+  n = with_offset r.offset m
+
+  abbrev had : ℕ
+  had = m.superblock.recovery_offset
+
+  -- in memory alone it has the offset
+  abbrev mid : MirrorView
+  mid = record old { array = with_offset_of old.array k m r.offset }
+
+  moves : MovesOffset k r.offset had old mid
+  moves = record { member = m; at = r.may.at; had_is = refl; moved = refl }
+
+  mid_sound : IsConsistent mid
+  mid_sound = moved_is_consistent k r.offset had old mid c moves r.may.recovering
+
+  records : Records k mid new
+  records = record {
+    member = n;
+    may = record {
+      running = r.may.idle.running;
+      at = at_set_same old.array.members k n (slice_get_within old.array.members k m r.may.at);
+      active = rebuilt_recorded m.state (recovers_rebuilt m.state r.may.recovering);
+      readable = r.readable;
+    };
+    disks = r.disks;
+    array = r.array ∙ ap (λ (xs : List MemberView). record old.array { members = xs }) (sym (set_again old.array.members k n (record n { due = false })));
+  }
+
+  pub checkpoint_done : (content : Content) → HasContent old.disks old.array content → Happens old (checkpoint_event r) new
+  checkpoint_done content has = event.checkpoint_happens k copied had old mid new c r.may r.offset r.next moves records sound (record_happens k mid new mid_sound records) content has

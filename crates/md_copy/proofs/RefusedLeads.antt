@@ -1,0 +1,415 @@
+-- A rebuild that is refused is a list of events of the array's model, of which the last may spoil its target.
+use Rattle.std.proofs.Common.{◌≡◌, ◌≢◌, ◌∙◌, ◌⊎◌, ℕ, true, false, Option, None, List, [], ◌∷◌, ◌++◌, append_assoc, slice_get, refl, sym, ap, subst, inl, inr}
+use Rattle.std.proofs.lemmas.Bool.{both_ways}
+use Rattle.std.proofs.lemmas.List.{append-nil}
+use Rattle.std.proofs.lemmas.Option.{same_Some}
+use Rattle.md_assembly.specs.States.{is_in_sync, is_recovering}
+use Rattle.md_bitmap.specs.Marks.{Bitmap}
+use Rattle.md_kept_members.specs.TakingBack.{admitted_member}
+use Rattle.md_kept_members.specs.View.{MemberView}
+use Rattle.md_model.specs.Events.{Event}
+use Rattle.md_passes.specs.Listed.{IsArrayPass}
+use Rattle.md_passes.specs.Passes.{PassView, slots_of}
+use Rattle.md_state.specs.Admitting.{admitted}
+use Rattle.md_state.specs.Members.{IsMember}
+use Rattle.md_state.specs.Missing.{is_rebuilt}
+use Rattle.md_state.specs.Requests.{IsPending}
+use Rattle.md_state.specs.View.{ArrayView, MirrorView}
+use Rattle.md_array.specs.Checkpoints.{FailsToCheckpoint, checkpoint_event}
+use Rattle.md_array.specs.Consistency.{IsConsistent}
+use Rattle.md_array.specs.Enrolling.{FailsToEnrol}
+use Rattle.md_array.specs.Enrolments.{FailsAtSuper}
+use Rattle.md_array.specs.InTurn.{AllOf}
+use Rattle.md_array.specs.RecordingTarget as array_target
+use Rattle.md_array.specs.Spoiling.{SpoilsTarget}
+use Rattle.md_array.proofs.Rebuilding.AdmitAnswered.{admit_spoils}
+use Rattle.md_array.proofs.Rebuilding.CheckpointAnswered.{checkpoint_spoils}
+use Rattle.md_array.proofs.Rebuilding.EnrolSpoils.{unenrol_leads}
+use Rattle.md_array.proofs.Rebuilding.PreparedEvent.{prepare_happens}
+use Rattle.md_array.proofs.Rebuilding.SpoiledEvent.{spoil_happens}
+use Rattle.md_array.proofs.Rebuilding.TargetEvent.{target_fails_happens}
+use Rattle.md_array.proofs.Rebuilding.TargetLeft.{left_happens}
+use Rattle.md_array.proofs.Steps.Turns.{all_on}
+use Rattle.md_copy.specs.declared.fault.RebuildFault.{RebuildFault}
+use Rattle.md_copy.specs.declared.fault.RebuildFault.TheVariants.{Halted, NotSpare, Dirty, InFlight, LogFull, NoMemory, TargetFault, MetadataFault, EventsFull}
+use Rattle.md_copy.specs.Filling.{IsFilling}
+use Rattle.md_copy.specs.Leaving.{Leaves, LeavesAfter}
+use Rattle.md_copy.specs.Listing.{StopsAtList, StopsNoting}
+use Rattle.md_copy.specs.Passing.{BreaksOff, CopiesAll, EndsBetween, FailsListing, FailsRecording}
+use Rattle.md_copy.specs.RebuildEvents.{AsksOfEnrol, AsksOfFailure, FailsAtMarks, HaltsIn, IsBeforeEnrol, IsListOfUnfinished, IsOfUnfinished, LeadsUnadmitted, LeadsUnfinished}
+use Rattle.md_copy.specs.Rebuilding.{EndsCopied, EndsFilled, EndsReadied, EndsStoring, FillsBy, LacksMemory, LacksRoom, LosesSource, LosesTarget, RefusesRebuild}
+use Rattle.md_copy.specs.Enrolled.{HasNoRoom}
+use Rattle.md_copy.specs.Ready.{IsReady}
+use Rattle.md_copy.specs.Readying.{FailsAdmission, StopsAdmitted}
+use Rattle.md_copy.specs.Sources.{missing_chunks}
+use Rattle.md_copy.specs.Storing.{FailsOnTarget, StopsAt}
+use Rattle.md_copy.specs.Targets.{IsTarget}
+use Rattle.md_copy.proofs.HeldRecorded.{out_of_sync}
+use Rattle.md_copy.proofs.PassRecorded.{recorded_ready}
+use Rattle.md_copy.proofs.PassesTold.{HoldsSoFar, chain_holds, filled_ready}
+use Rattle.md_copy.proofs.Readied.{recovering_admitted, spare_rebuilt}
+use Rattle.md_copy.proofs.ReadyStill.{list_halted, list_recovers, ready_noted, storing_halted, storing_recovers}
+use Rattle.md_copy.proofs.RebuildLeads.{Before, LeadsIn, admission_events, admission_leads, as_such, begin_events, begin_holds, begin_leads, both_lead, chain_events, chain_leads, copying_events, copying_leads, either_leads, fill_leads, leads_by, listing_before, listing_leads, none_lead, noting_leads, one_leads, recorded_events, recorded_leads, checkpoint_leads, storing_before, storing_leads}
+use Rattle.md_copy.proofs.StoredFirst.{rebuilt_still}
+use Rattle.md_copy.proofs.TargetStates.{target_rebuilt}
+use Rattle.md_copy.proofs.UnfinishedEnrol.{prepares}
+
+-- of these a rebuild that is not done may be made
+pub unfinished_of : (target : ℕ) (e : Event) → IsBeforeEnrol target e → IsOfUnfinished target e
+unfinished_of target (Event.SpoilTarget k) of = absurd of
+unfinished_of target e of = of
+
+module _ (target : ℕ) where
+  abbrev pub Unfinished : Event → Type 0
+  Unfinished = IsOfUnfinished target
+
+  as_unfinished : (es : List Event) (old new : MirrorView) → LeadsIn (Before target) es old new → LeadsIn Unfinished es old new
+  as_unfinished es old new g = as_such (Before target) Unfinished (unfinished_of target) es old new g
+
+  unspoiled : (es : List Event) → AllOf (Before target) es → IsListOfUnfinished target es
+  unspoiled es all = record { before = es; first = all; last = []; spoils = inl refl; list = sym (append-nil es) }
+
+  -- ---- where events lead
+  leads_there : {es : List Event} (old new : MirrorView) → LeadsIn (Before target) es old new → LeadsUnfinished target old new
+  leads_there {es} old new g = record {
+    goes = record { last = new; ends = inl refl; leads = leads_by (as_unfinished es old new g) };
+    list = unspoiled es g.steps;
+  }
+
+  none : (old new : MirrorView) → IsConsistent old → new ≡ old → LeadsUnfinished target old new
+  none old new sound same = leads_there old new (subst (LeadsIn (Before target) [] old) (sym same) (none_lead (Before target) old sound))
+
+  -- to right before a write that halted the mirror
+  leads_halted : {es : List Event} (old last new : MirrorView) → LeadsIn (Before target) es old last → HaltsIn (Before target) last new → LeadsUnfinished target old new
+  leads_halted {es} old last new g h = record {
+    goes = record {
+      last = last;
+      ends = inr (record { failing = h.failing; of = unfinished_of target h.failing h.of; halts = h.halts });
+      leads = leads_by (as_unfinished es old last g);
+    };
+    list = unspoiled es g.steps;
+  }
+
+  -- to a mirror whose target is spoiled then
+  leads_spoiled : {es : List Event} (old mid new : MirrorView) → LeadsIn (Before target) es old mid → SpoilsTarget target mid new → IsConsistent new → LeadsUnfinished target old new
+  leads_spoiled {es} old mid new g s sound = record {
+    goes = record {
+      last = new;
+      ends = inl refl;
+      leads = leads_by (both_lead Unfinished es (Event.SpoilTarget target ∷ []) old mid new (as_unfinished es old mid g)
+          (one_leads Unfinished (Event.SpoilTarget target) mid new refl (λ previous. tt) (λ others. (refl, s))
+          (λ honest whole others in_flight. spoil_happens target mid new g.sound s honest others in_flight) s.array sound));
+    };
+    list = record { before = es; first = g.steps; last = Event.SpoilTarget target ∷ []; spoils = inr refl; list = refl };
+  }
+
+  -- ---- where a rebuild stopped, and how far it came is recorded
+  -- Events led there, and the target is recovering if the mirror runs.
+  record ComesTo (old stopped : MirrorView) : Type 0 where
+    events : List Event
+    leads : LeadsIn (Before target) events old stopped
+    recovers : stopped.array.halted ≡ false → (m : MemberView) → IsMember stopped.array target m → is_recovering m.state ≡ true
+
+  -- Or they led to right before a write that halted the mirror.
+  record HaltsAtEnd (old stopped : MirrorView) : Type 0 where
+    events : List Event
+    last : MirrorView
+    leads : LeadsIn (Before target) events old last
+    halts : HaltsIn (Before target) last stopped
+    halted : stopped.array.halted ≡ true
+
+  abbrev StopsSo : MirrorView → MirrorView → Type 0
+  StopsSo old stopped = ComesTo old stopped ⊎ HaltsAtEnd old stopped
+
+  -- one that is halted is left as it is
+  same_left : (stopped new : MirrorView) → Leaves target stopped new → stopped.array.halted ≡ true → new ≡ stopped
+  same_left stopped new left halted = elim left [
+    | inl same ↦ same.1
+    | inr done ↦
+        elim done.1 [
+          | inl r ↦ absurd (both_ways stopped.array.halted r.may.idle.running halted)
+          | inr f ↦ absurd (both_ways stopped.array.halted f.running halted)
+        ]
+  ]
+
+  left_there : (old stopped new : MirrorView) → ComesTo old stopped → Leaves target stopped new → IsConsistent new → LeadsUnfinished target old new
+  left_there old stopped new c left sound = elim left [
+    | inl same ↦ leads_there old new (subst (LeadsIn (Before target) c.events old) (sym same.1) c.leads)
+    | inr done ↦
+        elim done.1 [
+          | inl r ↦
+              leads_there old new
+              (both_lead (Before target) c.events (checkpoint_event r ∷ []) old stopped new c.leads (checkpoint_leads target done.0 stopped new c.leads.sound r sound))
+          | inr f ↦ leads_spoiled old stopped new c.leads (checkpoint_spoils target done.0 stopped new c.leads.sound f (c.recovers f.running f.member f.at)) sound
+        ]
+  ]
+
+  left_leads : (old stopped new : MirrorView) → StopsSo old stopped → Leaves target stopped new → IsConsistent new → LeadsUnfinished target old new
+  left_leads old stopped new h left sound = elim h [
+    | inl c ↦ left_there old stopped new c left sound
+    | inr e ↦ subst (LeadsUnfinished target old) (sym (same_left stopped new left e.halted)) (leads_halted old e.last stopped e.leads e.halts)
+  ]
+
+  -- as it stopped it is told
+  stops_there : (old new : MirrorView) → StopsSo old new → LeadsUnfinished target old new
+  stops_there old new h = elim h [ inl c ↦ leads_there old new c.leads | inr e ↦ leads_halted old e.last new e.leads e.halts ]
+
+  -- ---- before a pass
+  -- after these events what is due was not all stored
+  stops_after : (es : List Event) (k : ℕ) (old mid new : MirrorView) → LeadsIn (Before target) es old mid → StopsAt target k mid new → ((m : MemberView) → IsMember mid.array target m → is_recovering m.state ≡ true) → StopsSo old new
+  stops_after es k old mid new before h recovers = elim h.ends [
+    | inl lost ↦
+        inl (record {
+          events = es ++ lost.loses.goes.events;
+          leads = both_lead (Before target) es lost.loses.goes.events old mid new before (storing_leads target mid new lost.loses.goes);
+          recovers = λ running. storing_recovers target k mid new h.other lost recovers;
+        })
+    | inr at ↦
+        inr (record {
+          events = es ++ at.stores.goes.events;
+          last = at.mid;
+          leads = both_lead (Before target) es at.stores.goes.events old mid at.mid before (storing_leads target mid at.mid at.stores.goes);
+          halts = record { failing = at.failing; of = storing_before target at.failing at.of; halts = at.halts };
+          halted = storing_halted at.mid new (λ n. None) at.failing at.of (at.halts (λ n. None));
+        })
+  ]
+
+  stops : (k : ℕ) (old new : MirrorView) → IsConsistent old → StopsAt target k old new → LeadsUnfinished target old new
+  stops k old new sound h = elim h.ends [
+    | inl lost ↦ leads_there old new (storing_leads target old new lost.loses.goes)
+    | inr at ↦ leads_halted old at.mid new (storing_leads target old at.mid at.stores.goes) (record { failing = at.failing; of = storing_before target at.failing at.of; halts = at.halts })
+  ]
+
+  stops_admitted : (k : ℕ) (old stopped : MirrorView) → StopsAdmitted target k old stopped → StopsSo old stopped
+  stops_admitted k old stopped h =
+      stops_after (admission_events target h.after) k old h.admitted stopped (admission_leads target old h.admitted h.after) h.stops (recovering_admitted target old h.admitted h.after)
+
+  unrecorded : (old new : MirrorView) → EndsStoring target old (FailsOnTarget target old new) → LeadsUnfinished target old new
+  unrecorded old new e =
+      let h : FailsOnTarget target old new = e.why in
+      let was : (m : MemberView) → IsMember old.array target m → is_rebuilt m.state ≡ true =
+      λ m at. target_rebuilt old.array m (subst (IsTarget old.array) (same_Some e.member m (sym e.at ∙ at)) e.may.settled.has_target.target) in
+      let at = h.fails.may.at in
+      let fails : array_target.FailsOnTarget target h.mid new = record { leaves = h.fails; rebuilt = rebuilt_still target old.array h.mid.array h.stores.ready was h.fails.member at } in
+      leads_there old new
+      (both_lead (Before target) h.stores.goes.events (Event.RecordTargetFails target ∷ []) old h.mid new (storing_leads target old h.mid h.stores.goes)
+      (one_leads (Before target) (Event.RecordTargetFails target) h.mid new refl (λ previous. tt) (λ others. (refl, fails))
+      (λ honest whole others in_flight. target_fails_happens target h.mid new h.stores.goes.sound fails h.fails.member at (whole h.fails.member at) honest others in_flight)
+      h.fails.array h.sound))
+
+  -- the target was not admitted, and is spoiled
+  unadmitted : (old new : MirrorView) → FailsAdmission target old new → LeadsUnfinished target old new
+  unadmitted old new h =
+      let goes = h.first.stores.goes in
+      leads_spoiled old h.stored new (storing_leads target old h.stored goes) (admit_spoils target h.stored new goes.sound h.fails h.spare) h.sound
+
+  pub unadmitted_leads : (old new : MirrorView) → FailsAdmission target old new → LeadsUnadmitted target old new
+  unadmitted_leads old new h =
+      let f = h.fails in
+      let shared = (admitted h.stored.array target f.may.member f.role).shared in
+      let own = (admitted_member f.role f.may.member).superblock in
+      record {
+        mid = h.stored;
+        leads = leads_by (storing_leads target old h.stored h.first.stores.goes);
+        fails = f;
+        event = left_happens target h.stored new h.first.stores.goes.sound f.may.running f.may.member f.may.at (spare_rebuilt f.may.member.state h.spare) f.array shared own f.readable f.disks;
+      }
+
+  -- ---- after some passes
+  module _ (m : MemberView) (none : Bitmap) (old ready : MirrorView) (es : List Event) (begun : LeadsIn (Before target) es old ready) (so : HoldsSoFar target ready none (missing_chunks ready.array m)) where
+    abbrev Between : (List ℕ → Bitmap → MirrorView → Type 0) → Type 0
+    Between Why = EndsBetween target m none ready Why
+
+    module _ (Why : List ℕ → Bitmap → MirrorView → Type 0) (e : Between Why) where
+      made : List Event
+      made = es ++ chain_events target e.passes (missing_chunks ready.array m) e.left none e.copied ready e.now e.passed
+
+      made_leads : LeadsIn (Before target) made old e.now
+      made_leads =
+          both_lead (Before target) es (chain_events target e.passes (missing_chunks ready.array m) e.left none e.copied ready e.now e.passed) old ready e.now begun
+          (chain_leads target e.passes (missing_chunks ready.array m) e.left none e.copied ready e.now e.passed so)
+
+      so_far : HoldsSoFar target e.now e.copied e.left
+      so_far = chain_holds target e.passes (missing_chunks ready.array m) e.left none e.copied ready e.now e.passed so
+
+      -- to the end of them
+      then_comes : (new : MirrorView) → new ≡ e.now → ComesTo old new
+      then_comes new same = record {
+        events = made;
+        leads = subst (LeadsIn (Before target) made old) (sym same) made_leads;
+        recovers = λ running n at. so_far.ready.recovering n (ap (λ (v : MirrorView). slice_get v.array.members target) (sym same) ∙ at);
+      }
+
+      -- a pass is broken off
+      then_fills : (p : PassView) (n : MemberView) (at : IsMember e.now.array target n) (new : MirrorView) → IsArrayPass e.now.array e.left p → IsFilling target n (slots_of p) e.now new → IsConsistent new → ComesTo old new
+      then_fills p n at new is f sound = record {
+        events = made ++ Event.Fill target ∷ [];
+        leads = both_lead (Before target) made (Event.Fill target ∷ []) old e.now new made_leads (fill_leads target e.now e.copied e.left so_far p is n at new f sound);
+        recovers = λ running x at_x. so_far.ready.recovering x (ap (λ (a : ArrayView). slice_get a.members target) (sym f.array) ∙ at_x);
+      }
+
+    broken_off : (fault : RebuildFault) (new : MirrorView) (e : Between (λ left copied now. (after : Bitmap) × BreaksOff target fault left copied after now new)) → IsFilling target e.why.1.member (slots_of e.why.1.pass) e.now new
+        → ComesTo old new
+    broken_off fault new e f = then_fills (λ left copied now. (after : Bitmap) × BreaksOff target fault left copied after now new) e e.why.1.pass e.why.1.member e.why.1.at new e.why.1.is f e.why.1.sound
+
+    -- a pass is recorded
+    module _ (fault : RebuildFault) (new : MirrorView) (e : Between (λ left copied now. (after : Bitmap) × FailsListing target fault left copied after now new)) where
+      abbrev Fails : List ℕ → Bitmap → MirrorView → Type 0
+      Fails left copied now = (after : Bitmap) × FailsListing target fault left copied after now new
+
+      abbrev f : FailsListing target fault e.left e.copied e.why.0 e.now new
+      f = e.why.1
+
+      recorded_to : List Event
+      recorded_to = made Fails e ++ recorded_events target e.left f.pass e.copied e.why.0 e.now f.recorded f.records
+
+      recorded_there : LeadsIn (Before target) recorded_to old f.recorded
+      recorded_there =
+          both_lead (Before target) (made Fails e) (recorded_events target e.left f.pass e.copied e.why.0 e.now f.recorded f.records) old e.now f.recorded (made_leads Fails e)
+          (recorded_leads target e.left f.pass e.copied e.why.0 e.now f.recorded (so_far Fails e) f.records)
+
+      recorded_goes : IsReady target f.recorded
+      recorded_goes =
+          (let s = so_far Fails e in recorded_ready target e.left f.pass e.copied e.why.0 e.now f.recorded f.records s.ready s.held s.lacking)
+
+    -- ---- what failed is not all listed
+    noted_comes : (fault : RebuildFault) (new : MirrorView) (e : Between (λ left copied now. (after : Bitmap) × FailsListing target fault left copied after now new)) → StopsNoting e.why.1.pass.failed e.why.1.recorded new fault
+        → ComesTo old new
+    noted_comes fault new e h = record {
+      events = recorded_to fault new e ++ h.notes.goes.events;
+      leads = both_lead (Before target) (recorded_to fault new e) h.notes.goes.events old e.why.1.recorded new (recorded_there fault new e) (noting_leads target e.why.1.recorded new h.notes.goes);
+      recovers = λ running. (ready_noted target h.taken e.why.1.recorded new h.notes (recorded_goes fault new e)).recovering;
+    }
+
+    lost_stops : (k : ℕ) (new : MirrorView) (e : Between (λ left copied now. (after : Bitmap) × FailsListing target (MetadataFault k) left copied after now new)) → StopsSo old new
+    lost_stops k new e =
+        let f = e.why.1 in
+        let noted = f.fails.0 in
+        let notes = f.fails.1 in
+        let stops = f.fails.2 in
+        let goes = ready_noted target f.pass.failed f.recorded noted notes (recorded_goes (MetadataFault k) new e) in
+        let is_other : k ≢ target = λ here.
+        both_ways (is_in_sync stops.member.state) (out_of_sync stops.member.state (goes.recovering stops.member (ap (slice_get noted.array.members) (sym here) ∙ stops.was.member))) stops.was.in_sync in
+        let before : List Event = recorded_to (MetadataFault k) new e ++ notes.goes.events in
+        let there : LeadsIn (Before target) before old noted =
+        both_lead (Before target) (recorded_to (MetadataFault k) new e) notes.goes.events old f.recorded noted (recorded_there (MetadataFault k) new e) (noting_leads target f.recorded noted notes.goes) in
+        elim stops.ends [
+          | inl lost ↦
+              inl (record {
+                events = before ++ lost.loses.goes.events;
+                leads = both_lead (Before target) before lost.loses.goes.events old noted new there (listing_leads target noted new lost.loses.goes);
+                recovers = λ running. list_recovers target k noted new is_other lost goes.recovering;
+              })
+          | inr at ↦
+              let h = at.halts.halts in
+              inr (record {
+                events = before ++ h.goes.events;
+                last = h.mid;
+                leads = both_lead (Before target) before h.goes.events old noted h.mid there (listing_leads target noted h.mid h.goes);
+                halts = record { failing = h.failing; of = listing_before target h.failing h.of; halts = h.halts };
+                halted = list_halted h.mid new (λ n. None) h.failing h.of (h.halts (λ n. None));
+              })
+        ]
+
+    -- ---- all passes are made
+    copied_comes : (passes : List PassView) (copied : Bitmap) (filled new : MirrorView) → CopiesAll target m passes none copied ready filled → new ≡ filled → ComesTo old new
+    copied_comes passes copied filled new c same =
+        let there : LeadsIn (Before target) (es ++ copying_events target m passes none copied ready filled c) old filled =
+        both_lead (Before target) es (copying_events target m passes none copied ready filled c) old ready filled begun (copying_leads target m passes none copied ready filled c so) in
+        record {
+          events = es ++ copying_events target m passes none copied ready filled c;
+          leads = subst (LeadsIn (Before target) (es ++ copying_events target m passes none copied ready filled c) old) (sym same) there;
+          recovers = λ running n at. (filled_ready target m passes none copied ready filled c so).recovering n (ap (λ (v : MirrorView). slice_get v.array.members target) (sym same) ∙ at);
+        }
+
+    -- ---- for want of memory, of room, or of a member
+    lacks_memory : (new : MirrorView) → LacksMemory target m none ready new → ComesTo old new
+    lacks_memory new (inl e) = then_comes (λ left copied now. new ≡ now) e new e.why
+    lacks_memory new (inr (inl e)) = broken_off NoMemory new e e.why.1.breaks.filling
+    lacks_memory new (inr (inr (inl e))) = noted_comes NoMemory new e e.why.1.fails
+    lacks_memory new (inr (inr (inr e))) = copied_comes e.passes e.copied new new e.copies refl
+
+    lacks_room : (k : ℕ) (new : MirrorView) → LacksRoom k target m none ready new → ComesTo old new
+    lacks_room k new (inl e) = noted_comes (LogFull k) new e e.why.1.fails
+    lacks_room k new (inr e) = copied_comes e.1.passes e.1.copied e.1.filled new e.1.fills.copies e.1.why.unchanged
+
+    -- ---- the target could not be written
+    not_recorded : (new : MirrorView) → Between (λ left copied now. FailsRecording target left copied now new) → IsConsistent new → LeadsUnfinished target old new
+    not_recorded new e after =
+        let f = e.why in
+        let n = f.makes.member in
+        let c = then_fills (λ left copied now. FailsRecording target left copied now new) e f.pass n f.makes.at f.filled f.makes.is f.makes.copies.filling f.makes.sound in
+        leads_spoiled old f.filled new c.leads (checkpoint_spoils target f.after f.filled new f.makes.sound f.fails (c.recovers f.fails.running f.fails.member f.fails.at)) after
+
+    not_enrolled : (new : MirrorView) (e : EndsFilled target m none ready (λ kept orphans filled. FailsToEnrol target kept orphans filled new)) → FailsAtMarks e.why ⊎ FailsAtSuper e.why → IsConsistent new → LeadsUnfinished target old new
+    not_enrolled new e (inl f) after =
+        let prepared = prepares target e.kept e.orphans e.filled new e.fills.sound e.why e.fills.has.may f in
+        let c = copied_comes e.passes e.copied e.filled e.filled e.fills.copies refl in
+        leads_there old new
+        (both_lead (Before target) c.events (Event.Prepare target ∷ []) old e.filled new c.leads
+        (one_leads (Before target) (Event.Prepare target) e.filled new refl (λ previous. tt) (λ others. (refl, prepared))
+        (λ honest whole others in_flight. prepare_happens target e.filled new e.fills.sound prepared honest others in_flight) e.why.array after))
+    not_enrolled new e (inr f) after =
+        let c = copied_comes e.passes e.copied e.filled e.filled e.fills.copies refl in
+        let rest : LeadsIn Unfinished (Event.Prepare target ∷ Event.SpoilTarget target ∷ []) e.filled new =
+        record {
+          steps = (refl, (refl, tt));
+          leads = λ previous others in_flight. unenrol_leads target e.kept e.orphans e.filled new e.fills.sound e.why f e.fills.has.may previous others in_flight;
+          requests = ap (λ (a : ArrayView). a.requests) e.why.array;
+          sound = after;
+          pending = λ o is. subst (λ (a : ArrayView). IsPending a o) (sym e.why.array) is;
+        } in
+        record {
+          goes = record {
+            last = new;
+            ends = inl refl;
+            leads = leads_by (both_lead Unfinished c.events (Event.Prepare target ∷ Event.SpoilTarget target ∷ []) old e.filled new (as_unfinished c.events old e.filled c.leads) rest);
+          };
+          list = record {
+            before = c.events ++ Event.Prepare target ∷ [];
+            first = all_on (Before target) c.events (Event.Prepare target ∷ []) c.leads.steps (refl, tt);
+            last = Event.SpoilTarget target ∷ [];
+            spoils = inr refl;
+            list = sym (append_assoc c.events (Event.Prepare target ∷ []) (Event.SpoilTarget target ∷ []));
+          };
+        }
+
+    loses_target : (new : MirrorView) (h : LosesTarget target m none ready new) → AsksOfEnrol h → IsConsistent new → LeadsUnfinished target old new
+    loses_target new (inl e) asks after = leads_there old new (broken_off TargetFault new e e.why.1.breaks.filling).leads
+    loses_target new (inr (inl e)) asks after = not_recorded new e after
+    loses_target new (inr (inr e)) asks after = not_enrolled new e asks after
+
+  -- ---- all of it
+  module _ (old : MirrorView) (Why : MemberView → Bitmap → MirrorView → Type 0) (e : EndsReadied target old Why) where
+    opening : List Event
+    opening = begin_events target old e.ready e.none e.begins
+
+    opens : LeadsIn (Before target) opening old e.ready
+    opens = begin_leads target old e.ready e.none e.begins
+
+    holds : HoldsSoFar target e.ready e.none (missing_chunks e.ready.array e.begins.now)
+    holds = begin_holds target old e.ready e.none e.begins
+
+  pub refused_leads : (old new : MirrorView) → IsConsistent old → IsConsistent new → (fault : RebuildFault) (h : RefusesRebuild target old new fault) → AsksOfFailure target old new fault h → LeadsUnfinished target old new
+  refused_leads old new sound after Halted h asks = none old new sound h.unchanged
+  refused_leads old new sound after NotSpare h asks = none old new sound h.unchanged
+  refused_leads old new sound after Dirty h asks = none old new sound h.unchanged
+  refused_leads old new sound after (InFlight number) h asks = none old new sound h.unchanged
+  refused_leads old new sound after EventsFull h asks = none old new sound h.unchanged
+  refused_leads old new sound after (MetadataFault k) (inl h) asks = stops k old new sound h.why
+  refused_leads old new sound after (MetadataFault k) (inr (inl h)) asks = left_leads old h.why.stopped new (stops_admitted k old h.why.stopped h.why.why) h.why.leaves after
+  refused_leads old new sound after (MetadataFault k) (inr (inr h)) asks =
+      let Why : MemberView → Bitmap → MirrorView → Type 0 = λ m none ready. LosesSource k target m none ready h.stopped in
+      left_leads old h.stopped new (lost_stops h.why.begins.now h.why.none old h.why.ready (opening old Why h.why) (opens old Why h.why) (holds old Why h.why) k h.stopped h.why.why) h.leaves after
+  refused_leads old new sound after TargetFault (inl h) asks = unrecorded old new h
+  refused_leads old new sound after TargetFault (inr (inl h)) asks = unadmitted old new h.why
+  refused_leads old new sound after TargetFault (inr (inr h)) asks =
+      let Why : MemberView → Bitmap → MirrorView → Type 0 = λ m none ready. LosesTarget target m none ready new in
+      loses_target h.begins.now h.none old h.ready (opening old Why h) (opens old Why h) (holds old Why h) new h.why asks after
+  refused_leads old new sound after NoMemory (inl h) asks = elim h.why [ inl same ↦ none old new sound same | inr first ↦ leads_there old new (storing_leads target old new first.stores.goes) ]
+  refused_leads old new sound after NoMemory (inr h) asks =
+      let Why : MemberView → Bitmap → MirrorView → Type 0 = λ m none ready. LacksMemory target m none ready h.stopped in
+      left_there old h.stopped new (lacks_memory h.why.begins.now h.why.none old h.why.ready (opening old Why h.why) (opens old Why h.why) (holds old Why h.why) h.stopped h.why.why) h.leaves after
+  refused_leads old new sound after (LogFull k) h asks =
+      let Why : MemberView → Bitmap → MirrorView → Type 0 = λ m none ready. LacksRoom k target m none ready h.stopped in
+      left_there old h.stopped new (lacks_room h.why.begins.now h.why.none old h.why.ready (opening old Why h.why) (opens old Why h.why) (holds old Why h.why) k h.stopped h.why.why) h.leaves after

@@ -1,0 +1,258 @@
+-- Where a write of the target's bitmap or of its log failed, nothing changed beside the two.
+use Rattle.std.proofs.Common.{◌≡◌, ◌≢◌, ◌∙◌, ◌⊎◌, ℕ, zero, suc, ◌+◌, ◌*◌, ◌<◌, ◌≤◌, true, false, if◌then◌else◌, List, [], ◌∷◌, ◌++◌, length, append_assoc, slice_get, slice_index_or, Some, refl, sym, ap, subst, arith, inl, inr}
+use Rattle.std.specs.Int.{div_ceil}
+use Rattle.std.proofs.lemmas.Grind.{div_ceil_times}
+use Rattle.std.proofs.lemmas.List.{append-nil}
+use Rattle.std.proofs.lemmas.Option.{same_Some}
+use Rattle.md_assembly.proofs.Indices.{got_same}
+use Rattle.md_badblocks.specs.Log.{log_bytes}
+use Rattle.md_bitmap.specs.Marks.{Bitmap}
+use Rattle.md_bitmap.proofs.Blocks.{length-bitmap_sector}
+use Rattle.md_device.specs.Device.{written}
+use Rattle.md_device.specs.Splice.{part}
+use Rattle.md_device.proofs.Leaving.{leaves_none}
+use Rattle.md_device.proofs.Splices.{spliced_outside}
+use Rattle.md_kept_members.specs.Enrolling.{in_sync_superblock, log_room}
+use Rattle.md_kept_members.specs.View.{MemberView}
+use Rattle.md_members.specs.Areas.{bitmap_area, bitmap_sectors, log_area}
+use Rattle.md_state.specs.DeviceChanges.{IsLeftAlone, StaysHonest}
+use Rattle.md_state.specs.Enrolling.{enrolled}
+use Rattle.md_state.specs.Missing.{is_rebuilt}
+use Rattle.md_state.specs.View.{Disk, MirrorView, of_disks}
+use Rattle.md_super.specs.declared.superblock.Superblock.{Superblock}
+use Rattle.md_super.specs.Log.{has_bad_block_log}
+use Rattle.md_writes.specs.Bitmaps.{bitmap_runs, bitmap_write, bitmap_writes, runs_of}
+use Rattle.md_writes.specs.Writes.{FailsInWrites, IsAnyIn, IsCutShort, IsNextMixed, Write, after}
+use Rattle.md_writes.proofs.Frames.{outside_around, outside_none}
+use Rattle.md_writes.proofs.Sectors.{length-bitmap_run, runs_from}
+use Rattle.md_array.specs.Consistency.{IsConsistent}
+use Rattle.md_array.specs.Enrolling.{FailsToEnrol, IsStorable, MayEnrol, log_writes}
+use Rattle.md_array.specs.Enrolments.{Prepares}
+use Rattle.md_array.specs.Filling.{MayRebuild}
+use Rattle.md_array.specs.Events.{IsBesideArea, IsBesideMarks, IsChangedAlone, IsSameBesideMarks}
+use Rattle.md_array.specs.Recording.{write_of}
+use Rattle.md_array.specs.Worlds.{from_super}
+use Rattle.md_array.proofs.Rebuilding.EnrolAnswered.{can_store}
+use Rattle.md_array.proofs.Rebuilding.InBetween.{beside_area, recovers_rebuilt}
+use Rattle.md_array.proofs.Rebuilding.MemberStored.{log_long}
+use Rattle.md_array.proofs.Worlds.Device.{fits_on}
+use Rattle.md_array.proofs.Worlds.Outside.{sector_at_is, starts_at}
+use Rattle.md_copy.specs.RebuildEvents.{FailsAtMarks}
+
+-- ---- writes beside which a member's other bytes are
+-- the write lies in an area of a device of so many bytes, and what lies beside the member's bitmap and its log lies beside that area
+record IsAside (m : MemberView) (long : ℕ) (w : Write) : Type 0 where
+  start : ℕ
+  sectors : ℕ
+  from : start ≤ w.sector
+  to : 512 * w.sector + length w.bytes ≤ 512 * (start + sectors)
+  room : 512 * (start + sectors) ≤ long
+  beside : (at n : ℕ) → IsBesideMarks m at n → IsBesideArea start sectors at n
+
+abbrev AreAside : MemberView → ℕ → List Write → Type 0
+AreAside m long [] = Unit {0}
+AreAside m long (w ∷ ws) = IsAside m long w × AreAside m long ws
+
+both_aside : (m : MemberView) (long : ℕ) (ws more : List Write) → AreAside m long ws → AreAside m long more → AreAside m long (ws ++ more)
+both_aside m long [] more first second = second
+both_aside m long (w ∷ ws) more first second = (first.0, both_aside m long ws more first.1 second)
+
+-- two contents that are the same beside these
+record IsSameAside (m : MemberView) (old new : List ℕ) : Type 0 where
+  size : length new ≡ length old
+  beside : (at n : ℕ) → IsBesideMarks m at n → part new at n ≡ part old at n
+
+aside_one : (m : MemberView) (w : Write) (old new : List ℕ) → IsAside m (length old) w → IsAnyIn w old new → IsSameAside m old new
+aside_one m w old new is same = record {
+  size = same.size;
+  beside = λ at n b.
+      let from = is.from in
+      let to = is.to in
+      beside_area is.start is.sectors old new (outside_around same (512 * is.start) (512 * is.sectors) (omega arith) (omega arith)) at n (is.beside at n b);
+}
+
+aside_then : (m : MemberView) (old mid new : List ℕ) → IsSameAside m old mid → IsSameAside m mid new → IsSameAside m old new
+aside_then m old mid new first second = record { size = second.size ∙ first.size; beside = λ at n b. second.beside at n b ∙ first.beside at n b }
+
+wrote_aside : (m : MemberView) (w : Write) (old : List ℕ) → IsAside m (length old) w → IsSameAside m old (written old w.sector w.bytes)
+wrote_aside m w old is =
+    let to = is.to in
+    let room = is.room in
+    aside_one m w old (written old w.sector w.bytes) is (spliced_outside old (512 * w.sector) w.bytes (length w.bytes) refl (omega arith))
+
+-- One of them failed, and others were to come.
+fails_aside : (m : MemberView) (ws : List Write) (last : Write) (done : List Write) (tried : Write) (rest : List Write) (old left : List ℕ) → AreAside m (length old) ws
+    → ws ++ last ∷ [] ≡ done ++ tried ∷ rest → rest ≢ [] → IsAnyIn tried (after old done) left → IsSameAside m old left
+fails_aside m [] last [] tried rest old left are order more any = absurd (more (let e : ◌≡◌ {A = List Write} (last ∷ []) (tried ∷ rest) = order in cc))
+fails_aside m [] last (x ∷ []) tried rest old left are order more any = absurd (let e : ◌≡◌ {A = List Write} (last ∷ []) (x ∷ tried ∷ rest) = order in cc)
+fails_aside m [] last (x ∷ (y ∷ done)) tried rest old left are order more any = absurd (let e : ◌≡◌ {A = List Write} (last ∷ []) (x ∷ y ∷ (done ++ tried ∷ rest)) = order in cc)
+fails_aside m (w ∷ ws) last [] tried rest old left are order more any =
+    let e : ◌≡◌ {A = List Write} (w ∷ (ws ++ last ∷ [])) (tried ∷ rest) = order in
+    let first : tried ≡ w = cc in
+    aside_one m w old left are.0 (subst (λ (x : Write). IsAnyIn x old left) first any)
+fails_aside m (w ∷ ws) last (x ∷ done) tried rest old left are order more any =
+    let e : ◌≡◌ {A = List Write} (w ∷ (ws ++ last ∷ [])) (x ∷ (done ++ tried ∷ rest)) = order in
+    let first : x ≡ w = cc in
+    let others : ws ++ last ∷ [] ≡ done ++ tried ∷ rest = cc in
+    let mid = written old w.sector w.bytes in
+    let this = wrote_aside m w old are.0 in
+    aside_then m old mid left this
+    (fails_aside m ws last done tried rest mid left (subst (λ (long : ℕ). AreAside m long ws) (sym this.size) are.1) others more
+    (subst (λ (y : Write). IsAnyIn tried (after (written old y.sector y.bytes) done) left) first any))
+
+not_empty : (ws : List Write) (w : Write) (rest : List Write) → ws ++ w ∷ rest ≢ []
+not_empty [] w rest e = let d : ◌≡◌ {A = List Write} (w ∷ rest) [] = e in cc
+not_empty (x ∷ ws) w rest e = let d : ◌≡◌ {A = List Write} (x ∷ (ws ++ w ∷ rest)) [] = e in cc
+
+-- within those before it
+cut_aside : (m : MemberView) (ws : List Write) (last : Write) (done : List Write) (tried : Write) (rest : List Write) (old left : List ℕ) → AreAside m (length old) ws
+    → ws ++ last ∷ [] ≡ done ++ tried ∷ rest → rest ≢ [] → IsCutShort old done left → IsSameAside m old left
+cut_aside m ws last done tried rest old left are order more cut = by_rest cut.rest cut.order cut.mixed
+  where
+    by_rest : (next : List Write) → done ≡ cut.done ++ next → IsNextMixed next (after old cut.done) left → IsSameAside m old left
+    by_rest [] is same =
+        let all : done ≡ cut.done = is ∙ append-nil cut.done in
+        fails_aside m ws last cut.done tried rest old left are (order ∙ ap (λ xs. xs ++ tried ∷ rest) all) more
+        (subst (IsAnyIn tried (after old cut.done)) (sym same) (outside_none (512 * tried.sector) (length tried.bytes) (after old cut.done)))
+    by_rest (w ∷ next) is mixed =
+        fails_aside m ws last cut.done w (next ++ tried ∷ rest) old left are
+        (order ∙ ap (λ xs. xs ++ tried ∷ rest) is ∙ append_assoc cut.done (w ∷ next) (tried ∷ rest)) (not_empty next tried rest) mixed.outside
+
+-- ---- the writes of an enrolment but the last
+module _ (k : ℕ) (copied orphans : Bitmap) (old new : MirrorView) (c : IsConsistent old) (r : FailsToEnrol k copied orphans old new) where
+  abbrev m : MemberView
+  m = r.comes.member
+
+  abbrev n : MemberView
+  n = r.member
+
+  abbrev width : ℕ
+  width = bitmap_sectors n.stored.chunks
+
+  superblock : n.superblock ≡ in_sync_superblock r.comes.list m.superblock
+  superblock = r.comes.comes.superblock
+
+  chunks : n.stored.chunks ≡ m.stored.chunks
+  chunks = r.comes.comes.stored.chunks ∙ sym (c.chunks.member_count k m r.comes.at)
+
+  starts : from_super m.superblock.bitmap_offset ≡ r.are.start
+  starts = subst (λ (v : Superblock). from_super v.bitmap_offset ≡ r.are.start) superblock (starts_at n.superblock r.are.start r.are.starts)
+
+  module _ (d : Disk) (was : slice_get old.disks k ≡ Some d) where
+    storable : IsStorable n d.content
+    storable = can_store k r.role copied orphans old c n r.comes d was
+
+    -- the bitmap
+    bitmap_room : 512 * (r.are.start + width) ≤ length d.content
+    bitmap_room = fits_on (bitmap_area n.superblock width).start r.are.start width (length d.content) r.are.starts (storable.placed.bitmap storable.has).within.to
+
+    beside_bitmap : (at l : ℕ) → IsBesideMarks m at l → IsBesideArea r.are.start width at l
+    beside_bitmap at l b =
+        subst (λ (x : ℕ). IsBesideArea r.are.start (bitmap_sectors x) at l) (sym chunks)
+        (subst (λ (x : ℕ). IsBesideArea x (bitmap_sectors m.stored.chunks) at l) starts b.bitmap)
+
+    some_width : 0 < width
+    some_width = let some = div_ceil_times (256 + div_ceil n.stored.chunks 8) 512 (omega arith) in omega (arith, some.0)
+
+    runs_aside : (runs : ℕ) → runs ≤ runs_of width → AreAside m (length d.content) (bitmap_runs r.are.start r.are.header n.stored width runs)
+    runs_aside zero few = tt
+    runs_aside (suc i) few =
+        let long = length-bitmap_run r.are.start r.are.header n.stored width i in
+        let inside : 1 + 128 * i < width = omega arith in
+        rw (runs_from r.are.start r.are.header n.stored width (suc i) i (omega arith)) (
+          record { start = r.are.start; sectors = width; from = omega arith; to = omega (arith, long); room = bitmap_room; beside = beside_bitmap },
+          runs_aside i (omega arith),
+        )
+
+    bitmap_aside : AreAside m (length d.content) (bitmap_writes r.are.start r.are.header n.stored width)
+    bitmap_aside =
+        let long = length-bitmap_sector r.are.header n.stored 0 in
+        let some = some_width in
+        both_aside m (length d.content) (bitmap_runs r.are.start r.are.header n.stored width (runs_of width)) (bitmap_write r.are.start r.are.header n.stored 0 ∷ []) (runs_aside (runs_of width) (omega arith))
+        (record { start = r.are.start; sectors = width; from = omega arith; to = omega (arith, long); room = bitmap_room; beside = beside_bitmap }, tt)
+
+    -- the log
+    log_aside : AreAside m (length d.content) (log_writes n.superblock n.bad)
+    log_aside = by_log (has_bad_block_log n.superblock) refl
+      where
+        by_log : (b : _) → has_bad_block_log n.superblock ≡ b → AreAside m (length d.content) (log_writes n.superblock n.bad)
+        by_log false none = subst (λ b. AreAside m (length d.content) (if b then record { sector = from_super n.superblock.bblog_offset; bytes = log_bytes n.bad (log_room n.superblock) } ∷ [] else [])) (sym none) tt
+        by_log true there =
+            let own = n.superblock in
+            let placed = storable.placed.log there in
+            let at = sector_at_is (log_area own).start placed.within.from in
+            let long = log_long n storable.room there in
+            let named : has_bad_block_log m.superblock ≡ true = subst (λ (v : Superblock). has_bad_block_log v ≡ true) superblock there in
+            subst (λ b. AreAside m (length d.content) (if b then record { sector = from_super own.bblog_offset; bytes = log_bytes n.bad (log_room own) } ∷ [] else [])) (sym there) (
+              record {
+                start = from_super own.bblog_offset;
+                sectors = own.bblog_size;
+                from = omega arith;
+                to = omega (arith, long);
+                room = fits_on (log_area own).start (from_super own.bblog_offset) own.bblog_size (length d.content) (sym at) placed.within.to;
+                beside = λ i l b. subst (λ (v : Superblock). IsBesideArea (from_super v.bblog_offset) v.bblog_size i l) (sym superblock) (b.log named);
+              },
+              tt,
+            )
+
+    abbrev first : List Write
+    first = bitmap_writes r.are.start r.are.header n.stored width ++ log_writes n.superblock n.bad
+
+    first_aside : AreAside m (length d.content) first
+    first_aside = both_aside m (length d.content) (bitmap_writes r.are.start r.are.header n.stored width) (log_writes n.superblock n.bad) bitmap_aside log_aside
+
+    -- what stands on the device then, and what a stop left
+    module _ (e : Disk) (is : slice_get new.disks k ≡ Some e) (f : FailsAtMarks r) (honest : d.honest ≡ true) where
+      abbrev fails : FailsInWrites of_disks r.writes d e
+      fails = (r.disks.change d e was is).0
+
+      abbrev last : Write
+      last = write_of (enrolled old.array k n r.role).shared n
+
+      order : first ++ last ∷ [] ≡ fails.done ++ fails.tried ∷ fails.rest
+      order = append_assoc (bitmap_writes r.are.start r.are.header n.stored width) (log_writes n.superblock n.bad) (last ∷ []) ∙ sym r.are.are ∙ fails.order
+
+      any_aside : (left : List ℕ) → IsAnyIn fails.tried (after d.content fails.done) left → IsSameAside m d.content left
+      any_aside left any = fails_aside m first last fails.done fails.tried fails.rest d.content left first_aside order (f.more d e was is) any
+
+      left_aside : (left : List ℕ) → IsCutShort d.content fails.done left ⊎ IsAnyIn fails.tried (after d.content fails.done) left → IsSameAside m d.content left
+      left_aside left (inl cut) = cut_aside m first last fails.done fails.tried fails.rest d.content left first_aside order (f.more d e was is) cut
+      left_aside left (inr any) = any_aside left any
+
+  -- ---- the event
+  may_rebuild : MayEnrol k copied orphans old → MayRebuild k old.array
+  may_rebuild may = record {
+    idle = record { running = r.may.running; none = may.idle };
+    member = m;
+    at = r.comes.at;
+    rebuilt = subst (λ (x : MemberView). is_rebuilt x.state ≡ true) (got_same old.array.members k may.member m may.at r.comes.at) (recovers_rebuilt may.member.state may.recovering);
+  }
+
+  changed_alone : FailsAtMarks r → IsChangedAlone k (IsSameBesideMarks old.array m) old.disks new.disks
+  changed_alone f = record {
+    as_many = r.disks.as_many;
+    others = λ j apart x y before after.
+        let same : y ≡ x = same_Some y x (sym after ∙ r.disks.others j apart ∙ before) in
+        subst (λ (z : Disk). StaysHonest x z × IsLeftAlone x z) (sym same)
+        (record { honest = refl; counted = omega arith }, (refl, λ _. leaves_none x.stops (λ left. left ≡ x.content)));
+    stays = λ d e was is. let kept = (r.disks.change d e was is).0.kept in record { honest = kept.honest_kept; counted = kept.counted };
+    size = λ d e was is. (r.disks.change d e was is).0.kept.size;
+    changed = λ d e was is honest.
+        let fails = (r.disks.change d e was is).0 in
+        let same = any_aside d was e is f honest e.content (fails.outside honest) in
+        record { size = same.size; beside = same.beside; width = f.width d e was is honest };
+    within = λ d e was is honest.
+        let leaves = (r.disks.change d e was is).0.within honest in
+        record {
+          more = leaves.more;
+          all = leaves.all;
+          each = λ i none below.
+              let left = slice_index_or leaves.more i none in
+              let same = left_aside d was e is f honest left (leaves.each i none below) in
+              record { size = same.size; beside = same.beside; width = f.within d e was is honest i none below };
+        };
+  }
+
+  pub prepares : MayEnrol k copied orphans old → FailsAtMarks r → Prepares k old new
+  unfolding may_rebuild
+  prepares may f = record { may = may_rebuild may; array = r.array; disks = changed_alone f }

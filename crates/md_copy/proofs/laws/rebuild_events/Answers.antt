@@ -1,0 +1,10 @@
+use Rattle.md_copy.proofs.RebuildLeads.{rebuild_leads}
+use Rattle.md_copy.proofs.RefusedLeads.{refused_leads, unadmitted_leads}
+use Rattle.md_copy.proofs.laws.rebuild_events.Goals as goal
+
+pub returns : goal.returns
+returns c = record {
+  done = rebuild_leads;
+  refused = refused_leads;
+  unadmitted = unadmitted_leads;
+}
