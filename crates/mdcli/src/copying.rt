@@ -4,12 +4,13 @@ use std::alloc::{AllocError, Global};
 use std::string::String;
 use std::sync::atomic::{AtomicU64, Ordering};
 
-/// How far a rebuild is: the chunks that it has to copy, how often one was read, and how often that failed. Its
-/// workers count at once.
+/// How far a rebuild is: the chunks that it has to copy and the first of them, how often one was read, and how often
+/// that failed. Its workers count at once.
 #[derive(Drop)]
 pub struct Copying {
     pace: Pace,
     chunks: AtomicU64,
+    first: AtomicU64,
     tried: AtomicU64,
     failed: AtomicU64,
 }
@@ -19,14 +20,16 @@ impl Copying {
         Copying {
             pace: Pace::new(),
             chunks: AtomicU64::new(0),
+            first: AtomicU64::new(0),
             tried: AtomicU64::new(0),
             failed: AtomicU64::new(0),
         }
     }
 
-    /// So many chunks are to be copied from now on.
-    pub fn begin(&self, chunks: u32, now: u64, read: u64) {
+    /// So many chunks are to be copied from now on, of which this is the first.
+    pub fn begin(&self, chunks: u32, first: u32, now: u64, read: u64) {
         self.chunks.store(chunks as u64, Ordering::SeqCst);
+        self.first.store(first as u64, Ordering::SeqCst);
         self.pace.begin(now, read);
     }
 
@@ -56,27 +59,33 @@ impl Copying {
         let failed = self.failed.load(Ordering::SeqCst);
         let tried = self.tried.load(Ordering::SeqCst);
         let done = tried.saturating_sub(failed).min(chunks);
-        let count = match count_of(alloc, done, chunks, failed) {
-            Ok(count) => count,
+        let (from, bad) = match self.beside(alloc, failed) {
+            Ok(beside) => beside,
             Err(refused) => return Some(Err(refused)),
         };
         if done == 0 {
-            return Some(Ok(count));
+            return Some(format!(in alloc; "{from}0 of {chunks} chunks{bad}"));
         }
         let left = self.pace.left(now, done, chunks);
         Some(format!(in alloc;
-            "{count}, {} MiB/s, {} min {} s left",
+            "{from}{done} of {chunks} chunks{bad}, {} MiB/s, {} min {} s left",
             self.pace.speed(now, read),
             left / 60,
             left % 60
         ))
     }
-}
 
-// The chunks that are done, of all, and those that were found bad where there are some.
-fn count_of(alloc: Global, done: u64, chunks: u64, bad: u64) -> Result<String, AllocError> {
-    if bad == 0 {
-        return format!(in alloc; "{done} of {chunks} chunks");
+    // Where it goes on from, if that is not the first chunk of the array, and how many were found bad, if some were.
+    fn beside(&self, alloc: Global, bad: u64) -> Result<(String, String), AllocError> {
+        let first = self.first.load(Ordering::SeqCst);
+        let from = match first {
+            0 => String::new(alloc),
+            _ => format!(in alloc; "from chunk {first}, ")?,
+        };
+        let bad = match bad {
+            0 => String::new(alloc),
+            _ => format!(in alloc; ", {bad} bad")?,
+        };
+        Ok((from, bad))
     }
-    format!(in alloc; "{done} of {chunks} chunks, {bad} bad")
 }

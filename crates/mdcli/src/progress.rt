@@ -177,12 +177,12 @@ impl<'a> Gate for Progress<'a> {
 }
 
 impl<'a> Watch for Progress<'a> {
-    fn begins(&self, chunks: u32) {
+    fn begins(&self, chunks: u32, first: Option<u32>) {
         let Some(now) = self.milliseconds() else {
             return;
         };
         let read = self.read.load(Ordering::SeqCst);
-        self.copying.begin(chunks, now, read);
+        self.copying.begin(chunks, first.unwrap_or(0), now, read);
     }
 
     fn begins_check(&self, sectors: u64) {
