@@ -57,24 +57,20 @@ refused_set target v m at may = inl (record { member = m; at = at; may = may; wh
 
 -- ---- while passes are made
 module _ (target : ℕ) (m : MemberView) (none : Bitmap) (ready : MirrorView) where
-  why_else : (P Q : List ℕ → Bitmap → MirrorView → Type 0) → ((left : List ℕ) (copied : Bitmap) (now : MirrorView) → P left copied now → Q left copied now) → EndsBetween target m none ready P → EndsBetween target m none ready Q
-  why_else P Q f e = record { passes = e.passes; left = e.left; copied = e.copied; now = e.now; passed = e.passed; why = f e.left e.copied e.now e.why }
+  -- the set after the last pass is some set
+  pub with_set : (Why : Bitmap → List ℕ → Bitmap → MirrorView → Type 0) (after : Bitmap) → EndsBetween target m none ready (λ left copied now. Why after left copied now)
+      → EndsBetween target m none ready (λ left copied now. (b : Bitmap) × Why b left copied now)
+  with_set Why after e = record { passes = e.passes; left = e.left; copied = e.copied; now = e.now; passed = e.passed; why = (after, e.why) }
 
-  pub passes_stop : (after : Bitmap) (new : MirrorView) (fault : RebuildFault) → PassesFail target m none after ready new fault → StopsReadied target m none ready new fault
+  pub passes_stop : (after : Bitmap) (new : MirrorView) (fault : RebuildFault) → PassesFail target m none after ready new fault → StopsReadied target m none after ready new fault
   passes_stop after new NoMemory h = elim h [
-    | inl same ↦ inl (why_else (λ left copied now. (after ≡ copied) × (new ≡ now)) (λ left copied now. new ≡ now) (λ left copied now x. x.1) same)
-    | inr more ↦
-        elim more [
-          | inl off ↦ inr (inl (why_else (λ left copied now. BreaksOff target NoMemory left copied after now new) (λ left copied now. (b : Bitmap) × BreaksOff target NoMemory left copied b now new) (λ left copied now x. (after, x)) off))
-          | inr listing ↦ inr (inr (inl (why_else (λ left copied now. FailsListing target NoMemory left copied after now new) (λ left copied now. (b : Bitmap) × FailsListing target NoMemory left copied b now new) (λ left copied now x. (after, x)) listing)))
-        ]
+    | inl same ↦ inl same
+    | inr more ↦ elim more [ inl off ↦ inr (inl off) | inr listing ↦ inr (inr (inl listing)) ]
   ]
-  passes_stop after new (LogFull k) h =
-      inl (why_else (λ left copied now. FailsListing target (LogFull k) left copied after now new) (λ left copied now. (b : Bitmap) × FailsListing target (LogFull k) left copied b now new) (λ left copied now x. (after, x)) h)
-  passes_stop after new (MetadataFault k) h =
-      why_else (λ left copied now. FailsListing target (MetadataFault k) left copied after now new) (λ left copied now. (b : Bitmap) × FailsListing target (MetadataFault k) left copied b now new) (λ left copied now x. (after, x)) h
+  passes_stop after new (LogFull k) h = inl h
+  passes_stop after new (MetadataFault k) h = with_set (λ b left copied now. FailsListing target (MetadataFault k) left copied b now new) after h
   passes_stop after new TargetFault h = elim h [
-    | inl off ↦ inl (why_else (λ left copied now. BreaksOff target TargetFault left copied after now new) (λ left copied now. (b : Bitmap) × BreaksOff target TargetFault left copied b now new) (λ left copied now x. (after, x)) off)
+    | inl off ↦ inl (with_set (λ b left copied now. BreaksOff target TargetFault left copied b now new) after off)
     | inr fails ↦ inr (inl fails)
   ]
   passes_stop after new Halted h = absurd h
@@ -94,18 +90,18 @@ module _ (target : ℕ) (m : MemberView) (none : Bitmap) (ready : MirrorView) wh
       sound = all.ready.sound;
     }
 
-    pub enrol_stops : (new : MirrorView) (fault : RebuildFault) → FailsCopied target copied filled new fault → StopsReadied target m none ready new fault
-    enrol_stops new NoMemory h = inr (inr (inr (record { passes = all.passes; copied = copied; copies = subst (CopiesAll target m all.passes none copied ready) (sym h) all.copies })))
-    enrol_stops new (LogFull k) h =
+    pub enrol_stops : (after : Bitmap) (new : MirrorView) (fault : RebuildFault) → FailsCopied target copied filled new fault → StopsReadied target m none after ready new fault
+    enrol_stops after new NoMemory h = inr (inr (inr (record { passes = all.passes; copied = copied; copies = subst (CopiesAll target m all.passes none copied ready) (sym h) all.copies })))
+    enrol_stops after new (LogFull k) h =
         inr (h.0, record { passes = all.passes; copied = copied; kept = h.1.kept; orphans = h.1.orphans; chunks = h.1.chunks; filled = filled; fills = fills_by h.1.kept h.1.orphans h.1.chunks h.1.has; why = h.1.why })
-    enrol_stops new TargetFault h =
+    enrol_stops after new TargetFault h =
         inr (inr (record { passes = all.passes; copied = copied; kept = h.kept; orphans = h.orphans; chunks = h.chunks; filled = filled; fills = fills_by h.kept h.orphans h.chunks h.has; why = h.why }))
-    enrol_stops new Halted h = absurd h
-    enrol_stops new NotSpare h = absurd h
-    enrol_stops new Dirty h = absurd h
-    enrol_stops new (InFlight n) h = absurd h
-    enrol_stops new (MetadataFault k) h = absurd h
-    enrol_stops new EventsFull h = absurd h
+    enrol_stops after new Halted h = absurd h
+    enrol_stops after new NotSpare h = absurd h
+    enrol_stops after new Dirty h = absurd h
+    enrol_stops after new (InFlight n) h = absurd h
+    enrol_stops after new (MetadataFault k) h = absurd h
+    enrol_stops after new EventsFull h = absurd h
 
     pub rebuilds_readied : (enrolled new : MirrorView) (told : Rebuilt) → EnrolsCopied target plans copied filled enrolled told → IsConsistent enrolled → Settles enrolled new → RebuildsReadied target m none ready new told
     rebuilds_readied enrolled new told h sound settles = record {
@@ -137,13 +133,15 @@ module _ (target : ℕ) (old ready : MirrorView) (none : Bitmap) (begins : Begin
   readied : (Why : MemberView → Bitmap → MirrorView → Type 0) → Why begins.now none ready → EndsReadied target old Why
   readied Why why = record { ready = ready; none = none; begins = begins; why = why }
 
-  pub refused_readied : (stopped new : MirrorView) (fault : RebuildFault) → StopsReadied target begins.now none ready stopped fault → LeavesSo target stopped new fault → RefusesRebuild target old new fault
-  refused_readied stopped new NoMemory h left = inr (record { stopped = stopped; why = readied (λ m n r. LacksMemory target m n r stopped) h; leaves = left })
-  refused_readied stopped new (LogFull k) h left = record { stopped = stopped; why = readied (λ m n r. LacksRoom k target m n r stopped) h; leaves = left }
-  refused_readied stopped new (MetadataFault k) h left = inr (inr (record { stopped = stopped; why = readied (λ m n r. LosesSource k target m n r stopped) h; leaves = left }))
-  refused_readied stopped new TargetFault h left = inr (inr (readied (λ m n r. LosesTarget target m n r new) (subst (λ (v : MirrorView). LosesTarget target begins.now none ready v) (sym left) h)))
-  refused_readied stopped new Halted h left = absurd h
-  refused_readied stopped new NotSpare h left = absurd h
-  refused_readied stopped new Dirty h left = absurd h
-  refused_readied stopped new (InFlight n) h left = absurd h
-  refused_readied stopped new EventsFull h left = absurd h
+  pub refused_readied : (after : Bitmap) (stopped new : MirrorView) (fault : RebuildFault) → StopsReadied target begins.now none after ready stopped fault → LeavesSo target after stopped new fault
+      → RefusesRebuild target old new fault
+  refused_readied after stopped new NoMemory h left = inr (record { copied = after; stopped = stopped; why = readied (λ m n r. LacksMemory target m n after r stopped) h; leaves = left })
+  refused_readied after stopped new (LogFull k) h left = record { copied = after; stopped = stopped; why = readied (λ m n r. LacksRoom k target m n after r stopped) h; leaves = left }
+  refused_readied after stopped new (MetadataFault k) h left =
+      inr (inr (record { copied = left.0; stopped = stopped; why = (left.1, readied (λ m n r. LosesSource k target m n r stopped) h); leaves = left.2 }))
+  refused_readied after stopped new TargetFault h left = inr (inr (readied (λ m n r. LosesTarget target m n r new) (subst (λ (v : MirrorView). LosesTarget target begins.now none ready v) (sym left) h)))
+  refused_readied after stopped new Halted h left = absurd h
+  refused_readied after stopped new NotSpare h left = absurd h
+  refused_readied after stopped new Dirty h left = absurd h
+  refused_readied after stopped new (InFlight n) h left = absurd h
+  refused_readied after stopped new EventsFull h left = absurd h

@@ -47,5 +47,6 @@ pub mod StartsReadied
 pub mod StoredFirst
 pub mod StoringKeeps
 pub mod TargetStates
+pub mod Told
 pub mod UnfinishedEnrol
 pub mod Unmarked

@@ -1,11 +1,13 @@
 -- Lists are stored, member by member.
 use Rattle.std.proofs.Common.{◌≡◌, ◌≢◌, ◌∙◌, ◌⊎◌, ◌↔◌, ℕ, ◌+◌, ◌<◌, ◌≤◌, Bool, true, false, ◌&&◌, ◌||◌, List, [], ◌∷◌, ◌++◌, length, get_or, take, set, slice_get, Some, refl, sym, ap, subst, arith, inl, inr}
 use Rattle.std.specs.Prelude.{All, Result, Ok, Err, MatchResult, filter}
-use Rattle.std.specs.List.{Any, list_any}
+use Rattle.std.specs.List.{AllPairs, Any, list_any}
 use Rattle.std.proofs.lemmas.Bool.{both_ways, cases_Bool, cases_eq, cases_lt}
-use Rattle.std.proofs.lemmas.List.{append_assoc, take_all}
-use Rattle.std.proofs.lemmas.List.Elements.{All-get_or}
+use Rattle.std.proofs.lemmas.Grind.{common_steps}
+use Rattle.std.proofs.lemmas.List.{append-nil, append_assoc, take_all}
+use Rattle.std.proofs.lemmas.List.Elements.{All-get_or, All-nil, All-push, All-weaker}
 use Rattle.std.proofs.lemmas.List.Folds.{Any-from_list_any, list_any-from_Any, list_any_at, list_any_more}
+use Rattle.std.proofs.lemmas.List.Quantifiers.{Any-push, all_pairs_push}
 use Rattle.std.proofs.lemmas.Option.{same_Some, slice_get_within}
 use Rattle.md_assembly.specs.declared.state.MemberState.{MemberState}
 use Rattle.md_assembly.specs.States.{is_in_sync, is_in_sync_as}
@@ -38,7 +40,7 @@ use Rattle.md_pass.specs.Copied.{failed_slots, is_failed_slot}
 use Rattle.md_passes.specs.Listed.{IsOfFailed, ListsFailed, ListsOwn}
 use Rattle.md_copy.specs.declared.fault.RebuildFault.{RebuildFault}
 use Rattle.md_copy.specs.declared.fault.RebuildFault.TheVariants.{MetadataFault}
-use Rattle.md_copy.specs.Listing.{HasFailed, HaveRoom, IsStoringList, KeepsList, ListsAll, NotesLists, StopsAtList, StopsStoringLists, StoresIfFailed, StoresListIf, StoresLists, WritesMetadata, all_list_events}
+use Rattle.md_copy.specs.Listing.{AreListsOf, HasFailed, HaveRoom, IsStoringList, KeepsList, ListsAll, NotesLists, StopsAtList, StopsStoringLists, StoresIfFailed, StoresListIf, StoresLists, StoresOwn, WritesMetadata, all_list_events}
 use Rattle.md_copy.proofs.ListingKeeps.{KeepsPlaces, LeavesBeside, listing_fields, listing_halts, listing_leaves, writes_one, writes_same, writes_then}
 use Rattle.md_copy.proofs.Served.{in_sync_as}
 
@@ -136,6 +138,7 @@ module _ (failed : List Slot) (k : ℕ) where
         unfailing = nothing.0.unfailing;
         stored = [];
         events = nothing.1;
+        own = inr (none, refl);
         member = λ m n at there. inr (none m at, same_Some n m (sym there ∙ at));
         beside = λ j apart. refl;
         others = refl;
@@ -158,11 +161,12 @@ module _ (failed : List Slot) (k : ℕ) where
           unfailing = all.0.unfailing;
           stored = (k, s.listed) ∷ [];
           events = all.1 ∙ s.list;
+          own = inl (a.before, a.in_sync.member, has a.before a.in_sync.member, s.listed, refl);
           member = λ m n at there. inl (
-              has m at,
-              subst (λ (z : MemberView). HasStoredList old.array.marks z n) (same_Some a.before m (sym a.in_sync.member ∙ at))
-                  (subst (λ (z : MemberView). HasStoredList old.array.marks a.before z) (sym (is_now old.array new.array k a.before a.after a.in_sync.member a.array n there)) a.has),
-            );
+            has m at,
+            subst (λ (z : MemberView). HasStoredList old.array.marks z n) (same_Some a.before m (sym a.in_sync.member ∙ at))
+                (subst (λ (z : MemberView). HasStoredList old.array.marks a.before z) (sym (is_now old.array new.array k a.before a.after a.in_sync.member a.array n there)) a.has),
+          );
           beside = λ j apart. ap (λ (v : ArrayView). slice_get v.members j) a.array ∙ got_other old.array.members k j a.after apart;
           others = a.array ∙ ap (λ (xs : List MemberView). record old.array { members = xs }) (sym (ap (λ (v : ArrayView). v.members) a.array));
           recorded = λ j n in_sync.
@@ -236,12 +240,59 @@ module _ (failed : List Slot) (k : ℕ) where
             writes = writes_one k old new sound m in_sync leaves;
           }
 
+-- ---- which lists are stored
+any_more : {X : Type 0} (P : X → Type 0) (xs : List X) (y : X) → Any P xs → Any P (xs ++ y ∷ [])
+any_more P xs y (i, x, low, is, holds) = (i, x, grind (arith, common_steps), grind (arith, common_steps), holds)
+
+abbrev pub IsBelow : List Slot → ArrayView → ℕ → (ℕ × (ℕ → Bool)) → Type 0
+IsBelow failed a k l = (l.0 < k) × ((m : MemberView) × IsMember a l.0 m × HasFailed failed m)
+
+-- those of the members before this one
+pub record AreListsBelow (failed : List Slot) (k : ℕ) (a : ArrayView) (stored : List (ℕ × (ℕ → Bool))) : Type 0 where
+  pub each : (j : ℕ) (m : MemberView) → j < k → IsMember a j m → HasFailed failed m → Any (λ (l : ℕ × (ℕ → Bool)). l.0 ≡ j) stored
+  pub only : All (IsBelow failed a k) stored
+  pub rising : AllPairs (λ (l o : ℕ × (ℕ → Bool)). l.0 < o.0) stored
+
+module _ (failed : List Slot) (k : ℕ) (a : ArrayView) (ls : List (ℕ × (ℕ → Bool))) (b : AreListsBelow failed k a ls) where
+  still_below : All (IsBelow failed a (k + 1)) ls
+  still_below = All-weaker (IsBelow failed a k) (IsBelow failed a (k + 1)) (λ l is. (let low = is.0 in omega (arith, low), is.1)) ls b.only
+
+  lists_more : (now : List (ℕ × (ℕ → Bool))) → StoresOwn failed k a now → AreListsBelow failed (k + 1) a (ls ++ now)
+  lists_more now (inl (m, at, has, listed, is)) =
+      subst (λ (xs : List (ℕ × (ℕ → Bool))). AreListsBelow failed (k + 1) a (ls ++ xs)) (sym is)
+      (record {
+        each = λ j n low there failing. elim (cases_eq j k) [
+          | inl here ↦ Any-push (λ (l : ℕ × (ℕ → Bool)). l.0 ≡ j) ls (k, listed) (sym here)
+          | inr other ↦ any_more (λ (l : ℕ × (ℕ → Bool)). l.0 ≡ j) ls (k, listed) (b.each j n (omega (arith, low, other)) there failing)
+        ];
+        only = All-push (IsBelow failed a (k + 1)) ls (k, listed) still_below (omega arith, (m, at, has));
+        rising = all_pairs_push (λ (l o : ℕ × (ℕ → Bool)). l.0 < o.0) ls (k, listed) b.rising (λ i d low. (All-get_or (IsBelow failed a k) ls i d low b.only).0);
+      })
+  lists_more now (inr (none, is)) =
+      subst (AreListsBelow failed (k + 1) a) (sym (ap (λ (xs : List (ℕ × (ℕ → Bool))). ls ++ xs) is ∙ append-nil ls))
+      (record {
+        each = λ j n low there failing. elim (cases_eq j k) [
+          | inl here ↦ absurd (none n (subst (λ i. IsMember a i n) here there) failing)
+          | inr other ↦ b.each j n (omega (arith, low, other)) there failing
+        ];
+        only = still_below;
+        rising = b.rising;
+      })
+
+  lists_all : length a.members ≤ k → AreListsOf failed a ls
+  lists_all past = record {
+    each = λ j m at has. b.each j m (let low = slice_get_within a.members j m at in omega (arith, low, past)) at has;
+    only = All-weaker (IsBelow failed a k) (λ (l : ℕ × (ℕ → Bool)). (m : MemberView) × IsMember a l.0 m × HasFailed failed m) (λ l is. is.1) ls b.only;
+    rising = b.rising;
+  }
+
 -- ---- the members, one after another
 -- so it is of those before this one
 pub record StoresBelow (failed : List Slot) (k : ℕ) (old new : MirrorView) : Type 0 where
   pub goes : GoesUnfailing IsStoringList old new
   pub stored : List (ℕ × (ℕ → Bool))
   pub events : goes.goes.events ≡ all_list_events stored
+  pub lists : AreListsBelow failed k old.array stored
   pub below : (j : ℕ) (m n : MemberView) → j < k → IsMember old.array j m → IsMember new.array j n → StoresIfFailed failed old.array.marks m n
   pub above : (j : ℕ) → k ≤ j → slice_get new.array.members j ≡ slice_get old.array.members j
   pub others : new.array ≡ record old.array { members = new.array.members }
@@ -256,6 +307,7 @@ module _ (failed : List Slot) where
         goes = nothing.0;
         stored = [];
         events = nothing.1;
+        lists = record { each = λ j m low at has. absurd (omega (arith, low)); only = All-nil (IsBelow failed v.array 0); rising = λ i j d lt within. absurd (omega (arith, within)) };
         below = λ j m n low at there. absurd (omega (arith, low));
         above = λ j high. refl;
         others = refl;
@@ -294,6 +346,11 @@ module _ (failed : List Slot) where
     pub room_below : HaveRoom failed old.array → (m : MemberView) → IsMember mid.array k m → HasFailed failed m → HasRoomFor m.superblock m.bad
     room_below room m at has = failed_room failed old.array room k m (sym (x.above k (omega arith)) ∙ at) has
 
+    -- the next one is as it was
+    own_before : (now : List (ℕ × (ℕ → Bool))) → StoresOwn failed k mid.array now → StoresOwn failed k old.array now
+    own_before now (inl (m, at, has, listed, is)) = inl (m, sym (x.above k (omega arith)) ∙ at, has, listed, is)
+    own_before now (inr (none, is)) = inr (λ m at. none m (x.above k (omega arith) ∙ at), is)
+
     pub below_more : (new : MirrorView) → StoresListIf failed k mid new → StoresBelow failed (k + 1) old new
     below_more new y =
         let later : GoesUnfailing IsStoringList mid new = record { goes = y.goes; unfailing = y.unfailing; halted = ap (λ (v : ArrayView). v.halted) y.others } in
@@ -301,6 +358,7 @@ module _ (failed : List Slot) where
         record {
           goes = all.0;
           stored = x.stored ++ y.stored;
+          lists = lists_more failed k old.array x.stored x.lists y.stored (own_before y.stored y.own);
           events = all.1 ∙ ap (λ (es : List Event). es ++ y.goes.events) x.events ∙ ap (λ (es : List Event). all_list_events x.stored ++ es) y.events ∙ sym (events_append x.stored y.stored);
           below = λ j m n low at there. elim (cases_eq j k) [
             | inl here ↦
@@ -321,6 +379,7 @@ module _ (failed : List Slot) where
       unfailing = x.goes.unfailing;
       stored = x.stored;
       events = x.events;
+      lists = lists_all failed k old.array x.stored x.lists (let same = many in omega (arith, past, same));
       members = λ j m n at there. x.below j m n (let low = slice_get_within mid.array.members j n there in omega (arith, low, past)) at there;
       others = x.others;
       recorded = x.recorded;

@@ -1,10 +1,9 @@
 -- A rebuild is readied, step by step.
-use Rattle.std.proofs.Common.{◌≡◌, ◌∙◌, ℕ, ◌<◌, true, false, None, length, map, slice_get, sym, ap, subst, arith, inl, inr}
+use Rattle.std.proofs.Common.{◌≡◌, ◌∙◌, ℕ, ◌<◌, true, false, length, sym, ap, subst, arith, inl, inr}
 use Rattle.std.proofs.lemmas.Bool.{both_ways}
+use Rattle.std.proofs.lemmas.Option.{slice_get_within}
 use Rattle.md_assembly.proofs.Indices.{got_within}
-use Rattle.md_assembly.specs.States.{is_in_sync, is_spare}
-use Rattle.md_bitmap.specs.Marks.{Bitmap, is_set}
-use Rattle.md_kept_members.specs.Members.{made_due}
+use Rattle.md_assembly.specs.States.{is_spare}
 use Rattle.md_kept_members.specs.TakingBack.{admitted_member}
 use Rattle.md_kept_members.specs.View.{MemberView}
 use Rattle.md_state.specs.Members.{IsMember}
@@ -13,21 +12,16 @@ use Rattle.md_state.specs.Rising.{HasSpentEvents}
 use Rattle.md_state.specs.View.{ArrayView, MirrorView}
 use Rattle.md_array.specs.Admitting.{Admits}
 use Rattle.md_array.specs.Consistency.{IsConsistent}
-use Rattle.md_array.specs.NotingResynced.{AreNoted}
-use Rattle.md_array.proofs.General.Indices.{at_map}
-use Rattle.md_array.proofs.General.Replaced.{of_set}
 use Rattle.md_array.proofs.Rebuilding.InBetween.{recovers_rebuilt}
 use Rattle.md_copy.specs.declared.fault.RebuildFault.{RebuildFault}
 use Rattle.md_copy.specs.declared.fault.RebuildFault.TheVariants.{Halted, NotSpare, Dirty, InFlight, LogFull, NoMemory, TargetFault, MetadataFault, EventsFull}
 use Rattle.md_copy.specs.Beginning.{MayRebuild, rises}
-use Rattle.md_copy.specs.Leaving.{LeavesSo, MayLeave}
-use Rattle.md_copy.specs.Ready.{IsRecordable, MayGoOn}
+use Rattle.md_copy.specs.Ready.{MayGoOn}
 use Rattle.md_copy.specs.Readying.{AdmitsAfter, Readies, RefusesAdmission, RefusesReady}
 use Rattle.md_copy.specs.Storing.{FailsOnTarget, StoresFirst, StoringStops}
 use Rattle.md_copy.specs.Targets.{IsTarget}
 use Rattle.md_copy.proofs.TargetStates.{target_rebuilt, target_stays}
-use Rattle.md_copy.proofs.Readied.{admitted_is, after_so, begins_so, not_due, noted_then, once, recovering_admitted, recovering_else, some_rise, state_then, stored_so, unspent_so}
-use Rattle.md_copy.proofs.ReadyStill.{storing_halted, storing_lost, storing_marks}
+use Rattle.md_copy.proofs.Readied.{admitted_is, after_so, begins_so, not_due, once, recovering_admitted, recovering_else, some_rise, state_then, stored_so, unspent_so}
 
 module _ (target : ℕ) (old : MirrorView) (within : target < length old.array.members) (may : (m : MemberView) → IsMember old.array target m → MayRebuild old.array m) where
   it : (m : MemberView) × IsMember old.array target m
@@ -89,7 +83,14 @@ module _ (target : ℕ) (old : MirrorView) (within : target < length old.array.m
       refused_admission new sound Dirty h = absurd h
       refused_admission new sound (InFlight n) h = absurd h
       refused_admission new sound (LogFull k) h = absurd h
-      refused_admission new sound NoMemory h = subst (StoresFirst old) (sym h) first
+      refused_admission new sound NoMemory h = record {
+        first = subst (StoresFirst old) (sym h) first;
+        spare = λ m at.
+            (let low = slice_get_within old.array.members target m at in
+            let many = first.stores.goes.array.as_many in
+            let n = got_within stored.array.members target (omega (arith, low, many)) in
+            sym (state_is m n.0 at n.1) ∙ spare n.0 n.1);
+      }
       refused_admission new sound TargetFault h = inr (record { stored = stored; first = first; fails = h; spare = spare h.may.member h.may.at; sound = sound })
       refused_admission new sound (MetadataFault k) h = absurd h
       refused_admission new sound EventsFull h = absurd h
@@ -121,65 +122,16 @@ module _ (target : ℕ) (old : MirrorView) (within : target < length old.array.m
             let here = admitted_is target old admitted after in
             both_ways m.due (not_due target old admitted after m here) (h.due m here)
 
-        -- how far it is rebuilt may be recorded
-        noted_admitted : AreNoted admitted.array
-        noted_admitted i c x on low set =
-            of_set (map made_due stored.array.members) target i (admitted_member r.role r.may.member) x (ap (λ (a : ArrayView). slice_get a.members i) (sym r.array) ∙ on.member)
-            (λ here now. absurd (both_ways (is_in_sync x.state) (ap (λ (z : MemberView). is_in_sync z.state) now) on.in_sync))
-            (λ other there.
-            (let found = at_map made_due stored.array.members i x there in
-            ap (λ (z : MemberView). is_set z.stored.bytes c) found.2
-            ∙ noted_then old stored first i c found.0 (record { member = found.1; in_sync = ap (λ (z : MemberView). is_in_sync z.state) (sym found.2) ∙ on.in_sync })
-                (subst (λ (b : Bitmap). c < b.chunks) marks_is low) (ap (λ (b : Bitmap). is_set b.bytes c) (sym marks_is) ∙ set)))
-          where
-            marks_is : admitted.array.marks ≡ stored.array.marks
-            marks_is = ap (λ (a : ArrayView). a.marks) r.array
-
-        recordable_admitted : IsRecordable target admitted
-        recordable_admitted = record {
-          sound = sound;
-          idle = once_admitted.idle;
-          resynced = once_admitted.resynced;
-          noted = noted_admitted;
-          recovering = λ n at. recovering_admitted target old admitted after n at;
-        }
-
-        pub leaves_then : (new : MirrorView) (fault : RebuildFault) → StoringStops target admitted new fault → (copied : Bitmap) → copied.chunks ≡ old.array.marks.chunks → MayLeave target copied new fault
-        leaves_then new Halted h copied count = absurd h
-        leaves_then new NotSpare h copied count = absurd h
-        leaves_then new Dirty h copied count = absurd h
-        leaves_then new (InFlight n) h copied count = absurd h
-        leaves_then new (LogFull k) h copied count = absurd h
-        leaves_then new NoMemory h copied count = absurd h
-        leaves_then new TargetFault h copied count = tt
-        leaves_then new EventsFull h copied count = absurd h
-        leaves_then new (MetadataFault k) h copied count =
-            let marks : admitted.array.marks ≡ old.array.marks = ap (λ (a : ArrayView). a.marks) r.array ∙ first.stores.goes.array.marks in
-            let at_admitted = count ∙ ap (λ (b : Bitmap). b.chunks) (sym marks) in
-            elim h.ends [
-              | inl lost ↦ (
-                  at_admitted ∙ ap (λ (b : Bitmap). b.chunks) (sym lost.loses.goes.array.marks),
-                  lost.loses.goes.sound,
-                  λ running. storing_lost target k admitted new h.other lost running recordable_admitted,
-                )
-              | inr halts ↦
-                  let is_halted = storing_halted halts.mid new (λ n. None) halts.failing halts.of (halts.halts (λ n. None)) in (
-                    at_admitted ∙ ap (λ (b : Bitmap). b.chunks) (sym halts.stores.goes.array.marks) ∙ sym (storing_marks halts.mid new (λ n. None) halts.failing halts.of (halts.halts (λ n. None))),
-                    halts.sound,
-                    λ running. absurd (both_ways new.array.halted running is_halted),
-                  )
-            ]
-
-        pub refused_then : (stopped new : MirrorView) (fault : RebuildFault) → StoringStops target admitted stopped fault → LeavesSo target stopped new fault → RefusesReady target old new fault
-        refused_then stopped new Halted h left = absurd h
-        refused_then stopped new NotSpare h left = absurd h
-        refused_then stopped new Dirty h left = absurd h
-        refused_then stopped new (InFlight n) h left = absurd h
-        refused_then stopped new (LogFull k) h left = absurd h
-        refused_then stopped new NoMemory h left = absurd h
-        refused_then stopped new TargetFault h left = absurd (unstored stopped h)
-        refused_then stopped new (MetadataFault k) h left = inr (record { stopped = stopped; why = record { admitted = admitted; after = after; stops = h }; leaves = left })
-        refused_then stopped new EventsFull h left = absurd h
+        pub refused_then : (new : MirrorView) (fault : RebuildFault) → StoringStops target admitted new fault → RefusesReady target old new fault
+        refused_then new Halted h = absurd h
+        refused_then new NotSpare h = absurd h
+        refused_then new Dirty h = absurd h
+        refused_then new (InFlight n) h = absurd h
+        refused_then new (LogFull k) h = absurd h
+        refused_then new NoMemory h = absurd h
+        refused_then new TargetFault h = absurd (unstored new h)
+        refused_then new (MetadataFault k) h = inr (record { admitted = admitted; after = after; stops = h })
+        refused_then new EventsFull h = absurd h
 
         pub ready_then : (new : MirrorView) → StoresFirst admitted new → (m : MemberView) → IsMember old.array target m → Readies target m old new
         ready_then new then m at = inr (spare_before m at, record { admitted = admitted; after = after; then = then })

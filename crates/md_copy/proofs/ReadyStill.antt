@@ -236,9 +236,6 @@ module _ (Of : Event → Type 0) (is : (e : Event) → Of e → IsOnMembers e) (
   pub lost_recovering : LosesStoring Of k v w → ((x : MemberView) → IsMember v.array target x → is_recovering x.state ≡ true) → (y : MemberView) → IsMember w.array target y → is_recovering y.state ≡ true
   lost_recovering l was y at = (let x = (lost_stays l).state target y (λ e. other (sym e)) at in ap is_recovering x.2 ∙ was x.0 x.1)
 
-pub storing_lost : (target k : ℕ) (v w : MirrorView) → k ≢ target → LosesStoring IsStoring k v w → w.array.halted ≡ false → IsRecordable target v → IsRecordable target w
-storing_lost target k v w other = lost_recordable IsStoring on_members target k v w other
-
 pub list_lost : (target k : ℕ) (v w : MirrorView) → k ≢ target → LosesStoring IsStoringList k v w → w.array.halted ≡ false → IsRecordable target v → IsRecordable target w
 list_lost target k v w other = lost_recordable IsStoringList list_on_members target k v w other
 
@@ -272,9 +269,6 @@ marks_then mid new others e of h = absurd of
 
 pub halted_marks : (mid new : MirrorView) (others : Requests) (e : Event) → IsStoringList e → HaltsAt mid others e new → new.array.marks.chunks ≡ mid.array.marks.chunks
 halted_marks mid new others e of h = marks_then mid new others e (list_on_members e of) h
-
-pub storing_marks : (mid new : MirrorView) (others : Requests) (e : Event) → IsStoring e → HaltsAt mid others e new → new.array.marks.chunks ≡ mid.array.marks.chunks
-storing_marks mid new others e of h = marks_then mid new others e (on_members e of) h
 
 pub storing_halted : (mid new : MirrorView) (others : Requests) (e : Event) → IsStoring e → HaltsAt mid others e new → new.array.halted ≡ true
 storing_halted mid new others e of h = halted_then mid new others e (on_members e of) h

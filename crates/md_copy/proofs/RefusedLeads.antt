@@ -5,7 +5,7 @@ use Rattle.std.proofs.lemmas.List.{append-nil}
 use Rattle.std.proofs.lemmas.Option.{same_Some}
 use Rattle.md_assembly.specs.States.{is_in_sync, is_recovering}
 use Rattle.md_bitmap.specs.Marks.{Bitmap}
-use Rattle.md_kept_members.specs.TakingBack.{admitted_member}
+use Rattle.md_kept_members.specs.TakingBack.{admitted_member, with_offset}
 use Rattle.md_kept_members.specs.View.{MemberView}
 use Rattle.md_model.specs.Events.{Event}
 use Rattle.md_passes.specs.Listed.{IsArrayPass}
@@ -25,6 +25,7 @@ use Rattle.md_array.specs.Spoiling.{SpoilsTarget}
 use Rattle.md_array.proofs.Rebuilding.AdmitAnswered.{admit_spoils}
 use Rattle.md_array.proofs.Rebuilding.CheckpointAnswered.{checkpoint_spoils}
 use Rattle.md_array.proofs.Rebuilding.EnrolSpoils.{unenrol_leads}
+use Rattle.md_array.proofs.Rebuilding.InBetween.{recovers_rebuilt}
 use Rattle.md_array.proofs.Rebuilding.PreparedEvent.{prepare_happens}
 use Rattle.md_array.proofs.Rebuilding.SpoiledEvent.{spoil_happens}
 use Rattle.md_array.proofs.Rebuilding.TargetEvent.{target_fails_happens}
@@ -36,7 +37,7 @@ use Rattle.md_copy.specs.Filling.{IsFilling}
 use Rattle.md_copy.specs.Leaving.{Leaves, LeavesAfter}
 use Rattle.md_copy.specs.Listing.{StopsAtList, StopsNoting}
 use Rattle.md_copy.specs.Passing.{BreaksOff, CopiesAll, EndsBetween, FailsListing, FailsRecording}
-use Rattle.md_copy.specs.RebuildEvents.{AsksOfEnrol, AsksOfFailure, FailsAtMarks, HaltsIn, IsBeforeEnrol, IsListOfUnfinished, IsOfUnfinished, LeadsUnadmitted, LeadsUnfinished}
+use Rattle.md_copy.specs.RebuildEvents.{AsksOfEnrol, AsksOfFailure, FailsAfterPass, FailsAtMarks, FailsCheckpoint, FailsLeaving, HaltsIn, IsBeforeEnrol, IsListOfUnfinished, IsOfUnfinished, LeadsUnadmitted, LeadsUnfinished, LeadsUnrecorded}
 use Rattle.md_copy.specs.Rebuilding.{EndsCopied, EndsFilled, EndsReadied, EndsStoring, FillsBy, LacksMemory, LacksRoom, LosesSource, LosesTarget, RefusesRebuild}
 use Rattle.md_copy.specs.Enrolled.{HasNoRoom}
 use Rattle.md_copy.specs.Ready.{IsReady}
@@ -44,6 +45,7 @@ use Rattle.md_copy.specs.Readying.{FailsAdmission, StopsAdmitted}
 use Rattle.md_copy.specs.Sources.{missing_chunks}
 use Rattle.md_copy.specs.Storing.{FailsOnTarget, StopsAt}
 use Rattle.md_copy.specs.Targets.{IsTarget}
+use Rattle.md_copy.proofs.Answered.{with_set}
 use Rattle.md_copy.proofs.HeldRecorded.{out_of_sync}
 use Rattle.md_copy.proofs.PassRecorded.{recorded_ready}
 use Rattle.md_copy.proofs.PassesTold.{HoldsSoFar, chain_holds, filled_ready}
@@ -122,32 +124,51 @@ module _ (target : ℕ) where
   StopsSo old stopped = ComesTo old stopped ⊎ HaltsAtEnd old stopped
 
   -- one that is halted is left as it is
-  same_left : (stopped new : MirrorView) → Leaves target stopped new → stopped.array.halted ≡ true → new ≡ stopped
-  same_left stopped new left halted = elim left [
+  same_left : (copied : Bitmap) (stopped new : MirrorView) → Leaves target copied stopped new → stopped.array.halted ≡ true → new ≡ stopped
+  same_left copied stopped new left halted = elim left [
     | inl same ↦ same.1
     | inr done ↦
-        elim done.1 [
+        elim done [
           | inl r ↦ absurd (both_ways stopped.array.halted r.may.idle.running halted)
           | inr f ↦ absurd (both_ways stopped.array.halted f.running halted)
         ]
   ]
 
-  left_there : (old stopped new : MirrorView) → ComesTo old stopped → Leaves target stopped new → IsConsistent new → LeadsUnfinished target old new
-  left_there old stopped new c left sound = elim left [
+  left_there : (copied : Bitmap) (old stopped new : MirrorView) → ComesTo old stopped → Leaves target copied stopped new → IsConsistent new → LeadsUnfinished target old new
+  left_there copied old stopped new c left sound = elim left [
     | inl same ↦ leads_there old new (subst (LeadsIn (Before target) c.events old) (sym same.1) c.leads)
     | inr done ↦
-        elim done.1 [
+        elim done [
           | inl r ↦
               leads_there old new
-              (both_lead (Before target) c.events (checkpoint_event r ∷ []) old stopped new c.leads (checkpoint_leads target done.0 stopped new c.leads.sound r sound))
-          | inr f ↦ leads_spoiled old stopped new c.leads (checkpoint_spoils target done.0 stopped new c.leads.sound f (c.recovers f.running f.member f.at)) sound
+              (both_lead (Before target) c.events (checkpoint_event r ∷ []) old stopped new c.leads (checkpoint_leads target copied stopped new c.leads.sound r sound))
+          | inr f ↦ leads_spoiled old stopped new c.leads (checkpoint_spoils target copied stopped new c.leads.sound f (c.recovers f.running f.member f.at)) sound
         ]
   ]
 
-  left_leads : (old stopped new : MirrorView) → StopsSo old stopped → Leaves target stopped new → IsConsistent new → LeadsUnfinished target old new
-  left_leads old stopped new h left sound = elim h [
-    | inl c ↦ left_there old stopped new c left sound
-    | inr e ↦ subst (LeadsUnfinished target old) (sym (same_left stopped new left e.halted)) (leads_halted old e.last stopped e.leads e.halts)
+  left_leads : (copied : Bitmap) (old stopped new : MirrorView) → StopsSo old stopped → Leaves target copied stopped new → IsConsistent new → LeadsUnfinished target old new
+  left_leads copied old stopped new h left sound = elim h [
+    | inl c ↦ left_there copied old stopped new c left sound
+    | inr e ↦ subst (LeadsUnfinished target old) (sym (same_left copied stopped new left e.halted)) (leads_halted old e.last stopped e.leads e.halts)
+  ]
+
+  -- the write failed by which it was to be recorded
+  unrecorded_by : {es : List Event} (copied : Bitmap) (old mid new : MirrorView) → LeadsIn (Before target) es old mid → (f : FailsToCheckpoint target copied mid new) → is_recovering f.member.state ≡ true
+      → LeadsUnrecorded target old new
+  unrecorded_by {es} copied old mid new g f recovers = record {
+    copied = copied;
+    mid = mid;
+    leads = leads_by g;
+    fails = f;
+    event = left_happens target mid new g.sound f.running f.member f.at (recovers_rebuilt f.member.state recovers) f.array mid.array.shared (with_offset f.offset f.member).superblock f.readable f.disks;
+  }
+
+  left_unrecorded : (copied : Bitmap) (old stopped new : MirrorView) → StopsSo old stopped → (left : Leaves target copied stopped new) → FailsLeaving left → LeadsUnrecorded target old new
+  left_unrecorded copied old stopped new h (inl same) fails = absurd fails
+  left_unrecorded copied old stopped new h (inr (inl r)) fails = absurd fails
+  left_unrecorded copied old stopped new h (inr (inr f)) fails = elim h [
+    | inl c ↦ unrecorded_by copied old stopped new c.leads f (c.recovers f.running f.member f.at)
+    | inr e ↦ absurd (both_ways stopped.array.halted f.running e.halted)
   ]
 
   -- as it stopped it is told
@@ -323,15 +344,15 @@ module _ (target : ℕ) where
         }
 
     -- ---- for want of memory, of room, or of a member
-    lacks_memory : (new : MirrorView) → LacksMemory target m none ready new → ComesTo old new
-    lacks_memory new (inl e) = then_comes (λ left copied now. new ≡ now) e new e.why
-    lacks_memory new (inr (inl e)) = broken_off NoMemory new e e.why.1.breaks.filling
-    lacks_memory new (inr (inr (inl e))) = noted_comes NoMemory new e e.why.1.fails
-    lacks_memory new (inr (inr (inr e))) = copied_comes e.passes e.copied new new e.copies refl
+    lacks_memory : (after : Bitmap) (new : MirrorView) → LacksMemory target m none after ready new → ComesTo old new
+    lacks_memory after new (inl e) = then_comes (λ left copied now. (after ≡ copied) × (new ≡ now)) e new e.why.1
+    lacks_memory after new (inr (inl e)) = broken_off NoMemory new (with_set target m none ready (λ b left copied now. BreaksOff target NoMemory left copied b now new) after e) e.why.breaks.filling
+    lacks_memory after new (inr (inr (inl e))) = noted_comes NoMemory new (with_set target m none ready (λ b left copied now. FailsListing target NoMemory left copied b now new) after e) e.why.fails
+    lacks_memory after new (inr (inr (inr e))) = copied_comes e.passes e.copied new new e.copies refl
 
-    lacks_room : (k : ℕ) (new : MirrorView) → LacksRoom k target m none ready new → ComesTo old new
-    lacks_room k new (inl e) = noted_comes (LogFull k) new e e.why.1.fails
-    lacks_room k new (inr e) = copied_comes e.1.passes e.1.copied e.1.filled new e.1.fills.copies e.1.why.unchanged
+    lacks_room : (k : ℕ) (after : Bitmap) (new : MirrorView) → LacksRoom k target m none after ready new → ComesTo old new
+    lacks_room k after new (inl e) = noted_comes (LogFull k) new (with_set target m none ready (λ b left copied now. FailsListing target (LogFull k) left copied b now new) after e) e.why.fails
+    lacks_room k after new (inr e) = copied_comes e.1.passes e.1.copied e.1.filled new e.1.fills.copies e.1.why.unchanged
 
     -- ---- the target could not be written
     not_recorded : (new : MirrorView) → Between (λ left copied now. FailsRecording target left copied now new) → IsConsistent new → LeadsUnfinished target old new
@@ -340,6 +361,14 @@ module _ (target : ℕ) where
         let n = f.makes.member in
         let c = then_fills (λ left copied now. FailsRecording target left copied now new) e f.pass n f.makes.at f.filled f.makes.is f.makes.copies.filling f.makes.sound in
         leads_spoiled old f.filled new c.leads (checkpoint_spoils target f.after f.filled new f.makes.sound f.fails (c.recovers f.fails.running f.fails.member f.fails.at)) after
+
+    pass_unrecorded : (new : MirrorView) (h : LosesTarget target m none ready new) → FailsAfterPass h → LeadsUnrecorded target old new
+    pass_unrecorded new (inl e) fails = absurd fails
+    pass_unrecorded new (inr (inl e)) fails =
+        let f = e.why in
+        let c = then_fills (λ left copied now. FailsRecording target left copied now new) e f.pass f.makes.member f.makes.at f.filled f.makes.is f.makes.copies.filling f.makes.sound in
+        unrecorded_by f.after old f.filled new c.leads f.fails (c.recovers f.fails.running f.fails.member f.fails.at)
+    pass_unrecorded new (inr (inr e)) fails = absurd fails
 
     not_enrolled : (new : MirrorView) (e : EndsFilled target m none ready (λ kept orphans filled. FailsToEnrol target kept orphans filled new)) → FailsAtMarks e.why ⊎ FailsAtSuper e.why → IsConsistent new → LeadsUnfinished target old new
     not_enrolled new e (inl f) after =
@@ -397,19 +426,47 @@ module _ (target : ℕ) where
   refused_leads old new sound after (InFlight number) h asks = none old new sound h.unchanged
   refused_leads old new sound after EventsFull h asks = none old new sound h.unchanged
   refused_leads old new sound after (MetadataFault k) (inl h) asks = stops k old new sound h.why
-  refused_leads old new sound after (MetadataFault k) (inr (inl h)) asks = left_leads old h.why.stopped new (stops_admitted k old h.why.stopped h.why.why) h.why.leaves after
+  refused_leads old new sound after (MetadataFault k) (inr (inl h)) asks = stops_there old new (stops_admitted k old new h.why)
   refused_leads old new sound after (MetadataFault k) (inr (inr h)) asks =
       let Why : MemberView → Bitmap → MirrorView → Type 0 = λ m none ready. LosesSource k target m none ready h.stopped in
-      left_leads old h.stopped new (lost_stops h.why.begins.now h.why.none old h.why.ready (opening old Why h.why) (opens old Why h.why) (holds old Why h.why) k h.stopped h.why.why) h.leaves after
+      let e = h.why.1 in
+      left_leads h.copied old h.stopped new (lost_stops e.begins.now e.none old e.ready (opening old Why e) (opens old Why e) (holds old Why e) k h.stopped e.why) h.leaves after
   refused_leads old new sound after TargetFault (inl h) asks = unrecorded old new h
   refused_leads old new sound after TargetFault (inr (inl h)) asks = unadmitted old new h.why
   refused_leads old new sound after TargetFault (inr (inr h)) asks =
       let Why : MemberView → Bitmap → MirrorView → Type 0 = λ m none ready. LosesTarget target m none ready new in
       loses_target h.begins.now h.none old h.ready (opening old Why h) (opens old Why h) (holds old Why h) new h.why asks after
-  refused_leads old new sound after NoMemory (inl h) asks = elim h.why [ inl same ↦ none old new sound same | inr first ↦ leads_there old new (storing_leads target old new first.stores.goes) ]
+  refused_leads old new sound after NoMemory (inl h) asks = elim h.why [ inl same ↦ none old new sound same | inr lacks ↦ leads_there old new (storing_leads target old new lacks.first.stores.goes) ]
   refused_leads old new sound after NoMemory (inr h) asks =
-      let Why : MemberView → Bitmap → MirrorView → Type 0 = λ m none ready. LacksMemory target m none ready h.stopped in
-      left_there old h.stopped new (lacks_memory h.why.begins.now h.why.none old h.why.ready (opening old Why h.why) (opens old Why h.why) (holds old Why h.why) h.stopped h.why.why) h.leaves after
+      let Why : MemberView → Bitmap → MirrorView → Type 0 = λ m none ready. LacksMemory target m none h.copied ready h.stopped in
+      left_there h.copied old h.stopped new (lacks_memory h.why.begins.now h.why.none old h.why.ready (opening old Why h.why) (opens old Why h.why) (holds old Why h.why) h.copied h.stopped h.why.why) h.leaves after
   refused_leads old new sound after (LogFull k) h asks =
-      let Why : MemberView → Bitmap → MirrorView → Type 0 = λ m none ready. LacksRoom k target m none ready h.stopped in
-      left_there old h.stopped new (lacks_room h.why.begins.now h.why.none old h.why.ready (opening old Why h.why) (opens old Why h.why) (holds old Why h.why) k h.stopped h.why.why) h.leaves after
+      let Why : MemberView → Bitmap → MirrorView → Type 0 = λ m none ready. LacksRoom k target m none h.copied ready h.stopped in
+      left_there h.copied old h.stopped new (lacks_room h.why.begins.now h.why.none old h.why.ready (opening old Why h.why) (opens old Why h.why) (holds old Why h.why) k h.copied h.stopped h.why.why) h.leaves after
+
+  pub unrecorded_leads : (old new : MirrorView) (fault : RebuildFault) (h : RefusesRebuild target old new fault) → FailsCheckpoint target old new fault h → LeadsUnrecorded target old new
+  unrecorded_leads old new Halted h fails = absurd fails
+  unrecorded_leads old new NotSpare h fails = absurd fails
+  unrecorded_leads old new Dirty h fails = absurd fails
+  unrecorded_leads old new (InFlight number) h fails = absurd fails
+  unrecorded_leads old new EventsFull h fails = absurd fails
+  unrecorded_leads old new (MetadataFault k) (inl h) fails = absurd fails
+  unrecorded_leads old new (MetadataFault k) (inr (inl h)) fails = absurd fails
+  unrecorded_leads old new (MetadataFault k) (inr (inr h)) fails =
+      let Why : MemberView → Bitmap → MirrorView → Type 0 = λ m none ready. LosesSource k target m none ready h.stopped in
+      let e = h.why.1 in
+      left_unrecorded h.copied old h.stopped new (lost_stops e.begins.now e.none old e.ready (opening old Why e) (opens old Why e) (holds old Why e) k h.stopped e.why) h.leaves fails
+  unrecorded_leads old new TargetFault (inl h) fails = absurd fails
+  unrecorded_leads old new TargetFault (inr (inl h)) fails = absurd fails
+  unrecorded_leads old new TargetFault (inr (inr h)) fails =
+      let Why : MemberView → Bitmap → MirrorView → Type 0 = λ m none ready. LosesTarget target m none ready new in
+      pass_unrecorded h.begins.now h.none old h.ready (opening old Why h) (opens old Why h) (holds old Why h) new h.why fails
+  unrecorded_leads old new NoMemory (inl h) fails = absurd fails
+  unrecorded_leads old new NoMemory (inr h) fails =
+      let Why : MemberView → Bitmap → MirrorView → Type 0 = λ m none ready. LacksMemory target m none h.copied ready h.stopped in
+      left_unrecorded h.copied old h.stopped new
+      (inl (lacks_memory h.why.begins.now h.why.none old h.why.ready (opening old Why h.why) (opens old Why h.why) (holds old Why h.why) h.copied h.stopped h.why.why)) h.leaves fails
+  unrecorded_leads old new (LogFull k) h fails =
+      let Why : MemberView → Bitmap → MirrorView → Type 0 = λ m none ready. LacksRoom k target m none h.copied ready h.stopped in
+      left_unrecorded h.copied old h.stopped new
+      (inl (lacks_room h.why.begins.now h.why.none old h.why.ready (opening old Why h.why) (opens old Why h.why) (holds old Why h.why) k h.copied h.stopped h.why.why)) h.leaves fails

@@ -1,7 +1,7 @@
 -- A chunk that a source failed to give is listed as bad on it: first in memory, slot by slot, and then the lists are stored, member by member (this
 -- project's own order).
-use Rattle.std.specs.Prelude.{◌≡◌, ◌≢◌, ◌⊎◌, ℕ, Bool, true, false, List, [], ◌∷◌, ◌++◌, length, slice_get, All}
-use Rattle.std.specs.List.{Any}
+use Rattle.std.specs.Prelude.{◌≡◌, ◌≢◌, ◌⊎◌, ◌<◌, ℕ, Bool, true, false, List, [], ◌∷◌, ◌++◌, length, slice_get, All}
+use Rattle.std.specs.List.{AllPairs, Any}
 use Rattle.md_assembly.specs.States.{is_in_sync, is_in_sync_as}
 use Rattle.md_bitmap.specs.Marks.{Bitmap}
 use Rattle.md_cert.specs.declared.slots.Slot.{Slot}
@@ -99,12 +99,25 @@ pub record WritesMetadata (old new : MirrorView) : Type 0 where
 abbrev pub StoresIfFailed : List Slot → Bitmap → MemberView → MemberView → Type 0
 StoresIfFailed failed marks m n = (HasFailed failed m × HasStoredList marks m n) ⊎ ((HasFailed failed m → ⊥) × (n ≡ m))
 
+-- member k's list is stored, if a slot of it failed, and else none
+abbrev pub StoresOwn : List Slot → ℕ → ArrayView → List (ℕ × (ℕ → Bool)) → Type 0
+StoresOwn failed k a stored =
+    ((m : MemberView) × IsMember a k m × HasFailed failed m × (listed : ℕ → Bool) × (stored ≡ (k, listed) ∷ []))
+    ⊎ (((m : MemberView) → IsMember a k m → HasFailed failed m → ⊥) × (stored ≡ []))
+
+-- These are the lists of the members of which a slot failed, each once, by index.
+pub record AreListsOf (failed : List Slot) (a : ArrayView) (stored : List (ℕ × (ℕ → Bool))) : Type 0 where
+  pub each : (k : ℕ) (m : MemberView) → IsMember a k m → HasFailed failed m → Any (λ (l : ℕ × (ℕ → Bool)). l.0 ≡ k) stored
+  pub only : All (λ (l : ℕ × (ℕ → Bool)). (m : MemberView) × IsMember a l.0 m × HasFailed failed m) stored
+  pub rising : AllPairs (λ (l o : ℕ × (ℕ → Bool)). l.0 < o.0) stored
+
 -- So of member k, and of no other.
 pub record StoresListIf (failed : List Slot) (k : ℕ) (old new : MirrorView) : Type 0 where
   pub goes : GoesOn only_others only_others IsStoringList old new
   pub unfailing : AllOf IsNoFailure goes.events
   pub stored : List (ℕ × (ℕ → Bool))
   pub events : goes.events ≡ all_list_events stored
+  pub own : StoresOwn failed k old.array stored
   pub member : (m n : MemberView) → IsMember old.array k m → IsMember new.array k n → StoresIfFailed failed old.array.marks m n
   pub beside : (j : ℕ) → j ≢ k → slice_get new.array.members j ≡ slice_get old.array.members j
   pub others : new.array ≡ record old.array { members = new.array.members }
@@ -117,6 +130,7 @@ pub record StoresLists (failed : List Slot) (old new : MirrorView) : Type 0 wher
   pub unfailing : AllOf IsNoFailure goes.events
   pub stored : List (ℕ × (ℕ → Bool))
   pub events : goes.events ≡ all_list_events stored
+  pub lists : AreListsOf failed old.array stored
   pub members : (k : ℕ) (m n : MemberView) → IsMember old.array k m → IsMember new.array k n → StoresIfFailed failed old.array.marks m n
   pub others : new.array ≡ record old.array { members = new.array.members }
   pub recorded : AllInSync new.array IsNotDue

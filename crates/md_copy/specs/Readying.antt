@@ -2,12 +2,12 @@
 use Rattle.std.specs.Prelude.{◌≡◌, ◌⊎◌, ℕ, true}
 use Rattle.md_assembly.specs.States.{is_recovering, is_spare}
 use Rattle.md_kept_members.specs.View.{MemberView}
+use Rattle.md_state.specs.Members.{IsMember}
 use Rattle.md_state.specs.View.{MirrorView}
 use Rattle.md_array.specs.Admitting.{Admits, FailsToAdmit}
 use Rattle.md_array.specs.Consistency.{IsConsistent}
 use Rattle.md_copy.specs.declared.fault.RebuildFault.{RebuildFault}
 use Rattle.md_copy.specs.declared.fault.RebuildFault.TheVariants.{MetadataFault, NoMemory, TargetFault}
-use Rattle.md_copy.specs.Leaving.{LeavesAfter}
 use Rattle.md_copy.specs.Storing.{FailsOnTarget, StopsAt, StoresFirst}
 
 -- What was due is stored, so that no member in sync is two events behind. Then the target, a spare, was admitted.
@@ -43,15 +43,20 @@ pub record FailsAdmission (target : ℕ) (old new : MirrorView) : Type 0 where
   pub spare : is_spare fails.may.member.state ≡ true
   pub sound : IsConsistent new
 
--- The target was admitted, and is recovering. Then a write to member k failed.
+-- The target was admitted, and is recovering. Then a write to member k failed. Nothing is copied yet, and the members in sync need not have stored that
+-- the count rose as the target was admitted, and again as k failed: nothing more is written.
 pub record StopsAdmitted (target k : ℕ) (old new : MirrorView) : Type 0 where
   pub admitted : MirrorView
   pub after : AdmitsAfter target old admitted
   pub stops : StopsAt target k admitted new
 
--- Where memory was refused for the admission, what was due is stored.
+-- Memory was refused for the admission of a spare. What was due is stored.
+pub record LacksAdmission (target : ℕ) (old new : MirrorView) : Type 0 where
+  pub first : StoresFirst old new
+  pub spare : (m : MemberView) → IsMember old.array target m → is_spare m.state ≡ true
+
 abbrev pub RefusesReady : ℕ → MirrorView → MirrorView → RebuildFault → Type 0
-RefusesReady target old new (MetadataFault k) = StopsAt target k old new ⊎ LeavesAfter target (StopsAdmitted target k old) new
+RefusesReady target old new (MetadataFault k) = StopsAt target k old new ⊎ StopsAdmitted target k old new
 RefusesReady target old new TargetFault = FailsOnTarget target old new ⊎ FailsAdmission target old new
-RefusesReady target old new NoMemory = StoresFirst old new
+RefusesReady target old new NoMemory = LacksAdmission target old new
 RefusesReady target old new fault = ⊥

@@ -6,6 +6,7 @@ use Rattle.md_kept_members.specs.View.{MemberView}
 use Rattle.md_model.specs.Events.{Event}
 use Rattle.md_state.specs.View.{ArrayView, Disk, MirrorView}
 use Rattle.md_array.specs.Admitting.{FailsOnTargetAlone, FailsToAdmit}
+use Rattle.md_array.specs.Checkpoints.{FailsToCheckpoint}
 use Rattle.md_array.specs.Enrolling.{FailsToEnrol}
 use Rattle.md_array.specs.Enrolments.{FailsAtSuper}
 use Rattle.md_array.specs.InTurn.{AllOf, HaltsAt, Requests}
@@ -14,6 +15,7 @@ use Rattle.md_metadata.specs.Going.{LeadsBy}
 use Rattle.md_metadata.specs.Storing.{IsNoFailure, IsStoring}
 use Rattle.md_copy.specs.declared.fault.RebuildFault.{RebuildFault}
 use Rattle.md_copy.specs.declared.fault.RebuildFault.TheVariants.{Halted, NotSpare, Dirty, InFlight, LogFull, NoMemory, TargetFault, MetadataFault, EventsFull}
+use Rattle.md_copy.specs.Leaving.{Leaves}
 use Rattle.md_copy.specs.Listing.{IsNoting, IsStoringList}
 use Rattle.md_copy.specs.Rebuilding.{LosesTarget, RefusesRebuild}
 
@@ -135,6 +137,45 @@ pub record LeadsUnadmitted (target : ℕ) (old new : MirrorView) : Type 0 where
   pub mid : MirrorView
   pub leads : LeadsBy (IsBeforeEnrol target) old mid
   pub fails : FailsToAdmit target mid new
+  pub event : FailsOnTargetAlone target mid new
+
+-- ---- where a checkpoint fails
+-- that before the fault is answered
+abbrev pub FailsLeaving : {target : ℕ} {copied : Bitmap} {stopped new : MirrorView} → Leaves target copied stopped new → Type 0
+FailsLeaving (inl halted) = ⊥
+FailsLeaving (inr (inl recorded)) = ⊥
+FailsLeaving (inr (inr fails)) = Unit {0}
+
+-- that after a pass
+abbrev pub FailsAfterPass : {target : ℕ} {m : MemberView} {none : Bitmap} {ready new : MirrorView} → LosesTarget target m none ready new → Type 0
+FailsAfterPass (inl pass) = ⊥
+FailsAfterPass (inr (inl recording)) = Unit {0}
+FailsAfterPass (inr (inr ends)) = ⊥
+
+-- either
+abbrev pub FailsCheckpoint : (target : ℕ) (old new : MirrorView) (fault : RebuildFault) → RefusesRebuild target old new fault → Type 0
+FailsCheckpoint target old new Halted h = ⊥
+FailsCheckpoint target old new NotSpare h = ⊥
+FailsCheckpoint target old new Dirty h = ⊥
+FailsCheckpoint target old new (InFlight number) h = ⊥
+FailsCheckpoint target old new EventsFull h = ⊥
+FailsCheckpoint target old new (MetadataFault k) (inl first) = ⊥
+FailsCheckpoint target old new (MetadataFault k) (inr (inl admitted)) = ⊥
+FailsCheckpoint target old new (MetadataFault k) (inr (inr h)) = FailsLeaving h.leaves
+FailsCheckpoint target old new TargetFault (inl first) = ⊥
+FailsCheckpoint target old new TargetFault (inr (inl admission)) = ⊥
+FailsCheckpoint target old new TargetFault (inr (inr ends)) = FailsAfterPass ends.why
+FailsCheckpoint target old new NoMemory (inl first) = ⊥
+FailsCheckpoint target old new NoMemory (inr h) = FailsLeaving h.leaves
+FailsCheckpoint target old new (LogFull k) h = FailsLeaving h.leaves
+
+-- Where that write left the old superblock or none, it is the event of a record that failed, too: then the next opening need not leave the target
+-- out, and it is rebuilt from where it was before.
+pub record LeadsUnrecorded (target : ℕ) (old new : MirrorView) : Type 0 where
+  pub copied : Bitmap
+  pub mid : MirrorView
+  pub leads : LeadsBy (IsBeforeEnrol target) old mid
+  pub fails : FailsToCheckpoint target copied mid new
   pub event : FailsOnTargetAlone target mid new
 
 -- ---- where `enrol` fails

@@ -13,11 +13,11 @@ use Rattle.md_copy.specs.declared.fault.RebuildFault.TheVariants.{Halted, NotSpa
 use Rattle.md_copy.specs.declared.rebuilt.Rebuilt.{Rebuilt}
 use Rattle.md_copy.specs.Beginning.{CannotRebuild, MayRebuild}
 use Rattle.md_copy.specs.Enrolled.{HasNoRoom, HasSets}
-use Rattle.md_copy.specs.Leaving.{LeavesAfter}
+use Rattle.md_copy.specs.Leaving.{HasNone, LeavesAfter}
 use Rattle.md_copy.specs.Passing.{BreaksOff, CopiesAll, EndsBetween, FailsListing, FailsRecording}
 use Rattle.md_copy.specs.Preparing.{IsSetOf, Tells, uncopied_chunks}
-use Rattle.md_copy.specs.Readying.{FailsAdmission, Readies, StopsAdmitted}
-use Rattle.md_copy.specs.Storing.{FailsOnTarget, Settles, StopsAt, StoresFirst}
+use Rattle.md_copy.specs.Readying.{FailsAdmission, LacksAdmission, Readies, StopsAdmitted}
+use Rattle.md_copy.specs.Storing.{FailsOnTarget, Settles, StopsAt}
 
 -- It was checked, what is due is stored, and a spare is admitted. No chunk is copied yet.
 pub record Begins (target : ℕ) (old ready : MirrorView) (none : Bitmap) : Type 0 where
@@ -57,7 +57,7 @@ pub record RebuildsReadied (target : ℕ) (m : MemberView) (none : Bitmap) (read
   pub tells : Tells passes chunks told
   pub by : EnrolsBy target m passes none copied kept orphans chunks ready new
 
--- The target has all that could be copied, and it does not come into sync.
+-- The target has all that could be copied, and it does not come into sync. Which chunks are recorded again then is free, as the last pass is recorded.
 pub record EndsFilled (target : ℕ) (m : MemberView) (none : Bitmap) (ready : MirrorView) (Why : Bitmap → Bitmap → MirrorView → Type 0) : Type 0 where
   pub passes : List PassView
   pub copied : Bitmap
@@ -68,24 +68,24 @@ pub record EndsFilled (target : ℕ) (m : MemberView) (none : Bitmap) (ready : M
   pub fills : FillsBy target m passes none copied kept orphans chunks ready filled
   pub why : Why kept orphans filled
 
--- All was copied, and no more was done.
+-- All was copied, and no more was done. Which chunks are recorded again then is free, as the last pass is recorded.
 pub record EndsCopied (target : ℕ) (m : MemberView) (none : Bitmap) (ready stopped : MirrorView) : Type 0 where
   pub passes : List PassView
   pub copied : Bitmap
   pub copies : CopiesAll target m passes none copied ready stopped
 
--- Memory was refused: before a pass, within one, while failed chunks are listed, or as the target was to come into sync.
-abbrev pub LacksMemory : ℕ → MemberView → Bitmap → MirrorView → MirrorView → Type 0
-LacksMemory target m none ready stopped =
-    EndsBetween target m none ready (λ left copied now. stopped ≡ now)
-    ⊎ (EndsBetween target m none ready (λ left copied now. (after : Bitmap) × BreaksOff target NoMemory left copied after now stopped)
-    ⊎ (EndsBetween target m none ready (λ left copied now. (after : Bitmap) × FailsListing target NoMemory left copied after now stopped)
+-- Memory was refused, with these chunks copied: before a pass, within one, while failed chunks are listed, or as the target was to come into sync.
+abbrev pub LacksMemory : ℕ → MemberView → Bitmap → Bitmap → MirrorView → MirrorView → Type 0
+LacksMemory target m none after ready stopped =
+    EndsBetween target m none ready (λ left copied now. (after ≡ copied) × (stopped ≡ now))
+    ⊎ (EndsBetween target m none ready (λ left copied now. BreaksOff target NoMemory left copied after now stopped)
+    ⊎ (EndsBetween target m none ready (λ left copied now. FailsListing target NoMemory left copied after now stopped)
     ⊎ EndsCopied target m none ready stopped))
 
--- A log has no room: that of a member that could not be read, or the target's.
-abbrev pub LacksRoom : ℕ → ℕ → MemberView → Bitmap → MirrorView → MirrorView → Type 0
-LacksRoom k target m none ready stopped =
-    EndsBetween target m none ready (λ left copied now. (after : Bitmap) × FailsListing target (LogFull k) left copied after now stopped)
+-- A log has no room, with these chunks copied: that of a member that could not be read, or the target's.
+abbrev pub LacksRoom : ℕ → ℕ → MemberView → Bitmap → Bitmap → MirrorView → MirrorView → Type 0
+LacksRoom k target m none after ready stopped =
+    EndsBetween target m none ready (λ left copied now. FailsListing target (LogFull k) left copied after now stopped)
     ⊎ ((k ≡ target) × EndsFilled target m none ready (λ kept orphans filled. HasNoRoom target kept orphans filled stopped))
 
 -- A list could not be stored on member k, which was a source.
@@ -100,12 +100,12 @@ LosesTarget target m none ready new =
     ⊎ (EndsBetween target m none ready (λ left copied now. FailsRecording target left copied now new)
     ⊎ EndsFilled target m none ready (λ kept orphans filled. FailsToEnrol target kept orphans filled new))
 
-abbrev pub StopsReadied : ℕ → MemberView → Bitmap → MirrorView → MirrorView → RebuildFault → Type 0
-StopsReadied target m none ready stopped NoMemory = LacksMemory target m none ready stopped
-StopsReadied target m none ready stopped (LogFull k) = LacksRoom k target m none ready stopped
-StopsReadied target m none ready stopped (MetadataFault k) = LosesSource k target m none ready stopped
-StopsReadied target m none ready stopped TargetFault = LosesTarget target m none ready stopped
-StopsReadied target m none ready stopped fault = ⊥
+abbrev pub StopsReadied : ℕ → MemberView → Bitmap → Bitmap → MirrorView → MirrorView → RebuildFault → Type 0
+StopsReadied target m none after ready stopped NoMemory = LacksMemory target m none after ready stopped
+StopsReadied target m none after ready stopped (LogFull k) = LacksRoom k target m none after ready stopped
+StopsReadied target m none after ready stopped (MetadataFault k) = LosesSource k target m none ready stopped
+StopsReadied target m none after ready stopped TargetFault = LosesTarget target m none ready stopped
+StopsReadied target m none after ready stopped fault = ⊥
 
 -- ---- the whole call
 -- The member is rebuilt, and this is told of it.
@@ -137,10 +137,11 @@ pub record EndsReadied (target : ℕ) (old : MirrorView) (Why : MemberView → B
   pub why : Why begins.now none ready
 
 -- Memory was refused for the set of the chunks, so that nothing was done; or for the admission of a spare.
-abbrev pub LacksMemoryFirst : MirrorView → MirrorView → Type 0
-LacksMemoryFirst old new = (new ≡ old) ⊎ StoresFirst old new
+abbrev pub LacksMemoryFirst : ℕ → MirrorView → MirrorView → Type 0
+LacksMemoryFirst target old new = (new ≡ old) ⊎ LacksAdmission target old new
 
--- Once the target is recovering, how far it is rebuilt is recorded before the fault is answered, but where the target could not be written.
+-- Once passes may be made, how far the target is rebuilt is recorded before the fault is answered, but where the target could not be written. Before
+-- that nothing is copied, and it is not.
 abbrev pub RefusesRebuild : ℕ → MirrorView → MirrorView → RebuildFault → Type 0
 RefusesRebuild target old new Halted = RefusesAtOnce target Halted old new
 RefusesRebuild target old new NotSpare = RefusesAtOnce target NotSpare old new
@@ -149,13 +150,14 @@ RefusesRebuild target old new (InFlight number) = RefusesAtOnce target (InFlight
 RefusesRebuild target old new EventsFull = RefusesAtOnce target EventsFull old new
 RefusesRebuild target old new (MetadataFault k) =
     EndsStoring target old (StopsAt target k old new)
-    ⊎ (EndsStoring target old (LeavesAfter target (StopsAdmitted target k old) new)
-    ⊎ LeavesAfter target (λ stopped. EndsReadied target old (λ m none ready. LosesSource k target m none ready stopped)) new)
+    ⊎ (EndsStoring target old (StopsAdmitted target k old new)
+    ⊎ LeavesAfter target (λ nothing stopped. HasNone nothing × EndsReadied target old (λ m none ready. LosesSource k target m none ready stopped)) new)
 RefusesRebuild target old new TargetFault =
     EndsStoring target old (FailsOnTarget target old new)
     ⊎ (EndsStoring target old (FailsAdmission target old new)
     ⊎ EndsReadied target old (λ m none ready. LosesTarget target m none ready new))
 RefusesRebuild target old new NoMemory =
-    EndsStoring target old (LacksMemoryFirst old new)
-    ⊎ LeavesAfter target (λ stopped. EndsReadied target old (λ m none ready. LacksMemory target m none ready stopped)) new
-RefusesRebuild target old new (LogFull k) = LeavesAfter target (λ stopped. EndsReadied target old (λ m none ready. LacksRoom k target m none ready stopped)) new
+    EndsStoring target old (LacksMemoryFirst target old new)
+    ⊎ LeavesAfter target (λ copied stopped. EndsReadied target old (λ m none ready. LacksMemory target m none copied ready stopped)) new
+RefusesRebuild target old new (LogFull k) =
+    LeavesAfter target (λ copied stopped. EndsReadied target old (λ m none ready. LacksRoom k target m none copied ready stopped)) new

@@ -5,7 +5,7 @@ ghost use Rattle.md_array.specs.Consistency.{IsConsistent};
 ghost use Rattle.md_copy.specs.declared.fault.RebuildFault.{RebuildFault};
 ghost use Rattle.md_copy.specs.declared.rebuilt.Rebuilt.{Rebuilt};
 ghost use Rattle.md_copy.specs.Readying.{FailsAdmission};
-ghost use Rattle.md_copy.specs.RebuildEvents.{AsksOfFailure, LeadsUnadmitted, LeadsUnfinished, RebuildLeads};
+ghost use Rattle.md_copy.specs.RebuildEvents.{AsksOfFailure, FailsCheckpoint, LeadsUnadmitted, LeadsUnfinished, LeadsUnrecorded, RebuildLeads};
 ghost use Rattle.md_copy.specs.Rebuilding.{Rebuilds, RefusesRebuild};
 ghost use Rattle.md_copy.specs.Rebuilt.{HasRebuilt, IsRebuiltInSync};
 
@@ -25,8 +25,9 @@ pub fn rebuilt_by_call()
 /// A rebuild is a list of events of the array's model, so that the laws over lives speak of it. One that is
 /// done has one enrolment in it, and an admission where the target was a spare; one that is refused has no
 /// enrolment. Where a write failed by which the target was to be admitted, or to record how far it is rebuilt,
-/// or the last write of `enrol`, the target is spoiled by the last event, whatever that write left. Where
-/// another write of `enrol` failed, it is asked that it left the width of the chunks in the header.
+/// or the last write of `enrol`, the target is spoiled by the last event, whatever that write left. Where one of
+/// the first two left the old superblock or none, it is no more than a record that failed. Where another write of
+/// `enrol` failed, it is asked that it left the width of the chunks in the header.
 pub fn rebuild_events()
     ensures done { (target : ℕ) (told : Rebuilt) (old new : MirrorView)
         → Rebuilds target told old new → RebuildLeads target old new }
@@ -34,4 +35,6 @@ pub fn rebuild_events()
         → (fault : RebuildFault) (h : RefusesRebuild target old new fault) → AsksOfFailure target old new fault h
         → LeadsUnfinished target old new }
     ensures unadmitted { (target : ℕ) (old new : MirrorView) → FailsAdmission target old new → LeadsUnadmitted target old new }
+    ensures unrecorded { (target : ℕ) (old new : MirrorView) → (fault : RebuildFault) (h : RefusesRebuild target old new fault)
+        → FailsCheckpoint target old new fault h → LeadsUnrecorded target old new }
 {}

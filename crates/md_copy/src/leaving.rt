@@ -22,7 +22,7 @@ pub(crate) fn leave<D: Device + Drop>(
     requires within { target < length mirror.old.array.members }
     requires sound { IsConsistent mirror.old }
     requires may { MayLeave target copied.old mirror.old fault }
-    ensures leaves { LeavesSo target mirror.old mirror.new fault }
+    ensures leaves { LeavesSo target copied.old mirror.old mirror.new fault }
     ensures sound { IsConsistent mirror.new }
 {
     match fault {
@@ -56,7 +56,7 @@ fn record<D: Device + Drop>(mirror: &mut Mirror<D>, target: usize, copied: &Mark
     requires within { target < length mirror.old.array.members }
     requires sound { IsConsistent mirror.old }
     requires may { mirror.old.array.halted ≡ false → MayCheckpoint target copied.now mirror.old }
-    ensures leaves { Leaves target mirror.old mirror.new }
+    ensures leaves { Leaves target copied.now mirror.old mirror.new }
     ensures sound { IsConsistent mirror.new }
 {
     if mirror.halted() {

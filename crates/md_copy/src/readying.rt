@@ -1,5 +1,5 @@
 // Before a pass what is due is stored, and a spare is admitted.
-ghost use Rattle.std.specs.Prelude.{◌≡◌, ◌<◌, MatchResult, OnOk, false, length, true};
+ghost use Rattle.std.specs.Prelude.{◌≡◌, ◌<◌, MatchResult, false, length, true};
 ghost use Rattle.md_assembly.specs.States.{is_spare};
 ghost use Rattle.md_kept_members.specs.View.{MemberView};
 ghost use Rattle.md_state.specs.Members.{IsMember};
@@ -11,29 +11,25 @@ ghost use Rattle.md_copy.specs.Readying.{Readies, RefusesAdmission, RefusesReady
 ghost use Rattle.md_copy.specs.Targets.{IsTarget};
 
 use crate::fault::RebuildFault;
-use crate::leaving::leave;
 use crate::storing::store_first;
 use md_array::{AdmitFault, Mirror};
-use md_bitmap::Marks;
 use md_device::Device;
 use std::alloc::Global;
 
-/// Stores what is due. A spare is then admitted, and what that makes due is stored. `copied` has as many chunks
-/// as the array, and changes where a fault is answered alone.
+/// Stores what is due. A spare is then admitted, and what that makes due is stored. Where a member fails at that,
+/// how far the target is rebuilt is not recorded: no chunk is copied yet, and the others may not have stored that
+/// the event count rose, so that a target with a higher count would leave them out of date.
 pub(crate) fn make_ready<D: Device + Drop>(
     alloc: Global,
     mirror: &mut Mirror<D>,
     target: usize,
-    copied: &mut Marks,
 ) -> Result<(), RebuildFault>
     requires within { target < length mirror.old.array.members }
     requires sound { IsConsistent mirror.old }
     requires may { (m : MemberView) → IsMember mirror.old.array target m → MayRebuild mirror.old.array m }
-    requires marks { copied.old.chunks ≡ mirror.old.array.marks.chunks }
     ensures gives { (m : MemberView) → IsMember mirror.old.array target m
         → MatchResult result (λ _. Readies target m mirror.old mirror.new) (RefusesReady target mirror.old mirror.new) }
     ensures sound { IsConsistent mirror.new }
-    ensures untouched { OnOk result (copied.new ≡ copied.old) }
 {
     if let Err(fault) = store_first(mirror, target) {
         return Err(fault);
@@ -45,7 +41,6 @@ pub(crate) fn make_ready<D: Device + Drop>(
         return Err(fault);
     }
     if let Err(fault) = store_first(mirror, target) {
-        leave(mirror, target, copied, fault);
         return Err(fault);
     }
     Ok(())

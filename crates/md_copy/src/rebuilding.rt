@@ -1,5 +1,5 @@
 // A member is rebuilt.
-ghost use Rattle.std.specs.Prelude.{◌≡◌, ◌<◌, IfErr, MatchResult, false, length};
+ghost use Rattle.std.specs.Prelude.{◌≡◌, ◌<◌, IfErr, IfOk, MatchResult, false, length};
 ghost use Rattle.md_array.specs.Consistency.{IsConsistent};
 ghost use Rattle.md_kept_members.specs.View.{MemberView};
 ghost use Rattle.md_state.specs.Members.{IsMember};
@@ -7,6 +7,7 @@ ghost use Rattle.md_copy.specs.Leaving.{MayLeave};
 ghost use Rattle.md_copy.specs.Preparing.{IsSetOf};
 ghost use Rattle.md_copy.specs.Ready.{IsReady};
 ghost use Rattle.md_copy.specs.Rebuilding.{RebuildsReadied, Rebuilds, RefusesRebuild, StopsReadied};
+ghost use Rattle.md_copy.specs.Rebuilt.{HasRebuilt};
 
 use crate::checking::check_rebuild;
 use crate::enrol_filled::enrol_copied;
@@ -40,6 +41,23 @@ pub fn rebuild<D: Device + Drop + Send, G: Gate + Sync, R: Threads + Wait + Sync
     requires within { target < length mirror.old.array.members }
     requires sound { IsConsistent mirror.old }
     ensures gives { MatchResult result (λ told. Rebuilds target told mirror.old mirror.new) (RefusesRebuild target mirror.old mirror.new) }
+    ensures rebuilt { IfOk result (λ told. HasRebuilt target told mirror.old mirror.new) }
+    ensures sound { IsConsistent mirror.new }
+{
+    rebuild_by_steps(rt, alloc, mirror, target, gate)
+}
+
+// What comes of it follows from its steps.
+fn rebuild_by_steps<D: Device + Drop + Send, G: Gate + Sync, R: Threads + Wait + Sync>(
+    rt: &R,
+    alloc: Global,
+    mirror: &mut Mirror<D>,
+    target: usize,
+    gate: &G,
+) -> Result<Rebuilt, RebuildFault>
+    requires within { target < length mirror.old.array.members }
+    requires sound { IsConsistent mirror.old }
+    ensures gives { MatchResult result (λ told. Rebuilds target told mirror.old mirror.new) (RefusesRebuild target mirror.old mirror.new) }
     ensures sound { IsConsistent mirror.new }
 {
     if let Err(fault) = check_rebuild(mirror, target) {
@@ -49,7 +67,7 @@ pub fn rebuild<D: Device + Drop + Send, G: Gate + Sync, R: Threads + Wait + Sync
         Ok(copied) => copied,
         Err(_) => return Err(RebuildFault::NoMemory),
     };
-    if let Err(fault) = make_ready(alloc, mirror, target, &mut copied) {
+    if let Err(fault) = make_ready(alloc, mirror, target) {
         return Err(fault);
     }
     match rebuild_readied(rt, alloc, mirror, target, gate, &mut copied) {
@@ -75,7 +93,7 @@ fn rebuild_readied<D: Device + Drop + Send, G: Gate + Sync, R: Threads + Wait + 
     requires none { IsSetOf mirror.old.array (λ c. false) copied.old }
     ensures gives { (m : MemberView) → IsMember mirror.old.array target m → MatchResult result
         (RebuildsReadied target m copied.old mirror.old mirror.new)
-        (StopsReadied target m copied.old mirror.old mirror.new) }
+        (StopsReadied target m copied.old copied.new mirror.old mirror.new) }
     ensures leaves { IfErr result (MayLeave target copied.new mirror.new) }
     ensures sound { IsConsistent mirror.new }
 {

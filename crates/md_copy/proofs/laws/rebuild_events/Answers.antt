@@ -1,5 +1,5 @@
 use Rattle.md_copy.proofs.RebuildLeads.{rebuild_leads}
-use Rattle.md_copy.proofs.RefusedLeads.{refused_leads, unadmitted_leads}
+use Rattle.md_copy.proofs.RefusedLeads.{refused_leads, unadmitted_leads, unrecorded_leads}
 use Rattle.md_copy.proofs.laws.rebuild_events.Goals as goal
 
 pub returns : goal.returns
@@ -7,4 +7,5 @@ returns c = record {
   done = rebuild_leads;
   refused = refused_leads;
   unadmitted = unadmitted_leads;
+  unrecorded = unrecorded_leads;
 }

@@ -1,5 +1,5 @@
 use Rattle.md_state.proofs.Members.At.{told}
-use Rattle.md_copy.proofs.MadeReady.{leaves_then, ready_so, ready_then, rebuilt, rebuilt_admitted, refused_admission, refused_then, running, running_stored, target_stored, unspent, unspent_admitted, unspent_stored}
+use Rattle.md_copy.proofs.MadeReady.{ready_so, ready_then, rebuilt, rebuilt_admitted, refused_admission, refused_then, running, running_stored, target_stored, unspent, unspent_admitted, unspent_stored}
 use Rattle.md_copy.proofs.readying.make_ready.Goals as goal
 
 pub store_first-requires-clause-running : goal.store_first-requires-clause-running
@@ -64,18 +64,6 @@ store_first-requires-2-clause-unspent g c =
     cc)
     c.admit_spare.new.mirror c.in_default-admit_spare.ensures.gives c.in_default-admit_spare.ensures.sound
 
-pub leave-requires-clause-may : goal.leave-requires-clause-may
-leave-requires-clause-may g c =
-    let stored = c.store_first.new.mirror in
-    leaves_then c.args.target c.args.mirror.now c.requires.within c.requires.may stored c.in_default.ensures
-    (λ n there.
-    let state = told (λ x. x.state) stored.array c.args.target n c.state.result c.state.ensures there in
-    let answer = c.is_spare.ensures in
-    let yes = c.if-not-is_spare.false in
-    cc)
-    c.admit_spare.new.mirror c.in_default-admit_spare.ensures.gives c.in_default-admit_spare.ensures.sound c.store_first-2.new.mirror c.in-Err-store_first.fault c.in-Err-store_first.ensures
-    c.args.copied.now c.requires.marks
-
 pub returns-in-Err-store_first-clause-gives : goal.returns-in-Err-store_first-clause-gives
 returns-in-Err-store_first-clause-gives g c m at =
     let stored = c.store_first.new.mirror in
@@ -85,8 +73,7 @@ returns-in-Err-store_first-clause-gives g c m at =
     let answer = c.is_spare.ensures in
     let yes = c.if-not-is_spare.false in
     cc)
-    c.admit_spare.new.mirror c.in_default-admit_spare.ensures.gives c.in_default-admit_spare.ensures.sound c.store_first-2.new.mirror c.leave.new.mirror c.in-Err-store_first.fault c.in-Err-store_first.ensures
-    c.leave.ensures.leaves
+    c.admit_spare.new.mirror c.in_default-admit_spare.ensures.gives c.in_default-admit_spare.ensures.sound c.store_first-2.new.mirror c.in-Err-store_first.fault c.in-Err-store_first.ensures
 
 pub returns-clause-gives : goal.returns-clause-gives
 returns-clause-gives g c m at =

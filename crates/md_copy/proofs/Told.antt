@@ -1,0 +1,14 @@
+-- What holds of a call by what it answers.
+use Rattle.std.proofs.Common.{ℕ}
+use Rattle.std.specs.Prelude.{Result, Ok, Err, IfOk, MatchResult}
+use Rattle.md_state.specs.View.{MirrorView}
+use Rattle.md_copy.specs.declared.fault.RebuildFault.{RebuildFault}
+use Rattle.md_copy.specs.declared.rebuilt.Rebuilt.{Rebuilt}
+use Rattle.md_copy.specs.Rebuilding.{Rebuilds, RefusesRebuild}
+use Rattle.md_copy.specs.Rebuilt.{HasRebuilt}
+use Rattle.md_copy.proofs.RebuiltByCall.{has_rebuilt}
+
+pub rebuilt_of : (target : ℕ) (old new : MirrorView) (r : Result Rebuilt RebuildFault) → MatchResult r (λ told. Rebuilds target told old new) (RefusesRebuild target old new)
+    → IfOk r (λ told. HasRebuilt target told old new)
+rebuilt_of target old new (Ok told) h = has_rebuilt target told old new h
+rebuilt_of target old new (Err fault) h = tt
