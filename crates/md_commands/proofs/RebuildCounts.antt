@@ -123,21 +123,21 @@ when_filled : (k : ℕ) (m : MemberView) (none : Bitmap) (ready new : MirrorView
 when_filled k m none ready new Why after e =
     after e.kept e.orphans e.filled e.why ∙ filled k m e.passes none e.copied e.kept e.orphans e.chunks ready e.filled e.fills
 
-lacks_memory : (k : ℕ) (m : MemberView) (none : Bitmap) (ready stopped : MirrorView) → LacksMemory k m none ready stopped → AsMany ready stopped
-lacks_memory k m none ready stopped h =
-    ⊎_elim (λ e. between k m none ready stopped _ (λ left copied now why. same now stopped why) e)
+lacks_memory : (k : ℕ) (m : MemberView) (none after : Bitmap) (ready stopped : MirrorView) → LacksMemory k m none after ready stopped → AsMany ready stopped
+lacks_memory k m none after ready stopped h =
+    ⊎_elim (λ e. between k m none ready stopped _ (λ left copied now why. same now stopped why.1) e)
     (λ rest.
-    ⊎_elim (λ e. between k m none ready stopped _ (λ left copied now why. broken_off rebuild.NoMemory k left copied why.0 now stopped why.1) e)
+    ⊎_elim (λ e. between k m none ready stopped _ (λ left copied now why. broken_off rebuild.NoMemory k left copied after now stopped why) e)
     (λ later.
-    ⊎_elim (λ e. between k m none ready stopped _ (λ left copied now why. not_listed rebuild.NoMemory k left copied why.0 now stopped why.1) e)
+    ⊎_elim (λ e. between k m none ready stopped _ (λ left copied now why. not_listed rebuild.NoMemory k left copied after now stopped why) e)
     (λ e. copied_all k m e.passes none e.copied ready stopped e.copies)
     later)
     rest)
     h
 
-lacks_room : (j k : ℕ) (m : MemberView) (none : Bitmap) (ready stopped : MirrorView) → LacksRoom j k m none ready stopped → AsMany ready stopped
-lacks_room j k m none ready stopped h =
-    ⊎_elim (λ e. between k m none ready stopped _ (λ left copied now why. not_listed (rebuild.LogFull j) k left copied why.0 now stopped why.1) e)
+lacks_room : (j k : ℕ) (m : MemberView) (none after : Bitmap) (ready stopped : MirrorView) → LacksRoom j k m none after ready stopped → AsMany ready stopped
+lacks_room j k m none after ready stopped h =
+    ⊎_elim (λ e. between k m none ready stopped _ (λ left copied now why. not_listed (rebuild.LogFull j) k left copied after now stopped why) e)
     (λ e. when_filled k m none ready stopped _ (λ kept orphans now why. same now stopped why.unchanged) e.1)
     h
 
@@ -155,12 +155,13 @@ loses_target k m none ready new h =
     h
 
 -- how far it came was recorded, or could not be
-left : (k : ℕ) (stopped new : MirrorView) → Leaves k stopped new → AsMany stopped new
-left k stopped new l =
-    ⊎_elim (λ h. same stopped new h.1) (λ c. ⊎_elim (λ done. done.disks.tried.as_many) (λ fails. fails.disks.tried.as_many) c.1) l
+left : (k : ℕ) (copied : Bitmap) (stopped new : MirrorView) → Leaves k copied stopped new → AsMany stopped new
+left k copied stopped new l =
+    ⊎_elim (λ h. same stopped new h.1) (λ c. ⊎_elim (λ done. done.disks.tried.as_many) (λ fails. fails.disks.tried.as_many) c) l
 
-left_after : (k : ℕ) (old new : MirrorView) (Why : MirrorView → Type 0) → ((stopped : MirrorView) → Why stopped → AsMany old stopped) → LeavesAfter k Why new → AsMany old new
-left_after k old new Why before l = left k l.stopped new l.leaves ∙ before l.stopped l.why
+left_after : (k : ℕ) (old new : MirrorView) (Why : Bitmap → MirrorView → Type 0)
+    → ((copied : Bitmap) (stopped : MirrorView) → Why copied stopped → AsMany old stopped) → LeavesAfter k Why new → AsMany old new
+left_after k old new Why before l = left k l.copied l.stopped new l.leaves ∙ before l.copied l.stopped l.why
 
 when_ready : (k : ℕ) (old new : MirrorView) (Why : MemberView → Bitmap → MirrorView → Type 0)
     → ((m : MemberView) (none : Bitmap) (ready : MirrorView) → Why m none ready → AsMany ready new) → EndsReadied k old Why → AsMany old new
@@ -175,8 +176,8 @@ not_rebuilt rebuild.EventsFull k old new h = same old new h.unchanged
 not_rebuilt (rebuild.MetadataFault j) k old new h =
     ⊎_elim (λ e. stopped_at k j old new e.why)
     (λ rest.
-    ⊎_elim (λ e. left_after k old new _ (λ stopped why. stopped_admitted k j old stopped why) e.why)
-    (λ l. left_after k old new _ (λ stopped e. when_ready k old stopped _ (λ m none ready why. loses_source j k m none ready stopped why) e) l)
+    ⊎_elim (λ e. stopped_admitted k j old new e.why)
+    (λ l. left_after k old new _ (λ nothing stopped e. when_ready k old stopped _ (λ m none ready why. loses_source j k m none ready stopped why) e.1) l)
     rest)
     h
 not_rebuilt rebuild.TargetFault k old new h =
@@ -187,11 +188,11 @@ not_rebuilt rebuild.TargetFault k old new h =
     rest)
     h
 not_rebuilt rebuild.NoMemory k old new h =
-    ⊎_elim (λ n. ⊎_elim (λ is. same old new is) (λ first. gone_on old new first.stores.goes) n.why)
-    (λ l. left_after k old new _ (λ stopped e. when_ready k old stopped _ (λ m none ready why. lacks_memory k m none ready stopped why) e) l)
+    ⊎_elim (λ n. ⊎_elim (λ is. same old new is) (λ lacks. gone_on old new lacks.first.stores.goes) n.why)
+    (λ l. left_after k old new _ (λ copied stopped e. when_ready k old stopped _ (λ m none ready why. lacks_memory k m none copied ready stopped why) e) l)
     h
 not_rebuilt (rebuild.LogFull j) k old new h =
-    left_after k old new _ (λ stopped e. when_ready k old stopped _ (λ m none ready why. lacks_room j k m none ready stopped why) e) h
+    left_after k old new _ (λ copied stopped e. when_ready k old stopped _ (λ m none ready why. lacks_room j k m none copied ready stopped why) e) h
 
 -- ---- the command that rebuilds a member
 rebuilt_readied : (k : ℕ) (told : Rebuilt) (old new : MirrorView) → RebuildsReadied k told old new → AsMany old new

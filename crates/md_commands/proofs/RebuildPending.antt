@@ -28,7 +28,7 @@ not_rebuilt (rebuild.InFlight number) k old new p h is = unchanged old new p h.u
 not_rebuilt rebuild.EventsFull k old new p h is = unchanged old new p h.unchanged is
 not_rebuilt (rebuild.MetadataFault j) k old new p h is =
     ⊎_elim (λ e. absurd (none_pending old.array p e.may.idle is))
-    (λ rest. ⊎_elim (λ e. absurd (none_pending old.array p e.may.idle is)) (λ l. absurd (none_pending old.array p l.why.begins.may.idle is)) rest)
+    (λ rest. ⊎_elim (λ e. absurd (none_pending old.array p e.may.idle is)) (λ l. absurd (none_pending old.array p l.why.1.begins.may.idle is)) rest)
     h
 not_rebuilt rebuild.TargetFault k old new p h is =
     ⊎_elim (λ e. absurd (none_pending old.array p e.may.idle is))
