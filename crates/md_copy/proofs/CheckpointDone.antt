@@ -37,6 +37,7 @@ module _ (k : ℕ) (copied : Bitmap) (old new : MirrorView) (c : IsConsistent ol
   moves = record { member = m; at = r.may.at; had_is = refl; moved = refl }
 
   mid_sound : IsConsistent mid
+  unfolding moves
   mid_sound = moved_is_consistent k r.offset had old mid c moves r.may.recovering
 
   records : Records k mid new

@@ -98,6 +98,7 @@ module _ (target : ℕ) (v : MirrorView) (ready : IsReady target v) (within : ta
     }
 
     pub has_sets : HasSets target copied kept_set orphans chunks v
+    unfolding may
     has_sets = record {
       may = may;
       sets = record {

@@ -37,11 +37,11 @@ use Rattle.md_copy.proofs.SourcesChosen.{takes_as}
 -- none is counted
 none_counted : (role : ℕ) (xs : List Slot) → All (λ (s : Slot). s.source ≡ role → ⊥) xs → count_by (is_of role) xs ≡ 0
 none_counted role [] none = refl
-none_counted role (x ∷ xs) none = by (x.source == role) refl
+none_counted role (x ∷ xs) none = by (none_counted role xs (All-tail (λ (s : Slot). s.source ≡ role → ⊥) x xs none)) (x.source == role) refl
   where
-    by : (b : Bool) → (x.source == role) ≡ b → count_by (is_of role) (x ∷ xs) ≡ 0
-    by true same = absurd (All-head (λ (s : Slot). s.source ≡ role → ⊥) x xs none (eqb-true x.source role same))
-    by false other = rw other (none_counted role xs (All-tail (λ (s : Slot). s.source ≡ role → ⊥) x xs none))
+    by : count_by (is_of role) xs ≡ 0 → (b : Bool) → (x.source == role) ≡ b → count_by (is_of role) (x ∷ xs) ≡ 0
+    by rest true same = absurd (All-head (λ (s : Slot). s.source ≡ role → ⊥) x xs none (eqb-true x.source role same))
+    by rest false other = rw other rest
 
 module _ {D : Type 0} (g : Ghosts D) (v : MirrorView) (sound : IsConsistent v) (target : ℕ) (low : target < length v.array.members) (member : MemberView) (at : IsMember v.array target member) (rebuilt : is_rebuilt member.state ≡ true) (plan : Plan)
     (is_plan : IsPlanOf v.array member plan) (olds news : List D) (v_is : v.disks ≡ seen g olds) (as_many : length news ≡ length olds)

@@ -14,6 +14,7 @@ use Rattle.md_bitmap.specs.declared.chunks.Chunks.{Chunks}
 use Rattle.md_bitmap.specs.Chunks.{InChunk}
 use Rattle.md_bitmap.specs.Marks.{Bitmap, is_set}
 use Rattle.md_collect.specs.Places.{bytes_of, chunk_on, start_of}
+use Rattle.md_device.specs.Splice.{SameOutside}
 use Rattle.md_kept_members.specs.Permitting.{ListsAny}
 use Rattle.md_kept_members.specs.TakingBack.{with_offset}
 use Rattle.md_kept_members.specs.View.{MemberView}
@@ -30,7 +31,7 @@ use Rattle.md_array.proofs.General.Indices.{at_set_same, got_other}
 use Rattle.md_copy.specs.Held.{AreHeld, IsHeld}
 use Rattle.md_copy.specs.RebuildSources.{Serves}
 use Rattle.md_copy.proofs.Sectors.{chunk_within, same_chunk}
-use Rattle.md_copy.proofs.StoringKeeps.{beside_super, places_of}
+use Rattle.md_copy.proofs.StoringKeeps.{beside_super_of, places_of}
 
 -- ---- what a recovering member lacks
 pub out_of_sync : (s : MemberState) → is_recovering s ≡ true → is_in_sync s ≡ false
@@ -64,8 +65,8 @@ passed_below size width stop c some low passed =
       | inl below ↦ below
       | inr from ↦
           let bounds = div_ceil_times size width some in
-          let up = mul-le (stop + 1) (c + 1) width width (omega (arith, from)) (omega arith) in
-          let last = mul-le (stop + 1) (div_ceil size width) width width (omega (arith, low)) (omega arith) in
+          let up = mul-le (stop + 1) width (c + 1) width (omega (arith, from)) (omega arith) in
+          let last = mul-le (stop + 1) width (div_ceil size width) width (omega (arith, low)) (omega arith) in
           let next : (stop + 1) * width ≡ stop * width + width = grind arith in
           let high = bounds.1 in
           absurd (both_ways (leb size (stop * width) || leb ((c + 1) * width) (stop * width)) (grind (arith, nat_tests)) passed)
@@ -79,7 +80,7 @@ low_start v sound c low =
     let bounds = div_ceil_times size sectors sound.chunks.wide in
     let count = sound.chunks.count in
     let high = bounds.1 in
-    let up = mul-le (c + 1) (div_ceil size sectors) sectors sectors (omega (arith, low, count)) (omega arith) in
+    let up = mul-le (c + 1) sectors (div_ceil size sectors) sectors (omega (arith, low, count)) (omega arith) in
     let next : (c + 1) * sectors ≡ c * sectors + sectors = grind arith in
     omega (arith, high, up, next)
 
@@ -120,7 +121,7 @@ module _ (target : ℕ) (copied : Bitmap) (v w : MirrorView) (sound : IsConsiste
 
   pub data_kept : (d e : Disk) → slice_get v.disks target ≡ Some d → slice_get w.disks target ≡ Some e → KeepsData m d e
   data_kept d e at_d at_e =
-      beside_super a (with_offset r.offset m) d e ((places_of v sound).each target m d r.may.at at_d) r.readable.size (r.disks.tried.outside d e at_d at_e)
+      beside_super_of m d e ((places_of v sound).each target m d r.may.at at_d) (subst (λ l. SameOutside (512 * 8) l d.content e.content) r.readable.size (r.disks.tried.outside d e at_d at_e))
 
   room : (d : Disk) → slice_get v.disks target ≡ Some d → a.chunks.size ≤ m.superblock.data_size
   room d at_d =

@@ -147,7 +147,7 @@ module _ (target : ℕ) (chunks : List ℕ) (p : PassView) (before after : Bitma
       }
 
   -- ---- what failed is listed
-  within_x : target < length x.array.members
+  pub within_x : target < length x.array.members
   within_x = slice_get_within x.array.members target _ (recorded_is target after w x h.makes.sound h.checkpoints)
 
   abbrev pub y : MemberView

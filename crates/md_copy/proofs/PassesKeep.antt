@@ -104,6 +104,9 @@ keeps_on target l1 l2 f1 f2 x y z u v w one two = record {
       omega (arith, first, second, both));
 }
   where
+    clear_first : (c : ℕ) → is_set y.bytes c ≡ false → is_set x.bytes c ≡ false
+    clear_first c clear = elim (cases_Bool (is_set x.bytes c)) [ inl set ↦ absurd (both_ways (is_set y.bytes c) clear (one.kept c set)) | inr none ↦ none ]
+
     later : (m o : MemberView) → o.superblock.data_offset ≡ m.superblock.data_offset → o.superblock.data_size ≡ m.superblock.data_size → (i n : ℕ) → IsBesideSince u.array m x z i n → IsBesideSince v.array o y z i n
     later m o offset size i n h = record {
       from = (let from = h.from in omega (arith, offset, from));
@@ -112,9 +115,6 @@ keeps_on target l1 l2 f1 f2 x y z u v w one two = record {
           subst (λ (q : Chunks). IsBesideChunk q o.superblock.data_offset i n c) (sym one.lists.chunks)
           (subst (λ p. IsBesideChunk u.array.chunks p i n c) (sym offset) (h.beside c set (clear_first c clear)));
     }
-
-    clear_first : (c : ℕ) → is_set y.bytes c ≡ false → is_set x.bytes c ≡ false
-    clear_first c clear = elim (cases_Bool (is_set x.bytes c)) [ inl set ↦ absurd (both_ways (is_set y.bytes c) clear (one.kept c set)) | inr none ↦ none ]
 
 -- ---- one pass
 module _ (target : ℕ) (chunks : List ℕ) (p : PassView) (before after : Bitmap) (v x : MirrorView) (h : RecordsPass target chunks p before after v x) where

@@ -117,26 +117,24 @@ all_lacks target m passes before after v w h =
 
 -- ---- the orphans
 filter_both : (p q r : ℕ → Bool) (xs : List ℕ) → ((c : ℕ) → Contains xs c → r c ≡ true → p c ≡ q c) → filter r (filter p xs) ≡ filter r (filter q xs)
-filter_both p q r [] same = refl
-filter_both p q r (x ∷ xs) same = by (r x) (p x) (q x) refl refl refl
+filter_both p q r [] alike = refl
+filter_both p q r (x ∷ xs) alike =
+    by (filter_both p q r xs (λ c there is. alike c (let (k, low, at) = there in (suc k, omega (arith, low), at)) is)) (r x) (p x) (q x) refl refl refl
   where
-    rest : filter r (filter p xs) ≡ filter r (filter q xs)
-    rest = filter_both p q r xs (λ c there is. same c (let (k, low, at) = there in (suc k, omega (arith, low), at)) is)
-
     here : Contains (x ∷ xs) x
     here = (zero, omega arith, refl)
 
-    by : (b y z : Bool) → r x ≡ b → p x ≡ y → q x ≡ z → filter r (filter p (x ∷ xs)) ≡ filter r (filter q (x ∷ xs))
-    by b true true is one two = rw (one, two) (with_head b is)
-      where
-        with_head : (b : Bool) → r x ≡ b → filter r (x ∷ filter p xs) ≡ filter r (x ∷ filter q xs)
-        with_head true is = rw is (ap (λ ys. x ∷ ys) rest)
-        with_head false is = rw is rest
-    by b false false is one two = rw (one, two) rest
-    by true true false is one two = absurd (both_ways (q x) two (sym (same x here is) ∙ one))
-    by true false true is one two = absurd (both_ways (p x) one (same x here is ∙ two))
-    by false true false is one two = rw (one, two, is) rest
-    by false false true is one two = rw (one, two, is) rest
+    with_head : filter r (filter p xs) ≡ filter r (filter q xs) → (b : Bool) → r x ≡ b → filter r (x ∷ filter p xs) ≡ filter r (x ∷ filter q xs)
+    with_head rest true is = rw is (ap (λ ys. x ∷ ys) rest)
+    with_head rest false is = rw is rest
+
+    by : filter r (filter p xs) ≡ filter r (filter q xs) → (b y z : Bool) → r x ≡ b → p x ≡ y → q x ≡ z → filter r (filter p (x ∷ xs)) ≡ filter r (filter q (x ∷ xs))
+    by rest b true true is one two = rw (one, two) (with_head rest b is)
+    by rest b false false is one two = rw (one, two) rest
+    by rest true true false is one two = absurd (both_ways (q x) two (sym (alike x here is) ∙ one))
+    by rest true false true is one two = absurd (both_ways (p x) one (alike x here is ∙ two))
+    by rest false true false is one two = rw (one, two, is) rest
+    by rest false false true is one two = rw (one, two, is) rest
 
 pub orphans_same : (target : ℕ) (before after : Bitmap) (v w : MirrorView) → LacksSame target before after v.array w.array → (m n : MemberView) → IsMember v.array target m → IsMember w.array target n
     → is_recovering m.state ≡ true → v.array.marks.chunks ≡ div_ceil v.array.chunks.size v.array.chunks.sectors → uncopied_chunks w.array n after ≡ uncopied_chunks v.array m after

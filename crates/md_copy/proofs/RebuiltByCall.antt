@@ -42,14 +42,12 @@ last_of enrolled new (inr halts) = (halts.mid, record { goes = halts.goes; ends 
 
 filter_same : (p q : ℕ → Bool) (xs : List ℕ) → ((c : ℕ) → Contains xs c → p c ≡ q c) → filter p xs ≡ filter q xs
 filter_same p q [] same = refl
-filter_same p q (x ∷ xs) same = by (q x) (same x (zero, omega arith, refl)) refl
+filter_same p q (x ∷ xs) same =
+    by (filter_same p q xs (λ c there. same c (let (k, low, at) = there in (suc k, omega (arith, low), at)))) (q x) (same x (zero, omega arith, refl)) refl
   where
-    rest : filter p xs ≡ filter q xs
-    rest = filter_same p q xs (λ c there. same c (let (k, low, at) = there in (suc k, omega (arith, low), at)))
-
-    by : (b : Bool) → p x ≡ q x → q x ≡ b → filter p (x ∷ xs) ≡ filter q (x ∷ xs)
-    by true is one = rw (is, one) (ap (λ ys. x ∷ ys) rest)
-    by false is one = rw (is, one) rest
+    by : filter p xs ≡ filter q xs → (b : Bool) → p x ≡ q x → q x ≡ b → filter p (x ∷ xs) ≡ filter q (x ∷ xs)
+    by rest true is one = rw (is, one) (ap (λ ys. x ∷ ys) rest)
+    by rest false is one = rw (is, one) rest
 
 in_range_low : (n c : ℕ) → Contains (range_with_len 0 n) c → c < n
 in_range_low n c (k, below, is) =
@@ -98,39 +96,43 @@ module _ (target : ℕ) (told : Rebuilt) (old new : MirrorView) (h : Rebuilds ta
         (let b = starts.before s.2.0 s.2.1 s.2.2 in (
           s.0,
           subst (λ (q : Chunks). c < div_ceil q.size q.sectors) starts.chunks s.1,
-          s.2.0,
-          b.0,
-          b.1,
-          sym (b.2.roles role) ∙ s.2.3,
-          λ i inside bad. s.2.4 i (subst (λ (q : Chunks). InChunk q.sectors q.size c i) (sym starts.chunks) inside)
-              (subst (λ runs. IsBad runs (s.2.1.superblock.data_offset + i)) (sym b.2.bad) (subst (λ o. IsBad b.0.bad (o + i)) (sym b.2.offset) bad)),
+          (
+            s.2.0,
+            b.0,
+            b.1,
+            sym (b.2.roles role) ∙ s.2.3,
+            λ i inside bad. s.2.4 i (subst (λ (q : Chunks). InChunk q.sectors q.size c i) (sym starts.chunks) inside)
+                (subst (λ runs. IsBad runs (s.2.1.superblock.data_offset + i)) (sym b.2.bad) (subst (λ o. IsBad b.0.bad (o + i)) (sym b.2.offset) bad)),
+          ),
         )),
     λ s.
         (let b = starts.then s.2.0 s.2.1 s.2.2 in (
           s.0,
           subst (λ (q : Chunks). c < div_ceil q.size q.sectors) (sym starts.chunks) s.1,
-          s.2.0,
-          b.0,
-          b.1,
-          b.2.roles role ∙ s.2.3,
-          λ i inside bad. s.2.4 i (subst (λ (q : Chunks). InChunk q.sectors q.size c i) starts.chunks inside)
-              (subst (λ runs. IsBad runs (s.2.1.superblock.data_offset + i)) b.2.bad (subst (λ o. IsBad b.0.bad (o + i)) b.2.offset bad)),
+          (
+            s.2.0,
+            b.0,
+            b.1,
+            b.2.roles role ∙ s.2.3,
+            λ i inside bad. s.2.4 i (subst (λ (q : Chunks). InChunk q.sectors q.size c i) starts.chunks inside)
+                (subst (λ runs. IsBad runs (s.2.1.superblock.data_offset + i)) b.2.bad (subst (λ o. IsBad b.0.bad (o + i)) b.2.offset bad)),
+          ),
         )),
   )
 
   of_failed : (k : ℕ) (n z : MemberView) → IsAs n z → (sector : ℕ) → IsOfFailed v.array.chunks (failed_of r.passes) z sector ↔ IsOfFailed old.array.chunks (failed_of r.passes) n sector
-  of_failed k n z as sector = (
+  of_failed k n z like sector = (
     λ of. record {
       slot = of.slot;
       there = of.there;
-      own = sym (as.roles of.slot.source) ∙ of.own;
-      of_chunk = subst (λ (q : Chunks). IsOfChunk q n.superblock.data_offset of.slot.chunk sector) starts.chunks (subst (λ o. IsOfChunk v.array.chunks o of.slot.chunk sector) as.offset of.of_chunk);
+      own = sym (like.roles of.slot.source) ∙ of.own;
+      of_chunk = subst (λ (q : Chunks). IsOfChunk q n.superblock.data_offset of.slot.chunk sector) starts.chunks (subst (λ o. IsOfChunk v.array.chunks o of.slot.chunk sector) like.offset of.of_chunk);
     },
     λ of. record {
       slot = of.slot;
       there = of.there;
-      own = as.roles of.slot.source ∙ of.own;
-      of_chunk = subst (λ (q : Chunks). IsOfChunk q z.superblock.data_offset of.slot.chunk sector) (sym starts.chunks) (subst (λ o. IsOfChunk old.array.chunks o of.slot.chunk sector) (sym as.offset) of.of_chunk);
+      own = like.roles of.slot.source ∙ of.own;
+      of_chunk = subst (λ (q : Chunks). IsOfChunk q z.superblock.data_offset of.slot.chunk sector) (sym starts.chunks) (subst (λ o. IsOfChunk old.array.chunks o of.slot.chunk sector) (sym like.offset) of.of_chunk);
     },
   )
 

@@ -260,13 +260,15 @@ module _ (target : ℕ) (m : MemberView) (none : Bitmap) (v new : MirrorView) (t
       let serves : ServesAs f.array c role.0 = (
         omega (arith, below, few),
         subst (λ (q : Chunks). c < div_ceil q.size q.sectors) (sym f_chunks) lacking.low,
-        k,
-        then.filled,
-        then.in_f,
-        ap (is_in_sync_as role.0) then.own_f.state ∙ role.1,
-        λ i inside bad. s.unlisted i (subst (λ (q : Chunks). InChunk q.sectors q.size c i) (f_chunks ∙ sym y_chunks) inside)
-            (subst (λ (w : MemberView). IsBad w.bad (w.superblock.data_offset + i)) (sym same)
-            (subst (λ runs. IsBad runs (then.last.superblock.data_offset + i)) (sym then.bad) (subst (λ o. IsBad then.filled.bad (o + i)) (sym then.offset) bad))),
+        (
+          k,
+          then.filled,
+          then.in_f,
+          ap (is_in_sync_as role.0) then.own_f.state ∙ role.1,
+          λ i inside bad. s.unlisted i (subst (λ (q : Chunks). InChunk q.sectors q.size c i) (f_chunks ∙ sym y_chunks) inside)
+              (subst (λ (w : MemberView). IsBad w.bad (w.superblock.data_offset + i)) (sym same)
+              (subst (λ runs. IsBad runs (then.last.superblock.data_offset + i)) (sym then.bad) (subst (λ o. IsBad then.filled.bad (o + i)) (sym then.offset) bad))),
+        ),
       ) in
       (by_passes c).1 ((all.copied c (in_lacking c lacking)).1 (role.0, serves_now c role.0 serves))
 

@@ -38,15 +38,15 @@ apart_chunks chunks offset c b other =
     elim (cases_lt c b) [
       | inl below ↦
           inl (
-          let here = mul-le c (c + 1) chunks.sectors chunks.sectors (omega arith) (omega arith) in
-          let up = mul-le (c + 1) b chunks.sectors chunks.sectors (omega (arith, below)) (omega arith) in
+          let here = mul-le c chunks.sectors (c + 1) chunks.sectors (omega arith) (omega arith) in
+          let up = mul-le (c + 1) chunks.sectors b chunks.sectors (omega (arith, below)) (omega arith) in
           omega (arith, here, up)
           )
       | inr from ↦
           inr (
-          let here = mul-le b (b + 1) chunks.sectors chunks.sectors (omega arith) (omega arith) in
+          let here = mul-le b chunks.sectors (b + 1) chunks.sectors (omega arith) (omega arith) in
           let less : b + 1 ≤ c = elim (cases_lt b c) [ inl low ↦ (omega (arith, low)) | inr high ↦ absurd (other (omega (arith, from, high))) ] in
-          let up = mul-le (b + 1) c chunks.sectors chunks.sectors less (omega arith) in
+          let up = mul-le (b + 1) chunks.sectors c chunks.sectors less (omega arith) in
           omega (arith, here, up)
           )
     ]

@@ -30,7 +30,7 @@ use Rattle.md_metadata.proofs.StoredMembers.{last_on}
 use Rattle.md_metadata.proofs.StoredRecords.{other_due, other_or_stops}
 use Rattle.md_metadata.proofs.StoredSectors.{all_marks_last}
 use Rattle.md_copy.specs.declared.fault.RebuildFault.{RebuildFault}
-use Rattle.md_copy.specs.declared.fault.RebuildFault.TheVariants.{Halted, NotSpare, Dirty, InFlight, LogFull, NoMemory, TargetFault, MetadataFault, EventsFull, SourceFault}
+use Rattle.md_copy.specs.declared.fault.RebuildFault.TheVariants.{Halted, NotSpare, Dirty, InFlight, LogFull, NoMemory, TargetFault, MetadataFault, EventsFull}
 use Rattle.md_copy.specs.Storing.{FailsOnTarget, StopsAt, StoresFirst, StoringStops}
 use Rattle.md_copy.proofs.LentBack.{rebuilt_out}
 
@@ -146,7 +146,6 @@ module _ (target : ℕ) (old new : MirrorView) where
   stops_sound TargetFault h = h.sound
   stops_sound (MetadataFault k) h = elim h.ends [ inl lost ↦ lost.loses.goes.sound | inr halted ↦ halted.sound ]
   stops_sound EventsFull h = absurd h
-  stops_sound (SourceFault k chunk) h = absurd h
 
 -- ---- one part after another
 module _ (target : ℕ) (old mid new : MirrorView) (g : Stores IsStoring old mid) where
@@ -190,7 +189,6 @@ module _ (target : ℕ) (old mid new : MirrorView) (g : Stores IsStoring old mid
     ];
   }
   stops_then EventsFull h = absurd h
-  stops_then (SourceFault k chunk) h = absurd h
 
 -- an answer that nothing failed
 abbrev pub stored_ok : Result (Unit {0}) PartFault

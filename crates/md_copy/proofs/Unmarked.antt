@@ -12,7 +12,7 @@ module _ (old new : ℕ → Bool) (n : ℕ) (is : (i : ℕ) → new i ≡ (not (
   gone = is n ∙ ap (λ b. not b && old n) (eq-eqb n n refl)
 
   pub other : (c : ℕ) → (c == n) ≡ false → new c ≡ old c
-  other c no = is c ∙ ap (λ b. not b && old c) no
+  other c differs = is c ∙ ap (λ b. not b && old c) differs
 
   pub none_below : ((c : ℕ) → c < n → old c ≡ false) → (c : ℕ) → c < n + 1 → new c ≡ false
   none_below none c low = elim (cases_more c n low) [
@@ -22,7 +22,7 @@ module _ (old new : ℕ → Bool) (n : ℕ) (is : (i : ℕ) → new i ≡ (not (
 
 -- a chunk apart from n
 pub apart : (c n : ℕ) → (c ≡ n → ⊥) → (c == n) ≡ false
-apart c n no = elim (cases_Bool (c == n)) [ inl yes ↦ absurd (no (eqb-true c n yes)) | inr is ↦ is ]
+apart c n differs = elim (cases_Bool (c == n)) [ inl same ↦ absurd (differs (eqb-true c n same)) | inr is ↦ is ]
 
 -- ---- those that a member lacks
 module _ (missing first old new : ℕ → Bool) (n : ℕ) (done : (c : ℕ) → c < n → old c ≡ (missing c && first c)) (rest : (c : ℕ) → n ≤ c → old c ≡ first c) where
@@ -36,11 +36,11 @@ module _ (missing first old new : ℕ → Bool) (n : ℕ) (done : (c : ℕ) → 
     pub rest_taken : (c : ℕ) → n + 1 ≤ c → new c ≡ first c
     rest_taken c above = other old new n is c (apart c n (λ here. omega (arith, above, here))) ∙ rest c (omega (arith, above))
 
-  module _ (yes : missing n ≡ true) (same : (i : ℕ) → new i ≡ old i) where
+  module _ (lacks : missing n ≡ true) (same : (i : ℕ) → new i ≡ old i) where
     pub done_kept : (c : ℕ) → c < n + 1 → new c ≡ (missing c && first c)
     done_kept c low = elim (cases_more c n low) [
       | inl below ↦ same c ∙ done c below
-      | inr here ↦ same c ∙ rest c (omega (arith, here)) ∙ sym (ap (λ b. b && first c) (ap missing here ∙ yes))
+      | inr here ↦ same c ∙ rest c (omega (arith, here)) ∙ sym (ap (λ b. b && first c) (ap missing here ∙ lacks))
     ]
 
     pub rest_kept : (c : ℕ) → n + 1 ≤ c → new c ≡ first c

@@ -1,4 +1,4 @@
-use Rattle.std.proofs.Common.{◌≡◌, ◌∙◌, ◌<◌, true, get_or, sym, ap, subst, arith}
+use Rattle.std.proofs.Common.{◌≡◌, ◌∙◌, ◌<◌, true, List, All, get_or, sym, ap, subst, arith}
 use Rattle.std.specs.Int.{div_ceil}
 use Rattle.std.proofs.lemmas.List.Elements.{All-get_or}
 use Rattle.md_assembly.specs.States.{is_in_sync_as}
@@ -6,6 +6,8 @@ use Rattle.md_bitmap.specs.declared.chunks.Chunks.{Chunks}
 use Rattle.md_cert.specs.declared.slots.Slot.{Slot}
 use Rattle.md_passes.specs.Listed.{ServesAs}
 use Rattle.md_state.specs.View.{ArrayView}
+use Rattle.md_pass.specs.Copied.{failed_slots}
+use Rattle.md_copy.specs.Listing.{NotesLists, StopsNoting}
 use Rattle.md_copy.proofs.NotedLists.{all_noted, next_noted, notes_none, notes_stop}
 use Rattle.md_copy.proofs.listing.list_failed.Goals as goal
 
@@ -26,7 +28,8 @@ note_if_failed-requires-clause-resynced g c = ap (λ (v : ArrayView). v.resynced
 
 pub note_if_failed-requires-clause-chunk : goal.note_if_failed-requires-clause-chunk
 note_if_failed-requires-clause-chunk g c =
-    let served = All-get_or (λ (s : Slot). ServesAs c.args.mirror.now.array s.chunk s.source) c.as_slice-slots.result.now c.loop-slot.slot-index none c.loop-slot-test.true c.requires.served in
+    let served = All-get_or (λ (s : Slot). ServesAs c.args.mirror.now.array s.chunk s.source) c.as_slice-slots.result.now c.loop-slot.slot-index none c.loop-slot-test.true
+    (subst (All (λ (s : Slot). ServesAs c.args.mirror.now.array s.chunk s.source)) (sym c.as_slice-slots.ensures) c.requires.served) in
     subst (λ (h : Chunks). (get_or c.as_slice-slots.result.now c.loop-slot.slot-index none).chunk < div_ceil h.size h.sectors) (sym c.loop-slot.invariant.lists.chunks) served.1
 
 pub note_if_failed-requires-clause-marks : goal.note_if_failed-requires-clause-marks
@@ -34,15 +37,17 @@ note_if_failed-requires-clause-marks g c = c.requires.marks ∙ ap (λ (h : Chun
 
 pub note_if_failed-requires-clause-source : goal.note_if_failed-requires-clause-source
 note_if_failed-requires-clause-source g c =
-    let served = All-get_or (λ (s : Slot). ServesAs c.args.mirror.now.array s.chunk s.source) c.as_slice-slots.result.now c.loop-slot.slot-index none c.loop-slot-test.true c.requires.served in
+    let served = All-get_or (λ (s : Slot). ServesAs c.args.mirror.now.array s.chunk s.source) c.as_slice-slots.result.now c.loop-slot.slot-index none c.loop-slot-test.true
+    (subst (All (λ (s : Slot). ServesAs c.args.mirror.now.array s.chunk s.source)) (sym c.as_slice-slots.ensures) c.requires.served) in
     let by = served.2 in
     let n = c.loop-slot.invariant.lists.after by.0 by.1 by.2 in
     (by.0, n.0, n.1, ap (is_in_sync_as (get_or c.as_slice-slots.result.now c.loop-slot.slot-index none).source) n.2.state ∙ by.3)
 
 pub returns-in-Err : goal.returns-in-Err
 returns-in-Err g c =
-    notes_stop c.as_slice-slots.result.now c.args.copied.now c.loop-slot.slot-index none c.loop-slot-test.true c.args.mirror.now c.loop-slot.mirror c.note_if_failed.new.mirror c.in-Err.fault
-    c.loop-slot.invariant c.in-Err.ensures.failed c.in-Err.ensures.gives
+    subst (λ (xs : List Slot). StopsNoting (failed_slots xs c.args.copied.now) c.args.mirror.now c.note_if_failed.new.mirror c.in-Err.fault) c.as_slice-slots.ensures
+    (notes_stop c.as_slice-slots.result.now c.args.copied.now c.loop-slot.slot-index none c.loop-slot-test.true c.args.mirror.now c.loop-slot.mirror c.note_if_failed.new.mirror c.in-Err.fault
+    c.loop-slot.invariant c.in-Err.ensures.failed c.in-Err.ensures.gives)
 
 pub loop-slot-preserved : goal.loop-slot-preserved
 loop-slot-preserved g c =
@@ -50,4 +55,6 @@ loop-slot-preserved g c =
     c.loop-slot.invariant c.in_default.ensures.gives
 
 pub returns : goal.returns
-returns g c = all_noted c.as_slice-slots.result.now c.args.copied.now c.loop-slot.slot-index c.args.mirror.now c.loop-slot.mirror (let past = c.loop-slot-test.false in omega arith) c.loop-slot.invariant
+returns g c =
+    subst (λ (xs : List Slot). NotesLists (failed_slots xs c.args.copied.now) c.args.mirror.now c.loop-slot.mirror) c.as_slice-slots.ensures
+    (all_noted c.as_slice-slots.result.now c.args.copied.now c.loop-slot.slot-index c.args.mirror.now c.loop-slot.mirror (let past = c.loop-slot-test.false in omega arith) c.loop-slot.invariant)

@@ -1,6 +1,6 @@
-use Rattle.std.proofs.Common.{◌≡◌, ◌∙◌, ap, arith}
-use Rattle.md_state.specs.View.{ArrayView}
-use Rattle.md_copy.specs.declared.fault.RebuildFault.TheVariants.{Halted, NotSpare, Dirty, InFlight, LogFull, NoMemory, TargetFault, MetadataFault, EventsFull}
+use Rattle.std.proofs.Common.{◌≡◌, ◌∙◌, List, sym, subst, arith}
+use Rattle.md_cert.specs.declared.slots.Slot.{Slot}
+use Rattle.md_copy.specs.Listing.{HaveRoom, StopsStoringLists, StoresLists}
 use Rattle.md_pass.specs.Copied.{failed_slots}
 use Rattle.md_copy.proofs.ListsStored.{below_all, below_more, below_none, lists_stop, room_below, unspent_below}
 use Rattle.md_copy.proofs.listing.store_lists.Goals as goal
@@ -29,11 +29,13 @@ store_if_failed-requires-clause-recorded g c = c.loop-k.invariant.recorded
 
 pub store_if_failed-requires-clause-room : goal.store_if_failed-requires-clause-room
 store_if_failed-requires-clause-room g c =
-    room_below (failed_slots c.as_slice-slots.result.now c.args.copied.now) c.loop-k.k c.args.mirror.now c.loop-k.mirror c.loop-k.invariant c.requires.room
+    room_below (failed_slots c.as_slice-slots.result.now c.args.copied.now) c.loop-k.k c.args.mirror.now c.loop-k.mirror c.loop-k.invariant
+    (subst (λ (xs : List Slot). HaveRoom (failed_slots xs c.args.copied.now) c.args.mirror.now.array) (sym c.as_slice-slots.ensures) c.requires.room)
 
 pub returns-in-Err : goal.returns-in-Err
 returns-in-Err g c =
-    lists_stop (failed_slots c.as_slice-slots.result.now c.args.copied.now) c.loop-k.k c.args.mirror.now c.loop-k.mirror c.loop-k.invariant c.store_if_failed.new.mirror c.in-Err.fault c.in-Err.ensures
+    subst (λ (xs : List Slot). StopsStoringLists (failed_slots xs c.args.copied.now) c.args.mirror.now c.store_if_failed.new.mirror c.in-Err.fault) c.as_slice-slots.ensures
+    (lists_stop (failed_slots c.as_slice-slots.result.now c.args.copied.now) c.loop-k.k c.args.mirror.now c.loop-k.mirror c.loop-k.invariant c.store_if_failed.new.mirror c.in-Err.fault c.in-Err.ensures)
 
 pub loop-k-preserved : goal.loop-k-preserved
 loop-k-preserved g c =
@@ -44,4 +46,5 @@ returns g c =
     let past = c.loop-k-test.false in
     let count = c.members-k-end.ensures in
     let many = c.loop-k.invariant.goes.goes.array.as_many in
-    below_all (failed_slots c.as_slice-slots.result.now c.args.copied.now) c.loop-k.k c.args.mirror.now c.loop-k.mirror c.loop-k.invariant (omega arith)
+    subst (λ (xs : List Slot). StoresLists (failed_slots xs c.args.copied.now) c.args.mirror.now c.loop-k.mirror) c.as_slice-slots.ensures
+    (below_all (failed_slots c.as_slice-slots.result.now c.args.copied.now) c.loop-k.k c.args.mirror.now c.loop-k.mirror c.loop-k.invariant (omega arith))

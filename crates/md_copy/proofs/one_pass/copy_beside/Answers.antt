@@ -14,9 +14,9 @@ use Rattle.md_copy.proofs.Returned.{removed_again}
 use Rattle.md_copy.proofs.one_pass.copy_beside.Goals as goal
 
 -- what a pass answers, between states that are the same
-between : {D : Type 0} (g : Ghosts D) (copy : Copying) (sources : List Source) (old now new then : PassState D) (result : Result BoardCounts PassFault) → old ≡ now → new ≡ then
-    → MatchResult result (EndsPass g copy sources old new) (BreaksOff g copy sources old new) → MatchResult result (EndsPass g copy sources now then) (BreaksOff g copy sources now then)
-between g copy sources old now new then result before after is =
+between : {D : Type 0} (g : Ghosts D) (copy : Copying) (sources : List Source) (old now new next : PassState D) (result : Result BoardCounts PassFault) → old ≡ now → new ≡ next
+    → MatchResult result (EndsPass g copy sources old new) (BreaksOff g copy sources old new) → MatchResult result (EndsPass g copy sources now next) (BreaksOff g copy sources now next)
+between g copy sources old now new next result before after is =
     subst (λ s. MatchResult result (EndsPass g copy sources now s) (BreaksOff g copy sources now s)) after
     (subst (λ s. MatchResult result (EndsPass g copy sources s new) (BreaksOff g copy sources s new)) before is)
 
