@@ -142,10 +142,7 @@ fn target_of(action: Action<'_>, names: &[&str]) -> Option<usize> {
 fn what_to_do(fault: &CommandFault, names: &[&str], action: Action<'_>) -> &'static str {
     match fault {
         CommandFault::Data(DataFault::Rebuild(RebuildFault::LogFull(device)))
-            if target_of(action, names) != Some(*device) =>
-        {
-            LEAVE_SOURCE_OUT
-        }
+            if target_of(action, names) != Some(*device) => { LEAVE_SOURCE_OUT }
         _ => advice(fault),
     }
 }
