@@ -58,7 +58,7 @@ refused_set target v m at may = inl (record { member = m; at = at; may = may; wh
 -- ---- while passes are made
 module _ (target : ℕ) (m : MemberView) (none : Bitmap) (ready : MirrorView) where
   -- the set after the last pass is some set
-  pub with_set : (Why : Bitmap → List ℕ → Bitmap → MirrorView → Type 0) (after : Bitmap) → EndsBetween target m none ready (λ left copied now. Why after left copied now)
+  abbrev pub with_set : (Why : Bitmap → List ℕ → Bitmap → MirrorView → Type 0) (after : Bitmap) → EndsBetween target m none ready (λ left copied now. Why after left copied now)
       → EndsBetween target m none ready (λ left copied now. (b : Bitmap) × Why b left copied now)
   with_set Why after e = record { passes = e.passes; left = e.left; copied = e.copied; now = e.now; passed = e.passed; why = (after, e.why) }
 

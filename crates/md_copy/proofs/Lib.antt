@@ -16,6 +16,7 @@ pub mod HeldRecorded
 pub mod LeftOver
 pub mod LeftRecorded
 pub mod LentBack
+pub mod ListingEnds
 pub mod ListingKeeps
 pub mod Lists
 pub mod ListsStored
@@ -44,6 +45,7 @@ pub mod SetsMade
 pub mod SourcesChosen
 pub mod StartedAs
 pub mod StartsReadied
+pub mod StoppedWithin
 pub mod StoredFirst
 pub mod StoringKeeps
 pub mod TargetStates

@@ -481,7 +481,7 @@ module _ (target : ℕ) (m : MemberView) (none : Bitmap) (first now : MirrorView
         by : (f : RebuildFault) → StopsListing (failed_slots slots after) mid new f → IsConsistent new
         by (LogFull k) stops = (noted_leaves new (LogFull k) stops).0.sound
         by NoMemory stops = (noted_leaves new NoMemory stops).0.sound
-        by (MetadataFault k) stops = (lost_leaves new k stops).1.0
+        by (MetadataFault k) stops = (lost_leaves new k stops).1
         by Halted stops = absurd stops
         by NotSpare stops = absurd stops
         by Dirty stops = absurd stops

@@ -242,7 +242,7 @@ module _ (target : ℕ) where
     Between Why = EndsBetween target m none ready Why
 
     module _ (Why : List ℕ → Bitmap → MirrorView → Type 0) (e : Between Why) where
-      made : List Event
+      abbrev made : List Event
       made = es ++ chain_events target e.passes (missing_chunks ready.array m) e.left none e.copied ready e.now e.passed
 
       made_leads : LeadsIn (Before target) made old e.now
@@ -281,7 +281,7 @@ module _ (target : ℕ) where
       abbrev f : FailsListing target fault e.left e.copied e.why.0 e.now new
       f = e.why.1
 
-      recorded_to : List Event
+      abbrev recorded_to : List Event
       recorded_to = made Fails e ++ recorded_events target e.left f.pass e.copied e.why.0 e.now f.recorded f.records
 
       recorded_there : LeadsIn (Before target) recorded_to old f.recorded
@@ -410,7 +410,7 @@ module _ (target : ℕ) where
 
   -- ---- all of it
   module _ (old : MirrorView) (Why : MemberView → Bitmap → MirrorView → Type 0) (e : EndsReadied target old Why) where
-    opening : List Event
+    abbrev opening : List Event
     opening = begin_events target old e.ready e.none e.begins
 
     opens : LeadsIn (Before target) opening old e.ready
