@@ -142,9 +142,10 @@ fn log_of(member: &Member) -> [u8; 4096] {
 // One sector of entries, each of a single sector from 4096 on, every second one.
 fn full_log() -> [u8; 4096] {
     let mut log = [0xff; 4096];
-    for (entry, bytes) in log[..512].chunks_exact_mut(8).enumerate() {
-        let start = 2 * entry as u64 + 4096;
-        bytes.copy_from_slice(&(1024 * start + 1).to_le_bytes());
+    for place in 0..64usize {
+        let start = (place as u64).wrapping_mul(2).wrapping_add(4096);
+        let entry = start.wrapping_mul(1024).wrapping_add(1);
+        put(&mut log, 8 * place, &entry.to_le_bytes());
     }
     log
 }

@@ -1,7 +1,7 @@
 // Sources that can't be read in any one sector, or in half of them: nothing is lost that one of them gives.
 use crate::checks::{holds, same};
 use crate::gates::Silent;
-use crate::members::{Member, SECTORS, numbered, of_three, run_of};
+use crate::members::{DATA, Member, SECTORS, numbered, of_three, run_of};
 use crate::rebuilds::failing::{short, spare};
 use crate::rebuilds::images::{alike, images_of};
 use crate::rebuilds::told::Told;
@@ -93,7 +93,7 @@ fn expect_one_orphan<R: Abort + Threads + Wait + Sync>(
     };
     let told = run.rebuild(rt, alloc, 1, &Silent);
     same(rt, "what is told", told, Some(Ok(wanted)));
-    let start = 2048 + 8 * u64::from(chunk);
+    let start = 8u64.saturating_mul(u64::from(chunk)).saturating_add(DATA);
     let listed = Some((1, Some((start, 8))));
     same(rt, "what the source lists", run.lists(0), listed);
     same(rt, "what the new member lists", run.lists(1), listed);
