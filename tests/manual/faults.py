@@ -56,16 +56,25 @@ def declared():
     return {name: path for name, path in found.items() if name not in OF_REQUESTS_IN_FLIGHT}
 
 
+def constants():
+    """The texts of what to do that have a name."""
+    return dict(re.findall(r'const (\w+): &str =\s*"((?:[^"\\]|\\.)*)"', ADVICE.read_text()))
+
+
+# Of these faults it depends on the image which text is said: this one comes second.
+SECOND = {"LogFull #": "LEAVE_SOURCE_OUT"}
+
+
 def advice():
     """What the program says to do, by variant."""
     text = ADVICE.read_text()
-    constants = dict(re.findall(r'const (\w+): &str =\s*"((?:[^"\\]|\\.)*)"', text))
+    named = constants()
     found = {}
     for pattern, words, constant in re.findall(r'([\w:()_,|\s]+?)=>\s*\{?\s*(?:"((?:[^"\\]|\\.)*)"|([A-Z_]+)\b)', text):
         for alternative in pattern.split("|"):
-            named = re.findall(r"(\w+)::(\w+)", alternative)
-            if named:
-                found[named[-1]] = constants[constant] if constant else words
+            variants = re.findall(r"(\w+)::(\w+)", alternative)
+            if variants:
+                found[variants[-1]] = named[constant] if constant else words
     return found
 
 
@@ -85,8 +94,12 @@ def rows():
 
 
 def tabled():
-    """What to do, by fault."""
-    return {name: text for names, text in rows() for name in names}
+    """What to do, by fault: each text that a row of its own has."""
+    found = {}
+    for names, text in rows():
+        for name in names:
+            found.setdefault(name, []).append(text)
+    return found
 
 
 def reasons_tabled():

@@ -13,8 +13,10 @@ LISTED = (2048 + 8, 8)
 class Case:
     """A command that rebuilds the image `target`, in an array whose other images are `others`."""
 
-    def __init__(self, name, words, contents, others, target, ends, resyncs_first=False):
+    def __init__(self, name, words, contents, others, target, ends, resyncs_first=False, unreadable=None):
         self.name = name
+        # The index of an image, and the sectors of the array that can't be read there.
+        self.unreadable = unreadable
         self.words = words
         self.contents = contents
         self.others = others
@@ -25,6 +27,22 @@ class Case:
         self.images = others if self.is_re_add else others + [target]
         self.before = members.Found([contents[index] for index in others])
         self.lacks = self.missing_chunks()
+
+    def failing_chunks(self):
+        """By the index of an image, the chunks that can't be read there."""
+        if not self.unreadable:
+            return {}
+        index, sectors = self.unreadable
+        return {index: {self.before.in_sync[0].chunk_of(sector) for sector in sectors}}
+
+    def settings(self, scratch):
+        """What makes them fail, in each run."""
+        if not self.unreadable:
+            return {}
+        index, sectors = self.unreadable
+        first = self.data_at(index) + SECTOR * sectors.start
+        ends = {"FAILED_FROM": str(first), "FAILED_TO": str(first + SECTOR * len(sectors))}
+        return {"FAILED_IMAGE": str(scratch.path(index)), **ends}
 
     def missing_chunks(self):
         """A spare lacks all chunks, a member that is taken back those that are marked."""
@@ -62,9 +80,9 @@ def prepared(scratch, contents, steps):
     return scratch.take(len(contents))
 
 
-def rebuild_case(name, contents, others, ends):
+def rebuild_case(name, contents, others, ends, **settings):
     target = len(contents) - 1
-    return Case("rebuild, " + name, ["rebuild", "--member", target], contents, others, target, ends)
+    return Case("rebuild, " + name, ["rebuild", "--member", target], contents, others, target, ends, **settings)
 
 
 def made_cases(scratch):
@@ -91,6 +109,16 @@ def made_cases(scratch):
         contents = scratch.created([0, None], SECTORS, CHUNK_KIB, CLEAN)
         contents = [members.with_bad_blocks(contents[0], [LISTED])]
         return rebuild_case("an orphan", with_spare(contents, [0]), [0], "rebuilt member 1, passes 1, orphans 1\n")
+
+    def a_source_that_fails():
+        contents = with_spare(scratch.created([0, 1, None], SECTORS, CHUNK_KIB, CLEAN), [0, 1])
+        ends = "rebuilt member 2, passes 2, orphans 0\n"
+        return rebuild_case("a source that can't be read", contents, [0, 1], ends, unreadable=(0, range(SECTORS)))
+
+    def a_lone_source_that_fails():
+        contents = with_spare(scratch.created([0, None], SECTORS, CHUNK_KIB, CLEAN), [0])
+        ends = "rebuilt member 1, passes 2, orphans 1\n"
+        return rebuild_case("a lone source that can't be read in a chunk", contents, [0], ends, unreadable=(0, range(9, 10)))
 
     def a_member_that_left():
         away = [

@@ -1,4 +1,5 @@
-"""What images may hold once a rebuild was stopped, or one of its calls failed."""
+"""What images may hold once a rebuild was stopped, or one of its calls failed. `failing` has, by the index of an image, the chunks
+that can't be read there."""
 
 import members
 from members import SECTOR
@@ -8,8 +9,7 @@ def spans_of_target(case):
     """The bytes of the target that a rebuild may change: superblock, bitmap, log, and its data in the chunks that it lacks."""
     target = members.Member(case.contents[case.target])
     sb = target.superblock
-    log = (members.SUPER_SECTOR + sb.bblog_offset, sb.bblog_size)
-    spans = target.metadata() + [(SECTOR * log[0], SECTOR * (log[0] + log[1]))]
+    spans = target.metadata() + [log_of(target)]
     for chunk in case.lacks:
         first = sb.data_offset + chunk * target.chunk_sectors
         end = min(first + target.chunk_sectors, sb.data_offset + sb.size)
@@ -17,10 +17,16 @@ def spans_of_target(case):
     return spans
 
 
-def spans_of_other(case, index):
-    """Those of another member: superblock and bitmap, and where a resync comes first its marked chunks."""
+def log_of(member):
+    first = members.SUPER_SECTOR + member.superblock.bblog_offset
+    return SECTOR * first, SECTOR * (first + member.superblock.bblog_size)
+
+
+def spans_of_other(case, index, failing):
+    """Those of another member: superblock and bitmap, its log where it can't be read, and where a resync comes first its marked
+    chunks."""
     member = members.Member(case.contents[index])
-    spans = member.metadata()
+    spans = member.metadata() + ([log_of(member)] if failing.get(index) else [])
     if case.resyncs_first:
         first = SECTOR * member.superblock.data_offset
         size = SECTOR * member.chunk_sectors
@@ -28,12 +34,12 @@ def spans_of_other(case, index):
     return spans
 
 
-def against_image(case, index, after, junk=range(0)):
+def against_image(case, index, after, junk=range(0), failing={}):
     """The reasons against one image: what a rebuild may not change is as it was, apart from `junk`."""
     old = case.contents[index]
     if len(after) != len(old):
         return ["image %d has another length" % index]
-    spans = spans_of_target(case) if index == case.target else spans_of_other(case, index)
+    spans = spans_of_target(case) if index == case.target else spans_of_other(case, index, failing)
     for at in range(0, len(after), SECTOR):
         if after[at : at + SECTOR] == old[at : at + SECTOR] or at in junk:
             continue
@@ -42,10 +48,23 @@ def against_image(case, index, after, junk=range(0)):
     return []
 
 
-def against_members(case, found):
+def against_lists(case, found, failing):
+    """The reasons against the lists of the other members: each is what it was, or has grown by chunks that can't be read there."""
+    reasons = []
+    for index in case.others:
+        member, before = found.members[index], members.Member(case.contents[index])
+        if member is None:
+            continue
+        chunks = {member.chunk_of(sector - member.superblock.data_offset) for sector in member.bad - before.bad}
+        if before.bad - member.bad or chunks - failing.get(index, set()):
+            reasons.append("number %d lists %r, and %r before" % (member.number, sorted(member.bad), sorted(before.bad)))
+    return reasons
+
+
+def against_members(case, found, failing={}):
     """The reasons against the members in sync: each holds the array's content in each sector that it does not list, in chunks
     that are not marked; and two of them differ only where each has marked the chunk."""
-    reasons = found.uncovered()
+    reasons = found.uncovered() + against_lists(case, found, failing)
     for member in found.in_sync:
         for sector in range(member.size):
             if member.lists(sector) or (case.resyncs_first and member.chunk_of(sector) in found.marks):
@@ -56,16 +75,27 @@ def against_members(case, found):
     return reasons
 
 
-def against_rebuilt(case, contents):
+def orphans_of(case, found):
+    """The chunks that no other member can give, by the lists as they are then: each lists a sector of them."""
+    others = [found.members[index] for index in case.others if found.states[index] == "in sync"]
+    target = found.members[case.target]
+    given = set()
+    for member in others:
+        listed = {member.chunk_of(sector) for sector in range(member.size) if member.lists(sector)}
+        given |= set(range(target.chunks)) - listed
+    return set(range(target.chunks)) - given
+
+
+def against_rebuilt(case, contents, failing={}):
     """The reasons against the images once the member is rebuilt: it is in sync, it lists exactly the chunks of which some sector
     is on no other member, and the array has no mark, unless it is degraded."""
     found = members.Found(contents)
-    reasons = against_members(case, found)
+    reasons = against_members(case, found, failing)
     target = found.members[case.target]
     if found.states[case.target] != "in sync":
         return reasons + ["the member is %s" % found.states[case.target]]
     offset, chunk = target.superblock.data_offset, target.chunk_sectors
-    orphans = {target.chunk_of(sector) for sector in range(target.size) if not case.allowed(sector)}
+    orphans = orphans_of(case, found)
     listed = {offset + sector for sector in range(target.size) if target.chunk_of(sector) in orphans}
     if target.bad != listed:
         reasons.append("it lists %r, and not %r" % (sorted(target.bad), sorted(listed)))

@@ -28,6 +28,7 @@ class Answer:
         self.status = done.returncode
         self.output = done.stdout
         self.errors = done.stderr.decode("utf-8", "backslashreplace")
+        self.calls = calls
         self.writes = [call for call in calls if call.kind != "read"]
         self.reads = [call for call in calls if call.kind == "read"]
 
@@ -68,8 +69,8 @@ class Scratch:
         )
         return Answer(done, [Call(line) for line in self.log.read_text().splitlines()])
 
-    def stopped(self, words, images, given, how, number):
-        return self.run(words, images, given, STOPPED_CALL=str(number), STOPPED_HOW=how)
+    def stopped(self, words, images, given, how, number, **settings):
+        return self.run(words, images, given, STOPPED_CALL=str(number), STOPPED_HOW=how, **settings)
 
     def created(self, images, sectors, chunk_kib, options=(), alike=True):
         """The contents of a new array's images: `images` has None for a missing member."""

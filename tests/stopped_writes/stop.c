@@ -8,8 +8,8 @@
        junk    it fails, and other bytes are written to all of its sectors
        short   it writes the first half of its sectors and says so
 
-   Of the reads of images the one whose number stands in FAILED_READ fails. Each of these calls is a line of the file that
-   CALLS_LOG names. No disk is waited for: what a process wrote is there once it has ended. */
+   Of the reads of images the one whose number stands in FAILED_READ fails, and so does each that meets the bytes of the image
+   FAILED_IMAGE from FAILED_FROM up to FAILED_TO. Each of these calls is a line of the file that CALLS_LOG names. No disk is waited for: what a process wrote is there once it has ended. */
 #define _GNU_SOURCE
 #include <errno.h>
 #include <fcntl.h>
@@ -205,6 +205,13 @@ int fsync(int fd)
     return sync_of(fd, SYS_fsync);
 }
 
+/* Whether these bytes of an image can't be read. */
+static int is_bad(const char *image, off_t place, size_t size)
+{
+    const char *bad = getenv("FAILED_IMAGE");
+    return bad && !strcmp(bad, image) && place < number_in("FAILED_TO") && number_in("FAILED_FROM") < place + (off_t)size;
+}
+
 static ssize_t read_at(int fd, void *bytes, size_t size, off_t place)
 {
     static long calls;
@@ -212,6 +219,8 @@ static ssize_t read_at(int fd, void *bytes, size_t size, off_t place)
     if (image) {
         note("read", image, place, size);
         if (__atomic_add_fetch(&calls, 1, __ATOMIC_SEQ_CST) == number_in("FAILED_READ"))
+            return fail();
+        if (is_bad(image, place, size))
             return fail();
     }
     return syscall(SYS_pread64, fd, bytes, size, place);

@@ -36,10 +36,13 @@ pub(crate) struct Member {
     pub(crate) listed: (u64, u64),
     // The bytes of the array's sectors.
     pub(crate) data: [u8; SECTORS],
-    // Reads of this sector of the array fail.
-    pub(crate) bad: Option<u64>,
-    // Writes fail from this number on.
+    // Its log has room for no entry beside those that it has. They are of sectors past the array.
+    pub(crate) is_log_full: bool,
+    // Reads of so many sectors from this one of the array on fail.
+    pub(crate) bad: (u64, u64),
+    // Writes fail from this number on, and then half of their sectors are written where they are torn.
     pub(crate) fails: u64,
+    pub(crate) torn: bool,
 }
 
 // A member of a clean array of two without a mark.
@@ -54,8 +57,10 @@ pub(crate) fn plain(number: u32, data: [u8; SECTORS]) -> Member {
         marks: 0,
         listed: (0, 0),
         data,
-        bad: None,
+        is_log_full: false,
+        bad: (0, 0),
         fails: NEVER,
+        torn: false,
     }
 }
 
@@ -88,8 +93,11 @@ pub(crate) fn numbered() -> [u8; SECTORS] {
 
 fn superblock_of(member: &Member) -> [u8; 4096] {
     let mut b = vault();
-    if member.listed.1 > 0 {
+    if member.listed.1 > 0 || member.is_log_full {
         put(&mut b, 8, &9u32.to_le_bytes());
+    }
+    if member.is_log_full {
+        put(&mut b, 186, &1u16.to_le_bytes());
     }
     put(&mut b, 80, &member.size.to_le_bytes());
     put(&mut b, 92, &member.raid_disks.to_le_bytes());
@@ -118,12 +126,26 @@ fn bitmap_of(member: &Member) -> [u8; 4096] {
 }
 
 fn log_of(member: &Member) -> [u8; 4096] {
+    if member.is_log_full {
+        return full_log();
+    }
     let mut log = [0xff; 4096];
     let (sector, len) = member.listed;
     if len > 0 {
         let start = DATA.wrapping_add(sector);
         let entry = start.wrapping_mul(1024).wrapping_add(len);
         put(&mut log, 0, &entry.to_le_bytes());
+    }
+    log
+}
+
+// One sector of entries, each of a single sector from 4096 on, every second one.
+fn full_log() -> [u8; 4096] {
+    let mut log = [0xff; 4096];
+    for place in 0..64usize {
+        let start = (place as u64).wrapping_mul(2).wrapping_add(4096);
+        let entry = start.wrapping_mul(1024).wrapping_add(1);
+        put(&mut log, 8 * place, &entry.to_le_bytes());
     }
     log
 }
@@ -145,8 +167,8 @@ pub(crate) fn device_of(alloc: Global, member: &Member) -> Result<MemDevice, Fai
 
 fn bad_of(alloc: Global, member: &Member) -> Result<Vec<u64>, Fail> {
     let mut bad = Vec::new(alloc);
-    if let Some(sector) = member.bad {
-        bad.push(DATA.saturating_add(sector))?;
+    for k in 0..member.bad.1 {
+        bad.push(DATA.saturating_add(member.bad.0).saturating_add(k))?;
     }
     Ok(bad)
 }
@@ -158,7 +180,7 @@ fn add(
 ) -> Result<(), Fail> {
     let bad = bad_of(alloc, member)?;
     let device = device_of(alloc, member)?;
-    devices.push(FaultDevice::new(device, bad, member.fails, NEVER, false))?;
+    devices.push(FaultDevice::new(device, bad, member.fails, NEVER, member.torn))?;
     Ok(())
 }
 
@@ -177,4 +199,23 @@ pub(crate) fn run_of(alloc: Global, members: &[Member]) -> Result<Run, Fail> {
     let mut devices = Vec::new(alloc);
     add_all(alloc, &mut devices, members)?;
     Run::open(alloc, devices)
+}
+
+// The devices of a run, which fail no more, opened again.
+pub(crate) fn opened_again(alloc: Global, run: Run) -> Result<Run, Fail> {
+    let mut devices = Vec::new(alloc);
+    add_sound(alloc, &mut devices, run.into_devices())?;
+    Run::open(alloc, devices)
+}
+
+fn add_sound(
+    alloc: Global,
+    devices: &mut Vec<FaultDevice<MemDevice>>,
+    old: Vec<FaultDevice<MemDevice>>,
+) -> Result<(), Fail> {
+    for device in old {
+        let inner = device.into_inner();
+        devices.push(FaultDevice::new(inner, Vec::new(alloc), NEVER, NEVER, false))?;
+    }
+    Ok(())
 }

@@ -16,7 +16,7 @@ fn listing(first: (u64, u64), second: (u64, u64), bad: u64) -> [Member; 2] {
     };
     let second = Member {
         listed: second,
-        bad: Some(bad),
+        bad: (bad, 1),
         ..plain(1, [1; SECTORS])
     };
     [first, second]

@@ -172,7 +172,7 @@ fn members_that_agree(rt: HostRuntime) -> Result<(), Fail> {
 #[test]
 fn unreadable_target(rt: HostRuntime) -> Result<(), Fail> {
     let unreadable = Member {
-        bad: Some(8),
+        bad: (8, 1),
         ..second(TWO, NEVER)
     };
     let members = [first(TWO, NEVER), unreadable];
@@ -201,7 +201,7 @@ fn expect_unread(
     data: [u8; 8],
 ) -> Result<(), Fail> {
     let unreadable = Member {
-        bad: Some(bad),
+        bad: (bad, 1),
         ..first(TWO, NEVER)
     };
     let members = [unreadable, second(TWO, NEVER)];
@@ -237,7 +237,7 @@ fn stays_closed(rt: &impl Abort, alloc: Global, run: &mut Run) -> Result<(), Fai
 #[test]
 fn array_that_is_not_resynced(rt: HostRuntime) -> Result<(), Fail> {
     let unreadable = Member {
-        bad: Some(8),
+        bad: (8, 1),
         ..first(TWO, NEVER)
     };
     let members = [unreadable, second(TWO, NEVER)];
@@ -305,7 +305,7 @@ fn each_write_fails(rt: HostRuntime) -> Result<(), Fail> {
 #[test]
 fn lone_member_is_not_read(rt: HostRuntime) -> Result<(), Fail> {
     let unreadable = Member {
-        bad: Some(8),
+        bad: (8, 1),
         ..second(TWO, NEVER)
     };
     let members = [first(ONE, 1), unreadable];

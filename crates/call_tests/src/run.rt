@@ -81,6 +81,15 @@ impl Run {
         Some(self.mirror.state(k))
     }
 
+    // Of what the member lists, how many runs there are, and the first sector of the first with how many follow.
+    pub(crate) fn lists(&self, k: usize) -> Option<(usize, Option<(u64, u64)>)> {
+        if k >= self.mirror.members() {
+            return None;
+        }
+        let runs = self.mirror.bad(k).runs();
+        Some((runs.len(), runs.first().map(|run| (run.start, run.len))))
+    }
+
     pub(crate) fn lacks(&self, alloc: Global, k: usize) -> Result<Option<Lacks>, Fail> {
         if k >= self.mirror.members() {
             return Ok(None);

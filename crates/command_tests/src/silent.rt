@@ -11,7 +11,7 @@ impl Gate for Silent {
 }
 
 impl Watch for Silent {
-    fn begins(&self, _chunks: u32) {}
+    fn begins(&self, _chunks: u32, _first: Option<u32>) {}
 
     fn begins_check(&self, _sectors: u64) {}
 }

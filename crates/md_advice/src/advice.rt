@@ -61,6 +61,13 @@ const BEGIN_ANEW: &str =
 const COPY_DISK: &str =
     "copy the disk with a tool that goes past bad sectors, and use the copy; or leave the image out";
 
+/// What to do about a source of a rebuild whose log is full.
+pub(crate) const LEAVE_SOURCE_OUT: &str =
+    "it can't be read in more places than its bad block log has room for: leave the image out, if another member is in sync; or copy the disk with a tool that goes past bad sectors, and use the copy";
+
+const NEW_LOG: &str =
+    "its bad block log has no room for the chunks that no member could give: `fail` and `remove` it, and `add` it again, which gives it a new log";
+
 const MAYBE_LOST: &str =
     "see why the device can't be written (`dmesg`, free space, write protection); what it held may be lost";
 
@@ -171,14 +178,11 @@ fn rebuild_advice(fault: RebuildFault) -> &'static str {
             "`detail` shows the state of each member: a recovering one can be rebuilt, and a spare where a role is free"
         }
         RebuildFault::Dirty => RESYNC_FIRST,
-        RebuildFault::SourceFault(_, _) => COPY_DISK,
         RebuildFault::TargetFault => {
             "see why the device can't be written (`dmesg`, free space, write protection); `remove` it, after `fail` where it is recovering, and `add` it or another one anew"
         }
         RebuildFault::MetadataFault(_) => BEGIN_ANEW,
-        RebuildFault::LogFull(_) => {
-            "`fail` and `remove` it, and `add` it again, which gives it a new log"
-        }
+        RebuildFault::LogFull(_) => NEW_LOG,
         RebuildFault::EventsFull => NEW_ARRAY,
         RebuildFault::Halted => SEE_DEVICE,
         RebuildFault::InFlight(_) => AGAIN,

@@ -1,5 +1,5 @@
 // The line for people after a fault.
-use crate::advice::advice;
+use crate::advice::{LEAVE_SOURCE_OUT, advice};
 use crate::fault::CommandFault;
 use md_array::{AddFault, OpenFault, ReAddFault};
 use md_assembly::AssembleFault;
@@ -83,7 +83,6 @@ fn culprit_of_rebuild(fault: RebuildFault) -> Option<Culprit> {
         RebuildFault::TargetFault => Some(Culprit::Named),
         RebuildFault::LogFull(device) => Some(Culprit::Staying(device)),
         RebuildFault::MetadataFault(device) => Some(Culprit::Staying(device)),
-        RebuildFault::SourceFault(device, _) => Some(Culprit::Staying(device)),
         _ => None,
     }
 }
@@ -130,6 +129,24 @@ fn path_of<'a>(culprit: Culprit, names: &[&'a str], action: Action<'a>) -> Optio
     }
 }
 
+// The index of the member that a command rebuilds. One that is taken back comes after the others.
+fn target_of(action: Action<'_>, names: &[&str]) -> Option<usize> {
+    match action {
+        Action::Rebuild(member) => Some(member as usize),
+        Action::ReAdd(_) => Some(names.len()),
+        _ => None,
+    }
+}
+
+// What to do. Of a log that is full it depends on whether it is the target's.
+fn what_to_do(fault: &CommandFault, names: &[&str], action: Action<'_>) -> &'static str {
+    match fault {
+        CommandFault::Data(DataFault::Rebuild(RebuildFault::LogFull(device)))
+            if target_of(action, names) != Some(*device) => { LEAVE_SOURCE_OUT }
+        _ => advice(fault),
+    }
+}
+
 /// Writes the image that a fault is about, and what to do, in one line.
 pub fn advise<'a, E: Write>(
     fault: &CommandFault,
@@ -142,7 +159,7 @@ pub fn advise<'a, E: Write>(
             let _ = write!(err, "{path}: ");
         }
     }
-    let what_to_do = advice(fault);
+    let what_to_do = what_to_do(fault, names, action);
     let _ = match fault {
         CommandFault::BadImage(_, ImageRefusal::Unopened(ImageFault::Io(error))) => {
             writeln!(err, "{error}; {what_to_do}")

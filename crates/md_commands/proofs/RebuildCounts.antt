@@ -1,8 +1,10 @@
 -- A rebuild wins and loses no device, and of the commands that rebuild only the one that takes a device back wins it.
-use Rattle.std.proofs.Common.{◌≡◌, ◌∙◌, ⊎_elim, ℕ, ◌+◌, [], ◌∷◌, length, None, Some, Result, Ok, Err, MatchResult, ap}
+use Rattle.std.proofs.Common.{◌≡◌, ◌∙◌, ⊎_elim, ℕ, ◌+◌, List, [], ◌∷◌, length, None, Some, Result, Ok, Err, MatchResult, ap}
 use Rattle.std.proofs.lemmas.List.{length-append}
 use Rattle.md_bitmap.specs.Marks.{Bitmap}
-use Rattle.md_plan.specs.declared.planner.Planned.{Planned}
+use Rattle.md_cert.specs.declared.slots.Slot.{Slot}
+use Rattle.md_kept_members.specs.View.{MemberView}
+use Rattle.md_passes.specs.Passes.{PassView, failed_chunks, slots_of}
 use Rattle.md_faults.specs.declared.re_add_fault.ReAddFault.{ReAddFault}
 use Rattle.md_faults.specs.declared.re_add_fault.ReAddFault.TheVariants as re_add
 use Rattle.md_metadata.specs.Going.{GoesOn, HaltsAfter, only_others}
@@ -13,8 +15,13 @@ use Rattle.md_array.specs.ReAdding.{ReAdds, RefusesReAdd}
 use Rattle.md_copy.specs.declared.fault.RebuildFault.{RebuildFault}
 use Rattle.md_copy.specs.declared.fault.RebuildFault.TheVariants as rebuild
 use Rattle.md_copy.specs.declared.rebuilt.Rebuilt.{Rebuilt}
-use Rattle.md_copy.specs.Rebuilding.{Begins, EndsFilled, EndsInPass, FillsBy, Rebuilds, RefusesRebuild}
-use Rattle.md_copy.specs.Readying.{AdmitsAfter, AdmitsFirst}
+use Rattle.md_copy.specs.Filling.{BreaksPass}
+use Rattle.md_copy.specs.Leaving.{Leaves, LeavesAfter}
+use Rattle.md_copy.specs.Listing.{StopsListing}
+use Rattle.md_copy.specs.Passing.{AreListedPasses, BreaksOff, CopiesAll, EndsBetween, FailsListing, FailsRecording, RecordsPass}
+use Rattle.md_copy.specs.Readying.{AdmitsAfter, AdmitsFirst, StopsAdmitted}
+use Rattle.md_copy.specs.Rebuilding.{Begins, EndsFilled, EndsReadied, FillsBy, LacksMemory, LacksRoom, LosesSource, LosesTarget, Rebuilds, RefusesRebuild}
+use Rattle.md_copy.specs.Sources.{missing_chunks}
 use Rattle.md_copy.specs.Storing.{Settles, StopsAt}
 use Rattle.md_examine.specs.declared.sink.Sink.{Ghosts}
 use Rattle.md_commands.specs.declared.fault.DataFault.{DataFault}
@@ -44,26 +51,121 @@ admitted k old new a = a.admits.disks.tried.as_many ∙ gone_on old a.stored a.f
 admitted_first : (k : ℕ) (old ready : MirrorView) → AdmitsFirst k old ready → AsMany old ready
 admitted_first k old ready a = gone_on a.admitted ready a.then.stores.goes ∙ admitted k old a.admitted a.after
 
-begun : (k : ℕ) (planned : Planned) (old stored : MirrorView) → Begins k planned old stored → AsMany old stored
-begun k planned old stored b = ⊎_elim (λ r. gone_on old stored r.1.stores.goes) (λ a. admitted_first k old stored a.1) b.first
+begun : (k : ℕ) (old ready : MirrorView) (none : Bitmap) → Begins k old ready none → AsMany old ready
+begun k old ready none b = ⊎_elim (λ r. gone_on old ready r.1.stores.goes) (λ a. admitted_first k old ready a.1) b.first
 
 stopped_at : (k j : ℕ) (old new : MirrorView) → StopsAt k j old new → AsMany old new
 stopped_at k j old new s =
     ⊎_elim (λ lost. gone_on old new lost.loses.goes) (λ at. halts at.failing at.mid new nothing (at.halts nothing) ∙ gone_on old at.mid at.stores.goes) s.ends
 
-filled : (k : ℕ) (planned : Planned) (copied orphans : Bitmap) (old new : MirrorView) → FillsBy k planned copied orphans old new → AsMany old new
-filled k planned copied orphans old new f = f.fills.filling.as_many ∙ begun k planned old f.stored f.begins
+stopped_admitted : (k j : ℕ) (old new : MirrorView) → StopsAdmitted k j old new → AsMany old new
+stopped_admitted k j old new s = stopped_at k j s.admitted new s.stops ∙ admitted k old s.admitted s.after
+
+-- ---- passes
+recorded : (k : ℕ) (chunks : List ℕ) (p : PassView) (before after : Bitmap) (old new : MirrorView) → RecordsPass k chunks p before after old new → AsMany old new
+recorded k chunks p before after old new r = r.checkpoints.disks.tried.as_many ∙ r.makes.copies.filling.as_many
+
+listed : (k : ℕ) (passes : List PassView) (chunks left : List ℕ) (before after : Bitmap) (old new : MirrorView)
+    → AreListedPasses k passes chunks left before after old new → AsMany old new
+listed k [] chunks left before after old new h = same old new h.2
+listed k (p ∷ ps) chunks left before after old new h =
+    listed k ps (failed_chunks p) left h.0 after h.1 new h.3 ∙ (h.2.lists.writes.as_many ∙ recorded k chunks p before h.0 old h.2.recorded h.2.records)
+
+copied_all : (k : ℕ) (m : MemberView) (passes : List PassView) (before after : Bitmap) (old new : MirrorView)
+    → CopiesAll k m passes before after old new → AsMany old new
+copied_all k m passes before after old new c =
+    recorded k c.left c.last c.mid after c.now new c.records ∙ listed k c.listed (missing_chunks old.array m) c.left before c.mid old c.now c.passed
+
+between : (k : ℕ) (m : MemberView) (before : Bitmap) (old new : MirrorView) (Why : List ℕ → Bitmap → MirrorView → Type 0)
+    → ((left : List ℕ) (copied : Bitmap) (now : MirrorView) → Why left copied now → AsMany now new) → EndsBetween k m before old Why → AsMany old new
+between k m before old new Why after e =
+    after e.left e.copied e.now e.why ∙ listed k e.passes (missing_chunks old.array m) e.left before e.copied old e.now e.passed
+
+broken_pass : (fault : RebuildFault) (k : ℕ) (m : MemberView) (slots : List Slot) (before after : Bitmap) (old new : MirrorView)
+    → BreaksPass k m slots before after old new fault → AsMany old new
+broken_pass rebuild.NoMemory k m slots before after old new h = h.filling.as_many
+broken_pass rebuild.TargetFault k m slots before after old new h = h.filling.as_many
+broken_pass fault k m slots before after old new h = absurd h
+
+broken_off : (fault : RebuildFault) (k : ℕ) (chunks : List ℕ) (before after : Bitmap) (old new : MirrorView)
+    → BreaksOff k fault chunks before after old new → AsMany old new
+broken_off fault k chunks before after old new b = broken_pass fault k b.member (slots_of b.pass) before after old new b.breaks
+
+unrecorded : (k : ℕ) (chunks : List ℕ) (before : Bitmap) (old new : MirrorView) → FailsRecording k chunks before old new → AsMany old new
+unrecorded k chunks before old new f = f.fails.disks.tried.as_many ∙ f.makes.copies.filling.as_many
+
+stopped_listing : (fault : RebuildFault) (failed : List Slot) (old new : MirrorView) → StopsListing failed old new fault → AsMany old new
+stopped_listing (rebuild.LogFull j) failed old new s = ap length s.notes.disks
+stopped_listing rebuild.NoMemory failed old new s = ap length s.notes.disks
+stopped_listing (rebuild.MetadataFault j) failed old new s = s.2.writes.as_many ∙ ap length s.1.disks
+stopped_listing fault failed old new s = absurd s
+
+not_listed : (fault : RebuildFault) (k : ℕ) (chunks : List ℕ) (before after : Bitmap) (old new : MirrorView)
+    → FailsListing k fault chunks before after old new → AsMany old new
+not_listed fault k chunks before after old new f =
+    stopped_listing fault f.pass.failed f.recorded new f.fails ∙ recorded k chunks f.pass before after old f.recorded f.records
+
+-- ---- the whole call
+filled : (k : ℕ) (m : MemberView) (passes : List PassView) (none copied kept orphans : Bitmap) (chunks : List ℕ) (ready now : MirrorView)
+    → FillsBy k m passes none copied kept orphans chunks ready now → AsMany ready now
+filled k m passes none copied kept orphans chunks ready now f = copied_all k m passes none copied ready now f.copies
 
 rebuilt : (k : ℕ) (told : Rebuilt) (old new : MirrorView) → Rebuilds k told old new → AsMany old new
 rebuilt k told old new r =
-    settled r.by.enrolled new r.by.settles ∙ (r.by.enrols.disks.as_many ∙ filled k r.planned r.copied r.orphans old r.by.filled r.by.fills)
+    let by = r.rebuilds.by in
+    settled by.enrolled new by.settles
+    ∙ (by.enrols.disks.as_many
+    ∙ (filled k r.begins.now r.rebuilds.passes r.none r.rebuilds.copied r.rebuilds.kept r.rebuilds.orphans r.rebuilds.chunks r.ready by.filled by.fills
+    ∙ begun k old r.ready r.none r.begins))
 
-in_pass : (fault : RebuildFault) (k : ℕ) (old new : MirrorView) → EndsInPass k fault old new → AsMany old new
-in_pass fault k old new e = e.fails.filling.as_many ∙ begun k e.planned old e.stored e.begins
+when_filled : (k : ℕ) (m : MemberView) (none : Bitmap) (ready new : MirrorView) (Why : Bitmap → Bitmap → MirrorView → Type 0)
+    → ((kept orphans : Bitmap) (now : MirrorView) → Why kept orphans now → AsMany now new) → EndsFilled k m none ready Why → AsMany ready new
+when_filled k m none ready new Why after e =
+    after e.kept e.orphans e.filled e.why ∙ filled k m e.passes none e.copied e.kept e.orphans e.chunks ready e.filled e.fills
 
-when_filled : (k : ℕ) (old new : MirrorView) (Why : Bitmap → Bitmap → MirrorView → Type 0)
-    → ((copied orphans : Bitmap) (mid : MirrorView) → Why copied orphans mid → AsMany mid new) → EndsFilled k old new Why → AsMany old new
-when_filled k old new Why left e = left e.copied e.orphans e.filled e.why ∙ filled k e.planned e.copied e.orphans old e.filled e.fills
+lacks_memory : (k : ℕ) (m : MemberView) (none after : Bitmap) (ready stopped : MirrorView) → LacksMemory k m none after ready stopped → AsMany ready stopped
+lacks_memory k m none after ready stopped h =
+    ⊎_elim (λ e. between k m none ready stopped _ (λ left copied now why. same now stopped why.1) e)
+    (λ rest.
+    ⊎_elim (λ e. between k m none ready stopped _ (λ left copied now why. broken_off rebuild.NoMemory k left copied after now stopped why) e)
+    (λ later.
+    ⊎_elim (λ e. between k m none ready stopped _ (λ left copied now why. not_listed rebuild.NoMemory k left copied after now stopped why) e)
+    (λ e. copied_all k m e.passes none e.copied ready stopped e.copies)
+    later)
+    rest)
+    h
+
+lacks_room : (j k : ℕ) (m : MemberView) (none after : Bitmap) (ready stopped : MirrorView) → LacksRoom j k m none after ready stopped → AsMany ready stopped
+lacks_room j k m none after ready stopped h =
+    ⊎_elim (λ e. between k m none ready stopped _ (λ left copied now why. not_listed (rebuild.LogFull j) k left copied after now stopped why) e)
+    (λ e. when_filled k m none ready stopped _ (λ kept orphans now why. same now stopped why.unchanged) e.1)
+    h
+
+loses_source : (j k : ℕ) (m : MemberView) (none : Bitmap) (ready stopped : MirrorView) → LosesSource j k m none ready stopped → AsMany ready stopped
+loses_source j k m none ready stopped h =
+    between k m none ready stopped _ (λ left copied now why. not_listed (rebuild.MetadataFault j) k left copied why.0 now stopped why.1) h
+
+loses_target : (k : ℕ) (m : MemberView) (none : Bitmap) (ready new : MirrorView) → LosesTarget k m none ready new → AsMany ready new
+loses_target k m none ready new h =
+    ⊎_elim (λ e. between k m none ready new _ (λ left copied now why. broken_off rebuild.TargetFault k left copied why.0 now new why.1) e)
+    (λ rest.
+    ⊎_elim (λ e. between k m none ready new _ (λ left copied now why. unrecorded k left copied now new why) e)
+    (λ e. when_filled k m none ready new _ (λ kept orphans now why. why.disks.as_many) e)
+    rest)
+    h
+
+-- how far it came was recorded, or could not be
+left : (k : ℕ) (copied : Bitmap) (stopped new : MirrorView) → Leaves k copied stopped new → AsMany stopped new
+left k copied stopped new l =
+    ⊎_elim (λ h. same stopped new h.1) (λ c. ⊎_elim (λ done. done.disks.tried.as_many) (λ fails. fails.disks.tried.as_many) c) l
+
+left_after : (k : ℕ) (old new : MirrorView) (Why : Bitmap → MirrorView → Type 0)
+    → ((copied : Bitmap) (stopped : MirrorView) → Why copied stopped → AsMany old stopped) → LeavesAfter k Why new → AsMany old new
+left_after k old new Why before l = left k l.copied l.stopped new l.leaves ∙ before l.copied l.stopped l.why
+
+when_ready : (k : ℕ) (old new : MirrorView) (Why : MemberView → Bitmap → MirrorView → Type 0)
+    → ((m : MemberView) (none : Bitmap) (ready : MirrorView) → Why m none ready → AsMany ready new) → EndsReadied k old Why → AsMany old new
+when_ready k old new Why after e = after e.begins.now e.none e.ready e.why ∙ begun k old e.ready e.none e.begins
 
 not_rebuilt : (fault : RebuildFault) (k : ℕ) (old new : MirrorView) → RefusesRebuild k old new fault → AsMany old new
 not_rebuilt rebuild.Halted k old new h = same old new h.unchanged
@@ -72,20 +174,25 @@ not_rebuilt rebuild.Dirty k old new h = same old new h.unchanged
 not_rebuilt (rebuild.InFlight number) k old new h = same old new h.unchanged
 not_rebuilt rebuild.EventsFull k old new h = same old new h.unchanged
 not_rebuilt (rebuild.MetadataFault j) k old new h =
-    ⊎_elim (λ e. stopped_at k j old new e.why) (λ e. stopped_at k j e.why.admitted new e.why.stops ∙ admitted k old e.why.admitted e.why.after) h
+    ⊎_elim (λ e. stopped_at k j old new e.why)
+    (λ rest.
+    ⊎_elim (λ e. stopped_admitted k j old new e.why)
+    (λ l. left_after k old new _ (λ nothing stopped e. when_ready k old stopped _ (λ m none ready why. loses_source j k m none ready stopped why) e.1) l)
+    rest)
+    h
 not_rebuilt rebuild.TargetFault k old new h =
     ⊎_elim (λ f. f.why.fails.disks.tried.as_many ∙ gone_on old f.why.mid f.why.stores.goes)
     (λ rest.
     ⊎_elim (λ f. f.why.fails.disks.tried.as_many ∙ gone_on old f.why.stored f.why.first.stores.goes)
-    (λ later. ⊎_elim (λ e. in_pass rebuild.TargetFault k old new e) (λ e. when_filled k old new _ (λ copied orphans mid why. why.disks.as_many) e) later)
+    (λ e. when_ready k old new _ (λ m none ready why. loses_target k m none ready new why) e)
     rest)
     h
 not_rebuilt rebuild.NoMemory k old new h =
-    ⊎_elim (λ n. ⊎_elim (λ first. gone_on old new first.stores.goes) (λ a. admitted_first k old new a) n.first)
-    (λ rest. ⊎_elim (λ e. in_pass rebuild.NoMemory k old new e) (λ e. when_filled k old new _ (λ copied orphans mid why. same mid new why) e) rest)
+    ⊎_elim (λ n. ⊎_elim (λ is. same old new is) (λ lacks. gone_on old new lacks.first.stores.goes) n.why)
+    (λ l. left_after k old new _ (λ copied stopped e. when_ready k old stopped _ (λ m none ready why. lacks_memory k m none copied ready stopped why) e) l)
     h
-not_rebuilt (rebuild.SourceFault j chunk) k old new h = in_pass (rebuild.SourceFault j chunk) k old new h
-not_rebuilt (rebuild.LogFull j) k old new h = when_filled k old new _ (λ copied orphans mid why. same mid new why.unchanged) h.1
+not_rebuilt (rebuild.LogFull j) k old new h =
+    left_after k old new _ (λ copied stopped e. when_ready k old stopped _ (λ m none ready why. lacks_room j k m none copied ready stopped why) e) h
 
 -- ---- the command that rebuilds a member
 rebuilt_readied : (k : ℕ) (told : Rebuilt) (old new : MirrorView) → RebuildsReadied k told old new → AsMany old new

@@ -27,24 +27,18 @@ not_rebuilt rebuild.Dirty k old new p h is = unchanged old new p h.unchanged is
 not_rebuilt (rebuild.InFlight number) k old new p h is = unchanged old new p h.unchanged is
 not_rebuilt rebuild.EventsFull k old new p h is = unchanged old new p h.unchanged is
 not_rebuilt (rebuild.MetadataFault j) k old new p h is =
-    ⊎_elim (λ e. absurd (none_pending old.array p e.may.idle is)) (λ e. absurd (none_pending old.array p e.may.idle is)) h
+    ⊎_elim (λ e. absurd (none_pending old.array p e.may.idle is))
+    (λ rest. ⊎_elim (λ e. absurd (none_pending old.array p e.may.idle is)) (λ l. absurd (none_pending old.array p l.why.1.begins.may.idle is)) rest)
+    h
 not_rebuilt rebuild.TargetFault k old new p h is =
-    ⊎_elim (λ f. absurd (none_pending old.array p f.may.idle is))
-    (λ rest.
-    ⊎_elim (λ f. absurd (none_pending old.array p f.may.idle is))
-    (λ later.
-    ⊎_elim (λ e. absurd (none_pending old.array p e.begins.may.idle is)) (λ e. absurd (none_pending old.array p e.fills.begins.may.idle is)) later)
-    rest)
+    ⊎_elim (λ e. absurd (none_pending old.array p e.may.idle is))
+    (λ rest. ⊎_elim (λ e. absurd (none_pending old.array p e.may.idle is)) (λ e. absurd (none_pending old.array p e.begins.may.idle is)) rest)
     h
 not_rebuilt rebuild.NoMemory k old new p h is =
-    ⊎_elim (λ n. absurd (none_pending old.array p n.may.idle is))
-    (λ rest.
-    ⊎_elim (λ e. absurd (none_pending old.array p e.begins.may.idle is)) (λ e. absurd (none_pending old.array p e.fills.begins.may.idle is)) rest)
-    h
-not_rebuilt (rebuild.SourceFault j chunk) k old new p h is = absurd (none_pending old.array p h.begins.may.idle is)
-not_rebuilt (rebuild.LogFull j) k old new p h is = absurd (none_pending old.array p h.1.fills.begins.may.idle is)
+    ⊎_elim (λ e. absurd (none_pending old.array p e.may.idle is)) (λ l. absurd (none_pending old.array p l.why.begins.may.idle is)) h
+not_rebuilt (rebuild.LogFull j) k old new p h is = absurd (none_pending old.array p h.why.begins.may.idle is)
 
 pub rebuilt_or_not : (k : ℕ) (old new : MirrorView) (result : Result Rebuilt RebuildFault) → MatchResult result (λ told. Rebuilds k told old new) (RefusesRebuild k old new)
     → (p : PendingView) → KeepsPending old new p
-rebuilt_or_not k old new (Ok told) h p is = absurd (none_pending old.array p h.by.fills.begins.may.idle is)
+rebuilt_or_not k old new (Ok told) h p is = absurd (none_pending old.array p h.begins.may.idle is)
 rebuilt_or_not k old new (Err fault) h p is = not_rebuilt fault k old new p h is

@@ -67,8 +67,8 @@ fn rebuild_and_stop<D: Device + Drop + Send, W: Watch + Sync, T: Threads + Wait 
     Ok(rebuilt)
 }
 
-/// Rebuilds member k. `watch` is told how many chunks it lacks, where there is memory to say so, and of each
-/// read.
+/// Rebuilds member k. `watch` is told how many chunks it lacks and which is the first, where there is memory to
+/// say so, and of each read.
 pub(crate) fn rebuild_watched<D: Device + Drop + Send, W: Watch + Sync, T: Threads + Wait + Sync>(
     rt: &T,
     alloc: Global,
@@ -83,7 +83,7 @@ pub(crate) fn rebuild_watched<D: Device + Drop + Send, W: Watch + Sync, T: Threa
     ensures pending { (p : PendingView) → IsPending mirror.old.array p → IsPending mirror.new.array p }
 {
     if let Ok(missing) = mirror.missing(alloc, k) {
-        watch.begins(missing.count());
+        watch.begins(missing.count(), missing.next_marked(0));
     }
     rebuild(rt, alloc, mirror, k, watch)
 }

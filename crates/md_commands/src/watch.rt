@@ -4,9 +4,9 @@ use md_copy::Gate;
 /// Is told of a rebuild, or of a check, so that its progress can be shown: what it has to do, and as a gate of
 /// each read.
 pub trait Watch: Gate {
-    /// The member that is rebuilt lacks so many chunks. Not each of them need be read: some may be on no other
-    /// member.
-    fn begins(&self, chunks: u32);
+    /// The member that is rebuilt lacks so many chunks, of which this is the first. Not each of them need be
+    /// read: some may be on no other member. One that can't be read on a member may be read again from another.
+    fn begins(&self, chunks: u32, first: Option<u32>);
 
     /// The members in sync that are compared have so many sectors of the array in all. Not each of them need be
     /// read: some may be listed as bad, and a single member is not read.

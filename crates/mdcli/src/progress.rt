@@ -66,6 +66,11 @@ impl<'a> Progress<'a> {
         self.draw_if_due();
     }
 
+    /// Counts a read that failed.
+    pub fn add_failed_read(&self) {
+        self.copying.count_failed();
+    }
+
     /// Counts bytes that were written.
     pub fn add_written(&self, bytes: usize) {
         self.written.fetch_add(bytes as u64, Ordering::SeqCst);
@@ -172,12 +177,12 @@ impl<'a> Gate for Progress<'a> {
 }
 
 impl<'a> Watch for Progress<'a> {
-    fn begins(&self, chunks: u32) {
+    fn begins(&self, chunks: u32, first: Option<u32>) {
         let Some(now) = self.milliseconds() else {
             return;
         };
         let read = self.read.load(Ordering::SeqCst);
-        self.copying.begin(chunks, now, read);
+        self.copying.begin(chunks, first.unwrap_or(0), now, read);
     }
 
     fn begins_check(&self, sectors: u64) {

@@ -69,7 +69,11 @@ impl<'a> SharedRead for WatchedFile<'a> {
         if device.sectors() != self.sectors {
             return Err(ReadFault);
         }
-        read_pieces(device, sector, buf, self.progress)
+        let outcome = read_pieces(device, sector, buf, self.progress);
+        if outcome.is_err() {
+            self.progress.add_failed_read();
+        }
+        outcome
     }
 }
 

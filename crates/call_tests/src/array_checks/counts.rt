@@ -51,7 +51,7 @@ fn three_members(rt: HostRuntime) -> Result<(), Fail> {
 #[test]
 fn one_member(rt: HostRuntime) -> Result<(), Fail> {
     let alone = Member {
-        bad: Some(0),
+        bad: (0, 1),
         ..sound(0)
     };
     counts(&rt, rt.alloc(), &[alone], [0; 4])

@@ -36,7 +36,7 @@ fn chunks_are_read_once(rt: HostRuntime) -> Result<(), Fail> {
 fn listed_sectors(rt: HostRuntime) -> Result<(), Fail> {
     let other = Member {
         listed: (13, 1),
-        bad: Some(13),
+        bad: (13, 1),
         ..changed(1, [13, 13])
     };
     answers(&rt, rt.alloc(), &[sound(0), other], Ok(0))
@@ -46,7 +46,7 @@ fn listed_sectors(rt: HostRuntime) -> Result<(), Fail> {
 #[test]
 fn read_that_fails(rt: HostRuntime) -> Result<(), Fail> {
     let other = Member {
-        bad: Some(8),
+        bad: (8, 1),
         ..sound(1)
     };
     let fault = Err(CheckFault::ReadFault(1, 1));

@@ -22,7 +22,7 @@ fn short(number: u32, data: [u8; SECTORS]) -> Member {
 const TOLD: Told = Told {
     passes: 1,
     plans: 1,
-    rounds: 2,
+    rounds: (2, 2),
     slots: 3,
     orphans: (0, None),
 };

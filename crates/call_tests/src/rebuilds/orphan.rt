@@ -38,7 +38,7 @@ pub(crate) fn spare() -> Member {
 const TOLD: Told = Told {
     passes: 1,
     plans: 1,
-    rounds: 7,
+    rounds: (7, 7),
     slots: 7,
     orphans: (1, Some(3)),
 };

@@ -18,7 +18,7 @@ const SECTOR: [u8; 512] = [0x5a; 512];
 const NOTHING: Told = Told {
     passes: 1,
     plans: 1,
-    rounds: 0,
+    rounds: (0, 0),
     slots: 0,
     orphans: (0, None),
 };
@@ -85,7 +85,7 @@ fn expect_one_copied<R: Abort + Threads + Wait + Sync>(
     expect_taken_back(rt, alloc, run, true, (1, Some(1)))?;
     same(rt, "the events", run.events(), 13);
     let wanted = Told {
-        rounds: 1,
+        rounds: (1, 1),
         slots: 1,
         ..NOTHING
     };
