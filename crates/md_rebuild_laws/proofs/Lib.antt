@@ -9,3 +9,4 @@ pub mod EnrolledRun
 pub mod SpoiledRebuilds
 pub mod RebuildRun
 pub mod HeldBefore
+pub mod RefusedRebuilds

@@ -57,7 +57,7 @@ unfinished target t left s = record {
 }
 
 -- so is one after other events
-later_anyhow : (target : ℕ) (t : Moment) {mid : MirrorView} (c : Comes (Before target) t mid) (left : List Disk) → IsStopUnfinished target (end c) left → IsStopUnfinished target t left
+pub later_anyhow : (target : ℕ) (t : Moment) {mid : MirrorView} (c : Comes (Before target) t mid) (left : List Disk) → IsStopUnfinished target (end c) left → IsStopUnfinished target t left
 later_anyhow target t {mid} c left s = record {
   after = record {
     events = c.events ++ s.after.events;
