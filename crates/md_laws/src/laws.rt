@@ -152,7 +152,7 @@ pub fn leaving_members()
 /// it was left, and that the first opening is told of the members that it finds recovering. A later one is told of further devices alone, if
 /// each of those that were left says no more than the mirror kept of it (`SaysNoMore`). So each does right after an opening that took no
 /// offset as 0. Until the next one its offset stays such, unless it is spoiled; so where its list in memory is empty it says no more at any
-/// stop. Of a longer list that is asked, as a log that failed may be any; a record keeps it so.
+/// stop. Of a longer list that is asked, as a log that failed may be any; a record and a checkpoint keep it so.
 pub fn recovering_members()
     ensures kept { KeepsRecovering }
     ensures as_opened { SaysNoMoreWhenOpened }
