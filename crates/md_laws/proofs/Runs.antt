@@ -10,7 +10,7 @@ pub mod MirrorContents
 pub mod Joined
 -- A member that failed differs from the content only in marked chunks.
 pub mod LeftBehind
--- A record of a member whose log is read stores what is kept of it, and leaves the log.
+-- A record or a checkpoint of a member whose log is read stores what is kept of it, and leaves the log.
 pub mod LogRecorded
 -- A life of a mirror is one of the model, so that what always holds of the model holds of the mirror.
 pub mod MirrorLives

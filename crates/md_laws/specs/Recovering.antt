@@ -1,6 +1,7 @@
 -- What the recovering members of a mirror hold of the array's content, over its life: by this a member that was taken back, or a rebuild that
 -- was interrupted, is rebuilt in the chunks that it lacks alone.
 use Rattle.std.specs.Prelude.{◌≡◌, ◌⊎◌, ℕ, ◌≤◌, true, false, List, [], ◌∷◌, Option, slice_get, Some}
+use Rattle.md_bitmap.specs.Marks.{Bitmap}
 use Rattle.md_members.specs.Members.{reads_log}
 use Rattle.md_model.specs.Behind.{IsBehind}
 use Rattle.md_model.specs.Content.{Content, Becomes, BecomesAtOpening, Holds}
@@ -11,7 +12,10 @@ use Rattle.md_model.specs.Sectors.{Geometry}
 use Rattle.md_model.specs.Recovering.{IsAsPrepared, IsAsStored, JoinsBehind, RecoveringHolds, recovered}
 use Rattle.md_model.specs.States.{is_recovering}
 use Rattle.md_model.specs.Worlds.{Request, World}
+use Rattle.md_kept_members.specs.View.{MemberView}
+use Rattle.md_state.specs.Members.{IsMember}
 use Rattle.md_state.specs.View.{Disk, MirrorView, geometry_of}
+use Rattle.md_array.specs.Checkpoints.{Checkpoints}
 use Rattle.md_array.specs.Consistency.{IsConsistent}
 use Rattle.md_array.specs.Recording.{Records}
 use Rattle.md_array.specs.Worlds.{AreHonest, none_in_flight, stored_on, world_of}
@@ -62,11 +66,12 @@ SaysNoMoreWithoutList =
     → (es : List Event) (t : Moment) → MirrorRun (opened_as m) es t → (left : List Disk) → IsLeft t left
     → (k : ℕ) → t.spoiled k ≡ false → ((s : ℕ) → (world_of t.mirror t.requests).bad k s ≡ false) → SaysNoMore t left k
 
--- Of a longer list no event tells it: that of a record lets the log of a member that is not in sync be any. The call does. Where the
--- superblock that is kept says that the log is read, a record leaves the device so that it says no more, if it was so before.
+-- Of a longer list no event tells it: that of a record, or of a checkpoint, lets the log of a member that is not in sync be any. The calls
+-- do. Where the superblock that is kept says that the log is read, they leave the device so that it says no more, if it was so before.
 abbrev pub SaysNoMoreWhenRecorded : Type 0
 SaysNoMoreWhenRecorded =
-    (k : ℕ) (old new : MirrorView) → IsConsistent old → AreHonest old.disks → (r : Records k old new) → reads_log r.member.superblock ≡ true
+    (k : ℕ) (m : MemberView) (old new : MirrorView) → IsConsistent old → AreHonest old.disks → IsMember old.array k m → reads_log m.superblock ≡ true
+    → Records k old new ⊎ ((copied : Bitmap) × Checkpoints k copied old new)
     → (requests : ℕ → Option Request) → IsAsStored (world_of old requests) k ((world_of old requests).stored k)
     → IsAsStored (world_of new requests) k ((world_of new requests).stored k)
 

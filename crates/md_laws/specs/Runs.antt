@@ -3,7 +3,7 @@
 use Rattle.std.specs.Prelude.{◌≡◌, ℕ, Bool, false, not, List, [], ◌∷◌, Option}
 use Rattle.md_model.specs.Devices.{Covered}
 use Rattle.md_model.specs.Worlds.{Request, IsInSync}
-use Rattle.md_model.specs.Content.{Content, Becomes, Holds}
+use Rattle.md_model.specs.Content.{Content, Becomes, Holds, Tells}
 use Rattle.md_model.specs.Events.{Event}
 use Rattle.md_model.specs.Runs.{History, away_after, failed_after, spoiled_after, tried_after}
 use Rattle.md_state.specs.Rising.{has_number}
@@ -63,6 +63,14 @@ MirrorRunWith t a [] last b = HasRested t last × (b ≡ a)
 MirrorRunWith t a (e ∷ es) last b =
     (m : MirrorView) × (requests : ℕ → Option Request) × (c : Content) × RestsThenDoes t.mirror t.requests e m requests
     × Becomes (geometry_of t.mirror.array) e (world_of t.mirror t.requests) a c × MirrorRunWith (then_as t e m requests) c es last b
+
+-- At each enrolment of a run it is told of the content, whatever that has become by then, that the new member holds it in the chunks that it
+-- did not lack.
+abbrev pub MirrorRunTellsEnrolments : (t : Moment) (a : Content) (es : List Event) (last : Moment) → MirrorRun t es last → Type 0
+MirrorRunTellsEnrolments t a [] last run = Unit {0}
+MirrorRunTellsEnrolments t a (e ∷ es) last run =
+    Tells (geometry_of t.mirror.array) e (world_of t.mirror t.requests) a
+    × ((b : Content) → Becomes (geometry_of t.mirror.array) e (world_of t.mirror t.requests) a b → MirrorRunTellsEnrolments (then_as t e run.0 run.1) b es last run.3)
 
 -- Devices that do what they answer were opened as this mirror, and their stored marks covered what the members in sync differ in.
 pub record IsStart (before : List Disk) (m : MirrorView) : Type 0 where

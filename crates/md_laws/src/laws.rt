@@ -15,7 +15,7 @@ ghost use Rattle.md_array.specs.ReadAsKept.{AreReadAsKept};
 ghost use Rattle.md_array.specs.Worlds.{AreHonest, none_in_flight, super_of, world_of, world_on};
 ghost use Rattle.md_laws.specs.Fresh.{StartsFresh, StaysFresh};
 ghost use Rattle.md_laws.specs.LeftBehind.{FailedJoins, LiesBehind, LogLiesBehind, MissingJoins, MissingLiesBehind};
-ghost use Rattle.md_laws.specs.Lives.{AtEachMoment, FindsAll, FindsInSync, FindsOut, FitsWhenThere, IsReadAsKeptInLives, KeepsContent, KeepsGeometry, StaysAsLeft};
+ghost use Rattle.md_laws.specs.Lives.{AtEachMoment, ContentGoesAlongTold, FindsAll, FindsInSync, FindsOut, FitsWhenThere, IsReadAsKeptInLives, KeepsContent, KeepsGeometry, StaysAsLeft};
 ghost use Rattle.md_laws.specs.Recovering.{ContentGoesAlong, KeepsRecovering, OffsetsAreKept, SaysNoMoreWhenOpened, SaysNoMoreWhenRecorded, SaysNoMoreWithoutList};
 ghost use Rattle.md_laws.specs.Returning.{StartsAgain};
 ghost use Rattle.md_laws.specs.Runs.{HasContent};
@@ -104,8 +104,10 @@ pub fn every_run()
     // life, and they hold what it becomes. Only the end of a request changes it, and a resync or an opening in
     // chunks that each of them has marked. It is asked to be held by members that recover too, where they lack nothing: at the first
     // opening, and of devices that come in later as `recovering_members` asks it. At enrolments nothing is asked.
+    // Or nothing is asked of members that recover, and at each enrolment that the new member holds it in chunks that it did not lack.
     ensures has_content { HasContent }
     ensures content_along { ContentGoesAlong }
+    ensures content_told { ContentGoesAlongTold }
     ensures keeps_content { KeepsContent }
 
     // An opening would read of the devices what the mirror keeps of them; chunks and roles are those of the
@@ -152,7 +154,7 @@ pub fn leaving_members()
 /// it was left, and that the first opening is told of the members that it finds recovering. A later one is told of further devices alone, if
 /// each of those that were left says no more than the mirror kept of it (`SaysNoMore`). So each does right after an opening that took no
 /// offset as 0. Until the next one its offset stays such, unless it is spoiled; so where its list in memory is empty it says no more at any
-/// stop. Of a longer list that is asked, as a log that failed may be any; a record keeps it so.
+/// stop. Of a longer list that is asked, as a log that failed may be any; a record and a checkpoint keep it so.
 pub fn recovering_members()
     ensures kept { KeepsRecovering }
     ensures as_opened { SaysNoMoreWhenOpened }

@@ -1,17 +1,18 @@
--- The members in sync of a mirror hold the content along each run of it.
+-- The content that the members in sync of a mirror hold goes along each run of it.
 use Rattle.std.proofs.Common.{◌≡◌, List, [], ◌∷◌, refl, sym, ◌∙◌, subst}
 use Rattle.md_model.specs.Sectors.{Geometry}
 use Rattle.md_model.specs.Devices.{Super}
 use Rattle.md_model.specs.Events.{Event, Step}
 use Rattle.md_model.specs.Runs as runs
 use Rattle.md_model.specs.Worlds.{World}
-use Rattle.md_model.specs.Content.{Content, Becomes, Holds}
+use Rattle.md_model.specs.Content.{Content, Becomes, Holds, Tells}
+use Rattle.md_model.proofs.Content.ContentAlong.{after_event}
 use Rattle.md_model.proofs.Content.ContentLives.{IsHeld, held_opened}
 use Rattle.md_model.proofs.Content.Contents.{holds_step}
 use Rattle.md_model.proofs.Steps.Keeps.{kept_step}
 use Rattle.md_state.specs.View.{MirrorView, geometry_of}
 use Rattle.md_array.specs.Worlds.{none_in_flight, super_of, world_of}
-use Rattle.md_laws.specs.Runs.{MirrorRun, MirrorRunWith, Moment, history_of, opened_as, then_as}
+use Rattle.md_laws.specs.Runs.{MirrorRun, MirrorRunTellsEnrolments, MirrorRunWith, Moment, history_of, opened_as, then_as}
 use Rattle.md_laws.proofs.Runs.Rests.{history_rests, rests_does}
 
 module _ (m : MirrorView) (start : runs.IsStart (geometry_of m.array) (super_of m.array.shared) (world_of m none_in_flight)) where
@@ -23,6 +24,27 @@ module _ (m : MirrorView) (start : runs.IsStart (geometry_of m.array) (super_of 
 
   abbrev first : World
   first = world_of m none_in_flight
+
+  along : (es : List Event) (t : Moment) (a : Content) (last : Moment) → geometry_of t.mirror.array ≡ g → IsHeld g opened (history_of t) a
+      → (r : MirrorRun t es last) → MirrorRunTellsEnrolments t a es last r → (b : Content) × MirrorRunWith t a es last b × IsHeld g opened (history_of last) b
+  along [] t a last same held r told = (a, (r, refl), subst (λ h. IsHeld g opened h a) (sym (history_rests t last r)) held)
+  along (e ∷ es) t a last same held r told =
+      let h = history_of t in
+      let w = world_of r.0 r.1 in
+      let leads = rests_does t.mirror r.0 t.requests r.1 e r.2 in
+      let s = subst (λ x. Step x h.now e w) same leads.step in
+      let c = after_event g start.small opened h e w a held (subst (λ x. Tells x e h.now a) same told.0) s.1 in
+      let next = then_as t e r.0 r.1 in
+      let becomes = subst (λ x. Becomes x e h.now a c.0) (sym same) c.1 in
+      let more = along es next c.0 last (leads.geometry ∙ same)
+      (record { kept = kept_step g start.small opened h e w held.kept s; holds = holds_step g a c.0 h.now e w held.kept.tracked held.holds s c.1 })
+      r.3 (told.1 c.0 becomes) in
+      (more.0, (r.0, r.1, c.0, r.2, becomes, more.1), more.2)
+
+  -- from the opening on
+  pub content_along : (es : List Event) (a : Content) (last : Moment) → Holds g a first → (r : MirrorRun (opened_as m) es last)
+      → MirrorRunTellsEnrolments (opened_as m) a es last r → (b : Content) × MirrorRunWith (opened_as m) a es last b × IsHeld g opened (history_of last) b
+  content_along es a last holds r told = along es (opened_as m) a last refl (held_opened g opened first a start holds) r told
 
   pub held : (es : List Event) (t : Moment) (a : Content) (last : Moment) (b : Content) → geometry_of t.mirror.array ≡ g → IsHeld g opened (history_of t) a
       → MirrorRunWith t a es last b → IsHeld g opened (history_of last) b

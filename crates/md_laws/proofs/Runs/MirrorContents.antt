@@ -2,7 +2,7 @@
 use Rattle.std.proofs.Common.{◌≡◌, List, [], ◌∷◌, sym, ap, ◌∙◌, subst}
 use Rattle.md_model.specs.Sectors.{Geometry}
 use Rattle.md_model.specs.Devices.{Super}
-use Rattle.md_model.specs.Content.{Content, Holds}
+use Rattle.md_model.specs.Content.{Content, BecomesAtOpening, Holds}
 use Rattle.md_model.specs.Events.{Event}
 use Rattle.md_model.specs.Lives.{Reopens}
 use Rattle.md_model.specs.Openings.{IsWithinLimits}
@@ -11,9 +11,10 @@ use Rattle.md_model.specs.Worlds.{World}
 use Rattle.md_model.proofs.Content.ContentLives.{IsHeld}
 use Rattle.md_model.proofs.Lives.Lives.{start_again}
 use Rattle.md_model.proofs.Steps.Keeps.{IsKept}
+use Rattle.md_model.proofs.Content.Picked.{has_content_again}
 use Rattle.md_state.specs.View.{Disk, MirrorView, geometry_of}
 use Rattle.md_array.specs.Worlds.{none_in_flight, super_of, world_of}
-use Rattle.md_laws.specs.Lives.{IsReopened, KeepsContent, MirrorLifeWith}
+use Rattle.md_laws.specs.Lives.{ContentGoesAlongTold, IsReopened, KeepsContent, MirrorLife, MirrorLifeTellsEnrolments, MirrorLifeWith}
 use Rattle.md_laws.specs.Runs.{HasContent, IsStart, MirrorRun, Moment, history_of, opened_as}
 use Rattle.md_laws.proofs.Runs.MirrorLives.{left, reopens_there}
 use Rattle.md_laws.proofs.Runs.Moments.{IsSoundAt, geometry_kept, run_keeps, sound_when_opened}
@@ -76,7 +77,26 @@ module _ (m : MirrorView) (begins : Begins m) (es : List Event) (t : Moment) (r 
     at_m = sound_when_opened again.before next again.devices.honest again.opens;
   }
 
+  content_again : (b : Content) × BecomesAtOpening (geometry_of next.array) w a b
+  content_again =
+      let b = has_content_again g opened (history_of stop) held_then.kept a first w of_model start_of_model held_then.holds.unmarked in
+      (b.0, subst (λ x. BecomesAtOpening x w a b.0) (sym same) b.1)
+
 -- ---- lives
+life_along : (m : MirrorView) (a : Content) → Begins m → Holds (geometry_of m.array) a (world_of m none_in_flight)
+    → (es : List Event) (rest : List (List Event)) (final : MirrorView) (last : Moment) (life : MirrorLife m es rest final last)
+    → MirrorLifeTellsEnrolments m a es rest final last life → (b : Content) × MirrorLifeWith m a es rest final last b
+life_along m a begins holds es [] final last life told =
+    let x = run.content_along m begins.start es a last holds life.1 told in
+    (x.0, (life.0, x.1))
+life_along m a begins holds es (more ∷ rest) final last life told =
+    let t = life.0 in
+    let next = life.1 in
+    let x = run.content_along m begins.start es a t holds life.2 told.0 in
+    let d = content_again m begins es t life.2 next life.3 x.0 x.2 in
+    let y = life_along next d.0 (begins_again m begins es t life.2 next life.3 x.0 x.2) d.1.holds more rest final last life.4 (told.1 x.0 d.0 x.1 d.1) in
+    (y.0, (t, next, x.0, d.0, x.1, life.3, d.1, y.1))
+
 life_held : (m : MirrorView) (a : Content) → Begins m → Holds (geometry_of m.array) a (world_of m none_in_flight)
     → (es : List Event) (rest : List (List Event)) (final : MirrorView) (last : Moment) (b : Content) → MirrorLifeWith m a es rest final last b
     → Holds (geometry_of m.array) b (world_of last.mirror last.requests)
@@ -91,6 +111,9 @@ life_held m a begins holds es (more ∷ rest) final last b life =
 
 pub content_at_first : HasContent
 content_at_first = mirror_runs.content_at_first
+
+pub content_told : ContentGoesAlongTold
+content_told before m a start holds = life_along m a (begins_first before m start) holds
 
 pub content_kept : KeepsContent
 content_kept before m a start holds = life_held m a (begins_first before m start) holds

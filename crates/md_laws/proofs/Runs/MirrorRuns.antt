@@ -13,7 +13,6 @@ use Rattle.md_state.specs.View.{Disk, MirrorView, geometry_of}
 use Rattle.md_array.specs.Worlds.{none_in_flight, super_of, world_of}
 use Rattle.md_array.proofs.General.Resting.{world_rests}
 use Rattle.md_laws.specs.Runs.{HasRested, IsStart, MirrorRun, Moment, history_of, then_as}
-use Rattle.md_array.proofs.General.Resting.{world_rests}
 use Rattle.md_array.proofs.Worlds.InSync.{in_sync_is}
 use Rattle.md_laws.proofs.Runs.Rests.{history_rests, rests_does, rests_then}
 use Rattle.md_laws.proofs.Openings.Opened as opening

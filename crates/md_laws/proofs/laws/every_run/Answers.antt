@@ -17,6 +17,7 @@ returns c = record {
   stays_out = lives.life_stays_out;
   has_content = contents.content_at_first;
   content_along = content_along;
+  content_told = contents.content_told;
   keeps_content = contents.content_kept;
   read_as_kept = read_as_kept;
   keeps_geometry = lives.keeps_geometry;
