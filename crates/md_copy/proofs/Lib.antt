@@ -16,6 +16,7 @@ pub mod HeldRecorded
 pub mod LeftOver
 pub mod LeftRecorded
 pub mod LentBack
+pub mod ListingEnds
 pub mod ListingKeeps
 pub mod Lists
 pub mod ListsStored

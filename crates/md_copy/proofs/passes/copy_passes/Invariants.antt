@@ -1,0 +1,8 @@
+use Rattle.md_kept_members.specs.View.{MemberView}
+use Rattle.md_state.specs.Members.{IsMember}
+use Rattle.md_copy.proofs.PassesGo.{GoesSoFar}
+use Rattle.md_copy.proofs.passes.copy_passes.Given as goal
+
+abbrev pub invariant-loop-pass : goal.invariant-loop-pass
+invariant-loop-pass g l =
+    (m : MemberView) → IsMember l.fn.mirror.array l.target m → GoesSoFar l.target m l.fn.copied l.fn.mirror l.mirror l.copied l.rows l.plans.items l._pass
