@@ -71,7 +71,7 @@ module _ (target : ℕ) (told : Rebuilt) (old new : MirrorView) (h : Rebuilds ta
   so : HoldsSoFar target v h.none (missing_chunks v.array m)
   so = begins_holding target m h.none v (ready_of target old v h.none h.begins) h.begins.there h.begins.is_none.chunks h.begins.is_none.bits
 
-  last : (y : MirrorView) × IsLast r.by.enrolled y new
+  abbrev last : (y : MirrorView) × IsLast r.by.enrolled y new
   last = last_of r.by.enrolled new r.by.settles
 
   pub rebuilt : IsRebuilt target r.copied r.orphans old last.0
