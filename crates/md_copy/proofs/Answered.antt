@@ -1,5 +1,5 @@
 -- What a rebuild answers, by the step that ends it.
-use Rattle.std.proofs.Common.{◌≡◌, ◌∙◌, ℕ, List, length, refl, sym, ap, subst, inl, inr}
+use Rattle.std.proofs.Common.{◌∙◌, ℕ, List, length, refl, sym, ap, subst, inl, inr}
 use Rattle.std.proofs.lemmas.List.{length-map}
 use Rattle.md_bitmap.specs.Marks.{Bitmap}
 use Rattle.md_kept_members.specs.View.{MemberView}
@@ -58,7 +58,7 @@ refused_set target v m at may = inl (record { member = m; at = at; may = may; wh
 -- ---- while passes are made
 module _ (target : ℕ) (m : MemberView) (none : Bitmap) (ready : MirrorView) where
   -- the set after the last pass is some set
-  pub with_set : (Why : Bitmap → List ℕ → Bitmap → MirrorView → Type 0) (after : Bitmap) → EndsBetween target m none ready (λ left copied now. Why after left copied now)
+  abbrev pub with_set : (Why : Bitmap → List ℕ → Bitmap → MirrorView → Type 0) (after : Bitmap) → EndsBetween target m none ready (λ left copied now. Why after left copied now)
       → EndsBetween target m none ready (λ left copied now. (b : Bitmap) × Why b left copied now)
   with_set Why after e = record { passes = e.passes; left = e.left; copied = e.copied; now = e.now; passed = e.passed; why = (after, e.why) }
 

@@ -48,6 +48,7 @@ pub mod SetsMade
 pub mod SourcesChosen
 pub mod StartedAs
 pub mod StartsReadied
+pub mod StoppedWithin
 pub mod StoredFirst
 pub mod StoringKeeps
 pub mod TargetStates

@@ -1,7 +1,7 @@
 -- What a rebuild that is refused leaves as it was.
 use Rattle.std.proofs.Common.{◌≡◌, ◌≢◌, ◌∙◌, ◌⊎◌, ℕ, ◌+◌, ◌<◌, ◌≤◌, true, false, None, List, [], ◌∷◌, ◌++◌, append-nil, length, count_by, slice_get, Some, refl, sym, ap, subst, arith, inl, inr}
 use Rattle.std.proofs.lemmas.Bool.{both_ways, cases_eq}
-use Rattle.std.proofs.lemmas.Option.{same_Some, slice_get_within}
+use Rattle.std.proofs.lemmas.Option.{same_Some}
 use Rattle.md_assembly.specs.States.{is_recovering}
 use Rattle.md_bitmap.specs.Marks.{Bitmap}
 use Rattle.md_cert.specs.declared.slots.Slot.{Slot}
@@ -20,7 +20,7 @@ use Rattle.md_copy.specs.declared.fault.RebuildFault.TheVariants.{Halted, NotSpa
 use Rattle.md_copy.specs.Filling.{IsFilling}
 use Rattle.md_copy.specs.Listing.{ListsAll, NotesLists, StopsAtList}
 use Rattle.md_copy.specs.Passing.{AreListedPasses, CopiesAll, EndsBetween, FailsListing, ListsPass, RecordsPass}
-use Rattle.md_copy.specs.Rebuilding.{Begins, LacksMemory, LacksRoom, LosesSource, LosesTarget, RefusesAtOnce, RefusesRebuild, StopsReadied}
+use Rattle.md_copy.specs.Rebuilding.{Begins, LacksMemory, LacksRoom, LosesSource, LosesTarget, RefusesAtOnce, RefusesRebuild}
 use Rattle.md_copy.specs.Rebuilt.{HasEnded, failed_of}
 use Rattle.md_copy.specs.Sources.{missing_chunks}
 use Rattle.md_copy.proofs.HeldRecorded.{out_of_sync}
@@ -268,28 +268,6 @@ module _ (target : ℕ) (old ready : MirrorView) (none : Bitmap) (b : Begins tar
       (let f = e.why in
       ended_left none f.filled new (ends_filled _ e f.pass f.makes.is f.makes.member f.makes.at f.filled f.makes.copies.filling f.makes.sound) (rest_unrecordable target f.after f.filled new f.makes.sound f.fails))
   ended_target new (inr (inr e)) = ended_left none e.filled new (ends_copied e.passes e.copied e.filled e.fills.copies) (rest_unenrolled target e.kept e.orphans e.filled new e.why)
-
-  -- the target is a member still
-  within_now : (v w : MirrorView) → EndsAt target old v → KeepsRest target v w → target < length w.array.members
-  within_now v w z rest = (let m = z.pre.then target b.member b.at in let n = rest.then target m.0 m.1 in slice_get_within w.array.members target n.0 n.1)
-
-  within_lost : (new : MirrorView) → LosesTarget target b.now none ready new → target < length new.array.members
-  within_lost new (inl e) = (let f = e.why.1 in within_now new new (ends_filled _ e f.pass f.is f.member f.at new f.breaks.filling f.sound) (rest_none target new))
-  within_lost new (inr (inl e)) =
-      (let f = e.why in
-      within_now f.filled new (ends_filled _ e f.pass f.makes.is f.makes.member f.makes.at f.filled f.makes.copies.filling f.makes.sound) (rest_unrecordable target f.after f.filled new f.makes.sound f.fails))
-  within_lost new (inr (inr e)) = within_now e.filled new (ends_copied e.passes e.copied e.filled e.fills.copies) (rest_unenrolled target e.kept e.orphans e.filled new e.why)
-
-  pub stopped_within : (after : Bitmap) (stopped : MirrorView) (fault : RebuildFault) → StopsReadied target b.now none after ready stopped fault → target < length stopped.array.members
-  stopped_within after stopped NoMemory h = within_now stopped stopped (lacks_memory after stopped h) (rest_none target stopped)
-  stopped_within after stopped (LogFull k) h = within_now stopped stopped (lacks_room k after stopped h) (rest_none target stopped)
-  stopped_within after stopped (MetadataFault k) h = (let s = ended_source k stopped h in within_now s.0 stopped s.1 s.2)
-  stopped_within after stopped TargetFault h = within_lost stopped h
-  stopped_within after stopped Halted h = absurd h
-  stopped_within after stopped NotSpare h = absurd h
-  stopped_within after stopped Dirty h = absurd h
-  stopped_within after stopped (InFlight n) h = absurd h
-  stopped_within after stopped EventsFull h = absurd h
 
 -- ---- all of it
 module _ (target : ℕ) where
