@@ -28,9 +28,9 @@ use std::thread::Threads;
 /// Copies to the target, a spare or recovering, each chunk that it lacks and another member can give, in the
 /// fewest rounds. Chunks that could not be read are listed as bad on the member that was to give them, and another
 /// pass takes them from the others. Then the target is in sync, and lists the chunks that nobody could give. A
-/// spare is admitted first, so that it is recovering from then on, whatever comes of the rebuild; and how far it
-/// came is recorded after each pass, and where it ends for want of memory, of room in a log, or of a member that
-/// was to be written.
+/// spare is admitted first, so that it is recovering from then on, whatever comes of the rebuild. How far it came
+/// is recorded after each pass, and before the fault is answered where passes end without memory, without room in
+/// a log, or as a list can't be stored on a member.
 pub fn rebuild<D: Device + Drop + Send, G: Gate + Sync, R: Threads + Wait + Sync>(
     rt: &R,
     alloc: Global,
