@@ -13,6 +13,8 @@ mod checks;
 #[cfg(test)]
 mod collector_reports;
 #[cfg(test)]
+mod damaged;
+#[cfg(test)]
 mod image_files;
 #[cfg(test)]
 mod new_members;

@@ -1,0 +1,89 @@
+// Changes of the example member, and the answers that they have.
+use crate::checks::same_at;
+use crate::damaged::fields::{
+    BITMAP_EVENTS, BITMAP_OFFSET, DATA_OFFSET, DATA_SIZE, EVENTS, FEATURES, Field, LOG_OFFSET,
+    LOG_SHIFT, LOG_SIZE,
+};
+use crate::damaged::image::{answer, roomy};
+use md_badblocks::LogFault;
+use md_members::MemberFault;
+use std::alloc::Global;
+use std::process::Abort;
+use std::test::Fail;
+
+// Offsets of one sector and of eight sectors before the superblock.
+const ONE_BEFORE: u64 = 0xffff_ffff;
+
+const EIGHT_BEFORE: u64 = 0xffff_fff8;
+
+struct Row {
+    change: &'static [(Field, u64)],
+    wanted: Result<bool, MemberFault>,
+}
+
+const REGION: Result<bool, MemberFault> = Err(MemberFault::Region);
+
+const ROWS: [Row; 11] = [
+    Row {
+        change: &[(DATA_SIZE, u64::MAX)],
+        wanted: REGION,
+    },
+    Row {
+        change: &[(DATA_OFFSET, u64::MAX)],
+        wanted: REGION,
+    },
+    Row {
+        change: &[(BITMAP_OFFSET, 0)],
+        wanted: REGION,
+    },
+    Row {
+        change: &[(BITMAP_OFFSET, 1 << 31)],
+        wanted: REGION,
+    },
+    Row {
+        change: &[(LOG_OFFSET, ONE_BEFORE), (LOG_SIZE, 8)],
+        wanted: REGION,
+    },
+    Row {
+        change: &[(LOG_OFFSET, EIGHT_BEFORE), (LOG_SIZE, 1)],
+        wanted: Ok(true),
+    },
+    Row {
+        change: &[(LOG_OFFSET, 0), (LOG_SIZE, 9)],
+        wanted: Ok(true),
+    },
+    Row {
+        change: &[(LOG_SIZE, 9)],
+        wanted: REGION,
+    },
+    Row {
+        change: &[(FEATURES, 1), (LOG_SHIFT, 10)],
+        wanted: Ok(true),
+    },
+    Row {
+        change: &[(FEATURES, 9), (LOG_SHIFT, 10)],
+        wanted: Err(MemberFault::Log(LogFault::Shift)),
+    },
+    Row {
+        change: &[(EVENTS, u64::MAX), (BITMAP_EVENTS, 0)],
+        wanted: Ok(false),
+    },
+];
+
+fn expect(rt: &impl Abort, alloc: Global, row: &Row) -> Result<(), Fail> {
+    let mut image = roomy();
+    image.set_all(row.change);
+    let mut device = image.device(alloc)?;
+    let found = answer(alloc, &mut device);
+    drop(device);
+    same_at(rt, &row.change, found?, row.wanted);
+    Ok(())
+}
+
+#[test]
+fn answers(rt: HostRuntime) -> Result<(), Fail> {
+    for row in &ROWS {
+        expect(&rt, rt.alloc(), row)?;
+    }
+    Ok(())
+}
