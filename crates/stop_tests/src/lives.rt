@@ -88,12 +88,10 @@ impl Life {
             5 => Call::Resync,
             6 => Call::Stop,
             7 => Call::Fail(k),
-            8 => Call::Remove(run.first_from(k, |state| !state.is_recorded())),
+            8 => Call::Remove(run.first_unrecorded(k)),
             9 | 10 => Call::ReAdd(outside),
             11 => Call::Add(outside),
-            _ => self.draw_rebuild(run.first_from(k, |state| {
-                state.is_recorded() && !state.is_in_sync()
-            })),
+            _ => self.draw_rebuild(run.first_to_rebuild(k)),
         }
     }
 

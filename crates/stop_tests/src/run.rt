@@ -1,4 +1,13 @@
 // A mirror of devices that stop together, and the devices that are in no mirror. Each `Run` is consistent.
+ghost use Rattle.std.specs.Prelude.{◌≡◌, ◌<◌, ℕ, length, true, false, IsTrue};
+ghost use Rattle.md_array.specs.Consistency.{IsConsistent};
+ghost use Rattle.md_array.specs.NotingResynced.{AreNoted};
+ghost use Rattle.md_assembly.specs.States.{is_recovering};
+ghost use Rattle.md_bitmap.specs.Marks.{is_set};
+ghost use Rattle.md_kept_members.specs.View.{MemberView};
+ghost use Rattle.md_state.specs.MakingClean.{IsIdle};
+ghost use Rattle.md_state.specs.Members.{IsMember};
+
 use crate::calls::{Answer, Call};
 use crate::images::{DATA, SECTORS, name_of};
 use md_array::{BeginFault, Mirror, OpenFault};
@@ -148,10 +157,21 @@ impl Run {
         self.outside.get(number % count).map_or(0, name_of)
     }
 
-    // The first member from this one on that is so, or this one.
-    pub(crate) fn first_from(&self, k: usize, is_so: impl Fn(MemberState) -> bool) -> usize {
+    // The first member from this one on that is no part of the array, or this one.
+    pub(crate) fn first_unrecorded(&self, k: usize) -> usize {
         for j in k..self.mirror.members() {
-            if is_so(self.mirror.state(j)) {
+            if !self.mirror.state(j).is_recorded() {
+                return j;
+            }
+        }
+        k
+    }
+
+    // The first member from this one on that may be rebuilt, or this one.
+    pub(crate) fn first_to_rebuild(&self, k: usize) -> usize {
+        for j in k..self.mirror.members() {
+            let state = self.mirror.state(j);
+            if state.is_recorded() && !state.is_in_sync() {
                 return j;
             }
         }
@@ -313,22 +333,21 @@ impl Run {
     }
 
     // Of a member that was given nothing: the marks are stored, and then its superblock.
-    #[tactic(auto, using(crate::proofs::Noted::noted_after))]
     fn checkpoint(&mut self, alloc: Global, k: usize) -> Result<Answer, Fail> {
         let mirror = &mut self.mirror;
-        if mirror.halted() || store_all_marks(mirror).is_err() {
+        if mirror.halted() || !store_marks(mirror) {
             return Ok(Answer::Refused);
         }
         if k >= mirror.members() || !mirror.state(k).is_recovering() {
             return Ok(Answer::NotCalled);
         }
-        if mirror.in_flight().is_some() || !mirror.resynced() {
+        if mirror.halted() || mirror.in_flight().is_some() || !mirror.resynced() {
             return Ok(Answer::NotCalled);
         }
         let none = Marks::none(alloc, mirror.chunks().count())?;
-        let stored = mirror.checkpoint(k, &none);
+        let stored = store_offset(mirror, k, &none);
         drop(none);
-        Ok(answer(stored.is_ok()))
+        Ok(stored)
     }
 
     fn rebuild<R: Threads + Wait + Sync>(&mut self, rt: &R, alloc: Global, k: usize) -> Answer {
@@ -340,6 +359,33 @@ impl Run {
         drop(rebuilt);
         answer(is_done)
     }
+}
+
+// Stores all marks on the members in sync, and answers whether they are.
+#[tactic(auto, using(crate::proofs::Noted::noted_after))]
+fn store_marks(mirror: &mut Mirror<Stopping>) -> bool
+    requires sound { IsConsistent mirror.old }
+    requires running { mirror.old.array.halted ≡ false }
+    ensures noted { IsTrue result → AreNoted mirror.new.array }
+    ensures sound { IsConsistent mirror.new }
+{
+    store_all_marks(mirror).is_ok()
+}
+
+// Stores the superblock of a recovering member to which none of these chunks was copied.
+#[tactic(auto, using(crate::proofs::Noted::may_checkpoint))]
+fn store_offset(mirror: &mut Mirror<Stopping>, k: usize, none: &Marks) -> Answer
+    requires sound { IsConsistent mirror.old }
+    requires within { k < length mirror.old.array.members }
+    requires recovering { (m : MemberView) → IsMember mirror.old.array k m → is_recovering m.state ≡ true }
+    requires idle { IsIdle mirror.old.array }
+    requires resynced { mirror.old.array.resynced ≡ true }
+    requires noted { AreNoted mirror.old.array }
+    requires chunks { none.now.chunks ≡ mirror.old.array.marks.chunks }
+    requires empty { (c : ℕ) → is_set none.now.bytes c ≡ false }
+    ensures sound { IsConsistent mirror.new }
+{
+    answer(mirror.checkpoint(k, none).is_ok())
 }
 
 fn answer(is_done: bool) -> Answer {

@@ -10,6 +10,7 @@ use md_device::{Device, MemDevice};
 use md_members::{MemberFault, accepted, read_member};
 use std::alloc::Global;
 use std::fmt::Debug;
+use std::marker::Model;
 use std::process::Abort;
 use std::test::Fail;
 
@@ -77,20 +78,49 @@ impl Image {
         let sum = self.sum();
         self.set(&CHECKSUM, u64::from(sum));
     }
+}
 
-    pub(crate) fn device(&self, alloc: Global) -> Result<MemDevice, Fail> {
-        let mut device = zeros(alloc, SECTORS)?;
-        device.write(8, &self.superblock)?;
-        device.write(16, &self.bitmap)?;
-        Ok(device)
+// A device to which images of members are written.
+#[derive(Drop)]
+pub(crate) struct Disk {
+    device: MemDevice,
+}
+
+impl Model for Disk {
+    ghost use Rattle.std.specs.Prelude.{◌≡◌, ◌*◌, length};
+
+    ghost Value = { Unit {0} };
+
+    ghost view = { λ _. tt };
+
+    ghost invariant = { λ disk. length disk.device ≡ 512 * 2112 };
+}
+
+impl Disk {
+    pub(crate) fn new(alloc: Global) -> Result<Disk, Fail> {
+        let device = zeros(alloc, SECTORS)?;
+        Ok(Disk { device })
+    }
+
+    pub(crate) fn write(&mut self, image: &Image) {
+        let _ = self.device.write(8, &image.superblock);
+        let _ = self.device.write(16, &image.bitmap);
+    }
+
+    pub(crate) fn bytes(&self) -> &[u8] {
+        self.device.bytes()
+    }
+
+    // The member that is read of it, as `answer` has it.
+    pub(crate) fn answer(&mut self, alloc: Global) -> Result<Answer, Fail> {
+        answer(alloc, &mut self.device)
     }
 }
 
-// Why no member is read from the device, or whether the bitmap of the member tells of its array.
-pub(crate) fn answer(
-    alloc: Global,
-    device: &mut MemDevice,
-) -> Result<Result<bool, MemberFault>, Fail> {
+// Why no member is read, or whether the bitmap of the member tells of its array.
+pub(crate) type Answer = Result<bool, MemberFault>;
+
+pub(crate) fn answer(alloc: Global, device: &mut MemDevice) -> Result<Answer, Fail> {
     match read_member(alloc, device) {
         Ok(info) => {
             let tells = match &info.header {
@@ -105,24 +135,23 @@ pub(crate) fn answer(
     }
 }
 
-fn plain_answer(device: &MemDevice) -> Result<bool, MemberFault> {
-    match first_fault(device.bytes()) {
+pub(crate) fn plain_answer(bytes: &[u8]) -> Answer {
+    match first_fault(bytes) {
         Some(fault) => Err(fault),
-        None => Ok(is_accepted(device.bytes())),
+        None => Ok(is_accepted(bytes)),
     }
 }
 
-// The device is read as the plain reading says.
+// The image is read as the plain reading says.
 pub(crate) fn agrees(
     rt: &impl Abort,
     alloc: Global,
+    disk: &mut Disk,
     at: &impl Debug,
-    device: MemDevice,
+    image: &Image,
 ) -> Result<(), Fail> {
-    let mut device = device;
-    let wanted = plain_answer(&device);
-    let found = answer(alloc, &mut device);
-    drop(device);
-    same_at(rt, at, found?, wanted);
+    disk.write(image);
+    let wanted = plain_answer(disk.bytes());
+    same_at(rt, at, disk.answer(alloc)?, wanted);
     Ok(())
 }

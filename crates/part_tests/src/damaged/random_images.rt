@@ -1,6 +1,6 @@
 // Images on which a few fields are drawn.
 use crate::damaged::fields::{Field, GEOMETRY, OTHERS};
-use crate::damaged::image::{Image, agrees, roomy, tight};
+use crate::damaged::image::{Disk, Image, agrees, roomy, tight};
 use crate::plans::random_tables::scramble;
 use std::alloc::Global;
 use std::process::Abort;
@@ -53,17 +53,24 @@ fn drawn_image(state: &mut u64) -> Image {
     image
 }
 
-fn try_image(rt: &impl Abort, alloc: Global, state: &mut u64) -> Result<(), Fail> {
+fn try_image(rt: &impl Abort, alloc: Global, disk: &mut Disk, state: &mut u64) -> Result<(), Fail> {
     let from = *state;
     let image = drawn_image(state);
-    agrees(rt, alloc, &from, image.device(alloc)?)
+    agrees(rt, alloc, disk, &from, &image)
+}
+
+fn try_images(rt: &impl Abort, alloc: Global, disk: &mut Disk) -> Result<(), Fail> {
+    let mut state = 88_172_645_463_325_252u64;
+    for _ in 0..IMAGES {
+        try_image(rt, alloc, disk, &mut state)?;
+    }
+    Ok(())
 }
 
 #[test]
 fn are_read_plainly(rt: HostRuntime) -> Result<(), Fail> {
-    let mut state = 88_172_645_463_325_252u64;
-    for _ in 0..IMAGES {
-        try_image(&rt, rt.alloc(), &mut state)?;
-    }
-    Ok(())
+    let mut disk = Disk::new(rt.alloc())?;
+    let tried = try_images(&rt, rt.alloc(), &mut disk);
+    drop(disk);
+    tried
 }

@@ -4,7 +4,7 @@ use crate::damaged::fields::{
     BITMAP_EVENTS, BITMAP_OFFSET, DATA_OFFSET, DATA_SIZE, EVENTS, FEATURES, Field, LOG_OFFSET,
     LOG_SHIFT, LOG_SIZE,
 };
-use crate::damaged::image::{answer, roomy};
+use crate::damaged::image::{Answer, Disk, roomy};
 use md_badblocks::LogFault;
 use md_members::MemberFault;
 use std::alloc::Global;
@@ -18,10 +18,10 @@ const EIGHT_BEFORE: u64 = 0xffff_fff8;
 
 struct Row {
     change: &'static [(Field, u64)],
-    wanted: Result<bool, MemberFault>,
+    wanted: Answer,
 }
 
-const REGION: Result<bool, MemberFault> = Err(MemberFault::Region);
+const REGION: Answer = Err(MemberFault::Region);
 
 const ROWS: [Row; 11] = [
     Row {
@@ -70,20 +70,25 @@ const ROWS: [Row; 11] = [
     },
 ];
 
-fn expect(rt: &impl Abort, alloc: Global, row: &Row) -> Result<(), Fail> {
+fn expect(rt: &impl Abort, alloc: Global, disk: &mut Disk, row: &Row) -> Result<(), Fail> {
     let mut image = roomy();
     image.set_all(row.change);
-    let mut device = image.device(alloc)?;
-    let found = answer(alloc, &mut device);
-    drop(device);
-    same_at(rt, &row.change, found?, row.wanted);
+    disk.write(&image);
+    same_at(rt, &row.change, disk.answer(alloc)?, row.wanted);
+    Ok(())
+}
+
+fn expect_all(rt: &impl Abort, alloc: Global, disk: &mut Disk) -> Result<(), Fail> {
+    for row in &ROWS {
+        expect(rt, alloc, disk, row)?;
+    }
     Ok(())
 }
 
 #[test]
 fn answers(rt: HostRuntime) -> Result<(), Fail> {
-    for row in &ROWS {
-        expect(&rt, rt.alloc(), row)?;
-    }
-    Ok(())
+    let mut disk = Disk::new(rt.alloc())?;
+    let answered = expect_all(&rt, rt.alloc(), &mut disk);
+    drop(disk);
+    answered
 }
