@@ -1,4 +1,6 @@
 // An image of a member whose metadata are changed, and what is read of it.
+ghost use Rattle.std.specs.Prelude.{◌≡◌};
+
 use crate::checks::same_at;
 use crate::damaged::fields::{
     BITMAP_OFFSET, Block, CHECKSUM, CHUNK_BYTES, DATA_OFFSET, DATA_SIZE, FEATURES, Field,
@@ -120,7 +122,9 @@ impl Disk {
 // Why no member is read, or whether the bitmap of the member tells of its array.
 pub(crate) type Answer = Result<bool, MemberFault>;
 
-pub(crate) fn answer(alloc: Global, device: &mut MemDevice) -> Result<Answer, Fail> {
+pub(crate) fn answer(alloc: Global, device: &mut MemDevice) -> Result<Answer, Fail>
+    ensures { device.new ≡ device.old }
+{
     match read_member(alloc, device) {
         Ok(info) => {
             let tells = match &info.header {
