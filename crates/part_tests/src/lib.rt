@@ -1,5 +1,5 @@
-//! Tests of what stands below the mirror: superblocks, bitmaps, bad block logs, requests in flight, assembly, new members,
-//! plans and their checker, what a collector takes, and image files.
+//! Tests of what stands below the mirror: superblocks, bitmaps, bad block logs, damaged images, requests in flight, assembly,
+//! new members, plans and their checker, what a collector takes, and image files.
 #![tactic(auto)]
 
 #[cfg(test)]
