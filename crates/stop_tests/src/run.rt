@@ -373,7 +373,6 @@ fn store_marks(mirror: &mut Mirror<Stopping>) -> bool
 }
 
 // Stores the superblock of a recovering member to which none of these chunks was copied.
-#[tactic(auto, using(crate::proofs::Noted::may_checkpoint))]
 fn store_offset(mirror: &mut Mirror<Stopping>, k: usize, none: &Marks) -> Answer
     requires sound { IsConsistent mirror.old }
     requires within { k < length mirror.old.array.members }
