@@ -1,5 +1,5 @@
 -- Marks that are stored on the members in sync, and a record of a member that was given nothing.
-use Rattle.std.proofs.Common.{◌≡◌, ◌<◌, ◌∙◌, ℕ, true, false, true≢false, inl, inr, length, ap, subst, sym}
+use Rattle.std.proofs.Common.{◌≡◌, ◌<◌, ◌∙◌, ℕ, true, false, true≢false, inl, inr, length, ap, arith, subst, sym}
 use Rattle.std.proofs.lemmas.Option.{slice_get_cases}
 use Rattle.md_array.specs.Checkpoints.{MayCheckpoint}
 use Rattle.md_array.specs.NotingResynced.{AreNoted}
@@ -30,5 +30,5 @@ may_checkpoint k none v within recovering idle resynced noted chunks empty = eli
     copied_chunks = chunks;
     holds = λ honest content has d n disk is_n c s below on inside. absurd (true≢false (sym on ∙ empty c));
   }
-  | inr (past, none_there) ↦ absurd (omega (within, past))
+  | inr (past, none_there) ↦ absurd (omega (arith, within, past))
 ]
