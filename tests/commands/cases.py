@@ -588,6 +588,9 @@ CASES = [
             Step("fail --member 1 a b", FAILED, changes="a"),
             Step("write --sector 16 a b", ALONE, changes="a", given=DATA[SECTOR:]),
             Step("remove --member 1 a b", ALONE),
+            # Marks were last cleared at the events of the first write.
+            Made("c", "b", lambda image: members.with_superblock(image, events=2)),
+            Step("re-add --device c a", fault="NotReAddable"),
             Step("re-add --device b a", "in sync 2 of 2, events 8, marked 0\n", changes="a b"),
             Holds("b", "a", as_role(1, 1)),
             Step("check a b", AGREE),

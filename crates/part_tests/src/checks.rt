@@ -8,6 +8,15 @@ pub(crate) fn same<T: Copy + Debug + PartialEq>(rt: &impl Abort, what: &str, got
     assert_eq!(rt; got, wanted, "{what}");
 }
 
+pub(crate) fn same_at<T: Copy + Debug + PartialEq>(
+    rt: &impl Abort,
+    at: &impl Debug,
+    got: T,
+    wanted: T,
+) {
+    assert_eq!(rt; got, wanted, "at {at:?}");
+}
+
 pub(crate) fn holds(rt: &impl Abort, what: &str, holds: bool) {
     assert!(rt; holds, "{what}");
 }

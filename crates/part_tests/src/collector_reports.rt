@@ -145,9 +145,10 @@ fn each_planned_chunk_is_taken_once(rt: HostRuntime) -> Result<(), Fail> {
     taken
 }
 
-const SPOILED: [(Sent, Result<(), Refusal>); 4] = [
+const SPOILED: [(Sent, Result<(), Refusal>); 5] = [
     ((0, 1, Some((CHUNK, 7))), Err(Refusal::TargetFault)),
     ((0, 1, Some((CHUNK, 7))), Err(Refusal::Spoiled)),
+    ((1, 0, Some((CHUNK, 7))), Err(Refusal::Spoiled)),
     ((1, 0, None), Err(Refusal::Spoiled)),
     ((5, 0, Some((CHUNK, 7))), Err(Refusal::Spoiled)),
 ];

@@ -1,5 +1,5 @@
-//! Tests of what stands below the mirror: superblocks, bitmaps, bad block logs, requests in flight, assembly, new members,
-//! plans and their checker, what a collector takes, and image files.
+//! Tests of what stands below the mirror: superblocks, bitmaps, bad block logs, damaged images, requests in flight, assembly,
+//! new members, plans and their checker, what a collector takes, and image files.
 #![tactic(auto)]
 
 #[cfg(test)]
@@ -12,6 +12,8 @@ mod bitmaps;
 mod checks;
 #[cfg(test)]
 mod collector_reports;
+#[cfg(test)]
+mod damaged;
 #[cfg(test)]
 mod image_files;
 #[cfg(test)]

@@ -2,6 +2,6 @@
 mod large_tables;
 mod plain_planner;
 mod planning;
-mod random_tables;
+pub(crate) mod random_tables;
 mod small_tables;
 mod verdicts;

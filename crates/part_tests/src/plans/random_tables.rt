@@ -12,7 +12,7 @@ const TABLES: u32 = 300;
 const MOST_CHUNKS: usize = 64;
 
 // The next state of a plain generator of numbers (xorshift).
-fn scramble(state: u64) -> u64 {
+pub(crate) fn scramble(state: u64) -> u64 {
     let a = state ^ (state << 13);
     let b = a ^ (a >> 7);
     b ^ (b << 17)
