@@ -4,26 +4,14 @@ use std::fmt::{Debug, Display};
 use std::process::Abort;
 use std::test::Fail;
 
-pub(crate) fn same<T: Copy + Debug + PartialEq>(rt: &impl Abort, what: &str, got: T, wanted: T) {
-    assert_eq!(rt; got, wanted, "{what}");
-}
-
-pub(crate) fn holds(rt: &impl Abort, what: &str, holds: bool) {
-    assert!(rt; holds, "{what}");
-}
-
-// The same of one case, which is shown where they don't.
-pub(crate) fn same_at<T: Copy + Debug + PartialEq>(
+// The case is shown where they differ.
+pub(crate) fn same<T: Copy + Debug + PartialEq>(
     rt: &impl Abort,
     case: &impl Debug,
     got: T,
     wanted: T,
 ) {
     assert_eq!(rt; got, wanted, "at {case:?}");
-}
-
-pub(crate) fn holds_at(rt: &impl Abort, case: &impl Debug, holds: bool) {
-    assert!(rt; holds, "at {case:?}");
 }
 
 // Each fault is shown as its text.

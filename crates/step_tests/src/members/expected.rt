@@ -1,12 +1,13 @@
 // What each call has to answer, and what it changes, by plain lists. The array has two roles, its size is
 // 64 sectors, and nothing fails. A device that left is what its superblock says of it.
-use crate::members::calls::{Answer, Call};
+use crate::shown::Shown;
+use crate::step::{Answer, Step};
 use md_array::{AddFault, AdmitFault, BeginFault, FailFault, ReAddFault, RemoveFault};
 use md_assembly::MemberState;
 
 const DISKS: u16 = 2;
 
-pub(crate) const FAULTY_ROLE: u16 = 0xfffe;
+const FAULTY_ROLE: u16 = 0xfffe;
 
 pub(crate) const SPARE_ROLE: u16 = 0xffff;
 
@@ -14,8 +15,8 @@ pub(crate) const SPARE_ROLE: u16 = 0xffff;
 const MOST: usize = 12;
 
 // What the superblock on a device says of it.
-#[derive(Clone, Copy, Debug, PartialEq, Eq)]
-pub(crate) struct Stored {
+#[derive(Clone, Copy, PartialEq)]
+pub(crate) struct Recorded {
     pub(crate) events: u64,
     pub(crate) role: u16,
     pub(crate) recovering: bool,
@@ -25,9 +26,9 @@ pub(crate) struct Stored {
 pub(crate) struct ExpectedMember {
     pub(crate) number: u32,
     pub(crate) state: MemberState,
-    pub(crate) due: bool,
-    pub(crate) re_added: bool,
-    pub(crate) stored: Stored,
+    due: bool,
+    re_added: bool,
+    pub(crate) recorded: Recorded,
 }
 
 // What stands where there is no member: no number is this, and a faulty member has no part in anything.
@@ -36,7 +37,7 @@ const NOBODY: ExpectedMember = ExpectedMember {
     state: MemberState::Faulty,
     due: false,
     re_added: false,
-    stored: Stored {
+    recorded: Recorded {
         events: 0,
         role: FAULTY_ROLE,
         recovering: false,
@@ -50,33 +51,28 @@ pub(crate) struct Expected {
     pub(crate) count: usize,
     // Of the numbers, those past the entries have the role of a spare.
     pub(crate) roles: [u16; MOST],
-    pub(crate) entries: usize,
-    pub(crate) events: u64,
+    pub(crate) entries: u32,
+    events: u64,
     events_cleared: u64,
-    pub(crate) clean: bool,
+    clean: bool,
     // Chunk 1 is marked.
-    pub(crate) marked: bool,
+    marked: bool,
     // The number of the device that left last, and what its superblock says.
-    left: Option<(u32, Stored)>,
-}
-
-fn is_in_sync(state: MemberState) -> bool {
-    matches!(state, MemberState::InSync(_))
-}
-
-fn is_active(state: MemberState) -> bool {
-    matches!(state, MemberState::InSync(_) | MemberState::Recovering(_))
+    left: Option<(u32, Recorded)>,
 }
 
 // Whether the superblock is kept up to date.
 fn is_recorded(state: MemberState) -> bool {
-    is_active(state) || state == MemberState::Spare
+    state.is_active() || state == MemberState::Spare
 }
 
 fn has_number(members: &[ExpectedMember], number: usize) -> bool {
-    members
-        .iter()
-        .any(|member| member.number as usize == number)
+    for member in members {
+        if member.number as usize == number {
+            return true;
+        }
+    }
+    false
 }
 
 impl Expected {
@@ -99,14 +95,14 @@ impl Expected {
     }
 
     // A member more, by what its superblock says.
-    pub(crate) fn have(&mut self, number: u32, state: MemberState, stored: Stored) {
-        let due = is_recorded(state) && stored.events < self.events;
+    pub(crate) fn have(&mut self, number: u32, state: MemberState, recorded: Recorded) {
+        let due = is_recorded(state) && recorded.events < self.events;
         self.put(ExpectedMember {
             number,
             state,
             due,
             re_added: false,
-            stored,
+            recorded,
         });
     }
 
@@ -130,53 +126,37 @@ impl Expected {
         self.count = self.count.saturating_sub(1);
     }
 
-    pub(crate) fn answer(&mut self, call: Call) -> Answer {
-        match call {
-            Call::Fail(k) => self.answer_fail(k),
-            Call::Remove(k) => self.answer_remove(k),
-            Call::ReAdd => self.answer_re_add(),
-            Call::Add => self.add().map_or_else(Answer::NotAdded, Answer::Joined),
-            Call::Admit => self.answer_admit(),
-            Call::Write => self
-                .write()
-                .map_or_else(Answer::NotWritten, |()| Answer::Done),
-        }
-    }
-
-    fn answer_fail(&mut self, k: usize) -> Answer {
-        match self.member(k) {
-            Some(member) => self
-                .fail(k, member)
-                .map_or_else(Answer::NotFailed, |()| Answer::Done),
-            None => Answer::NotCalled,
-        }
-    }
-
-    fn answer_remove(&mut self, k: usize) -> Answer {
-        match self.member(k) {
-            Some(member) => self
-                .remove(k, member)
-                .map_or_else(Answer::NotRemoved, |()| Answer::Done),
-            None => Answer::NotCalled,
-        }
-    }
-
-    fn answer_re_add(&mut self) -> Answer {
-        match self.left {
-            Some((number, stored)) => self
-                .re_add(number, stored)
-                .map_or_else(Answer::NotReAdded, Answer::Joined),
-            None => Answer::NotCalled,
-        }
-    }
-
-    fn answer_admit(&mut self) -> Answer {
-        let last = self.count.saturating_sub(1);
-        match self.member(last) {
-            Some(member) if member.state == MemberState::Spare => self
-                .admit(last, member.number)
-                .map_or_else(Answer::NotAdmitted, |()| Answer::Done),
+    pub(crate) fn answer(&mut self, step: Step) -> Answer {
+        match step {
+            Step::Fail(k) => self.fail(k),
+            Step::Remove(k) => self.remove(k),
+            Step::ReAdd => self.re_add(),
+            Step::Add(_, _) => self.add(),
+            Step::Admit => self.admit(),
+            Step::Write(_) => self.write(),
             _ => Answer::NotCalled,
+        }
+    }
+
+    pub(crate) fn shown(&self) -> Shown {
+        let mut due = 0usize;
+        for member in &self.members {
+            if member.due {
+                due = due.saturating_add(1);
+            }
+        }
+        Shown {
+            members: self.count,
+            raid_disks: 2,
+            events: self.events,
+            entries: self.entries,
+            marks: if self.marked { (1, Some(1)) } else { (0, None) },
+            due,
+            in_flight: None,
+            clean: self.clean,
+            resynced: true,
+            degraded: self.is_degraded(),
+            halted: false,
         }
     }
 
@@ -188,15 +168,18 @@ impl Expected {
         }
     }
 
-    fn fail(&mut self, k: usize, member: ExpectedMember) -> Result<(), FailFault> {
-        if !is_active(member.state) {
-            return Err(FailFault::NotActive);
+    fn fail(&mut self, k: usize) -> Answer {
+        let Some(member) = self.member(k) else {
+            return Answer::NotCalled;
+        };
+        if !member.state.is_active() {
+            return Answer::NotFailed(FailFault::NotActive);
         }
         if !self.has_other_in_sync(k) {
-            return Err(FailFault::LastMember);
+            return Answer::NotFailed(FailFault::LastMember);
         }
         if self.events == u64::MAX {
-            return Err(FailFault::EventsFull);
+            return Answer::NotFailed(FailFault::EventsFull);
         }
         self.rise();
         if let Some(place) = self.members.get_mut(k) {
@@ -206,80 +189,93 @@ impl Expected {
         }
         self.set_role(member.number, FAULTY_ROLE);
         self.note_full();
-        Ok(())
+        Answer::Done
     }
 
-    fn remove(&mut self, k: usize, member: ExpectedMember) -> Result<(), RemoveFault> {
-        if is_active(member.state) {
-            return Err(RemoveFault::StillActive);
+    fn remove(&mut self, k: usize) -> Answer {
+        let Some(member) = self.member(k) else {
+            return Answer::NotCalled;
+        };
+        if member.state.is_active() {
+            return Answer::NotRemoved(RemoveFault::StillActive);
         }
         if member.state == MemberState::Spare {
             if self.events == u64::MAX {
-                return Err(RemoveFault::EventsFull);
+                return Answer::NotRemoved(RemoveFault::EventsFull);
             }
             self.rise();
             self.set_role(member.number, FAULTY_ROLE);
             self.note_full();
         }
         self.take_out(k);
-        self.left = Some((member.number, member.stored));
-        Ok(())
+        self.left = Some((member.number, member.recorded));
+        Answer::Done
     }
 
-    fn re_add(&mut self, number: u32, stored: Stored) -> Result<usize, ReAddFault> {
-        let has_left_in_time = self.events_cleared <= stored.events && stored.events <= self.events;
+    fn re_add(&mut self) -> Answer {
+        let Some((number, recorded)) = self.left else {
+            return Answer::NotCalled;
+        };
+        let left_in_time = self.events_cleared <= recorded.events && recorded.events <= self.events;
         let is_in_use = has_number(&self.members, number as usize);
-        if is_in_use || stored.recovering || !has_left_in_time || stored.role >= DISKS {
-            return Err(ReAddFault::NotReAddable);
+        if is_in_use || recorded.recovering || !left_in_time || recorded.role >= DISKS {
+            return Answer::NotReAdded(ReAddFault::NotReAddable);
         }
-        if self.is_taken(stored.role) {
-            return Err(ReAddFault::NoRole);
+        if self.is_taken(recorded.role) {
+            return Answer::NotReAdded(ReAddFault::NoRole);
         }
         if self.events == u64::MAX {
-            return Err(ReAddFault::EventsFull);
+            return Answer::NotReAdded(ReAddFault::EventsFull);
         }
         self.left = None;
-        Ok(self.join(number, stored.role, MemberState::Recovering(stored.role)))
+        let state = MemberState::Recovering(recorded.role);
+        Answer::Joined(self.join(number, recorded.role, state))
     }
 
-    fn add(&mut self) -> Result<usize, AddFault> {
+    fn add(&mut self) -> Answer {
         if self.events == u64::MAX {
-            return Err(AddFault::EventsFull);
+            return Answer::NotAdded(AddFault::EventsFull);
         }
         self.drop_absent();
         let number = self.new_number();
-        Ok(self.join(number, SPARE_ROLE, MemberState::Spare))
+        Answer::Joined(self.join(number, SPARE_ROLE, MemberState::Spare))
     }
 
-    // The spare takes the least free role. Its own superblock is written at once. As a role was free,
-    // events_cleared stays.
-    fn admit(&mut self, k: usize, number: u32) -> Result<(), AdmitFault> {
-        let Some(role) = (0..DISKS).find(|role| !self.is_taken(*role)) else {
-            return Err(AdmitFault::NoRole);
+    // The last member, if it is a spare, takes the least free role. Its own superblock is written at once. As a role was
+    // free, events_cleared stays.
+    fn admit(&mut self) -> Answer {
+        let k = self.count.saturating_sub(1);
+        let number = match self.member(k) {
+            Some(member) if member.state == MemberState::Spare => member.number,
+            _ => return Answer::NotCalled,
         };
+        let role = if self.is_taken(0) { 1 } else { 0 };
+        if self.is_taken(role) {
+            return Answer::NotAdmitted(AdmitFault::NoRole);
+        }
         if self.events == u64::MAX {
-            return Err(AdmitFault::EventsFull);
+            return Answer::NotAdmitted(AdmitFault::EventsFull);
         }
         self.rise();
-        self.entries = self.entries.max(number as usize + 1);
+        self.entries = self.entries.max(number.saturating_add(1));
         self.set_role(number, role);
         let events = self.events;
         if let Some(place) = self.members.get_mut(k) {
             place.state = MemberState::Recovering(role);
             place.due = false;
-            place.stored = Stored {
+            place.recorded = Recorded {
                 events,
                 role,
                 recovering: true,
             };
         }
-        Ok(())
+        Answer::Done
     }
 
     // The device comes in with this role. Its own superblock is written at once.
     fn join(&mut self, number: u32, role: u16, state: MemberState) -> usize {
         self.rise();
-        self.entries = self.entries.max(number as usize + 1);
+        self.entries = self.entries.max(number.saturating_add(1));
         self.set_role(number, role);
         self.note_full();
         let is_back = state != MemberState::Spare;
@@ -288,7 +284,7 @@ impl Expected {
             state,
             due: false,
             re_added: is_back,
-            stored: Stored {
+            recorded: Recorded {
                 events: self.events,
                 role,
                 recovering: is_back,
@@ -296,10 +292,11 @@ impl Expected {
         })
     }
 
-    fn write(&mut self) -> Result<(), BeginFault> {
+    // It stores the superblocks that are due.
+    fn write(&mut self) -> Answer {
         if self.clean || self.has_absent() {
             if self.events == u64::MAX {
-                return Err(BeginFault::EventsFull);
+                return Answer::NotBegun(BeginFault::EventsFull);
             }
             self.rise();
             self.note_full();
@@ -307,18 +304,17 @@ impl Expected {
         self.clean = false;
         self.marked = true;
         self.store_records();
-        Ok(())
+        Answer::Done
     }
 
-    // A write stores the superblocks that are due.
     fn store_records(&mut self) {
         let roles = self.roles;
         let events = self.events;
         for member in &mut self.members {
             if member.due {
                 member.due = false;
-                member.stored.events = events;
-                member.stored.role = role_of(&roles, member.number);
+                member.recorded.events = events;
+                member.recorded.role = role_of(&roles, member.number);
             }
         }
     }
@@ -349,8 +345,12 @@ impl Expected {
     }
 
     fn has_absent(&self) -> bool {
-        self.roles.iter().enumerate().any(|(number, role)| *role < DISKS
-            && !has_number(&self.members, number))
+        for (number, role) in self.roles.iter().enumerate() {
+            if *role < DISKS && !has_number(&self.members, number) {
+                return true;
+            }
+        }
+        false
     }
 
     // The least number that no member has, and whose entry is not that of a failed device.
@@ -365,46 +365,53 @@ impl Expected {
 
     // Where there is no entry, none is made.
     fn set_role(&mut self, number: u32, role: u16) {
-        let number = number as usize;
         if number < self.entries {
-            if let Some(entry) = self.roles.get_mut(number) {
+            if let Some(entry) = self.roles.get_mut(number as usize) {
                 *entry = role;
             }
         }
     }
 
     fn has_other_in_sync(&self, k: usize) -> bool {
-        self.members
-            .iter()
-            .enumerate()
-            .any(|(j, member)| j != k && is_in_sync(member.state))
+        for (j, member) in self.members.iter().enumerate() {
+            if j != k && member.state.is_in_sync() {
+                return true;
+            }
+        }
+        false
+    }
+
+    fn has(&self, state: MemberState) -> bool {
+        for member in &self.members {
+            if member.state == state {
+                return true;
+            }
+        }
+        false
     }
 
     fn is_taken(&self, role: u16) -> bool {
-        self.members.iter().any(|member| {
-            member.state == MemberState::InSync(role)
-                || member.state == MemberState::Recovering(role)
-        })
+        self.has(MemberState::InSync(role)) || self.has(MemberState::Recovering(role))
     }
 
-    pub(crate) fn is_degraded(&self) -> bool {
-        (0..DISKS).any(|role| !self.is_filled(role))
+    fn is_degraded(&self) -> bool {
+        !self.has(MemberState::InSync(0)) || !self.has(MemberState::InSync(1))
+    }
+}
+
+impl ExpectedMember {
+    pub(crate) fn shown(&self) -> Answer {
+        Answer::Is(self.state, self.due, self.re_added)
     }
 
-    fn is_filled(&self, role: u16) -> bool {
-        self.members
-            .iter()
-            .any(|member| member.state == MemberState::InSync(role))
-    }
-
-    // How many of the array's 8 chunks a member lacks.
-    pub(crate) fn lacks(&self, member: &ExpectedMember) -> u32 {
-        if member.re_added {
-            if self.marked { 1 } else { 0 }
-        } else if is_in_sync(member.state) {
-            0
+    // How many of the array's 8 chunks it lacks, and which is the first, where chunk 1 may be marked.
+    pub(crate) fn lacks(&self, marked: bool) -> Answer {
+        if self.re_added && marked {
+            Answer::Lacks(1, Some(1))
+        } else if self.re_added || self.state.is_in_sync() {
+            Answer::Lacks(0, None)
         } else {
-            8
+            Answer::Lacks(8, Some(0))
         }
     }
 }

@@ -1,15 +1,11 @@
-// The calls by which members fail, leave, come back and come in: in every order, and refused in each way.
-mod calls;
-mod changes;
-mod changing;
+// The calls by which members fail, leave, come back and come in, are admitted, and list what can't be read on them: in every
+// order, and refused in each way.
+mod checkpoints;
+mod coming_in;
 mod every_order;
 mod expected;
-mod full;
-mod halted;
 mod leaving;
-mod new_devices;
+mod listing;
 mod recovering;
-mod returning_devices;
-mod shown;
+mod returning;
 mod starts;
-mod taken_back;

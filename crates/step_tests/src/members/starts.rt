@@ -1,9 +1,8 @@
 // Arrays of two roles on small devices, and what is expected of them once they are opened.
-use crate::members::changing::{Changing, Testing};
-use crate::members::expected::{Expected, SPARE_ROLE, Stored};
-use example_members::{copied, put, small_image, small_metadata};
+use crate::members::expected::{Expected, Recorded, SPARE_ROLE};
+use example_members::{put, small_image, small_metadata};
 use md_assembly::MemberState;
-use md_device::{FaultDevice, MemDevice};
+use md_device::MemDevice;
 use std::alloc::Global;
 use std::test::Fail;
 
@@ -106,7 +105,7 @@ pub(crate) fn images_of(
 pub(crate) fn expected_of(members: &[StartMember], events: u64) -> Expected {
     let mut expected = Expected::opened(events, events.saturating_sub(CLEARED_BEFORE));
     for member in members {
-        let stored = Stored {
+        let recorded = Recorded {
             events: events.saturating_sub(member.behind),
             role: if member.number < 2 {
                 member.number as u16
@@ -115,58 +114,7 @@ pub(crate) fn expected_of(members: &[StartMember], events: u64) -> Expected {
             },
             recovering: member.recovering,
         };
-        expected.have(member.number, member.state, stored);
+        expected.have(member.number, member.state, recorded);
     }
     expected
-}
-
-// A device whose writes of these numbers fail.
-pub(crate) fn failing(alloc: Global, device: MemDevice, first: u64, last: u64) -> Testing {
-    FaultDevice::new(device, Vec::new(alloc), first, last, false)
-}
-
-// A device that fails at no write.
-pub(crate) fn sturdy(alloc: Global, device: MemDevice) -> Testing {
-    failing(alloc, device, 1, 0)
-}
-
-fn add_copy(
-    alloc: Global,
-    devices: &mut Vec<Testing>,
-    image: &MemDevice,
-    first: u64,
-) -> Result<(), Fail> {
-    let copy = copied(alloc, image)?;
-    devices.push(failing(alloc, copy, first, u64::MAX - 1))?;
-    Ok(())
-}
-
-// A mirror on copies of these images, all of whose writes fail from this number on.
-pub(crate) fn open_failing(
-    alloc: Global,
-    images: &[MemDevice],
-    first: u64,
-) -> Result<Changing, Fail> {
-    let mut devices = Vec::new(alloc);
-    for image in images {
-        add_copy(alloc, &mut devices, image, first)?;
-    }
-    Changing::open(alloc, devices)
-}
-
-// A mirror on copies of these images.
-pub(crate) fn open_copies(alloc: Global, images: &[MemDevice]) -> Result<Changing, Fail> {
-    open_failing(alloc, images, u64::MAX)
-}
-
-// A mirror of these members.
-pub(crate) fn opened(
-    alloc: Global,
-    members: &[StartMember],
-    events: u64,
-) -> Result<Changing, Fail> {
-    let images = images_of(alloc, members, events)?;
-    let changing = open_copies(alloc, &images);
-    drop(images);
-    changing
 }

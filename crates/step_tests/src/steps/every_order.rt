@@ -1,19 +1,16 @@
 // All steps of a write in all orders, a few steps deep, from several points of a write on.
-ghost use Rattle.std.specs.Prelude.{◌≡◌, ◌%◌, length};
-
-use crate::checks::holds_at;
-use crate::steps::calls::Step;
+use crate::checks::same;
+use crate::images::{Testing, copies_of};
+use crate::run::Run;
+use crate::shown::what_shows;
+use crate::step::Step;
 use crate::steps::expected::Expected;
-use crate::steps::images::add;
-use crate::steps::run::Run;
-use example_members::{SMALL_DATA, copied, small_member};
+use example_members::{SMALL_DATA, small_member};
 use md_array::Mirror;
-use md_device::{Device, FaultDevice, MemDevice};
+use md_device::MemDevice;
 use std::alloc::Global;
 use std::process::Abort;
 use std::test::Fail;
-
-const SECTOR: [u8; 512] = [0xa5; 512];
 
 const STEPS: [Step; 10] = [
     Step::Begin(8),
@@ -30,24 +27,24 @@ const STEPS: [Step; 10] = [
 
 // The points from which the orders go on: the opening, one at which data may be written, and one at
 // which they are written on both members.
-const OPENED: [Step; 0] = [];
-
-const READY: [Step; 5] = [
-    Step::Begin(8),
-    Step::StoreMarks(0),
-    Step::StoreMarks(1),
-    Step::Record(0),
-    Step::Record(1),
-];
-
-const WRITTEN: [Step; 7] = [
-    Step::Begin(8),
-    Step::StoreMarks(0),
-    Step::StoreMarks(1),
-    Step::Record(0),
-    Step::Record(1),
-    Step::WriteMember(0),
-    Step::WriteMember(1),
+const POINTS: [&[Step]; 3] = [
+    &[],
+    &[
+        Step::Begin(8),
+        Step::StoreMarks(0),
+        Step::StoreMarks(1),
+        Step::Record(0),
+        Step::Record(1),
+    ],
+    &[
+        Step::Begin(8),
+        Step::StoreMarks(0),
+        Step::StoreMarks(1),
+        Step::Record(0),
+        Step::Record(1),
+        Step::WriteMember(0),
+        Step::WriteMember(1),
+    ],
 ];
 
 const NEVER: u64 = u64::MAX;
@@ -55,40 +52,7 @@ const NEVER: u64 = u64::MAX;
 // How many writes a device takes before all of them fail.
 const LIMITS: [u64; 5] = [0, 1, 2, 3, NEVER];
 
-fn add_copy(
-    alloc: Global,
-    devices: &mut Vec<FaultDevice<MemDevice>>,
-    image: &MemDevice,
-    writes: u64,
-) -> Result<(), Fail> {
-    let copy = copied(alloc, image)?;
-    add(alloc, devices, copy, (writes.saturating_add(1), NEVER))
-}
-
-// A mirror on copies of these images, whose devices take so many writes.
-fn open_copies<'a>(alloc: Global, images: &[MemDevice], writes: [u64; 2]) -> Result<Run<'a>, Fail> {
-    let mut devices = Vec::new(alloc);
-    for (image, writes) in images.iter().zip(writes) {
-        add_copy(alloc, &mut devices, image, writes)?;
-    }
-    Run::open(alloc, devices)
-}
-
-// Whether the mirror shows what it has to.
-fn is_as_expected<D: Device + Drop>(mirror: &Mirror<D>, expected: &Expected) -> bool {
-    let marked = if expected.marked { 1 } else { 0 };
-    let clean = mirror.shared().resync_offset == u64::MAX;
-    mirror.members() == expected.count
-        && mirror.events() == expected.events
-        && mirror.halted() == expected.halted
-        && mirror.degraded() == expected.is_degraded()
-        && mirror.in_flight() == expected.first_in_flight()
-        && mirror.marks().count() == marked
-        && clean == expected.clean
-        && are_members_as_expected(mirror, expected)
-}
-
-fn are_members_as_expected<D: Device + Drop>(mirror: &Mirror<D>, expected: &Expected) -> bool {
+fn are_members_right(mirror: &Mirror<Testing>, expected: &Expected) -> bool {
     for (k, member) in expected.members.iter().enumerate() {
         if k < mirror.members()
             && (mirror.state(k).is_in_sync() != member.in_sync || mirror.due(k) != member.due)
@@ -99,7 +63,7 @@ fn are_members_as_expected<D: Device + Drop>(mirror: &Mirror<D>, expected: &Expe
     true
 }
 
-// Whether a device has the bytes of `SECTOR` at sectors 8 and 9 of the array where it has to.
+// Whether a device has the bytes of a request at sectors 8 and 9 of the array where it has to.
 fn has_data(device: &MemDevice, has: [bool; 2]) -> bool {
     let bytes = device.bytes();
     for (start, has) in [
@@ -116,25 +80,55 @@ fn has_data(device: &MemDevice, has: [bool; 2]) -> bool {
 
 // Order `n`: its steps are the digits of the number, the last one first.
 fn steps_of(n: u32) -> [Step; 4] {
-    let at = |divisor: u32| STEPS[(n / divisor % 10) as usize];
-    [at(1), at(10), at(100), at(1000)]
+    let mut rest = n;
+    let mut steps = [Step::Finish; 4];
+    for step in &mut steps {
+        *step = STEPS[(rest % 10) as usize];
+        rest /= 10;
+    }
+    steps
 }
 
 // Makes the steps on the mirror, and compares each answer and what the mirror shows then.
-fn follow<'a>(
+fn follow(
     rt: &impl Abort,
-    run: &mut Run<'a>,
+    alloc: Global,
+    run: &mut Run,
     expected: &mut Expected,
     steps: &[Step],
-    bytes: &'a [u8],
-)
-    requires { length bytes.now % 512 ≡ 0 }
-{
-    for step in steps {
-        let answer = run.make(*step, bytes);
-        let wanted = expected.answer(*step);
-        let is_right = answer == wanted && is_as_expected(run.mirror(), expected);
-        holds_at(rt, &((answer, wanted), (*step, steps)), is_right);
+    n: u32,
+) -> Result<(), Fail> {
+    for (at, step) in steps.iter().enumerate() {
+        let answer = run.make(alloc, *step)?;
+        same(rt, &(n, at), answer, expected.answer(*step));
+        same(rt, &(n, at), what_shows(run.mirror()), expected.shown());
+        same(
+            rt,
+            &(n, at),
+            are_members_right(run.mirror(), expected),
+            true,
+        );
+    }
+    Ok(())
+}
+
+fn follow_both(
+    rt: &impl Abort,
+    alloc: Global,
+    run: &mut Run,
+    expected: &mut Expected,
+    lead: &[Step],
+    steps: &[Step],
+    n: u32,
+) -> Result<(), Fail> {
+    follow(rt, alloc, run, expected, lead, n)?;
+    follow(rt, alloc, run, expected, steps, n)
+}
+
+fn expect_data(rt: &impl Abort, devices: Vec<Testing>, expected: &Expected, n: u32) {
+    for (device, member) in devices.into_iter().zip(expected.members) {
+        let written = has_data(&device.into_inner(), member.has);
+        same(rt, &n, written, true);
     }
 }
 
@@ -143,27 +137,42 @@ fn play(
     alloc: Global,
     images: &[MemDevice],
     writes: [u64; 2],
-    start: &[Step],
+    lead: &[Step],
     steps: &[Step],
+    n: u32,
 ) -> Result<(), Fail> {
-    let mut run = open_copies(alloc, images, writes)?;
+    let first = [writes[0].saturating_add(1), writes[1].saturating_add(1)];
+    let devices = copies_of(alloc, images, &first)?;
+    let mut run = Run::open(alloc, devices)?;
     let mut expected = Expected::opened(images.len(), 10, writes);
-    follow(rt, &mut run, &mut expected, start, &SECTOR);
-    follow(rt, &mut run, &mut expected, steps, &SECTOR);
-    expect_data(rt, run.into_devices(), &expected, steps);
+    let followed = follow_both(rt, alloc, &mut run, &mut expected, lead, steps, n);
+    let devices = run.into_devices();
+    expect_data(rt, devices, &expected, n);
+    followed
+}
+
+// Plays the orders of so many steps from each of these points.
+fn play_orders(
+    rt: &impl Abort,
+    alloc: Global,
+    images: &[MemDevice],
+    writes: [u64; 2],
+    points: &[&[Step]],
+    depth: usize,
+) -> Result<(), Fail> {
+    let orders = if depth < 4 { 1_000 } else { 10_000 };
+    for n in 0..orders {
+        let steps = steps_of(n);
+        for start in points {
+            play(rt, alloc, images, writes, start, &steps[..depth.min(4)], n)?;
+        }
+    }
     Ok(())
 }
 
-fn expect_data(
-    rt: &impl Abort,
-    devices: Vec<FaultDevice<MemDevice>>,
-    expected: &Expected,
-    steps: &[Step],
-) {
-    for (device, member) in devices.into_iter().zip(expected.members) {
-        let written = has_data(&device.into_inner(), member.has);
-        holds_at(rt, &("on the devices after", steps), written);
-    }
+fn add_small(alloc: Global, images: &mut Vec<MemDevice>, number: u32) -> Result<(), Fail> {
+    images.push(small_member(alloc, number)?)?;
+    Ok(())
 }
 
 fn small_members(alloc: Global, numbers: &[u32]) -> Result<Vec<MemDevice>, Fail> {
@@ -174,43 +183,10 @@ fn small_members(alloc: Global, numbers: &[u32]) -> Result<Vec<MemDevice>, Fail>
     Ok(images)
 }
 
-fn add_small(alloc: Global, images: &mut Vec<MemDevice>, number: u32) -> Result<(), Fail> {
-    images.push(small_member(alloc, number)?)?;
-    Ok(())
-}
-
-// Plays the steps from each of these points.
-fn play_from(
-    rt: &impl Abort,
-    alloc: Global,
-    images: &[MemDevice],
-    writes: [u64; 2],
-    points: &[&[Step]],
-    steps: &[Step],
-) -> Result<(), Fail> {
-    for start in points {
-        play(rt, alloc, images, writes, start, steps)?;
-    }
-    Ok(())
-}
-
-fn play_all(
-    rt: &impl Abort,
-    alloc: Global,
-    images: &[MemDevice],
-    points: &[&[Step]],
-) -> Result<(), Fail> {
-    for n in 0..10_000 {
-        play_from(rt, alloc, images, [NEVER; 2], points, &steps_of(n))?;
-    }
-    Ok(())
-}
-
 #[test]
 fn every_order(rt: HostRuntime) -> Result<(), Fail> {
     let images = small_members(rt.alloc(), &[0, 1])?;
-    let points = [OPENED.as_slice(), READY.as_slice(), WRITTEN.as_slice()];
-    let played = play_all(&rt, rt.alloc(), &images, &points);
+    let played = play_orders(&rt, rt.alloc(), &images, [NEVER; 2], &POINTS, 4);
     drop(images);
     played
 }
@@ -218,30 +194,15 @@ fn every_order(rt: HostRuntime) -> Result<(), Fail> {
 #[test]
 fn every_order_of_one_member(rt: HostRuntime) -> Result<(), Fail> {
     let images = small_members(rt.alloc(), &[1])?;
-    let points = [OPENED.as_slice(), READY.as_slice()];
-    let played = play_all(&rt, rt.alloc(), &images, &points);
+    let played = play_orders(&rt, rt.alloc(), &images, [NEVER; 2], &POINTS[..2], 4);
     drop(images);
     played
-}
-
-fn play_failing(
-    rt: &impl Abort,
-    alloc: Global,
-    images: &[MemDevice],
-    writes: [u64; 2],
-) -> Result<(), Fail> {
-    let points = [OPENED.as_slice(), READY.as_slice(), WRITTEN.as_slice()];
-    for n in 0..1_000 {
-        let [a, b, c, _] = steps_of(n);
-        play_from(rt, alloc, images, writes, &points, &[a, b, c])?;
-    }
-    Ok(())
 }
 
 fn play_with_limits(rt: &impl Abort, alloc: Global, images: &[MemDevice]) -> Result<(), Fail> {
     for first in LIMITS {
         for second in LIMITS {
-            play_failing(rt, alloc, images, [first, second])?;
+            play_orders(rt, alloc, images, [first, second], &POINTS, 3)?;
         }
     }
     Ok(())

@@ -1,6 +1,7 @@
 // What each step of a write has to answer, as a list of refusals. The array has two roles, and its
 // requests are of one sector each: 8 or 9, which are in chunk 1.
-use crate::steps::calls::{Answer, Step};
+use crate::shown::Shown;
+use crate::step::{Answer, Step};
 use md_array::{BeginFault, ClearFault, FinishFault, StoreFault, WriteMemberFault};
 
 #[derive(Clone, Copy)]
@@ -27,31 +28,37 @@ struct ExpectedRequest {
 pub(crate) struct Expected {
     pub(crate) members: [ExpectedMember; 2],
     // Of these, as many are there.
-    pub(crate) count: usize,
+    count: usize,
     absent_role: bool,
-    pub(crate) clean: bool,
-    pub(crate) marked: bool,
-    pub(crate) halted: bool,
-    pub(crate) events: u64,
+    clean: bool,
+    marked: bool,
+    halted: bool,
+    events: u64,
     next: u64,
     // The numbers of those at sectors 8 and 9.
     in_flight: [Option<u64>; 2],
     last: Option<ExpectedRequest>,
 }
 
+fn opened_member(in_sync: bool, writes_left: u64) -> ExpectedMember {
+    ExpectedMember {
+        in_sync,
+        due: false,
+        marked: false,
+        has: [false; 2],
+        writes_left,
+    }
+}
+
 impl Expected {
     // A clean array with no marks, on devices that take so many writes. With a count of one the second
     // member is not there.
     pub(crate) fn opened(count: usize, events: u64, writes: [u64; 2]) -> Expected {
-        let member = |present: bool, writes_left: u64| ExpectedMember {
-            in_sync: present,
-            due: false,
-            marked: false,
-            has: [false; 2],
-            writes_left,
-        };
         Expected {
-            members: [member(true, writes[0]), member(count == 2, writes[1])],
+            members: [
+                opened_member(true, writes[0]),
+                opened_member(count == 2, writes[1]),
+            ],
             count,
             absent_role: count < 2,
             clean: true,
@@ -64,50 +71,57 @@ impl Expected {
         }
     }
 
-    pub(crate) fn answer(&mut self, step: Step) -> Answer {
-        match step {
-            Step::Begin(sector) => match self.begin(sector) {
-                Ok(number) => Answer::Begun(number),
-                Err(fault) => Answer::NotBegun(fault),
-            },
-            Step::Record(k) | Step::StoreMarks(k) | Step::WriteMember(k) if k >= self.count => {
-                Answer::NotCalled
+    pub(crate) fn shown(&self) -> Shown {
+        let mut due = 0usize;
+        for member in &self.members {
+            if member.due {
+                due = due.saturating_add(1);
             }
-            Step::Record(k) => self
-                .record(k)
-                .map_or_else(Answer::NotStored, |()| Answer::Done),
-            Step::StoreMarks(k) => self
-                .store_marks(k)
-                .map_or_else(Answer::NotStored, |()| Answer::Done),
-            Step::WriteMember(k) => match self.last {
-                Some(request) => self
-                    .write_member(request, k)
-                    .map_or_else(Answer::NotWritten, |()| Answer::Done),
-                None => Answer::NotCalled,
-            },
-            Step::Finish => match self.last {
-                Some(request) => self
-                    .finish(request)
-                    .map_or_else(Answer::NotFinished, |()| Answer::Done),
-                None => Answer::NotCalled,
-            },
-            Step::ClearIdle => self
-                .clear_idle()
-                .map_or_else(Answer::NotCleared, |()| Answer::Done),
+        }
+        Shown {
+            members: self.count,
+            raid_disks: 2,
+            events: self.events,
+            entries: 2,
+            marks: if self.marked { (1, Some(1)) } else { (0, None) },
+            due,
+            in_flight: self.first_in_flight(),
+            clean: self.clean,
+            resynced: true,
+            degraded: self.is_degraded(),
+            halted: self.halted,
         }
     }
 
-    fn begin(&mut self, sector: u64) -> Result<u64, BeginFault> {
+    pub(crate) fn answer(&mut self, step: Step) -> Answer {
+        match step {
+            Step::Begin(sector) => self.begin(sector),
+            Step::Record(k) => self.store(k, false),
+            Step::StoreMarks(k) => self.store(k, true),
+            Step::WriteMember(k) => match self.last {
+                Some(request) if k < self.count => self.write_member(request, k),
+                _ => Answer::NotCalled,
+            },
+            Step::Finish => match self.last {
+                Some(request) => self.finish(request),
+                None => Answer::NotCalled,
+            },
+            Step::ClearIdle => self.clear_idle(),
+            _ => Answer::NotCalled,
+        }
+    }
+
+    fn begin(&mut self, sector: u64) -> Answer {
         if self.halted {
-            return Err(BeginFault::Halted);
+            return Answer::NotBegun(BeginFault::Halted);
         }
         let place = (sector % 2) as usize;
         if let Some(number) = self.in_flight[place] {
-            return Err(BeginFault::Overlaps(number));
+            return Answer::NotBegun(BeginFault::Overlaps(number));
         }
         if self.clean || self.absent_role {
             if self.events == u64::MAX {
-                return Err(BeginFault::EventsFull);
+                return Answer::NotBegun(BeginFault::EventsFull);
             }
             self.rise();
         }
@@ -121,75 +135,65 @@ impl Expected {
             place,
             written: [false; 2],
         });
-        Ok(number)
+        Answer::Begun(number)
     }
 
-    fn record(&mut self, k: usize) -> Result<(), StoreFault> {
+    // The superblock, or the marks.
+    fn store(&mut self, k: usize, marks: bool) -> Answer {
+        if k >= self.count {
+            return Answer::NotCalled;
+        }
         if self.halted {
-            return Err(StoreFault::Halted);
+            return Answer::NotStored(StoreFault::Halted);
         }
         if !self.is_in_sync(k) {
-            return Err(StoreFault::NotActive);
+            return Answer::NotStored(StoreFault::NotActive);
         }
         if !self.takes_write(k) {
-            return Err(self.store_failed(k));
-        }
-        if let Some(member) = self.members.get_mut(k) {
-            member.due = false;
-        }
-        Ok(())
-    }
-
-    fn store_marks(&mut self, k: usize) -> Result<(), StoreFault> {
-        if self.halted {
-            return Err(StoreFault::Halted);
-        }
-        if !self.is_in_sync(k) {
-            return Err(StoreFault::NotActive);
-        }
-        if !self.takes_write(k) {
-            return Err(self.store_failed(k));
+            return Answer::NotStored(if self.goes_on_without(k) {
+                StoreFault::MemberFailed(k)
+            } else {
+                StoreFault::Halted
+            });
         }
         let marked = self.marked;
         if let Some(member) = self.members.get_mut(k) {
-            member.marked = marked;
+            if marks {
+                member.marked = marked;
+            } else {
+                member.due = false;
+            }
         }
-        Ok(())
+        Answer::Done
     }
 
-    fn store_failed(&mut self, k: usize) -> StoreFault {
-        if self.goes_on_without(k) {
-            StoreFault::MemberFailed(k)
-        } else {
-            StoreFault::Halted
-        }
-    }
-
-    fn write_member(&mut self, request: ExpectedRequest, k: usize) -> Result<(), WriteMemberFault> {
+    fn write_member(&mut self, request: ExpectedRequest, k: usize) -> Answer {
         if self.halted {
-            return Err(WriteMemberFault::Halted);
+            return Answer::NotWritten(WriteMemberFault::Halted);
         }
         if !self.is_in_sync(k) {
-            return Err(WriteMemberFault::NotActive);
+            return Answer::NotWritten(WriteMemberFault::NotActive);
         }
-        if let Some(j) = self.members.iter().position(|m| m.in_sync && !m.marked) {
-            return Err(WriteMemberFault::NotMarked(j));
+        for (j, member) in self.members.iter().enumerate() {
+            if member.in_sync && !member.marked {
+                return Answer::NotWritten(WriteMemberFault::NotMarked(j));
+            }
         }
-        if let Some(j) = self.members.iter().position(|m| m.in_sync && m.due) {
-            return Err(WriteMemberFault::NotRecorded(j));
+        if let Some(j) = self.first_due() {
+            return Answer::NotWritten(WriteMemberFault::NotRecorded(j));
         }
         if request.written.get(k) == Some(&true) {
-            return Err(WriteMemberFault::AlreadyWritten);
+            return Answer::NotWritten(WriteMemberFault::AlreadyWritten);
         }
         if !self.takes_write(k) {
-            return Err(if self.goes_on_without(k) {
+            return Answer::NotWritten(if self.goes_on_without(k) {
                 WriteMemberFault::MemberFailed(k)
             } else {
                 WriteMemberFault::Halted
             });
         }
         self.note_written(request, k);
-        Ok(())
+        Answer::Done
     }
 
     fn note_written(&mut self, request: ExpectedRequest, k: usize) {
@@ -203,42 +207,42 @@ impl Expected {
         }
     }
 
-    fn finish(&mut self, request: ExpectedRequest) -> Result<(), FinishFault> {
+    fn finish(&mut self, request: ExpectedRequest) -> Answer {
         if self.halted {
-            return Err(FinishFault::Halted);
+            return Answer::NotFinished(FinishFault::Halted);
         }
         for (k, member) in self.members.iter().enumerate() {
             if member.in_sync && request.written.get(k) == Some(&false) {
-                return Err(FinishFault::Unwritten(k));
+                return Answer::NotFinished(FinishFault::Unwritten(k));
             }
         }
-        if let Some(k) = self.members.iter().position(|m| m.in_sync && m.due) {
-            return Err(FinishFault::MustRecord(k));
+        if let Some(k) = self.first_due() {
+            return Answer::NotFinished(FinishFault::MustRecord(k));
         }
         self.in_flight[request.place % 2] = None;
         self.last = None;
-        Ok(())
+        Answer::Done
     }
 
-    fn clear_idle(&mut self) -> Result<(), ClearFault> {
+    fn clear_idle(&mut self) -> Answer {
         if self.halted {
-            return Err(ClearFault::Halted);
+            return Answer::NotCleared(ClearFault::Halted);
         }
         if self.is_degraded() {
-            return Err(ClearFault::Degraded);
+            return Answer::NotCleared(ClearFault::Degraded);
         }
         if let Some(number) = self.first_in_flight() {
-            return Err(ClearFault::Busy(number));
+            return Answer::NotCleared(ClearFault::Busy(number));
         }
         if !self.marked {
-            return Err(ClearFault::NotMarked);
+            return Answer::NotCleared(ClearFault::NotMarked);
         }
         self.marked = false;
-        Ok(())
+        Answer::Done
     }
 
     // Numbers rise in order of entry.
-    pub(crate) fn first_in_flight(&self) -> Option<u64> {
+    fn first_in_flight(&self) -> Option<u64> {
         match (self.in_flight[0], self.in_flight[1]) {
             (Some(a), Some(b)) => Some(a.min(b)),
             (Some(a), None) => Some(a),
@@ -246,12 +250,25 @@ impl Expected {
         }
     }
 
-    pub(crate) fn is_degraded(&self) -> bool {
-        self.members.iter().any(|member| !member.in_sync)
+    fn is_degraded(&self) -> bool {
+        !self.members[0].in_sync || !self.members[1].in_sync
     }
 
     fn is_in_sync(&self, k: usize) -> bool {
-        self.members.get(k).is_some_and(|member| member.in_sync)
+        match self.members.get(k) {
+            Some(member) => member.in_sync,
+            None => false,
+        }
+    }
+
+    // Of those in sync.
+    fn first_due(&self) -> Option<usize> {
+        for (k, member) in self.members.iter().enumerate() {
+            if member.in_sync && member.due {
+                return Some(k);
+            }
+        }
+        None
     }
 
     fn takes_write(&mut self, k: usize) -> bool {
@@ -265,11 +282,7 @@ impl Expected {
 
     // A write to member k failed: it is faulty, or the mirror is halted.
     fn goes_on_without(&mut self, k: usize) -> bool {
-        let has_other = self
-            .members
-            .iter()
-            .enumerate()
-            .any(|(j, member)| j != k && member.in_sync);
+        let has_other = k < 2 && self.is_in_sync(1 - k);
         if !has_other || self.events == u64::MAX {
             self.halted = true;
             return false;

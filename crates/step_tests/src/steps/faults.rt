@@ -1,6 +1,9 @@
 // What the faults of the steps say.
 use crate::checks::say;
-use md_array::{BeginFault, ClearFault, FinishFault, StoreFault, WriteMemberFault};
+use md_array::{
+    AdmitFault, BeginFault, ClearFault, FinishFault, NoteFault, StoreFault, TargetFault,
+    WriteMemberFault,
+};
 use std::test::Fail;
 
 const BEGIN: [(BeginFault, &str); 7] = [
@@ -45,17 +48,34 @@ const CLEAR: [(ClearFault, &str); 5] = [
     (ClearFault::NotMarked, "NotMarked"),
 ];
 
+const NOTE: [(NoteFault, &str); 3] = [
+    (NoteFault::Halted, "Halted"),
+    (NoteFault::LogFull(63), "LogFull 63"),
+    (NoteFault::NoMemory, "NoMemory"),
+];
+
+const ADMIT: [(AdmitFault, &str); 5] = [
+    (AdmitFault::Halted, "Halted"),
+    (AdmitFault::NoRole, "NoRole"),
+    (AdmitFault::EventsFull, "EventsFull"),
+    (AdmitFault::TargetFault, "TargetFault"),
+    (AdmitFault::NoMemory, "NoMemory"),
+];
+
+const TARGET: [(TargetFault, &str); 2] = [
+    (TargetFault::Halted, "Halted"),
+    (TargetFault::TargetFault, "TargetFault"),
+];
+
 #[test]
-fn step_faults_are_named(rt: HostRuntime) -> Result<(), Fail> {
+fn faults_are_named(rt: HostRuntime) -> Result<(), Fail> {
     let alloc = rt.alloc();
     say(&rt, alloc, &BEGIN)?;
     say(&rt, alloc, &STORE)?;
-    say(&rt, alloc, &FINISH)
-}
-
-#[test]
-fn write_and_clear_faults_are_named(rt: HostRuntime) -> Result<(), Fail> {
-    let alloc = rt.alloc();
+    say(&rt, alloc, &FINISH)?;
     say(&rt, alloc, &WRITE)?;
-    say(&rt, alloc, &CLEAR)
+    say(&rt, alloc, &CLEAR)?;
+    say(&rt, alloc, &NOTE)?;
+    say(&rt, alloc, &ADMIT)?;
+    say(&rt, alloc, &TARGET)
 }

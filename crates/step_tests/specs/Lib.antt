@@ -1,0 +1,2 @@
+-- Devices that are not said to be honest.
+pub mod Unsure
