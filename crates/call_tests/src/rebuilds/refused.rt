@@ -17,11 +17,12 @@ fn expect_refused<R: Abort + Threads + Wait + Sync>(
     fault: RebuildFault,
 ) -> Result<(), Fail> {
     let mut run = run_of(alloc, members)?;
+    let before = run.events();
     let told = run.rebuild(rt, alloc, target, &Silent);
     let events = run.events();
     run.end();
     same(rt, "the fault", told, Some(Err(fault)));
-    same(rt, "the events", events, 10);
+    same(rt, "the events", events, before);
     Ok(())
 }
 
@@ -30,6 +31,14 @@ fn unsure(number: u32) -> Member {
     Member {
         bitmap_behind: 2,
         ..of_three(number, None, numbered())
+    }
+}
+
+// A member at a count that can rise so often.
+fn near_limit(number: u32, left: u64) -> Member {
+    Member {
+        events: u64::MAX - left,
+        ..plain(number, numbered())
     }
 }
 
@@ -42,5 +51,11 @@ fn refused_rebuilds(rt: HostRuntime) -> Result<(), Fail> {
         expect_refused(&rt, alloc, &members, target, RebuildFault::NotSpare)?;
     }
     let members = [unsure(0), unsure(1), unsure(2)];
-    expect_refused(&rt, alloc, &members, 2, RebuildFault::Dirty)
+    expect_refused(&rt, alloc, &members, 2, RebuildFault::Dirty)?;
+    // A spare is admitted, and then it comes into sync: the count has to rise twice.
+    for left in 0..2 {
+        let members = [near_limit(0, left), near_limit(2, left)];
+        expect_refused(&rt, alloc, &members, 1, RebuildFault::EventsFull)?;
+    }
+    Ok(())
 }
