@@ -8,7 +8,7 @@ use crate::images::{Image, Testing, device_of, new_device, used_device};
 use crate::opening::open;
 use crate::shown::{listed_in, stored_on, what_shows};
 use crate::step::{Answer, Step};
-use md_array::{AddFault, Mirror, NoteFault, Pending, ReAddFault};
+use md_array::{AddFault, Mirror, Pending, ReAddFault};
 use md_kept_members::log_room;
 use md_metadata::stop;
 use md_resync::resync;
@@ -88,7 +88,6 @@ impl Run {
         mirror.into_devices()
     }
 
-    // Fails where memory is refused, but for what `NoteBad` says.
     pub(crate) fn make(&mut self, alloc: Global, step: Step) -> Result<Answer, Fail> {
         match step {
             Step::Begin(sector) => Ok(self.begin(sector, &SECTOR)),
@@ -310,15 +309,6 @@ impl Run {
     }
 
     fn note_bad(&mut self, alloc: Global, k: usize, chunk: u32) -> Answer {
-        let before = self.list(k);
-        let answer = self.note(alloc, k, chunk);
-        if answer == Answer::NotNoted(NoteFault::NoMemory) && self.list(k) == before {
-            return self.note(alloc, k, chunk);
-        }
-        answer
-    }
-
-    fn note(&mut self, alloc: Global, k: usize, chunk: u32) -> Answer {
         let mirror = &self.mirror;
         if k >= mirror.members() || !mirror.state(k).is_in_sync() || !mirror.resynced() {
             return Answer::NotCalled;

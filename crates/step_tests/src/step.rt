@@ -41,7 +41,6 @@ pub(crate) enum Step {
     AddUsed,
     // Of the last member.
     Admit,
-    // Where memory is refused the list is as before, and it is done again.
     NoteBad(usize, u32),
     StoreLog(usize),
     // What is looked at.
