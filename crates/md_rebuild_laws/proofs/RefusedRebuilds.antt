@@ -1,5 +1,5 @@
 -- A rebuild that ends for want of memory, or of room in a log: a run leads to where it is recorded how far its target is rebuilt.
-use Rattle.std.proofs.Common.{◌≡◌, ◌∙◌, ◌⊎◌, ℕ, true, List, [], ◌∷◌, slice_get, refl, sym, ap, subst, inl, inr}
+use Rattle.std.proofs.Common.{◌≡◌, ◌∙◌, ◌⊎◌, ℕ, true, List, [], ◌∷◌, slice_get, None, refl, sym, ap, subst, inl, inr}
 use Rattle.std.proofs.lemmas.List.{append-nil}
 use Rattle.md_assembly.specs.States.{is_recovering}
 use Rattle.md_bitmap.specs.Marks.{Bitmap}
@@ -9,9 +9,10 @@ use Rattle.md_passes.specs.Listed.{IsArrayPass}
 use Rattle.md_passes.specs.Passes.{PassView, slots_of}
 use Rattle.md_state.specs.Members.{IsMember}
 use Rattle.md_state.specs.View.{ArrayView, MirrorView}
+use Rattle.md_array.proofs.Steps.Turns.{all_such}
 use Rattle.md_laws.specs.Runs.{Moment}
 use Rattle.md_copy.specs.Filling.{IsFilling}
-use Rattle.md_copy.specs.Listing.{NotesLists}
+use Rattle.md_copy.specs.Listing.{IsStoringList, NotesLists}
 use Rattle.md_copy.specs.Passing.{AreListedPasses, CopiesAll, RecordsPass}
 use Rattle.md_copy.specs.Rebuilding.{Begins, LacksMemory, LacksRoom}
 use Rattle.md_copy.specs.Rebuilt.{failed_of}
@@ -20,14 +21,14 @@ use Rattle.md_copy.proofs.PassesTold.{HoldsSoFar, chain_holds}
 use Rattle.md_copy.proofs.PassesTold as told
 use Rattle.md_copy.proofs.PassRecorded.{recorded_ready}
 use Rattle.md_copy.proofs.ReadyStill.{ready_noted}
-use Rattle.md_copy.proofs.RebuildLeads.{begin_holds, filled}
+use Rattle.md_copy.proofs.RebuildLeads.{begin_holds, filled, listing_before}
 use Rattle.md_rebuild_laws.specs.RebuildRuns.{LogsUnshifted}
-use Rattle.md_rebuild_laws.specs.RefusedRebuilds.{HasStopped, HasUnshifted, RefusedIsARun, StopsLeaving, StopsLeavingAnyhow, StopsUnleft, passes_then}
+use Rattle.md_rebuild_laws.specs.RefusedRebuilds.{HasLost, HasStopped, HasUnshifted, LostIsARun, RefusedIsARun, StopsLeaving, StopsLeavingAnyhow, StopsLeavingLost, StopsLeavingLostAnyhow, StopsUnleft, StopsUnleftLost, passes_then}
 use Rattle.md_rebuild_laws.proofs.RebuildRun.{stays_along}
 use Rattle.md_rebuild_laws.proofs.RebuildSteps.{Before, IfSome, all_come, fill_comes, noted_comes, passes_come, ready_comes, recorded_comes, some_map, unshifted_if}
 use Rattle.md_rebuild_laws.proofs.SpoiledRebuilds.{later_anyhow, offset_anyhow}
-use Rattle.md_rebuild_laws.proofs.Steady.{Comes, IsSteadyAt, comes_then, end, end_steady, steady_at, steady_with}
-use Rattle.md_rebuild_laws.proofs.StoppedRebuilds.{later_stop, recording_stop, unrecorded_offset_stop}
+use Rattle.md_rebuild_laws.proofs.Steady.{Comes, IsSteadyAt, comes_by, comes_then, end, end_steady, steady_at, steady_with}
+use Rattle.md_rebuild_laws.proofs.StoppedRebuilds.{later_stop, passed, passed_holds, recording_stop, unrecorded_offset_stop}
 use Rattle.md_rebuild_laws.proofs.Unshifted.{Unshifted, unshifted_ready}
 
 -- a run leads there, and the target is recovering then
@@ -123,6 +124,15 @@ stopped_so target t at copied stopped h un =
     let x = ends_so target t at copied stopped h.ready h.none h.begins h.why un in
     record { comes = comes_then c x.comes; recovers = x.recovers }
 
+-- ---- where a list of a source could not be stored
+lost_comes : (target : ℕ) (t : Moment) → IsSteadyAt t → (last : MirrorView) → HasLost target t last → Comes (Before target) t last
+lost_comes target t at last h =
+    let c = passed target h.chunks h.copied t at h.now h.passed in
+    let d = comes_then c (recorded_comes target h.chunks h.pass h.copied h.after (end c) (end_steady c at) (passed_holds target h.chunks h.copied t at h.now h.passed) h.recorded h.records) in
+    let e = comes_then d (noted_comes target h.pass.failed (end d) (end_steady d at) h.noted h.notes) in
+    comes_then e
+    (comes_by (Before target) (end e) last h.goes.events (all_such IsStoringList (Before target) (listing_before target) h.goes.events h.goes.steps) (h.goes.leads None t.requests h.in_flight) (end_steady e at) h.whole)
+
 -- ---- in lives
 pub refused_is_a_run : RefusedIsARun
 refused_is_a_run before m a start holds es rest final t b life target copied stopped h un =
@@ -146,3 +156,26 @@ stops_leaving_anyhow before m start es rest final t life target copied stopped n
     let at = steady_at before m start es rest final t life in
     let x = stopped_so target t at copied stopped h un in
     later_anyhow target t x.comes left (offset_anyhow target (end x.comes) (end_steady x.comes at) x.recovers copied new call left within)
+
+pub lost_is_a_run : LostIsARun
+lost_is_a_run before m a start holds es rest final t b life target last h =
+    let c = lost_comes target t (steady_with before m a start holds es rest final t b life) last h in
+    record { events = c.events; steps = c.steps; at = end c; run = stays_along target c.events t b (end c) c.steps c.run; there = refl }
+
+pub stops_leaving_lost : StopsLeavingLost
+stops_leaving_lost before m start es rest final t life target nothing last new h r left within super =
+    let at = steady_at before m start es rest final t life in
+    let c = lost_comes target t at last h in
+    later_stop target t c left (recording_stop target (end c) (end_steady c at) h.recovers nothing new r left within super)
+
+pub stops_unleft_lost : StopsUnleftLost
+stops_unleft_lost before m start es rest final t life target nothing last new h f left within same =
+    let at = steady_at before m start es rest final t life in
+    let c = lost_comes target t at last h in
+    later_stop target t c left (unrecorded_offset_stop target (end c) (end_steady c at) h.recovers nothing new f left within same)
+
+pub stops_leaving_lost_anyhow : StopsLeavingLostAnyhow
+stops_leaving_lost_anyhow before m start es rest final t life target nothing last new h call left within =
+    let at = steady_at before m start es rest final t life in
+    let c = lost_comes target t at last h in
+    later_anyhow target t c left (offset_anyhow target (end c) (end_steady c at) h.recovers nothing new call left within)

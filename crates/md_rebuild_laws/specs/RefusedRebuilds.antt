@@ -1,21 +1,29 @@
 -- A rebuild that ends with a fault once passes may be made: up to where it is recorded a last time how far its target is rebuilt it is a run, and a
 -- stop while that is recorded is one of a run, too.
-use Rattle.std.specs.Prelude.{◌≡◌, ◌⊎◌, ℕ, List}
+use Rattle.std.specs.Prelude.{◌≡◌, ◌⊎◌, ℕ, true, List, None}
 use Rattle.std.proofs.Common.{inl, inr}
+use Rattle.md_assembly.specs.States.{is_recovering}
 use Rattle.md_bitmap.specs.Marks.{Bitmap}
 use Rattle.md_kept_members.specs.View.{MemberView}
 use Rattle.md_passes.specs.Passes.{PassView}
 use Rattle.md_state.specs.DiskWrites.{AtDevice}
+use Rattle.md_state.specs.Members.{IsMember}
+use Rattle.md_state.specs.Requests.{AreInFlight}
 use Rattle.md_state.specs.View.{Disk, MirrorView}
 use Rattle.md_array.specs.Checkpoints.{Checkpoints, FailsToCheckpoint}
+use Rattle.md_array.specs.InTurn.{AllLeftWhole}
 use Rattle.md_array.specs.Worlds.{block_on}
 use Rattle.md_laws.specs.Left.{contents_of}
+use Rattle.md_laws.specs.Runs.{Moment}
 use Rattle.md_laws.specs.StopsWithin.{MayAllBeLeft}
+use Rattle.md_metadata.specs.Going.{GoesOn, only_others}
+use Rattle.md_copy.specs.Listing.{IsStoringList, NotesLists}
+use Rattle.md_copy.specs.Passing.{RecordsPass}
 use Rattle.md_copy.specs.RebuildEvents.{IsBeforeEnrol}
 use Rattle.md_copy.specs.Rebuilding.{Begins, LacksMemory, LacksRoom}
 use Rattle.md_copy.specs.Rebuilt.{failed_of}
 use Rattle.md_rebuild_laws.specs.RebuildRuns.{AtMomentsWith, LogsUnshifted, RunsTo}
-use Rattle.md_rebuild_laws.specs.StoppedRebuilds.{AtMoments, IsStopBefore, IsStopUnfinished, IsSuperWhole}
+use Rattle.md_rebuild_laws.specs.StoppedRebuilds.{AtMoments, HasPassed, IsStopBefore, IsStopUnfinished, IsSuperWhole}
 
 -- Memory was refused, or a log had no room, with these chunks copied. So far it came.
 pub record HasStopped (target : ℕ) (copied : Bitmap) (old stopped : MirrorView) : Type 0 where
@@ -65,3 +73,47 @@ StopsLeavingAnyhow =
     ((target : ℕ) (copied : Bitmap) (stopped new : MirrorView) (h : HasStopped target copied t.mirror stopped) → HasUnshifted h
     → Checkpoints target copied stopped new ⊎ FailsToCheckpoint target copied stopped new
     → (left : List Disk) → MayAllBeLeft stopped.disks new.disks (contents_of left) → IsStopUnfinished target t left))
+
+-- ---- where a list of a source could not be stored
+-- So far it came, by these events: of them a write may have failed, and each that did left of a superblock the old one, the new one or none; each log
+-- was read without a shift, or stored since (`AllLeftWhole`). The target is recovering still.
+pub record HasLost (target : ℕ) (t : Moment) (last : MirrorView) : Type 0 where
+  pub chunks : List ℕ
+  pub copied : Bitmap
+  pub after : Bitmap
+  pub now : MirrorView
+  pub passed : HasPassed target chunks copied t.mirror now
+  pub pass : PassView
+  pub recorded : MirrorView
+  pub records : RecordsPass target chunks pass copied after now recorded
+  pub noted : MirrorView
+  pub notes : NotesLists pass.failed recorded noted
+  pub goes : GoesOn only_others only_others IsStoringList noted last
+  pub in_flight : AreInFlight noted.array t.requests
+  pub whole : AllLeftWhole goes.events None noted t.requests (λ m r. (m ≡ last) × (r ≡ t.requests)) (goes.leads None t.requests in_flight)
+  pub recovers : (m : MemberView) → IsMember last.array target m → is_recovering m.state ≡ true
+
+abbrev pub LostIsARun : Type 0
+LostIsARun = AtMomentsWith (λ t content. ((target : ℕ) (last : MirrorView) → HasLost target t last → RunsTo (IsBeforeEnrol target) t content last))
+
+-- while it is recorded then how far the target is rebuilt
+abbrev pub StopsLeavingLost : Type 0
+StopsLeavingLost =
+    AtMoments (λ t.
+    ((target : ℕ) (nothing : Bitmap) (last new : MirrorView) → HasLost target t last → Checkpoints target nothing last new
+    → (left : List Disk) → MayAllBeLeft last.disks new.disks (contents_of left) → IsSuperWhole target last new left → IsStopBefore target t left))
+
+-- or that fails
+abbrev pub StopsUnleftLost : Type 0
+StopsUnleftLost =
+    AtMoments (λ t.
+    ((target : ℕ) (nothing : Bitmap) (last new : MirrorView) → HasLost target t last → FailsToCheckpoint target nothing last new
+    → (left : List Disk) → MayAllBeLeft last.disks new.disks (contents_of left) → AtDevice target last.disks left (λ d e. block_on e.content ≡ block_on d.content)
+    → IsStopBefore target t left))
+
+-- whatever stands in place of its superblock
+abbrev pub StopsLeavingLostAnyhow : Type 0
+StopsLeavingLostAnyhow =
+    AtMoments (λ t.
+    ((target : ℕ) (nothing : Bitmap) (last new : MirrorView) → HasLost target t last → Checkpoints target nothing last new ⊎ FailsToCheckpoint target nothing last new
+    → (left : List Disk) → MayAllBeLeft last.disks new.disks (contents_of left) → IsStopUnfinished target t left))

@@ -2,7 +2,7 @@
 
 ghost use Rattle.md_rebuild_laws.specs.RebuildRuns.{RebuildIsARun, RebuildRunsOn};
 ghost use Rattle.md_rebuild_laws.specs.RebuiltInLife.{CopiesContent, HeldInLives, NewHadNothing, RebuildsContent, RebuildsResumed, RecoveringHeldIt, TakenBackHeldIt};
-ghost use Rattle.md_rebuild_laws.specs.RefusedRebuilds.{RefusedIsARun, StopsLeaving, StopsLeavingAnyhow, StopsUnleft};
+ghost use Rattle.md_rebuild_laws.specs.RefusedRebuilds.{LostIsARun, RefusedIsARun, StopsLeaving, StopsLeavingAnyhow, StopsLeavingLost, StopsLeavingLostAnyhow, StopsUnleft, StopsUnleftLost};
 ghost use Rattle.md_rebuild_laws.specs.StoppedRebuilds.{StopsAdmitting, StopsAdmittingAnyhow, StopsAnyhow, StopsAtCheckpoint, StopsAtCheckpointAnyhow, StopsAtFailedCheckpoint, StopsEnrolled, StopsEnrolling, StopsEnrollingAnyhow, StopsFilling, StopsInRebuild, StopsListing, StopsPassUnrecorded, StopsRecording, StopsRecordingAnyhow, StopsSettling, StopsStoring, StopsTelling, StopsUnadmitted, StopsUnadmittedAnyhow, StopsUnenrolled, StopsUnenrolledAnyhow, StopsUnrecorded};
 
 /// A mirror was opened from devices that do what they answer, whose stored marks covered what they differ in,
@@ -67,15 +67,18 @@ pub fn stopped_rebuilds()
     ensures anyhow { StopsAnyhow }
 {}
 
-/// One that ends with `NoMemory` or `LogFull`, once passes may be made, is a run up to where it is recorded how far its
-/// target is rebuilt; and a stop while that is recorded is one of a run. (Where a list of a source could not be
-/// stored, it is a run by what was stored and failed, and `stopped_rebuilds` tells of a stop in what comes then:
-/// clauses `listing`, and wherever a life has come to, `checkpoint`.)
+/// One that ends with `NoMemory`, `LogFull` or, for a list of a source that could not be stored, `MetadataFault`, once
+/// passes may be made, is a run up to where it is recorded how far its target is rebuilt; and a stop while that is
+/// recorded is one of a run.
 pub fn refused_rebuilds()
     ensures runs { RefusedIsARun }
     ensures leaving { StopsLeaving }
     ensures unleft { StopsUnleft }
+    ensures lost { LostIsARun }
+    ensures leaving_lost { StopsLeavingLost }
+    ensures unleft_lost { StopsUnleftLost }
 
     // Whatever stands in place of the target's superblock.
     ensures leaving_anyhow { StopsLeavingAnyhow }
+    ensures leaving_lost_anyhow { StopsLeavingLostAnyhow }
 {}
