@@ -1,5 +1,5 @@
 -- What a rebuild answers, by the step that ends it.
-use Rattle.std.proofs.Common.{◌≡◌, ◌∙◌, ℕ, List, length, refl, sym, ap, subst, inl, inr}
+use Rattle.std.proofs.Common.{◌∙◌, ℕ, List, length, refl, sym, ap, subst, inl, inr}
 use Rattle.std.proofs.lemmas.List.{length-map}
 use Rattle.md_bitmap.specs.Marks.{Bitmap}
 use Rattle.md_kept_members.specs.View.{MemberView}

@@ -1,12 +1,12 @@
 -- A checkpoint is an event of the array's model, and one that fails spoils its member.
-use Rattle.std.proofs.Common.{◌≡◌, ◌∙◌, ℕ, false, List, set, refl, sym, ap}
+use Rattle.std.proofs.Common.{◌∙◌, ℕ, false, List, refl, sym, ap}
 use Rattle.std.proofs.lemmas.Option.{slice_get_within}
 use Rattle.md_bitmap.specs.Marks.{Bitmap}
 use Rattle.md_kept_members.specs.TakingBack.{with_offset}
 use Rattle.md_kept_members.specs.View.{MemberView}
 use Rattle.md_model.specs.Content.{Content}
 use Rattle.md_state.specs.Checkpoints.{with_offset_of}
-use Rattle.md_state.specs.View.{ArrayView, MirrorView}
+use Rattle.md_state.specs.View.{MirrorView}
 use Rattle.md_array.specs.Checkpoints.{Checkpoints, MovesOffset, checkpoint_event}
 use Rattle.md_array.specs.Consistency.{IsConsistent}
 use Rattle.md_array.specs.Enrolling.{HasContent}

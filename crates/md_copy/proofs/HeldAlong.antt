@@ -1,6 +1,6 @@
 -- What the members in sync hold of a content while nothing is in flight, they hold along the events by which marks and superblocks are stored
 -- and a spare is admitted.
-use Rattle.std.proofs.Common.{◌≡◌, ◌∙◌, ℕ, ◌+◌, ◌*◌, ◌<◌, true, false, cond, ◌&&◌, nat_lt, List, [], ◌∷◌, slice_get, Option, Some, None, refl, sym, ap, subst, arith, inl}
+use Rattle.std.proofs.Common.{◌≡◌, ◌∙◌, ℕ, ◌+◌, ◌*◌, ◌<◌, true, cond, ◌&&◌, nat_lt, List, [], ◌∷◌, slice_get, Option, Some, None, refl, sym, ap, subst, arith, inl}
 use Rattle.std.proofs.lemmas.Option.{none-some, slice_get_within}
 use Rattle.md_assembly.proofs.Indices.{got_within}
 use Rattle.md_device.specs.Splice.{part}
@@ -12,8 +12,7 @@ use Rattle.md_model.specs.Sectors.{Geometry}
 use Rattle.md_model.specs.Worlds.{World}
 use Rattle.md_model.proofs.Cases.{below-nat_lt}
 use Rattle.md_state.specs.Members.{IsInSync}
-use Rattle.md_state.specs.View.{ArrayView, Disk, MirrorView, geometry_of}
-use Rattle.md_array.specs.Admitting.{Admits, admit_event}
+use Rattle.md_state.specs.View.{Disk, MirrorView, geometry_of}
 use Rattle.md_array.specs.Consistency.{IsConsistent}
 use Rattle.md_array.specs.Enrolling.{HasContent}
 use Rattle.md_array.specs.Events.{Does}

@@ -1,6 +1,6 @@
 -- What the target holds of the array, it may come into sync with.
-use Rattle.std.proofs.Common.{◌≡◌, ◌≢◌, ◌∙◌, ℕ, ◌+◌, ◌*◌, ◌<◌, true, false, length, slice_get, Some, refl, sym, ap, subst, arith, inl, inr}
-use Rattle.std.proofs.lemmas.Option.{same_Some, slice_get_within}
+use Rattle.std.proofs.Common.{◌≡◌, ◌∙◌, ℕ, ◌+◌, ◌*◌, ◌<◌, true, false, length, slice_get, Some, subst, arith}
+use Rattle.std.proofs.lemmas.Option.{slice_get_within}
 use Rattle.md_assembly.proofs.Indices.{got_within}
 use Rattle.md_device.specs.Splice.{part}
 use Rattle.md_bitmap.specs.Chunks.{InChunk}
@@ -8,13 +8,13 @@ use Rattle.md_bitmap.specs.Marks.{Bitmap, is_set}
 use Rattle.md_kept_members.specs.View.{MemberView}
 use Rattle.md_model.specs.Content.{Content}
 use Rattle.md_model.proofs.Cases.{by_test}
-use Rattle.md_state.specs.Members.{IsInSync, IsMember}
-use Rattle.md_state.specs.View.{ArrayView, Disk, MirrorView}
+use Rattle.md_state.specs.Members.{IsMember}
+use Rattle.md_state.specs.View.{Disk, MirrorView}
 use Rattle.md_array.specs.Checkpoints.{MayCheckpoint}
 use Rattle.md_array.specs.Consistency.{IsConsistent}
 use Rattle.md_array.specs.Enrolling.{HasContent, HoldsCopied}
 use Rattle.md_array.specs.Worlds.{AreHonest, is_listed}
-use Rattle.md_copy.specs.Held.{AreHeld, IsHeld}
+use Rattle.md_copy.specs.Held.{IsHeld}
 use Rattle.md_copy.specs.Ready.{IsReady, IsRecordable}
 use Rattle.md_copy.proofs.Sectors.{same_sector}
 

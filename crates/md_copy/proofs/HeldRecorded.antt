@@ -1,6 +1,6 @@
 -- What the target holds of the array it holds once how far it is rebuilt is recorded, and it lacks what it lacked, but for what was copied.
-use Rattle.std.proofs.Common.{◌≡◌, ◌≢◌, ◌∙◌, ◌⊎◌, ℕ, ◌+◌, ◌*◌, ◌<◌, ◌≤◌, ◌||◌, ◌&&◌, Bool, true, false, not, leb, length, max, get_or, slice_get, Some, refl, sym, ap, subst, arith, inl, inr}
-use Rattle.std.proofs.lemmas.Bool.{both_ways, cases_Bool, cases_eq, cases_lt, or_left, or_right}
+use Rattle.std.proofs.Common.{◌≡◌, ◌≢◌, ◌∙◌, ℕ, ◌+◌, ◌*◌, ◌<◌, ◌≤◌, ◌||◌, Bool, true, false, not, leb, length, max, get_or, slice_get, Some, refl, sym, ap, subst, arith, inl, inr}
+use Rattle.std.proofs.lemmas.Bool.{both_ways, cases_Bool, cases_lt, or_right}
 use Rattle.std.proofs.lemmas.Bool.Decides.{nat_tests}
 use Rattle.std.proofs.lemmas.Nat.{mul-le}
 use Rattle.std.proofs.lemmas.Grind.{div_ceil_times}
@@ -20,7 +20,7 @@ use Rattle.md_kept_members.specs.TakingBack.{with_offset}
 use Rattle.md_kept_members.specs.View.{MemberView}
 use Rattle.md_model.specs.Rebuilding.{lacks}
 use Rattle.md_model.specs.Sectors.{is_passed}
-use Rattle.md_state.specs.Checkpoints.{IsFirstStop, IsNextOffset, Stops}
+use Rattle.md_state.specs.Checkpoints.{Stops}
 use Rattle.md_state.specs.Members.{IsMember}
 use Rattle.md_state.specs.Missing.{has_passed, is_missing}
 use Rattle.md_state.specs.View.{ArrayView, Disk, MirrorView, geometry_of}
@@ -29,7 +29,6 @@ use Rattle.md_array.specs.Consistency.{IsConsistent}
 use Rattle.md_array.specs.Enrolling.{KeepsData}
 use Rattle.md_array.proofs.General.Indices.{at_set_same, got_other}
 use Rattle.md_copy.specs.Held.{AreHeld, IsHeld}
-use Rattle.md_copy.specs.RebuildSources.{Serves}
 use Rattle.md_copy.proofs.Sectors.{chunk_within, same_chunk}
 use Rattle.md_copy.proofs.StoringKeeps.{beside_super_of, places_of}
 

@@ -1,5 +1,5 @@
 -- What comes of a pass of which slots failed, once they are listed or are not.
-use Rattle.std.proofs.Common.{◌≡◌, ℕ, List, All, Result, Ok, Err, MatchResult, map, inl, inr}
+use Rattle.std.proofs.Common.{◌≡◌, List, All, Result, Ok, Err, MatchResult, map, inr}
 use Rattle.std.specs.Prelude.{IfErr, IfOk}
 use Rattle.md_cert.specs.declared.slots.Slot.{Slot}
 use Rattle.md_cert.specs.declared.table.Row.{Row}

@@ -1,5 +1,5 @@
 -- Where the list of a member in sync is stored, whatever fails, its data are as before, and of the others nothing changes but that they are due.
-use Rattle.std.proofs.Common.{◌≡◌, ◌≢◌, ◌∙◌, ◌⊎◌, ℕ, ◌+◌, ◌*◌, ◌<◌, ◌≤◌, Bool, true, false, if◌then◌else◌, List, [], ◌∷◌, length, length-set, map, set, slice_get, Option, Some, None, pos, refl, sym, ap, subst, arith, inl, inr}
+use Rattle.std.proofs.Common.{◌≡◌, ◌≢◌, ◌∙◌, ℕ, ◌+◌, ◌*◌, ◌<◌, Bool, true, false, if◌then◌else◌, List, [], ◌∷◌, length, length-set, map, set, slice_get, Option, Some, None, pos, refl, sym, ap, subst, arith, inl, inr}
 use Rattle.std.proofs.lemmas.Bool.{cases_eq}
 use Rattle.std.proofs.lemmas.Int.{ints}
 use Rattle.std.proofs.lemmas.Option.{none-some, same_Some, slice_get_within}
@@ -8,7 +8,7 @@ use Rattle.md_assembly.proofs.Indices.{got_within}
 use Rattle.md_bitmap.specs.Marks.{Bitmap}
 use Rattle.md_bitmap.proofs.Blocks.{length-bitmap_sector}
 use Rattle.md_device.specs.Splice.{SameOutside, part}
-use Rattle.md_kept_members.specs.Enrolling.{HasRoomFor, logged_superblock}
+use Rattle.md_kept_members.specs.Enrolling.{HasRoomFor}
 use Rattle.md_kept_members.specs.Members.{made_due}
 use Rattle.md_kept_members.specs.View.{MemberView}
 use Rattle.md_members.specs.declared.area.Area.{Area}
@@ -38,7 +38,7 @@ use Rattle.md_array.proofs.Rebuilding.LogStored.{is_log, log_of}
 use Rattle.md_array.proofs.Rebuilding.MemberStored.{log_long}
 use Rattle.md_array.proofs.Worlds.Outside.{LiesIn, apart_either_way, apart_from_part, sector_at_is, stays}
 use Rattle.md_metadata.specs.Going.{GoesOn, HaltsAfter, only_others}
-use Rattle.md_metadata.specs.Storing.{IsFailureOf, IsNoFailure}
+use Rattle.md_metadata.specs.Storing.{IsNoFailure}
 use Rattle.md_metadata.specs.StoringLists.{IsListing}
 use Rattle.md_copy.specs.Listing.{WritesMetadata}
 use Rattle.md_copy.proofs.StoringKeeps.{fails_many, set_state}
@@ -346,9 +346,10 @@ module _ (old new : MirrorView) where
       (subst (λ i. LeavesBeside i old new) of (log_failed j h.member h.write h.in_sync.member h.room h.among h.halts.disks.tried changes), subst (λ i. Halts i old.array new.array) of h.halts.array)
   halts_event k (Event.StoreMarks j b) of h = absurd h
   halts_event k (Event.StoreMarksFails j b) of h =
-      let changes = same_changes j old.array new.array (ap (λ (v : ArrayView). v.members) h.halts.array.array) in
-      (subst (λ i. LeavesBeside i old new) of.0 (marks_event j b h.member h.write of.1 h.may.in_sync.member h.may.write h.halts.disks.tried changes),
-      subst (λ i. Halts i old.array new.array) of.0 h.halts.array)
+      let changes = same_changes j old.array new.array (ap (λ (v : ArrayView). v.members) h.halts.array.array) in (
+        subst (λ i. LeavesBeside i old new) of.0 (marks_event j b h.member h.write of.1 h.may.in_sync.member h.may.write h.halts.disks.tried changes),
+        subst (λ i. Halts i old.array new.array) of.0 h.halts.array,
+      )
   halts_event k (Event.Record j) of h = absurd h
   halts_event k (Event.RecordFails j) of h =
       let changes = same_changes j old.array new.array (ap (λ (v : ArrayView). v.members) h.halts.array.array) in

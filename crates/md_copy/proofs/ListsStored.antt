@@ -1,6 +1,6 @@
 -- Lists are stored, member by member.
-use Rattle.std.proofs.Common.{◌≡◌, ◌≢◌, ◌∙◌, ◌⊎◌, ◌↔◌, ℕ, ◌+◌, ◌<◌, ◌≤◌, Bool, true, false, ◌&&◌, ◌||◌, List, [], ◌∷◌, ◌++◌, length, get_or, take, set, slice_get, Some, refl, sym, ap, subst, arith, inl, inr}
-use Rattle.std.specs.Prelude.{All, Result, Ok, Err, MatchResult, filter}
+use Rattle.std.proofs.Common.{◌≡◌, ◌≢◌, ◌∙◌, ◌⊎◌, ◌↔◌, ℕ, ◌+◌, ◌<◌, ◌≤◌, Bool, true, false, ◌&&◌, ◌||◌, List, [], ◌∷◌, ◌++◌, length, get_or, take, slice_get, refl, sym, ap, subst, arith, inl, inr}
+use Rattle.std.specs.Prelude.{All, filter}
 use Rattle.std.specs.List.{AllPairs, Any, list_any}
 use Rattle.std.proofs.lemmas.Bool.{both_ways, cases_Bool, cases_eq, cases_lt}
 use Rattle.std.proofs.lemmas.Grind.{common_steps}
@@ -22,7 +22,7 @@ use Rattle.md_kept_members.specs.View.{MemberView}
 use Rattle.md_model.specs.Events.{Event}
 use Rattle.md_super.specs.declared.superblock.Superblock.{Superblock}
 use Rattle.md_state.specs.Members.{AllInSync, IsInSync, IsMember}
-use Rattle.md_state.specs.Rising.{Halts, HasSpentEvents}
+use Rattle.md_state.specs.Rising.{HasSpentEvents}
 use Rattle.md_state.specs.View.{ArrayView, MirrorView}
 use Rattle.md_state.specs.WritingMember.{IsNotDue}
 use Rattle.md_array.specs.Consistency.{IsConsistent}
@@ -32,7 +32,7 @@ use Rattle.md_array.proofs.General.Replaced.{of_set}
 use Rattle.md_array.proofs.Worlds.States.{in_sync_recorded}
 use Rattle.md_metadata.specs.declared.fault.PartFault.{PartFault}
 use Rattle.md_metadata.specs.declared.fault.PartFault.TheVariants as part
-use Rattle.md_metadata.specs.Storing.{HaltsAtWrite, IsNoFailure, IsUpToDate}
+use Rattle.md_metadata.specs.Storing.{IsNoFailure, IsUpToDate}
 use Rattle.md_metadata.specs.StoringLists.{HasStoredList, IsListing, ListFails, StoresList, list_events}
 use Rattle.md_metadata.proofs.Going.{GoesUnfailing, halts_as, stops_as, unfailing_as, unfailing_halts, unfailing_loses, unfailing_none, unfailing_on}
 use Rattle.md_metadata.proofs.Steps.{is_now}

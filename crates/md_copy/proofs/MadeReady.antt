@@ -9,7 +9,7 @@ use Rattle.md_kept_members.specs.View.{MemberView}
 use Rattle.md_state.specs.Members.{IsMember}
 use Rattle.md_state.specs.Missing.{is_rebuilt}
 use Rattle.md_state.specs.Rising.{HasSpentEvents}
-use Rattle.md_state.specs.View.{ArrayView, MirrorView}
+use Rattle.md_state.specs.View.{MirrorView}
 use Rattle.md_array.specs.Admitting.{Admits}
 use Rattle.md_array.specs.Consistency.{IsConsistent}
 use Rattle.md_array.proofs.Rebuilding.InBetween.{recovers_rebuilt}

@@ -1,6 +1,6 @@
 -- Chunks come to the lists of their sources in memory, slot by slot.
-use Rattle.std.proofs.Common.{◌≡◌, ◌∙◌, ◌⊎◌, ℕ, ◌+◌, ◌^◌, ◌<◌, ◌≤◌, Bool, true, false, not, cond, List, [], ◌∷◌, ◌++◌, length, get_or, set, slice_get, take, drop, Some, refl, sym, ap, subst, arith, inl, inr}
-use Rattle.std.specs.Prelude.{All, filter}
+use Rattle.std.proofs.Common.{◌≡◌, ◌∙◌, ℕ, ◌+◌, ◌^◌, ◌<◌, ◌≤◌, Bool, true, false, not, cond, List, [], ◌∷◌, ◌++◌, length, get_or, set, slice_get, take, drop, refl, sym, ap, subst, arith, inl, inr}
+use Rattle.std.specs.Prelude.{filter}
 use Rattle.std.proofs.lemmas.Bool.{both_ways}
 use Rattle.std.proofs.lemmas.List.{append_assoc, take-append-drop, take_all}
 use Rattle.std.proofs.lemmas.List.Elements.{All-append, All-cons, All-weaker, filter-append, filter_more}
@@ -20,11 +20,11 @@ use Rattle.md_array.specs.Consistency.{IsConsistent}
 use Rattle.md_array.specs.Events.{Happens}
 use Rattle.md_array.specs.Listing.{IsWhole, NotesChunk, RefusesChunk}
 use Rattle.md_array.proofs.General.Replaced.{of_set}
-use Rattle.md_metadata.specs.Going.{GoesOn, only_others}
+use Rattle.md_metadata.specs.Going.{only_others}
 use Rattle.md_metadata.proofs.Going.{goes_nowhere, goes_on, goes_step}
 use Rattle.md_metadata.proofs.Steps.{same_but}
 use Rattle.md_pass.specs.Copied.{failed_slots, is_failed_slot}
-use Rattle.md_passes.specs.Listed.{IsSourceOf, ListsFailed}
+use Rattle.md_passes.specs.Listed.{IsSourceOf}
 use Rattle.md_passes.proofs.Listing.{lists_add}
 use Rattle.md_copy.specs.declared.fault.RebuildFault.{RebuildFault}
 use Rattle.md_copy.specs.declared.fault.RebuildFault.TheVariants.{LogFull}

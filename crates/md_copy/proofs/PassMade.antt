@@ -1,7 +1,6 @@
 -- A pass that was planned and made, and is recorded.
-use Rattle.std.proofs.Common.{◌≡◌, ◌∙◌, ◌⊎◌, ◌↔◌, ℕ, ◌<◌, true, false, not, List, length, filter, Contains, All, get_or, map, refl, sym, ap, subst, arith, inl, inr}
+use Rattle.std.proofs.Common.{◌≡◌, ◌∙◌, ◌↔◌, ℕ, ◌<◌, true, false, List, length, Contains, All, get_or, refl, sym, ap, subst, inl, inr}
 use Rattle.std.specs.Int.{bit_at, div_ceil}
-use Rattle.std.specs.List.{AllPairs}
 use Rattle.std.proofs.lemmas.Bool.{both_ways}
 use Rattle.std.proofs.lemmas.List.Elements.{All-contains_itself, All-filter}
 use Rattle.std.proofs.lemmas.List.Kept.{AllPairs-filter}
@@ -33,11 +32,11 @@ use Rattle.md_copy.specs.declared.fault.RebuildFault.TheVariants.{Halted, NotSpa
 use Rattle.md_copy.specs.declared.passes.Passed.{Passed}
 use Rattle.md_copy.specs.Filling.{BreaksPass, FillsPass}
 use Rattle.md_copy.specs.Held.{AreHeld}
-use Rattle.md_copy.specs.Passing.{BreaksOff, FailsOne, FailsRecording, IsTableFor, MakesOne, MakesPass, RecordsPass}
+use Rattle.md_copy.specs.Passing.{BreaksOff, FailsOne, IsTableFor, MakesOne, MakesPass}
 use Rattle.md_copy.specs.Preparing.{IsNoMemory}
 use Rattle.md_copy.specs.Ready.{IsReady}
 use Rattle.md_copy.specs.RebuildSources.{IsPlanOf}
-use Rattle.md_copy.specs.Sources.{HasSources, IsLacking, IsTableIn}
+use Rattle.md_copy.specs.Sources.{IsTableIn}
 use Rattle.md_copy.proofs.HeldChunks.{may_record, recordable}
 use Rattle.md_copy.proofs.HeldFilled.{held_filled}
 use Rattle.md_copy.proofs.LentBack.{planned_missing}

@@ -1,5 +1,5 @@
 -- What holds once a pass is recorded, and once what failed in it is listed.
-use Rattle.std.proofs.Common.{◌≡◌, ◌∙◌, ℕ, ◌+◌, ◌*◌, ◌<◌, ◌≤◌, ◌==◌, true, false, List, [], length, length-set, Contains, All, get_or, slice_get, Some, refl, sym, ap, subst, arith, inl, inr}
+use Rattle.std.proofs.Common.{◌≡◌, ◌∙◌, ℕ, ◌<◌, ◌==◌, true, false, List, [], length, length-set, Contains, All, get_or, slice_get, refl, sym, ap, subst, arith, inl, inr}
 use Rattle.std.specs.Int.{div_ceil}
 use Rattle.std.proofs.lemmas.Bool.{cases_eq, eqb-true, not-true}
 use Rattle.std.proofs.lemmas.List.Elements.{All-contains, Contains-get_or, filter_passes}

@@ -1,5 +1,5 @@
 -- Passes are made one after another: what holds between two of them, and where they end.
-use Rattle.std.proofs.Common.{◌≡◌, ◌≢◌, ◌∙◌, ℕ, suc, zero, ◌+◌, ◌-◌, ◌<◌, ◌≤◌, ◌==◌, ◌^◌, true, false, List, [], ◌∷◌, ◌++◌, length, length-append, Contains, All, None, count_by, get_or, map, slice_get, refl, sym, ap, subst, arith, inl, inr}
+use Rattle.std.proofs.Common.{◌≡◌, ◌≢◌, ◌∙◌, ℕ, suc, ◌+◌, ◌-◌, ◌<◌, ◌≤◌, ◌==◌, ◌^◌, true, false, List, [], ◌∷◌, ◌++◌, length, length-append, Contains, All, None, count_by, get_or, map, slice_get, refl, sym, ap, subst, arith, inl, inr}
 use Rattle.std.specs.Int.{div_ceil}
 use Rattle.std.specs.List.{AllPairs}
 use Rattle.std.proofs.lemmas.Bool.{both_ways, eqb-true}
@@ -29,7 +29,7 @@ use Rattle.md_passes.specs.Passes.{PassView, ServesAtMost, failed_chunks, slots_
 use Rattle.md_plan.specs.declared.planner.Planned.{Planned}
 use Rattle.md_state.specs.Members.{IsMember}
 use Rattle.md_state.specs.Missing.{is_missing}
-use Rattle.md_state.specs.View.{ArrayView, MirrorView}
+use Rattle.md_state.specs.View.{MirrorView}
 use Rattle.md_array.specs.Consistency.{IsConsistent}
 use Rattle.md_copy.specs.declared.fault.RebuildFault.{RebuildFault}
 use Rattle.md_copy.specs.declared.fault.RebuildFault.TheVariants.{Halted, NotSpare, Dirty, InFlight, LogFull, NoMemory, TargetFault, MetadataFault, EventsFull}
@@ -393,10 +393,10 @@ module _ (target : ℕ) (m : MemberView) (none : Bitmap) (first now : MirrorView
         let held_n = mid_held.chunks ∙ sym (ap (λ (b : Bitmap). b.chunks) h.1.lists.marks) in
         elim stops.ends [
           | inl lost ↦ (
-              held_n ∙ sym (ap (λ (b : Bitmap). b.chunks) lost.loses.goes.array.marks),
-              lost.loses.goes.sound,
-              λ running. list_lost target k noted new is_other lost running (recordable target noted ready_n),
-            )
+            held_n ∙ sym (ap (λ (b : Bitmap). b.chunks) lost.loses.goes.array.marks),
+            lost.loses.goes.sound,
+            λ running. list_lost target k noted new is_other lost running (recordable target noted ready_n),
+          )
           | inr halts ↦
               let at = halts.halts.halts in
               let is_halted = list_halted at.mid new (λ n. None) at.failing at.of (at.halts (λ n. None)) in (

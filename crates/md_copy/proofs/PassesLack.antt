@@ -1,5 +1,5 @@
 -- What was not copied the target lacks after passes as it did before them.
-use Rattle.std.proofs.Common.{◌≡◌, ◌∙◌, ℕ, suc, zero, ◌+◌, ◌<◌, Bool, true, false, not, List, [], ◌∷◌, Contains, filter, slice_get, refl, sym, ap, subst, arith, inl, inr}
+use Rattle.std.proofs.Common.{◌≡◌, ◌∙◌, ℕ, suc, zero, ◌<◌, Bool, true, false, not, List, [], ◌∷◌, Contains, filter, slice_get, refl, sym, ap, subst, arith, inl, inr}
 use Rattle.std.specs.Int.{div_ceil}
 use Rattle.std.specs.List.{range_with_len}
 use Rattle.std.proofs.lemmas.Bool.{both_ways, cases_Bool, not-true}
@@ -141,7 +141,7 @@ pub orphans_same : (target : ℕ) (before after : Bitmap) (v w : MirrorView) →
 orphans_same target before after v w h m n at_m at_n recovers count =
     ap (λ (q : Chunks). filter (λ c. not (is_set after.bytes c)) (filter (is_missing w.array n) (range_with_len 0 (div_ceil q.size q.sectors)))) h.chunks
     ∙ filter_both (is_missing w.array n) (is_missing v.array m) (λ c. not (is_set after.bytes c)) (range_with_len 0 (div_ceil v.array.chunks.size v.array.chunks.sectors))
-        (λ c there clear. h.missing m n at_m at_n recovers c (let low = in_range_low (div_ceil v.array.chunks.size v.array.chunks.sectors) c there in omega (arith, low, count)) (not-true (is_set after.bytes c) clear))
+    (λ c there clear. h.missing m n at_m at_n recovers c (let low = in_range_low (div_ceil v.array.chunks.size v.array.chunks.sectors) c there in omega (arith, low, count)) (not-true (is_set after.bytes c) clear))
   where
     in_range_low : (n c : ℕ) → Contains (range_with_len 0 n) c → c < n
     in_range_low n c (k, below, is) =

@@ -1,5 +1,5 @@
 -- What a list of passes over a mirror says: what the target holds after it, which chunks were copied, and that they are passes of the array.
-use Rattle.std.proofs.Common.{◌≡◌, ◌≢◌, ◌∙◌, ℕ, ◌<◌, true, false, List, [], ◌∷◌, ◌++◌, append-nil, append_assoc, Contains, All, get_or, refl, sym, ap, subst, arith}
+use Rattle.std.proofs.Common.{◌≡◌, ◌≢◌, ◌∙◌, ℕ, ◌<◌, false, List, [], ◌∷◌, ◌++◌, append-nil, append_assoc, Contains, All, get_or, sym, ap, subst}
 use Rattle.std.specs.Int.{div_ceil}
 use Rattle.std.proofs.lemmas.Bool.{both_ways}
 use Rattle.std.proofs.lemmas.List.Elements.{All-map, Contains-get_or}

@@ -7,23 +7,22 @@ use Rattle.md_assembly.specs.States.{is_in_sync, is_recorded, is_recovering, is_
 use Rattle.md_bitmap.specs.Marks.{Bitmap, is_set}
 use Rattle.md_kept_members.specs.TakingBack.{admitted_member}
 use Rattle.md_kept_members.specs.View.{MemberView}
-use Rattle.md_state.specs.MakingClean.{IsIdle, first_number}
+use Rattle.md_state.specs.MakingClean.{first_number}
 use Rattle.md_state.specs.Members.{IsMember}
 use Rattle.md_state.specs.Missing.{is_rebuilt}
 use Rattle.md_state.specs.Rising.{HasSpentEvents}
 use Rattle.md_state.specs.View.{ArrayView, MirrorView}
 use Rattle.md_array.specs.Admitting.{Admits}
-use Rattle.md_array.specs.Consistency.{IsConsistent}
 use Rattle.md_array.specs.NotingResynced.{AreNoted}
 use Rattle.md_array.proofs.Rebuilding.AdmittedEvent.{admitted_at}
-use Rattle.md_metadata.specs.Storing.{AllStayReady, StaysReady}
+use Rattle.md_metadata.specs.Storing.{StaysReady}
 use Rattle.md_metadata.proofs.Going.{same_state}
 use Rattle.md_copy.specs.Beginning.{MayRebuild, rises}
 use Rattle.md_copy.specs.Rebuilding.{Begins}
 use Rattle.md_copy.specs.Readying.{AdmitsAfter, AdmitsFirst, Readies}
 use Rattle.md_copy.specs.Ready.{IsReady, MayGoOn}
 use Rattle.md_copy.specs.Storing.{StoresFirst}
-use Rattle.md_copy.specs.Targets.{IsTarget, MayBeRebuilt}
+use Rattle.md_copy.specs.Targets.{MayBeRebuilt}
 
 -- ---- states
 pub recovering_target : (a : ArrayView) (number : ℕ) (s : MemberState) → is_recovering s ≡ true → MayBeRebuilt a number s

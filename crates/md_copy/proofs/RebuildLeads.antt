@@ -1,5 +1,5 @@
 -- A rebuild is a list of events of the array's model, one part after another.
-use Rattle.std.proofs.Common.{◌≡◌, ◌∙◌, ◌⊎◌, ℕ, ◌<◌, ◌==◌, true, Option, List, [], ◌∷◌, ◌++◌, Contains, append_assoc, get_or, slice_get, refl, sym, ap, subst, arith, inl, inr}
+use Rattle.std.proofs.Common.{◌≡◌, ◌∙◌, ◌⊎◌, ℕ, ◌==◌, true, Option, List, [], ◌∷◌, ◌++◌, get_or, refl, sym, ap, subst, arith, inl, inr}
 use Rattle.std.proofs.lemmas.Bool.{eqb-true}
 use Rattle.std.proofs.lemmas.List.Elements.{All-contains, Contains-get_or}
 use Rattle.std.proofs.lemmas.List.Folds.{Any-from_list_any}
@@ -18,7 +18,7 @@ use Rattle.md_requests.specs.Pending.{PendingView}
 use Rattle.md_requests.specs.declared.extent.Extent.{Extent}
 use Rattle.md_state.specs.MakingClean.{IsIdle}
 use Rattle.md_state.specs.Members.{IsMember}
-use Rattle.md_state.specs.Missing.{is_missing, is_rebuilt}
+use Rattle.md_state.specs.Missing.{is_rebuilt}
 use Rattle.md_state.specs.Requests.{AreInFlight, IsPending}
 use Rattle.md_state.specs.View.{ArrayView, MirrorView}
 use Rattle.md_array.specs.Admitting.{admit_event}

@@ -88,7 +88,7 @@ module _ (target : ℕ) (told : Rebuilt) (old new : MirrorView) (h : Rebuilds ta
   missing_is =
       ap (λ (q : Chunks). filter (is_missing v.array m) (range_with_len 0 (div_ceil q.size q.sectors))) starts.chunks
       ∙ filter_same (is_missing v.array m) (is_missing old.array l) (range_with_len 0 (div_ceil old.array.chunks.size old.array.chunks.sectors))
-          (λ c there. starts.missing l m rebuilt.at at_m c (let low = in_range_low (div_ceil old.array.chunks.size old.array.chunks.sectors) c there in let many = h.begins.sound.chunks.count in omega (arith, low, many)))
+      (λ c there. starts.missing l m rebuilt.at at_m c (let low = in_range_low (div_ceil old.array.chunks.size old.array.chunks.sectors) c there in let many = h.begins.sound.chunks.count in omega (arith, low, many)))
 
   serves_both : (c role : ℕ) → ServesAs v.array c role ↔ ServesAs old.array c role
   serves_both c role = (

@@ -1,5 +1,5 @@
 -- A rebuild that is refused is a list of events of the array's model, of which the last may spoil its target.
-use Rattle.std.proofs.Common.{◌≡◌, ◌≢◌, ◌∙◌, ◌⊎◌, ℕ, true, false, Option, None, List, [], ◌∷◌, ◌++◌, append_assoc, slice_get, refl, sym, ap, subst, inl, inr}
+use Rattle.std.proofs.Common.{◌≡◌, ◌≢◌, ◌∙◌, ◌⊎◌, ℕ, true, false, None, List, [], ◌∷◌, ◌++◌, append_assoc, slice_get, refl, sym, ap, subst, inl, inr}
 use Rattle.std.proofs.lemmas.Bool.{both_ways}
 use Rattle.std.proofs.lemmas.List.{append-nil}
 use Rattle.std.proofs.lemmas.Option.{same_Some}
@@ -34,12 +34,11 @@ use Rattle.md_array.proofs.Steps.Turns.{all_on}
 use Rattle.md_copy.specs.declared.fault.RebuildFault.{RebuildFault}
 use Rattle.md_copy.specs.declared.fault.RebuildFault.TheVariants.{Halted, NotSpare, Dirty, InFlight, LogFull, NoMemory, TargetFault, MetadataFault, EventsFull}
 use Rattle.md_copy.specs.Filling.{IsFilling}
-use Rattle.md_copy.specs.Leaving.{Leaves, LeavesAfter}
-use Rattle.md_copy.specs.Listing.{StopsAtList, StopsNoting}
+use Rattle.md_copy.specs.Leaving.{Leaves}
+use Rattle.md_copy.specs.Listing.{StopsNoting}
 use Rattle.md_copy.specs.Passing.{BreaksOff, CopiesAll, EndsBetween, FailsListing, FailsRecording}
 use Rattle.md_copy.specs.RebuildEvents.{AsksOfEnrol, AsksOfFailure, FailsAfterPass, FailsAtMarks, FailsCheckpoint, FailsLeaving, HaltsIn, IsBeforeEnrol, IsListOfUnfinished, IsOfUnfinished, LeadsUnadmitted, LeadsUnfinished, LeadsUnrecorded}
-use Rattle.md_copy.specs.Rebuilding.{EndsCopied, EndsFilled, EndsReadied, EndsStoring, FillsBy, LacksMemory, LacksRoom, LosesSource, LosesTarget, RefusesRebuild}
-use Rattle.md_copy.specs.Enrolled.{HasNoRoom}
+use Rattle.md_copy.specs.Rebuilding.{EndsFilled, EndsReadied, EndsStoring, LacksMemory, LacksRoom, LosesSource, LosesTarget, RefusesRebuild}
 use Rattle.md_copy.specs.Ready.{IsReady}
 use Rattle.md_copy.specs.Readying.{FailsAdmission, StopsAdmitted}
 use Rattle.md_copy.specs.Sources.{missing_chunks}
@@ -51,7 +50,7 @@ use Rattle.md_copy.proofs.PassRecorded.{recorded_ready}
 use Rattle.md_copy.proofs.PassesTold.{HoldsSoFar, chain_holds, filled_ready}
 use Rattle.md_copy.proofs.Readied.{recovering_admitted, spare_rebuilt}
 use Rattle.md_copy.proofs.ReadyStill.{list_halted, list_recovers, ready_noted, storing_halted, storing_recovers}
-use Rattle.md_copy.proofs.RebuildLeads.{Before, LeadsIn, admission_events, admission_leads, as_such, begin_events, begin_holds, begin_leads, both_lead, chain_events, chain_leads, copying_events, copying_leads, either_leads, fill_leads, leads_by, listing_before, listing_leads, none_lead, noting_leads, one_leads, recorded_events, recorded_leads, checkpoint_leads, storing_before, storing_leads}
+use Rattle.md_copy.proofs.RebuildLeads.{Before, LeadsIn, admission_events, admission_leads, as_such, begin_events, begin_holds, begin_leads, both_lead, chain_events, chain_leads, copying_events, copying_leads, fill_leads, leads_by, listing_before, listing_leads, none_lead, noting_leads, one_leads, recorded_events, recorded_leads, checkpoint_leads, storing_before, storing_leads}
 use Rattle.md_copy.proofs.StoredFirst.{rebuilt_still}
 use Rattle.md_copy.proofs.TargetStates.{target_rebuilt}
 use Rattle.md_copy.proofs.UnfinishedEnrol.{prepares}

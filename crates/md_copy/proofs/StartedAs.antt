@@ -13,7 +13,7 @@ use Rattle.md_kept_members.specs.View.{MemberView}
 use Rattle.md_model.specs.Content.{Content}
 use Rattle.md_state.specs.Members.{IsMember}
 use Rattle.md_state.specs.Missing.{is_missing}
-use Rattle.md_state.specs.View.{ArrayView, Disk, MirrorView}
+use Rattle.md_state.specs.View.{Disk, MirrorView}
 use Rattle.md_array.specs.Enrolling.{HasContent, KeepsData}
 use Rattle.md_array.specs.Lending.{IsBesideChunk}
 use Rattle.md_array.specs.Worlds.{AreHonest}

@@ -9,7 +9,6 @@ use Rattle.md_state.specs.View.{ArrayView, MirrorView}
 use Rattle.md_array.specs.Consistency.{IsConsistent}
 use Rattle.md_copy.specs.declared.fault.RebuildFault.{RebuildFault}
 use Rattle.md_copy.specs.declared.fault.RebuildFault.TheVariants.{Halted, NotSpare, Dirty, InFlight, LogFull, NoMemory, TargetFault, MetadataFault, EventsFull}
-
 use Rattle.md_copy.specs.Listing.{StopsNoting}
 use Rattle.md_copy.specs.Passing.{CopiesAll, EndsBetween, FailsListing}
 use Rattle.md_copy.specs.Rebuilding.{LacksMemory, LacksRoom, LosesTarget, StopsReadied}

@@ -1,6 +1,6 @@
 -- Marks that are taken away, chunk by chunk.
 use Rattle.std.proofs.Common.{◌≡◌, ◌∙◌, ℕ, ◌+◌, ◌<◌, ◌≤◌, ◌==◌, ◌&&◌, Bool, true, false, not, refl, sym, ap, arith, inl, inr}
-use Rattle.std.proofs.lemmas.Bool.{both_ways, cases_Bool, eq-eqb, eqb-true}
+use Rattle.std.proofs.lemmas.Bool.{cases_Bool, eq-eqb, eqb-true}
 use Rattle.md_kept_members.proofs.Members.Indices.{cases_more}
 
 and_none : (b : Bool) → (b && false) ≡ false

@@ -1,6 +1,6 @@
 use Rattle.std.proofs.Common.{◌≡◌, ◌∙◌, ◌<◌, All, refl, sym, ap, subst, arith}
 use Rattle.md_assembly.proofs.Indices.{got_within}
-use Rattle.md_copy.specs.Preparing.{is_in, uncopied_chunks}
+use Rattle.md_copy.specs.Preparing.{is_in}
 use Rattle.md_copy.proofs.EnrolSets.{enrols_copied, fails_copied, leaves_copied, may, uncopied_low}
 use Rattle.md_copy.proofs.PlanChunks.{count}
 use Rattle.md_copy.proofs.enrol_filled.enrol_copied.Goals as goal

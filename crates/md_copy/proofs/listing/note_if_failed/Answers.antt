@@ -1,4 +1,4 @@
-use Rattle.std.proofs.Common.{◌≡◌, subst}
+use Rattle.std.proofs.Common.{subst}
 use Rattle.md_array.specs.Listing.{RefusesChunk}
 use Rattle.md_copy.proofs.NotedLists.{nothing_noted, one_noted, slot_failed, slot_full, slot_noted}
 use Rattle.md_copy.proofs.Served.{in_sync_as}

@@ -1,13 +1,10 @@
-use Rattle.std.proofs.Common.{◌≡◌, ◌∙◌, ◌&&◌, true, ap, sym}
+use Rattle.std.proofs.Common.{◌∙◌, ◌&&◌, ap, sym}
 use Rattle.std.specs.List.{list_any}
-use Rattle.md_assembly.specs.States.{is_in_sync, is_in_sync_as}
+use Rattle.md_assembly.specs.States.{is_in_sync_as}
 use Rattle.md_cert.specs.declared.slots.Slot.{Slot}
 use Rattle.md_assembly.proofs.Indices.{got_within}
-use Rattle.md_kept_members.specs.View.{MemberView}
-use Rattle.md_state.specs.Members.{IsMember}
 use Rattle.md_state.proofs.Members.At.{told}
 use Rattle.md_pass.specs.Copied.{failed_slots, is_failed_slot}
-use Rattle.md_copy.specs.Listing.{HasFailed}
 use Rattle.md_copy.proofs.ListsStored.{failed_in_sync, none_failed, some_failed, stops_one, stored_none, stored_one}
 use Rattle.md_copy.proofs.listing.store_if_failed.Goals as goal
 

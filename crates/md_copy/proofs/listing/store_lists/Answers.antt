@@ -1,4 +1,4 @@
-use Rattle.std.proofs.Common.{◌≡◌, ◌∙◌, List, sym, subst, arith}
+use Rattle.std.proofs.Common.{◌∙◌, List, sym, subst, arith}
 use Rattle.md_cert.specs.declared.slots.Slot.{Slot}
 use Rattle.md_copy.specs.Listing.{HaveRoom, StopsStoringLists, StoresLists}
 use Rattle.md_pass.specs.Copied.{failed_slots}

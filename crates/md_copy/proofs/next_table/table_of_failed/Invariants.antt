@@ -1,4 +1,4 @@
-use Rattle.std.proofs.Common.{◌≡◌, ◌<◌, ℕ, All, get_or, length, map, take}
+use Rattle.std.proofs.Common.{◌≡◌, ◌<◌, All, get_or, length, map, take}
 use Rattle.md_cert.specs.Tables.{chunks_of}
 use Rattle.md_cert.specs.declared.slots.Slot.{Slot}
 use Rattle.md_cert.specs.declared.table.Row.{Row}

@@ -1,4 +1,4 @@
-use Rattle.std.proofs.Common.{◌≡◌, ◌∙◌, ◌+◌, [], ◌∷◌, ◌++◌, List, sym, ap, subst, arith}
+use Rattle.std.proofs.Common.{◌∙◌, ◌+◌, [], ◌∷◌, ◌++◌, List, sym, ap, subst, arith}
 use Rattle.md_assembly.proofs.Indices.{got_within}
 use Rattle.md_array.proofs.General.Answered.{ok_gives}
 use Rattle.md_plan.specs.declared.planner.Planned.{Planned}

@@ -1,4 +1,4 @@
-use Rattle.std.proofs.Common.{◌≡◌, refl, subst}
+use Rattle.std.proofs.Common.{refl, subst}
 use Rattle.std.proofs.lemmas.Bool.{both_ways}
 use Rattle.md_array.specs.Checkpoints.{RefusesCheckpoint}
 use Rattle.md_copy.proofs.PassMade.{broken_off, made_one, may_checkpoint, not_recorded, ready_then, uncopied, within_filled}
