@@ -36,7 +36,10 @@ pub mod ReadyStill
 pub mod RebuildLeads
 pub mod RebuiltByCall
 pub mod RebuiltMember
+pub mod Refused
 pub mod RefusedLeads
+pub mod RefusedPasses
+pub mod RefusedSteps
 pub mod Returned
 pub mod Rows
 pub mod Sectors

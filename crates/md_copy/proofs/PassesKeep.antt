@@ -50,7 +50,7 @@ pub record PassesKeep (target : ℕ) (listed failed : List Slot) (before after :
 pub disk_then : (old new : MirrorView) → length new.disks ≡ length old.disks → (k : ℕ) (d : Disk) → slice_get old.disks k ≡ Some d → (e : Disk) × (slice_get new.disks k ≡ Some e)
 disk_then old new many k d at = (let low = slice_get_within old.disks k d at in (get_or new.disks k d, slice_get-get_or new.disks k d (omega (arith, low, many))))
 
-count_append : (p : Slot → Bool) (xs ys : List Slot) → count_by p (xs ++ ys) ≡ count_by p xs + count_by p ys
+pub count_append : (p : Slot → Bool) (xs ys : List Slot) → count_by p (xs ++ ys) ≡ count_by p xs + count_by p ys
 count_append p xs ys =
     let all = length-filter p (xs ++ ys) in
     let first = length-filter p xs in

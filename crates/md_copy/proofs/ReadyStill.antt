@@ -242,6 +242,10 @@ pub storing_recovers : (target k : ℕ) (v w : MirrorView) → k ≢ target → 
     → (y : MemberView) → IsMember w.array target y → is_recovering y.state ≡ true
 storing_recovers target k v w other = lost_recovering IsStoring on_members target k v w other
 
+-- it is in the state in which it was
+pub storing_states : (target k : ℕ) (v w : MirrorView) → k ≢ target → LosesStoring IsStoring k v w → (y : MemberView) → IsMember w.array target y → (x : MemberView) × IsMember v.array target x × (y.state ≡ x.state)
+storing_states target k v w other l y at = (lost_stays IsStoring on_members target k v w other l).state target y (λ e. other (sym e)) at
+
 pub list_recovers : (target k : ℕ) (v w : MirrorView) → k ≢ target → LosesStoring IsStoringList k v w → ((x : MemberView) → IsMember v.array target x → is_recovering x.state ≡ true)
     → (y : MemberView) → IsMember w.array target y → is_recovering y.state ≡ true
 list_recovers target k v w other = lost_recovering IsStoringList list_on_members target k v w other

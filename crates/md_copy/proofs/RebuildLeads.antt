@@ -220,7 +220,7 @@ module _ (target : ℕ) (v : MirrorView) (copied : Bitmap) (chunks : List ℕ) (
       let chunk : s.chunk ≡ c = ap (λ (x : Slot). x.chunk) hit.3 ∙ eqb-true hit.1.chunk c hit.4 in
       subst (IsLacking v.array m) chunk (All-contains (IsLacking v.array m) chunks s.chunk (so.lacking m at) (slot_within is s (Contains-get_or (slots_of p) hit.0 hit.1 hit.2)))
 
-  same_beside : (was left : List ℕ) → SameBeside (copy_of (slots_of p) v.array.chunks m.superblock.data_offset) was left → IsSameBesideMissing v.array m was left
+  pub same_beside : (was left : List ℕ) → SameBeside (copy_of (slots_of p) v.array.chunks m.superblock.data_offset) was left → IsSameBesideMissing v.array m was left
   same_beside was left same = record {
     size = same.size;
     beside = λ at n h. same.beside at n

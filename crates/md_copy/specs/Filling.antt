@@ -45,7 +45,7 @@ pub record CopiesChunks (target : ℕ) (m : MemberView) (slots : List Slot) (bef
   pub copied : All (λ slot. is_set after.bytes slot.chunk ≡ true → IsCopiedSlot target m.superblock.data_offset old new slot) slots
   pub beside : AtDevice target old.disks new.disks (λ d e. SameBesideCopied old.array.chunks m.superblock.data_offset before after d.content e.content)
 
--- The device of each member in sync has counted a failure for each of these slots of its role, or more.
+-- The device of each member in sync, if it is honest, has counted a failure for each of these slots of its role, or more.
 abbrev pub CountsFailed : List Slot → MirrorView → MirrorView → Type 0
 CountsFailed failed old new =
     (k role : ℕ) (m : MemberView) → IsMember old.array k m → is_in_sync_as role m.state ≡ true

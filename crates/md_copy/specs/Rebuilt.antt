@@ -1,7 +1,7 @@
 -- What a rebuild makes of its target, in plain terms, whatever the steps were (this project's own).
 use Rattle.std.specs.Prelude.{◌≡◌, ◌≢◌, ◌⊎◌, ◌↔◌, ℕ, ◌+◌, ◌*◌, ◌<◌, ◌≤◌, true, List, [], ◌∷◌, ◌++◌, length, count_by, slice_get, Some}
 use Rattle.md_assembly.specs.declared.state.MemberState.TheVariants.{Faulty}
-use Rattle.md_assembly.specs.States.{is_in_sync, is_in_sync_as}
+use Rattle.md_assembly.specs.States.{is_in_sync, is_in_sync_as, is_recovering, is_spare}
 use Rattle.md_badblocks.specs.Runs.{IsBad}
 use Rattle.md_bitmap.specs.Chunks.{InChunk}
 use Rattle.md_bitmap.specs.Marks.{Bitmap, is_set}
@@ -16,7 +16,7 @@ use Rattle.md_state.specs.Members.{IsInSync, IsMember}
 use Rattle.md_state.specs.Missing.{is_missing}
 use Rattle.md_state.specs.View.{ArrayView, Disk, MirrorView, of_disks}
 use Rattle.md_array.specs.Enrolling.{HasContent, KeepsData}
-use Rattle.md_array.specs.Lending.{IsBesideChunk}
+use Rattle.md_array.specs.Lending.{IsBesideChunk, IsBesideMissing}
 use Rattle.md_array.specs.Worlds.{AreHonest}
 use Rattle.md_array.specs.InTurn.{HaltsAt, Requests}
 use Rattle.md_metadata.specs.Storing.{IsStoring}
@@ -133,3 +133,30 @@ pub record HasRebuilt (target : ℕ) (told : Rebuilt) (old new : MirrorView) : T
   pub rebuilt : IsRebuilt target copied orphans old last
   pub orphans_are : told.orphans.items ≡ uncopied_chunks old.array rebuilt.member copied
   pub passes_are : AreItsPasses target passes (missing_chunks old.array rebuilt.member) old last
+
+-- ---- a call that is refused
+-- these bytes lie in the member's data area, beside the chunks that it lacks
+pub record IsBesideLacking (a : ArrayView) (m : MemberView) (at n : ℕ) : Type 0 where
+  pub from : 512 * m.superblock.data_offset ≤ at
+  pub to : at + n ≤ 512 * (m.superblock.data_offset + m.superblock.data_size)
+  pub beside : IsBesideMissing a m at n
+
+-- At the end of the call, or where a write that failed halted the mirror before a pass, right before that write: the target is what it was, or it
+-- was a spare and is recovering. How far it is rebuilt is no less than before, its list is as before, and so are its data beside what it lacked. The
+-- data of all other members are as before, and their lists grew by slots that failed alone, which the devices have counted.
+pub record HasEnded (target : ℕ) (old new : MirrorView) : Type 0 where
+  pub last : MirrorView
+  pub ends : (last ≡ new) ⊎ HaltsFrom last new
+  pub member : MemberView
+  pub at : IsMember old.array target member
+  pub now : MemberView
+  pub there : IsMember last.array target now
+  pub state : (now.state ≡ member.state) ⊎ ((is_spare member.state ≡ true) × (is_recovering now.state ≡ true))
+  pub offset : is_recovering member.state ≡ true → member.superblock.recovery_offset ≤ now.superblock.recovery_offset
+  pub list : now.bad ≡ member.bad
+  pub beside : (d e : Disk) → slice_get old.disks target ≡ Some d → slice_get last.disks target ≡ Some e
+      → (at n : ℕ) → IsBesideLacking old.array member at n → part e.content at n ≡ part d.content at n
+  pub others : OthersKeepData target old last
+  pub failed : List Slot
+  pub lists : ListsGrow target failed old.array last.array
+  pub counted : AllCounted failed old last

@@ -28,7 +28,7 @@ pub enum RebuildFault {
     /// The member could not be written. It is what it was, or recovering where it was admitted before that.
     #[error("TargetFault")]
     TargetFault,
-    /// A mark or a superblock could not be stored on this member, which is faulty now, or has halted the
+    /// A mark, a log or a superblock could not be stored on this member, which is faulty now, or has halted the
     /// mirror.
     #[error("MetadataFault {0}")]
     MetadataFault(usize),

@@ -10,9 +10,9 @@ use md_array::Mirror;
 use md_bitmap::Marks;
 use md_device::Device;
 
-/// Records how far the target, which is recovering, is rebuilt, before the fault is answered: for want of memory
-/// or of room in a log, or since a list could not be stored on a member. That this may fail, too, is not told. Takes
-/// no memory.
+/// Records how far the target, which is recovering, is rebuilt, before the fault is answered: there was no memory,
+/// or no room in a log, or a list could not be stored on a member. That this may fail, too, is not told. Takes no
+/// memory.
 pub(crate) fn leave<D: Device + Drop>(
     mirror: &mut Mirror<D>,
     target: usize,

@@ -68,7 +68,8 @@ pub(crate) fn copy_passes<D: Device + Drop + Send, G: Gate + Sync, R: Threads + 
         Ok(rows) => rows,
         Err(fault) => return Err(fault),
     };
-    // Each pass but the last takes a chunk from what a member may give.
+    // Each pass but the last takes a chunk from what a member may give: there is at most one more of them than
+    // chunks, counted for each member in sync.
     for _pass in 0..u64::MAX {
         if plans.reserve(1).is_err() {
             return Err(RebuildFault::NoMemory);

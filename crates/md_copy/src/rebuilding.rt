@@ -7,7 +7,7 @@ ghost use Rattle.md_copy.specs.Leaving.{MayLeave};
 ghost use Rattle.md_copy.specs.Preparing.{IsSetOf};
 ghost use Rattle.md_copy.specs.Ready.{IsReady};
 ghost use Rattle.md_copy.specs.Rebuilding.{RebuildsReadied, Rebuilds, RefusesRebuild, StopsReadied};
-ghost use Rattle.md_copy.specs.Rebuilt.{HasRebuilt};
+ghost use Rattle.md_copy.specs.Rebuilt.{HasEnded, HasRebuilt};
 
 use crate::checking::check_rebuild;
 use crate::enrol_filled::enrol_copied;
@@ -28,9 +28,9 @@ use std::thread::Threads;
 /// Copies to the target, a spare or recovering, each chunk that it lacks and another member can give, in the
 /// fewest rounds. Chunks that could not be read are listed as bad on the member that was to give them, and another
 /// pass takes them from the others. Then the target is in sync, and lists the chunks that nobody could give. A
-/// spare is admitted first, so that it is recovering from then on, whatever comes of the rebuild; and how far it
-/// came is recorded after each pass, and where it ends for want of memory, of room in a log, or of a member that
-/// was to be written.
+/// spare is admitted first, so that it is recovering from then on, whatever comes of the rebuild. How far it came
+/// is recorded after each pass, and before the fault is answered where passes end without memory, without room in
+/// a log, or as a list can't be stored on a member.
 pub fn rebuild<D: Device + Drop + Send, G: Gate + Sync, R: Threads + Wait + Sync>(
     rt: &R,
     alloc: Global,
@@ -42,6 +42,7 @@ pub fn rebuild<D: Device + Drop + Send, G: Gate + Sync, R: Threads + Wait + Sync
     requires sound { IsConsistent mirror.old }
     ensures gives { MatchResult result (λ told. Rebuilds target told mirror.old mirror.new) (RefusesRebuild target mirror.old mirror.new) }
     ensures rebuilt { IfOk result (λ told. HasRebuilt target told mirror.old mirror.new) }
+    ensures refused { IfErr result (λ _. HasEnded target mirror.old mirror.new) }
     ensures sound { IsConsistent mirror.new }
 {
     rebuild_by_steps(rt, alloc, mirror, target, gate)

@@ -2,7 +2,7 @@
 
 -- A call's events are a run of the mirror.
 pub mod CallRuns
--- The content that the members in sync of a mirror hold goes along each run of it.
+-- The members in sync of a mirror hold the content along each run of it.
 pub mod ContentRuns
 -- The content that the members in sync of a mirror hold, over its openings.
 pub mod MirrorContents
@@ -10,15 +10,19 @@ pub mod MirrorContents
 pub mod Joined
 -- A member that failed differs from the content only in marked chunks.
 pub mod LeftBehind
+-- A record or a checkpoint of a member whose log is read stores what is kept of it, and leaves the log.
+pub mod LogRecorded
 -- A life of a mirror is one of the model, so that what always holds of the model holds of the mirror.
 pub mod MirrorLives
 -- A run of a mirror is a run of the model, so that the model's laws hold of it.
 pub mod MirrorRuns
 -- What holds of a mirror at each moment of a run, and of a life.
 pub mod Moments
+-- The offset that a device tells of is no greater than the one that is kept of its member, if it was so at the opening.
+pub mod Offsets
 -- Lists of events with reads between them, joined and carried along.
 pub mod ReadTurns
--- What recovering members hold goes along each life.
+-- What recovering members hold goes along each life, and with it a content.
 pub mod Recovering
 -- A mirror whose devices were only read is as good as before.
 pub mod Rests

@@ -157,7 +157,9 @@ pub record IsLeftTargeted (t : Moment) (left : List Disk) : Type 0 where
 -- `clear_idle`, `make_clean`, `note_resynced`, `fail`), leave what was there (`stops_at_steps`); so does `remove`, and after it the
 -- device that it handed back is none of these. So do `re_add` and `add`, and until they are done the device that comes in or comes
 -- back is none of these. A stop within them that leaves it as it is after the call is one at the moment after the event, and so is
--- one that leaves a device that comes back with a superblock that reads as after it.
+-- one that leaves a device that comes back with a superblock that reads as after it. One within a call by which a member that is rebuilt
+-- tells of it, and that left some other superblock, is one after `SpoilTarget` (`stops_at_steps`, clauses `as_spoiled`,
+-- `enrol_as_spoiled` and `failed_enrol_as_spoiled`).
 abbrev pub IsLeft : Moment → List Disk → Type 0
 IsLeft t left =
     (contents_of left ≡ contents_of t.mirror.disks)

@@ -1,11 +1,12 @@
 -- What a member that failed still has of the array's content: by this it is enough to copy the marked chunks to one that is taken
 -- back.
-use Rattle.std.specs.Prelude.{◌≡◌, ℕ, ◌*◌, true, List, [], ◌∷◌, Option, slice_get, Some}
+use Rattle.std.specs.Prelude.{◌≡◌, ℕ, ◌*◌, ◌<◌, true, false, List, [], ◌∷◌, Option, slice_get, Some}
 use Rattle.md_device.specs.Splice.{SameOutside}
 use Rattle.md_members.specs.Areas.{bitmap_sectors}
 use Rattle.md_super.specs.declared.superblock.Superblock.{Superblock}
 use Rattle.md_model.specs.Behind.{IsBehind, Leaves}
 use Rattle.md_model.specs.Content.{Content, Becomes, BecomesAtOpening, Holds}
+use Rattle.md_model.specs.Devices.{Stored}
 use Rattle.md_model.specs.Events.{Event}
 use Rattle.md_model.specs.Recovering.{JoinsBehind}
 use Rattle.md_model.specs.Sectors.{Geometry}
@@ -59,6 +60,30 @@ LiesBehind =
     → (more : List Event) (others : List (List Event)) (newest : MirrorView) (last : Moment) (c : Content)
     → DegradedLifeWith final (failed_then t k f) b more others newest last c
     → IsBehind (geometry_of m.array) c ((world_of f.mirror f.requests).stored k) (world_of last.mirror last.requests)
+
+-- member k, which is in sync, fails because its log could not be stored
+pub record FailsWithLog (t : Moment) (k : ℕ) : Type 0 where
+  pub member : MemberView
+  pub in_sync : IsInSync t.mirror.array k member
+  pub mirror : MirrorView
+  pub requests : ℕ → Option Request
+  pub does : RestsThenDoes t.mirror t.requests (Event.StoreLogFails k) mirror requests
+
+abbrev pub log_failed_then : (t : Moment) (k : ℕ) → FailsWithLog t k → Moment
+log_failed_then t k f = then_as t (Event.StoreLogFails k) f.mirror f.requests
+
+-- Then its log may be any. So it lies behind likewise in sectors that it did not list before, and that what counts of it does not list: that
+-- has the data of its device, and a list with no less than its device had.
+abbrev pub LogLiesBehind : Type 0
+LogLiesBehind =
+    (before : List Disk) (m : MirrorView) (a : Content) → IsStart before m → Holds (geometry_of m.array) a (world_of m none_in_flight)
+    → (es : List Event) (rest : List (List Event)) (final : MirrorView) (t : Moment) (b : Content) → MirrorLifeWith m a es rest final t b
+    → (k : ℕ) (f : FailsWithLog t k) (device : Stored)
+    → ((s : ℕ) → s < m.array.chunks.size → device.content s ≡ ((world_of f.mirror f.requests).stored k).content s)
+    → ((s : ℕ) → s < m.array.chunks.size → device.listed s ≡ false → ((world_of t.mirror t.requests).stored k).listed s ≡ false)
+    → (more : List Event) (others : List (List Event)) (newest : MirrorView) (last : Moment) (c : Content)
+    → DegradedLifeWith final (log_failed_then t k f) b more others newest last c
+    → IsBehind (geometry_of m.array) c device (world_of last.mirror last.requests)
 
 -- Member k, in sync at t, as a stop left it on this device, which has a superblock. The next opening, which gave the mirror next, may have
 -- left it out (a pulled cable), or have found it out of sync.

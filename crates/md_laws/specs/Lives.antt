@@ -19,7 +19,7 @@ use Rattle.md_array.specs.ReadAsKept.{AreReadAsKept, IsSuperOn, chunk_size_on}
 use Rattle.md_array.specs.Worlds.{AreHonest, from_super, none_in_flight, stored_of, super_of, world_of}
 use Rattle.md_laws.specs.HalfOpened.{IsHalfOpened}
 use Rattle.md_laws.specs.Left.{IsLeft, IsLeftWriting}
-use Rattle.md_laws.specs.Runs.{IsStart, MirrorRun, MirrorRunTells, MirrorRunWith, Moment, history_of, opened_as}
+use Rattle.md_laws.specs.Runs.{IsStart, MirrorRun, MirrorRunTellsEnrolments, MirrorRunWith, Moment, history_of, opened_as}
 
 -- A device is as it was left; but openings that were themselves stopped may have written its bitmap. Then no chunk lost its
 -- mark, and the header has the chunk size that it had.
@@ -122,22 +122,23 @@ MirrorLifeWith m a es (more ∷ rest) final last b =
     × MirrorLifeWith next d more rest final last b
 
 -- at each enrolment of a life it is told, likewise
-abbrev pub MirrorLifeTells : (m : MirrorView) (a : Content) (es : List Event) (rest : List (List Event)) (final : MirrorView) (last : Moment)
+abbrev pub MirrorLifeTellsEnrolments : (m : MirrorView) (a : Content) (es : List Event) (rest : List (List Event)) (final : MirrorView) (last : Moment)
     → MirrorLife m es rest final last → Type 0
-MirrorLifeTells m a es [] final last life = MirrorRunTells (opened_as m) a es last life.1
-MirrorLifeTells m a es (more ∷ rest) final last life =
-    MirrorRunTells (opened_as m) a es life.0 life.2
+MirrorLifeTellsEnrolments m a es [] final last life = MirrorRunTellsEnrolments (opened_as m) a es last life.1
+MirrorLifeTellsEnrolments m a es (more ∷ rest) final last life =
+    MirrorRunTellsEnrolments (opened_as m) a es life.0 life.2
     × ((b c : Content) → MirrorRunWith (opened_as m) a es life.0 b → BecomesAtOpening (geometry_of life.1.array) (world_of life.1 none_in_flight) b c
-    → MirrorLifeTells life.1 c more rest final last life.4)
+    → MirrorLifeTellsEnrolments life.1 c more rest final last life.4)
 
--- A content that the members in sync hold at the first opening goes along every life at whose enrolments it is told,
-abbrev pub ContentGoesAlong : Type 0
-ContentGoesAlong =
+-- A content that the members in sync hold at the first opening goes along every life at whose enrolments it is told, whatever other members
+-- that recover hold. (`ContentGoesAlong` in Recovering.antt asks nothing at enrolments, but tells of recovering members at openings.)
+abbrev pub ContentGoesAlongTold : Type 0
+ContentGoesAlongTold =
     (before : List Disk) (m : MirrorView) (a : Content) → IsStart before m → Holds (geometry_of m.array) a (world_of m none_in_flight)
     → (es : List Event) (rest : List (List Event)) (final : MirrorView) (last : Moment) (life : MirrorLife m es rest final last)
-    → MirrorLifeTells m a es rest final last life → (b : Content) × MirrorLifeWith m a es rest final last b
+    → MirrorLifeTellsEnrolments m a es rest final last life → (b : Content) × MirrorLifeWith m a es rest final last b
 
--- and they hold it wherever it went.
+-- And they hold it wherever it went.
 abbrev pub KeepsContent : Type 0
 KeepsContent =
     (before : List Disk) (m : MirrorView) (a : Content) → IsStart before m → Holds (geometry_of m.array) a (world_of m none_in_flight)

@@ -20,7 +20,8 @@ ReadInTurn previous old before (e ∷ es) Then =
 abbrev pub LeadsReading : Option Event → MirrorView → Requests → List Event → MirrorView → Requests → Type 0
 LeadsReading previous old before es new after = ReadInTurn previous old before es (λ m r. (m ≡ new) × (r ≡ after))
 
--- none of which something is asked: no write of a superblock that failed, no enrolment, no checkpoint, and no log that is stored
+-- none of which something is asked: no write of a superblock that failed, but for one that spoils its member, no enrolment, no
+-- checkpoint, and no log that is stored
 abbrev pub IsNoFailedRecord : Event → Type 0
 IsNoFailedRecord (Event.RecordFails k) = ⊥
 IsNoFailedRecord (Event.RecordTargetFails k) = ⊥

@@ -1,13 +1,27 @@
 -- What the recovering members of a mirror hold of the array's content, over its life: by this a member that was taken back, or a rebuild that
 -- was interrupted, is rebuilt in the chunks that it lacks alone.
-use Rattle.std.specs.Prelude.{List, [], ◌∷◌}
-use Rattle.md_model.specs.Content.{Content, Holds}
+use Rattle.std.specs.Prelude.{◌≡◌, ◌⊎◌, ℕ, ◌≤◌, true, false, List, [], ◌∷◌, Option, slice_get, Some}
+use Rattle.md_bitmap.specs.Marks.{Bitmap}
+use Rattle.md_members.specs.Members.{reads_log}
+use Rattle.md_model.specs.Behind.{IsBehind}
+use Rattle.md_model.specs.Content.{Content, Becomes, BecomesAtOpening, Holds}
+use Rattle.md_model.specs.Devices.{Stored, Super}
 use Rattle.md_model.specs.Events.{Event}
-use Rattle.md_model.specs.Recovering.{JoinsBehind, RecoveringHolds}
+use Rattle.md_model.specs.Rebuilding.{MayFill}
+use Rattle.md_model.specs.Sectors.{Geometry}
+use Rattle.md_model.specs.Recovering.{IsAsPrepared, IsAsStored, JoinsBehind, RecoveringHolds, recovered}
+use Rattle.md_model.specs.States.{is_recovering}
+use Rattle.md_model.specs.Worlds.{Request, World}
+use Rattle.md_kept_members.specs.View.{MemberView}
+use Rattle.md_state.specs.Members.{IsMember}
 use Rattle.md_state.specs.View.{Disk, MirrorView, geometry_of}
-use Rattle.md_array.specs.Worlds.{none_in_flight, world_of}
-use Rattle.md_laws.specs.Lives.{MirrorLifeWith}
-use Rattle.md_laws.specs.Runs.{IsStart, MirrorRunWith, Moment, opened_as, then_as}
+use Rattle.md_array.specs.Checkpoints.{Checkpoints}
+use Rattle.md_array.specs.Consistency.{IsConsistent}
+use Rattle.md_array.specs.Recording.{Records}
+use Rattle.md_array.specs.Worlds.{AreHonest, none_in_flight, stored_on, world_of}
+use Rattle.md_laws.specs.Left.{IsLeft}
+use Rattle.md_laws.specs.Lives.{IsReopened, MirrorLife, MirrorLifeWith}
+use Rattle.md_laws.specs.Runs.{IsStart, MirrorRun, MirrorRunWith, Moment, opened_as, then_as}
 
 -- Each `re_add` of a run is told: its device lies behind the content by what is marked, or its offset is 0 (`laws::leaving_members`, clauses
 -- `failed_joins` and `missing_joins`).
@@ -16,12 +30,65 @@ MirrorRunJoins t a [] last b run = Unit {0}
 MirrorRunJoins t a (e ∷ es) last b run =
     JoinsBehind (geometry_of t.mirror.array) e (world_of t.mirror t.requests) a × MirrorRunJoins (then_as t e run.0 run.1) run.2 es last b run.5
 
--- So of a life; and at each opening it is told of the members that it finds recovering.
+-- ---- an opening that finds members recovering
+-- What a stop left of the device of member k says no more than the mirror kept of it. Its offset is no greater, and it lists what the list in
+-- memory has; or, within an enrolment, its log may lack sectors of missing chunks. (It may say more where a write of its log or of its
+-- superblock failed, or where its offset was taken as 0 at the opening, and it was not stored since.)
+abbrev pub IsStoredOrPrepared : Geometry → World → ℕ → Stored → Type 0
+IsStoredOrPrepared g w k device = IsAsStored w k device ⊎ ((is_recovering (w.state k) ≡ true) × MayFill w k × IsAsPrepared g w k device)
+
+abbrev pub SaysNoMore : Moment → List Disk → ℕ → Type 0
+SaysNoMore t left k =
+    IsStoredOrPrepared (geometry_of t.mirror.array) (world_of t.mirror t.requests) k (stored_on t.mirror.array (slice_get t.mirror.array.members k) (slice_get left k))
+
+-- An opening took no offset as 0: each that a device told of is kept.
+abbrev pub KeepsOffset : MirrorView → ℕ → Type 0
+KeepsOffset m k = (own : Super) → ((world_of m none_in_flight).stored k).super ≡ Some own → own.offset ≤ (world_of m none_in_flight).offset k
+
+-- Of such a member it is so after the opening.
+abbrev pub SaysNoMoreWhenOpened : Type 0
+SaysNoMoreWhenOpened = (before : List Disk) (m : MirrorView) → IsStart before m → (k : ℕ) → KeepsOffset m k → SaysNoMore (opened_as m) m.disks k
+
+-- Where they are all kept, the offset that is told by what any stop leaves until the next opening is no greater, unless the member is
+-- spoiled.
+abbrev pub OffsetsAreKept : Type 0
+OffsetsAreKept =
+    (before : List Disk) (m : MirrorView) → IsStart before m → ((k : ℕ) → KeepsOffset m k)
+    → (es : List Event) (t : Moment) → MirrorRun (opened_as m) es t → (left : List Disk) → IsLeft t left
+    → (k : ℕ) → t.spoiled k ≡ false
+    → (own : Super) → (stored_on t.mirror.array (slice_get t.mirror.array.members k) (slice_get left k)).super ≡ Some own
+    → own.offset ≤ (world_of t.mirror t.requests).offset k
+
+-- So of one whose list in memory is empty it is so at each such stop.
+abbrev pub SaysNoMoreWithoutList : Type 0
+SaysNoMoreWithoutList =
+    (before : List Disk) (m : MirrorView) → IsStart before m → ((k : ℕ) → KeepsOffset m k)
+    → (es : List Event) (t : Moment) → MirrorRun (opened_as m) es t → (left : List Disk) → IsLeft t left
+    → (k : ℕ) → t.spoiled k ≡ false → ((s : ℕ) → (world_of t.mirror t.requests).bad k s ≡ false) → SaysNoMore t left k
+
+-- Of a longer list no event tells it: that of a record, or of a checkpoint, lets the log of a member that is not in sync be any. The calls
+-- do. Where the superblock that is kept says that the log is read, they leave the device so that it says no more, if it was so before.
+abbrev pub SaysNoMoreWhenRecorded : Type 0
+SaysNoMoreWhenRecorded =
+    (k : ℕ) (m : MemberView) (old new : MirrorView) → IsConsistent old → AreHonest old.disks → IsMember old.array k m → reads_log m.superblock ≡ true
+    → Records k old new ⊎ ((copied : Bitmap) × Checkpoints k copied old new)
+    → (requests : ℕ → Option Request) → IsAsStored (world_of old requests) k ((world_of old requests).stored k)
+    → IsAsStored (world_of new requests) k ((world_of new requests).stored k)
+
+-- A recovering member of the next mirror is such a device that was left; or it is told of what it has, as of one that was left out before.
+abbrev pub MirrorOpensBehind : (opened : MirrorView) (t : Moment) (next : MirrorView) → IsReopened opened t next → Content → Type 0
+MirrorOpensBehind opened t next again b =
+    (j : ℕ) → is_recovering ((world_of next none_in_flight).state j) ≡ true
+    → ((k : ℕ) × (again.devices.from j ≡ Some k) × SaysNoMore t again.devices.left k)
+    ⊎ IsBehind (geometry_of next.array) b (recovered (geometry_of next.array) (world_of next none_in_flight) j) (world_of next none_in_flight)
+
+-- ---- lives
+-- So it is told at each `re_add` and at each opening of a life.
 abbrev pub MirrorLifeJoins : (m : MirrorView) (a : Content) (es : List Event) (rest : List (List Event)) (final : MirrorView) (last : Moment) (b : Content)
     → MirrorLifeWith m a es rest final last b → Type 0
 MirrorLifeJoins m a es [] final last b life = MirrorRunJoins (opened_as m) a es last b life.1
 MirrorLifeJoins m a es (more ∷ rest) final last b life =
-    MirrorRunJoins (opened_as m) a es life.0 life.2 life.4 × RecoveringHolds (geometry_of life.1.array) life.3 (world_of life.1 none_in_flight)
+    MirrorRunJoins (opened_as m) a es life.0 life.2 life.4 × MirrorOpensBehind m life.0 life.1 life.5 life.3
     × MirrorLifeJoins life.1 life.3 more rest final last b life.7
 
 -- Then it holds at each moment: a recovering member differs from the content, on sectors that it does not list, only in chunks that are
@@ -33,3 +100,27 @@ KeepsRecovering =
     → (es : List Event) (rest : List (List Event)) (final : MirrorView) (last : Moment) (b : Content) (life : MirrorLifeWith m a es rest final last b)
     → MirrorLifeJoins m a es rest final last b life
     → RecoveringHolds (geometry_of m.array) b (world_of last.mirror last.requests)
+
+-- The same premises of a run and a life of which no content is known yet: whatever it has become by then.
+abbrev pub MirrorRunTells : (t : Moment) (a : Content) (es : List Event) (last : Moment) → MirrorRun t es last → Type 0
+MirrorRunTells t a [] last run = Unit {0}
+MirrorRunTells t a (e ∷ es) last run =
+    JoinsBehind (geometry_of t.mirror.array) e (world_of t.mirror t.requests) a
+    × ((b : Content) → Becomes (geometry_of t.mirror.array) e (world_of t.mirror t.requests) a b → MirrorRunTells (then_as t e run.0 run.1) b es last run.3)
+
+abbrev pub MirrorLifeTells : (m : MirrorView) (a : Content) (es : List Event) (rest : List (List Event)) (final : MirrorView) (last : Moment)
+    → MirrorLife m es rest final last → Type 0
+MirrorLifeTells m a es [] final last life = MirrorRunTells (opened_as m) a es last life.1
+MirrorLifeTells m a es (more ∷ rest) final last life =
+    MirrorRunTells (opened_as m) a es life.0 life.2
+    × ((b c : Content) → MirrorRunWith (opened_as m) a es life.0 b → BecomesAtOpening (geometry_of life.1.array) (world_of life.1 none_in_flight) b c
+    → MirrorOpensBehind m life.0 life.1 life.3 c × MirrorLifeTells life.1 c more rest final last life.4)
+
+-- A content that the members in sync hold at the first opening, and those that recover where they lack nothing, goes along every such life.
+-- At enrolments nothing is asked.
+abbrev pub ContentGoesAlong : Type 0
+ContentGoesAlong =
+    (before : List Disk) (m : MirrorView) (a : Content) → IsStart before m → Holds (geometry_of m.array) a (world_of m none_in_flight)
+    → RecoveringHolds (geometry_of m.array) a (world_of m none_in_flight)
+    → (es : List Event) (rest : List (List Event)) (final : MirrorView) (last : Moment) (life : MirrorLife m es rest final last)
+    → MirrorLifeTells m a es rest final last life → (b : Content) × MirrorLifeWith m a es rest final last b

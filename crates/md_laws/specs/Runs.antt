@@ -66,11 +66,11 @@ MirrorRunWith t a (e ∷ es) last b =
 
 -- At each enrolment of a run it is told of the content, whatever that has become by then, that the new member holds it in the chunks that it
 -- did not lack.
-abbrev pub MirrorRunTells : (t : Moment) (a : Content) (es : List Event) (last : Moment) → MirrorRun t es last → Type 0
-MirrorRunTells t a [] last run = Unit {0}
-MirrorRunTells t a (e ∷ es) last run =
+abbrev pub MirrorRunTellsEnrolments : (t : Moment) (a : Content) (es : List Event) (last : Moment) → MirrorRun t es last → Type 0
+MirrorRunTellsEnrolments t a [] last run = Unit {0}
+MirrorRunTellsEnrolments t a (e ∷ es) last run =
     Tells (geometry_of t.mirror.array) e (world_of t.mirror t.requests) a
-    × ((b : Content) → Becomes (geometry_of t.mirror.array) e (world_of t.mirror t.requests) a b → MirrorRunTells (then_as t e run.0 run.1) b es last run.3)
+    × ((b : Content) → Becomes (geometry_of t.mirror.array) e (world_of t.mirror t.requests) a b → MirrorRunTellsEnrolments (then_as t e run.0 run.1) b es last run.3)
 
 -- Devices that do what they answer were opened as this mirror, and their stored marks covered what the members in sync differ in.
 pub record IsStart (before : List Disk) (m : MirrorView) : Type 0 where

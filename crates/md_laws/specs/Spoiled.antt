@@ -6,8 +6,8 @@ use Rattle.md_state.specs.Members.{IsMember}
 use Rattle.md_state.specs.Missing.{is_rebuilt}
 use Rattle.md_state.specs.View.{MirrorView}
 use Rattle.md_array.specs.Consistency.{IsConsistent}
-use Rattle.md_array.specs.Enrolling.{Enrols, MayEnrol}
-use Rattle.md_array.specs.Enrolments.{Prepares}
+use Rattle.md_array.specs.Enrolling.{Enrols, FailsToEnrol, MayEnrol}
+use Rattle.md_array.specs.Enrolments.{FailsAtSuper, Prepares}
 use Rattle.md_array.specs.Recording.{Records}
 use Rattle.md_array.specs.RecordingTarget.{LeavesUnrecorded}
 use Rattle.md_array.specs.Spoiling.{SpoilsTarget}
@@ -34,4 +34,11 @@ abbrev pub StopsAtEnrolAsSpoiled : Type 0
 StopsAtEnrolAsSpoiled =
     (k : ℕ) (copied orphans : Bitmap) (old new : MirrorView) (left : List (List ℕ)) → IsConsistent old → AreHonest old.disks → MayEnrol k copied orphans old
     → Enrols k copied orphans old new → MayAllBeLeft old.disks new.disks left
+    → (mid : MirrorView) × Prepares k old mid × ((map (λ d. d.content) mid.disks ≡ left) ⊎ IsLeftSpoiled k mid left)
+
+-- So it is within one of which that write fails.
+abbrev pub StopsAtFailedEnrolAsSpoiled : Type 0
+StopsAtFailedEnrolAsSpoiled =
+    (k : ℕ) (copied orphans : Bitmap) (old new : MirrorView) (left : List (List ℕ)) → IsConsistent old → AreHonest old.disks → MayEnrol k copied orphans old
+    → (f : FailsToEnrol k copied orphans old new) → FailsAtSuper f → MayAllBeLeft old.disks new.disks left
     → (mid : MirrorView) × Prepares k old mid × ((map (λ d. d.content) mid.disks ≡ left) ⊎ IsLeftSpoiled k mid left)

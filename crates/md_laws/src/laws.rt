@@ -3,7 +3,7 @@
 ghost use Rattle.std.specs.Prelude.{◌≡◌, ◌+◌, ◌<◌, ◌↔◌, ℕ, List, false, true};
 ghost use Rattle.md_badblocks.specs.Runs.{IsBad};
 ghost use Rattle.md_model.specs.Devices.{Covered};
-ghost use Rattle.md_model.specs.Lives.{IsCovered, IsSound};
+ghost use Rattle.md_model.specs.Lives.{AgreesUnstored, IsCovered, IsSound};
 ghost use Rattle.md_model.specs.Openings as openings;
 ghost use Rattle.md_model.specs.Stops.{IsSafeAtStop, KeepsOut, StaysOut};
 ghost use Rattle.md_model.specs.Worlds.{IsInSync};
@@ -14,12 +14,12 @@ ghost use Rattle.md_array.specs.Opening.{IsOpenedFrom};
 ghost use Rattle.md_array.specs.ReadAsKept.{AreReadAsKept};
 ghost use Rattle.md_array.specs.Worlds.{AreHonest, none_in_flight, super_of, world_of, world_on};
 ghost use Rattle.md_laws.specs.Fresh.{StartsFresh, StaysFresh};
-ghost use Rattle.md_laws.specs.LeftBehind.{FailedJoins, LiesBehind, MissingJoins, MissingLiesBehind};
-ghost use Rattle.md_laws.specs.Lives.{AtEachMoment, ContentGoesAlong, FindsAll, FindsInSync, FindsOut, FitsWhenThere, IsReadAsKeptInLives, KeepsContent, KeepsGeometry, StaysAsLeft};
-ghost use Rattle.md_laws.specs.Recovering.{KeepsRecovering};
+ghost use Rattle.md_laws.specs.LeftBehind.{FailedJoins, LiesBehind, LogLiesBehind, MissingJoins, MissingLiesBehind};
+ghost use Rattle.md_laws.specs.Lives.{AtEachMoment, ContentGoesAlongTold, FindsAll, FindsInSync, FindsOut, FitsWhenThere, IsReadAsKeptInLives, KeepsContent, KeepsGeometry, StaysAsLeft};
+ghost use Rattle.md_laws.specs.Recovering.{ContentGoesAlong, KeepsRecovering, OffsetsAreKept, SaysNoMoreWhenOpened, SaysNoMoreWhenRecorded, SaysNoMoreWithoutList};
 ghost use Rattle.md_laws.specs.Returning.{StartsAgain};
 ghost use Rattle.md_laws.specs.Runs.{HasContent};
-ghost use Rattle.md_laws.specs.Spoiled.{StopsAsSpoiled, StopsAtEnrolAsSpoiled};
+ghost use Rattle.md_laws.specs.Spoiled.{StopsAsSpoiled, StopsAtEnrolAsSpoiled, StopsAtFailedEnrolAsSpoiled};
 ghost use Rattle.md_laws.specs.StopsReadAs.{ReadsAtAdd, ReadsAtReAdd, ReadsAtTarget};
 ghost use Rattle.md_laws.specs.StopsWithin.{StopsAsFailed, StopsAsFilled, StopsAsPrepared, StopsAsTried, StopsAtAdd, StopsAtEnrol, StopsAtEvents, StopsAtFailedAdd, StopsAtFailedEnrol, StopsAtFailedReAdd, StopsAtFailure, StopsAtReAdd, StopsAtRefusedAdd, StopsAtRefusedReAdd, StopsAtRemoval, StopsAtSector, StopsAtWrite, StopsInMemory, StopsUndivided};
 
@@ -57,7 +57,11 @@ pub fn opening()
 /// decoded: a premise, unless the write is done and neither superblock has more than 128 roles. A device that comes in
 /// counts as left only where it is as after the call. Of one that comes back it is enough that its superblock reads so. A member that is
 /// rebuilt counts as left at any moment of its filling, and of `enrol` where its superblock stands as before or as after. Nothing is said of a stop
-/// within a write of marks, or of a copy, that fails, or within an `enrol` that fails.
+/// within a write of marks, or of a copy, that fails, or within an `enrol` that fails to store the bitmap or the log.
+///
+/// A member that is rebuilt is spoiled where `enrol`, `admit` or `checkpoint` could not write its superblock, whatever stands there then, or
+/// where a stop came within that write (`SpoilTarget`, `stops_at_steps`). Its mirror goes on. It is spoiled until its superblock is stored, and
+/// until then no opening after a stop may be of its device (`AreFoundAgain`).
 ///
 /// An opening after a stop is of devices that were left, in any order, some of them missing (`IsReopened`). Beside
 /// them may be further ones, which the opening before left out (`IsFurther`): the mirror that is opened does not have
@@ -75,6 +79,10 @@ pub fn every_run()
 
     // No member in sync is one whose superblock was spoiled, so that each of them may be there.
     ensures sound { AtEachMoment IsSound }
+
+    // Where a list in memory has a sector that its device does not list yet, its member agrees with the others in sync all the same,
+    // but for requests in flight.
+    ensures agrees_unstored { AtEachMoment AgreesUnstored }
 
     // So each member in sync of the mirror that is opened then was in sync; and each that was, and is there, is in sync, where each
     // of these has recorded all but the last change.
@@ -94,10 +102,12 @@ pub fn every_run()
 
     // There is a content that the members in sync hold at the first opening; any such content goes along the
     // life, and they hold what it becomes. Only the end of a request changes it, and a resync or an opening in
-    // chunks that each of them has marked. Of each member that comes into sync it is asked that it holds the content in
-    // the chunks that it did not lack (`MirrorLifeTells`): only one that was re-added has such chunks.
+    // chunks that each of them has marked. It is asked to be held by members that recover too, where they lack nothing: at the first
+    // opening, and of devices that come in later as `recovering_members` asks it. At enrolments nothing is asked.
+    // Or nothing is asked of members that recover, and at each enrolment that the new member holds it in chunks that it did not lack.
     ensures has_content { HasContent }
     ensures content_along { ContentGoesAlong }
+    ensures content_told { ContentGoesAlongTold }
     ensures keeps_content { KeepsContent }
 
     // An opening would read of the devices what the mirror keeps of them; chunks and roles are those of the
@@ -125,9 +135,11 @@ pub fn returning_devices()
 /// the chunks that `missing` names suffice; that each device that `re_add` takes back is such a one is not said. It
 /// may leave by `remove`, and the mirror may be stopped, at any moment of any of its calls, and opened again: so it is
 /// over each life that goes on from there. It is so too of a member that was in sync at a stop, as the stop left it, whatever the
-/// next opening finds of it: it may be missing there, as one whose cable was pulled.
+/// next opening finds of it: it may be missing there, as one whose cable was pulled. The log of one whose log could not be stored may
+/// be any: of it that is said in sectors that it did not list before, and that what counts of it does not list.
 pub fn leaving_members()
     ensures behind { LiesBehind }
+    ensures log { LogLiesBehind }
     ensures missing { MissingLiesBehind }
 
     // So a `re_add` that takes back such a device, still as it was left, takes back one of which the content is known in all chunks
@@ -137,11 +149,18 @@ pub fn leaving_members()
 {}
 
 /// What a recovering member holds of the array's content: on sectors that it does not list, all but the marked chunks and those
-/// that its offset has not passed. So a rebuild that copies what `missing` names is enough, at any moment after the `re_add`. It is
-/// asked that each `re_add` is told, as `leaving_members` tells of a device that still is as it was left; and that an opening that
-/// finds members recovering is told of them, the first one too.
+/// that its offset has not passed. So a rebuild that copies what `missing` names is enough, at any moment after a `re_add` or an `admit`,
+/// also after a stop and the next opening. It is asked that each `re_add` is told, as `leaving_members` tells of a device that still is as
+/// it was left, and that the first opening is told of the members that it finds recovering. A later one is told of further devices alone, if
+/// each of those that were left says no more than the mirror kept of it (`SaysNoMore`). So each does right after an opening that took no
+/// offset as 0. Until the next one its offset stays such, unless it is spoiled; so where its list in memory is empty it says no more at any
+/// stop. Of a longer list that is asked, as a log that failed may be any; a record and a checkpoint keep it so.
 pub fn recovering_members()
     ensures kept { KeepsRecovering }
+    ensures as_opened { SaysNoMoreWhenOpened }
+    ensures offsets { OffsetsAreKept }
+    ensures unlisted { SaysNoMoreWithoutList }
+    ensures recorded { SaysNoMoreWhenRecorded }
 {}
 
 /// An interrupted open of a mirror's devices, at any moment of its life, leaves each as it was left, so that
@@ -186,5 +205,6 @@ pub fn stops_at_steps()
     ensures as_prepared { StopsAsPrepared }
     ensures as_spoiled { StopsAsSpoiled }
     ensures enrol_as_spoiled { StopsAtEnrolAsSpoiled }
+    ensures failed_enrol_as_spoiled { StopsAtFailedEnrolAsSpoiled }
     ensures undivided { StopsUndivided }
 {}

@@ -8,7 +8,7 @@ ghost use Rattle.md_laws.specs.WholeCalls.{AddIsACall, AdmitIsACall, CallsAreRun
 /// A call that is a list of events (`Leads`) is a run of the mirror, from any moment of its life on, and
 /// goes on with the run before it. So `every_run` speaks of it. It is asked that devices do what they
 /// answer, and that each write of a superblock that failed on the way left the old superblock, the new one
-/// or none.
+/// or none, unless the event is that its member is spoiled.
 pub fn every_call()
     ensures run { CallsAreRuns }
     ensures goes_on { RunsGoOn }
@@ -59,7 +59,7 @@ pub fn listing_calls()
 {}
 
 /// So is a call that reads devices before its events and after the last (`LeadsReading`), and writes no
-/// superblock that fails, enrols no member, and stores no checkpoint and no log.
+/// superblock that fails unless its member is spoiled, enrols no member, and stores no checkpoint and no log.
 pub fn every_reading_call()
     ensures { ReadingCallsAreRuns }
 {}

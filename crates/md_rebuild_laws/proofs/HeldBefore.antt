@@ -29,8 +29,8 @@ use Rattle.md_array.proofs.Worlds.States.{same_in_sync, same_recovering}
 use Rattle.md_laws.specs.Runs.{Moment}
 use Rattle.md_laws.proofs.Runs.MirrorContents.{life_held_at}
 use Rattle.md_laws.proofs.Runs.Recovering.{keeps_recovering}
-use Rattle.md_copy.proofs.EnrolReady.{target_rebuilt}
 use Rattle.md_copy.proofs.LentBack.{rebuilt_out}
+use Rattle.md_copy.proofs.TargetStates.{target_rebuilt}
 use Rattle.md_rebuild_laws.specs.RebuiltInLife.{HasNothing, HeldInLives, NewHadNothing, RebuildsResumed, RecoveringHeldIt, TakenBackHeldIt}
 use Rattle.md_rebuild_laws.proofs.RebuiltHolds.{holds_there}
 
@@ -168,6 +168,6 @@ held_in_lives before m a start holds recovering es rest final last b life told t
 pub rebuilds_resumed : RebuildsResumed
 rebuilds_resumed before m a start holds recovering es rest final last b life joins target told new h =
     let x = holds_there before m a start holds es rest final last b life target told new h in
-    let begins = h.by.fills.begins in
+    let begins = h.begins in
     let out = rebuilt_out begins.member.state (target_rebuilt last.mirror.array begins.member begins.may.settled.has_target.target) in
     (x.0, x.1 (held_in_lives before m a start holds recovering es rest final last b life joins target begins.member begins.at out))

@@ -1,5 +1,7 @@
 pub mod HeldOnDisks
-pub mod LeftByWrite
+pub mod Steady
+pub mod Unshifted
+pub mod RebuildSteps
 pub mod RebuiltHolds
 pub mod StoppedRebuilds
 pub mod HeldAtEnrol
@@ -7,3 +9,4 @@ pub mod EnrolledRun
 pub mod SpoiledRebuilds
 pub mod RebuildRun
 pub mod HeldBefore
+pub mod RefusedRebuilds

@@ -17,7 +17,6 @@ use Rattle.md_model.specs.Devices.{Super}
 use Rattle.md_model.specs.Events.{Event}
 use Rattle.md_model.specs.Sectors.{Geometry}
 use Rattle.md_model.proofs.Cases.{by_test}
-use Rattle.md_plan.specs.declared.planner.Planned.{Planned}
 use Rattle.md_state.specs.Missing.{is_missing}
 use Rattle.md_state.specs.View.{ArrayView, Disk, MirrorView, geometry_of}
 use Rattle.md_array.specs.Consistency.{IsConsistent}
@@ -131,9 +130,9 @@ module _ (target : ℕ) (copied orphans : Bitmap) (old last : MirrorView) (sound
 
 -- ---- at a moment of a life
 -- where a rebuild may begin
-pub held_at_begin : {g : Geometry} {opened : Super} {b : Content} (t : Moment) → IsHeldAt g opened t b → (planned : Planned) (target : ℕ) {stored : MirrorView} → Begins target planned t.mirror stored
+pub held_at_begin : {g : Geometry} {opened : Super} {b : Content} (t : Moment) → IsHeldAt g opened t b → (target : ℕ) {ready : MirrorView} {none : Bitmap} → Begins target t.mirror ready none
     → HasContent t.mirror.disks t.mirror.array b
-held_at_begin {g} {opened} {b} t at planned target begins =
+held_at_begin {g} {opened} {b} t at target {ready} {none} begins =
     has_content t at.sound begins.may.idle begins.may.settled.resynced b (subst (λ g. Holds g b (world_of t.mirror t.requests)) (sym at.geometry) at.held.holds)
 
 module _ (before : List Disk) (m : MirrorView) (a : Content) (start : IsStart before m) (holds : Holds (geometry_of m.array) a (world_of m none_in_flight)) (es : List Event) (rest : List (List Event)) (final : MirrorView)
@@ -148,7 +147,7 @@ module _ (before : List Disk) (m : MirrorView) (a : Content) (start : IsStart be
   honest_there = (life_held_at before m a start holds es rest final last b life).sound.honest
 
   has_it : HasContent last.mirror.disks last.mirror.array b
-  has_it = held_at_begin last (life_held_at before m a start holds es rest final last b life) h.planned target h.by.fills.begins
+  has_it = held_at_begin last (life_held_at before m a start holds es rest final last b life) target h.begins
 
   pub copies_there : (r : HasRebuilt target told last.mirror new) × ((e : Disk) → slice_get r.last.disks target ≡ Some e → (c s : ℕ) → c < last.mirror.array.marks.chunks → is_set r.copied.bytes c ≡ true
       → InChunk last.mirror.array.chunks.sectors last.mirror.array.chunks.size c s → part e.content (512 * (r.rebuilt.member.superblock.data_offset + s)) 512 ≡ b s)

@@ -1,474 +1,611 @@
 -- A stop within a rebuild is a stop of a run.
-use Rattle.std.proofs.Common.{◌≡◌, ◌∙◌, ◌⊎◌, ℕ, true, false, List, [], ◌∷◌, ◌++◌, Option, Some, None, inl, inr, refl, sym, ap, subst, arith, slice_get}
-use Rattle.std.proofs.lemmas.Option.{same_Some, slice_get_within}
-use Rattle.md_assembly.specs.States.{is_in_sync, is_spare}
-use Rattle.md_assembly.proofs.Indices.{got_within}
+use Rattle.std.proofs.Common.{◌≡◌, ◌∙◌, ◌⊎◌, ◌++◌, ℕ, true, false, true≢false, List, [], ◌∷◌, Option, Some, None, inl, inr, refl, sym, ap, subst}
+use Rattle.std.proofs.lemmas.List.{append-nil}
+use Rattle.std.proofs.lemmas.Option.{same_Some}
+use Rattle.md_assembly.specs.States.{is_in_sync, is_recorded, is_recovering, is_spare}
 use Rattle.md_bitmap.specs.Marks.{Bitmap}
-use Rattle.md_kept_members.specs.TakingBack.{admitted_member}
 use Rattle.md_kept_members.specs.View.{MemberView}
 use Rattle.md_model.specs.Events.{Event}
-use Rattle.md_plan.specs.declared.planner.Planned.{Planned}
-use Rattle.md_state.specs.Admitting.{admitted}
+use Rattle.md_model.proofs.Cases.{by_test}
+use Rattle.md_passes.specs.Passes.{PassView, failed_chunks}
 use Rattle.md_state.specs.DiskWrites.{AtDevice}
-use Rattle.md_state.specs.Members.{IsMember}
+use Rattle.md_state.specs.Members.{IsInSync, IsMember}
+use Rattle.md_state.specs.Missing.{is_rebuilt}
 use Rattle.md_state.specs.Requests.{AreInFlight}
 use Rattle.md_state.specs.View.{ArrayView, Disk, MirrorView}
-use Rattle.md_array.specs.Consistency.{IsConsistent}
-use Rattle.md_array.specs.Enrolling.{Enrols, FailsToEnrol, MayEnrol}
-use Rattle.md_array.specs.Enrolments.{Prepares}
+use Rattle.md_array.specs.Checkpoints.{Checkpoints, FailsToCheckpoint}
+use Rattle.md_array.specs.Enrolling.{Enrols, FailsToEnrol}
+use Rattle.md_array.specs.Events.{Does}
 use Rattle.md_array.specs.Filling.{Fills}
-use Rattle.md_array.specs.InTurn.{AllLeftWhole, AllOf, Did, InTurn, IsInOrder, Leads, LeftWhole, Requests}
-use Rattle.md_array.specs.Recording.{super_write}
-use Rattle.md_array.specs.RecordingTarget.{LeavesUnrecorded}
+use Rattle.md_array.specs.InTurn.{AllLeftWhole, AllOf, Did, InTurn, IsInOrder, LeftWhole, Requests}
 use Rattle.md_array.specs.Worlds.{AreHonest, block_on}
-use Rattle.md_array.proofs.General.Indices.{at_map}
-use Rattle.md_array.proofs.Rebuilding.InBetween.{recovers_rebuilt}
 use Rattle.md_array.proofs.Steps.Turns.{all_on, all_such}
-use Rattle.md_laws.specs.Left.{IsLeft, contents_of}
-use Rattle.md_laws.specs.Lives.{MirrorLife}
-use Rattle.md_laws.specs.ReadInTurn.{IsNoFailedRecord}
-use Rattle.md_laws.specs.Runs.{IsStart, MirrorRun, Moment, then_as}
-use Rattle.md_laws.specs.StopsWithin.{IsLeftBut, MayAllBeLeft}
-use Rattle.md_laws.proofs.Runs.CallRuns.{call_is_run}
-use Rattle.md_laws.proofs.Runs.Moments.{IsSoundAt, life_keeps, run_keeps, run_then, sound_when_opened}
+use Rattle.md_laws.specs.Left.{IsLeft, IsLeftEnrolled, IsLeftEnrolling, IsLeftFilling, IsLeftPreparing, IsLeftRecording, IsLeftTargeted, IsLeftTargeting, contents_of}
+use Rattle.md_laws.specs.Runs.{Moment, then_as}
+use Rattle.md_laws.specs.StopsReadAs.{ReadsAs}
+use Rattle.md_laws.specs.StopsWithin.{MayAllBeLeft}
+use Rattle.md_laws.proofs.Runs.Moments.{run_then}
 use Rattle.md_laws.proofs.Runs.Rests.{at_once, at_rest}
-use Rattle.md_laws.proofs.Stops.AsFailed.{stops_as_tried}
-use Rattle.md_laws.proofs.Stops.AtSteps.{stops_at_failure}
+use Rattle.md_laws.proofs.Stops.WithinLog.{stops_at_log}
+use Rattle.md_laws.proofs.Stops.WithinTarget.{recovering_recorded}
 use Rattle.md_metadata.specs.Going.{GoesOn, only_others}
-use Rattle.md_metadata.specs.Storing.{IsNoFailure, IsStoring, StaysReady}
-use Rattle.md_writes.specs.Writes.{IsAnyIn, Write}
+use Rattle.md_metadata.specs.Storing.{IsStoring}
 use Rattle.md_copy.specs.Beginning.{MayRebuild}
-use Rattle.md_copy.specs.Filling.{IsFilling}
+use Rattle.md_copy.specs.Listing.{IsStoringList, NotesLists}
+use Rattle.md_copy.specs.Passing.{AreListedPasses, CopiesAll, ListsPass, MakesPass, RecordsPass}
 use Rattle.md_copy.specs.Readying.{AdmitsAfter, AdmitsFirst, FailsAdmission, Readies}
+use Rattle.md_copy.specs.RebuildEvents.{FailsAtMarks}
+use Rattle.md_copy.specs.Rebuilding.{EndsStoring}
+use Rattle.md_copy.specs.Rebuilt.{failed_of}
+use Rattle.md_copy.specs.Sources.{missing_chunks}
 use Rattle.md_copy.specs.Storing.{FailsOnTarget, StoresFirst}
-use Rattle.md_copy.specs.RebuildEvents.{FailsAtMarks, IsBeforeEnrol}
-use Rattle.md_copy.specs.Rebuilding.{Begins, EndsStoring, FillsBy}
-use Rattle.md_copy.proofs.EnrolReady.{target_rebuilt}
+use Rattle.md_copy.proofs.HeldRecorded.{out_of_sync, target_same}
 use Rattle.md_copy.proofs.LentBack.{rebuilt_out}
-use Rattle.md_copy.proofs.RebuildLeads.{LeadsIn, admission_events, admission_leads, begin_events, begin_leads, either, event_of, events_either, filled, filled_leads, filling_events, now_rebuilt, storing_before}
-use Rattle.md_copy.proofs.Readied.{admitted_is, recovering_admitted, spare_rebuilt}
-use Rattle.md_copy.proofs.StoringKeeps.{KeepsAll, device_then, due_within, keeps_event, keeps_none, keeps_then}
+use Rattle.md_copy.proofs.PassesTold.{HoldsSoFar, chain_holds, listed_holds}
+use Rattle.md_copy.proofs.PassRecorded.{filled_ready, recorded_ready}
+use Rattle.md_copy.proofs.Readied.{recovering_admitted, spare_is, spare_rebuilt}
+use Rattle.md_copy.proofs.ReadyStill.{IsCalm, IsOnMembers, ready_filled, ready_noted, stays_all}
+use Rattle.md_copy.proofs.RebuildLeads.{begin_holds, filled, listing_before, storing_before}
+use Rattle.md_copy.proofs.StoringKeeps.{due_within}
+use Rattle.md_copy.proofs.TargetStates.{target_rebuilt}
 use Rattle.md_copy.proofs.UnfinishedEnrol.{prepares}
-use Rattle.md_rebuild_laws.specs.StoppedRebuilds.{IsLeftWhole, IsStopAfter, IsStopBefore, IsSuperWhole, StopsAdmitting, StopsEnrolling, StopsFilling, StopsFirst, StopsIn, StopsReadying, StopsStoring, StopsUnadmitted, StopsUnenrolled, StopsUnrecorded}
-use Rattle.md_rebuild_laws.proofs.LeftByWrite.{left_itself, left_tried, same_left}
+use Rattle.md_rebuild_laws.specs.StoppedRebuilds.{HasFilled, HasPassed, IsLeftWhole, IsStopAfter, IsStopBefore, IsSuperWhole, StopsAdmitting, StopsAtCheckpoint, StopsAtFailedCheckpoint, StopsCopying, StopsEnrolling, StopsFilling, StopsFirst, StopsIn, StopsInListed, StopsInPass, StopsInPasses, StopsListing, StopsPassUnrecorded, StopsReadying, StopsRecording, StopsStoring, StopsUnadmitted, StopsUnenrolled, StopsUnrecorded}
+use Rattle.md_rebuild_laws.proofs.RebuildSteps.{Before, ComesUnspoiled, IfSome, admission_comes, checkpoint_comes, checkpoint_unspoils, fill_comes, filled_comes, if_some, listed_comes, noted_comes, noting_comes, passes_come, ready_comes, recorded_comes, so_last, some_map, stored_comes, stores_come, then_unspoiled, un_listed, un_noted, unshifted_if, until_last, whole_stores}
+use Rattle.md_rebuild_laws.proofs.Steady.{Comes, IsSteadyAt, comes_then, end, end_steady, steady_at}
+use Rattle.md_rebuild_laws.proofs.Unshifted.{Unshifted, unshifted_ready, whole_lists}
 
--- ---- a run that a call makes
--- it ends where the call says
-pub record Reaches (t : Moment) (es : List Event) (new : MirrorView) : Type 0 where
-  pub at : Moment
-  pub run : MirrorRun t es at
-  pub there : at.mirror ≡ new
-  pub requests : at.requests ≡ t.requests
+-- ---- who is in sync
+-- was so before
+abbrev pub StaysOut : ArrayView → ArrayView → Type 0
+StaysOut old new = (i : ℕ) (y : MemberView) → IsInSync new i y → (x : MemberView) × IsInSync old i x
 
-pub reaches : (es : List Event) (t : Moment) (new : MirrorView) (leads : Leads None t.mirror t.requests es new t.requests) → AreHonest t.mirror.disks
-    → AllLeftWhole es None t.mirror t.requests (λ m r. (m ≡ new) × (r ≡ t.requests)) leads → Reaches t es new
-reaches es t new leads honest whole = let r = call_is_run es None t new t.requests leads honest whole in record { at = r.0; run = r.1; there = r.2.0; requests = r.2.1 }
+out_then : (a b c : ArrayView) → StaysOut a b → StaysOut b c → StaysOut a c
+out_then a b c f g i z on = (let y = g i z on in f i y.0 y.1)
 
--- of some events nothing is asked
-whole_of : (es : List Event) (previous : Option Event) (old : MirrorView) (before : Requests) (Then : MirrorView → Requests → Type 0) (turn : InTurn previous old before es Then)
-    → AllOf IsNoFailedRecord es → AllLeftWhole es previous old before Then turn
-whole_of [] previous old before Then turn all = tt
-whole_of (e ∷ es) previous old before Then turn all = (one e all.0, whole_of es (Some e) turn.0 turn.1 Then turn.5 all.1)
-  where
-    one : (e : Event) → IsNoFailedRecord e → LeftWhole old e turn.0
-    one (Event.RecordFails k) of = absurd of
-    one (Event.RecordTargetFails k) of = absurd of
-    one (Event.Enrol k role listed) of = absurd of
-    one (Event.Checkpoint k offset listed) of = absurd of
-    one (Event.StoreLog k listed) of = absurd of
-    one (Event.StoreLogFails k) of = absurd of
-    one e of = tt
-
-unfailing_records : (es : List Event) → AllOf IsStoring es → AllOf IsNoFailure es → AllOf IsNoFailedRecord es
-unfailing_records [] of none = tt
-unfailing_records (Event.Record k ∷ es) of none = (tt, unfailing_records es of.1 none.1)
-unfailing_records (Event.StoreMarks k b ∷ es) of none = (tt, unfailing_records es of.1 none.1)
-unfailing_records (Event.RecordFails k ∷ es) of none = absurd none.0
-unfailing_records (Event.StoreMarksFails k b ∷ es) of none = absurd none.0
-unfailing_records (e ∷ es) of none = absurd of.0
-
--- ---- while marks and superblocks are stored
-within_storing : (e : Event) (previous : Option Event) (t : Moment) (mid : MirrorView) (between : Requests) → IsStoring e → IsInOrder previous t.mirror.array e → Did t.mirror t.requests e mid between
-    → (left : List Disk) → MayAllBeLeft t.mirror.disks mid.disks (contents_of left) → IsLeftWhole e t.mirror left → IsLeft t left
-within_storing (Event.Record k) previous t mid between of order did left within whole =
-    inr (inr (inr (inl (record { on = k; next = mid; call = inl did.1; within = within; super = whole }))))
-within_storing (Event.RecordFails k) previous t mid between of order did left within whole =
-    inr (inr (inr (inl (record { on = k; next = mid; call = inr (inl did.1); within = within; super = whole }))))
-within_storing (Event.StoreMarks k b) previous t mid between of order did left within whole =
-    let r = did.1 in
-    inr (inl (record { on = k; block = b; inside = due_within t.mirror.array k b r.member r.may.in_sync order; next = mid; call = r; within = within }))
-within_storing (Event.StoreMarksFails k b) previous t mid between of order did left within whole = absurd whole
-within_storing e previous t mid between of order did left within whole = absurd of
-
--- a stop of such a run, and what the run keeps
-pub record StopsKeeping (t : Moment) (left : List Disk) : Type 0 where
-  pub after : IsStopAfter IsStoring t left
-  pub keeps : KeepsAll t.mirror after.at.mirror
-
-pub stops_in : (es : List Event) (previous : Option Event) (t : Moment) (Then : MirrorView → Requests → Type 0) (turn : InTurn previous t.mirror t.requests es Then) → AllOf IsStoring es → AreHonest t.mirror.disks
-    → AllLeftWhole es previous t.mirror t.requests Then turn → (left : List Disk) → StopsIn es previous t.mirror t.requests Then turn left → StopsKeeping t left
-stops_in [] previous t Then turn of honest whole left stop = absurd stop
-stops_in (e ∷ es) previous t Then turn of honest whole left (inl here) = record {
-  after = record { events = []; steps = tt; at = t; run = at_rest t; is_left = within_storing e previous t turn.0 turn.1 of.0 turn.2 turn.3 left here.0 here.1 };
-  keeps = keeps_none t.mirror;
-}
-stops_in (e ∷ es) previous t Then turn of honest whole left (inr later) =
-    let does = turn.4 honest whole.0 in
-    let rest = stops_in es (Some e) (then_as t e turn.0 turn.1) Then turn.5 of.1 does.honest whole.1 left later in
-    let x = rest.after in
-    record {
-      after = record { events = e ∷ x.events; steps = (of.0, x.steps); at = x.at; run = (turn.0, turn.1, at_once t.mirror turn.0 t.requests turn.1 e does, x.run); is_left = x.is_left };
-      keeps = keeps_then t.mirror turn.0 x.at.mirror (keeps_event t.mirror turn.0 t.requests turn.1 previous e of.0 turn.2 turn.3) rest.keeps;
-    }
+calm_of : (e : Event) → IsOnMembers e → (k : ℕ) × IsCalm k e
+calm_of (Event.Record k) of = (k, inl tt)
+calm_of (Event.StoreMarks k b) of = (k, inl tt)
+calm_of (Event.StoreLog k listed) of = (k, inl tt)
+calm_of (Event.RecordFails k) of = (k, inr refl)
+calm_of (Event.StoreMarksFails k b) of = (k, inr refl)
+calm_of (Event.StoreLogFails k) of = (k, inr refl)
+calm_of e of = absurd of
 
 -- who is out of sync stays so
-stays_out : (old new : MirrorView) → IsConsistent old → KeepsAll old new → (k : ℕ) (m n : MemberView) → IsMember old.array k m → IsMember new.array k n → is_in_sync m.state ≡ false → is_in_sync n.state ≡ false
-stays_out old new sound keeps k m n at_m at_n out =
-    let low = slice_get_within old.array.members k m at_m in
-    let many = sound.fits.as_many in
-    let d = got_within old.disks k (omega arith) in
-    let e = device_then old new keeps k d.0 d.1 in
-    elim (keeps.state k m n d.0 e.0 at_m at_n d.1 e.1) [
-      | inl same ↦ ap is_in_sync same ∙ out
-      | inr failed ↦ ap is_in_sync failed.0
-    ]
+pub stays_out : (old new : ArrayView) → StaysOut old new → (k : ℕ) (m n : MemberView) → IsMember old k m → IsMember new k n → is_in_sync m.state ≡ false → is_in_sync n.state ≡ false
+stays_out old new keeps k m n at_m at_n out = by_test (is_in_sync n.state)
+    (λ on.
+    (let x = keeps k n (record { member = at_n; in_sync = on }) in
+    absurd (true≢false (sym x.1.in_sync ∙ ap (λ (z : MemberView). is_in_sync z.state) (same_Some x.0 m (sym x.1.member ∙ at_m)) ∙ out))))
+    (λ off. off)
 
--- while what is due is stored before a pass
-pub first_stop : (t : Moment) → AreHonest t.mirror.disks → IsConsistent t.mirror → (target : ℕ) (m : MemberView) → IsMember t.mirror.array target m → is_in_sync m.state ≡ false
-    → (new : MirrorView) (first : StoresFirst t.mirror new) (in_flight : AreInFlight t.mirror.array t.requests) (left : List Disk) → StopsFirst t.mirror new first t.requests in_flight left → IsStopBefore target t left
-first_stop t honest sound target m at out new first in_flight left stop =
-    let goes = first.stores.goes in
-    let leads = goes.leads None t.requests in_flight in
-    let Then : MirrorView → Requests → Type 0 = λ m r. (m ≡ new) × (r ≡ t.requests) in
-    let x = stops_in goes.events None t Then leads goes.steps honest (whole_of goes.events None t.mirror t.requests Then leads (unfailing_records goes.events goes.steps first.stores.unfailing)) left stop in
-    record {
-      after = record {
-        events = x.after.events;
-        steps = all_such IsStoring (IsBeforeEnrol target) (storing_before target) x.after.events x.after.steps;
-        at = x.after.at;
-        run = x.after.run;
-        is_left = x.after.is_left;
-      };
-      out = λ n there. stays_out t.mirror x.after.at.mirror sound x.keeps target m n at there out;
-    }
+-- ---- while marks, logs and superblocks are stored
+within_storing : (e : Event) (previous : Option Event) (t : Moment) (mid : MirrorView) (between : Requests) → IsOnMembers e → IsInOrder previous t.mirror.array e → Did t.mirror t.requests e mid between → AreHonest t.mirror.disks
+    → (left : List Disk) → MayAllBeLeft t.mirror.disks mid.disks (contents_of left) → IsLeftWhole e t.mirror left → IsLeft t left ⊎ (contents_of left ≡ contents_of mid.disks)
+within_storing (Event.Record k) previous t mid between of order did honest left within whole =
+    inl (inr (inr (inr (inl (record { on = k; next = mid; call = inl did.1; within = within; super = whole })))))
+within_storing (Event.RecordFails k) previous t mid between of order did honest left within whole =
+    inl (inr (inr (inr (inl (record { on = k; next = mid; call = inr (inl did.1); within = within; super = whole })))))
+within_storing (Event.StoreMarks k b) previous t mid between of order did honest left within whole =
+    let r = did.1 in
+    inl (inr (inl (record { on = k; block = b; inside = due_within t.mirror.array k b r.member r.may.in_sync order; next = mid; call = r; within = within })))
+within_storing (Event.StoreLog k listed) previous t mid between of order did honest left within whole =
+    let r = did.1 in
+    elim (stops_at_log k t.mirror mid (contents_of left) honest r (λ d at. whole r.member r.in_sync.member d at) within) [ inl before ↦ inl (inl before) | inr after ↦ inr after ]
+within_storing (Event.StoreMarksFails k b) previous t mid between of order did honest left within whole = absurd whole
+within_storing (Event.StoreLogFails k) previous t mid between of order did honest left within whole = absurd whole
+within_storing e previous t mid between of order did honest left within whole = absurd of
 
--- so it is after other events
-later_stop : (target : ℕ) (t mid : Moment) (es : List Event) → AllOf (IsBeforeEnrol target) es → MirrorRun t es mid → (left : List Disk) → IsStopBefore target mid left → IsStopBefore target t left
-later_stop target t mid es of run left s = record {
+-- a stop of such a run, and who is in sync then
+pub record StopsKeeping (Of : Event → Type 0) (t : Moment) (left : List Disk) : Type 0 where
+  pub after : IsStopAfter Of t left
+  pub keeps : StaysOut t.mirror.array after.at.mirror.array
+
+keeps_event : (e : Event) (previous : Option Event) (t : Moment) (mid : MirrorView) (between : Requests) → IsOnMembers e → IsInOrder previous t.mirror.array e → Did t.mirror t.requests e mid between
+    → (AreHonest t.mirror.disks → LeftWhole t.mirror e mid → Does t.mirror t.requests e mid between) → StaysOut t.mirror.array mid.array
+keeps_event e previous t mid between of order did happens i y on =
+    let calm = calm_of e of in
+    let stays = stays_all calm.0 (e ∷ []) previous t.mirror mid t.requests between (of, tt) (calm.1, tt) (mid, between, order, did, happens, (refl, refl)) in
+    let x = stays.each i y on in
+    (x.0, x.1)
+
+module _ (Of : Event → Type 0) (e : Event) (of : Of e) (t : Moment) (mid : MirrorView) (between : Requests) (does : Does t.mirror t.requests e mid between) (keeps : StaysOut t.mirror.array mid.array) where
+  abbrev next : Moment
+  next = then_as t e mid between
+
+  stops_here : (left : List Disk) → IsLeft t left ⊎ (contents_of left ≡ contents_of mid.disks) → StopsKeeping Of t left
+  stops_here left (inl is_left) = record { after = record { events = []; steps = tt; at = t; run = at_rest t; is_left = is_left }; keeps = λ i y on. (y, on) }
+  stops_here left (inr done) = record {
+    after = record { events = e ∷ []; steps = (of, tt); at = next; run = (mid, between, at_once t.mirror mid t.requests between e does, at_rest next); is_left = inl done };
+    keeps = keeps;
+  }
+
+  stops_later : (left : List Disk) → StopsKeeping Of next left → StopsKeeping Of t left
+  stops_later left rest =
+      let x = rest.after in
+      record {
+        after = record { events = e ∷ x.events; steps = (of, x.steps); at = x.at; run = (mid, between, at_once t.mirror mid t.requests between e does, x.run); is_left = x.is_left };
+        keeps = out_then t.mirror.array mid.array x.at.mirror.array keeps rest.keeps;
+      }
+
+pub stops_in : (Of : Event → Type 0) → ((e : Event) → Of e → IsOnMembers e) → (es : List Event) (previous : Option Event) (t : Moment) (Then : MirrorView → Requests → Type 0) (turn : InTurn previous t.mirror t.requests es Then)
+    → AllOf Of es → AreHonest t.mirror.disks → AllLeftWhole es previous t.mirror t.requests Then turn → (left : List Disk) → StopsIn es previous t.mirror t.requests Then turn left → StopsKeeping Of t left
+stops_in Of is [] previous t Then turn of honest whole left stop = absurd stop
+stops_in Of is (e ∷ es) previous t Then turn of honest whole left (inl here) =
+    stops_here Of e of.0 t turn.0 turn.1 (turn.4 honest whole.0) (keeps_event e previous t turn.0 turn.1 (is e of.0) turn.2 turn.3 turn.4) left
+    (within_storing e previous t turn.0 turn.1 (is e of.0) turn.2 turn.3 honest left here.0 here.1)
+stops_in Of is (e ∷ es) previous t Then turn of honest whole left (inr later) =
+    let does = turn.4 honest whole.0 in
+    stops_later Of e of.0 t turn.0 turn.1 does (keeps_event e previous t turn.0 turn.1 (is e of.0) turn.2 turn.3 turn.4) left
+    (stops_in Of is es (Some e) (then_as t e turn.0 turn.1) Then turn.5 of.1 does.honest whole.1 left later)
+
+pub on_members : (e : Event) → IsStoring e → IsOnMembers e
+on_members (Event.Record k) of = tt
+on_members (Event.StoreMarks k b) of = tt
+on_members (Event.RecordFails k) of = tt
+on_members (Event.StoreMarksFails k b) of = tt
+on_members e of = absurd of
+
+list_on_members : (e : Event) → IsStoringList e → IsOnMembers e
+list_on_members (Event.Record k) of = tt
+list_on_members (Event.StoreMarks k b) of = tt
+list_on_members (Event.StoreLog k listed) of = tt
+list_on_members (Event.RecordFails k) of = tt
+list_on_members (Event.StoreMarksFails k b) of = tt
+list_on_members (Event.StoreLogFails k) of = tt
+list_on_members e of = absurd of
+
+-- the target is out of sync
+abbrev pub IsOut : ℕ → MirrorView → Type 0
+IsOut target v = (m : MemberView) → IsMember v.array target m → is_in_sync m.state ≡ false
+
+pub recovering_is_out : (target : ℕ) (v : MirrorView) → ((m : MemberView) → IsMember v.array target m → is_recovering m.state ≡ true) → IsOut target v
+recovering_is_out target v recovers m at = out_of_sync m.state (recovers m at)
+
+-- so it is at such a stop
+keeping_stop : (Of : Event → Type 0) (target : ℕ) → ((e : Event) → Of e → Before target e) → (t : Moment) → IsOut target t.mirror → (left : List Disk) → StopsKeeping Of t left → IsStopBefore target t left
+keeping_stop Of target before t out left x = record {
   after = record {
-    events = es ++ s.after.events;
-    steps = all_on (IsBeforeEnrol target) es s.after.events of s.after.steps;
+    events = x.after.events;
+    steps = all_such Of (Before target) before x.after.events x.after.steps;
+    at = x.after.at;
+    run = x.after.run;
+    is_left = x.after.is_left;
+  };
+  out = λ n there. by_test (is_in_sync n.state)
+      (λ on. (let was = x.keeps target n (record { member = there; in_sync = on }) in absurd (true≢false (sym was.1.in_sync ∙ out was.0 was.1.member))))
+      (λ off. off);
+}
+
+-- ---- within a call
+module _ (t : Moment) (left : List Disk) where
+  pub in_recording : IsLeftRecording t left → IsLeft t left
+  in_recording x = inr (inr (inr (inl x)))
+
+  pub in_filling : IsLeftFilling t left → IsLeft t left
+  in_filling x = inr (inr (inr (inr (inr (inr (inl x))))))
+
+  pub in_preparing : IsLeftPreparing t left → IsLeft t left
+  in_preparing x = inr (inr (inr (inr (inr (inr (inr (inl x)))))))
+
+  pub in_enrolling : IsLeftEnrolling t left → IsLeft t left
+  in_enrolling x = inr (inr (inr (inr (inr (inr (inr (inr (inl x))))))))
+
+  pub in_enrolled : IsLeftEnrolled t left → IsLeft t left
+  in_enrolled x = inr (inr (inr (inr (inr (inr (inr (inr (inr (inl x)))))))))
+
+  pub in_targeting : IsLeftTargeting t left → IsLeft t left
+  in_targeting x = inr (inr (inr (inr (inr (inr (inr (inr (inr (inr (inl x))))))))))
+
+  pub in_targeted : IsLeftTargeted t left → IsLeft t left
+  in_targeted x = inr (inr (inr (inr (inr (inr (inr (inr (inr (inr (inr x))))))))))
+
+-- ---- after other events
+pub later_stop : (target : ℕ) (t : Moment) {mid : MirrorView} (c : Comes (Before target) t mid) (left : List Disk) → IsStopBefore target (end c) left → IsStopBefore target t left
+later_stop target t {mid} c left s = record {
+  after = record {
+    events = c.events ++ s.after.events;
+    steps = all_on (Before target) c.events s.after.events c.steps s.after.steps;
     at = s.after.at;
-    run = run_then es s.after.events t mid s.after.at run s.after.run;
+    run = run_then c.events s.after.events t (record c.past { mirror = mid; requests = t.requests }) s.after.at c.run s.after.run;
     is_left = s.after.is_left;
   };
   out = s.out;
 }
 
--- the superblock of a device that is left
-block_of : (k : ℕ) (disks left : List Disk) → AtDevice k disks left (λ d e. block_on e.content ≡ block_on d.content)
-    → (x y : List ℕ) → slice_get (contents_of disks) k ≡ Some x → slice_get (contents_of left) k ≡ Some y → block_on y ≡ block_on x
-block_of k disks left same x y at_x at_y =
-    let d = at_map (λ (z : Disk). z.content) disks k x at_x in
-    let e = at_map (λ (z : Disk). z.content) left k y at_y in
-    ap block_on e.2 ∙ same d.0 e.0 d.1 e.1 ∙ sym (ap block_on d.2)
+-- what is left is what stands at a moment or within a call from there
+at_stop : (target : ℕ) (t : Moment) → IsOut target t.mirror → (left : List Disk) → IsLeft t left → IsStopBefore target t left
+at_stop target t out left is_left = record { after = record { events = []; steps = tt; at = t; run = at_rest t; is_left = is_left }; out = out }
 
--- ---- at a moment of a life
-module _ (t : Moment) (sound : IsSoundAt t) where
-  -- by these events a run leads to a moment at which the target is out of sync, and what is left is what stands on the devices then
-  still_stop : (target : ℕ) (es : List Event) (new : MirrorView) → AllOf (IsBeforeEnrol target) es → Reaches t es new → ((m : MemberView) → IsMember new.array target m → is_in_sync m.state ≡ false)
-      → (left : List Disk) → contents_of left ≡ contents_of new.disks → IsStopBefore target t left
-  still_stop target es new of r out left same = record {
-    after = record { events = es; steps = of; at = r.at; run = r.run; is_left = inl (same ∙ ap (λ (x : MirrorView). contents_of x.disks) (sym r.there)) };
-    out = subst (λ (x : MirrorView). (m : MemberView) → IsMember x.array target m → is_in_sync m.state ≡ false) (sym r.there) out;
-  }
+same_reads : (x y : List ℕ) → x ≡ y → ReadsAs x y
+same_reads x y is = subst (ReadsAs x) is (record { decoded = refl; map = refl; read = λ v one sound. (one, sound) })
 
-  -- ---- while a spare is admitted
-  pub stored_reached : (target : ℕ) (new : MirrorView) (first : StoresFirst t.mirror new) → Reaches t first.stores.goes.events new
-  stored_reached target new first =
-      let goes = first.stores.goes in
-      let leads = goes.leads None t.requests sound.in_flight in
-      reaches goes.events t new leads sound.honest
-      (whole_of goes.events None t.mirror t.requests (λ m r. (m ≡ new) × (r ≡ t.requests)) leads (unfailing_records goes.events goes.steps first.stores.unfailing))
+-- ---- while what is due is stored
+pub first_stop : (target : ℕ) (t : Moment) → IsSteadyAt t → IsOut target t.mirror → (new : MirrorView) (first : StoresFirst t.mirror new)
+    → (in_flight : AreInFlight t.mirror.array t.requests) (left : List Disk) → StopsFirst t.mirror new first t.requests in_flight left → IsStopBefore target t left
+first_stop target t at out new first in_flight left stop =
+    let goes = first.stores.goes in
+    let Then : MirrorView → Requests → Type 0 = λ v r. (v ≡ new) × (r ≡ t.requests) in
+    keeping_stop IsStoring target (storing_before target) t out left
+    (stops_in IsStoring on_members goes.events None t Then (goes.leads None t.requests in_flight) goes.steps at.sound.honest (whole_stores t new goes first.stores.unfailing in_flight) left stop)
 
-  pub stored_kinds : (target : ℕ) (new : MirrorView) (first : StoresFirst t.mirror new) → AllOf (IsBeforeEnrol target) first.stores.goes.events
-  stored_kinds target new first = all_such IsStoring (IsBeforeEnrol target) (storing_before target) first.stores.goes.events first.stores.goes.steps
+-- ---- while the target tells of itself
+module _ (target : ℕ) (t : Moment) (at : IsSteadyAt t) where
+  -- a spare is admitted
+  module _ (admitted : MirrorView) (h : AdmitsAfter target t.mirror admitted) where
+    pub before_admission : Comes (Before target) t h.stored
+    before_admission = stored_comes target t at h.stored h.first
 
-  -- who is a spare then is out of sync
-  spare_there : (target : ℕ) (new : MirrorView) (s : MemberView) → IsMember new.array target s → is_spare s.state ≡ true → (m : MemberView) → IsMember new.array target m → is_in_sync m.state ≡ false
-  spare_there target new s at spare m there = ap (λ (x : MemberView). is_in_sync x.state) (same_Some m s (sym there ∙ at)) ∙ rebuilt_out s.state (spare_rebuilt s.state spare)
+    spare_stored : (m : MemberView) → IsMember h.stored.array target m → is_spare m.state ≡ true
+    spare_stored m there = ap (λ (x : MemberView). is_spare x.state) (same_Some m h.admits.may.member (sym there ∙ h.admits.may.at)) ∙ h.spare
 
-  module _ (target : ℕ) (admitted : MirrorView) (h : AdmitsAfter target t.mirror admitted) where
-    admission_quiet : AllOf IsNoFailedRecord (admission_events target h)
-    admission_quiet = all_on IsNoFailedRecord h.first.stores.goes.events (event_of target h ∷ []) (unfailing_records h.first.stores.goes.events h.first.stores.goes.steps h.first.stores.unfailing) (tt, tt)
-
-    admission : LeadsIn (IsBeforeEnrol target) (admission_events target h) t.mirror admitted
-    admission = admission_leads target t.mirror admitted h
-
-    admitted_reached : Reaches t (admission_events target h) admitted
-    admitted_reached =
-        let leads = admission.leads None t.requests sound.in_flight in
-        reaches (admission_events target h) t admitted leads sound.honest (whole_of (admission_events target h) None t.mirror t.requests (λ m r. (m ≡ admitted) × (r ≡ t.requests)) leads admission_quiet)
-
-    out_admitted : (m : MemberView) → IsMember admitted.array target m → is_in_sync m.state ≡ false
-    out_admitted m at = rebuilt_out m.state (recovers_rebuilt m.state (recovering_admitted target t.mirror admitted h m at))
-
-    -- the devices before its write
     pub honest_stored : AreHonest h.stored.disks
-    honest_stored =
-        let r = stored_reached target h.stored h.first in
-        subst (λ (x : MirrorView). AreHonest x.disks) r.there (run_keeps h.first.stores.goes.events t r.at r.run sound).honest
+    honest_stored = (end_steady before_admission at).sound.honest
 
-    abbrev w : Write
-    w = super_write admitted.array (admitted_member h.admits.role h.admits.may.member)
-
-    left_any : (left : List Disk) → MayAllBeLeft h.stored.disks admitted.disks (contents_of left) → IsLeftBut target (IsAnyIn w) h.stored.disks (contents_of left)
-    left_any left may =
-        let found = stops_as_tried target w h.stored.disks admitted.disks (contents_of left) honest_stored h.admits.disks may in
-        subst (IsLeftBut target (IsAnyIn w) h.stored.disks) found.2 (left_tried target w h.stored.disks found.0 found.1)
+    pub out_admitted : IsOut target admitted
+    out_admitted = recovering_is_out target admitted (recovering_admitted target t.mirror admitted h)
 
     pub admitting_stop : (left : List Disk) → MayAllBeLeft h.stored.disks admitted.disks (contents_of left) → IsSuperWhole target h.stored admitted left → IsStopBefore target t left
     admitting_stop left may super = elim super [
       | inl before ↦
-          still_stop target h.first.stores.goes.events h.stored (stored_kinds target h.stored h.first) (stored_reached target h.stored h.first)
-          (spare_there target h.stored h.admits.may.member h.admits.may.at h.spare) left
-          (same_left target w h.stored.disks refl h.admits.readable.size (contents_of h.stored.disks) (contents_of left) (left_itself target w h.stored.disks) (left_any left may)
-          (block_of target h.stored.disks left before))
+          later_stop target t before_admission left
+          (at_stop target (end before_admission) (λ m there. rebuilt_out m.state (spare_rebuilt m.state (spare_stored m there))) left
+          (in_targeting (end before_admission) left (record {
+            on = target;
+            next = admitted;
+            call = inl h.admits;
+            recorded = λ m there. ap is_recorded (spare_is m.state (spare_stored m there));
+            within = may;
+            super = λ d e at_d at_e. inl (same_reads (block_on e.content) (block_on d.content) (before d e at_d at_e));
+          })))
       | inr after ↦
-          still_stop target (admission_events target h) admitted admission.steps admitted_reached out_admitted left
-          (same_left target w h.stored.disks refl h.admits.readable.size (contents_of admitted.disks) (contents_of left) (left_tried target w h.stored.disks admitted.disks h.admits.disks.tried) (left_any left may)
-          (block_of target admitted.disks left after))
+          (let c = admission_comes target t at admitted h in
+          later_stop target t c left
+          (at_stop target (end c) out_admitted left
+          (in_targeted (end c) left (record {
+            on = target;
+            before = h.stored;
+            call = inl h.admits;
+            honest = honest_stored;
+            within = may;
+            reads = λ now e at_now at_e. same_reads (block_on e.content) (block_on now.content) (after now e at_now at_e);
+          }))))
     ]
 
-  module _ (target : ℕ) (new : MirrorView) (h : FailsAdmission target t.mirror new) where
-    abbrev failing : Write
-    failing = super_write (admitted h.stored.array target h.fails.may.member h.fails.role) (admitted_member h.fails.role h.fails.may.member)
+  -- or that fails
+  module _ (new : MirrorView) (h : FailsAdmission target t.mirror new) where
+    pub before_failure : Comes (Before target) t h.stored
+    before_failure = stored_comes target t at h.stored h.first
 
-    pub honest_unadmitted : AreHonest h.stored.disks
-    honest_unadmitted =
-        let r = stored_reached target h.stored h.first in
-        subst (λ (x : MirrorView). AreHonest x.disks) r.there (run_keeps h.first.stores.goes.events t r.at r.run sound).honest
+    spare_then : (m : MemberView) → IsMember h.stored.array target m → is_spare m.state ≡ true
+    spare_then m there = ap (λ (x : MemberView). is_spare x.state) (same_Some m h.fails.may.member (sym there ∙ h.fails.may.at)) ∙ h.spare
 
     pub unadmitted_stop : (left : List Disk) → MayAllBeLeft h.stored.disks new.disks (contents_of left) → AtDevice target h.stored.disks left (λ d e. block_on e.content ≡ block_on d.content) → IsStopBefore target t left
     unadmitted_stop left may super =
-        still_stop target h.first.stores.goes.events h.stored (stored_kinds target h.stored h.first) (stored_reached target h.stored h.first)
-        (spare_there target h.stored h.fails.may.member h.fails.may.at h.spare) left
-        (same_left target failing h.stored.disks refl h.fails.readable.size (contents_of h.stored.disks) (contents_of left) (left_itself target failing h.stored.disks)
-        (stops_at_failure target failing h.stored.disks new.disks (contents_of left) honest_unadmitted h.fails.disks may) (block_of target h.stored.disks left super))
+        later_stop target t before_failure left
+        (at_stop target (end before_failure) (λ m there. rebuilt_out m.state (spare_rebuilt m.state (spare_then m there))) left
+        (in_targeting (end before_failure) left (record {
+          on = target;
+          next = new;
+          call = inr (inl h.fails);
+          recorded = λ m there. ap is_recorded (spare_is m.state (spare_then m there));
+          within = may;
+          super = λ d e at_d at_e. inl (same_reads (block_on e.content) (block_on d.content) (super d e at_d at_e));
+        })))
 
-  -- ---- until a pass may be planned
-  module _ (target : ℕ) (m : MemberView) (at : IsMember t.mirror.array target m) (may : MayRebuild t.mirror.array m) (stored : MirrorView) where
-    pub was_out : is_in_sync m.state ≡ false
-    was_out = rebuilt_out m.state (target_rebuilt t.mirror.array m may.settled.has_target.target)
-
-    pub after_stop : (h : AdmitsFirst target t.mirror stored) (left : List Disk) (then : AreInFlight h.admitted.array t.requests) → StopsFirst h.admitted stored h.then t.requests then left → IsStopBefore target t left
-    after_stop h left then stop =
-        let r = admitted_reached target h.admitted h.after in
-        let mid : Moment = record r.at { mirror = h.admitted; requests = t.requests } in
-        let run : MirrorRun t (admission_events target h.after) mid = subst (MirrorRun t (admission_events target h.after)) (λ i. record r.at { mirror = r.there i; requests = r.requests i }) r.run in
-        let honest = (run_keeps (admission_events target h.after) t mid run sound).honest in
-        let x = admitted_member h.after.admits.role h.after.admits.may.member in
-        let here = admitted_is target t.mirror h.admitted h.after in
-        later_stop target t mid (admission_events target h.after) (admission target h.admitted h.after).steps run left
-        (first_stop mid honest h.after.sound target x here (out_admitted target h.admitted h.after x here) stored h.then then left stop)
-
-    pub ready_stop : (first : Readies target m t.mirror stored) (in_flight : AreInFlight t.mirror.array t.requests) (left : List Disk) → StopsReadying IsSuperWhole target m t.mirror stored first t.requests in_flight left → IsStopBefore target t left
-    ready_stop (inl h) in_flight left stop = first_stop t sound.honest sound.sound target m at was_out stored h.1 in_flight left stop
-    ready_stop (inr h) in_flight left stop = elim stop [
-      | inl before ↦ first_stop t sound.honest sound.sound target m at was_out h.1.after.stored h.1.after.first in_flight left before
-      | inr (inl within) ↦ admitting_stop target h.1.admitted h.1.after left within.0 within.1
-      | inr (inr later) ↦ after_stop h.1 left later.0 later.1
-    ]
-
-  -- ---- while the target's superblock is stored
-  module _ (target : ℕ) (new : MirrorView) (e : EndsStoring target t.mirror (FailsOnTarget target t.mirror new)) where
-    abbrev why : FailsOnTarget target t.mirror new
+  -- its own record fails
+  module _ (new : MirrorView) (e : EndsStoring target t.mirror (FailsOnTarget target t.mirror new)) where
+    abbrev pub why : FailsOnTarget target t.mirror new
     why = e.why
 
-    abbrev first : GoesOn only_others only_others IsStoring t.mirror why.mid
-    first = why.stores.goes
+    pub first_done : Comes (Before target) t why.mid
+    first_done = stores_come target t at why.mid why.stores.goes why.stores.unfailing
 
-    pub first_done : Reaches t first.events why.mid
-    first_done =
-        let leads = first.leads None t.requests sound.in_flight in
-        reaches first.events t why.mid leads sound.honest (whole_of first.events None t.mirror t.requests (λ m r. (m ≡ why.mid) × (r ≡ t.requests)) leads (unfailing_records first.events first.steps why.stores.unfailing))
-
-    out_first : (m : MemberView) → IsMember why.mid.array target m → is_in_sync m.state ≡ false
-    out_first m at =
-        let s : StaysReady t.mirror.array why.mid.array target m = why.stores.ready.each target m at in
+    out_first : IsOut target why.mid
+    out_first m there =
+        let s = why.stores.ready.each target m there in
         let was : s.before ≡ e.member = same_Some s.before e.member (sym s.member ∙ e.at) in
-        let rebuilt = target_rebuilt t.mirror.array e.member e.may.settled.has_target.target in
-        ap (λ (x : MemberView). is_in_sync x.state) s.same ∙ ap (λ (x : MemberView). is_in_sync x.state) was ∙ rebuilt_out e.member.state rebuilt
+        ap (λ (x : MemberView). is_in_sync x.state) s.same ∙ ap (λ (x : MemberView). is_in_sync x.state) was ∙ rebuilt_out e.member.state (target_rebuilt t.mirror.array e.member e.may.settled.has_target.target)
 
     pub unrecorded_stop : (left : List Disk) → MayAllBeLeft why.mid.disks new.disks (contents_of left) → IsLeftWhole (Event.Record target) why.mid left → IsStopBefore target t left
-    unrecorded_stop left within whole =
-        let there = sym first_done.there in
-        record {
-          after = record {
-            events = first.events;
-            steps = all_such IsStoring (IsBeforeEnrol target) (storing_before target) first.events first.steps;
-            at = first_done.at;
-            run = first_done.run;
-            is_left = inr (inr (inr (inl (record {
-              on = target;
-              next = new;
-              call = inr (inr (inr (subst (λ (x : MirrorView). LeavesUnrecorded target x new) there why.fails)));
-              within = subst (λ (x : MirrorView). MayAllBeLeft x.disks new.disks (contents_of left)) there within;
-              super = subst (λ (x : MirrorView). IsLeftWhole (Event.Record target) x left) there whole;
-            }))));
-          };
-          out = subst (λ (x : MirrorView). (m : MemberView) → IsMember x.array target m → is_in_sync m.state ≡ false) there out_first;
-        }
+    unrecorded_stop left may whole =
+        later_stop target t first_done left
+        (at_stop target (end first_done) out_first left
+        (in_recording (end first_done) left (record { on = target; next = new; call = inr (inr (inr why.fails)); within = may; super = whole })))
 
-  -- ---- while the target gets its chunks
-  module _ (target : ℕ) (planned : Planned) (stored : MirrorView) (b : Begins target planned t.mirror stored) where
-    abbrev starting : List Event
-    starting = begin_events target planned t.mirror stored b
+-- ---- until a pass may be planned
+module _ (target : ℕ) (t : Moment) (at : IsSteadyAt t) (m : MemberView) (there : IsMember t.mirror.array target m) (may : MayRebuild t.mirror.array m) (ready : MirrorView) where
+  was_out : IsOut target t.mirror
+  was_out n at_n =
+      ap (λ (x : MemberView). is_in_sync x.state) (same_Some n m (sym at_n ∙ there)) ∙ rebuilt_out m.state (target_rebuilt t.mirror.array m may.settled.has_target.target)
 
-    start : LeadsIn (IsBeforeEnrol target) starting t.mirror stored
-    start = begin_leads target planned t.mirror stored b
+  pub before_stop : (new : MirrorView) (first : StoresFirst t.mirror new) (in_flight : AreInFlight t.mirror.array t.requests) (left : List Disk) → StopsFirst t.mirror new first t.requests in_flight left → IsStopBefore target t left
+  before_stop new first in_flight left stop = first_stop target t at was_out new first in_flight left stop
 
-    either_quiet : (h : StoresFirst t.mirror stored ⊎ AdmitsFirst target t.mirror stored) → AllOf IsNoFailedRecord (events_either target h)
-    either_quiet (inl h) = unfailing_records h.stores.goes.events h.stores.goes.steps h.stores.unfailing
-    either_quiet (inr h) =
-        all_on IsNoFailedRecord h.after.first.stores.goes.events (event_of target h.after ∷ h.then.stores.goes.events)
-        (unfailing_records h.after.first.stores.goes.events h.after.first.stores.goes.steps h.after.first.stores.unfailing)
-        (tt, unfailing_records h.then.stores.goes.events h.then.stores.goes.steps h.then.stores.unfailing)
+  pub after_stop : (h : AdmitsFirst target t.mirror ready) (left : List Disk) (then : AreInFlight h.admitted.array t.requests) → StopsFirst h.admitted ready h.then t.requests then left → IsStopBefore target t left
+  after_stop h left then stop =
+      let c = admission_comes target t at h.admitted h.after in
+      later_stop target t c left (first_stop target (end c) (end_steady c at) (out_admitted target t at h.admitted h.after) ready h.then then left stop)
 
-    quiet : AllOf IsNoFailedRecord starting
-    quiet = either_quiet (either target planned t.mirror stored b)
+  pub ready_stop : (first : Readies target m t.mirror ready) (in_flight : AreInFlight t.mirror.array t.requests) (left : List Disk) → StopsReadying IsSuperWhole target m t.mirror ready first t.requests in_flight left
+      → IsStopBefore target t left
+  ready_stop (inl h) in_flight left stop = before_stop ready h.1 in_flight left stop
+  ready_stop (inr h) in_flight left stop = elim stop [
+    | inl before ↦ before_stop h.1.after.stored h.1.after.first in_flight left before
+    | inr (inl within) ↦ admitting_stop target t at h.1.admitted h.1.after left within.0 within.1
+    | inr (inr later) ↦ after_stop h.1 left later.0 later.1
+  ]
 
-    begun : Reaches t starting stored
-    begun =
-        let leads = start.leads None t.requests sound.in_flight in
-        reaches starting t stored leads sound.honest (whole_of starting None t.mirror t.requests (λ m r. (m ≡ stored) × (r ≡ t.requests)) leads quiet)
+-- ---- in a pass
+-- from right before it
+module _ (target : ℕ) (t : Moment) (at : IsSteadyAt t) where
+  pub fill_stop : (new : MirrorView) (f : Fills target t.mirror new) (left : List Disk) → MayAllBeLeft t.mirror.disks new.disks (contents_of left) → IsStopBefore target t left
+  fill_stop new f left may =
+      at_stop target t
+      (λ m there. rebuilt_out m.state (ap (λ (x : MemberView). is_rebuilt x.state) (same_Some m f.may.member (sym there ∙ f.may.at)) ∙ f.may.rebuilt))
+      left (in_filling t left (record { on = target; next = new; call = f; within = may }))
 
-    out_there : (v : MirrorView) → v.array ≡ stored.array → (m : MemberView) → IsMember v.array target m → is_in_sync m.state ≡ false
-    out_there v same m at =
-        let one : m ≡ b.now = same_Some m b.now (sym at ∙ ap (λ (a : ArrayView). slice_get a.members target) same ∙ b.there) in
-        ap (λ (x : MemberView). is_in_sync x.state) one ∙ rebuilt_out b.now.state (now_rebuilt target planned t.mirror stored b)
+  -- the target is recovering
+  module _ (recovers : (m : MemberView) → IsMember t.mirror.array target m → is_recovering m.state ≡ true) (copied : Bitmap) (new : MirrorView) where
+    abbrev Left : List Disk → Type 0
+    Left left = MayAllBeLeft t.mirror.disks new.disks (contents_of left)
 
-    pub filling_stop : (new : MirrorView) → IsFilling target b.now planned.plan.slots stored new → (left : List Disk) → MayAllBeLeft stored.disks new.disks (contents_of left) → IsStopBefore target t left
-    filling_stop new f left within =
-        let at = begun.at in
-        let there = sym begun.there in
-        record {
-          after = record {
-            events = starting;
-            steps = start.steps;
-            at = at;
-            run = begun.run;
-            is_left = inr (inr (inr (inr (inr (inr (inl (record {
-              on = target;
-              next = new;
-              call = subst (λ (x : MirrorView). Fills target x new) there (filled target planned t.mirror stored b new f);
-              within = subst (λ (x : MirrorView). MayAllBeLeft x.disks new.disks (contents_of left)) there within;
-            })))))));
-          };
-          out = out_there at.mirror (ap (λ (x : MirrorView). x.array) begun.there);
-        }
+    offset_stop : Checkpoints target copied t.mirror new ⊎ FailsToCheckpoint target copied t.mirror new → (left : List Disk) → Left left → AtDevice target t.mirror.disks left (λ d e. block_on e.content ≡ block_on d.content)
+        → IsStopBefore target t left
+    offset_stop call left may same =
+        at_stop target t (recovering_is_out target t.mirror recovers) left
+        (in_targeting t left (record {
+          on = target;
+          next = new;
+          call = inr (inr (copied, call));
+          recorded = λ m there. recovering_recorded m.state (recovers m there);
+          within = may;
+          super = λ d e at_d at_e. inl (same_reads (block_on e.content) (block_on d.content) (same d e at_d at_e));
+        }))
 
-  -- ---- while it comes into sync
-  module _ (target : ℕ) (planned : Planned) (copied orphans : Bitmap) (filled : MirrorView) (by : FillsBy target planned copied orphans t.mirror filled) where
-    abbrev b : Begins target planned t.mirror by.stored
-    b = by.begins
+    pub unrecorded_offset_stop : FailsToCheckpoint target copied t.mirror new → (left : List Disk) → Left left → AtDevice target t.mirror.disks left (λ d e. block_on e.content ≡ block_on d.content) → IsStopBefore target t left
+    unrecorded_offset_stop f left may same = offset_stop (inr f) left may same
 
-    abbrev pub list : List Event
-    list = filling_events target planned copied orphans t.mirror filled by
+    pub recording_stop : Checkpoints target copied t.mirror new → (left : List Disk) → Left left → IsSuperWhole target t.mirror new left → IsStopBefore target t left
+    recording_stop r left may super = elim super [
+      | inl before ↦ offset_stop (inl r) left may before
+      | inr after ↦
+          (let c = checkpoint_comes target copied t at new r in
+          later_stop target t c left
+          (at_stop target (end c)
+          (recovering_is_out target new (λ m there. ap (λ (x : MemberView). is_recovering x.state) (target_same target copied t.mirror new at.sound.sound r m there) ∙ r.may.recovering)) left
+          (in_targeted (end c) left (record {
+            on = target;
+            before = t.mirror;
+            call = inr (copied, r);
+            honest = at.sound.honest;
+            within = may;
+            reads = λ now e at_now at_e. same_reads (block_on e.content) (block_on now.content) (after now e at_now at_e);
+          }))))
+    ]
 
-    pub lead : LeadsIn (IsBeforeEnrol target) list t.mirror filled
-    lead = filled_leads target planned copied orphans t.mirror filled by
+-- one that is recorded
+module _ (target : ℕ) (chunks : List ℕ) (p : PassView) (before after : Bitmap) (t : Moment) (at : IsSteadyAt t) (so : HoldsSoFar target t.mirror before chunks) (new : MirrorView)
+    (h : RecordsPass target chunks p before after t.mirror new) where
+  pub until_filled : Comes (Before target) t h.filled
+  until_filled = filled_comes target chunks p before after t at so new h
 
-    filled_quiet : AllOf IsNoFailedRecord list
-    filled_quiet = all_on IsNoFailedRecord (begin_events target planned t.mirror by.stored b) (Event.Fill target ∷ []) (quiet target planned by.stored b) (tt, tt)
+  pub recovers_filled : (m : MemberView) → IsMember h.filled.array target m → is_recovering m.state ≡ true
+  recovers_filled = (filled_ready target chunks p before after t.mirror new h so.ready so.held so.lacking).recovering
 
-    pub full : Reaches t list filled
-    full =
-        let leads = lead.leads None t.requests sound.in_flight in
-        reaches list t filled leads sound.honest (whole_of list None t.mirror t.requests (λ m r. (m ≡ filled) × (r ≡ t.requests)) leads filled_quiet)
+  pub pass_filling_stop : (left : List Disk) → MayAllBeLeft t.mirror.disks h.filled.disks (contents_of left) → IsStopBefore target t left
+  pass_filling_stop left within = fill_stop target t at h.filled (filled target t.mirror before chunks so p h.makes.is h.makes.member h.makes.at h.filled h.makes.copies.filling) left within
 
-    out_filled : (m : MemberView) → IsMember full.at.mirror.array target m → is_in_sync m.state ≡ false
-    out_filled = out_there target planned by.stored b full.at.mirror (ap (λ (x : MirrorView). x.array) full.there ∙ by.fills.filling.array)
+  pub pass_stop : (left : List Disk) → StopsInPass IsSuperWhole target chunks p before after t.mirror new h left → IsStopBefore target t left
+  pass_stop left stop = elim stop [
+    | inl within ↦ pass_filling_stop left within
+    | inr within ↦
+        later_stop target t until_filled left
+        (recording_stop target (end until_filled) (end_steady until_filled at) recovers_filled after new h.checkpoints left within.0 within.1)
+  ]
 
-    pub enrolling_stop : (new : MirrorView) → Enrols target copied orphans filled new → (left : List Disk) → MayAllBeLeft filled.disks new.disks (contents_of left)
-        → AtDevice target filled.disks left (λ d e. block_on e.content ≡ block_on d.content) → IsStopBefore target t left
-    enrolling_stop new r left within super =
-        let there = sym full.there in
-        record {
-          after = record {
-            events = list;
-            steps = lead.steps;
-            at = full.at;
-            run = full.run;
-            is_left = inr (inr (inr (inr (inr (inr (inr (inr (inl (record {
-              on = target;
-              copied = copied;
-              orphans = orphans;
-              may = subst (MayEnrol target copied orphans) there by.may;
-              next = new;
-              call = subst (λ (x : MirrorView). Enrols target copied orphans x new) there r;
-              within = subst (λ (x : MirrorView). MayAllBeLeft x.disks new.disks (contents_of left)) there within;
-              super = subst (λ (x : MirrorView). AtDevice target x.disks left (λ d e. block_on e.content ≡ block_on d.content)) there super;
-            })))))))));
-          };
-          out = out_filled;
-        }
+-- and of which slots failed
+pub lists_stop : (target : ℕ) (t : Moment) → IsSteadyAt t → IsOut target t.mirror → (last : MirrorView) (g : GoesOn only_others only_others IsStoringList t.mirror last) (in_flight : AreInFlight t.mirror.array t.requests)
+    → AllLeftWhole g.events None t.mirror t.requests (λ m r. (m ≡ last) × (r ≡ t.requests)) (g.leads None t.requests in_flight)
+    → (left : List Disk) → StopsIn g.events None t.mirror t.requests (λ m r. (m ≡ last) × (r ≡ t.requests)) (g.leads None t.requests in_flight) left → IsStopBefore target t left
+lists_stop target t at out last g in_flight whole left stop =
+    keeping_stop IsStoringList target (listing_before target) t out left
+    (stops_in IsStoringList list_on_members g.events None t (λ v r. (v ≡ last) × (r ≡ t.requests)) (g.leads None t.requests in_flight) g.steps at.sound.honest whole left stop)
 
-    pub unenrolled_stop : (new : MirrorView) (f : FailsToEnrol target copied orphans filled new) → FailsAtMarks f → (left : List Disk) → MayAllBeLeft filled.disks new.disks (contents_of left) → IsStopBefore target t left
-    unenrolled_stop new f at_marks left within =
-        let there = sym full.there in
-        record {
-          after = record {
-            events = list;
-            steps = lead.steps;
-            at = full.at;
-            run = full.run;
-            is_left = inr (inr (inr (inr (inr (inr (inr (inl (record {
-              on = target;
-              next = new;
-              call = subst (λ (x : MirrorView). Prepares target x new) there (prepares target copied orphans filled new by.sound f by.may at_marks);
-              within = subst (λ (x : MirrorView). MayAllBeLeft x.disks new.disks (contents_of left)) there within;
-            }))))))));
-          };
-          out = out_filled;
-        }
+-- once they are noted
+noted_out : (target : ℕ) (chunks : List ℕ) (p : PassView) (before after : Bitmap) (v x noted : MirrorView) → HoldsSoFar target v before chunks → RecordsPass target chunks p before after v x → NotesLists p.failed x noted → IsOut target noted
+noted_out target chunks p before after v x noted so h notes =
+    recovering_is_out target noted (ready_noted target p.failed x noted notes (recorded_ready target chunks p before after v x h so.ready so.held so.lacking)).recovering
 
-    -- ---- once it is
-    pub sound_mid : IsSoundAt full.at
-    sound_mid = run_keeps list t full.at full.run sound
+module _ (target : ℕ) (chunks : List ℕ) (p : PassView) (before after : Bitmap) (t : Moment) (at : IsSteadyAt t) (so : HoldsSoFar target t.mirror before chunks) (new : MirrorView)
+    (h : ListsPass target chunks p before after t.mirror new) (un : Unshifted t.mirror.array) where
+  pub listing_stop : (left : List Disk) (in_flight : AreInFlight h.lists.noted.array t.requests)
+      → StopsIn h.lists.stores.goes.events None h.lists.noted t.requests (λ v r. (v ≡ new) × (r ≡ t.requests)) (h.lists.stores.goes.leads None t.requests in_flight) left → IsStopBefore target t left
+  listing_stop left in_flight stop =
+      let c = noting_comes target chunks p before after t at so new h un in
+      let goes = h.lists.stores.goes in
+      let whole = whole_lists goes.events None h.lists.noted t.requests (λ v r. (v ≡ new) × (r ≡ t.requests)) (goes.leads None t.requests in_flight) goes.steps h.lists.stores.unfailing (un_noted target chunks p before after t at so new h un) in
+      later_stop target t c left
+      (lists_stop target (end c) (end_steady c at) (noted_out target chunks p before after t.mirror h.recorded h.lists.noted so h.records h.lists.notes) new goes in_flight whole left stop)
 
-    pub honest_mid : AreHonest filled.disks
-    honest_mid = subst (λ (x : MirrorView). AreHonest x.disks) full.there sound_mid.honest
+  pub listed_stop : (left : List Disk) → StopsInListed IsSuperWhole target chunks p before after t.mirror new h t.requests left → IsStopBefore target t left
+  listed_stop left stop = elim stop [
+    | inl passing ↦ pass_stop target chunks p before after t at so h.recorded h.records left passing
+    | inr listing ↦ listing_stop left listing.0 listing.1
+  ]
 
-    pub in_flight_mid : AreInFlight filled.array full.at.requests
-    in_flight_mid = subst (λ (x : MirrorView). AreInFlight x.array full.at.requests) full.there sound_mid.in_flight
+-- ---- within one of several passes
+pub passes_stop : (target : ℕ) (ps : List PassView) (chunks rest : List ℕ) (before after : Bitmap) (t : Moment) → IsSteadyAt t → HoldsSoFar target t.mirror before chunks
+    → (new : MirrorView) (h : AreListedPasses target ps chunks rest before after t.mirror new) → IfSome ps (Unshifted t.mirror.array)
+    → (left : List Disk) → StopsInPasses IsSuperWhole target ps chunks rest before after t.mirror new h t.requests left → IsStopBefore target t left
+passes_stop target [] chunks rest before after t at so new h un left stop = absurd stop
+passes_stop target (p ∷ ps) chunks rest before after t at so new h un left (inl here) = listed_stop target chunks p before h.0 t at so h.1 h.2 un left here
+passes_stop target (p ∷ ps) chunks rest before after t at so new h un left (inr later) =
+    let c = listed_comes target chunks p before h.0 t at so h.1 h.2 un in
+    later_stop target t c left
+    (passes_stop target ps (failed_chunks p) rest h.0 after (end c) (end_steady c at) (listed_holds target chunks p before h.0 t.mirror h.1 h.2 so) new h.3
+    (if_some ps (un_listed target chunks p before h.0 t at so h.1 h.2 un)) left later)
+
+module _ (target : ℕ) (m : MemberView) (passes : List PassView) (before after : Bitmap) (t : Moment) (at : IsSteadyAt t) (so : HoldsSoFar target t.mirror before (missing_chunks t.mirror.array m)) (new : MirrorView)
+    (h : CopiesAll target m passes before after t.mirror new) (un : IfSome h.listed (Unshifted t.mirror.array)) where
+  pub copying_stop : (left : List Disk) → StopsCopying IsSuperWhole target m passes before after t.mirror new h t.requests left → IsStopBefore target t left
+  copying_stop left stop = elim stop [
+    | inl within ↦ passes_stop target h.listed (missing_chunks t.mirror.array m) h.left before h.mid t at so h.now h.passed un left within
+    | inr within ↦
+        (let c = until_last target m passes before after t at so new h un in
+        later_stop target t c left
+        (pass_stop target h.left h.last h.mid after (end c) (end_steady c at) (so_last target m passes before after t at so new h un) new h.records left within))
+  ]
+
+-- ---- after such passes
+module _ (target : ℕ) (chunks : List ℕ) (copied : Bitmap) (t : Moment) (at : IsSteadyAt t) (now : MirrorView) (h : HasPassed target chunks copied t.mirror now) where
+  pub readied : Comes (Before target) t h.ready
+  readied = ready_comes target t at h.begins.member h.ready h.begins.first
+
+  abbrev first : List ℕ
+  first = missing_chunks h.ready.array h.begins.now
+
+  so_ready : HoldsSoFar target h.ready h.none first
+  so_ready = begin_holds target t.mirror h.ready h.none h.begins
+
+  unshifted : IfSome h.passes (Unshifted h.ready.array)
+  unshifted =
+      some_map h.passes (unshifted_ready target h.begins.member t.mirror h.ready h.begins.first)
+      (unshifted_if target h.passes [] first chunks h.none copied h.ready now t.mirror h.passed (λ some. h.unshifted (λ none. some (ap failed_of (append-nil h.passes) ∙ none))))
+
+  pub passed : Comes (Before target) t now
+  passed = comes_then readied (passes_come target h.passes first chunks h.none copied (end readied) (end_steady readied at) so_ready now h.passed unshifted)
+
+  pub passed_holds : HoldsSoFar target now copied chunks
+  passed_holds = chain_holds target h.passes first chunks h.none copied h.ready now h.passed so_ready
+
+  -- the moment then
+  abbrev pub then : Moment
+  then = end passed
+
+  pub then_steady : IsSteadyAt (end passed)
+  then_steady = end_steady passed at
+
+-- ---- once it is filled
+module _ (target : ℕ) (kept orphans : Bitmap) (t : Moment) (at : IsSteadyAt t) (filled_at : MirrorView) (h : HasFilled target kept orphans t.mirror filled_at) where
+  abbrev c : CopiesAll target h.begins.now h.passes h.none h.copied h.ready filled_at
+  c = h.fills.copies
+
+  pub begun : Comes (Before target) t h.ready
+  begun = ready_comes target t at h.begins.member h.ready h.begins.first
+
+  pub so_begun : HoldsSoFar target h.ready h.none (missing_chunks h.ready.array h.begins.now)
+  so_begun = begin_holds target t.mirror h.ready h.none h.begins
+
+  pub un_begun : IfSome c.listed (Unshifted h.ready.array)
+  un_begun =
+      some_map c.listed (unshifted_ready target h.begins.member t.mirror h.ready h.begins.first)
+      (unshifted_if target c.listed (c.last ∷ []) (missing_chunks h.ready.array h.begins.now) c.left h.none c.mid h.ready c.now t.mirror c.passed
+      (λ some. h.unshifted (λ none. some (ap failed_of (sym c.passes_are) ∙ none))))
+
+  -- until its last checkpoint, and by that
+  pub until_offset : Comes (Before target) t c.records.filled
+  until_offset =
+      let x = comes_then begun (until_last target h.begins.now h.passes h.none h.copied (end begun) (end_steady begun at) so_begun filled_at c un_begun) in
+      comes_then x (filled_comes target c.left c.last c.mid h.copied (end x) (end_steady x at) (so_last target h.begins.now h.passes h.none h.copied (end begun) (end_steady begun at) so_begun filled_at c un_begun) filled_at c.records)
+
+  pub filled_unspoiled : ComesUnspoiled target t filled_at
+  filled_unspoiled = then_unspoiled target t until_offset (checkpoint_unspoils target h.copied (end until_offset) (end_steady until_offset at) filled_at c.records.checkpoints)
+
+  abbrev pub all_filled : Comes (Before target) t filled_at
+  all_filled = filled_unspoiled.comes
+
+  pub out_filled : IsOut target filled_at
+  out_filled = recovering_is_out target filled_at (λ m there. ap (λ (x : MemberView). is_recovering x.state) (same_Some m h.fills.has.may.member (sym there ∙ h.fills.has.may.at)) ∙ h.fills.has.may.recovering)
+
+  pub enrolling_stop : (new : MirrorView) → Enrols target kept orphans filled_at new → (left : List Disk) → MayAllBeLeft filled_at.disks new.disks (contents_of left)
+      → AtDevice target filled_at.disks left (λ d e. block_on e.content ≡ block_on d.content) → IsStopBefore target t left
+  enrolling_stop new r left within super =
+      later_stop target t all_filled left
+      (at_stop target (end all_filled) out_filled left
+      (in_enrolling (end all_filled) left (record { on = target; copied = kept; orphans = orphans; may = h.fills.has.may; next = new; call = r; within = within; super = super })))
+
+  pub unenrolled_stop : (new : MirrorView) (f : FailsToEnrol target kept orphans filled_at new) → FailsAtMarks f → (left : List Disk) → MayAllBeLeft filled_at.disks new.disks (contents_of left) → IsStopBefore target t left
+  unenrolled_stop new f at_marks left within =
+      later_stop target t all_filled left
+      (at_stop target (end all_filled) out_filled left
+      (in_preparing (end all_filled) left (record { on = target; next = new; call = prepares target kept orphans filled_at new h.fills.sound f h.fills.has.may at_marks; within = within })))
+
+  -- ---- within all of it until then
+  pub begun_stop : (in_flight : AreInFlight t.mirror.array t.requests) (left : List Disk) → StopsReadying IsSuperWhole target h.begins.member t.mirror h.ready h.begins.first t.requests in_flight left → IsStopBefore target t left
+  begun_stop in_flight left stop = ready_stop target t at h.begins.member h.begins.at h.begins.may h.ready h.begins.first in_flight left stop
+
+  pub made_stop : (left : List Disk) → StopsCopying IsSuperWhole target h.begins.now h.passes h.none h.copied h.ready filled_at c t.requests left → IsStopBefore target t left
+  made_stop left stop =
+      later_stop target t begun left (copying_stop target h.begins.now h.passes h.none h.copied (end begun) (end_steady begun at) so_begun filled_at c un_begun left stop)
 
 -- ---- in lives
-pub sound_at : (before : List Disk) (m : MirrorView) → IsStart before m → (es : List Event) (rest : List (List Event)) (final : MirrorView) (t : Moment) → MirrorLife m es rest final t → IsSoundAt t
-sound_at before m start es rest final t life = life_keeps m es rest final t (sound_when_opened before m start.honest start.opened) life
-
 pub stops_storing : StopsStoring
 stops_storing before m start es rest final t life new g in_flight whole left stop =
-    let sound = sound_at before m start es rest final t life in
-    let x = stops_in g.events None t (λ m r. (m ≡ new) × (r ≡ t.requests)) (g.leads None t.requests in_flight) g.steps sound.honest whole left stop in
-    record { after = x.after; out = stays_out t.mirror x.after.at.mirror sound.sound x.keeps }
+    let at = steady_at before m start es rest final t life in
+    let x = stops_in IsStoring on_members g.events None t (λ m r. (m ≡ new) × (r ≡ t.requests)) (g.leads None t.requests in_flight) g.steps at.sound.honest whole left stop in
+    record { after = x.after; out = stays_out t.mirror.array x.after.at.mirror.array x.keeps }
 
 pub stops_unrecorded : StopsUnrecorded
-stops_unrecorded before m start es rest final t life target new e left within whole = unrecorded_stop t (sound_at before m start es rest final t life) target new e left within whole
+stops_unrecorded before m start es rest final t life target new e left within whole = unrecorded_stop target t (steady_at before m start es rest final t life) new e left within whole
 
 pub stops_admitting : StopsAdmitting
-stops_admitting before m start es rest final t life target admitted h left within super = admitting_stop t (sound_at before m start es rest final t life) target admitted h left within super
+stops_admitting before m start es rest final t life target admitted h left within super = admitting_stop target t (steady_at before m start es rest final t life) admitted h left within super
 
 pub stops_unadmitted : StopsUnadmitted
-stops_unadmitted before m start es rest final t life target new h left within super = unadmitted_stop t (sound_at before m start es rest final t life) target new h left within super
+stops_unadmitted before m start es rest final t life target new h left within super = unadmitted_stop target t (steady_at before m start es rest final t life) new h left within super
 
 pub stops_filling : StopsFilling
-stops_filling before m start es rest final t life target planned stored new b f left within = filling_stop t (sound_at before m start es rest final t life) target planned stored b new f left within
+stops_filling before m start es rest final t life target chunks copied now new h p is n there f left within =
+    let at = steady_at before m start es rest final t life in
+    let c = passed target chunks copied t at now h in
+    later_stop target t c left
+    (fill_stop target (end c) (end_steady c at) new (filled target now copied chunks (passed_holds target chunks copied t at now h) p is n there new f) left within)
+
+-- a pass that was made then
+module _ (target : ℕ) (chunks : List ℕ) (copied after : Bitmap) (t : Moment) (at : IsSteadyAt t) (now made : MirrorView) (h : HasPassed target chunks copied t.mirror now) (p : PassView)
+    (is : MakesPass target chunks p copied after now made) where
+  pub until_made : Comes (Before target) t made
+  until_made =
+      let c = passed target chunks copied t at now h in
+      comes_then c (fill_comes target (end c) (end_steady c at) made (filled target now copied chunks (passed_holds target chunks copied t at now h) p is.is is.member is.at made is.copies.filling))
+
+  pub recovers_made : (m : MemberView) → IsMember made.array target m → is_recovering m.state ≡ true
+  recovers_made = (ready_filled target now made is.copies.filling.array is.sound (passed_holds target chunks copied t at now h).ready).recovering
+
+pub stops_recording : StopsRecording
+stops_recording before m start es rest final t life target chunks copied after now made new h p is r left within super =
+    let at = steady_at before m start es rest final t life in
+    let c = until_made target chunks copied after t at now made h p is in
+    later_stop target t c left (recording_stop target (end c) (end_steady c at) (recovers_made target chunks copied after t at now made h p is) after new r left within super)
+
+pub stops_pass_unrecorded : StopsPassUnrecorded
+stops_pass_unrecorded before m start es rest final t life target chunks copied after now made new h p is f left within same =
+    let at = steady_at before m start es rest final t life in
+    let c = until_made target chunks copied after t at now made h p is in
+    later_stop target t c left (unrecorded_offset_stop target (end c) (end_steady c at) (recovers_made target chunks copied after t at now made h p is) after new f left within same)
+
+pub stops_at_checkpoint : StopsAtCheckpoint
+stops_at_checkpoint before m start es rest final t life target copied new r left within super =
+    recording_stop target t (steady_at before m start es rest final t life) (λ n there. ap (λ (x : MemberView). is_recovering x.state) (same_Some n r.may.member (sym there ∙ r.may.at)) ∙ r.may.recovering) copied new r left within super
+
+pub stops_at_failed_checkpoint : StopsAtFailedCheckpoint
+stops_at_failed_checkpoint before m start es rest final t life target copied new f recovers left within same =
+    unrecorded_offset_stop target t (steady_at before m start es rest final t life) recovers copied new f left within same
+
+pub stops_listing : StopsListing
+stops_listing before m start es rest final t life target chunks copied after now recorded noted last h p is notes g in_flight whole left stop =
+    let at = steady_at before m start es rest final t life in
+    let so = passed_holds target chunks copied t at now h in
+    let c = passed target chunks copied t at now h in
+    let d = comes_then c (recorded_comes target chunks p copied after (end c) (end_steady c at) so recorded is) in
+    let e = comes_then d (noted_comes target p.failed (end d) (end_steady d at) noted notes) in
+    later_stop target t e left (lists_stop target (end e) (end_steady e at) (noted_out target chunks p copied after now recorded noted so is notes) last g in_flight whole left stop)
 
 pub stops_enrolling : StopsEnrolling
-stops_enrolling before m start es rest final t life target planned copied orphans filled new by r left within super =
-    enrolling_stop t (sound_at before m start es rest final t life) target planned copied orphans filled by new r left within super
+stops_enrolling before m start es rest final t life target kept orphans filled_at new h r left within super =
+    enrolling_stop target kept orphans t (steady_at before m start es rest final t life) filled_at h new r left within super
 
 pub stops_unenrolled : StopsUnenrolled
-stops_unenrolled before m start es rest final t life target planned copied orphans filled new by f at_marks left within =
-    unenrolled_stop t (sound_at before m start es rest final t life) target planned copied orphans filled by new f at_marks left within
+stops_unenrolled before m start es rest final t life target kept orphans filled_at new h f at_marks left within =
+    unenrolled_stop target kept orphans t (steady_at before m start es rest final t life) filled_at h new f at_marks left within

@@ -4,3 +4,5 @@ pub mod RebuiltInLife
 pub mod StoppedRebuilds
 -- A rebuild in the life of a mirror is a run.
 pub mod RebuildRuns
+-- A rebuild that ends with a fault.
+pub mod RefusedRebuilds

@@ -69,7 +69,8 @@ RecoveringHeldIt =
     (t : Moment) (target : ℕ) (content : Content) (m : MemberView) → IsMember t.mirror.array target m → is_in_sync m.state ≡ false
     → RecoveringHolds (geometry_of t.mirror.array) content (world_of t.mirror t.requests) → HeldWhatItHad target content t.mirror
 
--- So it is at each moment of a life that is told what its recovering members have: those of an opening, and each device that is taken back.
+-- So it is at each moment of a life that is told what its recovering members have: those of the first opening, each device that is taken
+-- back, and of those that a later opening finds what `MirrorLifeJoins` asks.
 abbrev pub HeldInLives : Type 0
 HeldInLives =
     (before : List Disk) (m : MirrorView) (a : Content) → IsStart before m → Holds (geometry_of m.array) a (world_of m none_in_flight)

@@ -1,19 +1,22 @@
 -- What a stop within a rebuild leaves. It comes within one of its steps, from the mirror before that step to the one after it, of which the
 -- step's own contract says what may be left.
-use Rattle.std.specs.Prelude.{◌≡◌, ◌⊎◌, ℕ, true, false, List, [], ◌∷◌, Option, Some, None}
+use Rattle.std.specs.Prelude.{◌≡◌, ◌⊎◌, ℕ, true, false, List, [], ◌∷◌, slice_get, Option, Some, None}
 use Rattle.std.proofs.Common.{inl, inr}
 use Rattle.md_assembly.specs.States.{is_in_sync, is_recovering}
 use Rattle.md_bitmap.specs.Marks.{Bitmap}
 use Rattle.md_kept_members.specs.View.{MemberView}
 use Rattle.md_model.specs.Content.{Content}
 use Rattle.md_model.specs.Events.{Event}
-use Rattle.md_plan.specs.declared.planner.Planned.{Planned}
+use Rattle.md_passes.specs.Listed.{IsArrayPass}
+use Rattle.md_passes.specs.Passes.{PassView, failed_chunks, slots_of}
 use Rattle.md_state.specs.DiskWrites.{AtDevice}
 use Rattle.md_state.specs.Members.{IsMember}
 use Rattle.md_state.specs.Requests.{AreInFlight}
 use Rattle.md_state.specs.View.{Disk, MirrorView}
+use Rattle.md_array.specs.Checkpoints.{Checkpoints, FailsToCheckpoint}
 use Rattle.md_array.specs.Consistency.{IsConsistent}
 use Rattle.md_array.specs.Enrolling.{Enrols, FailsToEnrol}
+use Rattle.md_array.specs.Enrolments.{FailsAtSuper}
 use Rattle.md_array.specs.Events.{IsOldNewOrNone}
 use Rattle.md_array.specs.InTurn.{AllLeftWhole, AllOf, InTurn, Requests}
 use Rattle.md_array.specs.Recording.{super_write}
@@ -21,16 +24,20 @@ use Rattle.md_array.specs.Worlds.{block_on}
 use Rattle.md_laws.specs.Left.{IsLeft, contents_of}
 use Rattle.md_laws.specs.Lives.{MirrorLife}
 use Rattle.md_laws.specs.Runs.{IsStart, MirrorRun, MirrorRunWith, Moment}
-use Rattle.md_laws.specs.StopsWithin.{MayAllBeLeft}
+use Rattle.md_laws.specs.StopsWithin.{DiffersInFirst, MayAllBeLeft}
 use Rattle.md_metadata.specs.Going.{GoesOn, only_others}
 use Rattle.md_metadata.specs.Storing.{IsStoring}
 use Rattle.md_copy.specs.declared.rebuilt.Rebuilt.{Rebuilt}
 use Rattle.md_copy.specs.Filling.{IsFilling}
+use Rattle.md_copy.specs.Listing.{IsStoringList, NotesLists}
+use Rattle.md_copy.specs.Passing.{AreListedPasses, CopiesAll, ListsPass, MakesPass, RecordsPass}
 use Rattle.md_copy.specs.Readying.{AdmitsAfter, FailsAdmission, Readies}
 use Rattle.md_copy.specs.Storing.{FailsOnTarget, StoresFirst}
 use Rattle.md_copy.specs.RebuildEvents.{FailsAtMarks, IsBeforeEnrol, IsOfRebuild, IsOfUnfinished}
 use Rattle.md_copy.specs.Rebuilding.{Begins, EndsStoring, FillsBy, Rebuilds}
-use Rattle.md_rebuild_laws.specs.RebuildRuns.{AtMomentsWith}
+use Rattle.md_copy.specs.Rebuilt.{failed_of}
+use Rattle.md_copy.specs.Sources.{missing_chunks}
+use Rattle.md_rebuild_laws.specs.RebuildRuns.{AtMomentsWith, LogsUnshifted}
 use Rattle.md_rebuild_laws.specs.RebuiltInLife.{HeldWhatItHad}
 
 -- It holds at each moment of each life.
@@ -72,11 +79,14 @@ pub record IsStopStoring (t : Moment) (left : List Disk) : Type 0 where
 
 -- ---- while marks and superblocks are stored
 -- What is asked of a stop within one of these events: a superblock that was being stored was left as it was, as it is written, or as one
--- that can't be decoded. Of a write of marks that fails nothing is said.
+-- that can't be decoded; and a log that is stored differs from what stood there in its first sector alone. Of a write of marks or of a log that
+-- fails nothing is said.
 abbrev pub IsLeftWhole : Event → MirrorView → List Disk → Type 0
 IsLeftWhole (Event.Record k) old left = (m : MemberView) → IsMember old.array k m → AtDevice k old.disks left (IsOldNewOrNone (super_write old.array m).bytes)
 IsLeftWhole (Event.RecordFails k) old left = (m : MemberView) → IsMember old.array k m → AtDevice k old.disks left (IsOldNewOrNone (super_write old.array m).bytes)
 IsLeftWhole (Event.StoreMarksFails k b) old left = ⊥
+IsLeftWhole (Event.StoreLog k listed) old left = (m : MemberView) → IsMember old.array k m → (d : Disk) → slice_get old.disks k ≡ Some d → DiffersInFirst m d.content
+IsLeftWhole (Event.StoreLogFails k) old left = ⊥
 IsLeftWhole e old left = Unit {0}
 
 -- the stop came within one of the events that lead on
@@ -122,20 +132,85 @@ StopsUnadmitted =
     → (left : List Disk) → MayAllBeLeft h.stored.disks new.disks (contents_of left) → AtDevice target h.stored.disks left (λ d e. block_on e.content ≡ block_on d.content)
     → IsStopBefore target t left))
 
--- ---- while the target gets its chunks, whatever comes of it
+-- ---- in a pass
+-- It has begun, and made these passes, or none: these chunks are left, and those are copied.
+pub record HasPassed (target : ℕ) (left : List ℕ) (copied : Bitmap) (old now : MirrorView) : Type 0 where
+  pub ready : MirrorView
+  pub none : Bitmap
+  pub begins : Begins target old ready none
+  pub passes : List PassView
+  pub passed : AreListedPasses target passes (missing_chunks ready.array begins.now) left none copied ready now
+  pub unshifted : LogsUnshifted (failed_of passes) old
+
+-- while the target gets its chunks, whatever comes of it
 abbrev pub StopsFilling : Type 0
 StopsFilling =
     AtMoments (λ t.
-    ((target : ℕ) (planned : Planned) (stored new : MirrorView) (b : Begins target planned t.mirror stored) → IsFilling target b.now planned.plan.slots stored new
-    → (left : List Disk) → MayAllBeLeft stored.disks new.disks (contents_of left) → IsStopBefore target t left))
+    ((target : ℕ) (chunks : List ℕ) (copied : Bitmap) (now new : MirrorView) → HasPassed target chunks copied t.mirror now
+    → (p : PassView) → IsArrayPass now.array chunks p → (m : MemberView) → IsMember now.array target m → IsFilling target m (slots_of p) now new
+    → (left : List Disk) → MayAllBeLeft now.disks new.disks (contents_of left) → IsStopBefore target t left))
+
+-- while it is recorded how far it is rebuilt
+abbrev pub StopsRecording : Type 0
+StopsRecording =
+    AtMoments (λ t.
+    ((target : ℕ) (chunks : List ℕ) (copied after : Bitmap) (now filled new : MirrorView) → HasPassed target chunks copied t.mirror now
+    → (p : PassView) → MakesPass target chunks p copied after now filled → Checkpoints target after filled new
+    → (left : List Disk) → MayAllBeLeft filled.disks new.disks (contents_of left) → IsSuperWhole target filled new left → IsStopBefore target t left))
+
+-- or that fails, and left its superblock as it was
+abbrev pub StopsPassUnrecorded : Type 0
+StopsPassUnrecorded =
+    AtMoments (λ t.
+    ((target : ℕ) (chunks : List ℕ) (copied after : Bitmap) (now filled new : MirrorView) → HasPassed target chunks copied t.mirror now
+    → (p : PassView) → MakesPass target chunks p copied after now filled → FailsToCheckpoint target after filled new
+    → (left : List Disk) → MayAllBeLeft filled.disks new.disks (contents_of left) → AtDevice target filled.disks left (λ d e. block_on e.content ≡ block_on d.content)
+    → IsStopBefore target t left))
+
+-- Wherever a life has come to, as where a rebuild ends with a fault, it is recorded of a member that is recovering how far it is rebuilt.
+abbrev pub StopsAtCheckpoint : Type 0
+StopsAtCheckpoint =
+    AtMoments (λ t.
+    ((target : ℕ) (copied : Bitmap) (new : MirrorView) → Checkpoints target copied t.mirror new
+    → (left : List Disk) → MayAllBeLeft t.mirror.disks new.disks (contents_of left) → IsSuperWhole target t.mirror new left → IsStopBefore target t left))
+
+-- or that fails
+abbrev pub StopsAtFailedCheckpoint : Type 0
+StopsAtFailedCheckpoint =
+    AtMoments (λ t.
+    ((target : ℕ) (copied : Bitmap) (new : MirrorView) → FailsToCheckpoint target copied t.mirror new → ((m : MemberView) → IsMember t.mirror.array target m → is_recovering m.state ≡ true)
+    → (left : List Disk) → MayAllBeLeft t.mirror.disks new.disks (contents_of left) → AtDevice target t.mirror.disks left (λ d e. block_on e.content ≡ block_on d.content)
+    → IsStopBefore target t left))
+
+-- While the lists of sources are stored: by these events, of which some may have failed. Each log is one that was read without a shift, or stored
+-- since, and each superblock that failed left the old one, the new one or none (`AllLeftWhole`).
+abbrev pub StopsListing : Type 0
+StopsListing =
+    AtMoments (λ t.
+    ((target : ℕ) (chunks : List ℕ) (copied after : Bitmap) (now recorded noted last : MirrorView) → HasPassed target chunks copied t.mirror now
+    → (p : PassView) → RecordsPass target chunks p copied after now recorded → NotesLists p.failed recorded noted
+    → (g : GoesOn only_others only_others IsStoringList noted last) (in_flight : AreInFlight noted.array t.requests)
+    → AllLeftWhole g.events None noted t.requests (λ m r. (m ≡ last) × (r ≡ t.requests)) (g.leads None t.requests in_flight)
+    → (left : List Disk) → StopsIn g.events None noted t.requests (λ m r. (m ≡ last) × (r ≡ t.requests)) (g.leads None t.requests in_flight) left
+    → IsStopBefore target t left))
 
 -- ---- while it comes into sync
+-- All passes are made, and it may come into sync.
+pub record HasFilled (target : ℕ) (kept orphans : Bitmap) (old filled : MirrorView) : Type 0 where
+  pub ready : MirrorView
+  pub none : Bitmap
+  pub begins : Begins target old ready none
+  pub passes : List PassView
+  pub copied : Bitmap
+  pub chunks : List ℕ
+  pub fills : FillsBy target begins.now passes none copied kept orphans chunks ready filled
+  pub unshifted : LogsUnshifted (failed_of passes) old
+
 -- as long as its superblock stands as before
 abbrev pub StopsEnrolling : Type 0
 StopsEnrolling =
     AtMoments (λ t.
-    ((target : ℕ) (planned : Planned) (copied orphans : Bitmap) (filled new : MirrorView) → FillsBy target planned copied orphans t.mirror filled
-    → Enrols target copied orphans filled new
+    ((target : ℕ) (kept orphans : Bitmap) (filled new : MirrorView) → HasFilled target kept orphans t.mirror filled → Enrols target kept orphans filled new
     → (left : List Disk) → MayAllBeLeft filled.disks new.disks (contents_of left) → AtDevice target filled.disks left (λ d e. block_on e.content ≡ block_on d.content)
     → IsStopBefore target t left))
 
@@ -143,18 +218,17 @@ StopsEnrolling =
 abbrev pub StopsUnenrolled : Type 0
 StopsUnenrolled =
     AtMoments (λ t.
-    ((target : ℕ) (planned : Planned) (copied orphans : Bitmap) (filled new : MirrorView) → FillsBy target planned copied orphans t.mirror filled
-    → (f : FailsToEnrol target copied orphans filled new) → FailsAtMarks f
+    ((target : ℕ) (kept orphans : Bitmap) (filled new : MirrorView) → HasFilled target kept orphans t.mirror filled
+    → (f : FailsToEnrol target kept orphans filled new) → FailsAtMarks f
     → (left : List Disk) → MayAllBeLeft filled.disks new.disks (contents_of left) → IsStopBefore target t left))
 
--- Where its superblock stands as after it, the target is in sync. Of the target it is asked that it held the content where it lacked nothing;
--- and of one that was recovering, that its superblock was not spoiled, as that might stand so from the first.
+-- Where its superblock stands as after it, the target is in sync. Of the target it is asked that it held the content where it lacked nothing.
+-- That its superblock was not spoiled is not asked: how far it is rebuilt was recorded on it right before.
 abbrev pub StopsEnrolled : Type 0
 StopsEnrolled =
     AtMomentsWith (λ t content.
-    ((target : ℕ) (planned : Planned) (copied orphans : Bitmap) (filled new : MirrorView) (by : FillsBy target planned copied orphans t.mirror filled)
-    → Enrols target copied orphans filled new → IsConsistent new → HeldWhatItHad target content t.mirror
-    → (is_recovering by.begins.member.state ≡ true → t.spoiled target ≡ false)
+    ((target : ℕ) (kept orphans : Bitmap) (filled new : MirrorView) → HasFilled target kept orphans t.mirror filled
+    → Enrols target kept orphans filled new → IsConsistent new → HeldWhatItHad target content t.mirror
     → (left : List Disk) → MayAllBeLeft filled.disks new.disks (contents_of left) → AtDevice target new.disks left (λ d e. block_on e.content ≡ block_on d.content)
     → IsStopEnrolled target t content left))
 
@@ -162,10 +236,11 @@ StopsEnrolled =
 abbrev pub StopsSettling : Type 0
 StopsSettling =
     AtMomentsWith (λ t content.
-    ((target : ℕ) (told : Rebuilt) (new : MirrorView) (h : Rebuilds target told t.mirror new) → HeldWhatItHad target content t.mirror
-    → (settled : MirrorView) (g : GoesOn only_others only_others IsStoring h.by.enrolled settled) (in_flight : AreInFlight h.by.enrolled.array t.requests)
-    → AllLeftWhole g.events None h.by.enrolled t.requests (λ m r. (m ≡ settled) × (r ≡ t.requests)) (g.leads None t.requests in_flight)
-    → (left : List Disk) → StopsIn g.events None h.by.enrolled t.requests (λ m r. (m ≡ settled) × (r ≡ t.requests)) (g.leads None t.requests in_flight) left
+    ((target : ℕ) (told : Rebuilt) (new : MirrorView) (h : Rebuilds target told t.mirror new) → LogsUnshifted (failed_of h.rebuilds.passes) t.mirror
+    → HeldWhatItHad target content t.mirror
+    → (settled : MirrorView) (g : GoesOn only_others only_others IsStoring h.rebuilds.by.enrolled settled) (in_flight : AreInFlight h.rebuilds.by.enrolled.array t.requests)
+    → AllLeftWhole g.events None h.rebuilds.by.enrolled t.requests (λ m r. (m ≡ settled) × (r ≡ t.requests)) (g.leads None t.requests in_flight)
+    → (left : List Disk) → StopsIn g.events None h.rebuilds.by.enrolled t.requests (λ m r. (m ≡ settled) × (r ≡ t.requests)) (g.leads None t.requests in_flight) left
     → IsStopEnrolled target t content left))
 
 -- ---- while the target tells of itself, whatever stands in place of its superblock
@@ -189,12 +264,35 @@ StopsUnadmittedAnyhow =
     ((target : ℕ) (new : MirrorView) (h : FailsAdmission target t.mirror new)
     → (left : List Disk) → MayAllBeLeft h.stored.disks new.disks (contents_of left) → IsStopUnfinished target t left))
 
+-- while it is recorded how far it is rebuilt
+abbrev pub StopsRecordingAnyhow : Type 0
+StopsRecordingAnyhow =
+    AtMoments (λ t.
+    ((target : ℕ) (chunks : List ℕ) (copied after : Bitmap) (now filled new : MirrorView) → HasPassed target chunks copied t.mirror now
+    → (p : PassView) → MakesPass target chunks p copied after now filled → Checkpoints target after filled new ⊎ FailsToCheckpoint target after filled new
+    → (left : List Disk) → MayAllBeLeft filled.disks new.disks (contents_of left) → IsStopUnfinished target t left))
+
+-- so wherever a life has come to
+abbrev pub StopsAtCheckpointAnyhow : Type 0
+StopsAtCheckpointAnyhow =
+    AtMoments (λ t.
+    ((target : ℕ) (copied : Bitmap) (new : MirrorView) → Checkpoints target copied t.mirror new ⊎ FailsToCheckpoint target copied t.mirror new
+    → ((m : MemberView) → IsMember t.mirror.array target m → is_recovering m.state ≡ true)
+    → (left : List Disk) → MayAllBeLeft t.mirror.disks new.disks (contents_of left) → IsStopUnfinished target t left))
+
 -- while it comes into sync
 abbrev pub StopsEnrollingAnyhow : Type 0
 StopsEnrollingAnyhow =
     AtMoments (λ t.
-    ((target : ℕ) (planned : Planned) (copied orphans : Bitmap) (filled new : MirrorView) → FillsBy target planned copied orphans t.mirror filled
-    → Enrols target copied orphans filled new
+    ((target : ℕ) (kept orphans : Bitmap) (filled new : MirrorView) → HasFilled target kept orphans t.mirror filled → Enrols target kept orphans filled new
+    → (left : List Disk) → MayAllBeLeft filled.disks new.disks (contents_of left) → IsStopUnfinished target t left))
+
+-- or the last write of that fails
+abbrev pub StopsUnenrolledAnyhow : Type 0
+StopsUnenrolledAnyhow =
+    AtMoments (λ t.
+    ((target : ℕ) (kept orphans : Bitmap) (filled new : MirrorView) → HasFilled target kept orphans t.mirror filled
+    → (f : FailsToEnrol target kept orphans filled new) → FailsAtSuper f
     → (left : List Disk) → MayAllBeLeft filled.disks new.disks (contents_of left) → IsStopUnfinished target t left))
 
 -- ---- within all of a rebuild that is done
@@ -218,30 +316,55 @@ StopsReadying Super target m old ready (inr h) requests in_flight left =
     ⊎ ((MayAllBeLeft h.1.after.stored.disks h.1.admitted.disks (contents_of left) × Super target h.1.after.stored h.1.admitted left)
     ⊎ ((then : AreInFlight h.1.admitted.array requests) × StopsFirst h.1.admitted ready h.1.then requests then left))
 
--- So it came; or while the pass was made, while the target came into sync, or while what was due then was stored.
+-- It came within a pass: while the target was filled, or while how far that came was recorded.
+abbrev pub StopsInPass : OfSuper → (target : ℕ) (chunks : List ℕ) (p : PassView) (before after : Bitmap) (old new : MirrorView) → RecordsPass target chunks p before after old new → List Disk → Type 0
+StopsInPass Super target chunks p before after old new h left =
+    MayAllBeLeft old.disks h.filled.disks (contents_of left) ⊎ (MayAllBeLeft h.filled.disks new.disks (contents_of left) × Super target h.filled new left)
+
+-- or while the lists were stored of what failed in it
+abbrev pub StopsInListed : OfSuper → (target : ℕ) (chunks : List ℕ) (p : PassView) (before after : Bitmap) (old new : MirrorView) → ListsPass target chunks p before after old new → Requests → List Disk → Type 0
+StopsInListed Super target chunks p before after old new h requests left =
+    StopsInPass Super target chunks p before after old h.recorded h.records left
+    ⊎ ((in_flight : AreInFlight h.lists.noted.array requests)
+    × StopsIn h.lists.stores.goes.events None h.lists.noted requests (λ m r. (m ≡ new) × (r ≡ requests)) (h.lists.stores.goes.leads None requests in_flight) left)
+
+-- so within one of several
+abbrev pub StopsInPasses : OfSuper → (target : ℕ) (passes : List PassView) (chunks rest : List ℕ) (before after : Bitmap) (old new : MirrorView) → AreListedPasses target passes chunks rest before after old new
+    → Requests → List Disk → Type 0
+StopsInPasses Super target [] chunks rest before after old new h requests left = ⊥
+StopsInPasses Super target (p ∷ ps) chunks rest before after old new h requests left =
+    StopsInListed Super target chunks p before h.0 old h.1 h.2 requests left ⊎ StopsInPasses Super target ps (failed_chunks p) rest h.0 after h.1 new h.3 requests left
+
+-- or within the last
+abbrev pub StopsCopying : OfSuper → (target : ℕ) (m : MemberView) (passes : List PassView) (before after : Bitmap) (old new : MirrorView) → CopiesAll target m passes before after old new → Requests → List Disk → Type 0
+StopsCopying Super target m passes before after old new h requests left =
+    StopsInPasses Super target h.listed (missing_chunks old.array m) h.left before h.mid old h.now h.passed requests left
+    ⊎ StopsInPass Super target h.left h.last h.mid after h.now new h.records left
+
+-- It came until a pass might be planned; or within the passes, while the target came into sync, or while what was due then was stored.
 abbrev pub StopsWithin : OfSuper → (target : ℕ) (told : Rebuilt) (old new : MirrorView) → Rebuilds target told old new → (requests : Requests) → AreInFlight old.array requests → List Disk → Type 0
 StopsWithin Super target told old new h requests in_flight left =
-    StopsReadying Super target h.by.fills.begins.member old h.by.fills.stored h.by.fills.begins.first requests in_flight left
-    ⊎ (MayAllBeLeft h.by.fills.stored.disks h.by.filled.disks (contents_of left)
-    ⊎ ((MayAllBeLeft h.by.filled.disks h.by.enrolled.disks (contents_of left) × Super target h.by.filled h.by.enrolled left)
-    ⊎ ((settled : MirrorView) × (g : GoesOn only_others only_others IsStoring h.by.enrolled settled) × (then : AreInFlight h.by.enrolled.array requests)
-    × AllLeftWhole g.events None h.by.enrolled requests (λ m r. (m ≡ settled) × (r ≡ requests)) (g.leads None requests then)
-    × StopsIn g.events None h.by.enrolled requests (λ m r. (m ≡ settled) × (r ≡ requests)) (g.leads None requests then) left)))
+    StopsReadying Super target h.begins.member old h.ready h.begins.first requests in_flight left
+    ⊎ (StopsCopying Super target h.begins.now h.rebuilds.passes h.none h.rebuilds.copied h.ready h.rebuilds.by.filled h.rebuilds.by.fills.copies requests left
+    ⊎ ((MayAllBeLeft h.rebuilds.by.filled.disks h.rebuilds.by.enrolled.disks (contents_of left) × Super target h.rebuilds.by.filled h.rebuilds.by.enrolled left)
+    ⊎ ((settled : MirrorView) × (g : GoesOn only_others only_others IsStoring h.rebuilds.by.enrolled settled) × (then : AreInFlight h.rebuilds.by.enrolled.array requests)
+    × AllLeftWhole g.events None h.rebuilds.by.enrolled requests (λ m r. (m ≡ settled) × (r ≡ requests)) (g.leads None requests then)
+    × StopsIn g.events None h.rebuilds.by.enrolled requests (λ m r. (m ≡ settled) × (r ≡ requests)) (g.leads None requests then) left)))
 
--- Whenever it came, the target is not in sync yet, or the enrolment is done and the members in sync hold the content. Of one that was
--- recovering it is asked that its superblock was not spoiled before.
+-- Whenever it came, the target is not in sync yet, or the enrolment is done and the members in sync hold the content.
 abbrev pub StopsInRebuild : Type 0
 StopsInRebuild =
     AtMomentsWith (λ t content.
-    ((target : ℕ) (told : Rebuilt) (new : MirrorView) (h : Rebuilds target told t.mirror new) → HeldWhatItHad target content t.mirror
-    → (is_recovering h.by.fills.begins.member.state ≡ true → t.spoiled target ≡ false)
+    ((target : ℕ) (told : Rebuilt) (new : MirrorView) (h : Rebuilds target told t.mirror new) → LogsUnshifted (failed_of h.rebuilds.passes) t.mirror
+    → HeldWhatItHad target content t.mirror
     → (in_flight : AreInFlight t.mirror.array t.requests) (left : List Disk) → StopsWithin IsSuperWhole target told t.mirror new h t.requests in_flight left
     → IsStopBefore target t left ⊎ IsStopEnrolled target t content left))
 
--- So it is with nothing asked of the target's superblock, before or at the stop; but the target may be spoiled then.
+-- So it is with nothing asked of the target's superblock at the stop; but the target may be spoiled then.
 abbrev pub StopsAnyhow : Type 0
 StopsAnyhow =
     AtMomentsWith (λ t content.
-    ((target : ℕ) (told : Rebuilt) (new : MirrorView) (h : Rebuilds target told t.mirror new) → HeldWhatItHad target content t.mirror
+    ((target : ℕ) (told : Rebuilt) (new : MirrorView) (h : Rebuilds target told t.mirror new) → LogsUnshifted (failed_of h.rebuilds.passes) t.mirror
+    → HeldWhatItHad target content t.mirror
     → (in_flight : AreInFlight t.mirror.array t.requests) (left : List Disk) → StopsWithin Anyhow target told t.mirror new h t.requests in_flight left
     → IsStopUnfinished target t left ⊎ IsStopEnrolled target t content left))

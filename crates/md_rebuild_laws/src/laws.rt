@@ -2,7 +2,8 @@
 
 ghost use Rattle.md_rebuild_laws.specs.RebuildRuns.{RebuildIsARun, RebuildRunsOn};
 ghost use Rattle.md_rebuild_laws.specs.RebuiltInLife.{CopiesContent, HeldInLives, NewHadNothing, RebuildsContent, RebuildsResumed, RecoveringHeldIt, TakenBackHeldIt};
-ghost use Rattle.md_rebuild_laws.specs.StoppedRebuilds.{StopsAdmitting, StopsAdmittingAnyhow, StopsAnyhow, StopsEnrolled, StopsEnrolling, StopsEnrollingAnyhow, StopsFilling, StopsInRebuild, StopsSettling, StopsStoring, StopsTelling, StopsUnadmitted, StopsUnadmittedAnyhow, StopsUnenrolled, StopsUnrecorded};
+ghost use Rattle.md_rebuild_laws.specs.RefusedRebuilds.{RefusedIsARun, StopsLeaving, StopsLeavingAnyhow, StopsUnleft};
+ghost use Rattle.md_rebuild_laws.specs.StoppedRebuilds.{StopsAdmitting, StopsAdmittingAnyhow, StopsAnyhow, StopsAtCheckpoint, StopsAtCheckpointAnyhow, StopsAtFailedCheckpoint, StopsEnrolled, StopsEnrolling, StopsEnrollingAnyhow, StopsFilling, StopsInRebuild, StopsListing, StopsPassUnrecorded, StopsRecording, StopsRecordingAnyhow, StopsSettling, StopsStoring, StopsTelling, StopsUnadmitted, StopsUnadmittedAnyhow, StopsUnenrolled, StopsUnenrolledAnyhow, StopsUnrecorded};
 
 /// A mirror was opened from devices that do what they answer, whose stored marks covered what they differ in,
 /// and has come to any moment of its life. A rebuild then gives the new member the content that the life has
@@ -25,7 +26,8 @@ pub fn held_before()
 {}
 
 /// A rebuild that is done is a run of the mirror, from any moment of a life on, and the content stays what it was:
-/// up to the mirror in which its target is in sync, and on to the end of the call.
+/// up to the mirror in which its target is in sync, and on to the end of the call. Where slots failed and lists were
+/// stored, it is asked that the logs were read without a shift.
 pub fn rebuild_runs()
     ensures enrolled { RebuildIsARun }
     ensures settled { RebuildRunsOn }
@@ -41,6 +43,11 @@ pub fn stopped_rebuilds()
     ensures admitting { StopsAdmitting }
     ensures unadmitted { StopsUnadmitted }
     ensures filling { StopsFilling }
+    ensures recording { StopsRecording }
+    ensures pass_unrecorded { StopsPassUnrecorded }
+    ensures checkpoint { StopsAtCheckpoint }
+    ensures failed_checkpoint { StopsAtFailedCheckpoint }
+    ensures listing { StopsListing }
     ensures enrolling { StopsEnrolling }
     ensures unenrolled { StopsUnenrolled }
     ensures enrolled { StopsEnrolled }
@@ -50,9 +57,25 @@ pub fn stopped_rebuilds()
     ensures telling { StopsTelling }
     ensures admitting_anyhow { StopsAdmittingAnyhow }
     ensures unadmitted_anyhow { StopsUnadmittedAnyhow }
+    ensures recording_anyhow { StopsRecordingAnyhow }
+    ensures checkpoint_anyhow { StopsAtCheckpointAnyhow }
     ensures enrolling_anyhow { StopsEnrollingAnyhow }
+    ensures unenrolled_anyhow { StopsUnenrolledAnyhow }
 
     // So of a rebuild that is done, whenever the stop came.
     ensures done { StopsInRebuild }
     ensures anyhow { StopsAnyhow }
+{}
+
+/// One that ends with `NoMemory` or `LogFull`, once passes may be made, is a run up to where it is recorded how far its
+/// target is rebuilt; and a stop while that is recorded is one of a run. (Where a list of a source could not be
+/// stored, it is a run by what was stored and failed, and `stopped_rebuilds` tells of a stop in what comes then:
+/// clauses `listing`, and wherever a life has come to, `checkpoint`.)
+pub fn refused_rebuilds()
+    ensures runs { RefusedIsARun }
+    ensures leaving { StopsLeaving }
+    ensures unleft { StopsUnleft }
+
+    // Whatever stands in place of the target's superblock.
+    ensures leaving_anyhow { StopsLeavingAnyhow }
 {}

@@ -66,6 +66,7 @@ after_failing : (part : Part) (k : ℕ) (e : Event) → IsFailureOf k e → InRo
 after_failing part k (Event.RecordFails j) is r after rest = (r.0, rest)
 after_failing part k (Event.StoreMarksFails j b) is r after rest = (r.0, rest)
 after_failing part k (Event.WriteMemberFails n j) is r after rest = rest
+after_failing part k (Event.StoreLogFails j) is r after rest = absurd r
 after_failing part k (Event.CopyFails j c) is r after rest = absurd r
 after_failing part k e is r after rest = absurd is
 

@@ -254,8 +254,8 @@ module _ (t : Moment) (at_t : IsSoundAt t) (before : List Disk) (is : ArrayView)
 module _ (t : Moment) (at_t : IsSoundAt t) (before : List Disk) (is : ArrayView)
     (r : AreFoundAgain t before) (o : IsArrayOf before is) (left : List (List ℕ)) (half : IsHalfOpened is before left)
     (k j : ℕ) (at : r.at k ≡ Some j) (c : List ℕ) (there : slice_get left j ≡ Some c) where
-  abbrev found : IsFoundAgain t.mirror.array r.left before k j
-  found = r.again k j at
+  abbrev then : IsFoundAgain t.mirror.array r.left before k j
+  then = r.again k j at
 
   as_many : length half.after ≡ length before
   as_many = elim half.opens [
@@ -264,41 +264,41 @@ module _ (t : Moment) (at_t : IsSoundAt t) (before : List Disk) (is : ArrayView)
   ]
 
   end : (e : Disk) × (slice_get half.after j ≡ Some e)
-  end = let low = slice_get_within before j found.disk_now found.at_now in let many = as_many in got_within half.after j (omega arith)
+  end = let low = slice_get_within before j then.disk_now then.at_now in let many = as_many in got_within half.after j (omega arith)
 
   member : (n : MemberView) × IsMember is j n
   member =
-      let low = slice_get_within before j found.disk_now found.at_now in
+      let low = slice_get_within before j then.disk_now then.at_now in
       let read_many = o.read.as_many in
       let members_many = o.remembered.as_many in
       got_within is.members j (omega arith)
 
-  may : MayBeLeft found.disk_now end.0 c ⊎ (c ≡ end.0.content)
+  may : MayBeLeft then.disk_now end.0 c ⊎ (c ≡ end.0.content)
   may = elim half.when [
-    | inl within ↦ inl (within.each j found.disk_now end.0 c found.at_now end.1 there)
+    | inl within ↦ inl (within.each j then.disk_now end.0 c then.at_now end.1 there)
     | inr last ↦ inr (same_Some c end.0.content (sym there ∙ ap (λ (cs : List (List ℕ)). slice_get cs j) last ∙ got_in_map (λ (d : Disk). d.content) half.after j end.0 end.1))
   ]
 
-  by_marks : IsMarkedBy is member.0 found.disk_now end.0 → IsAsLeft t.mirror.array found.member found.disk_left.content c
+  by_marks : IsMarkedBy is member.0 then.disk_now end.0 → IsAsLeft t.mirror.array then.member then.disk_left.content c
   by_marks = marked_as_left t at_t before is r o k j at member.0 member.1 c end.0 may
 
-  by_failure : (x : FailsOnMember is before half.after left) → IsAsLeft t.mirror.array found.member found.disk_left.content c
+  by_failure : (x : FailsOnMember is before half.after left) → IsAsLeft t.mirror.array then.member then.disk_left.content c
   by_failure x = by_same j x.on
       (λ here.
       let same : member.0 ≡ x.stops.member = same_Some member.0 x.stops.member (sym member.1 ∙ ap (slice_get is.members) here ∙ x.stops.at) in
-      let was : slice_get before x.on ≡ Some found.disk_now = sym (ap (slice_get before) here) ∙ found.at_now in
+      let was : slice_get before x.on ≡ Some then.disk_now = sym (ap (slice_get before) here) ∙ then.at_now in
       failed_as_left t at_t before is r o k j at member.0 member.1 c end.0 may
       (subst NeedsMarks (sym same) x.stops.needs)
-      (subst (λ (n : MemberView). FailsToStore is n found.disk_now end.0) (sym same) (x.stops.failed found.disk_now end.0 was (sym (ap (slice_get half.after) here) ∙ end.1)))
-      (subst (λ (n : MemberView). IsHeaderKept n found.disk_now.content c) (sym same) (x.header found.disk_now c was (sym (ap (slice_get left) here) ∙ there))))
+      (subst (λ (n : MemberView). FailsToStore is n then.disk_now end.0) (sym same) (x.stops.failed then.disk_now end.0 was (sym (ap (slice_get half.after) here) ∙ end.1)))
+      (subst (λ (n : MemberView). IsHeaderKept n then.disk_now.content c) (sym same) (x.header then.disk_now c was (sym (ap (slice_get left) here) ∙ there))))
       (λ apart. elim (cases_lt j x.on) [
-        | inl earlier ↦ by_marks (x.stops.earlier j found.disk_now end.0 found.at_now end.1 earlier member.0 member.1)
-        | inr behind ↦ alone_as_left t at_t before is r o k j at member.0 member.1 c end.0 may (x.stops.later j found.disk_now end.0 found.at_now end.1 (above x.on j behind (λ same. apart (sym same))))
+        | inl earlier ↦ by_marks (x.stops.earlier j then.disk_now end.0 then.at_now end.1 earlier member.0 member.1)
+        | inr behind ↦ alone_as_left t at_t before is r o k j at member.0 member.1 c end.0 may (x.stops.later j then.disk_now end.0 then.at_now end.1 (above x.on j behind (λ same. apart (sym same))))
       ])
 
-  pub as_left : IsAsLeft t.mirror.array found.member found.disk_left.content c
+  pub as_left : IsAsLeft t.mirror.array then.member then.disk_left.content c
   as_left = elim half.opens [
-    | inl marked ↦ by_marks (marked.each j found.disk_now end.0 found.at_now end.1 member.0 member.1)
+    | inl marked ↦ by_marks (marked.each j then.disk_now end.0 then.at_now end.1 member.0 member.1)
     | inr fails ↦ by_failure fails
   ]
 

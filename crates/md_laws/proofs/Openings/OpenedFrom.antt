@@ -1,5 +1,5 @@
 -- What the opening changed: all marks are stored where the bitmap was not accepted, and all else is as it was.
-use Rattle.std.proofs.Common.{◌≡◌, ℕ, ◌+◌, ◌<◌, ◌≤◌, ◌↔◌, inl, inr, true, false, cond, ◌&&◌, nat_lt, List, [], length, slice_get, Some, sym, ap, ◌∙◌, subst, arith, lt-ltb}
+use Rattle.std.proofs.Common.{◌≡◌, ℕ, ◌+◌, ◌<◌, ◌≤◌, ◌↔◌, inl, inr, true, false, cond, ◌&&◌, nat_lt, List, [], length, slice_get, Some, refl, sym, ap, ◌∙◌, subst, arith, lt-ltb}
 use Rattle.std.proofs.lemmas.Option.{none-some, slice_get_past, slice_get_within}
 use Rattle.std.proofs.lemmas.Bool.{and_from}
 use Rattle.md_badblocks.specs.Runs.{IsBad}
@@ -105,6 +105,11 @@ module _ (before : List Disk) (m : MirrorView) (honest : AreHonest before) (o : 
     listed = λ k s low i. same_list k s i;
     bits = same_marks;
   }
+
+  -- each is the device at its place
+  pub opened_in_place : (j : ℕ) → opened_from.at j ≡ j
+  unfolding opened_from
+  opened_in_place j = refl
 
   pub covered : Covered (geometry_of a) was.stored (worlds.IsInSync w) → Covered (geometry_of a) w.stored (worlds.IsInSync w)
   covered h i j k s low x y z off =

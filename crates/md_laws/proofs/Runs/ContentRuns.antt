@@ -12,7 +12,7 @@ use Rattle.md_model.proofs.Content.Contents.{holds_step}
 use Rattle.md_model.proofs.Steps.Keeps.{kept_step}
 use Rattle.md_state.specs.View.{MirrorView, geometry_of}
 use Rattle.md_array.specs.Worlds.{none_in_flight, super_of, world_of}
-use Rattle.md_laws.specs.Runs.{MirrorRun, MirrorRunTells, MirrorRunWith, Moment, history_of, opened_as, then_as}
+use Rattle.md_laws.specs.Runs.{MirrorRun, MirrorRunTellsEnrolments, MirrorRunWith, Moment, history_of, opened_as, then_as}
 use Rattle.md_laws.proofs.Runs.Rests.{history_rests, rests_does}
 
 module _ (m : MirrorView) (start : runs.IsStart (geometry_of m.array) (super_of m.array.shared) (world_of m none_in_flight)) where
@@ -26,7 +26,7 @@ module _ (m : MirrorView) (start : runs.IsStart (geometry_of m.array) (super_of 
   first = world_of m none_in_flight
 
   along : (es : List Event) (t : Moment) (a : Content) (last : Moment) → geometry_of t.mirror.array ≡ g → IsHeld g opened (history_of t) a
-      → (r : MirrorRun t es last) → MirrorRunTells t a es last r → (b : Content) × MirrorRunWith t a es last b × IsHeld g opened (history_of last) b
+      → (r : MirrorRun t es last) → MirrorRunTellsEnrolments t a es last r → (b : Content) × MirrorRunWith t a es last b × IsHeld g opened (history_of last) b
   along [] t a last same held r told = (a, (r, refl), subst (λ h. IsHeld g opened h a) (sym (history_rests t last r)) held)
   along (e ∷ es) t a last same held r told =
       let h = history_of t in
@@ -43,7 +43,7 @@ module _ (m : MirrorView) (start : runs.IsStart (geometry_of m.array) (super_of 
 
   -- from the opening on
   pub content_along : (es : List Event) (a : Content) (last : Moment) → Holds g a first → (r : MirrorRun (opened_as m) es last)
-      → MirrorRunTells (opened_as m) a es last r → (b : Content) × MirrorRunWith (opened_as m) a es last b × IsHeld g opened (history_of last) b
+      → MirrorRunTellsEnrolments (opened_as m) a es last r → (b : Content) × MirrorRunWith (opened_as m) a es last b × IsHeld g opened (history_of last) b
   content_along es a last holds r told = along es (opened_as m) a last refl (held_opened g opened first a start holds) r told
 
   pub held : (es : List Event) (t : Moment) (a : Content) (last : Moment) (b : Content) → geometry_of t.mirror.array ≡ g → IsHeld g opened (history_of t) a

@@ -12,12 +12,14 @@ use Rattle.md_model.specs.Runs as runs
 use Rattle.md_model.specs.Runs.{spoiled_after}
 use Rattle.md_model.specs.Worlds.{Request, World}
 use Rattle.md_model.proofs.Lives.Lives.{sound_in_sync, start_again}
-use Rattle.md_model.proofs.Content.BehindSteps.{behind_leaving, behind_step}
+use Rattle.md_model.proofs.Content.BehindSteps.{behind_leaving, behind_log, behind_step}
 use Rattle.md_model.specs.States as states
 use Rattle.md_model.proofs.Cases.{none_some}
+use Rattle.md_model.proofs.Puts.{put-hit}
 use Rattle.md_model.proofs.Content.ContentLives as model
 use Rattle.md_model.proofs.Content.ContentLives.{IsHeld, held_again, stays_behind}
 use Rattle.md_model.proofs.Content.Contents.{holds_step}
+use Rattle.md_model.proofs.Content.Picked.{has_content_again}
 use Rattle.md_model.proofs.Steps.Keeps.{IsKept, kept_step}
 use Rattle.md_kept_members.specs.View.{MemberView}
 use Rattle.md_state.specs.Members.{IsInSync, is_degraded}
@@ -27,7 +29,7 @@ use Rattle.md_array.proofs.Steps.OneMember.{stored_there}
 use Rattle.md_array.proofs.Worlds.Supers.{super_shown}
 use Rattle.md_array.proofs.Worlds.InSync.{in_sync_there}
 use Rattle.md_array.proofs.Worlds.Risen.{full_when_not_degraded}
-use Rattle.md_laws.specs.LeftBehind.{DegradedLifeWith, DegradedRunWith, Fails, IsLeftOut, LiesBehind, MissingLiesBehind, failed_then}
+use Rattle.md_laws.specs.LeftBehind.{DegradedLifeWith, DegradedRunWith, Fails, IsLeftOut, LiesBehind, LogLiesBehind, MissingLiesBehind, failed_then, log_failed_then}
 use Rattle.md_laws.specs.Lives.{IsReopened, MirrorLifeWith}
 use Rattle.md_laws.specs.Runs.{IsStart, MirrorRunWith, Moment, RestsThenDoes, history_of, opened_as, then_as}
 use Rattle.md_laws.proofs.Openings.Reopened.{same_geometry}
@@ -97,8 +99,7 @@ module _ (g : Geometry) (small : IsWithinLimits g) (opened : Super) where
 
 -- ---- a stop, and the next opening
 module _ (g : Geometry) (small : IsWithinLimits g) (opened : MirrorView) (same_opened : geometry_of opened.array ≡ g) (t : Moment) (a : Content) (is : IsHeldAt g (super_of opened.array.shared) t a)
-    (next : MirrorView) (again : IsReopened opened t next)
-    (b : Content) (becomes : BecomesAtOpening (geometry_of next.array) (world_of next none_in_flight) a b) where
+    (next : MirrorView) (again : IsReopened opened t next) where
   abbrev was : Super
   was = super_of opened.array.shared
 
@@ -111,7 +112,7 @@ module _ (g : Geometry) (small : IsWithinLimits g) (opened : MirrorView) (same_o
   abbrev s : IsSorted t again.devices.left
   s = left t is.sound next again.before again.devices again.opens
 
-  held_at_stop : IsHeldAt g was s.moment a
+  pub held_at_stop : IsHeldAt g was s.moment a
   held_at_stop = held_along g small was s.events t a s.moment a (s.still a) is
 
   pub same : geometry_of next.array ≡ g
@@ -121,58 +122,66 @@ module _ (g : Geometry) (small : IsWithinLimits g) (opened : MirrorView) (same_o
   abbrev here : Geometry
   here = geometry_of t.mirror.array
 
-  small_here : IsWithinLimits here
+  pub small_here : IsWithinLimits here
   small_here = subst IsWithinLimits (sym is.geometry) small
 
-  same_here : geometry_of opened.array ≡ here
+  pub same_here : geometry_of opened.array ≡ here
   same_here = same_opened ∙ sym is.geometry
 
-  kept_here : IsKept here was (history_of t)
+  pub kept_here : IsKept here was (history_of t)
   kept_here = subst (λ x. IsKept x was (history_of t)) (sym is.geometry) is.held.kept
 
-  abbrev reopens_here : Reopens here was (history_of s.moment) first w
+  abbrev pub reopens_here : Reopens here was (history_of s.moment) first w
   reopens_here = reopens_there t is.sound next opened same_here small_here kept_here again
 
   of_model : Reopens g was (history_of s.moment) first w
   of_model = subst (λ x. Reopens x was (history_of s.moment) first w) is.geometry reopens_here
 
-  becomes_there : BecomesAtOpening g w a b
-  becomes_there = subst (λ x. BecomesAtOpening x w a b) same becomes
-
-  pub held_next : IsHeldAt g first (opened_as next) b
-  held_next = record {
-    held = held_again g small (λ v. Unit {0}) was (history_of s.moment) a first w b held_at_stop.held of_model becomes_there;
-    sound = sound_when_opened again.before next again.devices.honest again.opens;
-    geometry = same;
-  }
-
   pub start_next : runs.IsStart g first w
   start_next = start_again g was (history_of s.moment) first w small held_at_stop.held.kept of_model
 
-  -- a device that was behind
-  behind_again : (d : Stored) → is_degraded t.mirror.array ≡ true → IsBehind g a d (world_of t.mirror t.requests) → StaysBehind g first d (opened_as next) b
-  behind_again d empty late =
-      let then = behind_along g small was d s.events t a s.moment a (at_stop t a s.events s.moment s.few empty (s.still a)) (record { held = is; behind = late }) in
-      record { held = held_next; behind = stays_behind g small was (history_of s.moment) a then.held.held first w of_model b becomes_there d then.behind }
+  -- some content is held then
+  pub content_next : (b : Content) × BecomesAtOpening (geometry_of next.array) w a b
+  content_next =
+      let b = has_content_again g was (history_of s.moment) held_at_stop.held.kept a first w of_model start_next held_at_stop.held.holds.unmarked in
+      (b.0, subst (λ x. BecomesAtOpening x w a b.0) (sym same) b.1)
 
-  -- a member that was in sync, as the stop left it
-  cut_behind : (k : ℕ) (o : MemberView) → IsInSync t.mirror.array k o → IsBehind g b (s.cut k) w
-  cut_behind k o on =
-      let held = subst (λ x. IsHeld x was (history_of s.moment) a) (sym is.geometry) held_at_stop.held in
-      let becomes_here = subst (λ x. BecomesAtOpening x w a b) (sym is.geometry) becomes_there in
-      let on_then = ap states.is_in_sync (s.state k) ∙ in_sync_there t.mirror.disks t.mirror.array t.requests k o on in
-      let cut_is = cut_there t is.sound next opened same_here small_here kept_here again in
-      subst (λ x. IsBehind x b (s.cut k) w) is.geometry (subst (λ (f : ℕ → Stored). IsBehind here b (f k) w) cut_is (model.missing_behind here small_here was (history_of s.moment) a held first w reopens_here b becomes_here k on_then))
+  -- what it becomes
+  module _ (b : Content) (becomes : BecomesAtOpening (geometry_of next.array) (world_of next none_in_flight) a b) where
+    pub becomes_there : BecomesAtOpening g w a b
+    becomes_there = subst (λ x. BecomesAtOpening x w a b) same becomes
 
-  left_out : (k : ℕ) (r : IsLeftOut opened t k next) (same_again : r.again ≡ again) → StaysBehind g first (stored_of t.mirror.array r.member r.device.content) (opened_as next) b
-  left_out k r same_again =
-      let at : slice_get again.devices.left k ≡ Some r.device = subst (λ (x : IsReopened opened t next). slice_get x.devices.left k ≡ Some r.device) same_again r.at in
-      let is_read = stored_there again.devices.left t.mirror.array k r.member r.device r.in_sync.member at in
-      let cut : s.cut k ≡ stored_of t.mirror.array r.member r.device.content = elim (s.read k) [
-        | inl read ↦ sym read ∙ is_read
-        | inr none ↦ absurd (none_some (super_of r.superblock) (sym none ∙ ap (λ (d : Stored). d.super) is_read ∙ super_shown (block_on r.device.content) r.superblock r.has.fields r.has.sound))
-      ] in
-      record { held = held_next; behind = subst (λ (d : Stored). IsBehind g b d w) cut (cut_behind k r.member r.in_sync) }
+    pub held_next : IsHeldAt g first (opened_as next) b
+    held_next = record {
+      held = held_again g small (λ v. Unit {0}) was (history_of s.moment) a first w b held_at_stop.held of_model becomes_there;
+      sound = sound_when_opened again.before next again.devices.honest again.opens;
+      geometry = same;
+    }
+
+    -- a device that was behind
+    behind_again : (d : Stored) → is_degraded t.mirror.array ≡ true → IsBehind g a d (world_of t.mirror t.requests) → StaysBehind g first d (opened_as next) b
+    behind_again d empty late =
+        let then = behind_along g small was d s.events t a s.moment a (at_stop t a s.events s.moment s.few empty (s.still a)) (record { held = is; behind = late }) in
+        record { held = held_next; behind = stays_behind g small was (history_of s.moment) a then.held.held first w of_model b becomes_there d then.behind }
+
+    -- a member that was in sync, as the stop left it
+    cut_behind : (k : ℕ) (o : MemberView) → IsInSync t.mirror.array k o → IsBehind g b (s.cut k) w
+    cut_behind k o on =
+        let held = subst (λ x. IsHeld x was (history_of s.moment) a) (sym is.geometry) held_at_stop.held in
+        let becomes_here = subst (λ x. BecomesAtOpening x w a b) (sym is.geometry) becomes_there in
+        let on_then = ap states.is_in_sync (s.memory.state k) ∙ in_sync_there t.mirror.disks t.mirror.array t.requests k o on in
+        let cut_is = cut_there t is.sound next opened same_here small_here kept_here again in
+        subst (λ x. IsBehind x b (s.cut k) w) is.geometry (subst (λ (f : ℕ → Stored). IsBehind here b (f k) w) cut_is (model.missing_behind here small_here was (history_of s.moment) a held first w reopens_here b becomes_here k on_then))
+
+    left_out : (k : ℕ) (r : IsLeftOut opened t k next) (same_again : r.again ≡ again) → StaysBehind g first (stored_of t.mirror.array r.member r.device.content) (opened_as next) b
+    left_out k r same_again =
+        let at : slice_get again.devices.left k ≡ Some r.device = subst (λ (x : IsReopened opened t next). slice_get x.devices.left k ≡ Some r.device) same_again r.at in
+        let is_read = stored_there again.devices.left t.mirror.array k r.member r.device r.in_sync.member at in
+        let cut : s.cut k ≡ stored_of t.mirror.array r.member r.device.content = elim (s.read k) [
+          | inl read ↦ sym read ∙ is_read
+          | inr none ↦ absurd (none_some (super_of r.superblock) (sym none ∙ ap (λ (d : Stored). d.super) is_read ∙ super_shown (block_on r.device.content) r.superblock r.has.fields r.has.sound))
+        ] in
+        record { held = held_next; behind = subst (λ (d : Stored). IsBehind g b d w) cut (cut_behind k r.member r.in_sync) }
 
 behind_life : (g : Geometry) (small : IsWithinLimits g) (d : Stored) (opened : MirrorView) (t : Moment) (a : Content) (es : List Event) (rest : List (List Event)) (final : MirrorView) (last : Moment) (b : Content)
     → geometry_of opened.array ≡ g → StaysBehind g (super_of opened.array.shared) d t a → DegradedLifeWith opened t a es rest final last b
@@ -181,7 +190,7 @@ behind_life g small d opened t a es [] final last b chunks is life =
     subst (λ (x : MirrorView). StaysBehind g (super_of x.array.shared) d last b) (sym life.0) (behind_along g small (super_of opened.array.shared) d es t a last b life.1 is)
 behind_life g small d opened t a es (more ∷ rest) final last b chunks is life =
     let mid = behind_along g small (super_of opened.array.shared) d es t a life.0 life.2 life.4 is in
-    behind_life g small d life.1 (opened_as life.1) life.3 more rest final last b (same g small opened chunks life.0 life.2 mid.held life.1 life.6 life.3 life.7)
+    behind_life g small d life.1 (opened_as life.1) life.3 more rest final last b (same g small opened chunks life.0 life.2 mid.held life.1 life.6)
     (behind_again g small opened chunks life.0 life.2 mid.held life.1 life.6 life.3 life.7 d life.5 mid.behind) life.8
 
 -- a failure changes nothing of the content, nor whose superblock is spoiled
@@ -255,6 +264,25 @@ failed_later before m a start holds es rest final t b life k f more others newes
 pub left_behind : LiesBehind
 left_behind before m a start holds es rest final t b life k f more others newest last c degraded =
     (failed_later before m a start holds es rest final t b life k f more others newest last c degraded).behind
+
+-- its log could not be stored
+pub log_left_behind : LogLiesBehind
+log_left_behind before m a start holds es rest final t b life k f device content listed more others newest last c degraded =
+    let g = geometry_of m.array in
+    let opened = super_of final.array.shared in
+    let small = starts_small before m start in
+    let is = life_held_at before m a start holds es rest final t b life in
+    let w = world_of t.mirror t.requests in
+    let now = world_of f.mirror f.requests in
+    let on = in_sync_there t.mirror.disks t.mirror.array t.requests k f.member f.in_sync in
+    let s = (leads_to g small opened t b is (Event.StoreLogFails k) f.mirror f.requests f.does).1 in
+    let left_there : (now.stored k) ≡ s.0 = ap (λ (v : World). v.stored k) s.3.3 ∙ put-hit k s.0 w.stored in
+    (behind_life g small device final (log_failed_then t k f) b more others newest last c (final_geometry before m a start holds es rest final t b life)
+    (record {
+      held = held_then g small opened t b is (Event.StoreLogFails k) f.mirror f.requests f.does b refl;
+      behind = behind_log g b w is.held.kept.tracked is.held.holds k on s.0 now s.2 s.3 device (λ y low. content y low ∙ ap (λ (d : Stored). d.content y) (left_there ∙ s.2.rest)) listed;
+    })
+    degraded).behind
 
 -- what the stop left of one that was in sync is read as it was kept
 pub missing_later : (before : List Disk) (m : MirrorView) (a : Content) → IsStart before m → Holds (geometry_of m.array) a (world_of m none_in_flight)

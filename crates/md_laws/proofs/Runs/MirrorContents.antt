@@ -14,7 +14,7 @@ use Rattle.md_model.proofs.Steps.Keeps.{IsKept}
 use Rattle.md_model.proofs.Content.Picked.{has_content_again}
 use Rattle.md_state.specs.View.{Disk, MirrorView, geometry_of}
 use Rattle.md_array.specs.Worlds.{none_in_flight, super_of, world_of}
-use Rattle.md_laws.specs.Lives.{ContentGoesAlong, IsReopened, KeepsContent, MirrorLife, MirrorLifeTells, MirrorLifeWith}
+use Rattle.md_laws.specs.Lives.{ContentGoesAlongTold, IsReopened, KeepsContent, MirrorLife, MirrorLifeTellsEnrolments, MirrorLifeWith}
 use Rattle.md_laws.specs.Runs.{HasContent, IsStart, MirrorRun, Moment, history_of, opened_as}
 use Rattle.md_laws.proofs.Runs.MirrorLives.{left, reopens_there}
 use Rattle.md_laws.proofs.Runs.Moments.{IsSoundAt, geometry_kept, run_keeps, sound_when_opened}
@@ -85,7 +85,7 @@ module _ (m : MirrorView) (begins : Begins m) (es : List Event) (t : Moment) (r 
 -- ---- lives
 life_along : (m : MirrorView) (a : Content) → Begins m → Holds (geometry_of m.array) a (world_of m none_in_flight)
     → (es : List Event) (rest : List (List Event)) (final : MirrorView) (last : Moment) (life : MirrorLife m es rest final last)
-    → MirrorLifeTells m a es rest final last life → (b : Content) × MirrorLifeWith m a es rest final last b
+    → MirrorLifeTellsEnrolments m a es rest final last life → (b : Content) × MirrorLifeWith m a es rest final last b
 life_along m a begins holds es [] final last life told =
     let x = run.content_along m begins.start es a last holds life.1 told in
     (x.0, (life.0, x.1))
@@ -112,8 +112,8 @@ life_held m a begins holds es (more ∷ rest) final last b life =
 pub content_at_first : HasContent
 content_at_first = mirror_runs.content_at_first
 
-pub content_along : ContentGoesAlong
-content_along before m a start holds = life_along m a (begins_first before m start) holds
+pub content_told : ContentGoesAlongTold
+content_told before m a start holds = life_along m a (begins_first before m start) holds
 
 pub content_kept : KeepsContent
 content_kept before m a start holds = life_held m a (begins_first before m start) holds

@@ -7,7 +7,7 @@ use Rattle.md_model.specs.Devices.{Stored, Super, is_marked}
 use Rattle.md_model.specs.Assembly.{IsFound, IsFreshest, state_by}
 use Rattle.md_model.specs.Events.{Event}
 use Rattle.md_model.specs.Lives as lives
-use Rattle.md_model.specs.Lives.{Always, IsCovered, IsSound, Reopens}
+use Rattle.md_model.specs.Lives.{AgreesUnstored, Always, IsCovered, IsSound, Reopens}
 use Rattle.md_model.specs.Openings as openings
 use Rattle.md_model.specs.Openings.{IsWithinLimits}
 use Rattle.md_model.specs.Runs as runs
@@ -24,6 +24,7 @@ use Rattle.md_model.proofs.Lives.Lives.{always, always_covered, always_out, alwa
 use Rattle.md_model.proofs.Lives.Opened.{kept_opened}
 use Rattle.md_model.proofs.Lives.Safe.{keeps_out, safe_at_stop, stays_out}
 use Rattle.md_model.proofs.Steps.Keeps.{IsKept, kept_run}
+use Rattle.md_model.proofs.Steps.Lists.{always_agrees}
 use Rattle.md_kept_members.specs.View.{MemberView}
 use Rattle.md_state.specs.View.{Disk, MirrorView, geometry_of}
 use Rattle.md_state.specs.Members.{IsInSync, IsMember}
@@ -40,7 +41,7 @@ use Rattle.md_laws.proofs.Stops.LeftContents.{read_in}
 use Rattle.md_laws.proofs.Runs.Moments.{IsSoundAt, geometry_kept, life_keeps, run_keeps, run_then, sound_when_opened}
 use Rattle.md_laws.proofs.Runs.MirrorRuns.{model_run, starts}
 use Rattle.md_laws.proofs.Openings.Reopened.{read_alike, recorded_first, same_geometry}
-use Rattle.md_laws.proofs.Openings.OpenedFrom.{opened_from, super_stays, super_was}
+use Rattle.md_laws.proofs.Openings.OpenedFrom.{opened_from, opened_in_place, super_stays, super_was}
 
 -- ---- the next opening is one of the model
 module _ (t : Moment) (at_t : IsSoundAt t) (next : MirrorView)
@@ -86,8 +87,15 @@ module _ (t : Moment) (at_t : IsSoundAt t) (next : MirrorView)
         (λ j is. absurd (true≢false (sym spoiled ∙ left.spoiled k (devices.unspoiled k j is)))),
   )
 
+  -- each member is the device at its place
+  abbrev OpensInPlace : Geometry → Type 0
+  OpensInPlace x = (o : openings.IsOpenedFrom x read (super_of next.array.shared) (world_of next none_in_flight)) × ((j : ℕ) → o.at j ≡ j)
+
+  opens_in_place : OpensInPlace g
+  opens_in_place = subst OpensInPlace (same_geometry t at_t before next.array devices from_these.array) (opened_from before next devices.honest from_these, opened_in_place before next devices.honest from_these)
+
   pub opens : openings.IsOpenedFrom g read (super_of next.array.shared) (world_of next none_in_flight)
-  opens = subst (λ x. openings.IsOpenedFrom x read (super_of next.array.shared) (world_of next none_in_flight)) (same_geometry t at_t before next.array devices from_these.array) (opened_from before next devices.honest from_these)
+  opens = opens_in_place.0
 
   -- ---- with further devices behind them
   abbrev many : ℕ
@@ -211,7 +219,7 @@ module _ (t : Moment) (at_t : IsSoundAt t) (next : MirrorView)
 
     -- a member in sync that is there was in sync then, and has a superblock
     there_in_sync : (k : ℕ) (o : MemberView) → IsInSync t.mirror.array k o → worlds.IsInSync (history_of stop).now k
-    there_in_sync k o on = ap is_in_sync (left.state k) ∙ in_sync_there t.mirror.disks t.mirror.array t.requests k o on
+    there_in_sync k o on = ap is_in_sync (left.memory.state k) ∙ in_sync_there t.mirror.disks t.mirror.array t.requests k o on
 
     own_there : (k j : ℕ) → devices.at k ≡ Some j → (own : Super) × ((made_of k).super ≡ Some own)
     own_there k j is =
@@ -261,7 +269,7 @@ module _ (t : Moment) (at_t : IsSoundAt t) (next : MirrorView)
         }
 
     member_then : (k : ℕ) → worlds.IsInSync (history_of stop).now k → (o : MemberView) × IsInSync t.mirror.array k o
-    member_then k on = in_sync_is t.mirror.disks t.mirror.array t.requests k (sym (ap is_in_sync (left.state k)) ∙ on)
+    member_then k on = in_sync_is t.mirror.disks t.mirror.array t.requests k (sym (ap is_in_sync (left.memory.state k)) ∙ on)
 
     pub was_in_sync : (k i : ℕ) (n : MemberView) → IsInSync next.array k n → devices.from k ≡ Some i → (o : MemberView) × IsInSync t.mirror.array i o
     was_in_sync k i n on is = member_then i (safe_there.among i (found_there k i is (in_sync_there next.disks next.array none_in_flight k n on)))
@@ -327,6 +335,17 @@ module _ (t : Moment) (at_t : IsSoundAt t) (next : MirrorView)
         opens = opens_again;
       }
 
+      -- a member that was left stands where it stood, and is as the stop left it, but for marks
+      pub left_there : (j k : ℕ) → devices.from j ≡ Some k
+          → (reopens.opens.at j ≡ k) × (reopens.made_of k ≡ reopens.left k) × stops.IsHalfOpened g (read_in t.mirror.array devices.left k) (reopens.left k)
+      unfolding reopens opens_again opens
+      left_there j k is =
+          let there = devices.found j k is in (
+            ap place (opens_in_place.1 j) ∙ ap (λ o. unwrap_or o (many + j)) is,
+            all_left k (below-nat_lt k many (left_within k j there)),
+            subst (stops.IsHalfOpened g (read_in t.mirror.array devices.left k)) (sym (at_some k j there)) (read_alike t at_t before next.array devices from_these.array k j there),
+          )
+
       -- a member in sync of it is one that was left, and is found so
       in_sync_from : (k : ℕ) (n : MemberView) → IsInSync next.array k n → (i : ℕ) × (devices.from k ≡ Some i)
       in_sync_from k n on = by_option (devices.from k)
@@ -369,6 +388,11 @@ module _ (t : Moment) (at_t : IsSoundAt t) (next : MirrorView) (opened : MirrorV
 
     pub reopens_there : Reopens (geometry_of t.mirror.array) (super_of opened.array.shared) (history_of stop_of) (super_of next.array.shared) (world_of next none_in_flight)
     reopens_there = reopens t at_t next again.before again.devices again.opens opened same small kept again.others again.fit all_out
+
+    pub as_left : (j k : ℕ) → again.devices.from j ≡ Some k
+        → (reopens_there.opens.at j ≡ k) × (reopens_there.made_of k ≡ reopens_there.left k) × stops.IsHalfOpened (geometry_of t.mirror.array) (read_in t.mirror.array again.devices.left k) (reopens_there.left k)
+    unfolding reopens_there
+    as_left = left_there t at_t next again.before again.devices again.opens opened same small kept again.others again.fit all_out
 
     -- what the stop left on its devices
     pub cut_there : reopens_there.is_left.0 ≡ (left t at_t next again.before again.devices again.opens).cut
@@ -469,6 +493,9 @@ life_covered = at_each IsCovered always_covered
 pub life_sound : AtEachMoment IsSound
 life_sound = at_each IsSound always_sound
 
+pub life_unstored : AtEachMoment AgreesUnstored
+life_unstored = at_each AgreesUnstored always_agrees
+
 pub life_safe : AtEachMoment stops.IsSafeAtStop
 life_safe = at_each stops.IsSafeAtStop always_safe
 
@@ -478,7 +505,7 @@ life_keeps_out = at_each stops.KeepsOut always_out
 pub life_stays_out : AtEachMoment stops.StaysOut
 life_stays_out = at_each stops.StaysOut always_stays_out
 
-life_kept : AtEachMoment IsKept
+pub life_kept : AtEachMoment IsKept
 life_kept = at_each IsKept (always IsKept (λ g small opened h t. t))
 
 -- ---- what an opening finds

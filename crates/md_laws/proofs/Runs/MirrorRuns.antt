@@ -1,5 +1,5 @@
 -- A run of a mirror is a run of the model, so that the model's laws hold of it.
-use Rattle.std.proofs.Common.{◌≡◌, ℕ, Bool, List, [], ◌∷◌, ◌∙◌, ap, subst, arith}
+use Rattle.std.proofs.Common.{◌≡◌, List, [], ◌∷◌, ◌∙◌, subst, arith}
 use Rattle.md_model.specs.Sectors.{Geometry}
 use Rattle.md_model.specs.Devices.{Super}
 use Rattle.md_model.specs.Events.{Event, Step}
@@ -33,9 +33,9 @@ pub rests_run : (es : List Event) (t mid last : Moment) → HasRested t mid → 
 rests_run [] t mid last r s = record { rests = rests_then t.mirror mid.mirror last.mirror r.rests s.rests; is = s.is ∙ (λ i. record (r.is i) { mirror = last.mirror }) }
 rests_run (e ∷ es) t mid last r s =
     let x = subst (λ (m : Moment). MirrorRun m (e ∷ es) last) r.is s in
-    let spoiled = ap (λ (w : World). spoiled_after e w t.spoiled) (world_rests t.mirror mid.mirror r.rests t.requests) in
-    let rest = subst (λ (f : ℕ → Bool). MirrorRun (record (then_as t e x.0 x.1) { spoiled = f }) es last) spoiled x.3 in
-    (x.0, x.1, record { mid = x.2.mid; rests = rests_then t.mirror mid.mirror x.2.mid r.rests x.2.rests; does = x.2.does }, rest)
+    let same : then_as (record t { mirror = mid.mirror }) e x.0 x.1 ≡ then_as t e x.0 x.1 =
+    λ i. record (then_as t e x.0 x.1) { spoiled = spoiled_after e (world_rests t.mirror mid.mirror r.rests t.requests i) t.spoiled } in
+    (x.0, x.1, record { mid = x.2.mid; rests = rests_then t.mirror mid.mirror x.2.mid r.rests x.2.rests; does = x.2.does }, subst (λ (m : Moment). MirrorRun m es last) same x.3)
 
 module _ (before : List Disk) (m : MirrorView) (start : IsStart before m) where
   abbrev g : Geometry

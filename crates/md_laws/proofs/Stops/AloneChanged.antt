@@ -115,7 +115,7 @@ stops_as_prepared k old new left honest prepares may =
     )
 
 -- ---- within the writes of an enrolment
-used_alone : (k : ℕ) (before after : List Disk) (left : List (List ℕ)) (Change : Disk → Disk → Type 0) (P : List ℕ → List ℕ → Type 0) → IsUsedAlone k before after Change → MayAllBeLeft before after left
+pub used_alone : (k : ℕ) (before after : List Disk) (left : List (List ℕ)) (Change : Disk → Disk → Type 0) (P : List ℕ → List ℕ → Type 0) → IsUsedAlone k before after Change → MayAllBeLeft before after left
     → ((d e : Disk) (c : List ℕ) → slice_get before k ≡ Some d → Change d e → MayBeLeft d e c → P d.content c) → IsLeftBut k P before left
 used_alone k before after left Change P is may this =
     let many = is.as_many in

@@ -1,5 +1,5 @@
 -- What a stop leaves within a call is what one leaves between two calls, or in the midst of a write of data.
-use Rattle.std.proofs.Common.{◌≡◌, ◌≢◌, ℕ, ◌+◌, ◌*◌, ◌/◌, ◌<◌, ◌≤◌, ◌⊎◌, inl, inr, Bool, true, false, true≢false, List, [], ◌∷◌, length, set, slice_get, Option, Some, None, refl, sym, ap, ◌∙◌, subst, arith, length-set}
+use Rattle.std.proofs.Common.{◌≡◌, ◌≢◌, ℕ, ◌+◌, ◌*◌, ◌/◌, ◌<◌, ◌≤◌, ◌⊎◌, inl, inr, Bool, true, false, cond, eqb, true≢false, List, [], ◌∷◌, length, set, slice_get, Option, Some, None, refl, sym, ap, ◌∙◌, subst, arith, length-set}
 use Rattle.std.proofs.lemmas.List.{length_push}
 use Rattle.std.proofs.lemmas.Option.{same_Some, slice_get_within}
 use Rattle.md_device.specs.Device.{written}
@@ -14,10 +14,12 @@ use Rattle.md_writes.specs.Writes.{IsCutShort, Write}
 use Rattle.md_model.specs.Content.{Becomes, Content}
 use Rattle.md_model.specs.Devices.{Stored, Super}
 use Rattle.md_model.specs.Events.{Event}
+use Rattle.md_model.specs.Recovering.{JoinsBehind}
+use Rattle.md_model.specs.Sectors.{block_of}
 use Rattle.md_model.specs.Steps as model_steps
 use Rattle.md_model.specs.Stops as stops
 use Rattle.md_model.specs.Worlds.{World}
-use Rattle.md_model.proofs.Cases.{none_some}
+use Rattle.md_model.proofs.Cases.{by_test, none_some}
 use Rattle.md_model.proofs.Puts.{by_same, put-at}
 use Rattle.md_requests.specs.Pending.{request_sectors}
 use Rattle.md_assembly.specs.States.{is_recorded}
@@ -38,6 +40,7 @@ use Rattle.md_array.specs.Recording.{MayRecord, Records, super_write}
 use Rattle.md_array.specs.Worlds.{block_on, is_listed, stored_of, stored_on, super_in, super_of, world_of}
 use Rattle.md_laws.specs.StopsWithin.{MayAllBeLeft}
 use Rattle.md_laws.specs.Left.{IsLeft, IsLeftEnrolled, IsLeftEnrolling, IsLeftFilling, IsLeftPreparing, IsLeftRecording, IsLeftRecordingShort, IsLeftTakingBack, IsLeftTargeted, IsLeftTargeting, IsLeftWriting, contents_of}
+use Rattle.md_laws.specs.Recovering.{MirrorRunJoins}
 use Rattle.md_laws.specs.Runs.{MirrorRun, MirrorRunWith, Moment, history_of, then_as}
 use Rattle.md_laws.specs.StopsReadAs.{ReadsAs}
 use Rattle.md_array.proofs.Rebuilding.FilledEvent.{fill_happens}
@@ -82,17 +85,47 @@ pub record IsLeftDevice (a : ArrayView) (m : MemberView) (failed_at : ℕ) (spoi
   pub read : IsReadAsKept a m failed_at spoiled content
 
 -- ---- what is left, sorted: after no event, or after one within whose call the stop came
+-- what is kept of recovering members, and the marks, stay; and what is known to be stored, is so
+pub record KeepsMemory (w next : World) : Type 0 where
+  pub state : (k : ℕ) → next.state k ≡ w.state k
+  pub offset : (k : ℕ) → next.offset k ≡ w.offset k
+  pub bad : (k s : ℕ) → next.bad k s ≡ w.bad k s
+  pub marks : (c : ℕ) → next.marks c ≡ w.marks c
+  pub request : (n : ℕ) → next.request n ≡ w.request n
+  pub known : (i c : ℕ) → w.marks c ≡ true → w.known i c ≡ true → next.known i c ≡ true
+
+same_memory : (w : World) (stored : ℕ → Stored) (due : ℕ → Bool) → KeepsMemory w (record w { stored = stored; due = due })
+same_memory w stored due = record { state = λ _. refl; offset = λ _. refl; bad = λ _ _. refl; marks = λ _. refl; request = λ _. refl; known = λ _ _ _ at. at }
+
+device_memory : (w : World) (k : ℕ) (left : Stored) (next : World) → next ≡ model_steps.with_device w k left → KeepsMemory w next
+device_memory w k left next is = subst (KeepsMemory w) (sym is) (same_memory w (model_steps.with_device w k left).stored w.due)
+
+marks_memory : (w : World) (k b : ℕ) → KeepsMemory w (model_steps.marks_stored w k b)
+marks_memory w k b = record {
+  state = λ _. refl;
+  offset = λ _. refl;
+  bad = λ _ _. refl;
+  marks = λ _. refl;
+  request = λ _. refl;
+  known = λ i c marked known. put-at k (model_steps.bits_after w b (w.known k)) w.known i (λ (bits : ℕ → Bool). bits c ≡ true)
+      (λ here. by_test (eqb (block_of c) b)
+      (λ at. ap (λ x. cond x (w.marks c) (w.known k c)) at ∙ marked)
+      (λ off. ap (λ x. cond x (w.marks c) (w.known k c)) off ∙ sym (ap (λ (j : ℕ). w.known j c) here) ∙ known))
+      (λ _. known);
+}
+
 pub record IsSorted (t : Moment) (left : List Disk) : Type 0 where
   pub events : List Event
   pub few : length events ≤ 1
   pub moment : Moment
   pub run : MirrorRun t events moment
   pub still : (a : Content) → MirrorRunWith t a events moment a
+  pub joins : (a : Content) → MirrorRunJoins t a events moment a (still a)
   pub counted : moment.failed_at ≡ t.failed_at
   pub away : (d : ℕ) → moment.away d ≡ t.away d
   pub tried : moment.tried ≡ t.tried
   pub spoiled : (k : ℕ) → t.spoiled k ≡ false → moment.spoiled k ≡ false
-  pub state : (k : ℕ) → (history_of moment).now.state k ≡ (world_of t.mirror t.requests).state k
+  pub memory : KeepsMemory (world_of t.mirror t.requests) (history_of moment).now
   pub count : (history_of moment).now.events ≡ (world_of t.mirror t.requests).events
   pub cut : ℕ → Stored
   pub is_cut : stops.IsCut (geometry_of t.mirror.array) (history_of moment).now cut
@@ -106,11 +139,12 @@ sorted_like t found left same s = record {
   moment = s.moment;
   run = s.run;
   still = s.still;
+  joins = s.joins;
   counted = s.counted;
   away = s.away;
   tried = s.tried;
   spoiled = s.spoiled;
-  state = s.state;
+  memory = s.memory;
   count = s.count;
   cut = s.cut;
   is_cut = s.is_cut;
@@ -155,11 +189,12 @@ module _ (t : Moment) (at : IsSoundAt t) where
     moment = t;
     run = at_rest t;
     still = λ x. (at_rest t, refl);
+    joins = λ _. tt;
     counted = refl;
     away = λ _. refl;
     tried = refl;
     spoiled = λ _ clear. clear;
-    state = λ _. refl;
+    memory = same_memory (world_of v t.requests) (world_of v t.requests).stored (world_of v t.requests).due;
     count = refl;
     cut = (world_of v t.requests).stored;
     is_cut = inl refl;
@@ -244,11 +279,12 @@ module _ (t : Moment) (at : IsSoundAt t) where
         moment = t;
         run = at_rest t;
         still = λ x. (at_rest t, refl);
+        joins = λ _. tt;
         counted = refl;
         away = λ _. refl;
         tried = refl;
         spoiled = λ _ clear. clear;
-        state = λ _. refl;
+        memory = same_memory (world_of v t.requests) (world_of v t.requests).stored (world_of v t.requests).due;
         count = refl;
         cut = read_in a torn.found;
         is_cut = inr (subst (λ r. stops.IsTorn (geometry_of a) (world_of v r) (read_in a torn.found)) (sym l.in_flight) torn_cut);
@@ -299,11 +335,12 @@ module _ (t : Moment) (at : IsSoundAt t) where
           moment = then_as t e_marks next t.requests;
           run = (next, t.requests, at_once v next t.requests t.requests e_marks does, at_rest (then_as t e_marks next t.requests));
           still = λ x. (next, t.requests, x, at_once v next t.requests t.requests e_marks does, refl, (at_rest (then_as t e_marks next t.requests), refl));
+          joins = λ _. (tt, tt);
           counted = refl;
           away = λ _. refl;
           tried = refl;
           spoiled = λ _ clear. clear;
-          state = λ j. ap (λ (w : World). w.state j) does.step.1.1;
+          memory = subst (KeepsMemory (world_of v t.requests)) (sym does.step.1.1) (marks_memory (world_of v t.requests) k block);
           count = ap (λ (w : World). w.events) does.step.1.1;
           cut = (world_of next t.requests).stored;
           is_cut = inl refl;
@@ -370,11 +407,12 @@ module _ (t : Moment) (at : IsSoundAt t) where
         moment = t;
         run = at_rest t;
         still = λ x. (at_rest t, refl);
+        joins = λ _. tt;
         counted = refl;
         away = λ _. refl;
         tried = refl;
         spoiled = λ _ clear. clear;
-        state = λ _. refl;
+        memory = same_memory (world_of v t.requests) (world_of v t.requests).stored (world_of v t.requests).due;
         count = refl;
         cut = (world_of v t.requests).stored;
         is_cut = inl refl;
@@ -468,11 +506,13 @@ module _ (t : Moment) (at : IsSoundAt t) where
               moment = then_as t (Event.Record k) next t.requests;
               run = (next, t.requests, at_once v next t.requests t.requests (Event.Record k) does, at_rest (then_as t (Event.Record k) next t.requests));
               still = λ x. (next, t.requests, x, at_once v next t.requests t.requests (Event.Record k) does, refl, (at_rest (then_as t (Event.Record k) next t.requests), refl));
+              joins = λ _. (tt, tt);
               counted = refl;
               away = λ _. refl;
               tried = refl;
               spoiled = λ j clear. put-at k false t.spoiled j (λ b. b ≡ false) (λ _. refl) (λ _. clear);
-              state = λ j. ap (λ (w : World). w.state j) does.step.1.3;
+              memory = subst (KeepsMemory (world_of v t.requests)) (sym does.step.1.3)
+                  (same_memory (world_of v t.requests) (model_steps.recorded (world_of v t.requests) k does.step.1.0).stored (model_steps.recorded (world_of v t.requests) k does.step.1.0).due);
               count = ap (λ (w : World). w.events) does.step.1.3;
               cut = (world_of next t.requests).stored;
               is_cut = inl refl;
@@ -574,21 +614,23 @@ module _ (t : Moment) (at : IsSoundAt t) where
   -- after an event of a member that is rebuilt, which changes nothing in memory
   changed : (e : Event) (mid : MirrorView) (does : Does v t.requests e mid t.requests) → mid.array ≡ a
       → ((x : Content) → Becomes (geometry_of a) e (world_of v t.requests) x x)
-      → ((j : ℕ) → (world_of mid t.requests).state j ≡ (world_of v t.requests).state j) → (world_of mid t.requests).events ≡ (world_of v t.requests).events
+      → ((x : Content) → JoinsBehind (geometry_of a) e (world_of v t.requests) x)
+      → KeepsMemory (world_of v t.requests) (world_of mid t.requests) → (world_of mid t.requests).events ≡ (world_of v t.requests).events
       → (then_as t e mid t.requests).tried ≡ t.tried → (then_as t e mid t.requests).failed_at ≡ t.failed_at → ((n : ℕ) → (then_as t e mid t.requests).away n ≡ t.away n)
       → ((n : ℕ) → (then_as t e mid t.requests).spoiled n ≡ t.spoiled n)
       → IsSorted t mid.disks
-  changed e mid does same becomes state count tried counted away spoiled = record {
+  changed e mid does same becomes joins memory count tried counted away spoiled = record {
     events = e ∷ [];
     few = omega arith;
     moment = then_as t e mid t.requests;
     run = (mid, t.requests, at_once v mid t.requests t.requests e does, at_rest (then_as t e mid t.requests));
     still = λ x. (mid, t.requests, x, at_once v mid t.requests t.requests e does, becomes x, (at_rest (then_as t e mid t.requests), refl));
+    joins = λ x. (joins x, tt);
     counted = counted;
     away = away;
     tried = tried;
     spoiled = λ n clear. spoiled n ∙ clear;
-    state = state;
+    memory = memory;
     count = count;
     cut = (world_of mid t.requests).stored;
     is_cut = inl refl;
@@ -606,13 +648,13 @@ module _ (t : Moment) (at : IsSoundAt t) where
   filled : (k : ℕ) (mid : MirrorView) → Fills k v mid → IsSorted t mid.disks
   filled k mid fills =
       let does = fill_happens k v mid at.sound fills at.honest t.requests at.in_flight in
-      changed (Event.Fill k) mid does fills.array (λ _. refl) (λ j. ap (λ (w : World). w.state j) does.step.1.3) (ap (λ (w : World). w.events) does.step.1.3) refl refl (λ _. refl) (λ _. refl)
+      changed (Event.Fill k) mid does fills.array (λ _. refl) (λ _. tt) (device_memory (world_of v t.requests) k does.step.1.0 (world_of mid t.requests) does.step.1.3) (ap (λ (w : World). w.events) does.step.1.3) refl refl (λ _. refl) (λ _. refl)
 
   -- and so within a preparing
   prepared : (k : ℕ) (mid : MirrorView) → Prepares k v mid → IsSorted t mid.disks
   prepared k mid prepares =
       let does = prepare_happens k v mid at.sound prepares at.honest t.requests at.in_flight in
-      changed (Event.Prepare k) mid does prepares.array (λ _. refl) (λ j. ap (λ (w : World). w.state j) does.step.1.3) (ap (λ (w : World). w.events) does.step.1.3) refl refl (λ _. refl) (λ _. refl)
+      changed (Event.Prepare k) mid does prepares.array (λ _. refl) (λ _. tt) (device_memory (world_of v t.requests) k does.step.1.0 (world_of mid t.requests) does.step.1.3) (ap (λ (w : World). w.events) does.step.1.3) refl refl (λ _. refl) (λ _. refl)
 
   preparing : (left : List Disk) → IsLeftPreparing t left → IsSorted t left
   preparing left l =

@@ -1,5 +1,5 @@
 -- What a stop leaves within a call by which a member that is rebuilt tells of it, the write of its superblock might leave that failed.
-use Rattle.std.proofs.Common.{◌≡◌, ◌≢◌, ◌⊎◌, ℕ, zero, suc, ◌+◌, ◌*◌, ◌<◌, inl, inr, true, List, [], ◌∷◌, length, length-set, map, set, slice_get, Some, false, refl, sym, ap, ◌∙◌, subst, arith}
+use Rattle.std.proofs.Common.{◌≡◌, ◌≢◌, ◌⊎◌, ℕ, zero, suc, ◌+◌, ◌*◌, ◌<◌, inl, inr, true, List, [], ◌∷◌, ◌++◌, append_assoc, length, length-set, map, set, slice_get, Some, false, refl, sym, ap, ◌∙◌, subst, arith}
 use Rattle.std.proofs.lemmas.Option.{none-some, same_Some, slice_get_within}
 use Rattle.md_assembly.proofs.Indices.{got_same, got_within}
 use Rattle.md_bitmap.specs.Marks.{Bitmap}
@@ -9,21 +9,24 @@ use Rattle.md_state.specs.DeviceChanges.{StaysHonest}
 use Rattle.md_state.specs.DiskWrites.{IsFailed, IsTried, IsWritten}
 use Rattle.md_state.specs.Members.{IsMember}
 use Rattle.md_state.specs.Missing.{is_rebuilt}
-use Rattle.md_state.specs.View.{Disk, MirrorView}
-use Rattle.md_writes.specs.Writes.{IsAnyIn, IsCutShort, Write}
+use Rattle.md_state.specs.View.{Disk, MirrorView, of_disks}
+use Rattle.md_members.specs.Areas.{bitmap_sectors}
+use Rattle.md_writes.specs.Bitmaps.{bitmap_writes}
+use Rattle.md_writes.specs.Writes.{FailsInWrites, IsAnyIn, IsCutShort, Write, after}
 use Rattle.md_array.specs.Consistency.{IsConsistent}
-use Rattle.md_array.specs.Enrolling.{Enrols, MayEnrol}
-use Rattle.md_array.specs.Enrolments.{Prepares, prepared}
+use Rattle.md_array.specs.Enrolling.{Enrols, FailsToEnrol, MayEnrol, log_writes}
+use Rattle.md_array.specs.Enrolments.{FailsAtSuper, Prepares, prepared, writes_before}
 use Rattle.md_array.specs.Events.{HasFailed, IsSameBesideMarks}
 use Rattle.md_array.specs.Recording.{write_of}
-use Rattle.md_array.specs.Spoiling.{SpoilsTarget}
 use Rattle.md_array.specs.Worlds.{AreHonest}
-use Rattle.md_laws.specs.Spoiled.{IsLeftSpoiled, StopsAsSpoiled, StopsAtEnrolAsSpoiled}
+use Rattle.md_laws.specs.Spoiled.{IsLeftSpoiled, StopsAsSpoiled, StopsAtEnrolAsSpoiled, StopsAtFailedEnrolAsSpoiled}
 use Rattle.md_laws.specs.StopsWithin.{IsLeftBut, MayAllBeLeft}
 use Rattle.md_array.proofs.General.Indices.{got_other}
-use Rattle.md_array.proofs.Rebuilding.CutBefore.{cut_enrol}
+use Rattle.md_array.proofs.Rebuilding.CutBefore.{cut_enrol, cut_first}
+use Rattle.md_array.proofs.Rebuilding.EnrolSpoils.{ends_alike, enrols_instead, instead}
 use Rattle.md_array.proofs.Rebuilding.InBetween.{may_rebuild_it, prepared_is, prepares, then_at, then_disk}
-use Rattle.md_laws.proofs.Stops.AloneChanged.{contents_with, found_alone, stops_at_enrol, with_contents}
+use Rattle.md_laws.proofs.Stops.AloneChanged.{contents_with, found_alone, stops_at_enrol, used_alone, with_contents}
+use Rattle.md_laws.proofs.Stops.AtSteps.{new_has}
 use Rattle.md_laws.proofs.Stops.AsFailed.{failed_as_tried, left_as_tried, stops_as_tried}
 
 -- ---- one device has failed once more
@@ -112,11 +115,8 @@ stops_as_spoiled k m old new left honest at rebuilt call may =
     ]
 
 -- ---- within an enrolment
-module _ (k : ℕ) (copied orphans : Bitmap) (old new : MirrorView) (left : List (List ℕ)) (c : IsConsistent old) (honest : AreHonest old.disks) (may : MayEnrol k copied orphans old)
-    (r : Enrols k copied orphans old new) (left_so : MayAllBeLeft old.disks new.disks left) where
-  but : IsLeftBut k (λ was x. IsCutShort was r.writes x) old.disks left
-  but = stops_at_enrol k copied orphans old new left honest r left_so
-
+module _ (k : ℕ) (copied orphans : Bitmap) (old new : MirrorView) (left : List (List ℕ)) (c : IsConsistent old) (may : MayEnrol k copied orphans old) (r : Enrols k copied orphans old new)
+    (P : List ℕ → List ℕ → Type 0) (but : IsLeftBut k P old.disks left) where
   -- before the superblock is written
   early : IsLeftBut k (IsSameBesideMarks old.array r.comes.member) old.disks left → (mid : MirrorView) × Prepares k old mid × (map (λ (d : Disk). d.content) mid.disks ≡ left)
   early same = (
@@ -151,24 +151,85 @@ module _ (k : ℕ) (copied orphans : Bitmap) (old new : MirrorView) (left : List
         subst (λ (v : MirrorView). IsLeftSpoiled k v left) (sym is)
         (spoiled_by k r.comes.member mid w.bytes left r.comes.at (may_rebuild_it k copied orphans old new c r may).rebuilt r.may.running r.readable.size f.0 f.1 f.2)
 
+  -- of member k its bitmap and its log may be other than before, or its superblock than after them
+  by_write : ((d : Disk) (was : slice_get old.disks k ≡ Some d) (x : List ℕ) → P d.content x
+      → IsSameBesideMarks old.array r.comes.member d.content x ⊎ SameOutside (512 * 8) 4096 (then_disk k copied orphans old new c r d was).content x)
+      → (mid : MirrorView) × Prepares k old mid × ((map (λ (d : Disk). d.content) mid.disks ≡ left) ⊎ IsLeftSpoiled k mid left)
+  by_write cut =
+      let low = slice_get_within old.array.members k r.comes.member r.comes.at in
+      let many = c.fits.as_many in
+      let long = but.as_many in
+      let d = got_within old.disks k (omega arith) in
+      let x = got_within left k (omega arith) in
+      elim (cut d.0 d.1 x.0 (but.this d.0 x.0 d.1 x.1)) [
+        | inl same ↦
+            let p = early (record {
+              as_many = but.as_many;
+              others = but.others;
+              this = λ e y was there.
+                  let one : e ≡ d.0 = got_same old.disks k e d.0 was d.1 in
+                  let two : y ≡ x.0 = same_Some y x.0 (sym there ∙ x.1) in
+                  rw (one, two) same;
+            }) in
+            (p.0, p.1, inl p.2)
+        | inr outside ↦ (prepared r, prepares k copied orphans old new c r may, inr (late d.0 d.1 x.0 x.1 outside))
+      ]
+
 pub stops_at_enrol_as_spoiled : StopsAtEnrolAsSpoiled
 stops_at_enrol_as_spoiled k copied orphans old new left c honest may r left_so =
-    let cut = but k copied orphans old new left c honest may r left_so in
-    let low = slice_get_within old.array.members k r.comes.member r.comes.at in
-    let many = c.fits.as_many in
-    let long = cut.as_many in
-    let d = got_within old.disks k (omega arith) in
-    let x = got_within left k (omega arith) in
-    elim (cut_enrol k copied orphans old new c r d.0 d.1 x.0 (cut.this d.0 x.0 d.1 x.1)) [
-      | inl same ↦
-          let p = early k copied orphans old new left c honest may r left_so (record {
-            as_many = cut.as_many;
-            others = cut.others;
-            this = λ e y was there.
-                let one : e ≡ d.0 = got_same old.disks k e d.0 was d.1 in
-                let two : y ≡ x.0 = same_Some y x.0 (sym there ∙ x.1) in
-                rw (one, two) same;
-          }) in
-          (p.0, p.1, inl p.2)
-      | inr outside ↦ (prepared r, prepares k copied orphans old new c r may, inr (late k copied orphans old new left c honest may r left_so d.0 d.1 x.0 x.1 outside))
-    ]
+    by_write k copied orphans old new left c may r (λ was x. IsCutShort was r.writes x) (stops_at_enrol k copied orphans old new left honest r left_so) (cut_enrol k copied orphans old new c r)
+
+-- ---- within one of which the last write failed
+module _ (k : ℕ) (copied orphans : Bitmap) (old new : MirrorView) (left : List (List ℕ)) (c : IsConsistent old) (honest : AreHonest old.disks) (f : FailsToEnrol k copied orphans old new) (s : FailsAtSuper f)
+    (left_so : MayAllBeLeft old.disks new.disks left) where
+  -- what it would be, had that not failed
+  abbrev other : MirrorView
+  other = instead k copied orphans old new c f s.disk s.is
+
+  abbrev r : Enrols k copied orphans old other
+  r = enrols_instead k copied orphans old new c f s.disk s.is
+
+  abbrev w : Write
+  w = write_of other.array.shared f.member
+
+  abbrev fails : FailsInWrites of_disks f.writes s.disk s.left
+  fails = (f.disks.change s.disk s.left s.is s.left_is).0
+
+  abbrev Failing : List ℕ → List ℕ → Type 0
+  Failing was x = IsSameBesideMarks old.array f.comes.member was x ⊎ SameOutside (512 * 8) 4096 (after was (writes_before f)) x
+
+  order : writes_before f ++ w ∷ [] ≡ fails.done ++ fails.tried ∷ []
+  order =
+      append_assoc (bitmap_writes f.are.start f.are.header f.member.stored (bitmap_sectors f.member.stored.chunks)) (log_writes f.member.superblock f.member.bad) (w ∷ [])
+      ∙ sym f.are.are ∙ fails.order ∙ ap (λ (ws : List Write). fails.done ++ fails.tried ∷ ws) s.last
+
+  failing : (x : List ℕ) → IsCutShort s.disk.content fails.done x ⊎ IsAnyIn fails.tried (after s.disk.content fails.done) x → Failing s.disk.content x
+  failing x (inl cut) =
+      inl (cut_first k copied orphans old other c r s.disk s.is x (subst (λ (ws : List Write). IsCutShort s.disk.content ws x) (sym (ends_alike (writes_before f) fails.done w fails.tried order).0) cut))
+  failing x (inr any) =
+      let same = ends_alike (writes_before f) fails.done w fails.tried order in
+      inr (subst (λ (n : ℕ). SameOutside (512 * 8) n (after s.disk.content (writes_before f)) x) f.readable.size
+      (subst (λ (ws : List Write). IsAnyIn w (after s.disk.content ws) x) (sym same.0) (subst (λ (v : Write). IsAnyIn v (after s.disk.content fails.done) x) (sym same.1) any)))
+
+  left_failing : (x : List ℕ) → slice_get left k ≡ Some x → Failing s.disk.content x
+  left_failing x found =
+      elim (left_so.each k s.disk s.left x s.is s.left_is found) [
+        | inl kept ↦ inl (subst (IsSameBesideMarks old.array f.comes.member s.disk.content) (sym kept) (record { size = refl; beside = λ at n _. refl; width = λ width. width }))
+        | inr new ↦
+            failing x (new_has s.disk.stops s.left.stops (λ c. IsCutShort s.disk.content fails.done c ⊎ IsAnyIn fails.tried (after s.disk.content fails.done) c) (fails.within (honest k s.disk s.is)) new.0 x new.1)
+      ]
+
+  but : IsLeftBut k Failing old.disks left
+  but =
+      let alone = used_alone k old.disks new.disks left _ (λ was x. Unit {0}) f.disks left_so (λ d e x was change there. tt) in
+      record {
+        as_many = alone.as_many;
+        others = alone.others;
+        this = λ d x was found. subst (λ (y : Disk). Failing y.content x) (got_same old.disks k s.disk d s.is was) (left_failing x found);
+      }
+
+  pub stops_failing : MayEnrol k copied orphans old → (mid : MirrorView) × Prepares k old mid × ((map (λ (d : Disk). d.content) mid.disks ≡ left) ⊎ IsLeftSpoiled k mid left)
+  stops_failing may = by_write k copied orphans old other left c may r Failing but (λ d was x is. is)
+
+pub stops_at_failed_enrol_as_spoiled : StopsAtFailedEnrolAsSpoiled
+stops_at_failed_enrol_as_spoiled k copied orphans old new left c honest may f s left_so = stops_failing k copied orphans old new left c honest f s left_so may

@@ -1,5 +1,7 @@
-use Rattle.md_laws.proofs.Runs.Recovering.{keeps_recovering}
+use Rattle.md_laws.proofs.Runs.LogRecorded.{says_no_more_when_recorded}
+use Rattle.md_laws.proofs.Runs.Offsets.{offsets_are_kept, says_no_more_without_list}
+use Rattle.md_laws.proofs.Runs.Recovering.{keeps_recovering, says_no_more_when_opened}
 use Rattle.md_laws.proofs.laws.recovering_members.Goals as goal
 
 pub returns : goal.returns
-returns c = record { kept = keeps_recovering }
+returns c = record { kept = keeps_recovering; as_opened = says_no_more_when_opened; offsets = offsets_are_kept; unlisted = says_no_more_without_list; recorded = says_no_more_when_recorded }

@@ -1,0 +1,321 @@
+-- What the steps of a rebuild leave as it was, until the target comes into sync.
+use Rattle.std.proofs.Common.{◌≡◌, ◌≢◌, ◌∙◌, ◌⊎◌, ◌↔◌, ℕ, ◌+◌, ◌*◌, ◌<◌, ◌≤◌, true, List, length, count_by, get_or, slice_get, Some, refl, sym, ap, subst, arith, inl, inr}
+use Rattle.std.proofs.lemmas.Bool.{cases_eq}
+use Rattle.std.proofs.lemmas.Option.{same_Some, slice_get-get_or, slice_get_within}
+use Rattle.md_assembly.specs.States.{is_in_sync_as, is_recovering, is_spare}
+use Rattle.md_badblocks.specs.declared.run.Run.{Run}
+use Rattle.md_badblocks.specs.Runs.{IsBad}
+use Rattle.md_bitmap.specs.declared.chunks.Chunks.{Chunks}
+use Rattle.md_bitmap.specs.Marks.{Bitmap}
+use Rattle.md_cert.specs.declared.slots.Slot.{Slot}
+use Rattle.md_device.specs.Splice.{SameOutside, part}
+use Rattle.md_kept_members.specs.View.{MemberView}
+use Rattle.md_pass.specs.Readings.{is_of}
+use Rattle.md_passes.specs.Listed.{IsOfFailed}
+use Rattle.md_state.specs.DiskWrites.{IsTried}
+use Rattle.md_state.specs.Members.{IsMember}
+use Rattle.md_state.specs.Missing.{is_missing}
+use Rattle.md_state.specs.View.{ArrayView, Disk, MirrorView}
+use Rattle.md_super.specs.declared.superblock.Superblock.{Superblock}
+use Rattle.md_array.specs.Enrolling.{KeepsData}
+use Rattle.md_array.specs.Lending.{IsBesideChunk, IsBesideMissing}
+use Rattle.md_array.specs.Recording.{super_write}
+use Rattle.md_copy.specs.Rebuilt.{AllCounted, HaltsFrom, HasEnded, IsBesideLacking, ListsGrow, OthersKeepData}
+use Rattle.md_copy.proofs.StartedAs.{StartsAs}
+use Rattle.md_copy.proofs.StoringKeeps.{HasPlace, HavePlaces, KeepsAll, beside_super_of, device_then, member_then}
+
+-- ---- the target
+pub record StaysTarget (m n : MemberView) : Type 0 where
+  pub state : (n.state ≡ m.state) ⊎ ((is_spare m.state ≡ true) × (is_recovering n.state ≡ true))
+  pub offset : is_recovering m.state ≡ true → m.superblock.recovery_offset ≤ n.superblock.recovery_offset
+  pub list : n.bad ≡ m.bad
+
+target_on : (l m n : MemberView) → StaysTarget l m → StaysTarget m n → StaysTarget l n
+target_on l m n x y = record {
+  state = elim y.state [
+    | inl same ↦ elim x.state [ inl was ↦ inl (same ∙ was) | inr admitted ↦ inr (admitted.0, ap is_recovering same ∙ admitted.1) ]
+    | inr now ↦ elim x.state [ inl was ↦ inr (sym (ap is_spare was) ∙ now.0, now.1) | inr admitted ↦ inr (admitted.0, now.1) ]
+  ];
+  offset = λ recovers. (let first = x.offset recovers in let second = y.offset (still recovers) in omega (arith, first, second));
+  list = y.list ∙ x.list;
+}
+  where
+    still : is_recovering l.state ≡ true → is_recovering m.state ≡ true
+    still recovers = elim x.state [ inl same ↦ ap is_recovering same ∙ recovers | inr admitted ↦ admitted.1 ]
+
+-- of which the superblock and the list are what they were, as is the state
+pub target_same : (m n : MemberView) → n.state ≡ m.state → n.superblock.recovery_offset ≡ m.superblock.recovery_offset → n.bad ≡ m.bad → StaysTarget m n
+target_same m n state offset list = record { state = inl state; offset = λ recovers. omega (arith, offset); list = list }
+
+-- ---- while data may be copied
+-- The other members keep their data, and the target those beside what it lacked. It lacks no more than before.
+pub record Preserves (target : ℕ) (old new : MirrorView) : Type 0 where
+  pub chunks : new.array.chunks ≡ old.array.chunks
+  pub marks : new.array.marks ≡ old.array.marks
+  pub then : (k : ℕ) (m : MemberView) → IsMember old.array k m → (n : MemberView) × IsMember new.array k n
+  pub disk_then : (k : ℕ) (d : Disk) → slice_get old.disks k ≡ Some d → (e : Disk) × (slice_get new.disks k ≡ Some e)
+  pub offset : (k : ℕ) (m n : MemberView) → IsMember old.array k m → IsMember new.array k n → n.superblock.data_offset ≡ m.superblock.data_offset
+  pub size : (k : ℕ) (m n : MemberView) → IsMember old.array k m → IsMember new.array k n → n.superblock.data_size ≡ m.superblock.data_size
+  pub own : (m n : MemberView) → IsMember old.array target m → IsMember new.array target n → StaysTarget m n
+  pub missing : (m n : MemberView) → IsMember old.array target m → IsMember new.array target n → (c : ℕ) → c < old.array.marks.chunks → is_missing new.array n c ≡ true → is_missing old.array m c ≡ true
+  pub others : OthersKeepData target old new
+  pub beside : (d e : Disk) (m : MemberView) → slice_get old.disks target ≡ Some d → slice_get new.disks target ≡ Some e → IsMember old.array target m
+      → (i n : ℕ) → IsBesideLacking old.array m i n → part e.content i n ≡ part d.content i n
+
+pub preserves_none : (target : ℕ) (v : MirrorView) → Preserves target v v
+preserves_none target v = record {
+  chunks = refl;
+  marks = refl;
+  then = λ k m at. (m, at);
+  disk_then = λ k d at. (d, at);
+  offset = λ k m n at there. ap (λ (z : MemberView). z.superblock.data_offset) (same_Some n m (sym there ∙ at));
+  size = λ k m n at there. ap (λ (z : MemberView). z.superblock.data_size) (same_Some n m (sym there ∙ at));
+  own = λ m n at there.
+      (let same = same_Some n m (sym there ∙ at) in
+      target_same m n (ap (λ (z : MemberView). z.state) same) (ap (λ (z : MemberView). z.superblock.recovery_offset) same) (ap (λ (z : MemberView). z.bad) same));
+  missing = λ m n at there c low is. sym (ap (λ (z : MemberView). is_missing v.array z c) (same_Some n m (sym there ∙ at))) ∙ is;
+  others = λ j d e m other at_d at_e at_m i n from to. ap (λ (z : Disk). part z.content i n) (same_Some e d (sym at_e ∙ at_d));
+  beside = λ d e m at_d at_e at_m i n h. ap (λ (z : Disk). part z.content i n) (same_Some e d (sym at_e ∙ at_d));
+}
+
+pub preserves_on : (target : ℕ) (old mid new : MirrorView) → Preserves target old mid → Preserves target mid new → Preserves target old new
+preserves_on target old mid new x y = record {
+  chunks = y.chunks ∙ x.chunks;
+  marks = y.marks ∙ x.marks;
+  then = λ k m at. (let n = x.then k m at in y.then k n.0 n.1);
+  disk_then = λ k d at. (let e = x.disk_then k d at in y.disk_then k e.0 e.1);
+  offset = λ k m o at there. (let n = x.then k m at in y.offset k n.0 o n.1 there ∙ x.offset k m n.0 at n.1);
+  size = λ k m o at there. (let n = x.then k m at in y.size k n.0 o n.1 there ∙ x.size k m n.0 at n.1);
+  own = λ m o at there. (let n = x.then target m at in target_on m n.0 o (x.own m n.0 at n.1) (y.own n.0 o n.1 there));
+  missing = λ m o at there c low is. (let n = x.then target m at in x.missing m n.0 at n.1 c low (y.missing n.0 o n.1 there c (low_then c low) is));
+  others = λ j d f m other at_d at_f at_m i n from to.
+      (let e = x.disk_then j d at_d in
+      let o = x.then j m at_m in
+      let offset = x.offset j m o.0 at_m o.1 in
+      let size = x.size j m o.0 at_m o.1 in
+      y.others j e.0 f o.0 other e.1 at_f o.1 i n (omega (arith, offset, from)) (omega (arith, offset, size, to)) ∙ x.others j d e.0 m other at_d e.1 at_m i n from to);
+  beside = λ d f m at_d at_f at_m i n h.
+      (let e = x.disk_then target d at_d in
+      let o = x.then target m at_m in
+      y.beside e.0 f o.0 e.1 at_f o.1 i n (later m o.0 at_m o.1 i n h) ∙ x.beside d e.0 m at_d e.1 at_m i n h);
+}
+  where
+    low_then : (c : ℕ) → c < old.array.marks.chunks → c < mid.array.marks.chunks
+    low_then c low = subst (λ (b : Bitmap). c < b.chunks) (sym x.marks) low
+
+    later : (m o : MemberView) → IsMember old.array target m → IsMember mid.array target o → (i n : ℕ) → IsBesideLacking old.array m i n → IsBesideLacking mid.array o i n
+    later m o at there i n h =
+        let offset = x.offset target m o at there in
+        let size = x.size target m o at there in
+        record {
+          from = (let from = h.from in omega (arith, offset, from));
+          to = (let to = h.to in omega (arith, offset, size, to));
+          beside = λ c low is.
+              (let before = subst (λ (b : Bitmap). c < b.chunks) x.marks low in
+              subst (λ (q : Chunks). IsBesideChunk q o.superblock.data_offset i n c) (sym x.chunks)
+              (subst (λ (p : ℕ). IsBesideChunk old.array.chunks p i n c) (sym offset) (h.beside c before (x.missing m o at there c before is))));
+        }
+
+-- in memory all is as it was
+pub preserves_same : (target : ℕ) (old new : MirrorView) → new.array ≡ old.array → length new.disks ≡ length old.disks → OthersKeepData target old new
+    → ((d e : Disk) (m : MemberView) → slice_get old.disks target ≡ Some d → slice_get new.disks target ≡ Some e → IsMember old.array target m → (i n : ℕ) → IsBesideLacking old.array m i n → part e.content i n ≡ part d.content i n)
+    → Preserves target old new
+preserves_same target old new same as_many others beside =
+    let none = preserves_none target old in
+    record {
+      chunks = ap (λ (a : ArrayView). a.chunks) same;
+      marks = ap (λ (a : ArrayView). a.marks) same;
+      then = λ j m at. (m, ap (λ (a : ArrayView). slice_get a.members j) same ∙ at);
+      disk_then = λ j d at. (let low = slice_get_within old.disks j d at in (get_or new.disks j d, slice_get-get_or new.disks j d (omega (arith, low, as_many))));
+      offset = λ j m n at there. none.offset j m n at (before j n there);
+      size = λ j m n at there. none.size j m n at (before j n there);
+      own = λ m n at there. none.own m n at (before target n there);
+      missing = λ m n at there c low is. none.missing m n at (before target n there) c low (ap (λ (a : ArrayView). is_missing a n c) (sym same) ∙ is);
+      others = others;
+      beside = beside;
+    }
+  where
+    before : (j : ℕ) (n : MemberView) → IsMember new.array j n → IsMember old.array j n
+    before j n there = sym (ap (λ (a : ArrayView). slice_get a.members j) same) ∙ there
+
+-- from before the call to where passes may be planned, or where the target was admitted
+pub preserves_started : (target : ℕ) (old v : MirrorView) → StartsAs target old v → ((m n : MemberView) → IsMember old.array target m → IsMember v.array target n → StaysTarget m n) → Preserves target old v
+preserves_started target old v st own = record {
+  chunks = st.chunks;
+  marks = st.marks;
+  then = λ k m at. (let n = st.then k m at in (n.0, n.1));
+  disk_then = st.disk_then;
+  offset = λ k m n at there. (let z = st.then k m at in ap (λ (x : MemberView). x.superblock.data_offset) (same_Some n z.0 (sym there ∙ z.1)) ∙ z.2.offset);
+  size = λ k m n at there. (let z = st.then k m at in ap (λ (x : MemberView). x.superblock.data_size) (same_Some n z.0 (sym there ∙ z.1)) ∙ z.2.size);
+  own = own;
+  missing = λ m n at there c low is. sym (st.missing m n at there c low) ∙ is;
+  others = λ j d e m other at_d at_e at_m. st.kept j d e m at_d at_e at_m;
+  beside = λ d e m at_d at_e at_m i n h. st.kept target d e m at_d at_e at_m i n h.from h.to;
+}
+
+-- ---- from then on
+-- No data change any more, nor does a list.
+pub record KeepsRest (target : ℕ) (old new : MirrorView) : Type 0 where
+  pub then : (k : ℕ) (m : MemberView) → IsMember old.array k m → (n : MemberView) × IsMember new.array k n
+  pub disk_then : (k : ℕ) (d : Disk) → slice_get old.disks k ≡ Some d → (e : Disk) × (slice_get new.disks k ≡ Some e)
+  pub offset : (k : ℕ) (m n : MemberView) → IsMember old.array k m → IsMember new.array k n → n.superblock.data_offset ≡ m.superblock.data_offset
+  pub size : (k : ℕ) (m n : MemberView) → IsMember old.array k m → IsMember new.array k n → n.superblock.data_size ≡ m.superblock.data_size
+  pub own : (m n : MemberView) → IsMember old.array target m → IsMember new.array target n → StaysTarget m n
+  pub bad : (k : ℕ) (m n : MemberView) → IsMember old.array k m → IsMember new.array k n → n.bad ≡ m.bad
+  pub counted : (k : ℕ) (d e : Disk) → slice_get old.disks k ≡ Some d → slice_get new.disks k ≡ Some e → d.failures ≤ e.failures
+  pub keeps : (k : ℕ) (d e : Disk) (m : MemberView) → slice_get old.disks k ≡ Some d → slice_get new.disks k ≡ Some e → IsMember old.array k m → KeepsData m d e
+
+pub rest_none : (target : ℕ) (v : MirrorView) → KeepsRest target v v
+rest_none target v =
+    let none = preserves_none target v in
+    record {
+      then = none.then;
+      disk_then = none.disk_then;
+      offset = none.offset;
+      size = none.size;
+      own = none.own;
+      bad = λ k m n at there. ap (λ (z : MemberView). z.bad) (same_Some n m (sym there ∙ at));
+      counted = λ k d e at_d at_e. (let same = ap (λ (z : Disk). z.failures) (same_Some e d (sym at_e ∙ at_d)) in omega (arith, same));
+      keeps = λ k d e m at_d at_e at_m i n from to. ap (λ (z : Disk). part z.content i n) (same_Some e d (sym at_e ∙ at_d));
+    }
+
+pub rest_on : (target : ℕ) (old mid new : MirrorView) → KeepsRest target old mid → KeepsRest target mid new → KeepsRest target old new
+rest_on target old mid new x y = record {
+  then = λ k m at. (let n = x.then k m at in y.then k n.0 n.1);
+  disk_then = λ k d at. (let e = x.disk_then k d at in y.disk_then k e.0 e.1);
+  offset = λ k m o at there. (let n = x.then k m at in y.offset k n.0 o n.1 there ∙ x.offset k m n.0 at n.1);
+  size = λ k m o at there. (let n = x.then k m at in y.size k n.0 o n.1 there ∙ x.size k m n.0 at n.1);
+  own = λ m o at there. (let n = x.then target m at in target_on m n.0 o (x.own m n.0 at n.1) (y.own n.0 o n.1 there));
+  bad = λ k m o at there. (let n = x.then k m at in y.bad k n.0 o n.1 there ∙ x.bad k m n.0 at n.1);
+  counted = λ k d f at_d at_f.
+      (let e = x.disk_then k d at_d in
+      let first = x.counted k d e.0 at_d e.1 in
+      let second = y.counted k e.0 f e.1 at_f in
+      omega (arith, first, second));
+  keeps = λ k d f m at_d at_f at_m i n from to.
+      (let e = x.disk_then k d at_d in
+      let o = x.then k m at_m in
+      let offset = x.offset k m o.0 at_m o.1 in
+      let size = x.size k m o.0 at_m o.1 in
+      y.keeps k e.0 f o.0 e.1 at_f o.1 i n (omega (arith, offset, from)) (omega (arith, offset, size, to)) ∙ x.keeps k d e.0 m at_d e.1 at_m i n from to);
+}
+
+-- so, while data may be copied still
+pub preserves_rest : (target : ℕ) (old new : MirrorView) → KeepsRest target old new → new.array.chunks ≡ old.array.chunks → new.array.marks ≡ old.array.marks
+    → ((m n : MemberView) → IsMember old.array target m → IsMember new.array target n → (c : ℕ) → c < old.array.marks.chunks → is_missing new.array n c ≡ true → is_missing old.array m c ≡ true) → Preserves target old new
+preserves_rest target old new x chunks marks missing = record {
+  chunks = chunks;
+  marks = marks;
+  then = x.then;
+  disk_then = x.disk_then;
+  offset = x.offset;
+  size = x.size;
+  own = x.own;
+  missing = missing;
+  others = λ j d e m other at_d at_e at_m. x.keeps j d e m at_d at_e at_m;
+  beside = λ d e m at_d at_e at_m i n h. x.keeps target d e m at_d at_e at_m i n h.from h.to;
+}
+
+-- marks and superblocks were stored, and the target is in the state in which it was
+pub rest_stored : (target : ℕ) (old new : MirrorView) → KeepsAll old new → HavePlaces new → ((m n : MemberView) → IsMember old.array target m → IsMember new.array target n → n.state ≡ m.state) → KeepsRest target old new
+rest_stored target old new keeps places state = record {
+  then = member_then old new keeps;
+  disk_then = device_then old new keeps;
+  offset = λ k m n at there. ap (λ (s : Superblock). s.data_offset) (keeps.each k m n at there).superblock;
+  size = λ k m n at there. ap (λ (s : Superblock). s.data_size) (keeps.each k m n at there).superblock;
+  own = λ m n at there.
+      (let same = keeps.each target m n at there in target_same m n (state m n at there) (ap (λ (s : Superblock). s.recovery_offset) same.superblock) same.bad);
+  bad = λ k m n at there. (keeps.each k m n at there).bad;
+  counted = keeps.counted;
+  keeps = λ k d e m at_d at_e at_m. keeps.area places k d e m at_d at_e at_m;
+}
+
+-- One device was used, beside its member's data. In memory all is as it was.
+pub rest_alone : (target k : ℕ) (old new : MirrorView) → new.array ≡ old.array → length new.disks ≡ length old.disks → ((j : ℕ) → j ≢ k → slice_get new.disks j ≡ slice_get old.disks j)
+    → ((d e : Disk) → slice_get old.disks k ≡ Some d → slice_get new.disks k ≡ Some e → d.failures ≤ e.failures)
+    → ((d e : Disk) (m : MemberView) → slice_get old.disks k ≡ Some d → slice_get new.disks k ≡ Some e → IsMember old.array k m → KeepsData m d e) → KeepsRest target old new
+rest_alone target k old new same as_many others counted keeps =
+    let none = preserves_none target old in
+    record {
+      then = λ j m at. (m, ap (λ (a : ArrayView). slice_get a.members j) same ∙ at);
+      disk_then = λ j d at. (let low = slice_get_within old.disks j d at in (get_or new.disks j d, slice_get-get_or new.disks j d (omega (arith, low, as_many))));
+      offset = λ j m n at there. none.offset j m n at (before j n there);
+      size = λ j m n at there. none.size j m n at (before j n there);
+      own = λ m n at there. none.own m n at (before target n there);
+      bad = λ j m n at there. ap (λ (z : MemberView). z.bad) (same_Some n m (sym (before j n there) ∙ at));
+      counted = λ j d e at_d at_e. elim (cases_eq j k) [
+        | inl here ↦ counted d e (sym (ap (slice_get old.disks) here) ∙ at_d) (sym (ap (slice_get new.disks) here) ∙ at_e)
+        | inr other ↦ (let is = ap (λ (z : Disk). z.failures) (same_Some e d (sym at_e ∙ others j other ∙ at_d)) in omega (arith, is))
+      ];
+      keeps = λ j d e m at_d at_e at_m. elim (cases_eq j k) [
+        | inl here ↦ keeps d e m (sym (ap (slice_get old.disks) here) ∙ at_d) (sym (ap (slice_get new.disks) here) ∙ at_e) (sym (ap (slice_get old.array.members) here) ∙ at_m)
+        | inr other ↦ λ i n from to. ap (λ (z : Disk). part z.content i n) (same_Some e d (sym at_e ∙ others j other ∙ at_d))
+      ];
+    }
+  where
+    before : (j : ℕ) (n : MemberView) → IsMember new.array j n → IsMember old.array j n
+    before j n there = sym (ap (λ (a : ArrayView). slice_get a.members j) same) ∙ there
+
+-- a superblock was to be written
+pub rest_super : (target k : ℕ) (b : ArrayView) (own : MemberView) (old new : MirrorView) → HavePlaces old → IsTried k (super_write b own) old.disks new.disks → new.array ≡ old.array → length (super_write b own).bytes ≡ 4096
+    → KeepsRest target old new
+rest_super target k b own old new places tried same long =
+    rest_alone target k old new same tried.as_many tried.others (λ d e at_d at_e. (tried.stays d e at_d at_e).counted)
+    (λ d e m at_d at_e at_m. beside_super_of m d e (places.each k m d at_m at_d) (subst (λ n. SameOutside (512 * 8) n d.content e.content) long (tried.outside d e at_d at_e)))
+
+-- ---- the lists, and what the devices counted
+pub record GrowsSo (target : ℕ) (failed : List Slot) (old new : MirrorView) : Type 0 where
+  pub lists : ListsGrow target failed old.array new.array
+  pub counted : AllCounted failed old new
+
+-- no list grows, where devices count no fewer failures
+pub grows_rest : (target : ℕ) (failed : List Slot) (old mid new : MirrorView) → ((k : ℕ) (m : MemberView) → IsMember old.array k m → (n : MemberView) × IsMember mid.array k n)
+    → ((k : ℕ) (d : Disk) → slice_get old.disks k ≡ Some d → (e : Disk) × (slice_get mid.disks k ≡ Some e)) → GrowsSo target failed old mid
+    → ((k : ℕ) (m n : MemberView) → IsMember mid.array k m → IsMember new.array k n → n.bad ≡ m.bad)
+    → ((k : ℕ) (d e : Disk) → slice_get mid.disks k ≡ Some d → slice_get new.disks k ≡ Some e → d.failures ≤ e.failures) → GrowsSo target failed old new
+grows_rest target failed old mid new then disk_then g bad counted = record {
+  lists = λ k m o other at there sector.
+      (let n = then k m at in
+      subst (λ (runs : List Run). IsBad runs sector ↔ (IsBad m.bad sector ⊎ IsOfFailed old.array.chunks failed m sector)) (sym (bad k n.0 o n.1 there)) (g.lists k m n.0 other at n.1 sector));
+  counted = λ honest k role m at in_role d f at_d at_f.
+      (let e = disk_then k d at_d in
+      let first = g.counted honest k role m at in_role d e.0 at_d e.1 in
+      let second = counted k e.0 f e.1 at_f in
+      omega (arith, first, second));
+}
+
+-- ---- all of it
+pub has_ended : (target : ℕ) (failed : List Slot) (old mid last new : MirrorView) (member : MemberView) → IsMember old.array target member → Preserves target old mid → GrowsSo target failed old mid → KeepsRest target mid last
+    → (last ≡ new) ⊎ HaltsFrom last new → HasEnded target old new
+has_ended target failed old mid last new member at x grows y ends =
+    let between = x.then target member at in
+    let now = y.then target between.0 between.1 in
+    let own = target_on member between.0 now.0 (x.own member between.0 at between.1) (y.own between.0 now.0 between.1 now.1) in
+    let grown = grows_rest target failed old mid last x.then x.disk_then grows y.bad y.counted in
+    record {
+      last = last;
+      ends = ends;
+      member = member;
+      at = at;
+      now = now.0;
+      there = now.1;
+      state = own.state;
+      offset = own.offset;
+      list = own.list;
+      beside = λ d f at_d at_f i n h.
+          (let e = x.disk_then target d at_d in
+          let offset = x.offset target member between.0 at between.1 in
+          let size = x.size target member between.0 at between.1 in
+          let from = h.from in
+          let to = h.to in
+          y.keeps target e.0 f between.0 e.1 at_f between.1 i n (omega (arith, offset, from)) (omega (arith, offset, size, to)) ∙ x.beside d e.0 member at_d e.1 at i n h);
+      others = λ j d f m other at_d at_f at_m i n from to.
+          (let e = x.disk_then j d at_d in
+          let o = x.then j m at_m in
+          let offset = x.offset j m o.0 at_m o.1 in
+          let size = x.size j m o.0 at_m o.1 in
+          y.keeps j e.0 f o.0 e.1 at_f o.1 i n (omega (arith, offset, from)) (omega (arith, offset, size, to)) ∙ x.others j d e.0 m other at_d e.1 at_m i n from to);
+      failed = failed;
+      lists = grown.lists;
+      counted = grown.counted;
+    }

@@ -1,0 +1,306 @@
+-- What a rebuild leaves as it was before a pass, and once it has stopped.
+use Rattle.std.proofs.Common.{◌≡◌, ◌≢◌, ◌∙◌, ◌⊎◌, ◌↔◌, ℕ, ◌+◌, ◌<◌, ◌≤◌, max, true, false, List, [], length, length-set, count_by, get_or, slice_get, Some, None, refl, sym, ap, subst, arith, inl, inr}
+use Rattle.std.proofs.lemmas.Bool.{both_ways, cases_eq}
+use Rattle.std.proofs.lemmas.Option.{same_Some, slice_get-get_or, slice_get_within}
+use Rattle.std.proofs.Math.Nat.{le-max_left}
+use Rattle.md_assembly.proofs.Indices.{got_within}
+use Rattle.md_assembly.specs.States.{is_in_sync, is_in_sync_as, is_recovering, is_spare}
+use Rattle.md_badblocks.specs.declared.run.Run.{Run}
+use Rattle.md_badblocks.specs.Runs.{IsBad}
+use Rattle.md_bitmap.specs.Marks.{Bitmap}
+use Rattle.md_bitmap.specs.declared.chunks.Chunks.{Chunks}
+use Rattle.md_cert.specs.declared.slots.Slot.{Slot}
+use Rattle.md_device.specs.Splice.{part}
+use Rattle.md_kept_members.specs.Enrolling.{IsOfChunk}
+use Rattle.md_kept_members.specs.TakingBack.{admitted_member, with_offset}
+use Rattle.md_kept_members.specs.View.{MemberView}
+use Rattle.md_pass.specs.Readings.{is_of}
+use Rattle.md_passes.specs.Listed.{IsOfFailed}
+use Rattle.md_model.specs.Events.{Event}
+use Rattle.md_state.specs.Admitting.{admitted}
+use Rattle.md_state.specs.DiskWrites.{IsTried}
+use Rattle.md_state.specs.Members.{IsMember}
+use Rattle.md_state.specs.Missing.{is_missing}
+use Rattle.md_state.specs.View.{ArrayView, Disk, MirrorView}
+use Rattle.md_array.specs.Checkpoints.{Checkpoints, FailsToCheckpoint}
+use Rattle.md_array.specs.Consistency.{IsConsistent}
+use Rattle.md_array.specs.Enrolling.{FailsToEnrol, KeepsData}
+use Rattle.md_array.specs.InTurn.{HaltsAt}
+use Rattle.md_array.specs.Recording.{super_write}
+use Rattle.md_super.specs.declared.superblock.Superblock.{Superblock}
+use Rattle.md_metadata.specs.Storing.{IsStoring, StaysReady, Stores}
+use Rattle.md_copy.specs.Beginning.{MayRebuild}
+use Rattle.md_copy.specs.Leaving.{Leaves}
+use Rattle.md_copy.specs.Listing.{IsStoringList, StopsAtList}
+use Rattle.md_copy.specs.Readying.{AdmitsAfter, FailsAdmission}
+use Rattle.md_copy.specs.Rebuilding.{Begins}
+use Rattle.md_copy.specs.Rebuilt.{HaltsFrom}
+use Rattle.md_copy.specs.Storing.{FailsOnTarget, StopsAt}
+use Rattle.md_copy.proofs.HeldRecorded.{chunks_is, data_kept, lacked, marks_is, other_is, out_of_sync, target_same as checkpointed_is}
+use Rattle.md_copy.proofs.PassesKeep.{PassesKeep}
+use Rattle.md_copy.proofs.Readied.{after_so, ready_of, recovering_admitted, spare_is, spare_twice, stored_so}
+use Rattle.md_copy.proofs.ReadyStill.{storing_states}
+use Rattle.md_copy.proofs.Refused.{GrowsSo, KeepsRest, Preserves, StaysTarget, preserves_rest, preserves_started, rest_alone, rest_none, rest_on, rest_stored, rest_super, target_same}
+use Rattle.md_copy.proofs.StartedAs.{IsAs, StartsAs, starts_on}
+use Rattle.md_copy.proofs.StartsReadied.{starts_admitted, starts_of, starts_stored}
+use Rattle.md_copy.proofs.StoringKeeps.{places_of, storing_keeps}
+
+-- ---- what is due is stored
+module _ (target : ℕ) (old new : MirrorView) (s : Stores IsStoring old new) where
+  as_was : (k : ℕ) (m n : MemberView) → IsMember old.array k m → IsMember new.array k n → n ≡ record m { stored = n.stored; due = n.due }
+  as_was k m n at there =
+      let r : StaysReady old.array new.array k n = s.ready.each k n there in
+      subst (λ (z : MemberView). n ≡ record z { stored = n.stored; due = n.due }) (same_Some r.before m (sym r.member ∙ at)) r.same
+
+  pub target_stored : (m n : MemberView) → IsMember old.array target m → IsMember new.array target n → StaysTarget m n
+  target_stored m n at there =
+      let is = as_was target m n at there in
+      target_same m n (ap (λ (z : MemberView). z.state) is) (ap (λ (z : MemberView). z.superblock.recovery_offset) is) (ap (λ (z : MemberView). z.bad) is)
+
+  pub rest_stores : KeepsRest target old new
+  rest_stores = rest_stored target old new (storing_keeps old new s.goes) (places_of new s.goes.sound) (λ m n at there. ap (λ (z : MemberView). z.state) (as_was target m n at there))
+
+-- ---- and it is not all stored
+-- up to the end, or to right before a write that halted the mirror
+pub record StopsSo (target : ℕ) (old new : MirrorView) : Type 0 where
+  pub last : MirrorView
+  pub rest : KeepsRest target old last
+  pub ends : (last ≡ new) ⊎ HaltsFrom last new
+
+pub stops_so : (target k : ℕ) (old new : MirrorView) → StopsAt target k old new → StopsSo target old new
+stops_so target k old new h = elim h.ends [
+  | inl lost ↦
+      let goes = lost.loses.goes in
+      record {
+        last = new;
+        rest = rest_stored target old new (storing_keeps old new goes) (places_of new goes.sound)
+            (λ m n at there. (let x = storing_states target k old new h.other lost n there in x.2 ∙ ap (λ (z : MemberView). z.state) (same_Some x.0 m (sym x.1 ∙ at))));
+        ends = inl refl;
+      }
+  | inr at ↦ record { last = at.mid; rest = rest_stores target old at.mid at.stores; ends = inr (record { failing = at.failing; of = at.of; halts = at.halts }) }
+]
+
+pub rest_unrecorded : (target : ℕ) (old new : MirrorView) → FailsOnTarget target old new → KeepsRest target old new
+rest_unrecorded target old new h =
+    rest_on target old h.mid new (rest_stores target old h.mid h.stores)
+    (rest_super target target h.mid.array h.fails.member h.mid new (places_of h.mid h.stores.goes.sound) h.fails.disks.tried h.fails.array h.fails.may.readable.size)
+
+pub rest_unadmitted : (target : ℕ) (old new : MirrorView) → FailsAdmission target old new → KeepsRest target old new
+rest_unadmitted target old new h =
+    let f = h.fails in
+    rest_on target old h.stored new (rest_stores target old h.stored h.first.stores)
+    (rest_super target target (admitted h.stored.array target f.may.member f.role) (admitted_member f.role f.may.member) h.stored new (places_of h.stored h.first.stores.goes.sound) f.disks.tried f.array f.readable.size)
+
+-- ---- a rebuild begins
+spare_apart : (m : MemberView) → is_spare m.state ≡ true → is_recovering m.state ≡ true → ⊥
+spare_apart m spare recovers = both_ways (is_recovering m.state) (ap is_recovering (spare_is m.state spare)) recovers
+
+pub preserves_begun : (target : ℕ) (old v : MirrorView) (none : Bitmap) → Begins target old v none → Preserves target old v
+preserves_begun target old v none b = preserves_started target old v starts own
+  where
+    starts : StartsAs target old v
+    starts = starts_of target old v none b
+
+    its : (m n : MemberView) → IsMember old.array target m → IsMember v.array target n → IsAs m n
+    its m n at there = let z = starts.then target m at in subst (IsAs m) (same_Some z.0 n (sym z.1 ∙ there)) z.2
+
+    own : (m n : MemberView) → IsMember old.array target m → IsMember v.array target n → StaysTarget m n
+    own m n at there = elim b.first [
+      | inl stored ↦ target_stored target old v stored.1.stores m n at there
+      | inr admitted ↦
+          let spare : is_spare m.state ≡ true = ap (λ (z : MemberView). is_spare z.state) (same_Some m b.member (sym at ∙ b.at)) ∙ admitted.0 in
+          record {
+            state = inr (spare, (ready_of target old v none b).recovering n there);
+            offset = λ recovers. absurd (spare_apart m spare recovers);
+            list = (its m n at there).bad;
+          }
+    ]
+
+-- the target is admitted, and what that made due is not stored yet
+module _ (target : ℕ) (old admitted : MirrorView) (sound : IsConsistent old) (member : MemberView) (at : IsMember old.array target member) (may : MayRebuild old.array member) (h : AdmitsAfter target old admitted) where
+  was_spare : is_spare member.state ≡ true
+  was_spare =
+      let s = target_stored target old h.stored h.first.stores member h.admits.may.member at h.admits.may.at in
+      elim s.state [ inl same ↦ sym (ap is_spare same) ∙ h.spare | inr now ↦ now.0 ]
+
+  pub starts_after : StartsAs target old admitted
+  starts_after =
+      let twice = spare_twice old.array member was_spare may in
+      let stored = stored_so old h.stored h.first 2 twice in
+      starts_on target old h.stored admitted (starts_stored target old h.stored sound twice.resynced h.first)
+      (starts_admitted target h.stored admitted h.first.stores.goes.sound stored.resynced h.admits h.spare h.sound)
+
+  own_admitted : (m n : MemberView) → IsMember old.array target m → IsMember admitted.array target n → StaysTarget m n
+  own_admitted m n at_m there =
+      let spare : is_spare m.state ≡ true = ap (λ (z : MemberView). is_spare z.state) (same_Some m member (sym at_m ∙ at)) ∙ was_spare in
+      let z = starts_after.then target m at_m in
+      record {
+        state = inr (spare, recovering_admitted target old admitted h n there);
+        offset = λ recovers. absurd (spare_apart m spare recovers);
+        list = ap (λ (x : MemberView). x.bad) (same_Some n z.0 (sym there ∙ z.1)) ∙ z.2.bad;
+      }
+
+  pub preserves_admitted : Preserves target old admitted
+  preserves_admitted = preserves_started target old admitted starts_after own_admitted
+
+-- ---- lists and counts, from before the call
+pub grows_none : (target : ℕ) (v : MirrorView) → GrowsSo target [] v v
+grows_none target v = record {
+  lists = λ k m n other at there sector. (
+    λ bad. inl (subst (λ (runs : List Run). IsBad runs sector) (ap (λ (z : MemberView). z.bad) (same_Some n m (sym there ∙ at))) bad),
+    λ either. subst (λ (runs : List Run). IsBad runs sector) (ap (λ (z : MemberView). z.bad) (same_Some m n (sym at ∙ there)))
+        (elim either [ inl bad ↦ bad | inr of ↦ absurd (let low = of.there.1 in omega (arith, low)) ]),
+  );
+  counted = λ honest k role m at in_role d e at_d at_e. (let same = ap (λ (z : Disk). z.failures) (same_Some e d (sym at_e ∙ at_d)) in omega (arith, same));
+}
+
+module _ (target : ℕ) (old v : MirrorView) (starts : StartsAs target old v) where
+  of_failed : (failed : List Slot) (n z : MemberView) → IsAs n z → (sector : ℕ) → IsOfFailed v.array.chunks failed z sector ↔ IsOfFailed old.array.chunks failed n sector
+  of_failed failed n z alike sector = (
+    λ of. record {
+      slot = of.slot;
+      there = of.there;
+      own = sym (alike.roles of.slot.source) ∙ of.own;
+      of_chunk = subst (λ (q : Chunks). IsOfChunk q n.superblock.data_offset of.slot.chunk sector) starts.chunks (subst (λ o. IsOfChunk v.array.chunks o of.slot.chunk sector) alike.offset of.of_chunk);
+    },
+    λ of. record {
+      slot = of.slot;
+      there = of.there;
+      own = alike.roles of.slot.source ∙ of.own;
+      of_chunk = subst (λ (q : Chunks). IsOfChunk q z.superblock.data_offset of.slot.chunk sector) (sym starts.chunks) (subst (λ o. IsOfChunk old.array.chunks o of.slot.chunk sector) (sym alike.offset) of.of_chunk);
+    },
+  )
+
+  -- after passes that listed these slots, of those that failed in them
+  pub grows_from : (listed failed : List Slot) (before after : Bitmap) (w : MirrorView) → PassesKeep target listed failed before after v w
+      → ((role : ℕ) → count_by (is_of role) listed ≤ count_by (is_of role) failed) → GrowsSo target listed old w
+  grows_from listed failed before after w p fewer = record {
+    lists = λ k m o other at there sector.
+        (let z = starts.then k m at in
+        let n = p.lists.after k z.0 z.1 in
+        let grown = subst (λ (x : MemberView). IsBad x.bad sector ↔ (IsBad z.0.bad sector ⊎ IsOfFailed v.array.chunks listed z.0 sector)) (same_Some n.0 o (sym n.1 ∙ there)) (n.2.bad sector) in
+        let of = of_failed listed m z.0 z.2 sector in (
+          λ bad. elim (grown.0 bad) [ inl was ↦ inl (subst (λ (runs : List Run). IsBad runs sector) z.2.bad was) | inr is ↦ inr (of.0 is) ],
+          λ either. grown.1 (elim either [ inl was ↦ inl (subst (λ (runs : List Run). IsBad runs sector) (sym z.2.bad) was) | inr is ↦ inr (of.1 is) ]),
+        ));
+    counted = λ honest k role m at in_role d f at_d at_f.
+        (let z = starts.then k m at in
+        let e = starts.disk_then k d at_d in
+        let first = starts.counted k d e.0 at_d e.1 in
+        let second = p.fails k role z.0 z.1 (z.2.roles role ∙ in_role) e.0 f e.1 at_f (starts.honest k d e.0 at_d e.1 ∙ honest k d at_d) in
+        let few = fewer role in
+        omega (arith, first, second, few));
+  }
+
+-- ---- how far the target is rebuilt is recorded
+module _ (target : ℕ) (copied : Bitmap) (v w : MirrorView) (sound : IsConsistent v) (r : Checkpoints target copied v w) where
+  abbrev m : MemberView
+  m = r.may.member
+
+  -- the target is as it was, but for its offset
+  own_is : (l n : MemberView) → IsMember v.array target l → IsMember w.array target n → n ≡ record (with_offset r.offset l) { due = false }
+  own_is l n at there = checkpointed_is target copied v w sound r n there ∙ ap (λ (z : MemberView). record (with_offset r.offset z) { due = false }) (same_Some m l (sym r.may.at ∙ at))
+
+  other_same : (k : ℕ) → k ≢ target → (l n : MemberView) → IsMember v.array k l → IsMember w.array k n → n ≡ l
+  other_same k other l n at there = same_Some n l (sym there ∙ other_is target copied v w sound r k other ∙ at)
+
+  many : length w.array.members ≡ length v.array.members
+  many = ap (λ (a : ArrayView). length a.members) r.array ∙ length-set v.array.members target (record (with_offset r.offset m) { due = false })
+
+  -- what is the same of each
+  same_of : {X : Type 0} (f : MemberView → X) → ((l : MemberView) → f (record (with_offset r.offset l) { due = false }) ≡ f l) → (k : ℕ) (l n : MemberView) → IsMember v.array k l → IsMember w.array k n → f n ≡ f l
+  same_of f is k l n at there = elim (cases_eq k target) [
+    | inl here ↦ ap f (own_is l n (sym (ap (slice_get v.array.members) here) ∙ at) (sym (ap (slice_get w.array.members) here) ∙ there)) ∙ is l
+    | inr other ↦ ap f (other_same k other l n at there)
+  ]
+
+  abbrev tried : IsTried target (super_write v.array (with_offset r.offset m)) v.disks w.disks
+  tried = r.disks.tried
+
+  rises : (l n : MemberView) → IsMember v.array target l → n ≡ record (with_offset r.offset l) { due = false } → l.superblock.recovery_offset ≤ n.superblock.recovery_offset
+  rises l n at is =
+      let was = ap (λ (z : MemberView). z.superblock.recovery_offset) (same_Some m l (sym r.may.at ∙ at)) in
+      let now = ap (λ (z : MemberView). z.superblock.recovery_offset) is in
+      let next = r.next.is in
+      let up = le-max_left m.superblock.recovery_offset r.next.stop in
+      omega (arith, was, now, next, up)
+
+  pub rest_recorded : KeepsRest target v w
+  rest_recorded = record {
+    then = λ k l at. (let low = slice_get_within v.array.members k l at in let same = many in got_within w.array.members k (omega (arith, low, same)));
+    disk_then = λ k d at. (let low = slice_get_within v.disks k d at in let same = tried.as_many in (get_or w.disks k d, slice_get-get_or w.disks k d (omega (arith, low, same))));
+    offset = same_of (λ z. z.superblock.data_offset) (λ l. refl);
+    size = same_of (λ z. z.superblock.data_size) (λ l. refl);
+    own = λ l n at there.
+        (let is = own_is l n at there in
+        record {
+          state = inl (ap (λ (z : MemberView). z.state) is);
+          offset = λ recovers. rises l n at is;
+          list = ap (λ (z : MemberView). z.bad) is;
+        });
+    bad = same_of (λ z. z.bad) (λ l. refl);
+    counted = λ k d e at_d at_e. elim (cases_eq k target) [
+      | inl here ↦ (tried.stays d e (sym (ap (slice_get v.disks) here) ∙ at_d) (sym (ap (slice_get w.disks) here) ∙ at_e)).counted
+      | inr other ↦ (let is = ap (λ (z : Disk). z.failures) (same_Some e d (sym at_e ∙ tried.others k other ∙ at_d)) in omega (arith, is))
+    ];
+    keeps = λ k d e l at_d at_e at_l. elim (cases_eq k target) [
+      | inl here ↦
+          subst (λ (z : MemberView). KeepsData z d e) (same_Some m l (sym r.may.at ∙ sym (ap (slice_get v.array.members) here) ∙ at_l))
+          (data_kept target copied v w sound r d e (sym (ap (slice_get v.disks) here) ∙ at_d) (sym (ap (slice_get w.disks) here) ∙ at_e))
+      | inr other ↦ λ i n from to. ap (λ (z : Disk). part z.content i n) (same_Some e d (sym at_e ∙ tried.others k other ∙ at_d))
+    ];
+  }
+
+  pub preserves_recorded : Preserves target v w
+  preserves_recorded =
+      preserves_rest target v w rest_recorded (chunks_is target copied v w sound r) (marks_is target copied v w sound r)
+      (λ l n at there c low is. ap (λ (z : MemberView). is_missing v.array z c) (same_Some l m (sym at ∙ r.may.at)) ∙ lacked target copied v w sound r n there c is)
+
+-- ---- once it has stopped
+pub rest_unrecordable : (target : ℕ) (copied : Bitmap) (v w : MirrorView) → IsConsistent v → FailsToCheckpoint target copied v w → KeepsRest target v w
+rest_unrecordable target copied v w sound f = rest_super target target v.array (with_offset f.offset f.member) v w (places_of v sound) f.disks.tried f.array f.readable.size
+
+pub rest_left : (target : ℕ) (copied : Bitmap) (v w : MirrorView) → (v.array.halted ≡ false → IsConsistent v) → Leaves target copied v w → KeepsRest target v w
+rest_left target copied v w sound (inl same) = subst (KeepsRest target v) (sym same.1) (rest_none target v)
+rest_left target copied v w sound (inr (inl r)) = rest_recorded target copied v w (sound r.may.idle.running) r
+rest_left target copied v w sound (inr (inr f)) = rest_unrecordable target copied v w (sound f.running) f
+
+-- the target does not come into sync
+pub rest_unenrolled : (target : ℕ) (kept orphans : Bitmap) (v w : MirrorView) → FailsToEnrol target kept orphans v w → KeepsRest target v w
+rest_unenrolled target kept orphans v w f =
+    rest_alone target target v w f.array f.disks.as_many f.disks.others (λ d e at_d at_e. (f.disks.change d e at_d at_e).0.kept.counted)
+    (λ d e m at_d at_e at_m i n from to.
+    (let was = same_Some f.comes.member m (sym f.comes.at ∙ at_m) in
+    let offset = ap (λ (s : Superblock). s.data_offset) f.comes.comes.superblock ∙ ap (λ (z : MemberView). z.superblock.data_offset) was in
+    let size = ap (λ (s : Superblock). s.data_size) f.comes.comes.superblock ∙ ap (λ (z : MemberView). z.superblock.data_size) was in
+    (f.disks.change d e at_d at_e).1 i n (omega (arith, offset, from)) (omega (arith, offset, size, to))))
+
+-- ---- a list is not stored
+halted_members : (mid new : MirrorView) (e : Event) → IsStoringList e → HaltsAt mid (λ n. None) e new → new.array.members ≡ mid.array.members
+halted_members mid new (Event.RecordFails j) of h = ap (λ (a : ArrayView). a.members) h.halts.array.array
+halted_members mid new (Event.StoreMarksFails j b) of h = ap (λ (a : ArrayView). a.members) h.halts.array.array
+halted_members mid new (Event.StoreLogFails j) of h = ap (λ (a : ArrayView). a.members) h.halts.array.array
+halted_members mid new (Event.Record j) of h = absurd h
+halted_members mid new (Event.StoreMarks j b) of h = absurd h
+halted_members mid new (Event.StoreLog j listed) of h = absurd h
+halted_members mid new e of h = absurd of
+
+pub rest_list : (target k : ℕ) (failed : List Slot) (v w : MirrorView) → ((m : MemberView) → IsMember v.array target m → is_recovering m.state ≡ true) → StopsAtList failed k v w → KeepsRest target v w
+rest_list target k failed v w recovers h = record {
+  then = λ j m at. (let low = slice_get_within v.array.members j m at in let same = many in got_within w.array.members j (omega (arith, low, same)));
+  disk_then = λ j d at. (let low = slice_get_within v.disks j d at in let same = h.writes.as_many in (get_or w.disks j d, slice_get-get_or w.disks j d (omega (arith, low, same))));
+  offset = λ j m n at there. (h.members j m n at there).0.offset;
+  size = λ j m n at there. (h.members j m n at there).0.size;
+  own = λ m n at there.
+      (let is = (h.members target m n at there).0.out (out_of_sync m.state (recovers m at)) in
+      target_same m n (ap (λ (z : MemberView). z.state) is) (ap (λ (z : MemberView). z.superblock.recovery_offset) is) (ap (λ (z : MemberView). z.bad) is));
+  bad = λ j m n at there. (h.members j m n at there).0.bad;
+  counted = λ j d e at_d at_e. (h.writes.stays j d e at_d at_e).counted;
+  keeps = λ j d e m at_d at_e at_m. h.writes.keeps j m at_m d e at_d at_e;
+}
+  where
+    many : length w.array.members ≡ length v.array.members
+    many = elim h.ends [
+      | inl lost ↦ lost.loses.goes.array.as_many
+      | inr at ↦ (let s = at.halts.halts in ap length (halted_members s.mid w s.failing s.of (s.halts (λ n. None))) ∙ s.goes.array.as_many)
+    ]

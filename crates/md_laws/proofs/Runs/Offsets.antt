@@ -1,0 +1,160 @@
+-- The offset that a device tells of is no greater than the one that is kept of its member, if it was so at the opening.
+use Rattle.std.proofs.Common.{◌≡◌, ◌≢◌, ◌⊎◌, ℕ, ◌≤◌, inl, inr, Bool, true, false, true≢false, List, [], ◌∷◌, Some, None, refl, sym, ap, ◌∙◌, subst, arith}
+use Rattle.std.proofs.lemmas.Option.{same_Some}
+use Rattle.md_model.specs.Sectors.{Geometry, put}
+use Rattle.md_model.specs.Devices.{Stored, Super, offset_in}
+use Rattle.md_model.specs.Worlds.{World}
+use Rattle.md_model.specs.Counts.{risen, risen_if}
+use Rattle.md_model.specs.Steps.{marked_device, recorded_device, super_for, with_device, written_device}
+use Rattle.md_model.specs.Resyncing.{copied_device}
+use Rattle.md_model.specs.Membership.{Newcomer, former_member, is_spare, joined, joined_super, new_member, removed, skip}
+use Rattle.md_model.specs.Rebuilding.{Taking, as_in_sync, as_recovering, takes_role, taking_device, with_offset}
+use Rattle.md_model.specs.Events.{Event, Happens}
+use Rattle.md_model.specs.Runs.{spoiled_after}
+use Rattle.md_model.specs.Stops as stops
+use Rattle.md_model.proofs.Cases.{none_some}
+use Rattle.md_model.proofs.Puts.{by_same, put-at, put-hit, put-miss}
+use Rattle.md_state.specs.View.{geometry_of}
+use Rattle.md_array.specs.Worlds.{world_of}
+use Rattle.md_laws.specs.Recovering.{OffsetsAreKept, SaysNoMoreWithoutList}
+use Rattle.md_laws.specs.Runs.{MirrorRun, Moment, history_of, opened_as, then_as}
+use Rattle.md_laws.proofs.Runs.Moments.{run_keeps, sound_when_opened}
+use Rattle.md_laws.proofs.Runs.Rests.{history_rests, rests_does}
+use Rattle.md_laws.proofs.Stops.LeftAtStops.{IsSorted, sorted}
+
+abbrev OffsetIn : World → ℕ → Type 0
+OffsetIn w k = (own : Super) → (w.stored k).super ≡ Some own → own.offset ≤ w.offset k
+
+-- so of each member that is not spoiled
+abbrev OffsetsIn : (ℕ → Bool) → World → Type 0
+OffsetsIn spoiled w = (k : ℕ) → spoiled k ≡ false → OffsetIn w k
+
+-- ---- one device changes
+others_clear : (k : ℕ) (b : Bool) (spoiled : ℕ → Bool) (j : ℕ) → j ≢ k → put k b spoiled j ≡ false → spoiled j ≡ false
+others_clear k b spoiled j apart clear = sym (put-miss k b spoiled j apart) ∙ clear
+
+module _ (spoiled then : ℕ → Bool) (w : World) (k : ℕ) (d : Stored) (others : (j : ℕ) → j ≢ k → then j ≡ false → spoiled j ≡ false) (t : OffsetsIn spoiled w) where
+  put_device : (then k ≡ false → (own : Super) → d.super ≡ Some own → own.offset ≤ w.offset k) → OffsetsIn then (with_device w k d)
+  put_device this j clear own = put-at k d w.stored j (λ (x : Stored). x.super ≡ Some own → own.offset ≤ w.offset j)
+      (λ here is. subst (λ (i : ℕ). own.offset ≤ w.offset i) (sym here) (this (subst (λ (i : ℕ). then i ≡ false) here clear) own is))
+      (λ apart is. t j (others j apart clear) own is)
+
+  -- and its offset
+  put_both : (n : ℕ) → ((own : Super) → d.super ≡ Some own → own.offset ≤ n) → OffsetsIn then (record w { stored = put k d w.stored; offset = put k n w.offset })
+  put_both n this j clear own is = by_same j k
+      (λ here.
+      let device : put k d w.stored j ≡ d = ap (put k d w.stored) here ∙ put-hit k d w.stored in
+      let offset : put k n w.offset j ≡ n = ap (put k n w.offset) here ∙ put-hit k n w.offset in
+      subst (λ (x : ℕ). own.offset ≤ x) (sym offset) (this own (sym (ap (λ (x : Stored). x.super) device) ∙ is)))
+      (λ apart.
+      subst (λ (x : ℕ). own.offset ≤ x) (sym (put-miss k n w.offset j apart))
+      (t j (others j apart clear) own (sym (ap (λ (x : Stored). x.super) (put-miss k d w.stored j apart)) ∙ is)))
+
+-- it has its superblock still
+module _ (spoiled : ℕ → Bool) (w : World) (t : OffsetsIn spoiled w) (k : ℕ) (d : Stored) where
+  still : d.super ≡ (w.stored k).super → OffsetsIn spoiled (with_device w k d)
+  still same = put_device spoiled spoiled w k d (λ j apart clear. clear) t (λ clear own is. t k clear own (sym same ∙ is))
+
+  -- or the one that is kept, or none
+  abbrev IsLeftBySuper : Type 0
+  IsLeftBySuper = (d.super ≡ (w.stored k).super) ⊎ ((d.super ≡ Some (super_for w k)) ⊎ (d.super ≡ None))
+
+  by_super : IsLeftBySuper → OffsetIn w k → (own : Super) → d.super ≡ Some own → own.offset ≤ w.offset k
+  by_super left had own is = elim left [
+    | inl same ↦ had own (sym same ∙ is)
+    | inr (inl new) ↦ let least : w.offset k ≤ w.offset k = omega arith in subst (λ (v : Super). v.offset ≤ w.offset k) (same_Some (super_for w k) own (sym new ∙ is)) least
+    | inr (inr none) ↦ absurd (none_some own (sym none ∙ is))
+  ]
+
+  by_left : IsLeftBySuper → OffsetsIn spoiled (with_device w k d)
+  by_left left = put_device spoiled spoiled w k d (λ j apart clear. clear) t (λ clear own is. by_super left (t k clear) own is)
+
+-- ---- members come and go
+module _ (g : Geometry) (spoiled : ℕ → Bool) (w : World) (t : OffsetsIn spoiled w) where
+  when_risen : (rises full : Bool) → OffsetsIn spoiled (risen_if g w rises full)
+  when_risen true full = t
+  when_risen false full = t
+
+  when_removed : (k : ℕ) (spare full : Bool) → OffsetsIn (λ j. spoiled (skip k j)) (removed g w k spare full)
+  when_removed k true full j clear = t (skip k j) clear
+  when_removed k false full j clear = t (skip k j) clear
+
+  when_joined : (n : Newcomer) → ((own : Super) → n.device.super ≡ Some own → own.offset ≤ n.offset) → OffsetsIn (put w.members false spoiled) (joined w n)
+  when_joined n = put_both spoiled (put w.members false spoiled) w w.members n.device (others_clear w.members false spoiled) t n.offset
+
+  when_taking : (k : ℕ) (x : Taking) → OffsetsIn (put k false spoiled) (takes_role w k x)
+  when_taking k x = put_both spoiled (put k false spoiled) w k (taking_device w k x) (others_clear k false spoiled) t x.offset
+      (λ own is. let least : x.offset ≤ x.offset = omega arith in subst (λ (v : Super). v.offset ≤ x.offset) (same_Some (joined_super w (w.number k) x.role x.recovering x.offset) own is) least)
+
+offset_step : (g : Geometry) (w : World) (spoiled : ℕ → Bool) → OffsetsIn spoiled w → (e : Event) (w' : World) → Happens g w e w' → OffsetsIn (spoiled_after e w spoiled) w'
+offset_step g w s t (Event.Begin n p) w' h = subst (OffsetsIn s) (sym h.5) (when_risen g s w t h.0 h.1)
+offset_step g w s t (Event.Record k) w' h = subst (OffsetsIn (put k false s)) (sym h.3)
+    (put_device s (put k false s) w k (recorded_device w k h.0) (others_clear k false s) t
+    (λ _ own is. let least : w.offset k ≤ w.offset k = omega arith in subst (λ (v : Super). v.offset ≤ w.offset k) (same_Some (super_for w k) own is) least))
+offset_step g w s t (Event.StoreMarks k b) w' h = subst (OffsetsIn s) (sym h.1) (still s w t k (marked_device w k b) refl)
+offset_step g w s t (Event.WriteMember n k) w' h = subst (OffsetsIn s) (sym h.2) (still s w t k (written_device w k h.0) refl)
+offset_step g w s t (Event.Finish n) w' h = subst (OffsetsIn s) (sym h.2) t
+offset_step g w s t (Event.ClearIdle c) w' h = subst (OffsetsIn s) (sym h.1) t
+offset_step g w s t (Event.Fail k) w' h = subst (OffsetsIn s) (sym h.1.3) (still s w t k (w.stored k) refl)
+offset_step g w s t (Event.RecordFails k) w' h = subst (OffsetsIn s) (sym h.2.3) (by_left s w t k h.0 h.1.super)
+offset_step g w s t (Event.StoreMarksFails k b) w' h = subst (OffsetsIn s) (sym h.3.3) (still s w t k h.0 (ap (λ (d : Stored). d.super) h.2.rest))
+offset_step g w s t (Event.WriteMemberFails n k) w' h = subst (OffsetsIn s) (sym h.4.3) (still s w t k h.0 (ap (λ (d : Stored). d.super) h.3.rest))
+offset_step g w s t (Event.CopyFails k c) w' h = subst (OffsetsIn s) (sym h.4.3) (still s w t k h.0 (ap (λ (d : Stored). d.super) h.3.rest))
+offset_step g w s t (Event.Copy from k x) w' h = subst (OffsetsIn s) (sym h.1) (still s w t k (copied_device w from k x) refl)
+offset_step g w s t Event.Resynced w' h = subst (OffsetsIn s) (sym h.1) t
+offset_step g w s t Event.Unresynced w' h = subst (OffsetsIn s) (sym h.1) t
+offset_step g w s t Event.MakeClean w' h = subst (OffsetsIn s) (sym h.3) t
+offset_step g w s t (Event.Remove k) w' h = subst (OffsetsIn (λ j. s (skip k j))) (sym h.3) (when_removed g s w t k (is_spare (w.state k)) h.0)
+offset_step g w s t (Event.Add d left) w' h = subst (OffsetsIn (put w.members false s)) (sym h.4)
+    (when_joined g s (risen g w h.0) t (new_member d left)
+    (λ own is. let least : 0 ≤ 0 = omega arith in subst (λ (v : Super). v.offset ≤ 0) (same_Some (joined_super (risen g w h.0) d 65535 false 0) own (sym h.2.super ∙ is)) least))
+offset_step g w s t (Event.ReAdd own device left) w' h = subst (OffsetsIn (put w.members false s)) (sym h.4)
+    (when_joined g s (risen g w h.0) t (former_member own left)
+    (λ v is. let least : v.offset ≤ v.offset = omega arith in subst (λ o. v.offset ≤ offset_in o) (sym is) least))
+offset_step g w s t (Event.Fill k) w' h = subst (OffsetsIn s) (sym h.3) (still s w t k h.0 (ap (λ (d : Stored). d.super) h.2.rest))
+offset_step g w s t (Event.Prepare k) w' h = subst (OffsetsIn s) (sym h.3) (still s w t k h.0 (ap (λ (d : Stored). d.super) h.2.rest))
+offset_step g w s t (Event.RecordTargetFails k) w' h = subst (OffsetsIn s) (sym h.1.2) (by_left s w t k h.0 h.1.1.super)
+offset_step g w s t (Event.SpoilTarget k) w' h = subst (OffsetsIn (put k true s)) (sym h.1.2)
+    (put_device s (put k true s) w k h.0 (others_clear k true s) t (λ clear. absurd (true≢false (sym (put-hit k true s) ∙ clear))))
+offset_step g w s t (Event.Enrol k role listed) w' h = subst (OffsetsIn (put k false s)) (sym h.3) (when_taking g s (risen g w h.0) t k (as_in_sync (risen g w h.0) role listed))
+offset_step g w s t (Event.Admit k role listed) w' h = subst (OffsetsIn (put k false s)) (sym h.3) (when_taking g s (risen g w h.0) t k (as_recovering (risen g w h.0) k role listed))
+offset_step g w s t (Event.Checkpoint k offset listed) w' h = subst (OffsetsIn (put k false s)) (sym h.1)
+    (put_both s (put k false s) w k (recorded_device (with_offset w k offset) k listed) (others_clear k false s) t offset
+    (λ own is.
+    let least : offset ≤ offset = omega arith in
+    subst (λ (v : Super). v.offset ≤ offset) (same_Some (super_for (with_offset w k offset) k) own is) (subst (λ (x : ℕ). x ≤ offset) (sym (put-hit k offset w.offset)) least)))
+offset_step g w s t (Event.NoteBad k c) w' h = subst (OffsetsIn s) (sym h.1) t
+offset_step g w s t (Event.StoreLog k listed) w' h = subst (OffsetsIn s) (sym h.2) (still s w t k (record (w.stored k) { listed = listed }) refl)
+offset_step g w s t (Event.StoreLogFails k) w' h = subst (OffsetsIn s) (sym h.3.3) (by_left s w t k h.0 h.2.super)
+
+-- ---- over runs, and at stops
+offsets_run : (es : List Event) (t last : Moment) → MirrorRun t es last → OffsetsIn t.spoiled (world_of t.mirror t.requests) → OffsetsIn last.spoiled (world_of last.mirror last.requests)
+offsets_run [] t last r kept = subst (λ h. OffsetsIn h.spoiled h.now) (sym (history_rests t last r)) kept
+offsets_run (e ∷ es) t last r kept =
+    offsets_run es (then_as t e r.0 r.1) last r.3
+    (offset_step (geometry_of t.mirror.array) (world_of t.mirror t.requests) t.spoiled kept e (world_of r.0 r.1) (rests_does t.mirror r.0 t.requests r.1 e r.2).step.1)
+
+-- a stop leaves the superblocks
+cut_super : (g : Geometry) (w : World) (cut : ℕ → Stored) → stops.IsCut g w cut → (k : ℕ) → (cut k).super ≡ (w.stored k).super
+cut_super g w cut is k = elim is [
+  | inl whole ↦ ap (λ (f : ℕ → Stored). (f k).super) whole
+  | inr torn ↦ by_same k torn.on
+      (λ here. ap (λ (i : ℕ). (cut i).super) here ∙ ap (λ (d : Stored). d.super) torn.rest ∙ sym (ap (λ (i : ℕ). (w.stored i).super) here))
+      (λ apart. ap (λ (d : Stored). d.super) (torn.others k apart))
+]
+
+pub offsets_are_kept : OffsetsAreKept
+offsets_are_kept before m start at_first es t r left is k clear own told =
+    let s : IsSorted t left = sorted t (run_keeps es (opened_as m) t r (sound_when_opened before m start.honest start.opened)) left is in
+    let now : World = (history_of s.moment).now in
+    let kept = offsets_run s.events t s.moment s.run (offsets_run es (opened_as m) t r (λ j _. at_first j)) in
+    elim (s.read k) [
+      | inl same ↦
+          let super : (now.stored k).super ≡ Some own = sym (cut_super (geometry_of t.mirror.array) now s.cut s.is_cut k) ∙ sym (ap (λ (d : Stored). d.super) same) ∙ told in
+          subst (λ (n : ℕ). own.offset ≤ n) (s.memory.offset k) (kept k (s.spoiled k clear) own super)
+      | inr none ↦ absurd (none_some own (sym none ∙ told))
+    ]
+
+pub says_no_more_without_list : SaysNoMoreWithoutList
+says_no_more_without_list before m start at_first es t r left is k clear none =
+    inl (record { offset = λ own told. offsets_are_kept before m start at_first es t r left is k clear own told; listed = λ s off. none s })

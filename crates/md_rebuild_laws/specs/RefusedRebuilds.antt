@@ -1,0 +1,67 @@
+-- A rebuild that ends with a fault once passes may be made: up to where it is recorded a last time how far its target is rebuilt it is a run, and a
+-- stop while that is recorded is one of a run, too.
+use Rattle.std.specs.Prelude.{◌≡◌, ◌⊎◌, ℕ, List}
+use Rattle.std.proofs.Common.{inl, inr}
+use Rattle.md_bitmap.specs.Marks.{Bitmap}
+use Rattle.md_kept_members.specs.View.{MemberView}
+use Rattle.md_passes.specs.Passes.{PassView}
+use Rattle.md_state.specs.DiskWrites.{AtDevice}
+use Rattle.md_state.specs.View.{Disk, MirrorView}
+use Rattle.md_array.specs.Checkpoints.{Checkpoints, FailsToCheckpoint}
+use Rattle.md_array.specs.Worlds.{block_on}
+use Rattle.md_laws.specs.Left.{contents_of}
+use Rattle.md_laws.specs.StopsWithin.{MayAllBeLeft}
+use Rattle.md_copy.specs.RebuildEvents.{IsBeforeEnrol}
+use Rattle.md_copy.specs.Rebuilding.{Begins, LacksMemory, LacksRoom}
+use Rattle.md_copy.specs.Rebuilt.{failed_of}
+use Rattle.md_rebuild_laws.specs.RebuildRuns.{AtMomentsWith, LogsUnshifted, RunsTo}
+use Rattle.md_rebuild_laws.specs.StoppedRebuilds.{AtMoments, IsStopBefore, IsStopUnfinished, IsSuperWhole}
+
+-- Memory was refused, or a log had no room, with these chunks copied. So far it came.
+pub record HasStopped (target : ℕ) (copied : Bitmap) (old stopped : MirrorView) : Type 0 where
+  pub ready : MirrorView
+  pub none : Bitmap
+  pub begins : Begins target old ready none
+  pub why : LacksMemory target begins.now none copied ready stopped ⊎ ((k : ℕ) × LacksRoom k target begins.now none copied ready stopped)
+
+-- the passes that were made by then, of which each that failed slots was listed
+abbrev pub passes_then : {target : ℕ} {m : MemberView} {none copied : Bitmap} {ready stopped : MirrorView}
+    → LacksMemory target m none copied ready stopped ⊎ ((k : ℕ) × LacksRoom k target m none copied ready stopped) → List PassView
+passes_then (inl (inl e)) = e.passes
+passes_then (inl (inr (inl e))) = e.passes
+passes_then (inl (inr (inr (inl e)))) = e.passes
+passes_then (inl (inr (inr (inr e)))) = e.passes
+passes_then (inr (k, inl e)) = e.passes
+passes_then (inr (k, inr e)) = e.1.passes
+
+abbrev pub HasUnshifted : {target : ℕ} {copied : Bitmap} {old stopped : MirrorView} → HasStopped target copied old stopped → Type 0
+HasUnshifted {target} {copied} {old} {stopped} h = LogsUnshifted (failed_of (passes_then h.why)) old
+
+-- So far it is a run, along which the content stays.
+abbrev pub RefusedIsARun : Type 0
+RefusedIsARun =
+    AtMomentsWith (λ t content.
+    ((target : ℕ) (copied : Bitmap) (stopped : MirrorView) (h : HasStopped target copied t.mirror stopped) → HasUnshifted h → RunsTo (IsBeforeEnrol target) t content stopped))
+
+-- while it is recorded then how far the target is rebuilt
+abbrev pub StopsLeaving : Type 0
+StopsLeaving =
+    AtMoments (λ t.
+    ((target : ℕ) (copied : Bitmap) (stopped new : MirrorView) (h : HasStopped target copied t.mirror stopped) → HasUnshifted h → Checkpoints target copied stopped new
+    → (left : List Disk) → MayAllBeLeft stopped.disks new.disks (contents_of left) → IsSuperWhole target stopped new left → IsStopBefore target t left))
+
+-- or that fails
+abbrev pub StopsUnleft : Type 0
+StopsUnleft =
+    AtMoments (λ t.
+    ((target : ℕ) (copied : Bitmap) (stopped new : MirrorView) (h : HasStopped target copied t.mirror stopped) → HasUnshifted h → FailsToCheckpoint target copied stopped new
+    → (left : List Disk) → MayAllBeLeft stopped.disks new.disks (contents_of left) → AtDevice target stopped.disks left (λ d e. block_on e.content ≡ block_on d.content)
+    → IsStopBefore target t left))
+
+-- Whatever stands in place of its superblock.
+abbrev pub StopsLeavingAnyhow : Type 0
+StopsLeavingAnyhow =
+    AtMoments (λ t.
+    ((target : ℕ) (copied : Bitmap) (stopped new : MirrorView) (h : HasStopped target copied t.mirror stopped) → HasUnshifted h
+    → Checkpoints target copied stopped new ⊎ FailsToCheckpoint target copied stopped new
+    → (left : List Disk) → MayAllBeLeft stopped.disks new.disks (contents_of left) → IsStopUnfinished target t left))
