@@ -22,10 +22,10 @@ use Rattle.md_array.specs.Opening.{IsOpenedFrom}
 use Rattle.md_array.specs.Worlds.{AreHonest}
 use Rattle.step_tests.specs.Unsure.{AreUnsure}
 
-pub of_unsure : {X : Type 0} {g : Ghosts X} (xs : List X) → ((x : X) → g.honest x ≡ false) → AreUnsure (map (disk_of g) xs)
-of_unsure [] no k d at = absurd (none-some d at)
-of_unsure {X} {g} (x ∷ xs) no zero d at = sym (ap (λ (e : Disk). e.honest) (same_Some (disk_of g x) d at)) ∙ no x
-of_unsure {X} {g} (x ∷ xs) no (suc k) d at = of_unsure {X} {g} xs no k d at
+pub of_unsure : (X : Type 0) (g : Ghosts X) (xs : List X) → ((x : X) → g.honest x ≡ false) → AreUnsure (map (disk_of g) xs)
+of_unsure X g [] each k d at = absurd (none-some d at)
+of_unsure X g (x ∷ xs) each zero d at = sym (ap (λ (e : Disk). e.honest) (same_Some (disk_of g x) d at)) ∙ each x
+of_unsure X g (x ∷ xs) each (suc k) d at = of_unsure X g xs each k d at
 
 pub opened_unsure : {before : List Disk} {m : MirrorView} → IsOpenedFrom before m → AreUnsure before → AreUnsure m.disks
 opened_unsure {before} {m} opened unsure j e at =
