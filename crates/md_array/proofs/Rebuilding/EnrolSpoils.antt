@@ -81,11 +81,11 @@ module _ (k : ℕ) (copied orphans : Bitmap) (old new : MirrorView) (c : IsConsi
     done_long = ap (λ (ws : List Write). length (after d.content ws)) f.are.are
         ∙ all_long b n f.are.start f.are.starts f.are.header f.are.header_is b.shared d.content storable f.readable
 
-    done_keeps : KeepsData n d done
+    pub done_keeps : KeepsData n d done
     done_keeps = subst (λ (ws : List Write). KeepsData n d (record d { content = after d.content ws })) (sym f.are.are)
         (data_kept b n f.are.start f.are.starts f.are.header f.are.header_is b.shared d.content storable f.readable d)
 
-    done_writes : DoesWrites of_disks f.writes d done
+    pub done_writes : DoesWrites of_disks f.writes d done
     done_writes = record {
       kept = record { size = done_long; honest_kept = refl; counted = omega arith };
       unfailing = refl;
