@@ -9,7 +9,8 @@
        short   it writes the first half of its sectors and says so
 
    Of the reads of images the one whose number stands in FAILED_READ fails, and so does each that meets the bytes of the image
-   FAILED_IMAGE from FAILED_FROM up to FAILED_TO. Each of these calls is a line of the file that CALLS_LOG names. No disk is waited for: what a process wrote is there once it has ended. */
+   FAILED_IMAGE from FAILED_FROM up to FAILED_TO. Each of them first waits for READ_WAIT microseconds. Each of these calls is a
+   line of the file that CALLS_LOG names. No disk is waited for: what a process wrote is there once it has ended. */
 #define _GNU_SOURCE
 #include <errno.h>
 #include <fcntl.h>
@@ -217,6 +218,8 @@ static ssize_t read_at(int fd, void *bytes, size_t size, off_t place)
     static long calls;
     const char *image = image_of(fd);
     if (image) {
+        if (number_in("READ_WAIT") > 0)
+            usleep(number_in("READ_WAIT"));
         note("read", image, place, size);
         if (__atomic_add_fetch(&calls, 1, __ATOMIC_SEQ_CST) == number_in("FAILED_READ"))
             return fail();
