@@ -56,7 +56,7 @@ pub fn read_chunk_into<D: Device>(
     let mut bytes = sized(alloc, spare, 512 * sectors as usize)?;
     let report = match device.read(offset + start, bytes.as_mut_slice()) {
         Ok(()) => Report::delivered(chunk, source, bytes),
-        Err(_) => Report::failed(chunk, source),
+        Err(_) => Report::failed_in(chunk, source, bytes),
     };
     Ok(report)
 }

@@ -1,5 +1,5 @@
 // What came of reading a chunk.
-ghost use Rattle.std.specs.Prelude.{◌≡◌, None, Some, is_none, option_map};
+ghost use Rattle.std.specs.Prelude.{◌≡◌, IsSome, None, Some, is_none, option_map};
 ghost use Rattle.md_collect.specs.Reports.{ReportView};
 
 use std::marker::Model;
@@ -10,6 +10,8 @@ pub struct Report {
     pub(crate) chunk: u32,
     pub(crate) source: u8,
     pub(crate) bytes: Option<Vec<u8>>,
+    // What a read that failed left, for the sake of its memory. Contracts don't see it.
+    unused: Option<Vec<u8>>,
 }
 
 impl Model for Report {
@@ -30,6 +32,7 @@ impl Report {
             chunk,
             source,
             bytes: Some(bytes),
+            unused: None,
         }
     }
 
@@ -41,6 +44,19 @@ impl Report {
             chunk,
             source,
             bytes: None,
+            unused: None,
+        }
+    }
+
+    // The source could not be read into this memory, which is kept. It takes no memory.
+    pub(crate) fn failed_in(chunk: u32, source: u8, memory: Vec<u8>) -> Report
+        ensures { result ≡ record { chunk = chunk; source = source; bytes = None } }
+    {
+        Report {
+            chunk,
+            source,
+            bytes: None,
+            unused: Some(memory),
         }
     }
 
@@ -58,11 +74,15 @@ impl Report {
         self.bytes.is_none()
     }
 
-    /// The bytes, if there are any, so that their memory can be used again. It takes no memory.
-    pub fn into_bytes(self) -> Option<Vec<u8>>
-        ensures { option_map (λ bytes. bytes.items) result ≡ self.bytes }
+    /// The bytes; or, where the read failed, the list that it was to fill, if there was one, whatever is in it.
+    /// Its memory can be used again. It takes no memory.
+    pub fn into_memory(self) -> Option<Vec<u8>>
+        ensures { IsSome self.bytes → option_map (λ bytes. bytes.items) result ≡ self.bytes }
     {
-        let Report { bytes, .. } = self;
-        bytes
+        let Report { bytes, unused, .. } = self;
+        match bytes {
+            Some(bytes) => Some(bytes),
+            None => unused,
+        }
     }
 }
