@@ -38,12 +38,13 @@ pub(crate) fn settle<D: Device, L: Ledger, M: Ledger>(
         return Err(WriteFault);
     }
     let chunk = report.chunk();
+    let failed = report.is_failed();
     lane.done += 1;
-    let Some(bytes) = report.into_bytes() else {
+    lane.reports.keep(report);
+    if failed {
         return Ok(());
-    };
+    }
     copied.mark(chunk);
-    lane.reports.keep(bytes);
     Ok(())
 }
 

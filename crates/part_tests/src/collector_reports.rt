@@ -1,10 +1,11 @@
-// What a collector takes of the reports on a plan that reads two chunks crosswise.
+// What a collector takes of the reports on a plan that reads two chunks crosswise, and what a report of a failed
+// read keeps.
 ghost use Rattle.std.specs.Prelude.{◌≡◌, IfOk};
 
 use crate::checks::{holds, same};
 use md_bitmap::Chunks;
 use md_cert::{Plan, Slot, Slots};
-use md_collect::{Collector, Refusal, Report};
+use md_collect::{Collector, Refusal, Report, read_chunk_into};
 use md_device::{FaultDevice, MemDevice};
 use std::alloc::{AllocError, Global};
 use std::marker::Model;
@@ -165,4 +166,26 @@ fn a_target_fault_ends_the_counting(rt: HostRuntime) -> Result<(), Fail> {
     let spoiled = expect_spoiled(&rt, rt.alloc(), &mut collecting);
     drop(collecting);
     spoiled
+}
+
+// The chunk of a source that can't read its sector 3, read into memory that is long enough.
+fn read_of_a_bad_sector(alloc: Global) -> Result<Report, AllocError> {
+    let device = MemDevice::new(alloc, 16)?;
+    let mut source = FaultDevice::new(device, vec![in alloc; 3; 1]?, 1, 0, false);
+    let spare = vec![in alloc; 0; CHUNK]?;
+    let report = read_chunk_into(alloc, spare, &mut source, 0, 0, CHUNKS, 0);
+    drop(source);
+    report
+}
+
+#[test]
+fn a_failed_read_keeps_its_memory(rt: HostRuntime) -> Result<(), Fail> {
+    let report = read_of_a_bad_sector(rt.alloc())?;
+    holds(&rt, "the read failed", report.is_failed());
+    let kept = match report.into_memory() {
+        Some(memory) => memory.len(),
+        None => 0,
+    };
+    same(&rt, "the bytes that are kept", kept, CHUNK);
+    Ok(())
 }
