@@ -1,4 +1,4 @@
-use Rattle.std.proofs.Common.{◌≡◌, ◌∷◌, Some, None, is_none, true, false, refl, ap, sym, ◌∙◌, rules}
+use Rattle.std.proofs.Common.{◌≡◌, ◌∷◌, Some, None, true, false, refl, ap, sym, ◌∙◌, rules}
 use Rattle.md_pass.specs.Lanes.{is_failed}
 use Rattle.md_pass.proofs.Besides.{writes_one}
 use Rattle.md_pass.proofs.Settles.{held}
