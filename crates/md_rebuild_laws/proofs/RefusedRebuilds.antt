@@ -1,4 +1,4 @@
--- A rebuild that ends for want of memory, or of room in a log: a run leads to where it is recorded how far its target is rebuilt.
+-- A rebuild that ends because memory was refused, or a log has no room: a run leads to where it is recorded how far its target is rebuilt.
 use Rattle.std.proofs.Common.{◌≡◌, ◌∙◌, ◌⊎◌, ℕ, true, List, [], ◌∷◌, slice_get, None, refl, sym, ap, subst, inl, inr}
 use Rattle.std.proofs.lemmas.List.{append-nil}
 use Rattle.md_assembly.specs.States.{is_recovering}
