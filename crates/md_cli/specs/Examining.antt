@@ -13,7 +13,7 @@ use Rattle.md_examine.specs.BitmapReport.{bitmap_report}
 use Rattle.md_examine.specs.BadblocksReport.{badblocks_report}
 use Rattle.md_words.specs.declared.report.Report.{Report}
 use Rattle.md_words.specs.declared.report.Report.TheVariants.{Superblock, Bitmap, BadBlocks}
-use Rattle.md_device.specs.declared.image_fault.ImageFault.{ImageFault}
+use Rattle.md_images.specs.declared.image_fault.ImageFault.{ImageFault}
 use Rattle.md_advice.specs.declared.fault.CommandFault.{CommandFault}
 use Rattle.md_images.specs.declared.image_refusal.ImageRefusal.TheVariants.{Unopened}
 use Rattle.md_advice.specs.declared.fault.CommandFault.TheVariants.{BadImage, Member, NoBitmap, OutputFault}

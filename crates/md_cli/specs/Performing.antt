@@ -8,8 +8,8 @@ use Rattle.md_commands.specs.Reading.{ReadsArray, RefusesToRead}
 use Rattle.md_commands.specs.Resyncing.{RefusesToResync, ResyncsArray}
 use Rattle.md_commands.specs.Stopping.{RefusesToStop, StopsArray, StopsArrayAfter}
 use Rattle.md_commands.specs.Writing.{RefusesToWrite, WritesArray}
-use Rattle.md_device.specs.declared.access.Access.{Access}
-use Rattle.md_device.specs.declared.access.Access.TheVariants.{Change, ChangeOrLook}
+use Rattle.md_images.specs.declared.access.Access.{Access}
+use Rattle.md_images.specs.declared.access.Access.TheVariants.{Change, ChangeOrLook}
 use Rattle.md_examine.specs.declared.sink.Sink.{Ghosts as SinkGhosts}
 use Rattle.md_report.specs.DetailReport.{detail_text}
 use Rattle.md_report.specs.SummaryReport.{summary_text}

@@ -2,8 +2,8 @@
 use Rattle.md_device.specs.declared.device.Device.{Ghosts as DeviceGhosts}
 use Rattle.std.specs.Prelude.{◌≡◌, ◌≢◌, ◌⊎◌, ℕ, Bool, true, false, List, [], ◌∷◌, ◌++◌, length, Option, Some, None, Result, Ok, Err}
 use Rattle.clap.specs.Words.{Text}
-use Rattle.md_device.specs.declared.access.Access.{Access}
-use Rattle.md_device.specs.declared.access.Access.TheVariants.{Look, Change}
+use Rattle.md_images.specs.declared.access.Access.{Access}
+use Rattle.md_images.specs.declared.access.Access.TheVariants.{Look, Change}
 use Rattle.md_create.specs.declared.params.CreateParams.{CreateParams}
 use Rattle.md_advice.specs.declared.fault.CommandFault.{CommandFault}
 use Rattle.md_advice.specs.declared.fault.CommandFault.TheVariants as fault

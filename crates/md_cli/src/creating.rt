@@ -11,9 +11,9 @@ use crate::showing::show_devices;
 use crate::sizing::sizes_of;
 use md_advice::CommandFault;
 use md_create::{CreateParams, create};
-use md_device::{Access, Device};
+use md_device::Device;
 use md_examine::Sink;
-use md_images::{ImageWord, Images, image_list, put_back, take_images};
+use md_images::{Access, ImageWord, Images, image_list, put_back, take_images};
 use std::alloc::Global;
 
 // Makes an array of the devices, opens it and shows it in a line. The devices come back in their

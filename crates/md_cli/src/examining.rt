@@ -5,9 +5,9 @@ ghost use Rattle.md_words.specs.declared.report.Report.TheVariants.{Superblock, 
 
 use crate::output::pass_on;
 use md_advice::CommandFault;
-use md_device::{Access, Device};
+use md_device::Device;
 use md_examine::{Sink, examine, examine_badblocks, examine_bitmap};
-use md_images::{ImageRefusal, Images};
+use md_images::{Access, ImageRefusal, Images};
 use md_members::{read_member, read_super};
 use md_words::Report;
 use std::alloc::Global;

@@ -9,8 +9,9 @@ use md_array::Mirror;
 use md_commands::{
     Source, Watch, check_members, fail_member, read_array, resync_array, stop_array, write_array,
 };
-use md_device::{Access, Device};
+use md_device::Device;
 use md_examine::Sink;
+use md_images::Access;
 use md_words::ArrayTask;
 use std::alloc::Global;
 use std::thread::Threads;

@@ -15,9 +15,9 @@ use crate::stored_marks::StoredMarks;
 use md_advice::CommandFault;
 use md_array::Mirror;
 use md_commands::remove_member;
-use md_device::{Access, Device};
+use md_device::Device;
 use md_examine::Sink;
-use md_images::{Images, image_list, put_back, take_images};
+use md_images::{Access, Images, image_list, put_back, take_images};
 use std::alloc::Global;
 
 // The devices with one more at this place, in a list that is empty and has room for all of them.

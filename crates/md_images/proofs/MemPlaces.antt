@@ -9,7 +9,7 @@ use Rattle.std.proofs.lemmas.Option.{slice_get-get_or, slice_get_past}
 use Rattle.std.proofs.lemmas.Grind.{common_steps}
 use Rattle.std.proofs.lemmas.Slice.Eq.{bytes_eq-Decides}
 use Rattle.md_images.specs.declared.memory_images.Place.{Place}
-use Rattle.md_device.specs.declared.image_fault.ImageFault.{ImageFault}
+use Rattle.md_images.specs.declared.image_fault.ImageFault.{ImageFault}
 use Rattle.md_images.specs.Images.{IsRefused}
 use Rattle.md_images.specs.MemImages.{Named, is_named, asked_in, changeable_in, holds_in, device_in}
 use Rattle.md_images.specs.MemPlaces.{named, named_places}

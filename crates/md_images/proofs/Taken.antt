@@ -6,7 +6,7 @@ use Rattle.std.specs.Str.{bytes_eq}
 use Rattle.std.proofs.lemmas.List.{length-append, length-map, get_or-map}
 use Rattle.std.proofs.lemmas.Slice.Eq.{bytes_eq-Decides}
 use Rattle.md_images.specs.declared.image_word.ImageWord.{ImageWord}
-use Rattle.md_device.specs.declared.image_fault.ImageFault.{ImageFault}
+use Rattle.md_images.specs.declared.image_fault.ImageFault.{ImageFault}
 use Rattle.md_images.specs.declared.image_refusal.ImageRefusal.TheVariants.{Unopened}
 use Rattle.md_images.specs.Images.{IsRefused}
 use Rattle.md_images.specs.Taking.{AreOut, ArePut, IsBad, IsDistinct, IsOther, IsThere, Repeats, TakesFirst, Text, name_at, names_of, word_of}

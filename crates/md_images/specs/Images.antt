@@ -1,9 +1,9 @@
 -- How an image may be had.
 use Rattle.std.specs.Prelude.{◌≡◌, ◌⊎◌, Bool, true, false, Option, None}
-use Rattle.md_device.specs.declared.image_fault.ImageFault.{ImageFault}
-use Rattle.md_device.specs.declared.image_fault.ImageFault.TheVariants.{NotWritable}
-use Rattle.md_device.specs.declared.access.Access.{Access}
-use Rattle.md_device.specs.declared.access.Access.TheVariants.{Change, Look}
+use Rattle.md_images.specs.declared.image_fault.ImageFault.{ImageFault}
+use Rattle.md_images.specs.declared.image_fault.ImageFault.TheVariants.{NotWritable}
+use Rattle.md_images.specs.declared.access.Access.{Access}
+use Rattle.md_images.specs.declared.access.Access.TheVariants.{Change, Look}
 
 -- whether an image is had for this access, where it may be changed or not
 abbrev pub allows : Access → Bool → Bool

@@ -1,5 +1,5 @@
 // Why an image word is refused.
-use md_device::ImageFault;
+use crate::image_fault::ImageFault;
 use thiserror::Error;
 
 /// Why an image word is refused.

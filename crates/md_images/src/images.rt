@@ -2,8 +2,9 @@
 ghost use Rattle.std.specs.Prelude.{◌≡◌, ◌≢◌, ℕ, List, Bool, false, true, Option, Some, None, IfOk, MatchResult};
 ghost use Rattle.md_images.specs.Images.{IsRefused, allows, asks};
 
+use crate::access::Access;
+use crate::image_fault::ImageFault;
 use crate::shared_read::SharedRead;
-use md_device::{Access, ImageFault};
 
 /// Devices that are taken out and put back under their names.
 pub trait Images {

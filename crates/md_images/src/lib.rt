@@ -2,8 +2,10 @@
 //! overlays laid over devices that are only looked at.
 #![tactic(auto)]
 
+mod access;
 mod count;
 mod fault;
+mod image_fault;
 mod image_refusal;
 mod image_word;
 mod images;
@@ -13,7 +15,9 @@ mod seen;
 mod shared_read;
 mod taking;
 
+pub use access::Access;
 pub use fault::ImagesFault;
+pub use image_fault::ImageFault;
 pub use image_refusal::ImageRefusal;
 pub use image_word::{ImageWord, image_list, is_missing};
 pub use images::Images;

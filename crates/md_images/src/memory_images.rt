@@ -4,9 +4,10 @@ ghost use Rattle.std.specs.Str.{bytes_eq};
 ghost use Rattle.md_images.specs.Images.{allows, asks};
 ghost use Rattle.md_images.specs.MemImages.{asked_in, changeable_in, device_in, holds_in};
 
+use crate::access::Access;
+use crate::image_fault::ImageFault;
 use crate::images::Images;
 use crate::shared_read::SharedRead;
-use md_device::{Access, ImageFault};
 use std::alloc::{AllocError, Global};
 use std::marker::Model;
 

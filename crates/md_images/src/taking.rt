@@ -5,11 +5,11 @@ ghost use Rattle.std.specs.Str.{bytes_eq};
 ghost use Rattle.md_images.specs.Images.{allows, asks};
 ghost use Rattle.md_images.specs.Taking.{ArePut, IsBad, IsDistinct, RefusesImages, TakesFirst, TakesImages, Text, name_at, names_of, word_of};
 
+use crate::access::Access;
 use crate::fault::ImagesFault;
 use crate::image_refusal::ImageRefusal;
 use crate::image_word::ImageWord;
 use crate::images::Images;
-use md_device::Access;
 use std::alloc::Global;
 
 fn is_among(words: &[ImageWord<'_>], name: &str) -> bool

@@ -3,8 +3,8 @@ ghost use Rattle.std.specs.Prelude.{false, None};
 
 use crate::progress::Progress;
 use crate::watched::WatchedFile;
-use md_device::{Access, FileDevice, ImageFault};
-use md_images::Images;
+use md_files::FileDevice;
+use md_images::{Access, ImageFault, Images};
 
 /// Images under their paths, whose reads and writes are counted. A device that is put back is closed.
 #[derive(Drop)]

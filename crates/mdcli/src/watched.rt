@@ -2,7 +2,8 @@
 ghost use Rattle.std.specs.Prelude.{◌≡◌, ◌+◌, ◌*◌, ◌%◌, ◌^◌, ◌≤◌, [], false, length, replicate};
 
 use crate::progress::Progress;
-use md_device::{Device, FileDevice, ReadFault, WriteFault};
+use md_device::{Device, ReadFault, WriteFault};
+use md_files::FileDevice;
 use md_images::SharedRead;
 use std::sync::Mutex;
 

@@ -2,7 +2,9 @@
 ghost use Rattle.std.specs.Prelude.{◌≡◌, IfOk};
 
 use crate::checks::{holds, same};
-use md_device::{Access, Device, FileDevice, WriteFault};
+use md_device::{Device, WriteFault};
+use md_files::FileDevice;
+use md_images::Access;
 use std::fs::{File, Files};
 use std::process::Abort;
 use std::test::Fail;

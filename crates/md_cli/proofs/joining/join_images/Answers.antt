@@ -1,7 +1,7 @@
 use Rattle.std.proofs.Common.{◌≡◌, ◌∙◌, ◌+◌, ◌++◌, ◌∷◌, [], false, List, length, map, ap, subst, sym, arith}
 use Rattle.std.specs.Borrow.{Bor}
 use Rattle.std.proofs.lemmas.List.{length-append, length-map}
-use Rattle.md_device.specs.declared.access.Access.TheVariants.{Change}
+use Rattle.md_images.specs.declared.access.Access.TheVariants.{Change}
 use Rattle.md_cli.specs.Joining.{JoinsDevices}
 use Rattle.md_cli.specs.Arrays.{UsesImages}
 use Rattle.md_images.specs.Images.{allows}

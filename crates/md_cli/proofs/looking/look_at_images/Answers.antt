@@ -1,5 +1,5 @@
 use Rattle.std.proofs.Common.{◌≡◌, ◌∙◌, Bool, true, false, List, Option, Err, map, refl, ap, subst, inr, rules}
-use Rattle.md_device.specs.declared.access.Access.TheVariants.{Look}
+use Rattle.md_images.specs.declared.access.Access.TheVariants.{Look}
 use Rattle.md_advice.specs.Faults.{of_images}
 use Rattle.md_images.specs.Images.{allows}
 use Rattle.md_images.specs.declared.fault.ImagesFault.{ImagesFault}

@@ -1,5 +1,5 @@
 use Rattle.std.proofs.Common.{◌≡◌, ◌∙◌, false, List, Err, map, ap, subst, inr, refl, rules}
-use Rattle.md_device.specs.declared.access.Access.TheVariants.{Change}
+use Rattle.md_images.specs.declared.access.Access.TheVariants.{Change}
 use Rattle.md_advice.specs.Faults.{of_images}
 use Rattle.md_images.specs.Images.{allows}
 use Rattle.md_images.specs.Taking.{RefusesImages, Word, image_list, word_of}

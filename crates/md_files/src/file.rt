@@ -1,12 +1,11 @@
 // A device in a file or a block device.
 ghost use Rattle.std.specs.Prelude.{◌≡◌, ◌≢◌, ◌+◌, ◌*◌, ◌^◌, ◌≤◌, ◌↔◌, ◌⊎◌, [], length, true, false, replicate, None, Ok, IfOk, IsErr, IsErrOf, OnOk, OnErr, IsTrue};
 ghost use Rattle.std.specs.Fs.{file_type, IsDir, IsFile};
-ghost use Rattle.md_device.specs.declared.access.Access.TheVariants.{Look, Change};
+ghost use Rattle.md_images.specs.declared.access.Access.TheVariants.{Look, Change};
 
-use crate::access::Access;
 use crate::block_device::BlockDevice;
-use crate::device::{Device, ReadFault, WriteFault};
-use crate::image_fault::ImageFault;
+use md_device::{Device, ReadFault, WriteFault};
+use md_images::{Access, ImageFault};
 use std::fs::{File, Files, Metadata, OpenOptions, TryLockError};
 use std::io::{ErrorKind, Seek, SeekFrom};
 use std::marker::Model;
@@ -34,7 +33,7 @@ pub struct FileDevice {
 
 impl Model for FileDevice {
     ghost use Rattle.std.specs.Prelude.{◌^◌, ◌≤◌};
-    ghost use Rattle.md_device.specs.File.{Opened};
+    ghost use Rattle.md_files.specs.File.{Opened};
 
     ghost Value = { Opened };
 

@@ -1,0 +1,2 @@
+-- A device in a file, as contracts see it.
+pub mod File
