@@ -5,7 +5,7 @@ use Rattle.std.proofs.Math.Nat.{eq-or-lt_of_le}
 use Rattle.md_bitmap.specs.declared.chunks.Chunks.{Chunks}
 use Rattle.md_bitmap.specs.Chunks.{InChunk}
 use Rattle.md_bitmap.specs.Marks.{Bitmap, is_set}
-use Rattle.md_pass.proofs.Tests.{has_new, has_old, has_either}
+use Rattle.md_workers.proofs.Tests.{has_new, has_old, has_either}
 use Rattle.md_check.specs.Differences.{AddsDifferent, AreDifferent, DifferIn, DifferWithin}
 use Rattle.md_check.proofs.ChunkSectors.{chunk_is, in_its_chunk}
 

@@ -16,7 +16,7 @@ use Rattle.md_collect.specs.Reading.{Fails}
 use Rattle.md_assembly.specs.States.{is_in_sync}
 use Rattle.md_assembly.proofs.Indices.{got_same, got_within}
 use Rattle.md_kept_members.specs.View.{MemberView}
-use Rattle.md_pass.specs.Lanes.{OnlyRead}
+use Rattle.md_workers.specs.Lanes.{OnlyRead}
 use Rattle.md_state.specs.DeviceChanges.{EachPair, IsUntouched, LeavesAsWas, StaysHonest}
 use Rattle.md_state.specs.MakingClean.{IsIdle}
 use Rattle.md_state.specs.Members.{IsAlone, IsMember}

@@ -8,7 +8,7 @@ use Rattle.md_bitmap.specs.declared.chunks.Chunks.{Chunks}
 use Rattle.md_badblocks.specs.declared.run.Run.{Run}
 use Rattle.md_badblocks.specs.Runs.{IsBad}
 use Rattle.md_collect.specs.Places.{HasRoom}
-use Rattle.md_pass.proofs.OnlyReads.{not_read, read_then}
+use Rattle.md_workers.proofs.OnlyReads.{not_read, read_then}
 use Rattle.md_check.specs.declared.seat.Seat.{Seat}
 use Rattle.md_check.specs.declared.lent.Missed.{Missed}
 use Rattle.md_check.specs.Differences.{DifferIn}

@@ -17,7 +17,7 @@ use crate::seats::{leave_seats, seats_of};
 use md_array::Mirror;
 use md_bitmap::Marks;
 use md_device::Device;
-use md_pass::Gate;
+use md_workers::Gate;
 use std::alloc::Global;
 use std::thread::Threads;
 

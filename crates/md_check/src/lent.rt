@@ -12,7 +12,7 @@ use crate::seat::Seat;
 use crate::turn::turn;
 use md_bitmap::{Chunks, Marks};
 use md_device::Device;
-use md_pass::Gate;
+use md_workers::Gate;
 use std::thread::Threads;
 
 /// How many sectors of each member are read at a time.

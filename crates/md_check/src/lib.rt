@@ -15,4 +15,4 @@ mod turn;
 
 pub use check::check_array;
 pub use fault::CheckFault;
-pub use md_pass::Gate;
+pub use md_workers::Gate;

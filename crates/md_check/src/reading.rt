@@ -4,7 +4,7 @@ ghost use Rattle.md_device.specs.Device.{held};
 ghost use Rattle.md_badblocks.specs.Runs.{IsBad};
 ghost use Rattle.md_collect.specs.Places.{HasRoom};
 ghost use Rattle.md_collect.specs.Reading.{Fails};
-ghost use Rattle.md_pass.specs.Lanes.{OnlyRead};
+ghost use Rattle.md_workers.specs.Lanes.{OnlyRead};
 ghost use Rattle.md_check.specs.Readings.{HasRead, HasUnlisted, IsToRead};
 ghost use Rattle.md_check.specs.Seats.{IsSeated};
 
@@ -12,7 +12,7 @@ use crate::seat::Seat;
 use md_badblocks::BadSet;
 use md_bitmap::Chunks;
 use md_device::{Device, ReadFault};
-use md_pass::Gate;
+use md_workers::Gate;
 
 /// Reads the window of so many sectors from this one on, if the seat's member is in sync. At the first read
 /// that fails it ends, and notes the chunk.

@@ -8,7 +8,7 @@ use crate::reading::work;
 use crate::seat::Seat;
 use md_bitmap::Chunks;
 use md_device::Device;
-use md_pass::Gate;
+use md_workers::Gate;
 use std::thread;
 use std::thread::Threads;
 

@@ -36,7 +36,7 @@ pub fn read_chunk<D: Device>(
 }
 
 /// The same, in the memory of a list that is no longer wanted. It takes no memory where that list
-/// has as many bytes as the chunk, or more.
+/// has room for as many bytes as the chunk has.
 #[tactic(auto, unfolding(crate::specs::Places::chunk_on), using(md_device::proofs::Leaving::leaves_none))]
 pub fn read_chunk_into<D: Device>(
     alloc: Global,
@@ -61,14 +61,14 @@ pub fn read_chunk_into<D: Device>(
     Ok(report)
 }
 
-// A list of so many bytes, in the memory of this one if it is as long or longer.
+// A list of so many bytes, in the memory of this one if it has room for them.
 fn sized(alloc: Global, spare: Vec<u8>, size: usize) -> Result<Vec<u8>, AllocError>
     ensures { IfOk result (λ bytes. vec_len bytes ≡ size) }
 {
     let mut bytes = spare;
-    if bytes.len() < size {
+    if bytes.capacity() < size {
         return vec![in alloc; 0; size];
     }
-    bytes.truncate(size);
+    bytes.resize(size, 0)?;
     Ok(bytes)
 }

@@ -11,7 +11,7 @@ use Rattle.md_collect.specs.Reading.{Fails}
 use Rattle.md_collect.specs.Reports.{Copying}
 use Rattle.md_device.specs.declared.device.Device.{Ghosts}
 use Rattle.md_pass.specs.Beside.{KeepsBeside, SameBesideCopied}
-use Rattle.md_pass.specs.Lanes.{AreOnlyRead, OnlyRead}
+use Rattle.md_workers.specs.Lanes.{AreOnlyRead, OnlyRead}
 use Rattle.md_pass.specs.Copied.{AreCopied}
 use Rattle.md_pass.specs.Sources.{MayRead, copy_of}
 use Rattle.md_pass.specs.declared.source.Source.{Source}

@@ -13,7 +13,7 @@ use Rattle.md_device.specs.Splice.{part}
 use Rattle.md_device.specs.declared.device.Device.{Ghosts}
 use Rattle.md_kept_members.specs.View.{MemberView}
 use Rattle.md_pass.specs.Beside.{KeepsBeside, has_chunk}
-use Rattle.md_pass.specs.Lanes.{AreOnlyRead, OnlyRead}
+use Rattle.md_workers.specs.Lanes.{AreOnlyRead, OnlyRead}
 use Rattle.md_pass.specs.Sources.{copy_of}
 use Rattle.md_state.specs.MakingClean.{IsIdle}
 use Rattle.md_state.specs.Members.{IsMember}

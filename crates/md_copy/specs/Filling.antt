@@ -8,7 +8,7 @@ use Rattle.md_assembly.specs.States.{is_in_sync_as}
 use Rattle.md_kept_members.specs.View.{MemberView}
 use Rattle.md_pass.specs.Beside.{KeepsBeside, SameBesideCopied}
 use Rattle.md_pass.specs.Copied.{AreJoined, failed_slots}
-use Rattle.md_pass.specs.Lanes.{OnlyRead}
+use Rattle.md_workers.specs.Lanes.{OnlyRead}
 use Rattle.md_pass.specs.Readings.{is_of}
 use Rattle.md_pass.specs.Sources.{copy_of}
 use Rattle.md_state.specs.DiskWrites.{AtDevice}

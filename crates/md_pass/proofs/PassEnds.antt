@@ -12,14 +12,14 @@ use Rattle.md_bitmap.specs.Marks.{Bitmap, is_set}
 use Rattle.md_collect.specs.Places.{chunk_on}
 use Rattle.md_collect.specs.Collecting.{CollectorView, copying}
 use Rattle.md_collect.specs.Reports.{Copying}
-use Rattle.md_pass.specs.declared.lane.Lane.{Lane}
+use Rattle.md_workers.specs.declared.lane.Lane.{Lane}
 use Rattle.md_pass.specs.declared.fault.PassFault.{PassFault}
 use Rattle.md_pass.specs.declared.fault.PassFault.TheVariants.{NoMemory, TargetFault}
 use Rattle.md_pass.specs.declared.preparing.Preparation.{Preparation}
 use Rattle.md_pass.specs.declared.reading.Reading.{Reading}
 use Rattle.md_pass.specs.declared.source.Source.{Source}
 use Rattle.md_pass.specs.Beside.{has_chunk}
-use Rattle.md_pass.specs.Lanes.{OnlyRead, AreOnlyRead, is_failed}
+use Rattle.md_workers.specs.Lanes.{OnlyRead, AreOnlyRead, is_failed}
 use Rattle.md_pass.specs.Places.{AreInTurn, AreTaken}
 use Rattle.md_pass.specs.Readings.{IsLaneOf, IsOrderOf, is_of, slots_of}
 use Rattle.md_pass.specs.Settling.{Books, books}
@@ -28,12 +28,12 @@ use Rattle.md_pass.specs.Preparing.{CanCopy}
 use Rattle.md_pass.specs.Sources.{MayRead}
 use Rattle.md_pass.specs.Passes.{HasLanded, IsPassing, IsUnderWay, LanesOnlyRead, count_left, is_left}
 use Rattle.md_pass.proofs.Departures.{related}
-use Rattle.md_pass.proofs.OnlyReads.{not_read}
+use Rattle.md_workers.proofs.OnlyReads.{not_read}
 use Rattle.md_pass.proofs.Orders.{order_covers}
 use Rattle.md_pass.proofs.PassStarts.{all_fit, device_at, in_turn, reading_like, source_at}
 use Rattle.md_pass.proofs.Lefts.{order_left}
 use Rattle.md_pass.proofs.Totals.{all_counted, same_sums, same_totals, sum_none}
-use Rattle.md_pass.proofs.Workers.{chunks_kept}
+use Rattle.md_workers.proofs.Workers.{chunks_kept}
 
 same_tests : (a b : Bool) → (a ≡ true → b ≡ true) → (b ≡ true → a ≡ true) → a ≡ b
 same_tests true b f h = sym (f refl)

@@ -21,13 +21,13 @@ use Rattle.md_pass.specs.declared.pass.BoardCounts.{BoardCounts}
 use Rattle.md_pass.specs.declared.preparing.Preparation.{Preparation}
 use Rattle.md_pass.specs.declared.source.Source.{Source}
 use Rattle.md_pass.specs.Readings.{has_slot, is_of}
-use Rattle.md_pass.specs.Lanes.{AreOnlyRead}
+use Rattle.md_workers.specs.Lanes.{AreOnlyRead}
 use Rattle.md_pass.specs.Copied.{AreCopied, AreUncopied, BreaksOff, CountFailed, EndsPass, HasCopied, HoldsChunkOf, PassState, WritesPlanned, failed_slots, is_failed_slot}
 use Rattle.md_pass.specs.Preparing.{CanCopy, IsPreparedFor}
 use Rattle.md_pass.specs.Sources.{MayRead}
 use Rattle.md_pass.proofs.Besides.{none_copied}
 use Rattle.md_pass.proofs.FilteredLists.{all_that_pass, any_that_passes}
-use Rattle.md_pass.proofs.OnlyReads.{not_read}
+use Rattle.md_workers.proofs.OnlyReads.{not_read}
 
 -- those of the sources that have a slot
 abbrev pub with_slots : List Slot → List Source → List Source

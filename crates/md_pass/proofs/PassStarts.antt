@@ -10,7 +10,7 @@ use Rattle.md_device.specs.declared.device.Device.{Ghosts}
 use Rattle.md_bitmap.specs.Marks.{is_set}
 use Rattle.md_collect.specs.Places.{HasRoom}
 use Rattle.md_collect.specs.Collecting.{ArePlanned, IsFresh}
-use Rattle.md_pass.specs.declared.lane.Lane.{Lane}
+use Rattle.md_workers.specs.declared.lane.Lane.{Lane}
 use Rattle.md_pass.specs.declared.preparing.Preparation.{Preparation}
 use Rattle.md_pass.specs.declared.reading.Reading.{Reading}
 use Rattle.md_pass.specs.declared.source.Source.{Source}
@@ -19,12 +19,12 @@ use Rattle.md_pass.specs.Readings.{IsLaneOf, IsOrderOf}
 use Rattle.md_pass.specs.Settling.{Books}
 use Rattle.md_pass.specs.Preparing.{IsOrdered}
 use Rattle.md_pass.specs.Sources.{MayRead}
-use Rattle.md_pass.specs.Lanes.{HasRead}
+use Rattle.md_workers.specs.Lanes.{HasRead}
 use Rattle.md_pass.specs.Passes.{HasBooks, IsFirst, IsUnderWay, IsPassing, count_left}
 use Rattle.md_pass.proofs.InTurn.{taken_at, turns_fit}
 use Rattle.md_pass.proofs.Orders.{one_slot, order_apart, order_chunk, order_planned, slot_at}
 use Rattle.md_pass.proofs.Rounds.{first_goes}
-use Rattle.md_pass.proofs.Workers.{none_read}
+use Rattle.md_workers.proofs.Workers.{none_read}
 
 no_source : Source
 no_source = record { place = 0; role = 0; offset = 0 }

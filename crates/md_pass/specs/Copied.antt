@@ -11,7 +11,7 @@ use Rattle.md_pass.specs.declared.fault.PassFault.TheVariants.{NoMemory, TargetF
 use Rattle.md_pass.specs.declared.pass.BoardCounts.{BoardCounts}
 use Rattle.md_pass.specs.declared.source.Source.{Source}
 use Rattle.md_pass.specs.Beside.{KeepsBeside, SameBesideCopied, has_chunk}
-use Rattle.md_pass.specs.Lanes.{AreOnlyRead}
+use Rattle.md_workers.specs.Lanes.{AreOnlyRead}
 use Rattle.md_pass.specs.Readings.{is_of}
 
 -- no chunk of the plan was copied

@@ -5,9 +5,9 @@ use Rattle.md_bitmap.specs.Marks.{Bitmap, is_set}
 use Rattle.md_collect.specs.Places.{IsChunk, HasRoom, chunk_on}
 use Rattle.md_collect.specs.Reports.{is_planned}
 use Rattle.md_collect.specs.Collecting.{copying}
-use Rattle.md_pass.specs.declared.lane.Lane.{Lane}
+use Rattle.md_workers.specs.declared.lane.Lane.{Lane}
 use Rattle.md_pass.specs.Beside.{SameBesideCopied, has_chunk}
-use Rattle.md_pass.specs.Lanes.{HasRead, OnlyRead, slots_read}
+use Rattle.md_workers.specs.Lanes.{HasRead, OnlyRead, slots_read}
 use Rattle.md_pass.specs.Settling.{Books}
 
 -- of these chunks, those that were not copied

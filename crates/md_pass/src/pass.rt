@@ -7,9 +7,9 @@ ghost use Rattle.md_pass.specs.Copied.{AreUncopied, BreaksOff, EndsPass, WritesP
 ghost use Rattle.md_pass.specs.Preparing.{CanCopy, sources_of};
 ghost use Rattle.md_pass.specs.Sources.{MayRead, copy_of};
 
-use crate::board::Board;
+use md_workers::Board;
 use crate::fault::PassFault;
-use crate::gate::Gate;
+use md_workers::Gate;
 use crate::preparing::{Preparation, prepare};
 use crate::put_back::put_back;
 use crate::readings::turns_of;

@@ -7,7 +7,7 @@ ghost use Rattle.md_pass.specs.Beside.{WritesBeside};
 ghost use Rattle.md_pass.specs.Settling.{Books, books, IsAllowed, IsSettled};
 ghost use Rattle.md_pass.specs.Passes.{HaveSettled, IsPassing, SameDevices};
 
-use crate::lane::Lane;
+use md_workers::Lane;
 use md_bitmap::Marks;
 use md_collect::Collector;
 use md_device::{Device, WriteFault};

@@ -8,12 +8,12 @@ ghost use Rattle.md_pass.specs.Copied.{OnFault};
 ghost use Rattle.md_pass.specs.Settling.{books};
 ghost use Rattle.md_pass.specs.Passes.{IsPassing, LanesOnlyRead};
 
-use crate::board::Board;
+use md_workers::Board;
 use crate::fault::PassFault;
-use crate::gate::Gate;
-use crate::lane::Lane;
+use md_workers::Gate;
+use md_workers::Lane;
 use crate::settle::settle_all;
-use crate::turn::turn;
+use md_workers::turn;
 use md_bitmap::{Chunks, Marks};
 use md_collect::Collector;
 use md_device::Device;

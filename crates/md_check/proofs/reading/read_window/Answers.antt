@@ -1,6 +1,6 @@
 use Rattle.std.proofs.Common.{◌≡◌, ◌∙◌, ◌+◌, ◌-◌, ◌/◌, ◌≤◌, ℕ, List, length, drop, subst, arith, length-drop}
 use Rattle.std.proofs.lemmas.List.{length-take-le}
-use Rattle.md_pass.proofs.OnlyReads.{read_then}
+use Rattle.md_workers.proofs.OnlyReads.{read_then}
 use Rattle.md_check.specs.Readings.{HasUnlisted}
 use Rattle.md_check.proofs.SectorsRead.{length-replaced, more_read}
 use Rattle.md_check.proofs.reading.read_window.Goals as goal

@@ -1,5 +1,5 @@
 use Rattle.std.proofs.Common.{◌≡◌, ◌∙◌, ◌+◌, ◌<◌, ◌++◌, ◌∷◌, [], suc, List, length, map, take, ap, arith, length-append, length-drop, take_all}
-use Rattle.md_pass.proofs.LaneMaking.{first_is, rest_is}
+use Rattle.md_workers.proofs.FirstOut.{first_is, rest_is}
 use Rattle.md_check.specs.declared.seat.Seat.{Seat}
 use Rattle.md_check.proofs.TakenInTurn.{left_next}
 use Rattle.md_check.proofs.seats.leave_seats.Goals as goal

@@ -7,7 +7,7 @@ use Rattle.md_pass.specs.Settling.{books}
 use Rattle.md_pass.specs.Places.{FitPlaces}
 use Rattle.md_pass.specs.Copied.{failed_slots, pass_state}
 use Rattle.md_pass.specs.Preparing.{sources_of}
-use Rattle.md_pass.specs.Tally.{Tally}
+use Rattle.md_workers.specs.Tally.{Tally}
 use Rattle.md_pass.proofs.Orders.{few_slots}
 use Rattle.md_pass.proofs.PassStarts.{all_fit, in_turn, starts, turns_enough}
 use Rattle.md_pass.proofs.PassEnds.{count_failed, devices_read, has_copied, have_left, lanes_parts, none_left, on_fault}

@@ -1,8 +1,8 @@
 use Rattle.std.proofs.Common.{◌≡◌, ◌∷◌, Some, None, true, false, refl, ap, sym, ◌∙◌, rules}
-use Rattle.md_pass.specs.Lanes.{is_failed}
+use Rattle.md_workers.specs.Lanes.{is_failed}
 use Rattle.md_pass.proofs.Besides.{writes_one}
 use Rattle.md_pass.proofs.Settles.{held}
-use Rattle.md_pass.proofs.Workers.{none_given}
+use Rattle.md_workers.proofs.Workers.{none_given}
 use Rattle.md_pass.proofs.settle.settle.Goals as goal
 
 pub returns-then-is_err-clause-writes : goal.returns-then-is_err-clause-writes

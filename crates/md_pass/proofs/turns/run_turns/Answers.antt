@@ -3,13 +3,13 @@ use Rattle.std.specs.List.{All}
 use Rattle.md_collect.specs.Reports.{Copying}
 use Rattle.md_collect.specs.Collecting.{copying}
 use Rattle.md_pass.specs.declared.fault.PassFault.TheVariants.{TargetFault}
-use Rattle.md_pass.specs.declared.lane.Lane.{Lane}
+use Rattle.md_workers.specs.declared.lane.Lane.{Lane}
 use Rattle.md_pass.specs.Beside.{KeepsBeside}
-use Rattle.md_pass.specs.Lanes.{IsReady}
+use Rattle.md_workers.specs.Lanes.{IsReady}
 use Rattle.md_pass.specs.Settling.{books}
 use Rattle.md_pass.specs.Passes.{IsPassing}
 use Rattle.md_pass.proofs.Besides.{fails_later, keeps_then}
-use Rattle.md_pass.proofs.Workers.{chunks_kept}
+use Rattle.md_workers.proofs.Workers.{chunks_kept}
 use Rattle.md_pass.proofs.Rounds.{all_done, all_ready, next_done, sources_read, turned}
 use Rattle.md_pass.proofs.turns.run_turns.Goals as goal
 

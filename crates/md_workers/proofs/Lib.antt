@@ -1,0 +1,4 @@
+pub mod Tests
+pub mod FirstOut
+pub mod OnlyReads
+pub mod Workers

@@ -1,0 +1,6 @@
+-- What a share of a board stands for.
+pub mod Tally
+-- How many chunks a worker reads in a turn.
+pub mod Batches
+-- A lane: a source, and the chunks that it reads one after another.
+pub mod Lanes
