@@ -1,51 +1,49 @@
-#!/usr/bin/env python3
-"""commands.py LIBRARY: each call for memory is refused in turn, of each run of the cases of tests/commands.
+"""The cases of tests/commands, each run of the program with each of its calls for memory refused in turn.
 
 No run may fault or hang. Each ends as with all memory, or with a refusal and no report, and changes no image but those that
-it changes with all memory.
-"""
+it changes with all memory."""
 
 import concurrent.futures
-import os
 import subprocess
 import sys
 import tempfile
 from pathlib import Path
 
-sys.dont_write_bytecode = True
-sys.path[:0] = [str(Path(__file__).resolve().parent.parent), str(Path(__file__).resolve().parent.parent / "commands")]
+sys.path[:0] = [str(Path(__file__).resolve().parent.parent / "commands")]
 
 import cases  # noqa: E402
 import support  # noqa: E402
+from sweeping import MOST, sweep  # noqa: E402
 
 SECONDS = 10
-# The calls have come to an end once so many runs in a row end as with all memory. Past the limit they are not seen to.
-ENOUGH, LIMIT = 10, 3000
 
 
-class Refusing:
-    """The program in a folder, where one call for memory is refused, or none."""
+class Program:
+    """The program in a folder, under these settings."""
 
-    def __init__(self, folder, library):
-        self.folder, self.library = folder, library
-        self.number = 0
+    def __init__(self, folder, settings=None):
+        self.folder, self.settings = folder, settings
+        self.answer = None
 
     def __call__(self, words, given):
-        settings = dict(os.environ)
-        if self.number:
-            settings.update(REFUSED_CALL=str(self.number), LD_PRELOAD=self.library)
         try:
             done = subprocess.run(
                 [str(support.PROGRAM)] + words,
                 cwd=self.folder,
-                env=settings,
+                env=self.settings,
                 input=given,
                 capture_output=True,
                 timeout=SECONDS,
             )
         except subprocess.TimeoutExpired:
-            return ("no answer within %d seconds" % SECONDS, "", "")
-        return (done.returncode, done.stdout.decode("utf-8", "backslashreplace"), done.stderr.decode("utf-8", "backslashreplace"))
+            self.answer = ("no answer within %d seconds" % SECONDS, "", "")
+        else:
+            self.answer = (
+                done.returncode,
+                done.stdout.decode("utf-8", "backslashreplace"),
+                done.stderr.decode("utf-8", "backslashreplace"),
+            )
+        return self.answer
 
 
 def against_refusal(step, answer, before, after):
@@ -57,57 +55,53 @@ def against_refusal(step, answer, before, after):
     return reasons
 
 
-def sweep(name, step, program):
-    """Plays a step for each number of a call, to the end of the calls, each time on the images as they are now. What comes of it: a name,
-    and the reasons against it."""
-    before = cases.read_images(program.folder)
-    whole = program.number = 0
-    while whole < ENOUGH and program.number < LIMIT:
-        program.number += 1
-        answers = []
-
-        def run(words, given):
-            answers.append(program(words, given))
-            return answers[0]
-
-        if not step.play(program.folder, run):
-            whole += 1
-        else:
-            whole = 0
-            reasons = against_refusal(step, answers[0], before, cases.read_images(program.folder))
-            if reasons:
-                return "%s, where call %d is refused" % (name, program.number), reasons
-        cases.write_images(program.folder, before)
-    calls = program.number - ENOUGH
-    if whole < ENOUGH or not calls:
-        return name, ["no call is refused" if not calls else "the calls come to no end"]
-    return "%s: %d calls" % (name, calls), []
+def play(folder, step, before, settings):
+    """A run that is refused a call. Gives whether it answered so, and the reasons against it; then the images are as before."""
+    program = Program(folder, settings)
+    differs = step.play(folder, program)
+    reasons = against_refusal(step, program.answer, before, cases.read_images(folder)) if differs else []
+    cases.write_images(folder, before)
+    return "NoMemory" in program.answer[2], reasons
 
 
-def sweep_case(place):
+def sweep_step(case, step, folder, library):
+    """What comes of a step: a name, the reasons against it, the command, and whether it answered that it found no memory."""
+    before = cases.read_images(folder)
+    calls, answers_so = 0, False
+    for number, ended in sweep(library, lambda settings: play(folder, step, before, settings)):
+        if number > MOST:
+            return case, ["the calls come to no end"], step.words[0], answers_so
+        said, reasons = ended
+        calls, answers_so = number, answers_so or said
+        if reasons:
+            return "%s: %s, where call %d is refused" % (case, step.words[0], number), reasons, step.words[0], answers_so
+    reasons = [] if calls else ["no call is refused"]
+    return "%s: %s: %d calls" % (case, step.words[0], calls), reasons, step.words[0], answers_so
+
+
+def sweep_case(place, library):
     """What comes of each step of the case in this place."""
     name, images, steps = cases.CASES[place]
     outcomes = []
     with tempfile.TemporaryDirectory() as scratch:
-        program = Refusing(Path(scratch), sys.argv[1])
-        cases.write_images(program.folder, images)
+        folder = Path(scratch)
+        cases.write_images(folder, images)
         for step in steps:
             if isinstance(step, cases.Step):
-                outcomes.append(sweep("%s: %s" % (name, step.words[0]), step, program))
-            program.number = 0
-            step.play(program.folder, program)
+                outcomes.append(sweep_step(name, step, folder, library))
+            step.play(folder, Program(folder))
     return outcomes
 
 
-def main():
-    tally = support.Tally()
+def sweep_all(tally, library):
+    """Sweeps each case. Gives the commands that answered `NoMemory'."""
+    answered = set()
     # A case takes up to minutes, so there are as many at a time as processors.
     with concurrent.futures.ProcessPoolExecutor() as workers:
-        for outcomes in workers.map(sweep_case, range(len(cases.CASES))):
-            for name, reasons in outcomes:
+        count = len(cases.CASES)
+        for outcomes in workers.map(sweep_case, range(count), [library] * count):
+            for name, reasons, command, answers_so in outcomes:
                 tally.judge(name, reasons)
-    return tally.close()
-
-
-if __name__ == "__main__":
-    sys.exit(main())
+                if answers_so:
+                    answered.add(command)
+    return answered

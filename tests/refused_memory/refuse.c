@@ -1,6 +1,8 @@
-/* Preloaded: one call for memory is refused, the one whose number stands in REFUSED_CALL, counted from 1. Where LEFT_BLOCKS
-   is set, a program that ends with blocks that it did not free has the status 99. */
+/* Preloaded: one call for memory is refused, the one whose number stands in REFUSED_CALL, counted from 1. Where REFUSED_NOTE
+   names a file, that is there then, so that whoever sweeps knows when the calls have come to their end. Where LEFT_BLOCKS is
+   set, a program that ends with blocks that it did not free has the status 99. */
 #include <errno.h>
+#include <fcntl.h>
 #include <stddef.h>
 #include <stdlib.h>
 #include <unistd.h>
@@ -18,6 +20,14 @@ static void *taken(void *block)
     return block;
 }
 
+static void note(void)
+{
+    const char *name = getenv("REFUSED_NOTE");
+    int file = name ? open(name, O_CREAT | O_WRONLY, 0600) : -1;
+    if (file >= 0)
+        close(file);
+}
+
 static int is_refused(void)
 {
     static long wanted = -1, calls;
@@ -25,8 +35,9 @@ static int is_refused(void)
         const char *word = getenv("REFUSED_CALL");
         wanted = word ? atol(word) : 0;
     }
-    if (++calls != wanted)
+    if (__atomic_add_fetch(&calls, 1, __ATOMIC_RELAXED) != wanted)
         return 0;
+    note();
     errno = ENOMEM;
     return 1;
 }

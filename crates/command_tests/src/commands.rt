@@ -1,117 +1,133 @@
-// One run of the program over images in memory.
+// Commands over images in memory, one after another.
 use crate::checks::{holds, reads};
-use crate::devices::BadDevice;
+use crate::images::{HeldImages, Image, expect_kept_under, held};
 use crate::silent::Silent;
-use example_members::{bitmap, member_image, vault, zeros};
 use md_cli::{Messages, run};
 use md_commands::{Input, Source};
-use md_device::MemDevice;
 use md_examine::{Output, Sink};
-use md_images::{Access, Images, MemImages};
 use std::alloc::Global;
 use std::process::Abort;
 use std::sync::Wait;
 use std::test::Fail;
 use std::thread::Threads;
 
-pub(crate) type HeldImages = MemImages<BadDevice>;
-
-// The vault's member, on a device whose reads of these sectors fail.
-pub(crate) fn member(alloc: Global, bad: &[u64]) -> Result<BadDevice, Fail> {
-    let bad = Vec::from_slice(alloc, bad)?;
-    let memory = member_image(alloc, &vault(), &bitmap())?;
-    Ok(BadDevice { memory, bad })
+// What comes to the output: a text or bytes, which are all of it, or its end.
+#[derive(Clone, Copy)]
+pub(crate) enum Shows {
+    All(&'static str),
+    Bytes(&'static [u8]),
+    Ends(&'static str),
 }
 
-// A device of the vault's size that holds nothing.
-pub(crate) fn blank(alloc: Global) -> Result<BadDevice, Fail> {
-    let memory = zeros(alloc, 2112)?;
-    Ok(BadDevice {
-        memory,
-        bad: Vec::new(alloc),
-    })
+// A command, its input, and what comes of it: its status, what it says on the errors, and what it shows.
+pub(crate) struct Command {
+    pub(crate) words: &'static [&'static str],
+    pub(crate) input: &'static [u8],
+    pub(crate) messages: Messages,
+    pub(crate) status: u8,
+    pub(crate) says: &'static str,
+    pub(crate) shows: Shows,
+}
+
+// One that takes, says and shows nothing.
+pub(crate) const DONE: Command = Command {
+    words: &[],
+    input: &[],
+    messages: Messages::WithAdvice,
+    status: 0,
+    says: "",
+    shows: Shows::All(""),
+};
+
+// Images, and what comes of commands on them.
+pub(crate) struct Case {
+    pub(crate) images: &'static [Image],
+    pub(crate) commands: &'static [Command],
+    // These images have the bytes of the vault's member then.
+    pub(crate) kept: &'static [&'static str],
 }
 
 // A run with these words on the errors. Its status.
-pub(crate) fn runs<'a, R: Abort + Threads + Wait + Sync, S: Sink>(
+pub(crate) fn runs<'a, R: Abort + Threads + Wait + Sync, I: Source, S: Sink>(
     rt: &R,
     alloc: Global,
     words: &'a [&'a str],
-    images: &mut HeldImages,
-    out: &mut S,
-    messages: Messages,
-    said: &str,
-) -> Result<u8, Fail> {
-    let mut err: Vec<u8> = vec![in alloc]?;
-    let mut input = Input::new([].as_slice());
-    let status = run(
-        rt, alloc, words, images, &mut input, out, &mut err, &Silent, messages,
-    );
-    reads(rt, "the errors", &err, said);
-    drop(err);
-    Ok(status)
-}
-
-// A run that is refused with these words on the errors.
-pub(crate) fn expect_refused<'a, R: Abort + Threads + Wait + Sync, S: Sink>(
-    rt: &R,
-    alloc: Global,
-    words: &'a [&'a str],
-    images: &mut HeldImages,
-    out: &mut S,
-    messages: Messages,
-    said: &str,
-) -> Result<(), Fail> {
-    let status = runs(rt, alloc, words, images, out, messages, said)?;
-    holds(rt, "the status", status == 1);
-    Ok(())
-}
-
-// A write to the array of one image from its first sector on, with these words on the errors. Its status.
-pub(crate) fn writes<R: Abort + Threads + Wait + Sync, I: Source>(
-    rt: &R,
-    alloc: Global,
     images: &mut HeldImages,
     input: &mut I,
-    said: &str,
+    out: &mut S,
+    messages: Messages,
+    says: &str,
 ) -> Result<u8, Fail> {
-    let words = ["mdcli", "write", "--sector", "0", "a"];
     let mut err: Vec<u8> = vec![in alloc]?;
-    let mut out = Output::new(vec![in alloc]?);
     let status = run(
-        rt,
-        alloc,
-        &words,
-        images,
-        input,
-        &mut out,
-        &mut err,
-        &Silent,
-        Messages::Plain,
+        rt, alloc, words, images, input, out, &mut err, &Silent, messages,
     );
-    reads(rt, "the errors", &err, said);
+    reads(rt, "the errors", &err, says);
     drop(err);
-    let out: Vec<u8> = out.into_inner();
-    drop(out);
     Ok(status)
 }
 
-// The device has the bytes of the vault's member.
-pub(crate) fn expect_kept(rt: &impl Abort, alloc: Global, device: &MemDevice) -> Result<(), Fail> {
-    let before = member_image(alloc, &vault(), &bitmap())?;
-    holds(rt, "the image is kept", device.bytes() == before.bytes());
-    drop(before);
+fn expect_shown(rt: &impl Abort, shown: &[u8], wanted: Shows) {
+    match wanted {
+        Shows::All(text) => reads(rt, "the output", shown, text),
+        Shows::Bytes(bytes) => holds(rt, "the output", shown == bytes),
+        Shows::Ends(text) => {
+            let from = shown.len().saturating_sub(text.len());
+            reads(rt, "the end of the output", &shown[from..], text);
+        }
+    }
+}
+
+fn give<R: Abort + Threads + Wait + Sync>(
+    rt: &R,
+    alloc: Global,
+    images: &mut HeldImages,
+    command: &Command,
+) -> Result<(), Fail> {
+    let mut input = Input::new(command.input);
+    let mut out = Output::new(vec![in alloc]?);
+    let status = runs(
+        rt,
+        alloc,
+        command.words,
+        images,
+        &mut input,
+        &mut out,
+        command.messages,
+        command.says,
+    )?;
+    holds(rt, "the status", status == command.status);
+    let shown: Vec<u8> = out.into_inner();
+    expect_shown(rt, &shown, command.shows);
+    drop(shown);
     Ok(())
 }
 
-pub(crate) fn expect_kept_under(
-    rt: &impl Abort,
+fn give_all<R: Abort + Threads + Wait + Sync>(
+    rt: &R,
     alloc: Global,
     images: &mut HeldImages,
-    name: &str,
+    case: &Case,
 ) -> Result<(), Fail> {
-    let device = images.get(name, Access::Look)?;
-    let kept = expect_kept(rt, alloc, &device.memory);
-    drop(device);
-    kept
+    for command in case.commands {
+        give(rt, alloc, images, command)?;
+    }
+    for name in case.kept {
+        expect_kept_under(rt, alloc, images, name)?;
+    }
+    Ok(())
+}
+
+pub(crate) fn play<R: Abort + Threads + Wait + Sync>(
+    rt: &R,
+    alloc: Global,
+    cases: &[Case],
+) -> Result<(), Fail> {
+    for case in cases {
+        let mut images = held(alloc, case.images)?;
+        let given = give_all(rt, alloc, &mut images, case);
+        drop(images);
+        given?;
+    }
+    Ok(())
 }

@@ -1,5 +1,5 @@
-//! Tests of commands on images in memory that fail or are protected, of a rebuild and a check, of reports, and of
-//! where these go.
+//! Tests of commands on images in memory: the life of a mirror, a rebuild and a check, images that fail or are protected; of reports,
+//! and of where these go.
 #![tactic(auto)]
 
 #[cfg(test)]
@@ -10,6 +10,10 @@ mod commands;
 mod devices;
 #[cfg(test)]
 mod faults_in_memory;
+#[cfg(test)]
+mod images;
+#[cfg(test)]
+mod life_of_a_mirror;
 #[cfg(test)]
 mod member_checks;
 #[cfg(test)]

@@ -1,8 +1,10 @@
 // A source over a reader of which some reads are interrupted, and others fail.
 use crate::checks::{holds, reads};
-use crate::commands::{HeldImages, expect_kept_under, member, writes};
+use crate::commands::runs;
+use crate::images::{HeldImages, MEMBER, expect_kept_under, held};
+use md_cli::Messages;
 use md_commands::{Input, Source, SourceFault};
-use md_images::MemImages;
+use md_examine::Output;
 use std::alloc::Global;
 use std::io::{Error, ErrorKind, Read, Result as IoResult};
 use std::process::Abort;
@@ -87,13 +89,6 @@ fn a_source_fails_with_its_reader(rt: HostRuntime) -> Result<(), Fail> {
     Ok(())
 }
 
-fn one_image(alloc: Global) -> Result<HeldImages, Fail> {
-    let device = member(alloc, &[])?;
-    let mut images = MemImages::new(alloc);
-    images.add("a", device)?;
-    Ok(images)
-}
-
 fn ends_with<R: Abort + Threads + Wait + Sync>(
     rt: &R,
     alloc: Global,
@@ -102,16 +97,21 @@ fn ends_with<R: Abort + Threads + Wait + Sync>(
     status: u8,
     said: &str,
 ) -> Result<(), Fail> {
+    let words = ["mdcli", "write", "--sector", "0", "a"];
     let mut input = Input::new(Steps { steps });
-    let ended = writes(rt, alloc, images, &mut input, said)?;
+    let mut out = Output::new(vec![in alloc]?);
+    let plain = Messages::Plain;
+    let ended = runs(rt, alloc, &words, images, &mut input, &mut out, plain, said)?;
     holds(rt, "the status", ended == status);
+    let shown: Vec<u8> = out.into_inner();
+    drop(shown);
     Ok(())
 }
 
 #[test]
 fn a_write_goes_on_after_an_interrupted_read(rt: HostRuntime) -> Result<(), Fail> {
     let alloc = rt.alloc();
-    let mut images = one_image(alloc)?;
+    let mut images = held(alloc, &[MEMBER])?;
     let steps = [
         Step::IsInterrupted,
         Step::Gives(&SECTOR),
@@ -135,7 +135,7 @@ fn keeps_the_image<R: Abort + Threads + Wait + Sync>(
 #[test]
 fn nothing_is_written_after_a_failed_read(rt: HostRuntime) -> Result<(), Fail> {
     let alloc = rt.alloc();
-    let mut images = one_image(alloc)?;
+    let mut images = held(alloc, &[MEMBER])?;
     let steps = [Step::Gives(&SECTOR), Step::Fails];
     let kept = keeps_the_image(&rt, alloc, &mut images, &steps);
     drop(images);

@@ -5,7 +5,7 @@ ghost use Rattle.std.specs.Prelude.{◌≡◌, IfOk};
 use crate::checks::{holds, same};
 use md_bitmap::Chunks;
 use md_cert::{Plan, Slot, Slots};
-use md_collect::{Collector, Refusal, Report, read_chunk_into};
+use md_collect::{Collector, Refusal, Report, read_chunk, read_chunk_into};
 use md_device::{FaultDevice, MemDevice};
 use std::alloc::{AllocError, Global};
 use std::marker::Model;
@@ -187,5 +187,24 @@ fn a_failed_read_keeps_its_memory(rt: HostRuntime) -> Result<(), Fail> {
         None => 0,
     };
     same(&rt, "the bytes that are kept", kept, CHUNK);
+    Ok(())
+}
+
+// Chunk 1 of a source, all of whose bytes are these.
+fn read_of_a_good_chunk(alloc: Global) -> Result<Report, AllocError> {
+    let mut source = MemDevice::from_bytes(vec![in alloc; 3; 2 * CHUNK]?);
+    let report = read_chunk(alloc, &mut source, 0, 0, CHUNKS, 1);
+    drop(source);
+    report
+}
+
+#[test]
+fn what_is_read_is_taken(rt: HostRuntime) -> Result<(), Fail> {
+    let report = read_of_a_good_chunk(rt.alloc())?;
+    let mut collecting = Collecting::new(rt.alloc(), 0)?;
+    same(&rt, "what is answered", collecting.take(report), Ok(()));
+    let target = collecting.into_target();
+    holds(&rt, "chunk 1", target.bytes().ends_with(&[3; CHUNK]));
+    drop(target);
     Ok(())
 }

@@ -1,8 +1,9 @@
-// Rows: steps on a mirror with what each has to answer, and what stands on its devices in the end.
+// Rows: steps on a mirror with what each has to answer, and what stands on its devices in the end. A step that finds no memory
+// leaves the mirror as it was, and answers as the row says when it is made again: tests/refused_memory refuses each call for memory.
 use crate::checks::same;
 use crate::images::{Image, Testing, put_before};
 use crate::run::Run;
-use crate::shown::{Stored, stored_on};
+use crate::shown::{Shown, Stored, stored_on, what_shows};
 use crate::step::{Answer, Step};
 use std::alloc::Global;
 use std::process::Abort;
@@ -19,15 +20,44 @@ pub(crate) struct Chapter {
     pub(crate) stored: &'static [Stored],
 }
 
+// What the mirror shows where a step found no memory: as before, but that a resync which did not end is to be made again.
+fn after_refusal(step: Step, before: Shown) -> Shown {
+    match step {
+        Step::Resync => Shown {
+            resynced: false,
+            ..before
+        },
+        _ => before,
+    }
+}
+
+// Makes a step. Where it found no memory, that is told, and it is made once more.
+fn make_one(
+    rt: &(impl Abort + Print),
+    alloc: Global,
+    run: &mut Run,
+    step: Step,
+) -> Result<Answer, Fail> {
+    let before = what_shows(run.mirror());
+    let answer = run.make(alloc, step)?;
+    if !answer.lacks_memory() {
+        return Ok(answer);
+    }
+    let wanted = after_refusal(step, before);
+    same(rt, &"without memory", what_shows(run.mirror()), wanted);
+    rt.println(step.call())?;
+    run.make(alloc, step)
+}
+
 fn make_all(
-    rt: &impl Abort,
+    rt: &(impl Abort + Print),
     alloc: Global,
     run: &mut Run,
     steps: &[&[Worked]],
 ) -> Result<(), Fail> {
     for (part, steps) in steps.iter().enumerate() {
         for (at, (step, wanted)) in steps.iter().enumerate() {
-            let answer = run.make(alloc, *step)?;
+            let answer = make_one(rt, alloc, run, *step)?;
             same(rt, &("part and step", part, at), answer, *wanted);
         }
     }
@@ -53,7 +83,7 @@ pub(crate) fn expect_stored(
 
 // Leaves the devices.
 pub(crate) fn play_on(
-    rt: &impl Abort,
+    rt: &(impl Abort + Print),
     alloc: Global,
     devices: Vec<Testing>,
     chapter: &Chapter,
@@ -77,7 +107,11 @@ pub(crate) fn play_on(
 }
 
 // Plays the chapters one after the other.
-pub(crate) fn play(rt: &impl Abort, alloc: Global, chapters: &[Chapter]) -> Result<(), Fail> {
+pub(crate) fn play(
+    rt: &(impl Abort + Print),
+    alloc: Global,
+    chapters: &[Chapter],
+) -> Result<(), Fail> {
     let mut devices = Vec::new(alloc);
     for chapter in chapters {
         devices = play_on(rt, alloc, devices, chapter)?;
@@ -87,7 +121,11 @@ pub(crate) fn play(rt: &impl Abort, alloc: Global, chapters: &[Chapter]) -> Resu
 }
 
 // Plays each row.
-pub(crate) fn play_each(rt: &impl Abort, alloc: Global, rows: &[Chapter]) -> Result<(), Fail> {
+pub(crate) fn play_each(
+    rt: &(impl Abort + Print),
+    alloc: Global,
+    rows: &[Chapter],
+) -> Result<(), Fail> {
     for row in rows {
         let devices = play_on(rt, alloc, Vec::new(alloc), row)?;
         drop(devices);

@@ -113,7 +113,7 @@ impl Run {
             Step::StoreLog(k) => Ok(self.store_log(k)),
             Step::Show => Ok(Answer::Shows(what_shows(&self.mirror))),
             Step::Member(k) => Ok(self.member(k)),
-            Step::Lack(k) => self.lack(alloc, k),
+            Step::Lack(k) => Ok(self.lack(alloc, k)),
             Step::List(k) => Ok(self.list(k)),
             Step::Permit(chunk) => Ok(self.permit(chunk)),
             Step::Entry(number) => Ok(Answer::Role(self.mirror.shared().role_of(number))),
@@ -344,14 +344,16 @@ impl Run {
         Answer::Is(mirror.state(k), mirror.due(k), mirror.re_added(k))
     }
 
-    fn lack(&self, alloc: Global, k: usize) -> Result<Answer, Fail> {
+    fn lack(&self, alloc: Global, k: usize) -> Answer {
         if k >= self.mirror.members() {
-            return Ok(Answer::NotCalled);
+            return Answer::NotCalled;
         }
-        let missing = self.mirror.missing(alloc, k)?;
+        let Ok(missing) = self.mirror.missing(alloc, k) else {
+            return Answer::NotTold;
+        };
         let answer = Answer::Lacks(missing.count(), missing.next_marked(0));
         drop(missing);
-        Ok(answer)
+        answer
     }
 
     fn list(&self, k: usize) -> Answer {

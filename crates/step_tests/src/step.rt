@@ -76,6 +76,8 @@ pub(crate) enum Answer {
     NotNoted(NoteFault),
     // There is no such member, chunk, request or device, or it is of another kind.
     NotCalled,
+    // Nothing was found out, for want of memory.
+    NotTold,
     Shows(Shown),
     // A member's state, whether its superblock is due, and whether it is shown as re-added.
     Is(MemberState, bool, bool),
@@ -87,4 +89,36 @@ pub(crate) enum Answer {
     Permits(u32),
     Role(u16),
     Device(Stored),
+}
+
+impl Step {
+    // The call that it makes, where that may find no memory.
+    pub(crate) fn call(self) -> &'static str {
+        match self {
+            Step::Begin(_) => "no memory: begin",
+            Step::Write(_) => "no memory: write",
+            Step::Resync => "no memory: resync",
+            Step::ReAdd | Step::Bring(_, _) | Step::BringZeros(_) => "no memory: re_add",
+            Step::Add(_, _) | Step::AddUsed => "no memory: add",
+            Step::Admit => "no memory: admit",
+            Step::NoteBad(_, _) => "no memory: note_bad",
+            Step::Lack(_) => "no memory: missing",
+            _ => "no memory: another step",
+        }
+    }
+}
+
+impl Answer {
+    pub(crate) fn lacks_memory(self) -> bool {
+        match self {
+            Answer::NotBegun(BeginFault::NoMemory)
+            | Answer::NotResynced(ResyncFault::NoMemory)
+            | Answer::NotReAdded(ReAddFault::NoMemory)
+            | Answer::NotAdded(AddFault::NoMemory)
+            | Answer::NotAdmitted(AdmitFault::NoMemory)
+            | Answer::NotNoted(NoteFault::NoMemory)
+            | Answer::NotTold => true,
+            _ => false,
+        }
+    }
 }

@@ -15,6 +15,8 @@ mod dice;
 #[cfg(test)]
 mod each_write;
 #[cfg(test)]
+mod fuses;
+#[cfg(test)]
 mod images;
 #[cfg(test)]
 mod judging;

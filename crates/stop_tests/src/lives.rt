@@ -11,6 +11,7 @@ use crate::run::{Opened, Run};
 use example_members::copied;
 use md_device::MemDevice;
 use std::alloc::Global;
+use std::env::{VarError, var};
 use std::process::Abort;
 use std::sync::Wait;
 use std::test::Fail;
@@ -218,14 +219,24 @@ fn live_through<R: Abort + Threads + Wait + Sync>(
     Ok(())
 }
 
-const SEEDS: u64 = 16;
-
 const STOPS: usize = 24;
 
+// The number in a variable of the environment, or the usual one.
+fn number<R: Env + Alloc>(rt: &R, name: &str, usual: u64) -> Result<u64, Fail> {
+    match var(rt, name) {
+        Ok(word) => Ok(word.parse()?),
+        Err(VarError::NotPresent) => Ok(usual),
+        Err(error) => Err(Fail::from(error)),
+    }
+}
+
+// By tests/stopped_lives more of them, from another seed on.
 #[test]
 fn lives(rt: HostRuntime) -> Result<(), Fail> {
-    for seed in 1..=SEEDS {
-        live_through(&rt, rt.alloc(), seed, STOPS)?;
+    let first = number(&rt, "FIRST_LIFE", 1)?;
+    let count = number(&rt, "LIVES", 16)?;
+    for k in 0..count {
+        live_through(&rt, rt.alloc(), first.wrapping_add(k), STOPS)?;
     }
     Ok(())
 }

@@ -76,11 +76,48 @@ const CHANGES: [Worked; 21] = [
     (Step::Permit(1), Answer::Permits(1)),
 ];
 
-const MEMBER_CHANGES: [Chapter; 1] = [Chapter {
-    images: &[FIRST, SECOND],
-    steps: &[&CHANGES],
-    stored: &[],
-}];
+// Marks were last cleared at the events of both.
+const CLEARED: [Field; 1] = [Field::Map(32, 8, 10)];
+
+// The same device with events before that is not taken back.
+const COMES_TOO_LATE: [Worked; 5] = [
+    (Step::Write(8), Answer::Done),
+    (
+        Step::Bring(&SECOND, &[Field::Super(200, 8, 9)]),
+        Answer::NotReAdded(ReAddFault::NotReAddable),
+    ),
+    (
+        Step::Show,
+        Answer::Shows(Shown {
+            members: 1,
+            ..WRITTEN
+        }),
+    ),
+    (Step::Bring(&SECOND, &[]), Answer::Joined(1)),
+    (Step::Lack(1), Answer::Lacks(1, Some(1))),
+];
+
+const MEMBER_CHANGES: [Chapter; 2] = [
+    Chapter {
+        images: &[FIRST, SECOND],
+        steps: &[&CHANGES],
+        stored: &[],
+    },
+    Chapter {
+        images: &[
+            Image {
+                also: &CLEARED,
+                ..FIRST
+            },
+            Image {
+                also: &CLEARED,
+                ..SECOND
+            },
+        ],
+        steps: &[&LEAVES, &COMES_TOO_LATE],
+        stored: &[],
+    },
+];
 
 #[test]
 fn member_changes(rt: HostRuntime) -> Result<(), Fail> {

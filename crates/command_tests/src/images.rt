@@ -1,0 +1,94 @@
+// The images in memory that commands are given.
+use crate::checks::holds;
+use crate::devices::BadDevice;
+use example_members::{bitmap, member_image, put, sealed, vault, zeros};
+use md_device::MemDevice;
+use md_images::{Access, Images, MemImages};
+use std::alloc::Global;
+use std::process::Abort;
+use std::test::Fail;
+
+pub(crate) type HeldImages = MemImages<BadDevice>;
+
+#[derive(Clone, Copy)]
+pub(crate) struct Image {
+    pub(crate) name: &'static str,
+    // It is a member of the vault's array with this number, or holds nothing.
+    pub(crate) number: Option<u32>,
+    pub(crate) has_log: bool,
+    // Reads of these sectors fail.
+    pub(crate) bad: &'static [u64],
+    // It may only be looked at.
+    pub(crate) is_protected: bool,
+}
+
+// The vault's member.
+pub(crate) const MEMBER: Image = Image {
+    name: "a",
+    number: Some(0),
+    has_log: true,
+    bad: &[],
+    is_protected: false,
+};
+
+pub(crate) const BLANK: Image = Image {
+    name: "b",
+    number: None,
+    ..MEMBER
+};
+
+fn superblock_of(number: u32, has_log: bool) -> [u8; 4096] {
+    let mut superblock = vault();
+    put(&mut superblock, 160, &number.to_le_bytes());
+    if !has_log {
+        put(&mut superblock, 186, &[0; 6]);
+    }
+    sealed(superblock, 2)
+}
+
+fn device_of(alloc: Global, image: &Image) -> Result<BadDevice, Fail> {
+    let bad = Vec::from_slice(alloc, image.bad)?;
+    let memory = match image.number {
+        Some(number) => member_image(alloc, &superblock_of(number, image.has_log), &bitmap())?,
+        None => zeros(alloc, 2112)?,
+    };
+    Ok(BadDevice { memory, bad })
+}
+
+fn add(alloc: Global, images: &mut HeldImages, image: &Image) -> Result<(), Fail> {
+    let device = device_of(alloc, image)?;
+    if image.is_protected {
+        images.add_protected(image.name, device)?;
+    } else {
+        images.add(image.name, device)?;
+    }
+    Ok(())
+}
+
+pub(crate) fn held(alloc: Global, images: &[Image]) -> Result<HeldImages, Fail> {
+    let mut held = MemImages::new(alloc);
+    for image in images {
+        add(alloc, &mut held, image)?;
+    }
+    Ok(held)
+}
+
+fn expect_kept(rt: &impl Abort, alloc: Global, device: &MemDevice) -> Result<(), Fail> {
+    let before = member_image(alloc, &vault(), &bitmap())?;
+    holds(rt, "the image is kept", device.bytes() == before.bytes());
+    drop(before);
+    Ok(())
+}
+
+// The image has the bytes of the vault's member.
+pub(crate) fn expect_kept_under(
+    rt: &impl Abort,
+    alloc: Global,
+    images: &mut HeldImages,
+    name: &str,
+) -> Result<(), Fail> {
+    let device = images.get(name, Access::Look)?;
+    let kept = expect_kept(rt, alloc, &device.memory);
+    drop(device);
+    kept
+}

@@ -1,0 +1,179 @@
+"""Each public call of the crates that may find no memory, and by which sweep it is tried: a test that fails so, or a step that is made
+again, or a command that answers so; or the calls of other crates that alone make it.
+
+What calls there are is read from the sources: a call without a line fails, and so does a line whose test or command did not find that
+the call was refused its memory."""
+
+import re
+
+import support
+
+# Those that are made of other crates by these calls alone. They have no state of their own.
+WITHIN = {
+    "md_array::Mirror::enrol": "md_copy::rebuild",
+    "md_create::new_spare": "md_array::Mirror::add",
+    "md_images::lay_over": "md_cli::run",
+    "md_kept_members::united_marks": "md_array::Mirror::open",
+    "md_kept_members::in_sync": "md_copy::rebuild",
+    "md_kept_members::admitted_superblock": "md_array::Mirror::admit",
+    "md_kept_members::list_after": "md_copy::rebuild",
+    "md_kept_members::list_with": "md_array::Mirror::note_bad",
+    "md_kept_members::members_of": "md_array::Mirror::open",
+    "md_pass::copy_pass": "md_copy::rebuild",
+    "md_resync::make_agree": "md_resync::resync",
+    "md_state::Array::note_bad": "md_array::Mirror::note_bad",
+    "md_state::Array::check_add": "md_array::Mirror::add",
+    "md_state::Array::missing": "md_array::Mirror::missing",
+    "md_state::Array::check_enrol": "md_copy::rebuild",
+    "md_state::Array::member_in_sync": "md_copy::rebuild",
+    "md_state::Array::shared_with": "md_array::Mirror::re_add",
+    "md_state::Array::check_admit": "md_array::Mirror::admit",
+    "md_state::Array::check_re_add": "md_array::Mirror::re_add",
+    "md_state::Array::begin": "md_array::Mirror::begin",
+    "md_state::Array::new_spare": "md_array::Mirror::add",
+    "md_state::Array::remember": "md_array::Mirror::open",
+    "md_super::Roles::try_clone": "md_array::Mirror::re_add",
+    "md_super::Superblock::try_clone": "md_array::Mirror::re_add",
+}
+
+# A test that makes the call as a step, which answers that it found no memory, leaves the mirror as it was, and is made again: the
+# name by which the test tells of it.
+AGAIN = {
+    "md_array::Mirror::add": ("step_tests", "members::coming_in::added", "add"),
+    "md_array::Mirror::admit": ("step_tests", "members::recovering::a_spare_is_admitted", "admit"),
+    "md_array::Mirror::begin": ("step_tests", "steps::writes::step_order", "begin"),
+    "md_array::Mirror::missing": ("step_tests", "members::leaving::member_changes", "missing"),
+    "md_array::Mirror::note_bad": ("step_tests", "members::listing::a_list_grows", "note_bad"),
+    "md_array::Mirror::re_add": ("step_tests", "members::leaving::lacks_what_was_written_since", "re_add"),
+    "md_resync::resync": ("step_tests", "steps::writes::step_order", "resync"),
+    "md_write::write": ("step_tests", "members::leaving::member_changes", "write"),
+}
+
+# A test that fails where the call is refused its memory, and in which nothing else fails in these words.
+FAILS = {
+    "md_array::Mirror::open": ("step_tests", "openings::bitmap_accepted", "NoMemory"),
+    "md_assembly::assemble": ("part_tests", "assembly::stale_by_events", "NoMemory"),
+    "md_badblocks::BadSet::from_log": ("part_tests", "bad_block_logs::reads_and_writes_a_log", "NoMemory"),
+    "md_badblocks::BadSet::add": ("part_tests", "bad_block_logs::adds_and_removes", "AllocError"),
+    "md_badblocks::BadSet::remove": ("part_tests", "bad_block_logs::adds_and_removes", "AllocError"),
+    "md_bitmap::Marks::from_bytes": ("part_tests", "bitmaps::bits_past_the_last_chunk", "AllocError"),
+    "md_bitmap::Marks::none": ("part_tests", "bitmaps::marks_of_eight_chunks", "AllocError"),
+    "md_bitmap::Marks::all": ("part_tests", "bitmaps::marks_of_eight_chunks", "AllocError"),
+    "md_cert::Table::push": ("part_tests", "plans::verdicts::checker_refusals", "NoMemory"),
+    "md_check::check_array": ("call_tests", "array_checks::counts::check_counts", "NoMemory"),
+    "md_collect::read_chunk": ("part_tests", "collector_reports::what_is_read_is_taken", "AllocError"),
+    "md_collect::read_chunk_into": ("part_tests", "collector_reports::a_failed_read_keeps_its_memory", "AllocError"),
+    "md_collect::Collector::new": ("part_tests", "collector_reports::each_planned_chunk_is_taken_once", "AllocError"),
+    "md_copy::table": ("call_tests", "rebuilds::tables::rebuild_with_orphan", "NoMemory"),
+    "md_copy::rebuild": ("call_tests", "rebuilds::orphan::rebuild_with_orphan", "NoMemory"),
+    "md_create::create": ("part_tests", "new_members::new_members_say", "NoMemory"),
+    "md_device::MemDevice::new": ("stop_tests", "fuses::data_are_torn", "AllocError"),
+    "md_images::MemImages::add": ("command_tests", "faults_in_memory::images_that_fail", "AllocError"),
+    "md_images::MemImages::add_protected": ("command_tests", "faults_in_memory::images_that_fail", "AllocError"),
+    "md_inflight::Inflight::push_back": ("part_tests", "requests::removed_in_any_order", "NoMemory"),
+    "md_members::read_super": ("part_tests", "damaged::rows::answers", "NoMemory"),
+    "md_members::read_member": ("part_tests", "damaged::rows::answers", "NoMemory"),
+    "md_plan::plan": ("part_tests", "plans::small_tables::plan_needs_a_move", "NoMemory"),
+    "md_stop_device::Fuse::new": ("stop_tests", "fuses::metadata_stay", "AllocError"),
+    "md_stop_device::Fuse::share": ("stop_tests", "fuses::metadata_stay", "AllocError"),
+    "md_super::decode": ("part_tests", "superblocks::reads_a_member", "NoMemory"),
+}
+
+# A command of the program that answers `NoMemory'.
+ANSWERS = {
+    "md_commands::add_device": "add",
+    "md_commands::check_members": "check",
+    "md_commands::fail_member": "fail",
+    "md_commands::read_array": "read",
+    "md_commands::re_add_device": "re-add",
+    "md_commands::rebuild_member": "rebuild",
+    "md_commands::remove_member": "remove",
+    "md_commands::resync_array": "resync",
+    "md_commands::stop_array": "stop",
+    "md_commands::write_array": "write",
+    "md_images::take_images": "assemble",
+    "md_images::image_list": "assemble",
+}
+
+NOT_SHIPPED = re.compile(r"(.*_tests|example_members|bench_parts|mdcli)$")
+TYPE = re.compile(r"^pub (?:enum|struct) (\w+)[^;{]*\{(.*?)^\}", re.M | re.S)
+# A block of functions of a type, or a public function up to its clauses or its body.
+IMPL = re.compile(r"^impl\b")
+OWNER = re.compile(r"^impl(?:<[^>]*>)? (?:.* for )?(\w+)")
+FUNCTION = re.compile(r"^( *)pub fn (\w+)")
+ENDS = re.compile(r"^ *(?:requires|ensures|where)\b|\{$")
+
+
+def sources():
+    for folder in sorted((support.TOP / "crates").iterdir()):
+        if not NOT_SHIPPED.match(folder.name):
+            for file in sorted(folder.glob("src/**/*.rt")):
+                yield folder.name, file.read_text(encoding="utf-8")
+
+
+def says_so(texts):
+    """What finds a type that says that memory was refused: the allocator's own, and those that have it or hold such a type."""
+    found = {"AllocError", "NoMemory"}
+    bodies = {match[1]: re.sub(r"//.*", "", match[2]) for _, text in texts for match in TYPE.finditer(text)}
+    while True:
+        word = re.compile(r"\b(%s)\b" % "|".join(sorted(found)))
+        more = {name for name, body in bodies.items() if word.search(body)} - found
+        if not more:
+            return word
+        found |= more
+
+
+def functions_in(text):
+    """Each public function of a file, by its type and name, with its head."""
+    owner, lines = None, iter(text.splitlines())
+    for line in lines:
+        if IMPL.match(line):
+            named = OWNER.match(line)
+            owner = named[1] if named else None
+        found = FUNCTION.match(line)
+        if found:
+            head = line
+            while not ENDS.search(line):
+                line = next(lines)
+                head += " " + line
+            yield "::".join(([owner] if found[1] and owner else []) + [found[2]]), head
+
+
+def public_calls():
+    """Each public function whose result may say so, under its crate, type and name."""
+    texts = list(sources())
+    word = says_so(texts)
+    return {
+        "%s::%s" % (crate, name)
+        for crate, text in texts
+        for name, head in functions_in(text)
+        if "->" in head and word.search(head.rpartition("->")[2])
+    }
+
+
+def reasons_against(call, outcomes, commands):
+    if call in WITHIN:
+        return [] if WITHIN[call] in LINES else ["it is made within %s, which has no line" % WITHIN[call]]
+    if call in ANSWERS:
+        return [] if ANSWERS[call] in commands else ["no run of `%s' answered NoMemory" % ANSWERS[call]]
+    suite, test, words = AGAIN.get(call) or FAILS[call]
+    if call in AGAIN:
+        words = "no memory: " + words
+    outcome = outcomes.get((suite, test))
+    if outcome is None:
+        return ["%s %s is not swept" % (suite, test)]
+    return [] if words in outcome.said else ["no run of %s %s said `%s'" % (suite, test, words)]
+
+
+LINES = {"md_cli::run"}.union(WITHIN, AGAIN, FAILS, ANSWERS)
+
+
+def judge_all(tally, outcomes, commands):
+    calls = public_calls()
+    for call in sorted(calls | LINES - {"md_cli::run"}):
+        if call not in LINES:
+            tally.failed(call, "it may find no memory, and has no line in tests/refused_memory/calls.py")
+        elif call not in calls:
+            tally.failed(call, "there is no such call, or it can't find that there is no memory")
+        else:
+            tally.judge(call, reasons_against(call, outcomes, commands))
