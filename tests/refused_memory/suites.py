@@ -23,14 +23,14 @@ SUITES = {
     "part_tests": r"plans::(large|random)_tables::|requests::ten_thousand_in_reverse"
     r"|damaged::(edges::(alone|two_together)$|log_entries::|random_images::)",
     "step_tests": r"\w+::every_order::",
-    "call_tests": r"rebuilds::everywhere::",
+    "call_tests": r"everywhere::",
     "stop_tests": r"each_write::|lives::",
     "command_tests": None,
 }
 COUNTS_BLOCKS = ("part_tests", "step_tests")
 
-# In step_tests a call that finds no memory is made again, and so no comparison may fail; see step_tests/src/play.rt.
-COMPARES_AGAIN = ("step_tests",)
+# In these a call that finds no memory is made again, or ends the test, and so no comparison may fail; see their src/play.rt.
+NEVER_DIFFER = ("step_tests", "call_tests")
 
 LEAKED = 99
 IS_ASSERTION = re.compile(r"^test stopped at src/", re.M)
@@ -72,7 +72,7 @@ def against(suite, status, output):
     if status in (0, 101):
         return None
     if status == -6 or status == 134:
-        if IS_ASSERTION.search(output) and suite not in COMPARES_AGAIN:
+        if IS_ASSERTION.search(output) and suite not in NEVER_DIFFER:
             return None
     if status == LEAKED:
         return "it leaves memory that it did not free"

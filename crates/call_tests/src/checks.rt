@@ -4,12 +4,8 @@ use std::fmt::{Debug, Display};
 use std::process::Abort;
 use std::test::Fail;
 
-pub(crate) fn same<T: Copy + Debug + PartialEq>(rt: &impl Abort, what: &str, got: T, wanted: T) {
-    assert_eq!(rt; got, wanted, "{what}");
-}
-
-pub(crate) fn holds(rt: &impl Abort, what: &str, holds: bool) {
-    assert!(rt; holds, "{what}");
+pub(crate) fn holds(rt: &impl Abort, at: &impl Debug, holds: bool) {
+    assert!(rt; holds, "at {at:?}");
 }
 
 // Each fault is shown as its text.

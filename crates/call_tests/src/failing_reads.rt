@@ -2,8 +2,9 @@
 ghost use Rattle.std.specs.Prelude.{[], IfOk, false};
 ghost use Rattle.md_array.specs.Consistency.{IsConsistent};
 
-use crate::checks::{holds, same};
-use crate::members::{DATA, NEVER, SECTORS, WHOLE, device_of, plain};
+use crate::checks::holds;
+use crate::data::{Data, Filling, ONLY, WHOLE};
+use crate::members::{DATA, FIRST, Member, NEVER, device_of};
 use crate::opening::open;
 use md_array::Mirror;
 use md_device::{Device, FaultDevice, MemDevice, ReadFault, WriteFault};
@@ -51,7 +52,12 @@ fn failing_member(alloc: Global, number: u8, bad: &[u64]) -> Result<Counted, Fai
     for sector in bad {
         sectors.push(DATA.saturating_add(*sector))?;
     }
-    let device = device_of(alloc, &plain(u32::from(number), [number; SECTORS]))?;
+    let member = Member {
+        number: u32::from(number),
+        data: Data(Filling::Same(number), ONLY),
+        ..FIRST
+    };
+    let device = device_of(alloc, &member)?;
     Ok(Counted {
         device: FaultDevice::new(device, sectors, NEVER, NEVER, false),
         failed: 0,
@@ -126,9 +132,12 @@ fn expect_row(rt: &impl Abort, alloc: Global, row: &Row) -> Result<(), Fail> {
     let mut buf = [9; WHOLE];
     let answer = read(&mut mirror, 0, &mut buf);
     let failed = failed_of(mirror);
-    same(rt, "the read", answer, Ok(()));
-    holds(rt, "the sectors", are_given(&buf, row));
-    same(rt, "the reads that fail", failed, row.failed);
+    holds(
+        rt,
+        &(answer, failed),
+        answer.is_ok() && failed == row.failed,
+    );
+    holds(rt, &"the sectors", are_given(&buf, row));
     Ok(())
 }
 

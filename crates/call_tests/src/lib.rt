@@ -1,13 +1,21 @@
 //! Tests of whole calls on a mirror, which read, write, resync, stop, check and rebuild it: what they answer, what the
-//! mirror shows then, and what they leave on the devices.
+//! mirror shows then, and what they leave on the devices. Most are rows of calls and answers, which one function plays.
 #![tactic(auto)]
 
 #[cfg(test)]
 mod array_checks;
 #[cfg(test)]
+mod call;
+#[cfg(test)]
 mod checks;
 #[cfg(test)]
+mod data;
+#[cfg(test)]
+mod everywhere;
+#[cfg(test)]
 mod failing_reads;
+#[cfg(test)]
+mod faults;
 #[cfg(test)]
 mod gates;
 #[cfg(test)]
@@ -17,6 +25,8 @@ mod members;
 #[cfg(test)]
 mod opening;
 #[cfg(test)]
+mod play;
+#[cfg(test)]
 mod reads;
 #[cfg(test)]
 mod rebuilds;
@@ -24,5 +34,7 @@ mod rebuilds;
 mod resyncs;
 #[cfg(test)]
 mod run;
+#[cfg(test)]
+mod told;
 #[cfg(test)]
 mod writes;

@@ -1,5 +1,5 @@
 // Members of the vault's array, whose sectors are filled with a byte each, on devices that fail where they are told to.
-use crate::run::Run;
+use crate::data::{Data, NUMBERED, SECTORS, WHOLE};
 use example_members::{bitmap, member_image, put, sealed, vault};
 use md_device::{Device, FaultDevice, MemDevice};
 use std::alloc::Global;
@@ -10,14 +10,11 @@ pub(crate) const DATA: u64 = 2048;
 
 const LOG: u64 = 2032;
 
-// The array has 64 sectors, in 8 chunks.
-pub(crate) const SECTORS: usize = 64;
-
-pub(crate) const WHOLE: usize = 512 * SECTORS;
-
 pub(crate) const NEVER: u64 = u64::MAX;
 
 pub(crate) const FAULTY: u16 = 0xfffe;
+
+pub(crate) type Testing = FaultDevice<MemDevice>;
 
 #[derive(Clone, Copy)]
 pub(crate) struct Member {
@@ -34,8 +31,8 @@ pub(crate) struct Member {
     pub(crate) marks: u8,
     // Its log lists this many sectors from this one of the array on. It has a log where these are some.
     pub(crate) listed: (u64, u64),
-    // The bytes of the array's sectors.
-    pub(crate) data: [u8; SECTORS],
+    // Of the array's sectors.
+    pub(crate) data: Data,
     // Its log has room for no entry beside those that it has. They are of sectors past the array.
     pub(crate) is_log_full: bool,
     // Reads of so many sectors from this one of the array on fail.
@@ -45,50 +42,36 @@ pub(crate) struct Member {
     pub(crate) torn: bool,
 }
 
-// A member of a clean array of two without a mark.
-pub(crate) fn plain(number: u32, data: [u8; SECTORS]) -> Member {
-    Member {
-        number,
-        raid_disks: 2,
-        size: 64,
-        third: None,
-        events: 10,
-        bitmap_behind: 0,
-        marks: 0,
-        listed: (0, 0),
-        data,
-        is_log_full: false,
-        bad: (0, 0),
-        fails: NEVER,
-        torn: false,
-    }
-}
+// Members of a clean array of two without a mark.
+pub(crate) const FIRST: Member = Member {
+    number: 0,
+    raid_disks: 2,
+    size: 64,
+    third: None,
+    events: 10,
+    bitmap_behind: 0,
+    marks: 0,
+    listed: (0, 0),
+    data: NUMBERED,
+    is_log_full: false,
+    bad: (0, 0),
+    fails: NEVER,
+    torn: false,
+};
 
-// The same, of three roles.
-pub(crate) fn of_three(number: u32, third: Option<u16>, data: [u8; SECTORS]) -> Member {
-    Member {
-        raid_disks: 3,
-        third,
-        ..plain(number, data)
-    }
-}
+pub(crate) const SECOND: Member = Member { number: 1, ..FIRST };
 
-// The sectors of chunks that are filled with these bytes.
-pub(crate) fn chunks_of(bytes: [u8; 8]) -> [u8; SECTORS] {
-    let mut data = [0; SECTORS];
-    for (sector, byte) in data.iter_mut().enumerate() {
-        *byte = bytes[sector / 8 % 8];
-    }
-    data
-}
+// A third one is a spare.
+pub(crate) const THIRD: Member = Member { number: 2, ..FIRST };
 
-// Sectors each of which is filled with its number.
-pub(crate) fn numbered() -> [u8; SECTORS] {
-    let mut data = [0; SECTORS];
-    for (sector, byte) in data.iter_mut().enumerate() {
-        *byte = sector as u8;
-    }
-    data
+// What is other with one of some members, by a number.
+#[derive(Clone, Copy)]
+pub(crate) enum Vary {
+    Nothing,
+    // It can't be read in this sector of the array.
+    Unreadable(usize),
+    // Its writes fail from this one on.
+    Unwritable(usize),
 }
 
 fn superblock_of(member: &Member) -> [u8; 4096] {
@@ -153,7 +136,7 @@ fn full_log() -> [u8; 4096] {
 fn data_of(member: &Member) -> [u8; WHOLE] {
     let mut data = [0; WHOLE];
     for (k, byte) in data.iter_mut().enumerate() {
-        *byte = member.data[k / 512 % SECTORS];
+        *byte = member.data.byte(k / 512 % SECTORS);
     }
     data
 }
@@ -173,49 +156,57 @@ fn bad_of(alloc: Global, member: &Member) -> Result<Vec<u64>, Fail> {
     Ok(bad)
 }
 
-fn add(
-    alloc: Global,
-    devices: &mut Vec<FaultDevice<MemDevice>>,
-    member: &Member,
-) -> Result<(), Fail> {
+fn add(alloc: Global, devices: &mut Vec<Testing>, member: &Member) -> Result<(), Fail> {
     let bad = bad_of(alloc, member)?;
     let device = device_of(alloc, member)?;
     devices.push(FaultDevice::new(device, bad, member.fails, NEVER, member.torn))?;
     Ok(())
 }
 
+fn varied(member: &Member, k: usize, vary: Vary, number: u64) -> Member {
+    match vary {
+        Vary::Unreadable(j) if j == k => Member {
+            bad: (number, 1),
+            ..*member
+        },
+        Vary::Unwritable(j) if j == k => Member {
+            fails: number,
+            ..*member
+        },
+        _ => *member,
+    }
+}
+
 fn add_all(
     alloc: Global,
-    devices: &mut Vec<FaultDevice<MemDevice>>,
+    devices: &mut Vec<Testing>,
     members: &[Member],
+    vary: Vary,
+    number: u64,
 ) -> Result<(), Fail> {
-    for member in members {
-        add(alloc, devices, member)?;
+    for (k, member) in members.iter().enumerate() {
+        add(alloc, devices, &varied(member, k, vary, number))?;
     }
     Ok(())
 }
 
-pub(crate) fn run_of(alloc: Global, members: &[Member]) -> Result<Run, Fail> {
-    let mut devices = Vec::new(alloc);
-    add_all(alloc, &mut devices, members)?;
-    Run::open(alloc, devices)
-}
-
-// The devices of a run, which fail no more, opened again.
-pub(crate) fn opened_again(alloc: Global, run: Run) -> Result<Run, Fail> {
-    let mut devices = Vec::new(alloc);
-    add_sound(alloc, &mut devices, run.into_devices())?;
-    Run::open(alloc, devices)
-}
-
-fn add_sound(
+pub(crate) fn devices_of(
     alloc: Global,
-    devices: &mut Vec<FaultDevice<MemDevice>>,
-    old: Vec<FaultDevice<MemDevice>>,
-) -> Result<(), Fail> {
+    members: &[Member],
+    vary: Vary,
+    number: u64,
+) -> Result<Vec<Testing>, Fail> {
+    let mut devices = Vec::new(alloc);
+    add_all(alloc, &mut devices, members, vary, number)?;
+    Ok(devices)
+}
+
+// The same devices, which fail no more.
+pub(crate) fn sound(alloc: Global, old: Vec<Testing>) -> Result<Vec<Testing>, Fail> {
+    let mut devices = Vec::new(alloc);
     for device in old {
         let inner = device.into_inner();
         devices.push(FaultDevice::new(inner, Vec::new(alloc), NEVER, NEVER, false))?;
     }
-    Ok(())
+    Ok(devices)
 }

@@ -1,17 +1,19 @@
 // A mirror on which whole calls are made. Each `Run` is consistent.
 ghost use Rattle.std.specs.Prelude.{◌≡◌, ◌%◌, length};
 
+use crate::call::{Answer, Call, NOT_MISSING, Shown};
+use crate::data::{Data, WHOLE};
+use crate::gates::{Counting, Meeting, Silent};
+use crate::members::Testing;
 use crate::opening::open;
-use crate::rebuilds::told::{Told, told_of};
-use md_array::{BeginFault, FailFault, Mirror, ReAddFault, RemoveFault};
-use md_assembly::MemberState;
+use crate::told::told_of;
+use md_array::Mirror;
 use md_cert::Table;
 use md_check::{CheckFault, check_array};
-use md_copy::{Gate, RebuildFault, rebuild, table};
-use md_device::{FaultDevice, MemDevice};
-use md_metadata::{StopFault, stop};
-use md_read::{UnreadFault, read};
-use md_resync::{ResyncFault, resync};
+use md_copy::{Gate, RebuildFault, Rebuilt, rebuild, table};
+use md_metadata::stop;
+use md_read::read;
+use md_resync::resync;
 use md_write::write;
 use std::alloc::Global;
 use std::marker::Model;
@@ -19,9 +21,14 @@ use std::sync::Wait;
 use std::test::Fail;
 use std::thread::Threads;
 
+// What the writes write.
+pub(crate) const WRITTEN: u8 = 0xa5;
+
 #[derive(Drop)]
 pub(crate) struct Run {
-    mirror: Mirror<FaultDevice<MemDevice>>,
+    mirror: Mirror<Testing>,
+    // The device that left last.
+    left: Option<Testing>,
 }
 
 impl Model for Run {
@@ -34,111 +41,101 @@ impl Model for Run {
     ghost invariant = { λ run. IsConsistent run.mirror };
 }
 
-// What a mirror of two members shows.
-#[derive(Clone, Copy, Debug, PartialEq, Eq)]
-pub(crate) struct Shown {
-    pub(crate) events: u64,
-    pub(crate) marked: u32,
-    pub(crate) resynced: bool,
-    pub(crate) halted: bool,
-    pub(crate) states: [MemberState; 2],
-}
-
-// How many chunks a member lacks, and which is the first.
-pub(crate) type Lacks = (u32, Option<u32>);
-
 impl Run {
     // The test fails where the devices make no mirror.
-    pub(crate) fn open(alloc: Global, devices: Vec<FaultDevice<MemDevice>>) -> Result<Run, Fail> {
+    pub(crate) fn open(alloc: Global, devices: Vec<Testing>) -> Result<Run, Fail> {
         let mirror = open(alloc, devices)?;
-        Ok(Run { mirror })
+        Ok(Run { mirror, left: None })
     }
 
-    // None where there are not two members.
-    pub(crate) fn shown(&self) -> Option<Shown> {
-        let mirror = &self.mirror;
-        if mirror.members() != 2 {
-            return None;
-        }
-        Some(Shown {
-            events: mirror.events(),
-            marked: mirror.marks().count(),
-            resynced: mirror.resynced(),
-            halted: mirror.halted(),
-            states: [mirror.state(0), mirror.state(1)],
-        })
-    }
-
-    pub(crate) fn events(&self) -> u64 {
-        self.mirror.events()
-    }
-
-    // This and the calls on a member below answer None where there is no such member.
-    pub(crate) fn state(&self, k: usize) -> Option<MemberState> {
-        if k >= self.mirror.members() {
-            return None;
-        }
-        Some(self.mirror.state(k))
-    }
-
-    // Of what the member lists, how many runs there are, and the first sector of the first with how many follow.
-    pub(crate) fn lists(&self, k: usize) -> Option<(usize, Option<(u64, u64)>)> {
-        if k >= self.mirror.members() {
-            return None;
-        }
-        let runs = self.mirror.bad(k).runs();
-        Some((runs.len(), runs.first().map(|run| (run.start, run.len))))
-    }
-
-    pub(crate) fn lacks(&self, alloc: Global, k: usize) -> Result<Option<Lacks>, Fail> {
-        if k >= self.mirror.members() {
-            return Ok(None);
-        }
-        let missing = self.mirror.missing(alloc, k)?;
-        let lacked = (missing.count(), missing.next_marked(0));
-        drop(missing);
-        Ok(Some(lacked))
-    }
-
-    // Drops the mirror: done here, that is proved once, and not at each exit of a test.
-    pub(crate) fn end(self) {
-        drop(self);
-    }
-
-    pub(crate) fn into_devices(self) -> Vec<FaultDevice<MemDevice>> {
-        let Run { mirror } = self;
+    pub(crate) fn into_devices(self) -> Vec<Testing> {
+        let Run { mirror, .. } = self;
         mirror.into_devices()
     }
 
-    // Begins a request and leaves it in flight. Answers its number.
-    pub(crate) fn begin(&mut self, sector: u64, bytes: &[u8]) -> Result<u64, BeginFault>
-        requires whole { length bytes.now % 512 ≡ 0 }
-    {
-        let request = self.mirror.begin(sector, bytes)?;
-        Ok(request.number())
+    pub(crate) fn is_in_sync(&self, k: usize) -> bool {
+        k < self.mirror.members() && self.mirror.state(k).is_in_sync()
     }
 
-    pub(crate) fn write(&mut self, sector: u64, bytes: &[u8]) -> Result<(), BeginFault>
-        requires whole { length bytes.now % 512 ≡ 0 }
-    {
-        write(&mut self.mirror, sector, bytes)
+    pub(crate) fn make<R: Threads + Wait + Sync>(
+        &mut self,
+        rt: &R,
+        alloc: Global,
+        call: Call,
+    ) -> Answer {
+        match call {
+            Call::Begin(sector) => self.begin(sector),
+            Call::Write(sector, count) => self.write(sector, count),
+            Call::Read(sector, count, given, data) => self.read(sector, count, given, &data),
+            Call::Resync => self.resync(alloc),
+            Call::Stop => self.stop(),
+            Call::Check => answer_of(self.check(rt, alloc, &Silent)),
+            Call::CheckCounted => self.check_counted(rt, alloc),
+            Call::CheckMeeting => self.check_meeting(rt, alloc),
+            Call::Fail(k) => self.fail(k),
+            Call::Remove(k) => self.remove(k),
+            Call::ReAdd => self.re_add(alloc),
+            Call::Table(k) => self.table(alloc, k),
+            Call::Rebuild(k) => self.rebuild(rt, alloc, k, &Silent),
+            Call::RebuildMeeting(k) => self.rebuild_meeting(rt, alloc, k),
+            Call::Events => Answer::Counting(self.mirror.events()),
+            Call::Show => self.show(),
+            Call::State(k) => self.state(k),
+            Call::List(k) => self.list(k),
+            Call::Lack(k) => self.lack(alloc, k),
+        }
     }
 
-    pub(crate) fn read(&mut self, sector: u64, buf: &mut [u8]) -> Result<(), UnreadFault>
-        requires whole { length buf.old % 512 ≡ 0 }
-    {
-        read(&mut self.mirror, sector, buf)
+    fn begin(&mut self, sector: u64) -> Answer {
+        match self.mirror.begin(sector, &[WRITTEN; 512]) {
+            Ok(request) => Answer::Begun(request.number()),
+            Err(fault) => Answer::NotBegun(fault),
+        }
     }
 
-    pub(crate) fn resync(&mut self, alloc: Global) -> Result<(), ResyncFault> {
-        resync(alloc, &mut self.mirror)
+    fn write(&mut self, sector: u64, count: usize) -> Answer {
+        let bytes = [WRITTEN; 4096];
+        let Some(bytes) = bytes.get(..count.min(8) * 512) else {
+            return Answer::NotCalled;
+        };
+        match write(&mut self.mirror, sector, bytes) {
+            Ok(()) => Answer::Done,
+            Err(fault) => Answer::NotBegun(fault),
+        }
     }
 
-    pub(crate) fn stop(&mut self) -> Result<(), StopFault> {
-        stop(&mut self.mirror)
+    fn read(&mut self, sector: u64, count: usize, given: usize, data: &Data) -> Answer {
+        let mut bytes = [0x99; WHOLE];
+        let Some(bytes) = bytes.get_mut(..count.min(64) * 512) else {
+            return Answer::NotCalled;
+        };
+        let answer = match read(&mut self.mirror, sector, bytes) {
+            Ok(()) => Answer::Done,
+            Err(fault) => Answer::NotRead(fault),
+        };
+        let found = bytes.get(..given.min(64) * 512).unwrap_or(&[]);
+        if data.is_in(found, sector as usize) {
+            answer
+        } else {
+            Answer::Differs
+        }
     }
 
-    pub(crate) fn check<G: Gate + Sync, R: Threads + Sync>(
+    fn resync(&mut self, alloc: Global) -> Answer {
+        match resync(alloc, &mut self.mirror) {
+            Ok(()) => Answer::Done,
+            Err(fault) => Answer::NotResynced(fault),
+        }
+    }
+
+    fn stop(&mut self) -> Answer {
+        match stop(&mut self.mirror) {
+            Ok(()) => Answer::Done,
+            Err(fault) => Answer::NotStopped(fault),
+        }
+    }
+
+    fn check<G: Gate + Sync, R: Threads + Sync>(
         &mut self,
         rt: &R,
         alloc: Global,
@@ -147,62 +144,167 @@ impl Run {
         check_array(rt, alloc, &mut self.mirror, gate)
     }
 
-    pub(crate) fn fail(&mut self, k: usize) -> Option<Result<(), FailFault>> {
-        if k >= self.mirror.members() {
-            return None;
-        }
-        Some(self.mirror.fail(k))
+    fn check_counted<R: Threads + Sync>(&mut self, rt: &R, alloc: Global) -> Answer {
+        let gate = Counting::new();
+        let answer = self.check(rt, alloc, &gate);
+        Answer::Counted(answer, gate.sums())
     }
 
-    pub(crate) fn remove(
-        &mut self,
-        k: usize,
-    ) -> Option<Result<FaultDevice<MemDevice>, RemoveFault>> {
-        if k >= self.mirror.members() {
-            return None;
+    fn check_meeting<R: Threads + Sync>(&mut self, rt: &R, alloc: Global) -> Answer {
+        let gate = Meeting::new();
+        let answer = self.check(rt, alloc, &gate);
+        if answer.is_ok() && !gate.have_met() {
+            return Answer::NotMet;
         }
-        Some(self.mirror.remove(k))
+        answer_of(answer)
     }
 
-    pub(crate) fn re_add(
-        &mut self,
-        alloc: Global,
-        device: FaultDevice<MemDevice>,
-    ) -> Result<usize, ReAddFault> {
+    fn fail(&mut self, k: usize) -> Answer {
+        if k >= self.mirror.members() {
+            return Answer::NotCalled;
+        }
+        match self.mirror.fail(k) {
+            Ok(()) => Answer::Done,
+            Err(fault) => Answer::NotFailed(fault),
+        }
+    }
+
+    fn remove(&mut self, k: usize) -> Answer {
+        if k >= self.mirror.members() {
+            return Answer::NotCalled;
+        }
+        match self.mirror.remove(k) {
+            Ok(device) => {
+                self.left = Some(device);
+                Answer::Done
+            }
+            Err(fault) => Answer::NotRemoved(fault),
+        }
+    }
+
+    fn re_add(&mut self, alloc: Global) -> Answer {
+        let Some(device) = self.left.take() else {
+            return Answer::NotCalled;
+        };
         match self.mirror.re_add(alloc, device) {
-            Ok(k) => Ok(k),
+            Ok(k) => Answer::Joined(k),
             Err((device, fault)) => {
                 drop(device);
-                Err(fault)
+                Answer::NotReAdded(fault)
             }
         }
     }
 
-    // What a rebuild of the member would copy.
-    pub(crate) fn table(&self, alloc: Global, k: usize) -> Option<Result<Table, RebuildFault>> {
+    fn table(&self, alloc: Global, k: usize) -> Answer {
         if k >= self.mirror.members() {
-            return None;
+            return Answer::NotCalled;
         }
-        Some(table(alloc, &self.mirror, k))
+        match table(alloc, &self.mirror, k) {
+            Ok(table) => {
+                let offers = offers_of(&table);
+                drop(table);
+                Answer::Offers(offers)
+            }
+            Err(fault) => Answer::NotRebuilt(fault),
+        }
     }
 
-    pub(crate) fn rebuild<G: Gate + Sync, R: Threads + Wait + Sync>(
+    fn rebuild<G: Gate + Sync, R: Threads + Wait + Sync>(
         &mut self,
         rt: &R,
         alloc: Global,
-        target: usize,
+        k: usize,
         gate: &G,
-    ) -> Option<Result<Told, RebuildFault>> {
-        if target >= self.mirror.members() {
-            return None;
+    ) -> Answer {
+        if k >= self.mirror.members() {
+            return Answer::NotCalled;
         }
-        match rebuild(rt, alloc, &mut self.mirror, target, gate) {
-            Ok(rebuilt) => {
-                let told = told_of(&rebuilt);
-                drop(rebuilt);
-                Some(Ok(told))
-            }
-            Err(fault) => Some(Err(fault)),
+        rebuilt_answer(rebuild(rt, alloc, &mut self.mirror, k, gate))
+    }
+
+    fn rebuild_meeting<R: Threads + Wait + Sync>(
+        &mut self,
+        rt: &R,
+        alloc: Global,
+        k: usize,
+    ) -> Answer {
+        let gate = Meeting::new();
+        let answer = self.rebuild(rt, alloc, k, &gate);
+        match answer {
+            Answer::Rebuilt(_) if !gate.have_met() => Answer::NotMet,
+            _ => answer,
         }
     }
+
+    fn show(&self) -> Answer {
+        let mirror = &self.mirror;
+        if mirror.members() != 2 {
+            return Answer::NotCalled;
+        }
+        Answer::Shows(Shown {
+            events: mirror.events(),
+            marked: mirror.marks().count(),
+            resynced: mirror.resynced(),
+            halted: mirror.halted(),
+            states: [mirror.state(0), mirror.state(1)],
+        })
+    }
+
+    fn state(&self, k: usize) -> Answer {
+        if k >= self.mirror.members() {
+            return Answer::NotCalled;
+        }
+        Answer::Is(self.mirror.state(k))
+    }
+
+    fn list(&self, k: usize) -> Answer {
+        if k >= self.mirror.members() {
+            return Answer::NotCalled;
+        }
+        match self.mirror.bad(k).runs() {
+            [] => Answer::Lists(0, 0, 0),
+            [first, ..] => Answer::Lists(self.mirror.bad(k).runs().len(), first.start, first.len),
+        }
+    }
+
+    fn lack(&self, alloc: Global, k: usize) -> Answer {
+        if k >= self.mirror.members() {
+            return Answer::NotCalled;
+        }
+        let Ok(missing) = self.mirror.missing(alloc, k) else {
+            return Answer::NotTold;
+        };
+        let answer = Answer::Lacks(missing.count(), missing.next_marked(0));
+        drop(missing);
+        answer
+    }
+}
+
+fn answer_of(checked: Result<u32, CheckFault>) -> Answer {
+    match checked {
+        Ok(count) => Answer::Counts(count),
+        Err(fault) => Answer::NotChecked(fault),
+    }
+}
+
+fn rebuilt_answer(rebuilt: Result<Rebuilt, RebuildFault>) -> Answer {
+    match rebuilt {
+        Ok(rebuilt) => {
+            let told = told_of(&rebuilt);
+            drop(rebuilt);
+            Answer::Rebuilt(told)
+        }
+        Err(fault) => Answer::NotRebuilt(fault),
+    }
+}
+
+// Of the array's 8 chunks.
+fn offers_of(table: &Table) -> [u32; 8] {
+    let mut offers = [NOT_MISSING; 8];
+    for row in table.rows() {
+        if let Some(place) = offers.get_mut(row.chunk as usize) {
+            *place = row.mask;
+        }
+    }
+    offers
 }

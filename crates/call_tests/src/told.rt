@@ -3,7 +3,7 @@ use md_copy::Rebuilt;
 
 // Of its plans, the rounds of the first and of the last, and the slots of the first; of its orphans, how many there
 // are and which is the first.
-#[derive(Clone, Copy, Debug, PartialEq, Eq)]
+#[derive(Clone, Copy, PartialEq, Eq)]
 pub(crate) struct Told {
     pub(crate) passes: u32,
     pub(crate) plans: usize,
