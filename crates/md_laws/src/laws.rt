@@ -14,7 +14,7 @@ ghost use Rattle.md_array.specs.Opening.{IsOpenedFrom};
 ghost use Rattle.md_array.specs.ReadAsKept.{AreReadAsKept};
 ghost use Rattle.md_array.specs.Worlds.{AreHonest, none_in_flight, super_of, world_of, world_on};
 ghost use Rattle.md_laws.specs.Fresh.{StartsFresh, StaysFresh};
-ghost use Rattle.md_laws.specs.LeftBehind.{FailedJoins, LiesBehind, LogLiesBehind, MissingJoins, MissingLiesBehind};
+ghost use Rattle.md_laws.specs.LeftBehind.{FailedJoins, LiesBehind, LogJoins, LogLiesBehind, MissingJoins, MissingLiesBehind};
 ghost use Rattle.md_laws.specs.Lives.{AtEachMoment, ContentGoesAlongTold, FindsAll, FindsInSync, FindsOut, FitsWhenThere, IsReadAsKeptInLives, KeepsContent, KeepsGeometry, StaysAsLeft};
 ghost use Rattle.md_laws.specs.Recovering.{ContentGoesAlong, KeepsRecovering, OffsetsAreKept, SaysNoMoreWhenOpened, SaysNoMoreWhenRecorded, SaysNoMoreWithoutList};
 ghost use Rattle.md_laws.specs.Returning.{StartsAgain};
@@ -143,8 +143,10 @@ pub fn leaving_members()
     ensures missing { MissingLiesBehind }
 
     // So a `re_add` that takes back such a device, still as it was left, takes back one of which the content is known in all chunks
-    // but the marked ones; or its offset is 0, and it lacks every chunk.
+    // but the marked ones; or its offset is 0, and it lacks every chunk. Of one whose log could not be stored it is asked that the log
+    // has no less then than before.
     ensures failed_joins { FailedJoins }
+    ensures log_joins { LogJoins }
     ensures missing_joins { MissingJoins }
 {}
 
