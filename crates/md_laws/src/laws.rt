@@ -66,7 +66,9 @@ pub fn opening()
 /// An opening after a stop is of devices that were left, in any order, some of them missing (`IsReopened`). Beside
 /// them may be further ones, which the opening before left out (`IsFurther`): the mirror that is opened does not have
 /// them in sync, which is asked only of those that nothing shuts out (`finds_out`). Its superblock is fit, which leaves
-/// out a stop while a failure awaits its record. Openings that were themselves stopped may have written bitmaps
+/// out a stop while a failure awaits its record. The bitmap's header of a member that was rebuilt may be any: where that
+/// member's device is the one that has recorded the last failure, a member that was in sync is there too, or this header
+/// tells of chunks as wide (`IsAsWide`). Openings that were themselves stopped may have written bitmaps
 /// between, if no chunk lost its mark and the header kept its chunk size (`half_opening`). Nothing is said of a mirror
 /// once it is halted.
 pub fn every_run()

@@ -119,8 +119,8 @@ log_joins before m a start holds es rest final t b life k f o d is_member there 
     -- of one that lists all nothing is asked: so the array is as large as it was
     let late = later (record ((world_of f.mirror f.requests).stored k) { listed = λ _. true }) (λ s low. refl) (λ s low on. absurd (true≢false on)) more others newest last c degraded in
     let same = same_data f.mirror.array o d.content (parts_of f.mirror then.sound.sound k d o there is_member)
-        ((then.sound.read k d o there is_member).super (log_clear before m a start holds es rest final t b life k f))
-        j device last.mirror new r honest still (same_sizes g last.mirror.array f.mirror.array late.held.geometry then.geometry) in
+    ((then.sound.read k d o there is_member).super (log_clear before m a start holds es rest final t b life k f))
+    j device last.mirror new r honest still (same_sizes g last.mirror.array f.mirror.array late.held.geometry then.geometry) in
     inr (later (stored_of new.array r.recorded.takes.member device.content) (λ s low. same s ∙ sym (ap (λ (x : Stored). x.content s) shown)) listed more others newest last c degraded).behind
 
 pub missing_joins : MissingJoins
