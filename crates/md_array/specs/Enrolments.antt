@@ -22,7 +22,7 @@ use Rattle.md_array.specs.Worlds.{lists_of}
 pub record Prepares (k : ℕ) (old new : MirrorView) : Type 0 where
   pub may : MayRebuild k old.array
   pub array : new.array ≡ old.array
-  pub disks : IsChangedAlone k (IsSameBesideMarks old.array may.member) old.disks new.disks
+  pub disks : IsChangedAlone k (IsSameBesideMarks may.member) old.disks new.disks
 
 -- ---- the mirror in between, which no caller sees
 -- a device after these writes

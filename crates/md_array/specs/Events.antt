@@ -25,7 +25,7 @@ use Rattle.md_state.specs.CopyingData.{IsDone}
 use Rattle.md_state.specs.DiskWrites.{AtDevice, IsFailed, IsTried, IsWritten}
 use Rattle.md_state.specs.Requests.{AreInFlight, among, request_of}
 use Rattle.md_array.specs.Lending.{IsBesideMissing}
-use Rattle.md_array.specs.ReadAsKept.{AreReadAsKept, HasWidth}
+use Rattle.md_array.specs.ReadAsKept.{AreReadAsKept}
 use Rattle.md_array.specs.Recording.{super_write}
 use Rattle.md_array.specs.Worlds.{AreHonest, stored_on, world_of, super_in, block_on, from_super}
 
@@ -76,11 +76,10 @@ pub record IsBesideMarks (m : MemberView) (at n : ℕ) : Type 0 where
   pub bitmap : IsBesideArea (from_super m.superblock.bitmap_offset) (bitmap_sectors m.stored.chunks) at n
   pub log : has_bad_block_log m.superblock ≡ true → IsBesideArea (from_super m.superblock.bblog_offset) m.superblock.bblog_size at n
 
--- Two contents of a member's device that are the same but for its bitmap and its log. The header of the bitmap tells of chunks as wide.
-pub record IsSameBesideMarks (a : ArrayView) (m : MemberView) (old new : List ℕ) : Type 0 where
+-- two contents of a member's device that are the same but for its bitmap and its log
+pub record IsSameBesideMarks (m : MemberView) (old new : List ℕ) : Type 0 where
   pub size : length new ≡ length old
   pub beside : (at n : ℕ) → IsBesideMarks m at n → part new at n ≡ part old at n
-  pub width : HasWidth a.chunks.sectors m.superblock old → HasWidth a.chunks.sectors m.superblock new
 
 -- A write failed, and any bytes may stand in its range. What a stop within it leaves is not told here.
 pub record HasFailed (k : ℕ) (w : Write) (before after : List Disk) : Type 0 where
@@ -110,7 +109,7 @@ WritesOnce (Event.Finish n) before after = after ≡ before
 WritesOnce (Event.ClearIdle c) before after = after ≡ before
 WritesOnce (Event.Fail k) before after = after ≡ before
 WritesOnce (Event.Fill k) before after = (a : ArrayView) × (m : MemberView) × IsChangedAlone k (IsSameBesideMissing a m) before after
-WritesOnce (Event.Prepare k) before after = (a : ArrayView) × (m : MemberView) × IsChangedAlone k (IsSameBesideMarks a m) before after
+WritesOnce (Event.Prepare k) before after = (m : MemberView) × IsChangedAlone k (IsSameBesideMarks m) before after
 WritesOnce (Event.RecordTargetFails k) before after = (w : Write) × IsFailed k w before after
 WritesOnce (Event.SpoilTarget k) before after = (w : Write) × HasFailed k w before after
 WritesOnce (Event.Enrol k role listed) before after = (w : Write) × IsDone k w before after

@@ -8,6 +8,7 @@ use Rattle.md_members.specs.Members.{reads_log}
 use Rattle.md_kept_members.specs.View.{MemberView}
 use Rattle.md_assembly.specs.States.{is_recorded}
 use Rattle.md_state.specs.Members.{IsMember}
+use Rattle.md_state.specs.Missing.{is_rebuilt}
 use Rattle.md_state.specs.View.{Disk, ArrayView, MirrorView}
 use Rattle.md_array.specs.Worlds.{block_on, from_super, header_on, is_listed}
 
@@ -46,11 +47,13 @@ HasWidth sectors own content = chunk_size_on own content / 512 ≡ sectors
 abbrev pub IsFromBefore : ℕ → List ℕ → Type 0
 IsFromBefore count content = (v : Superblock) → IsSuperOn content v → v.events < count
 
--- A member that failed since the opening may have any header. A spoiled one, of which a write of its superblock failed, may have any
--- superblock; its header is as it was.
+-- A member that failed since the opening may have any header. So may one that is rebuilt, as a write of its bitmap's first sector may have
+-- failed: an opening reads chunks as wide on all of its members. A spoiled one, of which a write of its superblock failed, may have any
+-- superblock.
 pub record IsReadAsKept (a : ArrayView) (m : MemberView) (failed_at : ℕ) (is_spoiled : Bool) (content : List ℕ) : Type 0 where
   pub super : is_spoiled ≡ false → HasOwnSuper a.shared m.superblock content
-  pub header : HasWidth a.chunks.sectors m.superblock content ⊎ ((is_recorded m.state ≡ false) × (is_spoiled ≡ false → IsFromBefore failed_at content))
+  pub header : is_rebuilt m.state ≡ false
+      → HasWidth a.chunks.sectors m.superblock content ⊎ ((is_recorded m.state ≡ false) × (is_spoiled ≡ false → IsFromBefore failed_at content))
 
 -- failed_at is the count after the last failure, or 0; spoiled tells, by the index, which members are
 abbrev pub AreReadAsKept : MirrorView → ℕ → (ℕ → Bool) → Type 0

@@ -37,7 +37,7 @@ use Rattle.md_copy.specs.Filling.{IsFilling}
 use Rattle.md_copy.specs.Leaving.{Leaves}
 use Rattle.md_copy.specs.Listing.{StopsNoting}
 use Rattle.md_copy.specs.Passing.{BreaksOff, CopiesAll, EndsBetween, FailsListing, FailsRecording}
-use Rattle.md_copy.specs.RebuildEvents.{AsksOfEnrol, AsksOfFailure, FailsAfterPass, FailsAtMarks, FailsCheckpoint, FailsLeaving, HaltsIn, IsBeforeEnrol, IsListOfUnfinished, IsOfUnfinished, LeadsUnadmitted, LeadsUnfinished, LeadsUnrecorded}
+use Rattle.md_copy.specs.RebuildEvents.{FailsAfterPass, FailsAtMarks, FailsCheckpoint, FailsLeaving, HaltsIn, IsBeforeEnrol, IsListOfUnfinished, IsOfUnfinished, LeadsUnadmitted, LeadsUnfinished, LeadsUnrecorded}
 use Rattle.md_copy.specs.Rebuilding.{EndsFilled, EndsReadied, EndsStoring, LacksMemory, LacksRoom, LosesSource, LosesTarget, RefusesRebuild}
 use Rattle.md_copy.specs.Ready.{IsReady}
 use Rattle.md_copy.specs.Readying.{FailsAdmission, StopsAdmitted}
@@ -53,7 +53,7 @@ use Rattle.md_copy.proofs.ReadyStill.{list_halted, list_recovers, ready_noted, s
 use Rattle.md_copy.proofs.RebuildLeads.{Before, LeadsIn, admission_events, admission_leads, as_such, begin_events, begin_holds, begin_leads, both_lead, chain_events, chain_leads, copying_events, copying_leads, fill_leads, leads_by, listing_before, listing_leads, none_lead, noting_leads, one_leads, recorded_events, recorded_leads, checkpoint_leads, storing_before, storing_leads}
 use Rattle.md_copy.proofs.StoredFirst.{rebuilt_still}
 use Rattle.md_copy.proofs.TargetStates.{target_rebuilt}
-use Rattle.md_copy.proofs.UnfinishedEnrol.{prepares}
+use Rattle.md_copy.proofs.UnfinishedEnrol.{fails_somewhere, prepares}
 
 -- of these a rebuild that is not done may be made
 pub unfinished_of : (target : ℕ) (e : Event) → IsBeforeEnrol target e → IsOfUnfinished target e
@@ -402,10 +402,10 @@ module _ (target : ℕ) where
           };
         }
 
-    loses_target : (new : MirrorView) (h : LosesTarget target m none ready new) → AsksOfEnrol h → IsConsistent new → LeadsUnfinished target old new
-    loses_target new (inl e) asks after = leads_there old new (broken_off TargetFault new e e.why.1.breaks.filling).leads
-    loses_target new (inr (inl e)) asks after = not_recorded new e after
-    loses_target new (inr (inr e)) asks after = not_enrolled new e asks after
+    loses_target : (new : MirrorView) (h : LosesTarget target m none ready new) → IsConsistent new → LeadsUnfinished target old new
+    loses_target new (inl e) after = leads_there old new (broken_off TargetFault new e e.why.1.breaks.filling).leads
+    loses_target new (inr (inl e)) after = not_recorded new e after
+    loses_target new (inr (inr e)) after = not_enrolled new e (fails_somewhere target e.kept e.orphans e.filled new e.fills.sound e.why) after
 
   -- ---- all of it
   module _ (old : MirrorView) (Why : MemberView → Bitmap → MirrorView → Type 0) (e : EndsReadied target old Why) where
@@ -418,28 +418,28 @@ module _ (target : ℕ) where
     holds : HoldsSoFar target e.ready e.none (missing_chunks e.ready.array e.begins.now)
     holds = begin_holds target old e.ready e.none e.begins
 
-  pub refused_leads : (old new : MirrorView) → IsConsistent old → IsConsistent new → (fault : RebuildFault) (h : RefusesRebuild target old new fault) → AsksOfFailure target old new fault h → LeadsUnfinished target old new
-  refused_leads old new sound after Halted h asks = none old new sound h.unchanged
-  refused_leads old new sound after NotSpare h asks = none old new sound h.unchanged
-  refused_leads old new sound after Dirty h asks = none old new sound h.unchanged
-  refused_leads old new sound after (InFlight number) h asks = none old new sound h.unchanged
-  refused_leads old new sound after EventsFull h asks = none old new sound h.unchanged
-  refused_leads old new sound after (MetadataFault k) (inl h) asks = stops k old new sound h.why
-  refused_leads old new sound after (MetadataFault k) (inr (inl h)) asks = stops_there old new (stops_admitted k old new h.why)
-  refused_leads old new sound after (MetadataFault k) (inr (inr h)) asks =
+  pub refused_leads : (old new : MirrorView) → IsConsistent old → IsConsistent new → (fault : RebuildFault) → RefusesRebuild target old new fault → LeadsUnfinished target old new
+  refused_leads old new sound after Halted h = none old new sound h.unchanged
+  refused_leads old new sound after NotSpare h = none old new sound h.unchanged
+  refused_leads old new sound after Dirty h = none old new sound h.unchanged
+  refused_leads old new sound after (InFlight number) h = none old new sound h.unchanged
+  refused_leads old new sound after EventsFull h = none old new sound h.unchanged
+  refused_leads old new sound after (MetadataFault k) (inl h) = stops k old new sound h.why
+  refused_leads old new sound after (MetadataFault k) (inr (inl h)) = stops_there old new (stops_admitted k old new h.why)
+  refused_leads old new sound after (MetadataFault k) (inr (inr h)) =
       let Why : MemberView → Bitmap → MirrorView → Type 0 = λ m none ready. LosesSource k target m none ready h.stopped in
       let e = h.why.1 in
       left_leads h.copied old h.stopped new (lost_stops e.begins.now e.none old e.ready (opening old Why e) (opens old Why e) (holds old Why e) k h.stopped e.why) h.leaves after
-  refused_leads old new sound after TargetFault (inl h) asks = unrecorded old new h
-  refused_leads old new sound after TargetFault (inr (inl h)) asks = unadmitted old new h.why
-  refused_leads old new sound after TargetFault (inr (inr h)) asks =
+  refused_leads old new sound after TargetFault (inl h) = unrecorded old new h
+  refused_leads old new sound after TargetFault (inr (inl h)) = unadmitted old new h.why
+  refused_leads old new sound after TargetFault (inr (inr h)) =
       let Why : MemberView → Bitmap → MirrorView → Type 0 = λ m none ready. LosesTarget target m none ready new in
-      loses_target h.begins.now h.none old h.ready (opening old Why h) (opens old Why h) (holds old Why h) new h.why asks after
-  refused_leads old new sound after NoMemory (inl h) asks = elim h.why [ inl same ↦ none old new sound same | inr lacks ↦ leads_there old new (storing_leads target old new lacks.first.stores.goes) ]
-  refused_leads old new sound after NoMemory (inr h) asks =
+      loses_target h.begins.now h.none old h.ready (opening old Why h) (opens old Why h) (holds old Why h) new h.why after
+  refused_leads old new sound after NoMemory (inl h) = elim h.why [ inl same ↦ none old new sound same | inr lacks ↦ leads_there old new (storing_leads target old new lacks.first.stores.goes) ]
+  refused_leads old new sound after NoMemory (inr h) =
       let Why : MemberView → Bitmap → MirrorView → Type 0 = λ m none ready. LacksMemory target m none h.copied ready h.stopped in
       left_there h.copied old h.stopped new (lacks_memory h.why.begins.now h.why.none old h.why.ready (opening old Why h.why) (opens old Why h.why) (holds old Why h.why) h.copied h.stopped h.why.why) h.leaves after
-  refused_leads old new sound after (LogFull k) h asks =
+  refused_leads old new sound after (LogFull k) h =
       let Why : MemberView → Bitmap → MirrorView → Type 0 = λ m none ready. LacksRoom k target m none h.copied ready h.stopped in
       left_there h.copied old h.stopped new (lacks_room h.why.begins.now h.why.none old h.why.ready (opening old Why h.why) (opens old Why h.why) (holds old Why h.why) k h.copied h.stopped h.why.why) h.leaves after
 

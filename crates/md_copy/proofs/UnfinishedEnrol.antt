@@ -1,21 +1,21 @@
 -- Where a write of the target's bitmap or of its log failed, nothing changed beside the two.
-use Rattle.std.proofs.Common.{◌≡◌, ◌≢◌, ◌∙◌, ◌⊎◌, ℕ, zero, suc, ◌+◌, ◌*◌, ◌<◌, ◌≤◌, true, false, if◌then◌else◌, List, [], ◌∷◌, ◌++◌, length, append_assoc, slice_get, slice_index_or, Some, refl, sym, ap, subst, arith, inl, inr}
+use Rattle.std.proofs.Common.{◌≡◌, ◌≢◌, ◌∙◌, ◌⊎◌, ℕ, zero, suc, ◌+◌, ◌*◌, ◌<◌, ◌≤◌, true, false, if◌then◌else◌, List, [], ◌∷◌, ◌++◌, length, append_assoc, slice_get, Some, refl, sym, ap, subst, arith, inl, inr}
 use Rattle.std.specs.Int.{div_ceil}
 use Rattle.std.proofs.lemmas.Grind.{div_ceil_times}
 use Rattle.std.proofs.lemmas.List.{append-nil}
-use Rattle.std.proofs.lemmas.Option.{same_Some}
-use Rattle.md_assembly.proofs.Indices.{got_same}
+use Rattle.std.proofs.lemmas.Option.{same_Some, slice_get_within}
+use Rattle.md_assembly.proofs.Indices.{got_same, got_within}
 use Rattle.md_badblocks.specs.Log.{log_bytes}
 use Rattle.md_bitmap.specs.Marks.{Bitmap}
 use Rattle.md_bitmap.proofs.Blocks.{length-bitmap_sector}
 use Rattle.md_device.specs.Device.{written}
-use Rattle.md_device.specs.Splice.{part}
-use Rattle.md_device.proofs.Leaving.{leaves_none}
+use Rattle.md_device.proofs.Leaving.{leaves_less, leaves_none}
 use Rattle.md_device.proofs.Splices.{spliced_outside}
 use Rattle.md_kept_members.specs.Enrolling.{in_sync_superblock, log_room}
 use Rattle.md_kept_members.specs.View.{MemberView}
 use Rattle.md_members.specs.Areas.{bitmap_area, bitmap_sectors, log_area}
-use Rattle.md_state.specs.DeviceChanges.{IsLeftAlone, StaysHonest}
+use Rattle.md_state.specs.DeviceChanges.{IsLeftAlone, LeavesOn, StaysHonest}
+use Rattle.md_state.specs.DiskWrites.{AtDevice}
 use Rattle.md_state.specs.Enrolling.{enrolled}
 use Rattle.md_state.specs.Missing.{is_rebuilt}
 use Rattle.md_state.specs.View.{Disk, MirrorView, of_disks}
@@ -27,7 +27,7 @@ use Rattle.md_writes.proofs.Frames.{outside_around, outside_none}
 use Rattle.md_writes.proofs.Sectors.{length-bitmap_run, runs_from}
 use Rattle.md_array.specs.Consistency.{IsConsistent}
 use Rattle.md_array.specs.Enrolling.{FailsToEnrol, IsStorable, MayEnrol, log_writes}
-use Rattle.md_array.specs.Enrolments.{Prepares}
+use Rattle.md_array.specs.Enrolments.{FailsAtSuper, Prepares}
 use Rattle.md_array.specs.Filling.{MayRebuild}
 use Rattle.md_array.specs.Events.{IsBesideArea, IsBesideMarks, IsChangedAlone, IsSameBesideMarks}
 use Rattle.md_array.specs.Recording.{write_of}
@@ -57,12 +57,7 @@ both_aside : (m : MemberView) (long : ℕ) (ws more : List Write) → AreAside m
 both_aside m long [] more first second = second
 both_aside m long (w ∷ ws) more first second = (first.0, both_aside m long ws more first.1 second)
 
--- two contents that are the same beside these
-record IsSameAside (m : MemberView) (old new : List ℕ) : Type 0 where
-  size : length new ≡ length old
-  beside : (at n : ℕ) → IsBesideMarks m at n → part new at n ≡ part old at n
-
-aside_one : (m : MemberView) (w : Write) (old new : List ℕ) → IsAside m (length old) w → IsAnyIn w old new → IsSameAside m old new
+aside_one : (m : MemberView) (w : Write) (old new : List ℕ) → IsAside m (length old) w → IsAnyIn w old new → IsSameBesideMarks m old new
 aside_one m w old new is same = record {
   size = same.size;
   beside = λ at n b.
@@ -71,10 +66,10 @@ aside_one m w old new is same = record {
       beside_area is.start is.sectors old new (outside_around same (512 * is.start) (512 * is.sectors) (omega arith) (omega arith)) at n (is.beside at n b);
 }
 
-aside_then : (m : MemberView) (old mid new : List ℕ) → IsSameAside m old mid → IsSameAside m mid new → IsSameAside m old new
+aside_then : (m : MemberView) (old mid new : List ℕ) → IsSameBesideMarks m old mid → IsSameBesideMarks m mid new → IsSameBesideMarks m old new
 aside_then m old mid new first second = record { size = second.size ∙ first.size; beside = λ at n b. second.beside at n b ∙ first.beside at n b }
 
-wrote_aside : (m : MemberView) (w : Write) (old : List ℕ) → IsAside m (length old) w → IsSameAside m old (written old w.sector w.bytes)
+wrote_aside : (m : MemberView) (w : Write) (old : List ℕ) → IsAside m (length old) w → IsSameBesideMarks m old (written old w.sector w.bytes)
 wrote_aside m w old is =
     let to = is.to in
     let room = is.room in
@@ -82,7 +77,7 @@ wrote_aside m w old is =
 
 -- One of them failed, and others were to come.
 fails_aside : (m : MemberView) (ws : List Write) (last : Write) (done : List Write) (tried : Write) (rest : List Write) (old left : List ℕ) → AreAside m (length old) ws
-    → ws ++ last ∷ [] ≡ done ++ tried ∷ rest → rest ≢ [] → IsAnyIn tried (after old done) left → IsSameAside m old left
+    → ws ++ last ∷ [] ≡ done ++ tried ∷ rest → rest ≢ [] → IsAnyIn tried (after old done) left → IsSameBesideMarks m old left
 fails_aside m [] last [] tried rest old left are order more any = absurd (more (let e : ◌≡◌ {A = List Write} (last ∷ []) (tried ∷ rest) = order in cc))
 fails_aside m [] last (x ∷ []) tried rest old left are order more any = absurd (let e : ◌≡◌ {A = List Write} (last ∷ []) (x ∷ tried ∷ rest) = order in cc)
 fails_aside m [] last (x ∷ (y ∷ done)) tried rest old left are order more any = absurd (let e : ◌≡◌ {A = List Write} (last ∷ []) (x ∷ y ∷ (done ++ tried ∷ rest)) = order in cc)
@@ -106,10 +101,10 @@ not_empty (x ∷ ws) w rest e = let d : ◌≡◌ {A = List Write} (x ∷ (ws ++
 
 -- within those before it
 cut_aside : (m : MemberView) (ws : List Write) (last : Write) (done : List Write) (tried : Write) (rest : List Write) (old left : List ℕ) → AreAside m (length old) ws
-    → ws ++ last ∷ [] ≡ done ++ tried ∷ rest → rest ≢ [] → IsCutShort old done left → IsSameAside m old left
+    → ws ++ last ∷ [] ≡ done ++ tried ∷ rest → rest ≢ [] → IsCutShort old done left → IsSameBesideMarks m old left
 cut_aside m ws last done tried rest old left are order more cut = by_rest cut.rest cut.order cut.mixed
   where
-    by_rest : (next : List Write) → done ≡ cut.done ++ next → IsNextMixed next (after old cut.done) left → IsSameAside m old left
+    by_rest : (next : List Write) → done ≡ cut.done ++ next → IsNextMixed next (after old cut.done) left → IsSameBesideMarks m old left
     by_rest [] is same =
         let all : done ≡ cut.done = is ∙ append-nil cut.done in
         fails_aside m ws last cut.done tried rest old left are (order ∙ ap (λ xs. xs ++ tried ∷ rest) all) more
@@ -202,7 +197,7 @@ module _ (k : ℕ) (copied orphans : Bitmap) (old new : MirrorView) (c : IsConsi
     first_aside = both_aside m (length d.content) (bitmap_writes r.are.start r.are.header n.stored width) (log_writes n.superblock n.bad) bitmap_aside log_aside
 
     -- what stands on the device then, and what a stop left
-    module _ (e : Disk) (is : slice_get new.disks k ≡ Some e) (f : FailsAtMarks r) (honest : d.honest ≡ true) where
+    module _ (e : Disk) (is : slice_get new.disks k ≡ Some e) (more : (r.disks.change d e was is).0.rest ≢ []) where
       abbrev fails : FailsInWrites of_disks r.writes d e
       fails = (r.disks.change d e was is).0
 
@@ -212,11 +207,11 @@ module _ (k : ℕ) (copied orphans : Bitmap) (old new : MirrorView) (c : IsConsi
       order : first ++ last ∷ [] ≡ fails.done ++ fails.tried ∷ fails.rest
       order = append_assoc (bitmap_writes r.are.start r.are.header n.stored width) (log_writes n.superblock n.bad) (last ∷ []) ∙ sym r.are.are ∙ fails.order
 
-      any_aside : (left : List ℕ) → IsAnyIn fails.tried (after d.content fails.done) left → IsSameAside m d.content left
-      any_aside left any = fails_aside m first last fails.done fails.tried fails.rest d.content left first_aside order (f.more d e was is) any
+      any_aside : (left : List ℕ) → IsAnyIn fails.tried (after d.content fails.done) left → IsSameBesideMarks m d.content left
+      any_aside left any = fails_aside m first last fails.done fails.tried fails.rest d.content left first_aside order more any
 
-      left_aside : (left : List ℕ) → IsCutShort d.content fails.done left ⊎ IsAnyIn fails.tried (after d.content fails.done) left → IsSameAside m d.content left
-      left_aside left (inl cut) = cut_aside m first last fails.done fails.tried fails.rest d.content left first_aside order (f.more d e was is) cut
+      left_aside : (left : List ℕ) → IsCutShort d.content fails.done left ⊎ IsAnyIn fails.tried (after d.content fails.done) left → IsSameBesideMarks m d.content left
+      left_aside left (inl cut) = cut_aside m first last fails.done fails.tried fails.rest d.content left first_aside order more cut
       left_aside left (inr any) = any_aside left any
 
   -- ---- the event
@@ -228,31 +223,45 @@ module _ (k : ℕ) (copied orphans : Bitmap) (old new : MirrorView) (c : IsConsi
     rebuilt = subst (λ (x : MemberView). is_rebuilt x.state ≡ true) (got_same old.array.members k may.member m may.at r.comes.at) (recovers_rebuilt may.member.state may.recovering);
   }
 
-  changed_alone : FailsAtMarks r → IsChangedAlone k (IsSameBesideMarks old.array m) old.disks new.disks
-  changed_alone f = record {
-    as_many = r.disks.as_many;
-    others = λ j apart x y before after.
-        let same : y ≡ x = same_Some y x (sym after ∙ r.disks.others j apart ∙ before) in
-        subst (λ (z : Disk). StaysHonest x z × IsLeftAlone x z) (sym same)
-        (record { honest = refl; counted = omega arith }, (refl, λ _. leaves_none x.stops (λ left. left ≡ x.content)));
-    stays = λ d e was is. let kept = (r.disks.change d e was is).0.kept in record { honest = kept.honest_kept; counted = kept.counted };
-    size = λ d e was is. (r.disks.change d e was is).0.kept.size;
-    changed = λ d e was is honest.
-        let fails = (r.disks.change d e was is).0 in
-        let same = any_aside d was e is f honest e.content (fails.outside honest) in
-        record { size = same.size; beside = same.beside; width = f.width d e was is honest };
-    within = λ d e was is honest.
-        let leaves = (r.disks.change d e was is).0.within honest in
-        record {
-          more = leaves.more;
-          all = leaves.all;
-          each = λ i none below.
-              let left = slice_index_or leaves.more i none in
-              let same = left_aside d was e is f honest left (leaves.each i none below) in
-              record { size = same.size; beside = same.beside; width = f.within d e was is honest i none below };
-        };
-  }
+  -- of the device that was, and of the one that is
+  at_both : (f : FailsAtMarks r) (Related : Disk → Disk → Type 0) → Related f.disk f.left → AtDevice k old.disks new.disks Related
+  at_both f Related related x y before now =
+      let first : x ≡ f.disk = got_same old.disks k x f.disk before f.is in
+      let second : y ≡ f.left = got_same new.disks k y f.left now f.left_is in
+      rw (first, second) related
+
+  changed_alone : FailsAtMarks r → IsChangedAlone k (IsSameBesideMarks m) old.disks new.disks
+  changed_alone f =
+      let fails = (r.disks.change f.disk f.left f.is f.left_is).0 in
+      record {
+        as_many = r.disks.as_many;
+        others = λ j apart x y before after.
+            let same : y ≡ x = same_Some y x (sym after ∙ r.disks.others j apart ∙ before) in
+            subst (λ (z : Disk). StaysHonest x z × IsLeftAlone x z) (sym same)
+            (record { honest = refl; counted = omega arith }, (refl, λ _. leaves_none x.stops (λ left. left ≡ x.content)));
+        stays = at_both f StaysHonest (record { honest = fails.kept.honest_kept; counted = fails.kept.counted });
+        size = at_both f (λ x y. length y.content ≡ length x.content) fails.kept.size;
+        changed = at_both f (λ x y. x.honest ≡ true → IsSameBesideMarks m x.content y.content)
+            (λ honest. any_aside f.disk f.is f.left f.left_is f.more f.left.content (fails.outside honest));
+        within = at_both f (λ x y. x.honest ≡ true → LeavesOn (IsSameBesideMarks m x.content) x y)
+            (λ honest. leaves_less f.disk.stops f.left.stops (λ left. IsCutShort f.disk.content fails.done left ⊎ IsAnyIn fails.tried (after f.disk.content fails.done) left)
+            (IsSameBesideMarks m f.disk.content) (left_aside f.disk f.is f.left f.left_is f.more) (fails.within honest));
+      }
 
   pub prepares : MayEnrol k copied orphans old → FailsAtMarks r → Prepares k old new
   unfolding may_rebuild
   prepares may f = record { may = may_rebuild may; array = r.array; disks = changed_alone f }
+
+  -- ---- which write it was that failed
+  pub fails_somewhere : FailsAtMarks r ⊎ FailsAtSuper r
+  fails_somewhere =
+      let low = slice_get_within old.array.members k m r.comes.at in
+      let as_many = c.fits.as_many in
+      let many = r.disks.as_many in
+      let d = got_within old.disks k (omega arith) in
+      let e = got_within new.disks k (omega arith) in
+      by_rest d.0 e.0 d.1 e.1 (r.disks.change d.0 e.0 d.1 e.1).0.rest refl
+    where
+      by_rest : (d e : Disk) (was : slice_get old.disks k ≡ Some d) (is : slice_get new.disks k ≡ Some e) (rest : List Write) → (r.disks.change d e was is).0.rest ≡ rest → FailsAtMarks r ⊎ FailsAtSuper r
+      by_rest d e was is [] none = inr (record { disk = d; is = was; left = e; left_is = is; last = none })
+      by_rest d e was is (w ∷ ws) some = inl (record { disk = d; is = was; left = e; left_is = is; more = λ none. not_empty [] w ws (sym some ∙ none) })

@@ -1,16 +1,14 @@
 -- A rebuild as a list of events of the array's model (this project's own).
-use Rattle.std.specs.Prelude.{◌≡◌, ◌≢◌, ◌⊎◌, ℕ, Bool, true, List, [], ◌∷◌, ◌++◌, slice_get, Some, All}
+use Rattle.std.specs.Prelude.{◌≡◌, ◌≢◌, ◌⊎◌, ℕ, Bool, List, [], ◌∷◌, ◌++◌, slice_get, Some}
 use Rattle.std.proofs.Common.{inl, inr}
 use Rattle.md_bitmap.specs.Marks.{Bitmap}
 use Rattle.md_kept_members.specs.View.{MemberView}
 use Rattle.md_model.specs.Events.{Event}
-use Rattle.md_state.specs.View.{ArrayView, Disk, MirrorView}
+use Rattle.md_state.specs.View.{Disk, MirrorView}
 use Rattle.md_array.specs.Admitting.{FailsOnTargetAlone, FailsToAdmit}
 use Rattle.md_array.specs.Checkpoints.{FailsToCheckpoint}
 use Rattle.md_array.specs.Enrolling.{FailsToEnrol}
-use Rattle.md_array.specs.Enrolments.{FailsAtSuper}
 use Rattle.md_array.specs.InTurn.{AllOf, HaltsAt, Requests}
-use Rattle.md_array.specs.ReadAsKept.{HasWidth}
 use Rattle.md_metadata.specs.Going.{LeadsBy}
 use Rattle.md_metadata.specs.Storing.{IsNoFailure, IsStoring}
 use Rattle.md_copy.specs.declared.fault.RebuildFault.{RebuildFault}
@@ -179,34 +177,11 @@ pub record LeadsUnrecorded (target : ℕ) (old new : MirrorView) : Type 0 where
   pub event : FailsOnTargetAlone target mid new
 
 -- ---- where `enrol` fails
--- the header of the member's bitmap tells of chunks as wide as before
-abbrev pub KeepsWidth : ArrayView → MemberView → List ℕ → List ℕ → Type 0
-KeepsWidth a m old new = HasWidth a.chunks.sectors m.superblock old → HasWidth a.chunks.sectors m.superblock new
-
--- The write that failed was not that of the superblock, as others were to come after it: it was of the bitmap or of the log. It left the
--- width in the header, and so did a stop.
+-- The write that failed was not that of the superblock, as others were to come after it: it was of the bitmap or of the log. What it left in its
+-- range is not asked. (`FailsAtSuper` of md_array is the other case.)
 pub record FailsAtMarks {target : ℕ} {copied orphans : Bitmap} {old new : MirrorView} (f : FailsToEnrol target copied orphans old new) : Type 0 where
-  pub more : (d e : Disk) (at_d : slice_get old.disks target ≡ Some d) (at_e : slice_get new.disks target ≡ Some e) → (f.disks.change d e at_d at_e).0.rest ≢ []
-  pub width : (d e : Disk) → slice_get old.disks target ≡ Some d → slice_get new.disks target ≡ Some e → d.honest ≡ true → KeepsWidth old.array f.comes.member d.content e.content
-  pub within : (d e : Disk) (at_d : slice_get old.disks target ≡ Some d) (at_e : slice_get new.disks target ≡ Some e) (honest : d.honest ≡ true)
-      → All (KeepsWidth old.array f.comes.member d.content) ((f.disks.change d e at_d at_e).0.within honest).more
-
--- what is asked of it
-abbrev pub AsksOfEnrol : {target : ℕ} {m : MemberView} {none : Bitmap} {ready new : MirrorView} → LosesTarget target m none ready new → Type 0
-AsksOfEnrol (inl pass) = Unit {0}
-AsksOfEnrol (inr (inl recording)) = Unit {0}
-AsksOfEnrol (inr (inr ends)) = FailsAtMarks ends.why ⊎ FailsAtSuper ends.why
-
--- what is asked of a rebuild that is refused
-abbrev pub AsksOfFailure : (target : ℕ) (old new : MirrorView) (fault : RebuildFault) → RefusesRebuild target old new fault → Type 0
-AsksOfFailure target old new Halted h = Unit {0}
-AsksOfFailure target old new NotSpare h = Unit {0}
-AsksOfFailure target old new Dirty h = Unit {0}
-AsksOfFailure target old new (InFlight number) h = Unit {0}
-AsksOfFailure target old new EventsFull h = Unit {0}
-AsksOfFailure target old new (MetadataFault k) h = Unit {0}
-AsksOfFailure target old new TargetFault (inl first) = Unit {0}
-AsksOfFailure target old new TargetFault (inr (inl admission)) = Unit {0}
-AsksOfFailure target old new TargetFault (inr (inr ends)) = AsksOfEnrol ends.why
-AsksOfFailure target old new NoMemory h = Unit {0}
-AsksOfFailure target old new (LogFull k) h = Unit {0}
+  pub disk : Disk
+  pub is : slice_get old.disks target ≡ Some disk
+  pub left : Disk
+  pub left_is : slice_get new.disks target ≡ Some left
+  pub more : (f.disks.change disk left is left_is).0.rest ≢ []

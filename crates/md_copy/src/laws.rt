@@ -5,7 +5,7 @@ ghost use Rattle.md_array.specs.Consistency.{IsConsistent};
 ghost use Rattle.md_copy.specs.declared.fault.RebuildFault.{RebuildFault};
 ghost use Rattle.md_copy.specs.declared.rebuilt.Rebuilt.{Rebuilt};
 ghost use Rattle.md_copy.specs.Readying.{FailsAdmission};
-ghost use Rattle.md_copy.specs.RebuildEvents.{AsksOfFailure, FailsCheckpoint, LeadsUnadmitted, LeadsUnfinished, LeadsUnrecorded, RebuildLeads};
+ghost use Rattle.md_copy.specs.RebuildEvents.{FailsCheckpoint, LeadsUnadmitted, LeadsUnfinished, LeadsUnrecorded, RebuildLeads};
 ghost use Rattle.md_copy.specs.Rebuilding.{Rebuilds, RefusesRebuild};
 ghost use Rattle.md_copy.specs.Rebuilt.{HasRebuilt, IsRebuiltInSync};
 
@@ -27,12 +27,12 @@ pub fn rebuilt_by_call()
 /// enrolment. Where a write failed by which the target was to be admitted, or to record how far it is rebuilt,
 /// or the last write of `enrol`, the target is spoiled by the last event, whatever that write left. Where one of
 /// the first two left the old superblock or none, it is no more than a record that failed. Where another write of
-/// `enrol` failed, it is asked that it left the width of the chunks in the header.
+/// `enrol` failed, the target may have any bitmap and any log, and is as before.
 pub fn rebuild_events()
     ensures done { (target : ℕ) (told : Rebuilt) (old new : MirrorView)
         → Rebuilds target told old new → RebuildLeads target old new }
     ensures refused { (target : ℕ) (old new : MirrorView) → IsConsistent old → IsConsistent new
-        → (fault : RebuildFault) (h : RefusesRebuild target old new fault) → AsksOfFailure target old new fault h
+        → (fault : RebuildFault) → RefusesRebuild target old new fault
         → LeadsUnfinished target old new }
     ensures unadmitted { (target : ℕ) (old new : MirrorView) → FailsAdmission target old new → LeadsUnadmitted target old new }
     ensures unrecorded { (target : ℕ) (old new : MirrorView) → (fault : RebuildFault) (h : RefusesRebuild target old new fault)

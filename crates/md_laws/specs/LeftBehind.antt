@@ -138,3 +138,17 @@ MissingJoins =
     → (more : List Event) (others : List (List Event)) (newest : MirrorView) (last : Moment) (d : Content)
     → DegradedLifeWith next (opened_as next) c more others newest last d
     → JoinsAsLeft (geometry_of m.array) r.member r.device.content last d
+
+-- So one whose log could not be stored, if the log that is read of it then has no less than it had before: that is asked, as a failed write may
+-- have left any.
+abbrev pub LogJoins : Type 0
+LogJoins =
+    (before : List Disk) (m : MirrorView) (a : Content) → IsStart before m → Holds (geometry_of m.array) a (world_of m none_in_flight)
+    → (es : List Event) (rest : List (List Event)) (final : MirrorView) (t : Moment) (b : Content) → MirrorLifeWith m a es rest final t b
+    → (k : ℕ) (f : FailsWithLog t k) (o : MemberView) (d : Disk) → IsMember f.mirror.array k o → slice_get f.mirror.disks k ≡ Some d
+    → (more : List Event) (others : List (List Event)) (newest : MirrorView) (last : Moment) (c : Content)
+    → DegradedLifeWith final (log_failed_then t k f) b more others newest last c
+    → (j : ℕ) (device : Disk) (new : MirrorView) (r : ReAdds j device last.mirror new) → device.honest ≡ true → IsStill o d.content device.content
+    → ((s : ℕ) → s < m.array.chunks.size → (stored_of new.array r.recorded.takes.member device.content).listed s ≡ false
+    → ((world_of t.mirror t.requests).stored k).listed s ≡ false)
+    → JoinsBehind (geometry_of m.array) (re_add_event j device last.mirror new r) (world_of last.mirror last.requests) c

@@ -14,8 +14,9 @@ use Rattle.md_model.specs.Stops.{IsFit}
 use Rattle.md_kept_members.specs.View.{MemberView}
 use Rattle.md_state.specs.View.{ArrayView, Disk, MirrorView, geometry_of}
 use Rattle.md_state.specs.Members.{IsInSync, IsMember}
+use Rattle.md_state.specs.Missing.{is_rebuilt}
 use Rattle.md_array.specs.Opening.{IsArrayOf, IsOpenedFrom}
-use Rattle.md_array.specs.ReadAsKept.{AreReadAsKept, IsSuperOn, chunk_size_on}
+use Rattle.md_array.specs.ReadAsKept.{AreReadAsKept, HasWidth, IsSuperOn, chunk_size_on}
 use Rattle.md_array.specs.Worlds.{AreHonest, from_super, none_in_flight, stored_of, super_of, world_of}
 use Rattle.md_laws.specs.HalfOpened.{IsHalfOpened}
 use Rattle.md_laws.specs.Left.{IsLeft, IsLeftWriting}
@@ -38,12 +39,29 @@ pub record IsFoundAgain (a : ArrayView) (left now : List Disk) (k j : ℕ) : Typ
   pub at_now : slice_get now j ≡ Some disk_now
   pub as_left : IsAsLeft a member disk_left.content disk_now.content
 
+-- a member that was in sync at the stop is there
+pub record IsThereInSync (t : Moment) (at : ℕ → Option ℕ) : Type 0 where
+  pub device : ℕ
+  pub member : MemberView
+  pub in_sync : IsInSync t.mirror.array device member
+  pub place : ℕ
+  pub there : at device ≡ Some place
+
+-- The header of a member's bitmap tells of chunks as wide as the array's. That of a spare or recovering one is not asked where a member that
+-- was in sync is there: a write of it may have failed, and an opening reads chunks as wide on all of its members.
+abbrev pub IsAsWide : (t : Moment) (before : List Disk) (at : ℕ → Option ℕ) (device place : ℕ) → Type 0
+IsAsWide t before at device place =
+    ((m : MemberView) → IsMember t.mirror.array device m → is_rebuilt m.state ≡ false)
+    ⊎ (IsThereInSync t at
+    ⊎ ((m : MemberView) (d : Disk) → IsMember t.mirror.array device m → slice_get before place ≡ Some d → HasWidth t.mirror.array.chunks.sectors m.superblock d.content))
+
 -- One of the devices that were left is there, and its superblock has recorded the last failure.
 pub record HasRecorded (t : Moment) (before : List Disk) (at : ℕ → Option ℕ) : Type 0 where
   pub device : ℕ
   pub place : ℕ
   pub there : at device ≡ Some place
   pub recorded : (d : Disk) (v : Superblock) → slice_get before place ≡ Some d → IsSuperOn d.content v → t.failed_at ≤ v.events
+  pub wide : IsAsWide t before at device place
 
 -- Among these are some of the devices that were left, in any order, and one of those has recorded the last failure. None of them is of a
 -- member whose superblock was spoiled.
@@ -72,14 +90,6 @@ AreFurther opened t before devices next = (j : ℕ) (m : MemberView) → IsMembe
 abbrev pub WasLetThrough : Moment → List Disk → Type 0
 WasLetThrough t left = (t.tried ≡ true) ⊎ IsLeftWriting t left
 
--- a member that was in sync at the stop is there
-pub record HasInSync (t : Moment) (before : List Disk) (devices : AreFoundAgain t before) : Type 0 where
-  pub device : ℕ
-  pub member : MemberView
-  pub in_sync : IsInSync t.mirror.array device member
-  pub place : ℕ
-  pub there : devices.at device ≡ Some place
-
 -- The superblock of an opening calls the device out of sync: faulty, spare, recovering, or stale.
 abbrev pub IsCalledOut : MirrorView → MemberView → Type 0
 IsCalledOut opened m = is_in_sync (state_of opened.array.shared m.superblock) ≡ false
@@ -87,7 +97,7 @@ IsCalledOut opened m = is_in_sync (state_of opened.array.shared m.superblock) �
 -- Why a further device is not found in sync: data was let through, and a member that was in sync is there; or the superblock of the
 -- opening before calls it out of sync (`every_run`, clause `finds_out`).
 abbrev pub IsShutOut : (opened : MirrorView) (t : Moment) (before : List Disk) → AreFoundAgain t before → MemberView → Type 0
-IsShutOut opened t before devices m = (WasLetThrough t devices.left × HasInSync t before devices) ⊎ IsCalledOut opened m
+IsShutOut opened t before devices m = (WasLetThrough t devices.left × IsThereInSync t devices.at) ⊎ IsCalledOut opened m
 
 -- The next mirror is made of such devices and of further ones, and its superblock is fit. Of a further one that is not shut out it is
 -- asked that the mirror does not have it in sync: with one that it has, another life begins (`laws::returning_devices`).

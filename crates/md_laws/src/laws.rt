@@ -14,7 +14,7 @@ ghost use Rattle.md_array.specs.Opening.{IsOpenedFrom};
 ghost use Rattle.md_array.specs.ReadAsKept.{AreReadAsKept};
 ghost use Rattle.md_array.specs.Worlds.{AreHonest, none_in_flight, super_of, world_of, world_on};
 ghost use Rattle.md_laws.specs.Fresh.{StartsFresh, StaysFresh};
-ghost use Rattle.md_laws.specs.LeftBehind.{FailedJoins, LiesBehind, LogLiesBehind, MissingJoins, MissingLiesBehind};
+ghost use Rattle.md_laws.specs.LeftBehind.{FailedJoins, LiesBehind, LogJoins, LogLiesBehind, MissingJoins, MissingLiesBehind};
 ghost use Rattle.md_laws.specs.Lives.{AtEachMoment, ContentGoesAlongTold, FindsAll, FindsInSync, FindsOut, FitsWhenThere, IsReadAsKeptInLives, KeepsContent, KeepsGeometry, StaysAsLeft};
 ghost use Rattle.md_laws.specs.Recovering.{ContentGoesAlong, KeepsRecovering, OffsetsAreKept, SaysNoMoreWhenOpened, SaysNoMoreWhenRecorded, SaysNoMoreWithoutList};
 ghost use Rattle.md_laws.specs.Returning.{StartsAgain};
@@ -66,7 +66,9 @@ pub fn opening()
 /// An opening after a stop is of devices that were left, in any order, some of them missing (`IsReopened`). Beside
 /// them may be further ones, which the opening before left out (`IsFurther`): the mirror that is opened does not have
 /// them in sync, which is asked only of those that nothing shuts out (`finds_out`). Its superblock is fit, which leaves
-/// out a stop while a failure awaits its record. Openings that were themselves stopped may have written bitmaps
+/// out a stop while a failure awaits its record. The bitmap's header of a member that was rebuilt may be any: where that
+/// member's device is the one that has recorded the last failure, a member that was in sync is there too, or this header
+/// tells of chunks as wide (`IsAsWide`). Openings that were themselves stopped may have written bitmaps
 /// between, if no chunk lost its mark and the header kept its chunk size (`half_opening`). Nothing is said of a mirror
 /// once it is halted.
 pub fn every_run()
@@ -143,8 +145,10 @@ pub fn leaving_members()
     ensures missing { MissingLiesBehind }
 
     // So a `re_add` that takes back such a device, still as it was left, takes back one of which the content is known in all chunks
-    // but the marked ones; or its offset is 0, and it lacks every chunk.
+    // but the marked ones; or its offset is 0, and it lacks every chunk. Of one whose log could not be stored it is asked that the log
+    // has no less then than before.
     ensures failed_joins { FailedJoins }
+    ensures log_joins { LogJoins }
     ensures missing_joins { MissingJoins }
 {}
 

@@ -1,5 +1,5 @@
 -- A spare is admitted by the write of its superblock: the mirror stays consistent, an opening reads what is kept, and that is the model's event.
-use Rattle.std.proofs.Common.{◌≡◌, ◌≢◌, ℕ, ◌+◌, ◌*◌, ◌/◌, ◌<◌, ◌≤◌, ◌↔◌, inl, inr, Bool, true, false, not, true≢false, cond, ◌&&◌, ◌||◌, ◌==◌, eqb, nat_lt, List, [], length, map, set, count_by, slice_get, Option, Some, None, refl, sym, ap, ◌∙◌, subst, arith, eq-eqb, eqb-true, length-set}
+use Rattle.std.proofs.Common.{◌≡◌, ◌≢◌, ℕ, ◌+◌, ◌*◌, ◌/◌, ◌<◌, ◌≤◌, ◌↔◌, Bool, true, false, not, true≢false, cond, ◌&&◌, ◌||◌, ◌==◌, eqb, nat_lt, [], length, map, set, count_by, slice_get, Option, Some, None, refl, sym, ap, ◌∙◌, subst, arith, eq-eqb, eqb-true, length-set}
 use Rattle.std.specs.Prelude.{leb, option_map, unwrap_or}
 use Rattle.std.specs.List.{list_any}
 use Rattle.std.proofs.lemmas.List.FromFn.{length-map-range_with_len}
@@ -12,7 +12,6 @@ use Rattle.md_assembly.specs.States.{has_recovery_offset, is_active, is_in_sync,
 use Rattle.md_bitmap.specs.Marks.{is_set}
 use Rattle.md_device.specs.Splice.{SameOutside}
 use Rattle.md_device.proofs.Splices.{part-spliced}
-use Rattle.md_format.specs.Fields.{number_at}
 use Rattle.md_kept_members.specs.Members.{made_due}
 use Rattle.md_kept_members.specs.TakingBack.{admitted_member, recovering}
 use Rattle.md_kept_members.specs.View.{MemberView}
@@ -55,7 +54,7 @@ use Rattle.md_array.proofs.Steps.SuperRecorded.{readable_super}
 use Rattle.md_array.proofs.Steps.TakenBackEvent.{takes_own}
 use Rattle.md_array.proofs.Worlds.InSync.{in_sync_is}
 use Rattle.md_array.proofs.Worlds.Joined.{count_roles, grew, role_joined}
-use Rattle.md_array.proofs.Worlds.PartsApart.{HasParts, header_beside_super, parts_of, super_alone}
+use Rattle.md_array.proofs.Worlds.PartsApart.{HasParts, parts_of, super_alone}
 use Rattle.md_array.proofs.Worlds.ReadAsKept.{IsSameArray, kept_in, own_written}
 use Rattle.md_array.proofs.Worlds.Risen.{risen_is_consistent, world_risen}
 use Rattle.md_array.proofs.Worlds.Shown.{at_is, at_past, by_member}
@@ -188,10 +187,7 @@ module _ (k : ℕ) (old new : MirrorView) (c : IsConsistent old) (r : Admits k o
     read_k : d.honest ≡ true → (failed_at : ℕ) (was_spoiled is_spoiled : Bool) → IsReadAsKept a m failed_at was_spoiled d.content → IsReadAsKept b n failed_at is_spoiled e.content
     read_k honest failed_at was_spoiled is_spoiled had = record {
       super = λ _. own_written b n e.content readable (block_is honest);
-      header = elim had.header [
-        | inl width ↦ inl (ap (λ (h : List ℕ). number_at 4 52 h / 512) (header_beside_super a m d.content e.content parts outside) ∙ width)
-        | inr gone ↦ absurd (true≢false (sym (spare_recorded m.state spare) ∙ gone.0))
-      ];
+      header = λ un. absurd (true≢false un);
     }
 
   same_fields : IsSameArray a b
@@ -214,7 +210,7 @@ module _ (k : ℕ) (old new : MirrorView) (c : IsConsistent old) (r : Admits k o
       (λ apart here.
       let z = at_map made_due a.members j x here in
       kept_in a b z.0 x failed_at (put k false spoiled j) e.content same_fields
-      (record { superblock = ap (λ (y : MemberView). y.superblock) z.2; recorded = ap (λ (y : MemberView). is_recorded y.state) z.2 })
+      (record { superblock = ap (λ (y : MemberView). y.superblock) z.2; state = ap (λ (y : MemberView). y.state) z.2 })
       (subst (λ (s : Bool). IsReadAsKept a z.0 failed_at s e.content) (sym (put-miss k false spoiled j apart)) (are j e z.0 (sym (r.disks.tried.others j apart) ∙ found) z.1))))
 
   -- ---- its world

@@ -1,6 +1,6 @@
 -- What a stop leaves of a member's device within the writes of an enrolment: its bitmap and its log have changed at most, or all of them are
 -- stored, and the superblock has changed at most.
-use Rattle.std.proofs.Common.{◌≡◌, ◌⊎◌, ℕ, ◌+◌, ◌-◌, ◌*◌, ◌/◌, ◌<◌, inl, inr, true, false, if◌then◌else◌, List, [], ◌∷◌, ◌++◌, length, append_assoc, slice_get, Some, refl, sym, ap, ◌∙◌, subst, arith}
+use Rattle.std.proofs.Common.{◌≡◌, ◌⊎◌, ℕ, ◌+◌, ◌-◌, ◌*◌, ◌<◌, inl, inr, true, false, if◌then◌else◌, List, [], ◌∷◌, ◌++◌, length, append_assoc, slice_get, Some, refl, sym, ap, ◌∙◌, subst, arith}
 use Rattle.std.specs.Int.{div_ceil}
 use Rattle.std.proofs.lemmas.List.{append-nil}
 use Rattle.std.proofs.lemmas.Grind.{div_ceil_times}
@@ -8,8 +8,6 @@ use Rattle.md_bitmap.specs.Marks.{Bitmap}
 use Rattle.md_badblocks.specs.Log.{log_bytes}
 use Rattle.md_device.specs.Splice.{SameOutside, part}
 use Rattle.md_device.proofs.Leaving.{in_three, three_same}
-use Rattle.md_device.proofs.Splices.{part_before}
-use Rattle.md_format.specs.Fields.{number_at}
 use Rattle.md_kept_members.specs.Enrolling.{log_room}
 use Rattle.md_kept_members.specs.View.{MemberView}
 use Rattle.md_members.specs.Areas.{bitmap_sectors}
@@ -23,10 +21,9 @@ use Rattle.md_writes.proofs.Stored.{stored_cut}
 use Rattle.md_array.specs.Consistency.{IsConsistent}
 use Rattle.md_array.specs.Enrolling.{Enrols, log_writes}
 use Rattle.md_array.specs.Events.{IsBesideArea, IsBesideMarks, IsSameBesideMarks}
-use Rattle.md_array.specs.ReadAsKept.{HasWidth}
 use Rattle.md_array.specs.Recording.{write_of}
-use Rattle.md_array.specs.Worlds.{block_on, from_super, header_on}
-use Rattle.md_array.proofs.Rebuilding.InBetween.{beside_area, beside_bitmap, chunks, content_then, last_outside, log_there, log_width, marked, marks_outside, room_marked, starts, then_beside, width_beside_log, width_marked}
+use Rattle.md_array.specs.Worlds.{block_on, from_super}
+use Rattle.md_array.proofs.Rebuilding.InBetween.{beside_area, beside_bitmap, chunks, content_then, last_outside, log_there, log_width, marked, marks_outside, room_marked, starts, then_beside}
 use Rattle.md_array.proofs.Rebuilding.PreparedEvent.{block_kept}
 use Rattle.md_array.proofs.Worlds.PartsApart.{parts_of}
 
@@ -65,56 +62,47 @@ module _ (k : ℕ) (copied orphans : Bitmap) (old new : MirrorView) (c : IsConsi
       beside_area r.are.start width d.content left whole at l there
 
   -- within the bitmap: its first sector, which has the header, comes last
-  cut_bitmap : (left : List ℕ) → IsCutShort d.content first left → IsSameBesideMarks old.array it d.content left
+  cut_bitmap : (left : List ℕ) → IsCutShort d.content first left → IsSameBesideMarks it d.content left
   cut_bitmap left cut =
       elim (stored_cut r.are.start r.are.header n.stored width d.content left some_width (room_marked k copied orphans old new c r d was) cut) [
         | inl all ↦ record {
           size = ap (λ (xs : List ℕ). length xs) all ∙ (marks_outside k copied orphans old new c r d was).size;
           beside = λ at l b. ap (λ (xs : List ℕ). part xs at l) all ∙ beside_bitmap k copied orphans old new c r d was at l b;
-          width = λ _. subst (HasWidth old.array.chunks.sectors it.superblock) (sym all) (width_marked k copied orphans old new c r d was);
         }
         | inr some ↦ record {
           size = some.size;
           beside = beside_first left some;
-          width = λ had.
-              let header : header_on left r.are.start ≡ header_on d.content r.are.start = part_before some (512 * r.are.start) 256 (omega arith) in
-              let at = starts k copied orphans old new c r in
-              ap (λ (start : ℕ). number_at 4 52 (header_on left start) / 512) at
-              ∙ ap (λ (h : List ℕ). number_at 4 52 h / 512) header
-              ∙ sym (ap (λ (start : ℕ). number_at 4 52 (header_on d.content start) / 512) at)
-              ∙ had;
         }
       ]
 
   -- within the log
-  cut_log : has_bad_block_log n.superblock ≡ true → (left : List ℕ) → SameOutside (512 * log.sector) (length log.bytes) (marked k copied orphans old new c r d was) left → IsSameBesideMarks old.array it d.content left
+  cut_log : has_bad_block_log n.superblock ≡ true → (left : List ℕ) → SameOutside (512 * log.sector) (length log.bytes) (marked k copied orphans old new c r d was) left → IsSameBesideMarks it d.content left
   cut_log there left same =
       let area : SameOutside (512 * from_super n.superblock.bblog_offset) (512 * n.superblock.bblog_size) (marked k copied orphans old new c r d was) left =
       subst (λ (x : ℕ). SameOutside (512 * from_super n.superblock.bblog_offset) x (marked k copied orphans old new c r d was) left) (log_width k copied orphans old new c r d was there) same in
       record {
         size = area.size ∙ (marks_outside k copied orphans old new c r d was).size;
         beside = λ at l b. log_there k copied orphans old new c r d was left area there at l b ∙ beside_bitmap k copied orphans old new c r d was at l b;
-        width = λ _. width_beside_log k copied orphans old new c r d was left area there;
       }
 
   -- before the superblock's write
-  pub cut_first : (left : List ℕ) → IsCutShort d.content (first ++ log_writes n.superblock n.bad) left → IsSameBesideMarks old.array it d.content left
+  pub cut_first : (left : List ℕ) → IsCutShort d.content (first ++ log_writes n.superblock n.bad) left → IsSameBesideMarks it d.content left
   cut_first left cut = by_log (has_bad_block_log n.superblock) refl
     where
-      by_log : (b : _) → has_bad_block_log n.superblock ≡ b → IsSameBesideMarks old.array it d.content left
+      by_log : (b : _) → has_bad_block_log n.superblock ≡ b → IsSameBesideMarks it d.content left
       by_log true there =
           let writes : first ++ log_writes n.superblock n.bad ≡ first ++ log ∷ [] = ap (λ b. first ++ (if b then log ∷ [] else [])) there in
           elim (cut_last d.content left first log (subst (λ (ws : List Write). IsCutShort d.content ws left) writes cut)) [
             | inl earlier ↦ cut_bitmap left earlier
             | inr (inl mixed) ↦ cut_log there left mixed.outside
-            | inr (inr all) ↦ subst (IsSameBesideMarks old.array it d.content) (sym (all ∙ ap (after d.content) (sym writes))) (then_beside k copied orphans old new c r d was)
+            | inr (inr all) ↦ subst (IsSameBesideMarks it d.content) (sym (all ∙ ap (after d.content) (sym writes))) (then_beside k copied orphans old new c r d was)
           ]
       by_log false none =
           let writes : first ++ log_writes n.superblock n.bad ≡ first = ap (λ b. first ++ (if b then log ∷ [] else [])) none ∙ append-nil first in
           cut_bitmap left (subst (λ (ws : List Write). IsCutShort d.content ws left) writes cut)
 
   -- within all of them
-  pub cut_enrol : (left : List ℕ) → IsCutShort d.content r.writes left → IsSameBesideMarks old.array it d.content left ⊎ SameOutside (512 * 8) 4096 ready left
+  pub cut_enrol : (left : List ℕ) → IsCutShort d.content r.writes left → IsSameBesideMarks it d.content left ⊎ SameOutside (512 * 8) 4096 ready left
   cut_enrol left cut =
       let writes : r.writes ≡ (first ++ log_writes n.superblock n.bad) ++ last ∷ [] = r.are.are ∙ sym (append_assoc first (log_writes n.superblock n.bad) (last ∷ [])) in
       let whole : length last.bytes ≡ 4096 = r.readable.size in
@@ -125,12 +113,12 @@ module _ (k : ℕ) (copied orphans : Bitmap) (old new : MirrorView) (c : IsConsi
       ]
 
   -- where the superblock stands as before, no more than the bitmap and the log changed
-  pub cut_with_super : (left : List ℕ) → IsCutShort d.content r.writes left → block_on left ≡ block_on d.content → IsSameBesideMarks old.array it d.content left
+  pub cut_with_super : (left : List ℕ) → IsCutShort d.content r.writes left → block_on left ≡ block_on d.content → IsSameBesideMarks it d.content left
   cut_with_super left cut super =
       elim (cut_enrol left cut) [
         | inl same ↦ same
         | inr same ↦
             let stays : block_on left ≡ block_on ready = super ∙ sym (block_kept old.array it d.content ready (parts_of old c k d it was r.comes.at) (then_beside k copied orphans old new c r d was)) in
             let whole : left ≡ ready = three_same (512 * 8) 4096 ready left same (block_on ready) stays ∙ sym (in_three ready (512 * 8) 4096) in
-            subst (IsSameBesideMarks old.array it d.content) (sym whole) (then_beside k copied orphans old new c r d was)
+            subst (IsSameBesideMarks it d.content) (sym whole) (then_beside k copied orphans old new c r d was)
       ]

@@ -141,9 +141,9 @@ module _ (k : ℕ) (copied orphans : Bitmap) (old new : MirrorView) (c : IsConsi
         (λ on. ap length (as_then on) ∙ then_long k copied orphans old (instead d s.is) c instead_done d s.is)
         (λ off. ap (λ (t : Bool). length (cond t (after d.content (writes_before f)) e.content)) off ∙ fails.kept.size)
 
-    mid_alone : IsChangedAlone k (IsSameBesideMarks a m) old.disks mid.disks
-    mid_alone = set_alone k old.disks d s.is then.content (IsSameBesideMarks a m) long
-        (λ honest. subst (IsSameBesideMarks a m d.content) (sym (as_then honest)) (then_beside k copied orphans old (instead d s.is) c instead_done d s.is))
+    mid_alone : IsChangedAlone k (IsSameBesideMarks m) old.disks mid.disks
+    mid_alone = set_alone k old.disks d s.is then.content (IsSameBesideMarks m) long
+        (λ honest. subst (IsSameBesideMarks m d.content) (sym (as_then honest)) (then_beside k copied orphans old (instead d s.is) c instead_done d s.is))
 
     prepares_mid : MayEnrol k copied orphans old → Prepares k old mid
     prepares_mid may = record { may = may_rebuild_it k copied orphans old (instead d s.is) c instead_done may; array = refl; disks = mid_alone }
@@ -208,7 +208,7 @@ module _ (k : ℕ) (copied orphans : Bitmap) (old new : MirrorView) (c : IsConsi
     spoils = subst (λ (v : MirrorView). SpoilsTarget k v new) (sym mid_is) spoils_mid
 
     prepared_sound : IsConsistent (prepared_only f)
-    prepared_sound = subst IsConsistent (sym mid_is) (only_is_consistent k m old mid c f.comes.at rebuilt refl (changed_only k (IsSameBesideMarks a m) old.disks mid.disks mid_alone))
+    prepared_sound = subst IsConsistent (sym mid_is) (only_is_consistent k m old mid c f.comes.at rebuilt refl (changed_only k (IsSameBesideMarks m) old.disks mid.disks mid_alone))
 
     pub unenrol_leads : MayEnrol k copied orphans old → (previous : Option Event) (requests : Requests) → AreInFlight a requests
         → Leads previous old requests (Event.Prepare k ∷ Event.SpoilTarget k ∷ []) new requests

@@ -7,7 +7,7 @@ use Rattle.std.proofs.lemmas.Option.{slice_get_within}
 use Rattle.md_assembly.proofs.Indices.{got_same, got_within}
 use Rattle.md_assembly.specs.declared.state.MemberState.{MemberState}
 use Rattle.md_assembly.specs.declared.state.MemberState.TheVariants.{InSync, Recovering, Stale, Spare, Faulty}
-use Rattle.md_assembly.specs.States.{is_in_sync, is_recorded, role_in, takes_role}
+use Rattle.md_assembly.specs.States.{is_in_sync, role_in, takes_role}
 use Rattle.md_bitmap.specs.declared.header.BitmapHeader.{BitmapHeader}
 use Rattle.md_bitmap.specs.Marks.{Bitmap, is_set}
 use Rattle.md_device.specs.Device.{written}
@@ -291,7 +291,7 @@ module _ (k : ℕ) (copied orphans : Bitmap) (old new : MirrorView) (c : IsConsi
         (enrolled_world.outside k copied orphans old new c sound r out small d was e is (honest k d was)) in
         record {
           super = λ _. own_written (enrolled array k n r.role) n e.content readable (block ∙ ap (λ (x : ArrayView). (write_of x.shared n).bytes) r.array);
-          header = inl (ap (λ (h : List ℕ). number_at 4 52 h / 512) kept
+          header = λ _. inl (ap (λ (h : List ℕ). number_at 4 52 h / 512) kept
               ∙ ap (λ (v : Superblock). number_at 4 52 (header_on then.content (from_super v.bitmap_offset)) / 512) (superblock k copied orphans old new c r)
               ∙ ap (λ (x : ℕ). x / 512) (sym holds.header.chunksize ∙ r.are.header_is.chunksize ∙ ap (λ (h : BitmapHeader). h.chunksize) r.comes.comes.header)
               ∙ c.chunks.member_width k it r.comes.at);
@@ -311,7 +311,7 @@ module _ (k : ℕ) (copied orphans : Bitmap) (old new : MirrorView) (c : IsConsi
         (λ apart is_there.
         let z = at_map made_due array.members j y is_there in
         kept_in array b z.0 y failed_at (then_spoiled j) x.content same_fields
-        (record { superblock = ap (λ (v : MemberView). v.superblock) z.2; recorded = ap (λ (v : MemberView). is_recorded v.state) z.2 })
+        (record { superblock = ap (λ (v : MemberView). v.superblock) z.2; state = ap (λ (v : MemberView). v.state) z.2 })
         (subst (λ (s : Bool). IsReadAsKept array z.0 failed_at s x.content) (sym (put-miss k false spoiled j apart))
         (are j x z.0 (got_other old.disks k j then apart ∙ sym (r.disks.others j apart) ∙ found) z.1))))
 

@@ -1,21 +1,19 @@
 -- The mirror in the midst of an enrolment: marks and log are stored, and the superblock is not. No caller sees it.
-use Rattle.std.proofs.Common.{◌≡◌, ◌+◌, ℕ, ◌*◌, ◌/◌, ◌<◌, ◌≤◌, inl, inr, true, List, length, length-set, set, slice_get, Option, Some, refl, sym, ap, ◌∙◌, subst, arith}
+use Rattle.std.proofs.Common.{◌≡◌, ◌+◌, ℕ, ◌*◌, ◌<◌, ◌≤◌, inl, inr, true, List, length, length-set, set, slice_get, Option, Some, refl, sym, ap, ◌∙◌, subst, arith}
 use Rattle.md_assembly.specs.States.{is_recovering}
 use Rattle.md_assembly.specs.declared.state.MemberState.TheVariants.{InSync, Recovering, Stale, Spare, Faulty}
 use Rattle.md_assembly.specs.declared.state.MemberState.{MemberState}
 use Rattle.std.proofs.lemmas.Option.{same_Some, slice_get_within}
 use Rattle.md_assembly.proofs.Indices.{got_same, got_within}
-use Rattle.md_bitmap.specs.declared.header.BitmapHeader.{BitmapHeader}
 use Rattle.md_bitmap.specs.Marks.{Bitmap}
 use Rattle.md_badblocks.specs.Log.{log_bytes}
 use Rattle.md_device.specs.Device.{written}
 use Rattle.md_device.specs.Splice.{SameOutside, part}
 use Rattle.md_device.proofs.Leaving.{leaves_none}
-use Rattle.md_format.specs.Fields.{number_at}
 use Rattle.md_device.proofs.Splices.{part_after, part_before, spliced_outside}
 use Rattle.md_kept_members.specs.Enrolling.{HasRoomFor, in_sync_superblock, log_room}
 use Rattle.md_kept_members.specs.View.{MemberView}
-use Rattle.md_members.specs.Areas.{bitmap_area, bitmap_sectors, log_area}
+use Rattle.md_members.specs.Areas.{bitmap_sectors}
 use Rattle.md_state.specs.DeviceChanges.{IsLeftAlone, LeavesOn, StaysHonest}
 use Rattle.md_state.specs.Missing.{is_rebuilt}
 use Rattle.md_state.specs.View.{ArrayView, Disk, MirrorView}
@@ -30,13 +28,12 @@ use Rattle.md_array.specs.Enrolling.{Enrols, IsStorable, MayEnrol, log_writes}
 use Rattle.md_array.specs.Enrolments.{Prepares, first_writes, prepared, with_writes}
 use Rattle.md_array.specs.Events.{IsBesideArea, IsBesideMarks, IsChangedAlone, IsSameBesideMarks}
 use Rattle.md_array.specs.Filling.{MayRebuild}
-use Rattle.md_array.specs.ReadAsKept.{HasWidth}
 use Rattle.md_array.specs.Recording.{write_of}
-use Rattle.md_array.specs.Worlds.{from_super, header_on}
+use Rattle.md_array.specs.Worlds.{from_super}
 use Rattle.md_array.proofs.General.Indices.{at_set_same, got_other}
 use Rattle.md_array.proofs.Rebuilding.EnrolledArray as array
 use Rattle.md_array.proofs.Rebuilding.MemberStored as stored
-use Rattle.md_array.proofs.Worlds.Outside.{apart_either_way, starts_at}
+use Rattle.md_array.proofs.Worlds.Outside.{starts_at}
 use Rattle.md_array.proofs.Worlds.Writes.{HoldsBitmap}
 use Rattle.md_array.proofs.Steps.OneWrite.{at_device}
 
@@ -128,33 +125,11 @@ module _ (k : ℕ) (copied orphans : Bitmap) (old new : MirrorView) (c : IsConsi
         let outside = (stored.marks_stored new.array n r.are.start r.are.starts r.are.header r.are.header_is new.array.shared d.content storable r.readable).outside in
         outside_around outside (512 * r.are.start) (512 * bitmap_sectors n.stored.chunks) (omega arith) (omega arith)
 
-    marked_holds : HoldsBitmap marked r.are.start r.are.header n.stored
-    marked_holds = stored.marked_holds new.array n r.are.start r.are.starts r.are.header r.are.header_is new.array.shared d.content storable r.readable
-
-    pub width_held : (content : List ℕ) → HoldsBitmap content r.are.start r.are.header n.stored → HasWidth a.chunks.sectors m.superblock content
-    width_held content holds =
-        ap (λ (start : ℕ). number_at 4 52 (header_on content start) / 512) starts
-        ∙ ap (λ (x : ℕ). x / 512) (sym holds.header.chunksize ∙ r.are.header_is.chunksize ∙ ap (λ (h : BitmapHeader). h.chunksize) r.comes.comes.header)
-        ∙ c.chunks.member_width k m r.comes.at
-
-    pub width_marked : HasWidth a.chunks.sectors m.superblock marked
-    width_marked = width_held marked marked_holds
-
     pub log_width : has_bad_block_log n.superblock ≡ true → length (log_bytes n.bad (log_room n.superblock)) ≡ 512 * n.superblock.bblog_size
     log_width there = stored.log_long n room there
 
     -- where the log alone was written since
     module _ (left : List ℕ) (same : SameOutside (512 * from_super n.superblock.bblog_offset) (512 * n.superblock.bblog_size) marked left) (there : has_bad_block_log n.superblock ≡ true) where
-      pub width_beside_log : HasWidth a.chunks.sectors m.superblock left
-      width_beside_log =
-          width_held left
-          (stored.bitmap_beside new.array n r.are.start r.are.starts r.are.header r.are.header_is new.array.shared d.content storable r.readable
-          (log_area n.superblock) (from_super n.superblock.bblog_offset)
-          (stored.log_at new.array n r.are.start r.are.starts r.are.header r.are.header_is new.array.shared d.content storable r.readable there)
-          (apart_either_way (log_area n.superblock) (bitmap_area n.superblock (bitmap_sectors n.stored.chunks))
-          ((stored.bitmap_placed new.array n r.are.start r.are.starts r.are.header r.are.header_is new.array.shared d.content storable r.readable).from_log there))
-          marked left same marked_holds)
-
       pub log_there : (at l : ℕ) → IsBesideMarks m at l → part left at l ≡ part marked at l
       log_there at l b =
           let named : has_bad_block_log m.superblock ≡ true = subst (λ (v : Superblock). has_bad_block_log v ≡ true) superblock there in
@@ -174,11 +149,10 @@ module _ (k : ℕ) (copied orphans : Bitmap) (old new : MirrorView) (c : IsConsi
         (λ there. log_there listed (stored.listed_outside new.array n r.are.start r.are.starts r.are.header r.are.header_is new.array.shared d.content storable r.readable there) there at l b)
         (λ none. ap (λ (xs : List ℕ). part xs at l) (stored.unlisted new.array n r.are.start r.are.starts r.are.header r.are.header_is new.array.shared d.content storable r.readable none))
 
-    pub then_beside : IsSameBesideMarks a m d.content content_then
+    pub then_beside : IsSameBesideMarks m d.content content_then
     then_beside = record {
       size = then_long;
       beside = λ at l b. ap (λ (xs : List ℕ). part xs at l) in_two ∙ beside_log at l b ∙ beside_bitmap at l b;
-      width = λ _. width_held content_then (subst (λ (start : ℕ). HoldsBitmap content_then start r.are.header n.stored) starts then_holds);
     }
 
     -- the superblock's write
@@ -202,8 +176,8 @@ module _ (k : ℕ) (copied orphans : Bitmap) (old new : MirrorView) (c : IsConsi
     pub then_at : slice_get (set old.disks k then_disk) k ≡ Some then_disk
     then_at = at_set_same old.disks k then_disk low
 
-    pub changes_then : IsChangedAlone k (IsSameBesideMarks a m) old.disks (set old.disks k then_disk)
-    changes_then = set_alone k old.disks d was content_then (IsSameBesideMarks a m) then_long (λ _. then_beside)
+    pub changes_then : IsChangedAlone k (IsSameBesideMarks m) old.disks (set old.disks k then_disk)
+    changes_then = set_alone k old.disks d was content_then (IsSameBesideMarks m) then_long (λ _. then_beside)
 
   abbrev pub may_rebuild_it : MayEnrol k copied orphans old → MayRebuild k a
   may_rebuild_it may = record {

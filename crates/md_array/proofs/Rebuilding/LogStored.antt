@@ -180,7 +180,7 @@ module _ (k : ℕ) (old new : MirrorView) (c : IsConsistent old) (r : StoresLog 
     read_logged : HasNoShift k old → (failed_at : ℕ) (is_spoiled : Bool) → IsReadAsKept a m failed_at is_spoiled d.content → IsReadAsKept a n failed_at is_spoiled e.content
     read_logged unshifted failed_at is_spoiled had = record {
       super = λ un. own_beside a m d.content e.content block_same n.superblock refl refl refl refl (unshifted m at) (had.super un);
-      header = elim had.header [
+      header = λ un. elim (had.header un) [
         | inl width ↦ inl (ap (λ (h : List ℕ). number_at 4 52 h / 512) header_same ∙ width)
         | inr gone ↦ absurd (true≢false (sym (in_sync_recorded m.state r.in_sync.in_sync) ∙ gone.0))
       ];

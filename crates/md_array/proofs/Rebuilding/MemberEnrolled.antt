@@ -9,7 +9,6 @@ use Rattle.md_super.specs.Merge.{merged}
 use Rattle.md_bitmap.specs.declared.header.BitmapHeader.{BitmapHeader}
 use Rattle.md_bitmap.specs.Marks.{Bitmap}
 use Rattle.md_model.proofs.Puts.{by_same, put-miss}
-use Rattle.md_assembly.specs.States.{is_recorded}
 use Rattle.md_assembly.proofs.Indices.{got_same, got_within}
 use Rattle.md_writes.specs.Writes.{after}
 use Rattle.md_kept_members.specs.Enrolling.{HasRoomFor}
@@ -118,7 +117,7 @@ module _ (k : ℕ) (copied orphans : Bitmap) (old new : MirrorView) (c : IsConsi
       → IsReadAsKept b n failed_at is_spoiled e.content
   read_at failed_at is_spoiled h e same holds = record {
     super = λ _. own_written b n e.content readable holds.block;
-    header = inl (ap (λ (x : ℕ). x / 512) (sym holds.bitmap.header.chunksize ∙ same ∙ ap (λ (x : BitmapHeader). x.chunksize) r.comes.comes.header) ∙ c.chunks.member_width k m r.comes.at);
+    header = λ _. inl (ap (λ (x : ℕ). x / 512) (sym holds.bitmap.header.chunksize ∙ same ∙ ap (λ (x : BitmapHeader). x.chunksize) r.comes.comes.header) ∙ c.chunks.member_width k m r.comes.at);
   }
 
   pub enrolled_read : AreHonest old.disks → (failed_at : ℕ) (spoiled : ℕ → Bool) → AreReadAsKept old failed_at spoiled → AreReadAsKept new failed_at (put k false spoiled)
@@ -134,7 +133,7 @@ module _ (k : ℕ) (copied orphans : Bitmap) (old new : MirrorView) (c : IsConsi
       (λ apart here.
       let y = at_map made_due a.members j x here in
       kept_in a b y.0 x failed_at (put k false spoiled j) e.content same_fields
-      (record { superblock = ap (λ (z : MemberView). z.superblock) y.2; recorded = ap (λ (z : MemberView). is_recorded z.state) y.2 })
+      (record { superblock = ap (λ (z : MemberView). z.superblock) y.2; state = ap (λ (z : MemberView). z.state) y.2 })
       (subst (λ (s : Bool). IsReadAsKept a y.0 failed_at s e.content) (sym (put-miss k false spoiled j apart)) (was j e y.0 (sym (r.disks.others j apart) ∙ found) y.1))))
 
   pub enrolled_honest : AreHonest old.disks → AreHonest new.disks

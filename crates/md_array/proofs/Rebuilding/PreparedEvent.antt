@@ -27,7 +27,6 @@ use Rattle.md_array.specs.Worlds.{AreHonest, block_on, from_super, is_listed, is
 use Rattle.md_array.proofs.Rebuilding.FilledEvent.{may_rebuild}
 use Rattle.md_array.proofs.Rebuilding.OneDevice.{IsOnlyAt, changed_only, only_does, only_left, only_world}
 use Rattle.md_array.proofs.Steps.OneMember.{stored_there}
-use Rattle.md_array.proofs.Steps.TargetUnrecorded.{rebuilt_recorded}
 use Rattle.md_array.proofs.General.Tests.{and_same}
 use Rattle.md_array.proofs.Worlds.Listed.{bit_read}
 use Rattle.md_array.proofs.Worlds.Outside.{apart, sector_at_is}
@@ -55,7 +54,7 @@ module _ (a : ArrayView) (m : MemberView) (old new : List ℕ) (has : HasParts a
             (sector_at_is (log_area m.superblock).start (has.placed.log there).within.from) (apart_log there) at n from to;
       }
 
-  module _ (same : IsSameBesideMarks a m old new) where
+  module _ (same : IsSameBesideMarks m old new) where
     pub block_kept : block_on new ≡ block_on old
     block_kept = same.beside 4096 4096 (beside_marks super_area 8 refl has.bitmap.from_super (λ there. (has.placed.log there).from_super) 4096 4096 (omega arith) (omega arith))
 
@@ -94,7 +93,7 @@ listed_alike v w content sector fields sound size offset shift =
     ∙ (λ i. (has_bad_blocks v && (not (size i == 0) && not (int_eq (offset i) (pos 0)))) && by_w)
     ∙ sym (ap (λ b. b && by_w) (bit_read w v content fields sound))
 
-module _ (a : ArrayView) (m : MemberView) (old new : List ℕ) (has : HasParts a m old) (same : IsSameBesideMarks a m old new) where
+module _ (a : ArrayView) (m : MemberView) (old new : List ℕ) (has : HasParts a m old) (same : IsSameBesideMarks m old new) where
   own_kept : HasOwnSuper a.shared m.superblock old → HasOwnSuper a.shared m.superblock new
   own_kept own v on =
       let was = own v (super_was old new v (block_kept a m old new has same) on) in
@@ -117,10 +116,10 @@ module _ (k : ℕ) (old new : MirrorView) (c : IsConsistent old) (f : Prepares k
   m = f.may.member
 
   only : IsOnlyAt k old.disks new.disks
-  only = changed_only k (IsSameBesideMarks old.array m) old.disks new.disks f.disks
+  only = changed_only k (IsSameBesideMarks m) old.disks new.disks f.disks
 
   module _ (d e : Disk) (was : slice_get old.disks k ≡ Some d) (is : slice_get new.disks k ≡ Some e) where
-    same : IsSameBesideMarks old.array m d.content e.content
+    same : IsSameBesideMarks m d.content e.content
     same = f.disks.changed d e was is (honest k d was)
 
     parts : HasParts old.array m d.content
@@ -129,10 +128,7 @@ module _ (k : ℕ) (old new : MirrorView) (c : IsConsistent old) (f : Prepares k
     read_prepared : (failed_at : ℕ) (is_spoiled : Bool) → IsReadAsKept old.array m failed_at is_spoiled d.content → IsReadAsKept old.array m failed_at is_spoiled e.content
     read_prepared failed_at is_spoiled had = record {
       super = λ un. own_kept old.array m d.content e.content parts same (had.super un);
-      header = elim had.header [
-        | inl width ↦ inl (same.width width)
-        | inr gone ↦ absurd (true≢false (sym (rebuilt_recorded m.state f.may.rebuilt) ∙ gone.0))
-      ];
+      header = λ un. absurd (true≢false (sym f.may.rebuilt ∙ un));
     }
 
     module _ (requests : ℕ → Option Request) (in_flight : AreInFlight old.array requests) where
@@ -164,7 +160,7 @@ prepare_happens k old new c f honest requests in_flight =
     let d = got_within old.disks k (omega arith) in
     let e = got_within new.disks k (omega arith) in
     only_does k f.may.member old new c f.may.at f.may.rebuilt f.array (only k old new c f honest) requests (Event.Prepare k) honest
-    (old.array, f.may.member, f.disks) in_flight
+    (f.may.member, f.disks) in_flight
     (prepare_step k old new c f honest d.0 e.0 d.1 e.1 requests in_flight)
     (λ _. refl) (λ spoiled j apart. refl)
     (λ failed_at spoiled b x was is. read_prepared k old new c f honest b x was is failed_at (spoiled k))

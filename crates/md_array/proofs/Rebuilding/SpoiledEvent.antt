@@ -51,7 +51,7 @@ module _ (k : ℕ) (old new : MirrorView) (c : IsConsistent old) (f : SpoilsTarg
     read_spoiled : (failed_at : ℕ) (was_spoiled is_spoiled : Bool) → is_spoiled ≡ true → IsReadAsKept a m failed_at was_spoiled d.content → IsReadAsKept a m failed_at is_spoiled e.content
     read_spoiled failed_at was_spoiled is_spoiled on had = record {
       super = λ un. absurd (true≢false (sym on ∙ un));
-      header = elim had.header [
+      header = λ un. elim (had.header un) [
         | inl width ↦ inl (ap (λ (h : List ℕ). number_at 4 52 h / 512) (header_beside_super a m d.content e.content parts outside) ∙ width)
         | inr gone ↦ absurd (true≢false (sym (rebuilt_recorded m.state f.rebuilt) ∙ gone.0))
       ];

@@ -72,7 +72,7 @@ module _ (k : ℕ) (old new : MirrorView) (c : IsConsistent old) (running : old.
     read_left : (failed_at : ℕ) (is_spoiled : Bool) → IsReadAsKept a m failed_at is_spoiled d.content → IsReadAsKept a m failed_at is_spoiled e.content
     read_left failed_at is_spoiled had = record {
       super = λ un. own_left (had.super un);
-      header = elim had.header [
+      header = λ un. elim (had.header un) [
         | inl width ↦ inl (ap (λ (h : List ℕ). number_at 4 52 h / 512) (header_beside_super a m d.content e.content parts outside) ∙ width)
         | inr gone ↦ absurd (true≢false (sym (rebuilt_recorded m.state rebuilt) ∙ gone.0))
       ];

@@ -147,5 +147,5 @@ module _ (content : List ℕ) (offset : ℕ) (info : MemberInfo) (m : MemberView
     pub read_now : (failed_at : ℕ) (is_spoiled : Bool) → m.header.chunksize / 512 ≡ a.chunks.sectors → IsReadAsKept a m failed_at is_spoiled now
     read_now failed_at is_spoiled width = record {
       super = λ _. own_written a m now r block;
-      header = inl (ap (λ (h : List ℕ). number_at 4 52 h / 512) (header_beside_super a m content now parts outside) ∙ width_there a.chunks.sectors width);
+      header = λ _. inl (ap (λ (h : List ℕ). number_at 4 52 h / 512) (header_beside_super a m content now parts outside) ∙ width_there a.chunks.sectors width);
     }

@@ -101,4 +101,4 @@ module _ (a : ArrayView) (number sectors : ℕ) (laid : NewMember) (spare : IsSp
         }
 
     pub read_there : (failed_at : ℕ) (is_spoiled : Bool) → laid.header.chunksize / 512 ≡ a.chunks.sectors → IsReadAsKept (added a laid) (kept_of laid) failed_at is_spoiled now
-    read_there failed_at is_spoiled width = record { super = λ _. own_there; header = inl (width_on width) }
+    read_there failed_at is_spoiled width = record { super = λ _. own_there; header = λ _. inl (width_on width) }

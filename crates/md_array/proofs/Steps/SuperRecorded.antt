@@ -144,7 +144,7 @@ module _ (k : ℕ) (old new : MirrorView) (is : IsConsistent old) (r : Records k
       let outside = super_outside d e before after in
       record {
         super = λ _. own_written a m e.content r.may.readable (on_disk d e before after honest);
-        header = elim was.header [
+        header = λ un. elim (was.header un) [
           | inl width ↦ inl (ap (λ (h : List ℕ). number_at 4 52 h / 512) (header_beside_super a m d.content e.content (parts_of old is k d m before r.may.at) outside) ∙ width)
           | inr gone ↦ absurd (true≢false (sym r.may.active ∙ gone.0))
         ];

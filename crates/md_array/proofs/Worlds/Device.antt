@@ -197,7 +197,7 @@ module _ (a : ArrayView) (m : MemberView) (info : MemberInfo) (old new : Disk) (
   pub read_new : (is_spoiled : Bool) → IsReadAsKept a m 0 is_spoiled new.content
   read_new is_spoiled = record {
     super = λ _. own_stays a.shared own old.content new.content same_block log_kept (read.own_old a m info old.content there);
-    header = inl width_new;
+    header = λ _. inl width_new;
   }
 
   -- all of its chunks are marked, since its bitmap was not accepted

@@ -16,7 +16,7 @@ use Rattle.md_model.specs.Membership as membership
 use Rattle.md_model.proofs.Puts.{put-hit, put-miss}
 use Rattle.md_bitmap.specs.Marks.{is_set}
 use Rattle.md_assembly.specs.declared.state.MemberState.TheVariants.{Recovering, Spare}
-use Rattle.md_assembly.specs.States.{has_recovery_offset, is_in_sync, is_in_sync_as, is_recorded, role_in, takes_role}
+use Rattle.md_assembly.specs.States.{has_recovery_offset, is_in_sync, is_in_sync_as, role_in, takes_role}
 use Rattle.md_kept_members.specs.View.{MemberView}
 use Rattle.md_kept_members.specs.Members.{made_due}
 use Rattle.md_kept_members.proofs.Members.Indices.{listed_push}
@@ -238,7 +238,7 @@ module _ (a : ArrayView) (m : MemberView) (role : ℕ) (small : m.superblock.dev
               let y = at_map made_due a.members j x old in
               let low = slice_get_within a.members j y.0 y.1 in
               kept_in a b y.0 x failed_at (then j) e.content same_fields
-              (record { superblock = ap (λ (z : MemberView). z.superblock) y.2; recorded = ap (λ (z : MemberView). is_recorded z.state) y.2 })
+              (record { superblock = ap (λ (z : MemberView). z.superblock) y.2; state = ap (λ (z : MemberView). z.state) y.2 })
               (subst (λ (s : Bool). IsReadAsKept a y.0 failed_at s e.content) (sym (put-miss (length a.members) false spoiled j (λ here. omega arith))) (are j e y.0 here y.1))
           | inr end ↦ let low = slice_get_within up.members j x old in let at = end.0 in absurd (omega arith)
         ]

@@ -16,6 +16,7 @@ use Rattle.md_assembly.specs.States.{is_recorded}
 use Rattle.md_assembly.proofs.Indices.{got_within}
 use Rattle.md_kept_members.specs.Members.{made_due}
 use Rattle.md_state.specs.Members.{IsMember}
+use Rattle.md_state.specs.Missing.{is_rebuilt}
 use Rattle.md_state.specs.Rising.{failed, made_faulty, risen}
 use Rattle.md_state.specs.View.{ArrayView, Disk, MirrorView}
 use Rattle.md_state.specs.DiskWrites.{AtDevice, IsTried}
@@ -68,7 +69,7 @@ pub stays : (a : ArrayView) (m : MemberView) (failed_at : ℕ) (is_spoiled : Boo
     → (HasWidth a.chunks.sectors m.superblock old → HasWidth a.chunks.sectors m.superblock new) → IsReadAsKept a m failed_at is_spoiled old → IsReadAsKept a m failed_at is_spoiled new
 stays a m failed_at is_spoiled old new block log width was = record {
   super = λ un. own_stays a.shared m.superblock old new block log (was.super un);
-  header = elim was.header [
+  header = λ un. elim (was.header un) [
     | inl has ↦ inl (width has)
     | inr gone ↦ inr (gone.0, λ un v on. gone.1 un v (super_was old new v block on))
   ];
@@ -116,7 +117,7 @@ pub record IsSameArray (a b : ArrayView) : Type 0 where
 
 pub record IsSameMember (m n : MemberView) : Type 0 where
   pub superblock : n.superblock ≡ m.superblock
-  pub recorded : is_recorded n.state ≡ is_recorded m.state
+  pub state : n.state ≡ m.state
 
 own_in : (a b : ArrayView) (m n : MemberView) (content : List ℕ) → IsSameArray a b → n.superblock ≡ m.superblock → HasOwnSuper a.shared m.superblock content → HasOwnSuper b.shared n.superblock content
 own_in a b m n content same like has =
@@ -138,9 +139,9 @@ pub kept_in : (a b : ArrayView) (m n : MemberView) (failed_at : ℕ) (is_spoiled
     → IsReadAsKept a m failed_at is_spoiled content → IsReadAsKept b n failed_at is_spoiled content
 kept_in a b m n failed_at is_spoiled content same like was = record {
   super = λ un. own_in a b m n content same like.superblock (was.super un);
-  header = elim was.header [
+  header = λ un. elim (was.header (ap is_rebuilt (sym like.state) ∙ un)) [
     | inl has ↦ inl (subst (λ (own : Superblock). HasWidth b.chunks.sectors own content) (sym like.superblock) (has ∙ sym same.sectors))
-    | inr gone ↦ inr (like.recorded ∙ gone.0, gone.1)
+    | inr gone ↦ inr (ap is_recorded like.state ∙ gone.0, gone.1)
   ];
 }
 
@@ -152,7 +153,7 @@ later : (a : ArrayView) (m : MemberView) (failed_at count : ℕ) (is_spoiled : B
     → IsReadAsKept a m failed_at is_spoiled content → IsReadAsKept a m count is_spoiled content
 later a m failed_at count is_spoiled content above was = record {
   super = was.super;
-  header = elim was.header [
+  header = λ up. elim (was.header up) [
     | inl has ↦ inl has
     | inr gone ↦ inr (gone.0, λ un. old_enough a m count content above (was.super un))
   ];
@@ -169,7 +170,7 @@ same_array a b shared chunks = record {
 }
 
 pub same_member : (m : MemberView) → IsSameMember m m
-same_member m = record { superblock = refl; recorded = refl }
+same_member m = record { superblock = refl; state = refl }
 
 -- members whose own fields are others'
 abbrev pub MembersAreOf : ArrayView → ArrayView → Type 0
@@ -180,7 +181,7 @@ pub counted_like : (a : ArrayView) (full rises : Bool) → IsSameArray a (cond r
 counted_like a full true = (
   record { set_uuid = refl; size = refl; raid_disks = refl; sectors = refl; events = omega arith },
   λ j n is. let m = at_map made_due a.members j n is in
-      (m.0, m.1, record { superblock = ap (λ (x : MemberView). x.superblock) m.2; recorded = ap (λ (x : MemberView). is_recorded x.state) m.2 }),
+      (m.0, m.1, record { superblock = ap (λ (x : MemberView). x.superblock) m.2; state = ap (λ (x : MemberView). x.state) m.2 }),
 )
 counted_like a full false = (same_array a a refl refl, λ j n is. (n, is, same_member n))
 
@@ -209,9 +210,9 @@ changed_read k m n w old new failed_at spoiled then c others keeps are j e x at_
     let d = got_within old.disks k (omega arith) in
     subst (λ (y : MemberView). IsReadAsKept new.array y failed_at (then j) e.content) (sym is)
     (subst (λ (i : ℕ). IsReadAsKept new.array n failed_at (then i) e.content) (sym here)
-    (kept_in old.array new.array m n failed_at (then k) e.content same_array (record { superblock = c.like.superblock; recorded = ap is_recorded c.like.state })
+    (kept_in old.array new.array m n failed_at (then k) e.content same_array (record { superblock = c.like.superblock; state = c.like.state })
     (keeps d.0 e d.1 now (are k d.0 m d.1 c.at)))))
-    (λ apart is. kept_in old.array new.array x x failed_at (then j) e.content same_array (record { superblock = refl; recorded = refl })
+    (λ apart is. kept_in old.array new.array x x failed_at (then j) e.content same_array (record { superblock = refl; state = refl })
     (subst (λ (b : Bool). IsReadAsKept old.array x failed_at b e.content) (sym (others j apart)) (are j e x (sym (c.disks.others j apart) ∙ at_disk) is)))
 
 -- ---- a write to a member fails, and it is faulty from then on
@@ -231,9 +232,9 @@ failed_read a k m w before after failed_at spoiled at tried keeps are j e x at_d
     λ un. keeps d.0 e d.1 now ((are k d.0 m d.1 at).super (sym (ap spoiled here) ∙ un)) in
     subst (λ (y : MemberView). IsReadAsKept b y (a.shared.events + 1) (spoiled j) e.content) (sym is) (record {
       super = λ un. own_in a b m (made_faulty m) e.content same_array refl (has un);
-      header = inr (refl, λ un. old_enough a m (a.shared.events + 1) e.content (omega arith) (has un));
+      header = λ _. inr (refl, λ un. old_enough a m (a.shared.events + 1) e.content (omega arith) (has un));
     }))
     (λ apart is.
     let y = at_map made_due a.members j x is in
-    kept_in a b y.0 x (a.shared.events + 1) (spoiled j) e.content same_array (record { superblock = ap (λ (z : MemberView). z.superblock) y.2; recorded = ap (λ (z : MemberView). is_recorded z.state) y.2 })
+    kept_in a b y.0 x (a.shared.events + 1) (spoiled j) e.content same_array (record { superblock = ap (λ (z : MemberView). z.superblock) y.2; state = ap (λ (z : MemberView). z.state) y.2 })
     (later a y.0 failed_at (a.shared.events + 1) (spoiled j) e.content (omega arith) (are j e y.0 (sym (tried.others j apart) ∙ at_disk) y.1)))

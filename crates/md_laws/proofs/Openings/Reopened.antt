@@ -1,7 +1,7 @@
 -- What the fields of the next array read of the devices that a stop left is what those of the mirror before read.
-use Rattle.std.proofs.Common.{◌≡◌, ℕ, ◌+◌, ◌*◌, ◌/◌, ◌≤◌, inl, inr, true, false, cond, ◌&&◌, ◌==◌, nat_lt, List, [], drop, slice_get, Some, refl, sym, ap, ◌∙◌, subst, arith, bytes_eq}
+use Rattle.std.proofs.Common.{◌≡◌, ℕ, ◌+◌, ◌*◌, ◌/◌, ◌≤◌, inl, inr, true, false, true≢false, cond, ◌&&◌, ◌==◌, nat_lt, List, [], drop, slice_get, Some, refl, sym, ap, ◌∙◌, subst, arith, bytes_eq}
 use Rattle.std.specs.Int.{div_ceil}
-use Rattle.std.proofs.lemmas.Option.{slice_get_within}
+use Rattle.std.proofs.lemmas.Option.{same_Some, slice_get_within}
 use Rattle.md_device.specs.Splice.{part}
 use Rattle.md_format.specs.Fields.{number_at, bytes_at}
 use Rattle.md_super.specs.declared.superblock.Superblock.{Superblock}
@@ -14,19 +14,23 @@ use Rattle.md_model.specs.Sectors.{chunk_of}
 use Rattle.md_model.specs.Devices.{Stored, is_marked}
 use Rattle.md_model.specs.Stops as stops
 use Rattle.md_kept_members.specs.View.{MemberView}
+use Rattle.md_assembly.specs.States.{is_in_sync}
 use Rattle.md_state.specs.View.{ArrayView, Disk, geometry_of}
 use Rattle.md_state.specs.Members.{IsMember}
-use Rattle.md_array.specs.ReadAsKept.{IsOwnSuper, IsReadAsKept, IsSuperOn}
+use Rattle.md_state.specs.Missing.{is_rebuilt}
+use Rattle.md_array.specs.ReadAsKept.{HasWidth, IsOwnSuper, IsReadAsKept, IsSuperOn}
 use Rattle.md_array.specs.Opening.{IsArrayOf}
 use Rattle.md_array.specs.Worlds.{block_on, from_super, header_on, is_listed, stored_of, stored_on, super_in}
 use Rattle.md_laws.specs.Lives.{AreFoundAgain, IsFoundAgain}
 use Rattle.md_laws.specs.Runs.{Moment}
 use Rattle.md_array.proofs.Worlds.Listed.{listed_kept_of}
+use Rattle.md_array.proofs.Steps.DevicesBack.{unrebuilt}
 use Rattle.md_array.proofs.Steps.OneMember.{stored_there}
 use Rattle.md_array.proofs.Worlds.PartsApart.{HasParts, bitmap_alone, block_beside_bitmap, log_beside_bitmap}
 use Rattle.md_array.proofs.Worlds.ReadAsKept.{stays}
 use Rattle.md_array.proofs.Worlds.ReadMember.{IsReadMember, count_is, sound_size, width_old}
 use Rattle.md_array.proofs.Worlds.Shown.{read_at}
+use Rattle.md_array.proofs.Worlds.States.{in_sync_recorded}
 use Rattle.md_array.proofs.Worlds.Supers.{block_spells}
 use Rattle.md_laws.proofs.Stops.LeftAtStops.{parts_on, sorted}
 use Rattle.md_laws.proofs.Stops.LeftContents.{read_in}
@@ -123,15 +127,26 @@ module _ (t : Moment) (at_t : IsSoundAt t) (before : List Disk) (is : ArrayView)
         ∙ listed_kept_of content info.superblock info.bad own_there.fields own_there.sound sector
         ∙ is_own.listed sector
 
-    -- its header's chunks are as wide as the array's, if the superblock is from after the last failure
-    width : t.failed_at ≤ info.superblock.events → is.chunks.sectors ≡ was.chunks.sectors
-    width fresh =
+    -- the array's chunks are as wide as those that its header tells of
+    width_by : HasWidth was.chunks.sectors own content → is.chunks.sectors ≡ was.chunks.sectors
+    width_by has =
         sym (width_old is n info content again.seen)
         ∙ (λ i. number_at 4 52 (header_on content (from_super (bitmap_offset i))) / 512)
-        ∙ elim again.read.header [
-          | inl has ↦ has
-          | inr gone ↦ let old = gone.1 refl info.superblock (super_on content info.superblock again.seen.read.superblock) in absurd (omega arith)
-        ]
+        ∙ has
+
+    -- which are as wide as before, if it was not rebuilt, and the superblock is from after the last failure
+    width : is_rebuilt f.member.state ≡ false → t.failed_at ≤ info.superblock.events → is.chunks.sectors ≡ was.chunks.sectors
+    width un fresh = width_by (elim (again.read.header un) [
+      | inl has ↦ has
+      | inr gone ↦ let old = gone.1 refl info.superblock (super_on content info.superblock again.seen.read.superblock) in absurd (omega arith)
+    ])
+
+    -- or if it was in sync
+    width_in_sync : is_in_sync f.member.state ≡ true → is.chunks.sectors ≡ was.chunks.sectors
+    width_in_sync on = width_by (elim (again.read.header (unrebuilt f.member.state on)) [
+      | inl has ↦ has
+      | inr gone ↦ absurd (true≢false (sym (in_sync_recorded f.member.state on) ∙ gone.0))
+    ])
 
   -- ---- the array is as it was
   abbrev at_member : ℕ
@@ -159,7 +174,15 @@ module _ (t : Moment) (at_t : IsSoundAt t) (before : List Disk) (is : ArrayView)
       omega arith
 
   same_width : is.chunks.sectors ≡ was.chunks.sectors
-  same_width = width at_member at_first r.recorded.there first_member.0 first_member.1 recorded_there
+  same_width = elim r.recorded.wide [
+    | inl un ↦ width at_member at_first r.recorded.there first_member.0 first_member.1 (un found_first.member found_first.is_member) recorded_there
+    | inr (inl on) ↦
+        let g = r.again on.device on.place on.there in
+        let n = member_at on.device on.place g in
+        let same = same_Some on.member g.member (sym on.in_sync.member ∙ g.is_member) in
+        width_in_sync on.device on.place on.there n.0 n.1 (ap (λ (m : MemberView). is_in_sync m.state) (sym same) ∙ on.in_sync.in_sync)
+    | inr (inr has) ↦ width_by at_member at_first r.recorded.there first_member.0 first_member.1 (has found_first.member found_first.disk_now found_first.is_member found_first.at_now)
+  ]
 
   same_size : is.chunks.size ≡ was.chunks.size
   same_size = let n = first_member in chunks_size at_member at_first r.recorded.there n.0 n.1

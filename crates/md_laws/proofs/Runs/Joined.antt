@@ -1,5 +1,5 @@
 -- A device that is taken back as it was left lies behind the content by what is marked.
-use Rattle.std.proofs.Common.{◌≡◌, ℕ, ◌+◌, ◌*◌, inr, true, cond, ◌&&◌, nat_lt, List, [], Some, sym, ap, ◌∙◌, subst}
+use Rattle.std.proofs.Common.{◌≡◌, ℕ, ◌+◌, ◌*◌, inr, true, true≢false, cond, ◌&&◌, nat_lt, List, [], Some, sym, ap, ◌∙◌, subst}
 use Rattle.md_device.specs.Splice.{part}
 use Rattle.md_kept_members.specs.OwnFields.{kept_superblock}
 use Rattle.md_kept_members.specs.TakingBack.{recovering}
@@ -23,10 +23,10 @@ use Rattle.md_array.proofs.Worlds.Listed.{listed_kept_of}
 use Rattle.md_array.proofs.Worlds.PartsApart.{HasParts, bitmap_alone, block_beside_bitmap, log_beside_bitmap, parts_of}
 use Rattle.md_array.proofs.Worlds.ReadAsKept.{own_stays}
 use Rattle.md_array.proofs.Worlds.Supers.{super_shown}
-use Rattle.md_laws.specs.LeftBehind.{FailedJoins, IsStill, MissingJoins}
+use Rattle.md_laws.specs.LeftBehind.{FailedJoins, IsStill, LogJoins, MissingJoins}
 use Rattle.md_laws.specs.Runs.{history_of}
 use Rattle.md_laws.proofs.Openings.Reopened.{super_on}
-use Rattle.md_laws.proofs.Runs.LeftBehind.{failed_behind, failed_clear, failed_later, missing_later}
+use Rattle.md_laws.proofs.Runs.LeftBehind.{failed_behind, failed_clear, failed_later, log_clear, log_held, log_later, missing_later}
 use Rattle.md_laws.proofs.Runs.MirrorContents.{life_held_at}
 use Rattle.md_laws.proofs.Stops.LeftAtStops.{sorted}
 
@@ -109,6 +109,19 @@ failed_joins before m a start holds es rest final t b life k f o d is_member the
     inr (joined_behind f.mirror.array o d.content (parts_of f.mirror sound.sound k d o there is_member) ((sound.read k d o there is_member).super (failed_clear before m a start holds es rest final t b life k f))
     j device last.mirror new r honest still (same_sizes g last.mirror.array f.mirror.array later.held.geometry then.held.geometry) g (world_of last.mirror last.requests) c
     (subst (λ (x : Stored). IsBehind g c x (world_of last.mirror last.requests)) shown later.behind))
+
+pub log_joins : LogJoins
+log_joins before m a start holds es rest final t b life k f o d is_member there more others newest last c degraded j device new r honest still listed =
+    let g = geometry_of m.array in
+    let then = log_held before m a start holds es rest final t b life k f in
+    let later = log_later before m a start holds es rest final t b life k f in
+    let shown : (world_of f.mirror f.requests).stored k ≡ stored_of f.mirror.array o d.content = stored_there f.mirror.disks f.mirror.array k o d is_member there in
+    -- of one that lists all nothing is asked: so the array is as large as it was
+    let late = later (record ((world_of f.mirror f.requests).stored k) { listed = λ _. true }) (λ s low. refl) (λ s low on. absurd (true≢false on)) more others newest last c degraded in
+    let same = same_data f.mirror.array o d.content (parts_of f.mirror then.sound.sound k d o there is_member)
+    ((then.sound.read k d o there is_member).super (log_clear before m a start holds es rest final t b life k f))
+    j device last.mirror new r honest still (same_sizes g last.mirror.array f.mirror.array late.held.geometry then.geometry) in
+    inr (later (stored_of new.array r.recorded.takes.member device.content) (λ s low. same s ∙ sym (ap (λ (x : Stored). x.content s) shown)) listed more others newest last c degraded).behind
 
 pub missing_joins : MissingJoins
 missing_joins before m a start holds es rest final t b life k next r c becomes more others newest last d degraded j device new back honest still =

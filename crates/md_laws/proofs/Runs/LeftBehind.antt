@@ -10,6 +10,7 @@ use Rattle.md_model.specs.Openings.{IsWithinLimits}
 use Rattle.md_model.specs.Lives.{Reopens}
 use Rattle.md_model.specs.Runs as runs
 use Rattle.md_model.specs.Runs.{spoiled_after}
+use Rattle.md_model.specs.Worlds as worlds
 use Rattle.md_model.specs.Worlds.{Request, World}
 use Rattle.md_model.proofs.Lives.Lives.{sound_in_sync, start_again}
 use Rattle.md_model.proofs.Content.BehindSteps.{behind_leaving, behind_log, behind_step}
@@ -266,23 +267,47 @@ left_behind before m a start holds es rest final t b life k f more others newest
     (failed_later before m a start holds es rest final t b life k f more others newest last c degraded).behind
 
 -- its log could not be stored
+module _ (before : List Disk) (m : MirrorView) (a : Content) (start : IsStart before m) (holds : Holds (geometry_of m.array) a (world_of m none_in_flight))
+    (es : List Event) (rest : List (List Event)) (final : MirrorView) (t : Moment) (b : Content) (life : MirrorLifeWith m a es rest final t b)
+    (k : ℕ) (f : FailsWithLog t k) where
+  abbrev log_g : Geometry
+  log_g = geometry_of m.array
+
+  abbrev log_opened : Super
+  log_opened = super_of final.array.shared
+
+  log_is : IsHeldAt log_g log_opened t b
+  log_is = life_held_at before m a start holds es rest final t b life
+
+  log_on : worlds.IsInSync (world_of t.mirror t.requests) k
+  log_on = in_sync_there t.mirror.disks t.mirror.array t.requests k f.member f.in_sync
+
+  pub log_held : IsHeldAt log_g log_opened (log_failed_then t k f) b
+  log_held = held_then log_g (starts_small before m start) log_opened t b log_is (Event.StoreLogFails k) f.mirror f.requests f.does b refl
+
+  pub log_clear : t.spoiled k ≡ false
+  log_clear = sound_in_sync log_g log_opened (history_of t) log_is.held.kept k log_on
+
+  pub log_later : (device : Stored) → ((s : ℕ) → s < m.array.chunks.size → device.content s ≡ ((world_of f.mirror f.requests).stored k).content s)
+      → ((s : ℕ) → s < m.array.chunks.size → device.listed s ≡ false → ((world_of t.mirror t.requests).stored k).listed s ≡ false)
+      → (more : List Event) (others : List (List Event)) (newest : MirrorView) (last : Moment) (c : Content) → DegradedLifeWith final (log_failed_then t k f) b more others newest last c
+      → StaysBehind log_g (super_of newest.array.shared) device last c
+  log_later device content listed more others newest last c degraded =
+      let small = starts_small before m start in
+      let w = world_of t.mirror t.requests in
+      let now = world_of f.mirror f.requests in
+      let s = (leads_to log_g small log_opened t b log_is (Event.StoreLogFails k) f.mirror f.requests f.does).1 in
+      let left_there : (now.stored k) ≡ s.0 = ap (λ (v : World). v.stored k) s.3.3 ∙ put-hit k s.0 w.stored in
+      behind_life log_g small device final (log_failed_then t k f) b more others newest last c (final_geometry before m a start holds es rest final t b life)
+      (record {
+        held = log_held;
+        behind = behind_log log_g b w log_is.held.kept.tracked log_is.held.holds k log_on s.0 now s.2 s.3 device (λ y low. content y low ∙ ap (λ (d : Stored). d.content y) (left_there ∙ s.2.rest)) listed;
+      })
+      degraded
+
 pub log_left_behind : LogLiesBehind
 log_left_behind before m a start holds es rest final t b life k f device content listed more others newest last c degraded =
-    let g = geometry_of m.array in
-    let opened = super_of final.array.shared in
-    let small = starts_small before m start in
-    let is = life_held_at before m a start holds es rest final t b life in
-    let w = world_of t.mirror t.requests in
-    let now = world_of f.mirror f.requests in
-    let on = in_sync_there t.mirror.disks t.mirror.array t.requests k f.member f.in_sync in
-    let s = (leads_to g small opened t b is (Event.StoreLogFails k) f.mirror f.requests f.does).1 in
-    let left_there : (now.stored k) ≡ s.0 = ap (λ (v : World). v.stored k) s.3.3 ∙ put-hit k s.0 w.stored in
-    (behind_life g small device final (log_failed_then t k f) b more others newest last c (final_geometry before m a start holds es rest final t b life)
-    (record {
-      held = held_then g small opened t b is (Event.StoreLogFails k) f.mirror f.requests f.does b refl;
-      behind = behind_log g b w is.held.kept.tracked is.held.holds k on s.0 now s.2 s.3 device (λ y low. content y low ∙ ap (λ (d : Stored). d.content y) (left_there ∙ s.2.rest)) listed;
-    })
-    degraded).behind
+    (log_later before m a start holds es rest final t b life k f device content listed more others newest last c degraded).behind
 
 -- what the stop left of one that was in sync is read as it was kept
 pub missing_later : (before : List Disk) (m : MirrorView) (a : Content) → IsStart before m → Holds (geometry_of m.array) a (world_of m none_in_flight)

@@ -31,7 +31,7 @@ use Rattle.md_state.specs.Members.{IsInSync, IsMember}
 use Rattle.md_array.specs.Opening.{IsOpenedFrom}
 use Rattle.md_array.specs.Worlds.{none_in_flight, nothing_stored, stored_on, super_of, world_of}
 use Rattle.md_laws.specs.Left.{IsLeftWriting}
-use Rattle.md_laws.specs.Lives.{AllRecorded, AreAllLeft, AreFoundAgain, AreFurther, AtEachMoment, FindsAll, FindsInSync, FindsOut, FitsWhenThere, HasInSync, IsCalledOut, IsReopened, IsShutOut, KeepsGeometry, MirrorLife}
+use Rattle.md_laws.specs.Lives.{AllRecorded, AreAllLeft, AreFoundAgain, AreFurther, AtEachMoment, FindsAll, FindsInSync, FindsOut, FitsWhenThere, IsCalledOut, IsReopened, IsShutOut, IsThereInSync, KeepsGeometry, MirrorLife}
 use Rattle.md_laws.specs.Runs.{IsStart, MirrorRun, Moment, history_of, opened_as}
 use Rattle.md_array.proofs.Worlds.InSync.{in_sync_is, in_sync_there}
 use Rattle.md_array.proofs.Worlds.Shown.{as_read, by_member, own_is, state_at, super_at}
@@ -231,7 +231,7 @@ module _ (t : Moment) (at_t : IsSoundAt t) (next : MirrorView)
         (x.0, ap (λ (d : Stored). d.super) (at_some k j is) ∙ super_was before next devices.honest from_these j x.0 x.1)
 
     -- one that is shut out is not in sync by that superblock
-    out_beside : stops.WasTried g (history_of stop) → HasInSync t before devices → (other : Super) → stops.IsAbsent was stop.away other → is_in_sync (state_by g first other) ≡ false
+    out_beside : stops.WasTried g (history_of stop) → IsThereInSync t devices.at → (other : Super) → stops.IsAbsent was stop.away other → is_in_sync (state_by g first other) ≡ false
     out_beside tried beside other absent =
         let own = own_there beside.device beside.place beside.there in
         keeps_out g small was (history_of stop) kept_there tried made_of are_left beside.device own.0 (there_in_sync beside.device beside.member beside.in_sync) own.1 other absent first freshest_there fit_there
@@ -249,7 +249,7 @@ module _ (t : Moment) (at_t : IsSoundAt t) (next : MirrorView)
         sym (ap is_in_sync (opens.opened.states.by_table j (read_of j m is) (super_at before next devices.honest from_these j m is)))
         ∙ ap is_in_sync (state_at before next devices.honest from_these j m is) ∙ same_in_sync m.state
 
-    pub out_when_tried : stops.WasTried g (history_of stop) → HasInSync t before devices → (j : ℕ) (m : MemberView) (is : IsMember next.array j m) → devices.from j ≡ None → assembly.is_in_sync m.state ≡ false
+    pub out_when_tried : stops.WasTried g (history_of stop) → IsThereInSync t devices.at → (j : ℕ) (m : MemberView) (is : IsMember next.array j m) → devices.from j ≡ None → assembly.is_in_sync m.state ≡ false
     out_when_tried tried beside j m is none = sym (state_here j m is) ∙ out_beside tried beside (read_of j m is) (is_absent j m is none)
 
     pub out_when_called : (j : ℕ) (m : MemberView) (is : IsMember next.array j m) → devices.from j ≡ None → IsCalledOut opened m → assembly.is_in_sync m.state ≡ false

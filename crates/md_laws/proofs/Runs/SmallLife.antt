@@ -6,9 +6,10 @@ use Rattle.md_members.specs.Areas.{bitmap_sectors}
 use Rattle.md_model.specs.Devices.{AgreeAt, Stored}
 use Rattle.md_model.specs.Events.{Event}
 use Rattle.md_model.specs.Sectors.{put}
+use Rattle.md_model.specs.Worlds.{World}
 use Rattle.md_model.proofs.Cases.{by_test, is_below}
 use Rattle.md_requests.specs.Pending.{PendingView}
-use Rattle.md_state.specs.View.{Disk, MirrorView}
+use Rattle.md_state.specs.View.{ArrayView, Disk, MirrorView}
 use Rattle.md_state.specs.Requests.{among, request_of}
 use Rattle.md_array.specs.Consistency.{IsConsistent}
 use Rattle.md_array.specs.Events.{BeginHappens, Happens}
@@ -105,6 +106,11 @@ small_life before m mid next opened one r opens late honest =
     let read_many = opens.array.read.as_many in
     let serving = (sound_when_opened mid.disks next at_t.honest opens).sound.roles.serving opens.array.remembered.running in
     let some = slice_get_within next.array.members serving.0 serving.1 serving.2.member in
+    let recording = r.run.3.2.does.step in
+    let running : mid.array.halted ≡ false = ap (λ (a : ArrayView). a.halted) r.run.3.3.rests.array ∙ ap (λ (w : World). w.halted) recording.1.3 ∙ recording.0 in
+    let in_sync = at_t.sound.roles.serving running in
+    let there = slice_get_within mid.array.members in_sync.0 in_sync.1 in_sync.2.member in
+    let as_many = at_t.sound.fits.as_many in
     let reopened : IsReopened m t next = record {
       before = mid.disks;
       devices = record {
@@ -116,7 +122,13 @@ small_life before m mid next opened one r opens late honest =
         found = at_back mid.disks;
         again = again mid at_t.sound;
         unspoiled = λ k _ _. none_spoiled k;
-        recorded = record { device = 0; place = 0; there = at_itself mid.disks 0 (omega arith); recorded = λ d v there on. omega arith };
+        recorded = record {
+          device = 0;
+          place = 0;
+          there = at_itself mid.disks 0 (omega arith);
+          recorded = λ d v there on. omega arith;
+          wide = inr (inl (record { device = in_sync.0; member = in_sync.1; in_sync = in_sync.2; place = in_sync.0; there = at_itself mid.disks in_sync.0 (omega arith) }));
+        };
       };
       others = λ j n member none. let low = slice_get_within next.array.members j n member in absurd (none-some j (sym none ∙ at_itself mid.disks j (omega arith)));
       opens = opens;

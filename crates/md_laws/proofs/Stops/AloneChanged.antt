@@ -107,8 +107,8 @@ stops_as_filled k old new left honest fills may =
 
 pub stops_as_prepared : StopsAsPrepared
 stops_as_prepared k old new left honest prepares may =
-    let Related : List ℕ → List ℕ → Type 0 = IsSameBesideMarks old.array prepares.may.member in
-    let but = left_alone k Related old.disks new.disks left (λ c. record { size = refl; beside = λ at n _. refl; width = λ width. width }) honest prepares.disks may in (
+    let Related : List ℕ → List ℕ → Type 0 = IsSameBesideMarks prepares.may.member in
+    let but = left_alone k Related old.disks new.disks left (λ c. record { size = refl; beside = λ at n _. refl }) honest prepares.disks may in (
       record { disks = with_contents old.disks left; array = old.array },
       record { may = prepares.may; array = refl; disks = found_alone k Related old.disks left but (λ d c is. is.size) },
       contents_with old.disks left but.as_many,
@@ -152,7 +152,7 @@ pub left_prepared : (k : ℕ) (copied orphans : Bitmap) (old new : MirrorView) �
     → (other : MirrorView) × Prepares k old other × (map (λ d. d.content) other.disks ≡ left)
 left_prepared k copied orphans old new c r may left but super =
     let m = r.comes.member in
-    let Related : List ℕ → List ℕ → Type 0 = IsSameBesideMarks old.array m in
+    let Related : List ℕ → List ℕ → Type 0 = IsSameBesideMarks m in
     let as_prepared : IsLeftBut k Related old.disks left = record {
       as_many = but.as_many;
       others = but.others;

@@ -257,7 +257,7 @@ stops_at_events (Event.Fail k) before after left honest writes may = in_memory b
 stops_at_events (Event.Fill k) before after left honest writes may =
     left_alone k (IsSameBesideMissing writes.0 writes.1) before after left (λ c. record { size = refl; beside = λ at n _. refl }) honest writes.2 may
 stops_at_events (Event.Prepare k) before after left honest writes may =
-    left_alone k (IsSameBesideMarks writes.0 writes.1) before after left (λ c. record { size = refl; beside = λ at n _. refl; width = λ width. width }) honest writes.2 may
+    left_alone k (IsSameBesideMarks writes.0) before after left (λ c. record { size = refl; beside = λ at n _. refl }) honest writes.1 may
 stops_at_events (Event.RecordTargetFails k) before after left honest writes may = (writes.0, writes.1, stops_at_failure k writes.0 before after left honest writes.1 may)
 stops_at_events (Event.SpoilTarget k) before after left honest writes may = tt
 stops_at_events (Event.Enrol k role listed) before after left honest writes may = tt

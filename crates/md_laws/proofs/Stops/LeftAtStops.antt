@@ -384,7 +384,7 @@ module _ (t : Moment) (at : IsSoundAt t) where
         parts = parts_on a m d.content e.content beside.size parts;
         read = record {
           super = has;
-          header = elim (at.read k d m was is_member).header [
+          header = λ un. elim ((at.read k d m was is_member).header un) [
             | inl width ↦ inl (ap (λ (h : List ℕ). number_at 4 52 h / 512) (header_beside_super a m d.content e.content parts beside) ∙ width)
             | inr gone ↦ absurd (true≢false (sym active ∙ gone.0))
           ];

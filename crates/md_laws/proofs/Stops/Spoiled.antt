@@ -118,13 +118,13 @@ stops_as_spoiled k m old new left honest at rebuilt call may =
 module _ (k : ℕ) (copied orphans : Bitmap) (old new : MirrorView) (left : List (List ℕ)) (c : IsConsistent old) (may : MayEnrol k copied orphans old) (r : Enrols k copied orphans old new)
     (P : List ℕ → List ℕ → Type 0) (but : IsLeftBut k P old.disks left) where
   -- before the superblock is written
-  early : IsLeftBut k (IsSameBesideMarks old.array r.comes.member) old.disks left → (mid : MirrorView) × Prepares k old mid × (map (λ (d : Disk). d.content) mid.disks ≡ left)
+  early : IsLeftBut k (IsSameBesideMarks r.comes.member) old.disks left → (mid : MirrorView) × Prepares k old mid × (map (λ (d : Disk). d.content) mid.disks ≡ left)
   early same = (
     record { disks = with_contents old.disks left; array = old.array },
     record {
       may = may_rebuild_it k copied orphans old new c r may;
       array = refl;
-      disks = found_alone k (IsSameBesideMarks old.array r.comes.member) old.disks left same (λ d b is. is.size);
+      disks = found_alone k (IsSameBesideMarks r.comes.member) old.disks left same (λ d b is. is.size);
     },
     contents_with old.disks left but.as_many,
   )
@@ -153,7 +153,7 @@ module _ (k : ℕ) (copied orphans : Bitmap) (old new : MirrorView) (left : List
 
   -- of member k its bitmap and its log may be other than before, or its superblock than after them
   by_write : ((d : Disk) (was : slice_get old.disks k ≡ Some d) (x : List ℕ) → P d.content x
-      → IsSameBesideMarks old.array r.comes.member d.content x ⊎ SameOutside (512 * 8) 4096 (then_disk k copied orphans old new c r d was).content x)
+      → IsSameBesideMarks r.comes.member d.content x ⊎ SameOutside (512 * 8) 4096 (then_disk k copied orphans old new c r d was).content x)
       → (mid : MirrorView) × Prepares k old mid × ((map (λ (d : Disk). d.content) mid.disks ≡ left) ⊎ IsLeftSpoiled k mid left)
   by_write cut =
       let low = slice_get_within old.array.members k r.comes.member r.comes.at in
@@ -196,7 +196,7 @@ module _ (k : ℕ) (copied orphans : Bitmap) (old new : MirrorView) (left : List
   fails = (f.disks.change s.disk s.left s.is s.left_is).0
 
   abbrev Failing : List ℕ → List ℕ → Type 0
-  Failing was x = IsSameBesideMarks old.array f.comes.member was x ⊎ SameOutside (512 * 8) 4096 (after was (writes_before f)) x
+  Failing was x = IsSameBesideMarks f.comes.member was x ⊎ SameOutside (512 * 8) 4096 (after was (writes_before f)) x
 
   order : writes_before f ++ w ∷ [] ≡ fails.done ++ fails.tried ∷ []
   order =
@@ -214,7 +214,7 @@ module _ (k : ℕ) (copied orphans : Bitmap) (old new : MirrorView) (left : List
   left_failing : (x : List ℕ) → slice_get left k ≡ Some x → Failing s.disk.content x
   left_failing x found =
       elim (left_so.each k s.disk s.left x s.is s.left_is found) [
-        | inl kept ↦ inl (subst (IsSameBesideMarks old.array f.comes.member s.disk.content) (sym kept) (record { size = refl; beside = λ at n _. refl; width = λ width. width }))
+        | inl kept ↦ inl (subst (IsSameBesideMarks f.comes.member s.disk.content) (sym kept) (record { size = refl; beside = λ at n _. refl }))
         | inr new ↦
             failing x (new_has s.disk.stops s.left.stops (λ c. IsCutShort s.disk.content fails.done c ⊎ IsAnyIn fails.tried (after s.disk.content fails.done) c) (fails.within (honest k s.disk s.is)) new.0 x new.1)
       ]
