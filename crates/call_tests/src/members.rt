@@ -43,6 +43,7 @@ pub(crate) struct Member {
     // Writes fail from this number on, and then half of their sectors are written where they are torn.
     pub(crate) fails: u64,
     pub(crate) torn: bool,
+    pub(crate) is_write_mostly: bool,
 }
 
 // A member of a clean array of two without a mark.
@@ -61,6 +62,7 @@ pub(crate) fn plain(number: u32, data: [u8; SECTORS]) -> Member {
         bad: (0, 0),
         fails: NEVER,
         torn: false,
+        is_write_mostly: false,
     }
 }
 
@@ -99,6 +101,7 @@ fn superblock_of(member: &Member) -> [u8; 4096] {
     if member.is_log_full {
         put(&mut b, 186, &1u16.to_le_bytes());
     }
+    put(&mut b, 184, &[u8::from(member.is_write_mostly)]);
     put(&mut b, 80, &member.size.to_le_bytes());
     put(&mut b, 92, &member.raid_disks.to_le_bytes());
     put(&mut b, 160, &member.number.to_le_bytes());

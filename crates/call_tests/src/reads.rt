@@ -47,6 +47,23 @@ fn sectors_of_two_members(rt: HostRuntime) -> Result<(), Fail> {
     read
 }
 
+// The first member is write-mostly, and read only where the second lists or fails to give a sector.
+#[test]
+fn a_write_mostly_member_is_read_last(rt: HostRuntime) -> Result<(), Fail> {
+    let [first, second] = listing((0, 0), (8, 1), 30);
+    let mostly = Member {
+        is_write_mostly: true,
+        ..first
+    };
+    let mut run = run_of(rt.alloc(), &[mostly, second])?;
+    let mut buf = [9; WHOLE];
+    run.read(0, &mut buf)?;
+    let given = [7usize, 8, 9, 30, 63].map(|sector| buf[512 * sector]);
+    same(&rt, "the members", given, [1, 0, 1, 0, 1]);
+    run.end();
+    Ok(())
+}
+
 // The first sector that nobody gives is named; those before it have been read.
 fn expect_read_up_to(rt: &impl Abort, run: &mut Run) {
     let mut buf = [9; WHOLE];

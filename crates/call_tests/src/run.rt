@@ -1,13 +1,14 @@
 // A mirror on which whole calls are made. Each `Run` is consistent.
 ghost use Rattle.std.specs.Prelude.{◌≡◌, ◌%◌, length};
 
+use crate::gates::Silent;
 use crate::opening::open;
 use crate::rebuilds::told::{Told, told_of};
 use md_array::{BeginFault, FailFault, Mirror, ReAddFault, RemoveFault};
 use md_assembly::MemberState;
 use md_cert::Table;
 use md_check::{CheckFault, check_array};
-use md_copy::{Gate, RebuildFault, rebuild, table};
+use md_copy::{Gate, RebuildFault, Rebuilt, rebuild, table};
 use md_device::{FaultDevice, MemDevice};
 use md_metadata::{StopFault, stop};
 use md_read::{UnreadFault, read};
@@ -204,5 +205,18 @@ impl Run {
             }
             Err(fault) => Some(Err(fault)),
         }
+    }
+
+    // The same with all that is told of it.
+    pub(crate) fn rebuilt<R: Threads + Wait + Sync>(
+        &mut self,
+        rt: &R,
+        alloc: Global,
+        target: usize,
+    ) -> Option<Result<Rebuilt, RebuildFault>> {
+        if target >= self.mirror.members() {
+            return None;
+        }
+        Some(rebuild(rt, alloc, &mut self.mirror, target, &Silent))
     }
 }

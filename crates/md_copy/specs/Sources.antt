@@ -34,13 +34,17 @@ pub record IsTableIn (a : ArrayView) (m : MemberView) (rows : List Row) : Type 0
   pub lacking : All (λ row. IsLacking a m row.chunk) rows
   pub sources : All (HasSources a) rows
 
--- a member is in sync in the role, which is write-mostly or is not
-abbrev pub IsInSyncAs : ArrayView → Bool → ℕ → Type 0
-IsInSyncAs a mostly role = (k : ℕ) × (m : MemberView) × IsMember a k m × (is_in_sync_as role m.state ≡ true) × (is_write_mostly m.superblock ≡ mostly)
+-- a member is in sync in the role
+abbrev pub IsInSyncAs : ArrayView → ℕ → Type 0
+IsInSyncAs a role = (k : ℕ) × (m : MemberView) × IsMember a k m × (is_in_sync_as role m.state ≡ true)
+
+-- so is one that is write-mostly, or one that is not
+abbrev pub IsInSyncWith : ArrayView → Bool → ℕ → Type 0
+IsInSyncWith a mostly role = (k : ℕ) × (m : MemberView) × IsMember a k m × (is_in_sync_as role m.state ≡ true) × (is_write_mostly m.superblock ≡ mostly)
 
 -- a chunk of which nobody lists a sector may be read in the role
 abbrev pub IsReadAs : ArrayView → ℕ → Type 0
-IsReadAs a role = IsInSyncAs a false role ⊎ (IsInSyncAs a true role × ((other : ℕ) → other < 32 → IsInSyncAs a false other → ⊥))
+IsReadAs a role = IsInSyncWith a false role ⊎ (IsInSyncWith a true role × ((other : ℕ) → other < 32 → IsInSyncWith a false other → ⊥))
 
 -- what was marked stays so
 pub record KeepsMarks (old new : Bitmap) : Type 0 where

@@ -1,5 +1,5 @@
 -- Roles are tried one after another.
-use Rattle.std.proofs.Common.{◌≡◌, ℕ, ◌+◌, ◌/◌, ◌<◌, ◌≤◌, List, length, slice_get, sym, ap, ◌∙◌, subst, arith, inl, inr}
+use Rattle.std.proofs.Common.{◌≡◌, ℕ, ◌+◌, ◌/◌, ◌<◌, ◌≤◌, Bool, true, false, List, length, slice_get, sym, ap, ◌∙◌, subst, arith, inl, inr}
 use Rattle.std.proofs.lemmas.Option.{slice_get_within}
 use Rattle.md_device.specs.Device.{held}
 use Rattle.md_model.proofs.Puts.{by_same}
@@ -9,12 +9,12 @@ use Rattle.md_state.specs.View.{ArrayView, MirrorView}
 use Rattle.md_array.specs.Consistency.{IsConsistent}
 use Rattle.md_array.proofs.Worlds.SectorCopied.{in_sync_as}
 use Rattle.md_laws.proofs.Runs.Rests.{rests_same, rests_then}
-use Rattle.md_read.specs.Reading.{GivesIn, GivesRun, IsGiven, IsInRole, NotGivenIn}
+use Rattle.md_read.specs.Reading.{GivesFirst, GivesIn, GivesRun, IsGiven, IsInRole, NoneGives, NotGivenIn}
 use Rattle.md_assembly.proofs.Indices.{got_within}
 
 module _ (old mid new : MirrorView) (first : Rests old mid) (second : Rests mid new) where
-  pub not_given_later : (role s : ℕ) → NotGivenIn role s old mid → NotGivenIn role s old new
-  not_given_later role s none k m at as_role = elim (none k m at as_role) [
+  pub not_given_later : (mostly : Bool) (role s : ℕ) → NotGivenIn mostly role s old mid → NotGivenIn mostly role s old new
+  not_given_later mostly role s none k m at as_role flag = elim (none k m at as_role flag) [
     | inl lists ↦ inl lists
     | inr failed ↦ inr (λ d f was is honest.
         let low = slice_get_within old.disks k d was in
@@ -25,8 +25,8 @@ module _ (old mid new : MirrorView) (first : Rests old mid) (second : Rests mid 
         omega arith)
   ]
 
-  pub not_given_earlier : (role s : ℕ) → NotGivenIn role s mid new → NotGivenIn role s old new
-  not_given_earlier role s none k m at as_role = elim (none k m (ap (λ (a : ArrayView). slice_get a.members k) first.array ∙ at) as_role) [
+  pub not_given_earlier : (mostly : Bool) (role s : ℕ) → NotGivenIn mostly role s mid new → NotGivenIn mostly role s old new
+  not_given_earlier mostly role s none k m at as_role flag = elim (none k m (ap (λ (a : ArrayView). slice_get a.members k) first.array ∙ at) as_role flag) [
     | inl lists ↦ inl lists
     | inr failed ↦ inr (λ d f was is honest.
         let low = slice_get_within old.disks k d was in
@@ -51,19 +51,33 @@ module _ (old mid new : MirrorView) (first : Rests old mid) (second : Rests mid 
       subst (λ (c : List ℕ). held c (m.superblock.data_offset + sector) (length bytes) ≡ bytes) kept
       (holds e.0 m e.1 (ap (λ (a : ArrayView). slice_get a.members k) first.array ∙ there) (stays.honest ∙ honest))
 
-  pub gives_earlier : (role sector : ℕ) (bytes : List ℕ) → GivesIn role sector bytes mid new → GivesIn role sector bytes old new
-  gives_earlier role sector bytes g = record {
+  gives_earlier : (mostly : Bool) (role sector : ℕ) (bytes : List ℕ) → GivesIn mostly role sector bytes mid new → GivesIn mostly role sector bytes old new
+  gives_earlier mostly role sector bytes g = record {
     from = g.from;
     is = is_earlier role g.from g.is;
+    flag = g.flag;
     unlisted = g.unlisted;
     holds = held_earlier g.from sector bytes g.holds;
   }
 
+  pub none_later : (mostly : Bool) (sector sectors : ℕ) → NoneGives mostly sector sectors old mid → NoneGives mostly sector sectors old new
+  none_later mostly sector sectors none role s from below = not_given_later mostly role s (none role s from below)
+
+  pub none_earlier : (mostly : Bool) (sector sectors : ℕ) → NoneGives mostly sector sectors mid new → NoneGives mostly sector sectors old new
+  none_earlier mostly sector sectors none role s from below = not_given_earlier mostly role s (none role s from below)
+
+  pub first_earlier : (mostly : Bool) (sector : ℕ) (bytes : List ℕ) → GivesFirst mostly sector bytes mid new → GivesFirst mostly sector bytes old new
+  first_earlier mostly sector bytes run = record {
+    role = run.role;
+    gives = gives_earlier mostly run.role sector bytes run.gives;
+    lowest = λ lower low s from below. not_given_earlier mostly lower s (run.lowest lower low s from below);
+  }
+
   pub run_earlier : (sector : ℕ) (bytes : List ℕ) → GivesRun sector bytes mid new → GivesRun sector bytes old new
   run_earlier sector bytes run = record {
-    role = run.role;
-    gives = gives_earlier run.role sector bytes run.gives;
-    lowest = λ lower low s from below. not_given_earlier lower s (run.lowest lower low s from below);
+    mostly = run.mostly;
+    given = first_earlier run.mostly sector bytes run.given;
+    others = λ is. none_earlier false sector (length bytes / 512) (run.others is);
   }
 
   pub given_earlier : (s : ℕ) (bytes : List ℕ) → IsGiven s bytes mid new → IsGiven s bytes old new
@@ -73,7 +87,7 @@ module _ (old mid new : MirrorView) (first : Rests old mid) (second : Rests mid 
     is = is_earlier given.role given.from given.is;
     unlisted = given.unlisted;
     holds = held_earlier given.from s bytes given.holds;
-    lowest = λ lower low. not_given_earlier lower s (given.lowest lower low);
+    first = λ mostly earlier before. not_given_earlier mostly earlier s (given.first mostly earlier before);
   }
 
   pub given_later : (s : ℕ) (bytes : List ℕ) → IsGiven s bytes old mid → IsGiven s bytes old new
@@ -83,37 +97,54 @@ module _ (old mid new : MirrorView) (first : Rests old mid) (second : Rests mid 
     is = given.is;
     unlisted = given.unlisted;
     holds = given.holds;
-    lowest = λ lower low. not_given_later lower s (given.lowest lower low);
+    first = λ mostly earlier before. not_given_later mostly earlier s (given.first mostly earlier before);
   }
 
--- in the roles below this one nobody gave these sectors
-pub record NoneBelow (role sector sectors : ℕ) (old new : MirrorView) : Type 0 where
+-- in the roles below this one nobody who is asked gave these sectors
+pub record NoneBelow (mostly : Bool) (role sector sectors : ℕ) (old new : MirrorView) : Type 0 where
   pub rests : Rests old new
-  pub none : (lower : ℕ) → lower < role → (s : ℕ) → sector ≤ s → s < sector + sectors → NotGivenIn lower s old new
+  pub none : (lower : ℕ) → lower < role → (s : ℕ) → sector ≤ s → s < sector + sectors → NotGivenIn mostly lower s old new
 
-pub none_first : (sector sectors : ℕ) (m : MirrorView) → NoneBelow 0 sector sectors m m
-none_first sector sectors m = record { rests = rests_same m; none = λ lower low s from below. absurd (omega arith) }
+pub none_first : (mostly : Bool) (sector sectors : ℕ) (m : MirrorView) → NoneBelow mostly 0 sector sectors m m
+none_first mostly sector sectors m = record { rests = rests_same m; none = λ lower low s from below. absurd (omega arith) }
 
 -- every role was tried
-pub none_in_any : (old new : MirrorView) → IsConsistent old → (last sector sectors : ℕ) → old.array.shared.raid_disks ≤ last → NoneBelow last sector sectors old new
-    → (role s : ℕ) → sector ≤ s → s < sector + sectors → NotGivenIn role s old new
-none_in_any old new sound last sector sectors all so_far role s from below k m at as_role =
+pub none_in_any : (mostly : Bool) (old new : MirrorView) → IsConsistent old → (last sector sectors : ℕ) → old.array.shared.raid_disks ≤ last → NoneBelow mostly last sector sectors old new
+    → NoneGives mostly sector sectors old new
+none_in_any mostly old new sound last sector sectors all so_far role s from below k m at as_role flag =
     let low = sound.roles.below k role m at (in_sync_as role m.state as_role).1 in
-    so_far.none role (omega arith) s from below k m at as_role
+    so_far.none role (omega arith) s from below k m at as_role flag
 
-module _ (role sector : ℕ) (old mid new : MirrorView) where
-  pub none_more : (sectors : ℕ) → NoneBelow role sector sectors old mid → Rests mid new → ((s : ℕ) → sector ≤ s → s < sector + sectors → NotGivenIn role s mid new) → NoneBelow (role + 1) sector sectors old new
+module _ (mostly : Bool) (role sector : ℕ) (old mid new : MirrorView) where
+  pub none_more : (sectors : ℕ) → NoneBelow mostly role sector sectors old mid → Rests mid new → ((s : ℕ) → sector ≤ s → s < sector + sectors → NotGivenIn mostly role s mid new) → NoneBelow mostly (role + 1) sector sectors old new
   none_more sectors before rests none = record {
     rests = rests_then old mid new before.rests rests;
     none = λ lower low s from below.
         by_same lower role
-        (λ same. subst (λ (r : ℕ). NotGivenIn r s old new) (sym same) (not_given_earlier old mid new before.rests rests role s (none s from below)))
-        (λ apart. not_given_later old mid new before.rests rests lower s (before.none lower (omega arith) s from below));
+        (λ same. subst (λ (r : ℕ). NotGivenIn mostly r s old new) (sym same) (not_given_earlier old mid new before.rests rests mostly role s (none s from below)))
+        (λ apart. not_given_later old mid new before.rests rests mostly lower s (before.none lower (omega arith) s from below));
   }
 
-  pub given_run : (bytes : List ℕ) → NoneBelow role sector (length bytes / 512) old mid → Rests mid new → GivesIn role sector bytes mid new → GivesRun sector bytes old new
+  pub given_run : (bytes : List ℕ) → NoneBelow mostly role sector (length bytes / 512) old mid → Rests mid new → GivesIn mostly role sector bytes mid new → GivesFirst mostly sector bytes old new
   given_run bytes before rests gives = record {
     role = role;
-    gives = gives_earlier old mid new before.rests rests role sector bytes gives;
-    lowest = λ lower low s from below. not_given_later old mid new before.rests rests lower s (before.none lower low s from below);
+    gives = gives_earlier old mid new before.rests rests mostly role sector bytes gives;
+    lowest = λ lower low s from below. not_given_later old mid new before.rests rests mostly lower s (before.none lower low s from below);
   }
+
+-- ---- both groups, one after the other
+module _ (sector : ℕ) (old mid new : MirrorView) (first : Rests old mid) where
+  -- what is given by one that is not write-mostly, and by one that is where none of the others gave it
+  pub run_of_plain : (bytes : List ℕ) → GivesFirst false sector bytes old new → GivesRun sector bytes old new
+  run_of_plain bytes gives = record { mostly = false; given = gives; others = λ e. absurd cc }
+
+  pub run_of_mostly : (bytes : List ℕ) → NoneGives false sector (length bytes / 512) old mid → Rests mid new → GivesFirst true sector bytes mid new → GivesRun sector bytes old new
+  run_of_mostly bytes none second gives = record {
+    mostly = true;
+    given = first_earlier old mid new first second true sector bytes gives;
+    others = λ e. none_later old mid new first second false sector (length bytes / 512) none;
+  }
+
+  pub none_of_both : (sectors : ℕ) → NoneGives false sector sectors old mid → Rests mid new → NoneGives true sector sectors mid new → (mostly : Bool) → NoneGives mostly sector sectors old new
+  none_of_both sectors none second also false = none_later old mid new first second false sector sectors none
+  none_of_both sectors none second also true = none_earlier old mid new first second true sector sectors also

@@ -10,3 +10,4 @@ mod tables;
 mod taken_back;
 mod taken_up;
 pub(crate) mod told;
+mod write_mostly;
