@@ -50,16 +50,15 @@ has_one runs offset first end (suc n) = elim (has_one runs offset first end n) [
 
 unlisted_or : (a : ArrayView) (chunk : ℕ) (m : MemberView) → IsUnlisted a chunk m ⊎ (IsUnlisted a chunk m → ⊥)
 unlisted_or a chunk m =
-    let w : ℕ = a.chunks.sectors in
-    let next : (chunk + 1) * w ≡ chunk * w + w = rw add-mul (omega arith) in
-    elim (has_one m.bad m.superblock.data_offset (chunk * w) a.chunks.size w) [
-      | inl (i, below, low, bad) ↦ inr (λ none. none (chunk * w + i) (record { from = omega arith; below = omega (arith, next, below); within = low }) bad)
+    let next : (chunk + 1) * a.chunks.sectors ≡ chunk * a.chunks.sectors + a.chunks.sectors = rw add-mul (omega arith) in
+    elim (has_one m.bad m.superblock.data_offset (chunk * a.chunks.sectors) a.chunks.size a.chunks.sectors) [
+      | inl (i, below, low, bad) ↦ inr (λ none. none (chunk * a.chunks.sectors + i) (record { from = omega arith; below = omega (arith, next, below); within = low }) bad)
       | inr none ↦ inl (λ s inside bad.
           let from = inside.from in
           let below = inside.below in
           let within = inside.within in
-          let there : chunk * w + (s - chunk * w) ≡ s = omega (arith, from) in
-          none (s - chunk * w, omega (arith, from, below, next), omega (arith, there, within), subst (λ (x : ℕ). IsBad m.bad (m.superblock.data_offset + x)) (sym there) bad))
+          let there : chunk * a.chunks.sectors + (s - chunk * a.chunks.sectors) ≡ s = omega (arith, from) in
+          none (s - chunk * a.chunks.sectors, omega (arith, from, below, next), omega (arith, there, within), subst (λ (x : ℕ). IsBad m.bad (m.superblock.data_offset + x)) (sym there) bad))
     ]
 
 -- ---- whether a member that is not write-mostly serves the chunk

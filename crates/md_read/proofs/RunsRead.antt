@@ -1,5 +1,5 @@
 -- Roles are tried one after another.
-use Rattle.std.proofs.Common.{◌≡◌, ℕ, ◌+◌, ◌/◌, ◌<◌, ◌≤◌, Bool, true, false, List, length, slice_get, sym, ap, ◌∙◌, subst, arith, inl, inr}
+use Rattle.std.proofs.Common.{◌≡◌, ◌×◌, ⊤, tt, ℕ, ◌+◌, ◌/◌, ◌<◌, ◌≤◌, Bool, true, false, List, length, slice_get, sym, ap, ◌∙◌, subst, arith, inl, inr}
 use Rattle.std.proofs.lemmas.Option.{slice_get_within}
 use Rattle.md_device.specs.Device.{held}
 use Rattle.md_model.proofs.Puts.{by_same}
@@ -9,7 +9,9 @@ use Rattle.md_state.specs.View.{ArrayView, MirrorView}
 use Rattle.md_array.specs.Consistency.{IsConsistent}
 use Rattle.md_array.proofs.Worlds.SectorCopied.{in_sync_as}
 use Rattle.md_laws.proofs.Runs.Rests.{rests_same, rests_then}
-use Rattle.md_read.specs.Reading.{GivesFirst, GivesIn, GivesRun, IsGiven, IsInRole, NoneGives, NotGivenIn}
+use Rattle.md_read.specs.declared.roles.Answer.{Answer}
+use Rattle.md_read.specs.declared.roles.Answer.TheVariants as answer
+use Rattle.md_read.specs.Reading.{GivesFirst, GivesIn, IsGiven, GivesRun, IsInRole, NoneGives, NotGivenIn, TriesGroup, TriesRoles}
 use Rattle.md_assembly.proofs.Indices.{got_within}
 
 module _ (old mid new : MirrorView) (first : Rests old mid) (second : Rests mid new) where
@@ -133,18 +135,56 @@ module _ (mostly : Bool) (role sector : ℕ) (old mid new : MirrorView) where
   }
 
 -- ---- both groups, one after the other
-module _ (sector : ℕ) (old mid new : MirrorView) (first : Rests old mid) where
-  -- what is given by one that is not write-mostly, and by one that is where none of the others gave it
-  pub run_of_plain : (bytes : List ℕ) → GivesFirst false sector bytes old new → GivesRun sector bytes old new
-  run_of_plain bytes gives = record { mostly = false; given = gives; others = λ e. absurd cc }
+-- the first group gave nothing
+abbrev pub IsNone : Answer → Type 0
+IsNone answer.All = ⊥
+IsNone answer.Nothing = ⊤
+IsNone answer.Failed = ⊤
+IsNone answer.Perhaps = ⊥
 
-  pub run_of_mostly : (bytes : List ℕ) → NoneGives false sector (length bytes / 512) old mid → Rests mid new → GivesFirst true sector bytes mid new → GivesRun sector bytes old new
-  run_of_mostly bytes none second gives = record {
-    mostly = true;
-    given = first_earlier old mid new first second true sector bytes gives;
-    others = λ e. none_later old mid new first second false sector (length bytes / 512) none;
-  }
+module _ (sector : ℕ) (was : List ℕ) where
+  -- all of them are of the first group's members, or some may be
+  pub first_group : (bytes : List ℕ) (old new : MirrorView) (first : Answer) → (IsNone first → ⊥) → TriesGroup false sector was bytes old new first → TriesRoles sector was bytes old new first
+  first_group bytes old new answer.All some (rests, gives) = (rests, record { mostly = false; given = gives; others = λ e. absurd cc })
+  first_group bytes old new answer.Perhaps some perhaps = perhaps
+  first_group bytes old new answer.Nothing some tried = absurd (some tt)
+  first_group bytes old new answer.Failed some tried = absurd (some tt)
 
-  pub none_of_both : (sectors : ℕ) → NoneGives false sector sectors old mid → Rests mid new → NoneGives true sector sectors mid new → (mostly : Bool) → NoneGives mostly sector sectors old new
-  none_of_both sectors none second also false = none_later old mid new first second false sector sectors none
-  none_of_both sectors none second also true = none_earlier old mid new first second true sector sectors also
+  none_given : (bytes : List ℕ) (old new : MirrorView) (first : Answer) → IsNone first → TriesGroup false sector was bytes old new first → Rests old new × NoneGives false sector (length was / 512) old new
+  none_given bytes old new answer.All is tried = absurd is
+  none_given bytes old new answer.Perhaps is tried = absurd is
+  none_given bytes old new answer.Nothing is tried = tried
+  none_given bytes old new answer.Failed is tried = tried
+
+  module _ (left : List ℕ) (long : length left ≡ length was) (old mid new : MirrorView) (first : Answer) (is : IsNone first) (tried : TriesGroup false sector was left old mid first) where
+    before : Rests old mid × NoneGives false sector (length was / 512) old mid
+    before = none_given left old mid first is tried
+
+    -- neither group gave any of them
+    none_of_both : Rests mid new → NoneGives true sector (length left / 512) mid new → (mostly : Bool) → NoneGives mostly sector (length was / 512) old new
+    none_of_both rests also false = none_later old mid new before.0 rests false sector (length was / 512) before.1
+    none_of_both rests also true = none_earlier old mid new before.0 rests true sector (length was / 512) (subst (λ n. NoneGives true sector (n / 512) mid new) long also)
+
+    -- the second did not, so that it is as the first one told
+    pub neither_group : (bytes : List ℕ) → TriesGroup true sector left bytes mid new answer.Nothing → TriesRoles sector was bytes old new first
+    neither_group bytes (rests, also) = by_first first is (rests_then old mid new before.0 rests) (none_of_both rests also)
+      where
+        by_first : (told : Answer) → IsNone told → Rests old new → ((mostly : Bool) → NoneGives mostly sector (length was / 512) old new) → TriesRoles sector was bytes old new told
+        by_first answer.All none all neither = absurd none
+        by_first answer.Perhaps none all neither = absurd none
+        by_first answer.Nothing none all neither = (all, neither)
+        by_first answer.Failed none all neither = (all, neither)
+
+    -- or it did
+    pub second_group : (bytes : List ℕ) (second : Answer) → length bytes ≡ length left → TriesGroup true sector left bytes mid new second → TriesRoles sector was bytes old new second
+    second_group bytes answer.All same (rests, gives) = (
+      rests_then old mid new before.0 rests,
+      record {
+        mostly = true;
+        given = first_earlier old mid new before.0 rests true sector bytes gives;
+        others = λ e. subst (λ n. NoneGives false sector (n / 512) old new) (sym (same ∙ long)) (none_later old mid new before.0 rests false sector (length was / 512) before.1);
+      },
+    )
+    second_group bytes answer.Nothing same (rests, also) = (rests_then old mid new before.0 rests, none_of_both rests also)
+    second_group bytes answer.Failed same (rests, also) = (rests_then old mid new before.0 rests, none_of_both rests also)
+    second_group bytes answer.Perhaps same (rests, some) = (rests_then old mid new before.0 rests, subst (λ n. 1 < n / 512) long some)

@@ -17,15 +17,15 @@ fn read_run<D: Device + Drop>(mirror: &mut Mirror<D>, sector: u64, buf: &mut [u8
     requires sound { IsConsistent mirror.old }
     ensures { TriesRoles sector buf.old buf.new mirror.old mirror.new result }
 {
-    match read_group(mirror, false, sector, buf) {
-        Answer::All => Answer::All,
-        Answer::Perhaps => Answer::Perhaps,
-        Answer::Nothing => read_group(mirror, true, sector, buf),
-        Answer::Failed => match read_group(mirror, true, sector, buf) {
-            Answer::Nothing => Answer::Failed,
-            answer => answer,
-        },
+    let first = read_group(mirror, false, sector, buf);
+    if first == Answer::All || first == Answer::Perhaps {
+        return first;
     }
+    let second = read_group(mirror, true, sector, buf);
+    if second == Answer::Nothing {
+        return first;
+    }
+    second
 }
 
 // Reads these sectors in the lowest role whose member gives them, of those that are write-mostly or of the
