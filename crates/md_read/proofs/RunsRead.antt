@@ -1,5 +1,5 @@
 -- Roles are tried one after another.
-use Rattle.std.proofs.Common.{◌≡◌, ◌×◌, ⊤, tt, ℕ, ◌+◌, ◌/◌, ◌<◌, ◌≤◌, Bool, true, false, List, length, slice_get, sym, ap, ◌∙◌, subst, arith, inl, inr}
+use Rattle.std.proofs.Common.{◌≡◌, ◌×◌, ℕ, ◌+◌, ◌/◌, ◌<◌, ◌≤◌, Bool, true, false, List, length, slice_get, sym, ap, ◌∙◌, subst, arith, inl, inr}
 use Rattle.std.proofs.lemmas.Option.{slice_get_within}
 use Rattle.md_device.specs.Device.{held}
 use Rattle.md_model.proofs.Puts.{by_same}
@@ -11,7 +11,7 @@ use Rattle.md_array.proofs.Worlds.SectorCopied.{in_sync_as}
 use Rattle.md_laws.proofs.Runs.Rests.{rests_same, rests_then}
 use Rattle.md_read.specs.declared.roles.Answer.{Answer}
 use Rattle.md_read.specs.declared.roles.Answer.TheVariants as answer
-use Rattle.md_read.specs.Reading.{GivesFirst, GivesIn, IsGiven, GivesRun, IsInRole, NoneGives, NotGivenIn, TriesGroup, TriesRoles}
+use Rattle.md_read.specs.Reading.{GivesFirst, GivesIn, IsGiven, GivesRun, IsInRole, NoneGives, NotGivenIn, TriesGroup, TriesRoles, gives_none}
 use Rattle.md_assembly.proofs.Indices.{got_within}
 
 module _ (old mid new : MirrorView) (first : Rests old mid) (second : Rests mid new) where
@@ -135,28 +135,21 @@ module _ (mostly : Bool) (role sector : ℕ) (old mid new : MirrorView) where
   }
 
 -- ---- both groups, one after the other
--- the first group gave nothing
-abbrev pub IsNone : Answer → Type 0
-IsNone answer.All = ⊥
-IsNone answer.Nothing = ⊤
-IsNone answer.Failed = ⊤
-IsNone answer.Perhaps = ⊥
-
 module _ (sector : ℕ) (was : List ℕ) where
   -- all of them are of the first group's members, or some may be
-  pub first_group : (bytes : List ℕ) (old new : MirrorView) (first : Answer) → (IsNone first → ⊥) → TriesGroup false sector was bytes old new first → TriesRoles sector was bytes old new first
+  pub first_group : (bytes : List ℕ) (old new : MirrorView) (first : Answer) → gives_none first ≡ false → TriesGroup false sector was bytes old new first → TriesRoles sector was bytes old new first
   first_group bytes old new answer.All some (rests, gives) = (rests, record { mostly = false; given = gives; others = λ e. absurd cc })
   first_group bytes old new answer.Perhaps some perhaps = perhaps
-  first_group bytes old new answer.Nothing some tried = absurd (some tt)
-  first_group bytes old new answer.Failed some tried = absurd (some tt)
+  first_group bytes old new answer.Nothing some tried = absurd cc
+  first_group bytes old new answer.Failed some tried = absurd cc
 
-  none_given : (bytes : List ℕ) (old new : MirrorView) (first : Answer) → IsNone first → TriesGroup false sector was bytes old new first → Rests old new × NoneGives false sector (length was / 512) old new
-  none_given bytes old new answer.All is tried = absurd is
-  none_given bytes old new answer.Perhaps is tried = absurd is
+  none_given : (bytes : List ℕ) (old new : MirrorView) (first : Answer) → gives_none first ≡ true → TriesGroup false sector was bytes old new first → Rests old new × NoneGives false sector (length was / 512) old new
+  none_given bytes old new answer.All is tried = absurd cc
+  none_given bytes old new answer.Perhaps is tried = absurd cc
   none_given bytes old new answer.Nothing is tried = tried
   none_given bytes old new answer.Failed is tried = tried
 
-  module _ (left : List ℕ) (long : length left ≡ length was) (old mid new : MirrorView) (first : Answer) (is : IsNone first) (tried : TriesGroup false sector was left old mid first) where
+  module _ (left : List ℕ) (long : length left ≡ length was) (old mid new : MirrorView) (first : Answer) (is : gives_none first ≡ true) (tried : TriesGroup false sector was left old mid first) where
     before : Rests old mid × NoneGives false sector (length was / 512) old mid
     before = none_given left old mid first is tried
 
@@ -169,9 +162,9 @@ module _ (sector : ℕ) (was : List ℕ) where
     pub neither_group : (bytes : List ℕ) → TriesGroup true sector left bytes mid new answer.Nothing → TriesRoles sector was bytes old new first
     neither_group bytes (rests, also) = by_first first is (rests_then old mid new before.0 rests) (none_of_both rests also)
       where
-        by_first : (told : Answer) → IsNone told → Rests old new → ((mostly : Bool) → NoneGives mostly sector (length was / 512) old new) → TriesRoles sector was bytes old new told
-        by_first answer.All none all neither = absurd none
-        by_first answer.Perhaps none all neither = absurd none
+        by_first : (told : Answer) → gives_none told ≡ true → Rests old new → ((mostly : Bool) → NoneGives mostly sector (length was / 512) old new) → TriesRoles sector was bytes old new told
+        by_first answer.All none all neither = absurd cc
+        by_first answer.Perhaps none all neither = absurd cc
         by_first answer.Nothing none all neither = (all, neither)
         by_first answer.Failed none all neither = (all, neither)
 

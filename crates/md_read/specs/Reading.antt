@@ -1,6 +1,6 @@
 -- Sectors of the array are read from its members (read_balance and raid1_read_request of raid1.c in the kernel's md driver). As there,
 -- write-mostly members come last; else which member is read is this project's own.
-use Rattle.std.specs.Prelude.{◌≡◌, ◌⊎◌, ℕ, ◌+◌, ◌-◌, ◌/◌, ◌<◌, ◌≤◌, ◌&&◌, nat_le, Bool, true, false, List, length, Option}
+use Rattle.std.specs.Prelude.{◌≡◌, ◌⊎◌, ⊤, ℕ, ◌+◌, ◌-◌, ◌/◌, ◌<◌, ◌≤◌, ◌&&◌, nat_le, Bool, true, false, List, length, Option}
 use Rattle.md_badblocks.specs.declared.run.Run.{Run}
 use Rattle.md_device.specs.Device.{held}
 use Rattle.md_model.specs.Content.{Content, HoldsAtRest}
@@ -130,6 +130,13 @@ TriesGroup mostly sector was bytes old new answer.All = Rests old new × GivesFi
 TriesGroup mostly sector was bytes old new answer.Nothing = Rests old new × NoneGives mostly sector (length was / 512) old new
 TriesGroup mostly sector was bytes old new answer.Failed = Rests old new × NoneGives mostly sector (length was / 512) old new
 TriesGroup mostly sector was bytes old new answer.Perhaps = Rests old new × (1 < length was / 512)
+
+-- none of the sectors was given
+abbrev pub gives_none : Answer → Bool
+gives_none answer.All = false
+gives_none answer.Nothing = true
+gives_none answer.Failed = true
+gives_none answer.Perhaps = false
 
 -- ---- a run of sectors
 pub record GivesRun (sector : ℕ) (bytes : List ℕ) (old new : MirrorView) : Type 0 where

@@ -1,7 +1,7 @@
 // Reading runs of sectors, each from one member.
 ghost use Rattle.std.specs.Prelude.{◌≡◌, ◌+◌, ◌*◌, ◌/◌, ◌%◌, ◌^◌, ◌<◌, ◌≤◌, MatchOption, MatchResult, length};
 ghost use Rattle.md_array.specs.Consistency.{IsConsistent};
-ghost use Rattle.md_read.specs.Reading.{GivesAll, GivesFront, GivesNoFront, IsGivenUpTo, TriesGroup, TriesRoles};
+ghost use Rattle.md_read.specs.Reading.{GivesAll, GivesFront, GivesNoFront, IsGivenUpTo, TriesGroup, TriesRoles, gives_none};
 
 use crate::fault::UnreadFault;
 use crate::roles::{Answer, read_in};
@@ -18,14 +18,25 @@ fn read_run<D: Device + Drop>(mirror: &mut Mirror<D>, sector: u64, buf: &mut [u8
     ensures { TriesRoles sector buf.old buf.new mirror.old mirror.new result }
 {
     let first = read_group(mirror, false, sector, buf);
-    if first == Answer::All || first == Answer::Perhaps {
+    if !is_none(first) {
         return first;
     }
-    let second = read_group(mirror, true, sector, buf);
-    if second == Answer::Nothing {
-        return first;
+    match read_group(mirror, true, sector, buf) {
+        Answer::All => Answer::All,
+        Answer::Nothing => first,
+        Answer::Failed => Answer::Failed,
+        Answer::Perhaps => Answer::Perhaps,
     }
-    second
+}
+
+// Whether none of the sectors was given.
+fn is_none(answer: Answer) -> bool
+    ensures { result ≡ gives_none answer }
+{
+    match answer {
+        Answer::All | Answer::Perhaps => false,
+        Answer::Nothing | Answer::Failed => true,
+    }
 }
 
 // Reads these sectors in the lowest role whose member gives them, of those that are write-mostly or of the
