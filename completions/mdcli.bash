@@ -8,7 +8,7 @@ _mdcli_commands() {
 # The options of a command, beside --help. A value follows one that ends in =.
 _mdcli_options() {
   case $1 in
-    create) printf '%s\n' --level= --raid-devices= --uuid= --name= --bitmap-chunk= --size= --time= --assume-clean ;;
+    create) printf '%s\n' --level= --raid-devices= --uuid= --name= --bitmap-chunk= --size= --time= --write-mostly= --assume-clean ;;
     assemble | detail | check) printf '%s\n' --readonly ;;
     plan) printf '%s\n' --member= --readonly ;;
     fail | remove | rebuild) printf '%s\n' --member= ;;

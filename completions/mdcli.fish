@@ -42,5 +42,6 @@ complete -c mdcli -n '__fish_seen_subcommand_from create' -l name -x -d 'The nam
 complete -c mdcli -n '__fish_seen_subcommand_from create' -l bitmap-chunk -x -d 'The size of a chunk of the bitmap, in KiB'
 complete -c mdcli -n '__fish_seen_subcommand_from create' -l size -x -d 'How much of each member the array uses, in KiB'
 complete -c mdcli -n '__fish_seen_subcommand_from create' -l time -x -d 'The creation time in seconds since 1970'
+complete -c mdcli -n '__fish_seen_subcommand_from create' -l write-mostly -x -d 'The role of a member that is read only where no other can serve'
 complete -c mdcli -n '__fish_seen_subcommand_from create' -l assume-clean -d 'Mark no chunk: the members agree'
 complete -c mdcli -n '__fish_seen_subcommand_from create' -a missing -d 'A member that is not there'

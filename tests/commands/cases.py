@@ -24,8 +24,8 @@ SHORT = bytes(2111 * SECTOR)
 
 
 class Step:
-    """A run of the program: its words, its input, its output (or the head and the tail of it), its fault, or what it tells on
-    standard error, and the images that it changes."""
+    """A run of the program: its words, its input, its output (or the head and the tail of it, or a list of some of its lines), its
+    fault, or what it tells on standard error, and the images that it changes."""
 
     def __init__(self, words, output="", fault=None, told="", changes="", given=b""):
         self.words = words.split()
@@ -51,6 +51,8 @@ class Step:
     def is_report(self, output):
         if isinstance(self.output, str):
             return output == self.output
+        if isinstance(self.output, list):
+            return set(self.output) <= set(output.splitlines())
         head, tail = self.output
         return output.startswith(head) and output.endswith(tail)
 
@@ -369,6 +371,24 @@ CASES = [
     ("create, an image that is not there", TWO, [create("1", 2, 4, "missing c", fault="BadImage 1")]),
     ("create, no image", TWO, [create("1", 2, 4, "missing missing", fault="BadGeometry")]),
     ("create, an odd chunk", TWO, [create("1", 2, 3, "a b", fault="BadGeometry")]),
+    ("create, a role that there is not is write-mostly", TWO, [create("1", 2, 4, "--write-mostly 2 a b", fault="BadGeometry")]),
+    (
+        "create, a missing member is write-mostly",
+        TWO,
+        [create("1", 3, 4, "--write-mostly 2 a b missing", fault="BadGeometry")],
+    ),
+    (
+        "a write-mostly member",
+        TWO,
+        [
+            create("raid1", 2, 4, "--assume-clean --write-mostly 1 a b", output=CLEAN, changes="a b"),
+            Step("examine a", ["Device Flags    : 0x0"]),
+            Step("examine b", ["Device Flags    : 0x1"]),
+            Step("detail a b", DETAIL[:-1] + ", write-mostly\n"),
+            Step("fail --member 1 a b", "in sync 1 of 2, events 2, marked 0\n", changes="a"),
+            Step("detail a b", ("", "     1      1      - faulty, write-mostly\n")),
+        ],
+    ),
     (
         "no array",
         TWO,

@@ -296,7 +296,11 @@ class Assembled:
 
     def member_line(self, index, member):
         role, standing = self.standing(member)
-        return Line(kernel="%6d %6d %6s %s" % (index, member.facts["dev_number"], role, standing))
+        disk = self.found.disks[member.index]
+        flag = ", write-mostly" if member.facts["devflags"] & FLAG_BITS["write-mostly"] else ""
+        if disk.taken and disk.write_mostly != bool(flag):
+            raise outside.Unreadable("the kernel and facts.json differ on who is write-mostly")
+        return Line(kernel="%6d %6d %6s %s%s" % (index, member.facts["dev_number"], role, standing, flag))
 
     def condition(self):
         words = ["clean" if self.first["resync_offset"] == "none" else "active"]

@@ -51,19 +51,20 @@ class Found:
 
     @staticmethod
     def disk(found, index):
-        """The slot of a member in sync, and whether the kernel took the member in."""
+        """The slot of a member in sync, whether the kernel took the member in, and whether it read it last."""
         own = {key: value for key, value in ((k.partition("disk.%d." % index)[2], v) for k, v in found.items()) if key}
         taken = own["in_array"] == "yes"
-        in_sync = taken and "in_sync" in own["state_now"].split(",")
-        return Disk(taken, int(own["slot"]) if in_sync else None)
+        state = own["state_now"].split(",") if taken else []
+        return Disk(taken, int(own["slot"]) if "in_sync" in state else None, "write_mostly" in state)
 
 
 class Disk:
     """One member, as the kernel found it."""
 
-    def __init__(self, taken, slot):
+    def __init__(self, taken, slot, write_mostly):
         self.taken = taken
         self.slot = slot
+        self.write_mostly = write_mostly
 
 
 class Array:

@@ -27,7 +27,7 @@ pub(crate) fn advice(fault: &CommandFault) -> &'static str {
         CommandFault::Member(fault) => member_advice(*fault),
         CommandFault::NoBitmap => "there is nothing to show",
         CommandFault::Create(CreateFault::BadGeometry) => {
-            "choose another `--size` or `--bitmap-chunk`, or larger images"
+            "choose another `--size`, `--bitmap-chunk` or `--write-mostly`, or larger images"
         }
         CommandFault::Open(OpenFault::Member(_, fault)) => member_advice(*fault),
         CommandFault::Open(OpenFault::Assemble(fault)) => array_advice(*fault),

@@ -155,7 +155,7 @@ impl<D: Device + Drop> Mirror<D> {
     }
 
     /// The roles in which a chunk may be read: bit r is set where the member that is in sync in role r
-    /// lists no sector of it.
+    /// lists no sector of it, and is not write-mostly; where there is none, also where it is.
     pub fn permitted(&self, chunk: u32) -> u32
         requires { chunk < div_ceil self.now.array.chunks.size self.now.array.chunks.sectors }
         ensures { (role : ℕ) → role < 32 → (bit_at result role ≡ 1) ↔ IsPermitted self.now.array chunk role }

@@ -46,3 +46,4 @@ pub record IsPlan (o : Options) (p : CreateParams) : Type 0 where
   pub size : Some p.size ≡ sectors_of o.size
   pub chunk_bytes : Some p.chunk_bytes ≡ bytes_of o.bitmap_chunk
   pub assume_clean : p.assume_clean ≡ o.assume_clean
+  pub write_mostly : p.write_mostly ≡ o.write_mostly

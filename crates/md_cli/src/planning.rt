@@ -78,5 +78,6 @@ pub(crate) fn plan(options: &CreateOptions<'_>, count: usize) -> Result<CreatePa
         size,
         chunk_bytes,
         assume_clean: options.assume_clean,
+        write_mostly: options.write_mostly,
     })
 }

@@ -105,6 +105,7 @@ events_append (l ∷ ls) ks = ap (λ (es : List Event). list_events l.0 l.1 ++ e
 record KeepsOwn (m n : MemberView) : Type 0 where
   bad : n.bad ≡ m.bad
   offset : n.superblock.data_offset ≡ m.superblock.data_offset
+  flags : n.superblock.devflags ≡ m.superblock.devflags
   size : n.superblock.data_size ≡ m.superblock.data_size
   state : n.state ≡ m.state
   out : is_in_sync m.state ≡ false → n ≡ m
@@ -113,6 +114,7 @@ own_same : (m n : MemberView) → n ≡ m → KeepsOwn m n
 own_same m n same = record {
   bad = ap (λ (z : MemberView). z.bad) same;
   offset = ap (λ (z : MemberView). z.superblock.data_offset) same;
+  flags = ap (λ (z : MemberView). z.superblock.devflags) same;
   size = ap (λ (z : MemberView). z.superblock.data_size) same;
   state = ap (λ (z : MemberView). z.state) same;
   out = λ no. same;
@@ -122,6 +124,7 @@ own_kept : (failed : List Slot) (marks : Bitmap) (m n : MemberView) → StoresIf
 own_kept failed marks m n (inl (has, is)) = record {
   bad = ap (λ (z : MemberView). z.bad) is.same;
   offset = ap (λ (z : MemberView). z.superblock.data_offset) is.same;
+  flags = ap (λ (z : MemberView). z.superblock.devflags) is.same;
   size = ap (λ (z : MemberView). z.superblock.data_size) is.same;
   state = ap (λ (z : MemberView). z.state) is.same;
   out = λ no. absurd (both_ways (is_in_sync m.state) no (failed_in_sync failed m has));
@@ -430,6 +433,7 @@ module _ (failed : List Slot) (old noted new : MirrorView) (notes : NotesLists f
   listed_then chunks m n o first own = record {
     state = own.state ∙ first.state;
     offset = own.offset ∙ first.offset;
+    flags = own.flags ∙ first.flags;
     bad = λ sector. subst (λ (list : List Run). (IsBad list sector) ↔ (IsBad m.bad sector ⊎ IsOfFailed chunks failed m sector)) (sym own.bad) (first.bad sector);
   }
 

@@ -33,10 +33,11 @@ use Rattle.md_copy.proofs.HeldRecorded.{held_recorded, lacks_still, low_start, o
 use Rattle.md_copy.proofs.ReadyStill.{ready_filled, ready_recorded}
 
 -- ---- lists, where how far the target is rebuilt is recorded
-same_own : (chunks : Chunks) (m n : MemberView) → n.state ≡ m.state → n.superblock.data_offset ≡ m.superblock.data_offset → n.bad ≡ m.bad → ListsOwn chunks [] m n
-same_own chunks m n state offset bad = record {
+same_own : (chunks : Chunks) (m n : MemberView) → n.state ≡ m.state → n.superblock.data_offset ≡ m.superblock.data_offset → n.superblock.devflags ≡ m.superblock.devflags → n.bad ≡ m.bad → ListsOwn chunks [] m n
+same_own chunks m n state offset flags bad = record {
   state = state;
   offset = offset;
+  flags = flags;
   bad = λ sector. (
     λ is. inl (subst (λ runs. IsBad runs sector) bad is),
     λ either. elim either [ inl was ↦ subst (λ runs. IsBad runs sector) (sym bad) was | inr of ↦ (let none = of.there in absurd (omega (arith, none.1))) ],
@@ -60,9 +61,9 @@ module _ (target : ℕ) (copied : Bitmap) (v w : MirrorView) (sound : IsConsiste
           (let is = target_same target copied v w sound r x (ap (slice_get w.array.members) (sym here) ∙ at) in (
             r.may.member,
             ap (slice_get v.array.members) here ∙ r.may.at,
-            same_own v.array.chunks r.may.member x (ap (λ (z : MemberView). z.state) is) (ap (λ (z : MemberView). z.superblock.data_offset) is) (ap (λ (z : MemberView). z.bad) is),
+            same_own v.array.chunks r.may.member x (ap (λ (z : MemberView). z.state) is) (ap (λ (z : MemberView). z.superblock.data_offset) is) (ap (λ (z : MemberView). z.superblock.devflags) is) (ap (λ (z : MemberView). z.bad) is),
           ))
-      | inr other ↦ (x, sym (other_is target copied v w sound r k other) ∙ at, same_own v.array.chunks x x refl refl refl)
+      | inr other ↦ (x, sym (other_is target copied v w sound r k other) ∙ at, same_own v.array.chunks x x refl refl refl refl)
     ];
     after = λ k m at. elim (cases_eq k target) [
       | inl here ↦
@@ -70,9 +71,9 @@ module _ (target : ℕ) (copied : Bitmap) (v w : MirrorView) (sound : IsConsiste
           let same = own_member m (ap (slice_get v.array.members) (sym here) ∙ at) in (
             n,
             ap (slice_get w.array.members) here ∙ is,
-            same_own v.array.chunks m n (ap (λ (z : MemberView). z.state) same) (ap (λ (z : MemberView). z.superblock.data_offset) same) (ap (λ (z : MemberView). z.bad) same),
+            same_own v.array.chunks m n (ap (λ (z : MemberView). z.state) same) (ap (λ (z : MemberView). z.superblock.data_offset) same) (ap (λ (z : MemberView). z.superblock.devflags) same) (ap (λ (z : MemberView). z.bad) same),
           ))
-      | inr other ↦ (m, other_is target copied v w sound r k other ∙ at, same_own v.array.chunks m m refl refl refl)
+      | inr other ↦ (m, other_is target copied v w sound r k other ∙ at, same_own v.array.chunks m m refl refl refl refl)
     ];
   }
 

@@ -20,7 +20,7 @@ use Rattle.md_cert.specs.Tables.{chunks_of}
 use Rattle.md_kept_members.specs.View.{MemberView}
 use Rattle.md_pass.specs.Beside.{has_chunk}
 use Rattle.md_pass.specs.Copied.{failed_slots, is_failed_slot}
-use Rattle.md_passes.proofs.ArrayPasses.{copies_add, others, passes_go_on}
+use Rattle.md_passes.proofs.ArrayPasses.{copies_add, others, passes_go_on, permits}
 use Rattle.md_passes.proofs.Kept.{From, mapped, mapped_from}
 use Rattle.md_passes.proofs.Listing.{lists_add}
 use Rattle.md_passes.proofs.OnePass.{slot_permitted, slot_within}
@@ -269,7 +269,7 @@ module _ (target : ℕ) (m : MemberView) (none : Bitmap) (first now : MirrorView
     served_mid k d below =
         let s = get_or slots k d in
         let there = subst (λ xs. Contains xs s) slots_same (Contains-get_or slots k d below) in
-        others [] now.array mid.array s.chunk s.source mid_lists (slot_permitted one.records.makes.is s there) (λ t none chunk source. (let low = none.1 in omega (arith, low)))
+        others [] now.array mid.array s.chunk s.source mid_lists (permits.served now.array s.chunk s.source (slot_permitted one.records.makes.is s there)) (λ t none chunk source. (let low = none.1 in omega (arith, low)))
 
     pub rising : SlotsRise slots
     rising = subst SlotsRise (sym slots_same) one.records.makes.is.certified.rising

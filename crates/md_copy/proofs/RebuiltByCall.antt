@@ -1,5 +1,5 @@
 -- What a rebuild makes of the target from before the call to after it.
-use Rattle.std.proofs.Common.{◌≡◌, ◌∙◌, ◌⊎◌, ◌↔◌, ℕ, suc, zero, ◌+◌, ◌<◌, ◌≤◌, Bool, true, false, not, List, [], ◌∷◌, Contains, length, filter, refl, sym, ap, subst, arith, inl, inr}
+use Rattle.std.proofs.Common.{◌≡◌, ◌∙◌, ◌⊎◌, ◌↔◌, ℕ, suc, zero, ◌+◌, ◌==◌, ◌<◌, ◌≤◌, Bool, true, false, not, bit_and, List, [], ◌∷◌, Contains, length, filter, refl, sym, ap, subst, arith, inl, inr}
 use Rattle.std.specs.Int.{div_ceil}
 use Rattle.std.specs.List.{range_with_len}
 use Rattle.std.proofs.lemmas.List.FromFn.{get_or-range_with_len, length-range_with_len}
@@ -15,8 +15,8 @@ use Rattle.md_metadata.specs.Going.{GoesOn, only_others}
 use Rattle.md_metadata.specs.Storing.{IsStoring}
 use Rattle.md_metadata.proofs.Going.{goes_nowhere}
 use Rattle.md_passes.proofs.ArrayPasses.{copies_add}
-use Rattle.md_passes.specs.Listed.{ArrayPasses, IsOfFailed, ServesAs, most_failures}
-use Rattle.md_state.specs.Members.{IsMember}
+use Rattle.md_passes.specs.Listed.{ArrayPasses, IsOfFailed, MayServe, ServesAs, most_failures}
+use Rattle.md_state.specs.Members.{IsMember, IsServedPlainly, IsUnlisted}
 use Rattle.md_state.specs.Missing.{is_missing}
 use Rattle.md_state.specs.View.{MirrorView}
 use Rattle.md_copy.specs.declared.rebuilt.Rebuilt.{Rebuilt}
@@ -90,32 +90,65 @@ module _ (target : ℕ) (told : Rebuilt) (old new : MirrorView) (h : Rebuilds ta
       ∙ filter_same (is_missing v.array m) (is_missing old.array l) (range_with_len 0 (div_ceil old.array.chunks.size old.array.chunks.sectors))
       (λ c there. starts.missing l m rebuilt.at at_m c (let low = in_range_low (div_ceil old.array.chunks.size old.array.chunks.sectors) c there in let many = h.begins.sound.chunks.count in omega (arith, low, many)))
 
+  -- a member lists none of a chunk's sectors in one of the two where it lists none in the other
+  free_before : (c j : ℕ) (n : MemberView) (at : IsMember v.array j n) → IsUnlisted v.array c n → IsUnlisted old.array c (starts.before j n at).0
+  free_before c j n at free i inside bad =
+      let b = starts.before j n at in
+      free i (subst (λ (q : Chunks). InChunk q.sectors q.size c i) (sym starts.chunks) inside)
+      (subst (λ runs. IsBad runs (n.superblock.data_offset + i)) (sym b.2.bad) (subst (λ o. IsBad b.0.bad (o + i)) (sym b.2.offset) bad))
+
+  free_then : (c j : ℕ) (l : MemberView) (at : IsMember old.array j l) → IsUnlisted old.array c l → IsUnlisted v.array c (starts.then j l at).0
+  free_then c j l at free i inside bad =
+      let b = starts.then j l at in
+      free i (subst (λ (q : Chunks). InChunk q.sectors q.size c i) starts.chunks inside)
+      (subst (λ runs. IsBad runs (l.superblock.data_offset + i)) b.2.bad (subst (λ o. IsBad b.0.bad (o + i)) b.2.offset bad))
+
+  plain_before : (c : ℕ) → IsServedPlainly v.array c → IsServedPlainly old.array c
+  plain_before c (role, small, k, n, at, in_sync, free, plain) =
+      let b = starts.before k n at in
+      (role, small, k, b.0, b.1, sym (b.2.roles role) ∙ in_sync, free_before c k n at free, ap (λ f. not (bit_and f 1 == 0)) (sym b.2.flags) ∙ plain)
+
+  plain_then : (c : ℕ) → IsServedPlainly old.array c → IsServedPlainly v.array c
+  plain_then c (role, small, k, l, at, in_sync, free, plain) =
+      let b = starts.then k l at in
+      (role, small, k, b.0, b.1, b.2.roles role ∙ in_sync, free_then c k l at free, ap (λ f. not (bit_and f 1 == 0)) b.2.flags ∙ plain)
+
   serves_both : (c role : ℕ) → ServesAs v.array c role ↔ ServesAs old.array c role
   serves_both c role = (
-    λ s.
-        (let b = starts.before s.2.0 s.2.1 s.2.2 in (
-          s.0,
-          subst (λ (q : Chunks). c < div_ceil q.size q.sectors) starts.chunks s.1,
+    λ (small, low, (k, n, at, in_sync, free)).
+        (let b = starts.before k n at in
+        (small, subst (λ (q : Chunks). c < div_ceil q.size q.sectors) starts.chunks low, (k, b.0, b.1, sym (b.2.roles role) ∙ in_sync, free_before c k n at free))),
+    λ (small, low, (k, l, at, in_sync, free)).
+        (let b = starts.then k l at in
+        (small, subst (λ (q : Chunks). c < div_ceil q.size q.sectors) (sym starts.chunks) low, (k, b.0, b.1, b.2.roles role ∙ in_sync, free_then c k l at free))),
+  )
+
+  permits_both : (c role : ℕ) → MayServe v.array c role ↔ MayServe old.array c role
+  permits_both c role = (
+    λ (small, low, (k, n, at, in_sync, free, either)).
+        (let b = starts.before k n at in (
+          small,
+          subst (λ (q : Chunks). c < div_ceil q.size q.sectors) starts.chunks low,
           (
-            s.2.0,
+            k,
             b.0,
             b.1,
-            sym (b.2.roles role) ∙ s.2.3,
-            λ i inside bad. s.2.4 i (subst (λ (q : Chunks). InChunk q.sectors q.size c i) (sym starts.chunks) inside)
-                (subst (λ runs. IsBad runs (s.2.1.superblock.data_offset + i)) (sym b.2.bad) (subst (λ o. IsBad b.0.bad (o + i)) (sym b.2.offset) bad)),
+            sym (b.2.roles role) ∙ in_sync,
+            free_before c k n at free,
+            elim either [ inl plain ↦ inl (ap (λ f. not (bit_and f 1 == 0)) (sym b.2.flags) ∙ plain) | inr none ↦ inr (λ p. none (plain_then c p)) ],
           ),
         )),
-    λ s.
-        (let b = starts.then s.2.0 s.2.1 s.2.2 in (
-          s.0,
-          subst (λ (q : Chunks). c < div_ceil q.size q.sectors) (sym starts.chunks) s.1,
+    λ (small, low, (k, l, at, in_sync, free, either)).
+        (let b = starts.then k l at in (
+          small,
+          subst (λ (q : Chunks). c < div_ceil q.size q.sectors) (sym starts.chunks) low,
           (
-            s.2.0,
+            k,
             b.0,
             b.1,
-            b.2.roles role ∙ s.2.3,
-            λ i inside bad. s.2.4 i (subst (λ (q : Chunks). InChunk q.sectors q.size c i) starts.chunks inside)
-                (subst (λ runs. IsBad runs (s.2.1.superblock.data_offset + i)) b.2.bad (subst (λ o. IsBad b.0.bad (o + i)) b.2.offset bad)),
+            b.2.roles role ∙ in_sync,
+            free_then c k l at free,
+            elim either [ inl plain ↦ inl (ap (λ f. not (bit_and f 1 == 0)) b.2.flags ∙ plain) | inr none ↦ inr (λ p. none (plain_before c p)) ],
           ),
         )),
   )
@@ -184,6 +217,7 @@ module _ (target : ℕ) (told : Rebuilt) (old new : MirrorView) (h : Rebuilds ta
     passes_are = record {
       first = v.array;
       served = serves_both;
+      permitted = permits_both;
       end = r.by.fills.copies.now.array;
       are = subst (λ xs. ArrayPasses r.passes v.array xs r.by.fills.copies.now.array) missing_is (passes_so target m h.none v new told r at_m so h.begins.is_none.bits last.0 last.1.goes);
       few = few;

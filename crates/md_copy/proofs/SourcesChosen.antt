@@ -92,7 +92,7 @@ module _ (v : MirrorView) (sound : IsConsistent v) (target : ℕ) (within : targ
       one_role s.role t.role n.state (subst (λ (x : MemberView). is_in_sync_as s.role x.state ≡ true) m_is is.in_sync) also.in_sync
 
   pub served_by : (slot : Slot) (s : Source) → IsSource v target s → s.role ≡ slot.source → IsPermitted v.array slot.chunk slot.source → IsServedBy v target slot s
-  served_by slot s (k, m, is) role (j, n, at, in_sync, unlisted) =
+  served_by slot s (k, m, is) role (j, n, at, in_sync, unlisted, flag) =
       let takes = takes_as slot.source m.state (subst (λ r. is_in_sync_as r m.state ≡ true) role is.in_sync) in
       let one : j ≡ k = sound.roles.one_each j k slot.source n m at is.listed (takes_as slot.source n.state in_sync) takes in
       let at_k : IsMember v.array k n = subst (λ i. IsMember v.array i n) one at in

@@ -50,6 +50,7 @@ module _ (target : ℕ) (old v : MirrorView) (sound : IsConsistent old) (resynce
     roles = λ role. ap (λ (z : MemberView). is_in_sync_as role z.state) s.same;
     bad = ap (λ (z : MemberView). z.bad) s.same;
     offset = ap (λ (z : MemberView). z.superblock.data_offset) s.same;
+    flags = ap (λ (z : MemberView). z.superblock.devflags) s.same;
     size = ap (λ (z : MemberView). z.superblock.data_size) s.same;
   }
 
@@ -130,10 +131,10 @@ module _ (target : ℕ) (v x : MirrorView) (sound : IsConsistent v) (resynced : 
       ap (λ (a : ArrayView). slice_get a.members j) r.array ∙ got_other (map made_due v.array.members) target j n other ∙ got_in_map made_due v.array.members j l at
 
   as_admitted : IsAs m n
-  as_admitted = record { in_sync = sym (spare_unsynced m.state spare); roles = λ role. sym (spare_unserving role m.state spare); bad = refl; offset = refl; size = refl }
+  as_admitted = record { in_sync = sym (spare_unsynced m.state spare); roles = λ role. sym (spare_unserving role m.state spare); bad = refl; offset = refl; flags = refl; size = refl }
 
   as_due : (l : MemberView) → IsAs l (made_due l)
-  as_due l = record { in_sync = refl; roles = λ role. refl; bad = refl; offset = refl; size = refl }
+  as_due l = record { in_sync = refl; roles = λ role. refl; bad = refl; offset = refl; flags = refl; size = refl }
 
   then_at : (j : ℕ) (l : MemberView) → IsMember v.array j l → (y : MemberView) × IsMember x.array j y × IsAs l y
   then_at j l at = elim (cases_eq j target) [

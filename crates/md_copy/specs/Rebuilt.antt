@@ -22,7 +22,7 @@ use Rattle.md_array.specs.InTurn.{HaltsAt, Requests}
 use Rattle.md_metadata.specs.Storing.{IsStoring}
 use Rattle.md_model.specs.Events.{Event}
 use Rattle.md_pass.specs.Readings.{is_of}
-use Rattle.md_passes.specs.Listed.{ArrayPasses, IsOfFailed, ServesAs, most_failures}
+use Rattle.md_passes.specs.Listed.{ArrayPasses, IsOfFailed, MayServe, ServesAs, most_failures}
 use Rattle.md_passes.specs.Passes.{IsCopiedIn, PassView}
 use Rattle.md_copy.specs.declared.rebuilt.Rebuilt.{Rebuilt}
 use Rattle.md_copy.specs.Preparing.{Tells, is_in, uncopied_chunks}
@@ -101,11 +101,12 @@ AllCounted failed old new =
     AreHonest old.disks → (k role : ℕ) (m : MemberView) → IsMember old.array k m → is_in_sync_as role m.state ≡ true
     → AtDevice k old.disks new.disks (λ d e. d.failures + count_by (is_of role) failed ≤ e.failures)
 
--- The first pass is planned by who serves a chunk before the call, the others by who does once what failed before is listed, and each is
--- least. There are no more of them than chunks to read, counted for each member in sync, and one.
+-- The first pass is planned by where a chunk may be read before the call, the others by where it may be once what failed before is listed, and
+-- each is least. There are no more of them than chunks to read, counted for each member in sync, and one.
 pub record AreItsPasses (target : ℕ) (passes : List PassView) (chunks : List ℕ) (old : MirrorView) (last : MirrorView) : Type 0 where
   pub first : ArrayView
   pub served : (c role : ℕ) → ServesAs first c role ↔ ServesAs old.array c role
+  pub permitted : (c role : ℕ) → MayServe first c role ↔ MayServe old.array c role
   pub end : ArrayView
   pub are : ArrayPasses passes first chunks end
   pub few : length passes ≤ most_failures old.array + 1

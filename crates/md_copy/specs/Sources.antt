@@ -1,10 +1,11 @@
 -- What a member lacks, and where it may be read.
-use Rattle.std.specs.Prelude.{◌≡◌, ◌↔◌, ℕ, ◌<◌, true, List, filter, All}
+use Rattle.std.specs.Prelude.{◌≡◌, ◌⊎◌, ◌↔◌, ℕ, ◌<◌, Bool, true, false, List, filter, All}
 use Rattle.std.specs.Int.{bit_at, div_ceil}
 use Rattle.std.specs.List.{range_with_len}
 use Rattle.md_bitmap.specs.Marks.{Bitmap, is_set}
 use Rattle.md_cert.specs.declared.table.Row.{Row}
 use Rattle.md_cert.specs.Tables.{chunks_of}
+use Rattle.md_kept_members.specs.OwnFields.{is_write_mostly}
 use Rattle.md_kept_members.specs.View.{MemberView}
 use Rattle.md_assembly.specs.States.{is_in_sync_as}
 use Rattle.md_state.specs.Members.{IsMember, IsPermitted}
@@ -36,6 +37,14 @@ pub record IsTableIn (a : ArrayView) (m : MemberView) (rows : List Row) : Type 0
 -- a member is in sync in the role
 abbrev pub IsInSyncAs : ArrayView → ℕ → Type 0
 IsInSyncAs a role = (k : ℕ) × (m : MemberView) × IsMember a k m × (is_in_sync_as role m.state ≡ true)
+
+-- so is one that is write-mostly, or one that is not
+abbrev pub IsInSyncWith : ArrayView → Bool → ℕ → Type 0
+IsInSyncWith a mostly role = (k : ℕ) × (m : MemberView) × IsMember a k m × (is_in_sync_as role m.state ≡ true) × (is_write_mostly m.superblock ≡ mostly)
+
+-- a chunk of which nobody lists a sector may be read in the role
+abbrev pub IsReadAs : ArrayView → ℕ → Type 0
+IsReadAs a role = IsInSyncWith a false role ⊎ (IsInSyncWith a true role × ((other : ℕ) → other < 32 → IsInSyncWith a false other → ⊥))
 
 -- what was marked stays so
 pub record KeepsMarks (old new : Bitmap) : Type 0 where

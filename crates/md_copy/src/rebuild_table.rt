@@ -7,12 +7,12 @@ ghost use Rattle.md_state.specs.InMemory.{HasChunks};
 ghost use Rattle.md_state.specs.Members.{IsInSync, IsMember, IsPermitted};
 ghost use Rattle.md_array.specs.Consistency.{IsConsistent};
 ghost use Rattle.md_bitmap.specs.Marks.{is_set};
-ghost use Rattle.md_copy.specs.Sources.{HasSources, IsInSyncAs, IsTableOf, is_missing};
+ghost use Rattle.md_copy.specs.Sources.{HasSources, IsReadAs, IsTableOf, is_missing};
 ghost use Rattle.md_copy.specs.Targets.{IsTarget};
 ghost use Rattle.md_copy.specs.Beginning.{RefusesTable};
 
 use crate::fault::RebuildFault;
-use crate::in_sync::roles_in_sync;
+use crate::in_sync::roles_to_read;
 use crate::listed::listed_chunks;
 use crate::target::is_target;
 use md_array::Mirror;
@@ -42,11 +42,11 @@ pub fn table<D: Device + Drop>(
         return Err(RebuildFault::NotSpare);
     }
     let listed = listed_chunks(alloc, mirror)?;
-    let in_sync = roles_in_sync(mirror);
+    let unlisted = roles_to_read(mirror);
     let mut table = Table::new(alloc);
     for chunk in 0..mirror.chunks().count() {
         if lacks(mirror, target, chunk) {
-            table.push(chunk, mask(mirror, &listed, in_sync, chunk))?;
+            table.push(chunk, mask(mirror, &listed, unlisted, chunk))?;
         }
     }
     Ok(table)
@@ -64,18 +64,18 @@ fn lacks<D: Device + Drop>(mirror: &Mirror<D>, k: usize, chunk: u32) -> bool
 }
 
 // The roles in which the chunk may be read. Where no member in sync lists a sector of it, these are the
-// roles of all of them, and no list is searched.
-fn mask<D: Device + Drop>(mirror: &Mirror<D>, listed: &Marks, in_sync: u32, chunk: u32) -> u32
+// same for all such chunks, and no list is searched.
+fn mask<D: Device + Drop>(mirror: &Mirror<D>, listed: &Marks, unlisted: u32, chunk: u32) -> u32
     requires chunk { chunk < div_ceil mirror.now.array.chunks.size mirror.now.array.chunks.sectors }
     requires marks { chunk < listed.now.chunks }
     requires listed { (k : ℕ) (m : MemberView) → IsInSync mirror.now.array k m
         → ListsAny mirror.now.array.chunks chunk m → is_set listed.now.bytes chunk ≡ true }
-    requires in_sync { (role : ℕ) → role < 32
-        → (bit_at in_sync role ≡ 1) ↔ IsInSyncAs mirror.now.array role }
+    requires unlisted { (role : ℕ) → role < 32
+        → (bit_at unlisted role ≡ 1) ↔ IsReadAs mirror.now.array role }
     ensures { HasSources mirror.now.array (record { chunk = chunk; mask = result }) }
 {
     if listed.is_marked(chunk) {
         return mirror.permitted(chunk);
     }
-    in_sync
+    unlisted
 }

@@ -1,5 +1,5 @@
 -- What a new array demands of its devices (this project's own limits). All sizes are in sectors.
-use Rattle.std.specs.Prelude.{◌≡◌, ℕ, ◌+◌, ◌<◌, ◌≤◌, List, length, min, Option, Some, None, slice_get}
+use Rattle.std.specs.Prelude.{◌≡◌, ℕ, ◌+◌, ◌<◌, ◌≤◌, List, length, min, ⊤, Option, Some, None, slice_get}
 use Rattle.md_bitmap.specs.Sound.{IsSound}
 use Rattle.md_create.specs.declared.params.CreateParams.{CreateParams}
 
@@ -24,6 +24,11 @@ abbrev pub IsSize : Option ℕ → List (Option ℕ) → ℕ → Type 0
 IsSize (Some asked) sizes size = size ≡ asked
 IsSize None sizes size = IsLeast sizes (2048 + size)
 
+-- the role that is to be write-mostly, if one is, has a device
+abbrev pub IsWriteMostlyRole : Option ℕ → List (Option ℕ) → Type 0
+IsWriteMostlyRole None sizes = ⊤
+IsWriteMostlyRole (Some role) sizes = (n : ℕ) × HasDevice sizes role n
+
 -- an array of this size can be made of these devices
 pub record IsGeometry (params : CreateParams) (sizes : List (Option ℕ)) (size : ℕ) : Type 0 where
   pub some_roles : 0 < length sizes
@@ -33,3 +38,4 @@ pub record IsGeometry (params : CreateParams) (sizes : List (Option ℕ)) (size 
   pub some_size : 0 < size
   pub room : (role n : ℕ) → HasDevice sizes role n → 2048 + size ≤ n
   pub chunks : IsSound size params.chunk_bytes
+  pub write_mostly : IsWriteMostlyRole params.write_mostly sizes

@@ -1,5 +1,5 @@
 -- What a new array's members say (this project's own choice among what md_p.h and md-bitmap.h allow).
-use Rattle.std.specs.Prelude.{◌≡◌, ℕ, ◌+◌, ◌-◌, ◌^◌, ◌&&◌, Bool, not, nat_lt, List, ◌++◌, length, map, take, replicate, decimal, All, Option, None, option_map, slice_index_or, if◌then◌else◌, is_some, pos}
+use Rattle.std.specs.Prelude.{◌≡◌, ◌==◌, ℕ, ◌+◌, ◌-◌, ◌^◌, ◌&&◌, Bool, not, nat_lt, List, ◌++◌, length, map, take, replicate, decimal, All, Option, Some, None, option_map, slice_index_or, if◌then◌else◌, is_some, pos}
 use Rattle.std.specs.List.{range_with_len, filter_map}
 use Rattle.sha1.specs.Sha1.{sha1}
 use Rattle.uuid.specs.Parts.{with_version, with_variant}
@@ -39,6 +39,11 @@ numbered sizes role = option_map (λ sectors. (role, sectors)) (device_for sizes
 abbrev pub devices_of : List (Option ℕ) → List (ℕ × ℕ)
 devices_of sizes = filter_map (numbered sizes) (range_with_len 0 (length sizes))
 
+-- devflags of the member of a role: WriteMostly1 of md_p.h where that role is to be write-mostly
+abbrev pub flags_for : Option ℕ → ℕ → ℕ
+flags_for None number = 0
+flags_for (Some role) number = if role == number then 1 else 0
+
 -- A superblock of the array, but for its device's number and size. A resync_offset of all ones is a clean array.
 pub record IsNewSuper (params : CreateParams) (sizes : List (Option ℕ)) (size : ℕ) (v : Superblock) : Type 0 where
   pub feature_map : v.feature_map ≡ 1
@@ -62,7 +67,7 @@ pub record IsNewSuper (params : CreateParams) (sizes : List (Option ℕ)) (size 
   pub recovery_offset : v.recovery_offset ≡ 0
   pub cnt_corrected_read : v.cnt_corrected_read ≡ 0
   pub device_uuid : v.device_uuid ≡ device_uuid_of params.set_uuid v.dev_number
-  pub devflags : v.devflags ≡ 0
+  pub devflags : v.devflags ≡ flags_for params.write_mostly v.dev_number
   pub bblog_shift : v.bblog_shift ≡ 0
   pub bblog_size : v.bblog_size ≡ 8
   pub bblog_offset : v.bblog_offset ≡ pos 2024

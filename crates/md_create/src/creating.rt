@@ -2,7 +2,7 @@
 ghost use Rattle.std.specs.Prelude.{◌≡◌, ◌+◌, ◌≤◌, ◌<◌, ℕ, List, Option, IfOk, IsErrOf, length};
 ghost use Rattle.md_bitmap.specs.Sound.{IsSound, chunk_count};
 ghost use Rattle.md_create.specs.Geometry.{HasDevice, IsGeometry};
-ghost use Rattle.md_create.specs.Values.{AreMembers, HasMarks, IsNewHeader, IsNewMember, IsNewSuper, device_of, role_for, roles_of};
+ghost use Rattle.md_create.specs.Values.{AreMembers, HasMarks, IsNewHeader, IsNewMember, IsNewSuper, device_of, flags_for, role_for, roles_of};
 
 use crate::fault::CreateFault;
 use crate::geometry::size_of;
@@ -17,6 +17,9 @@ use std::alloc::{AllocError, Global};
 
 // The event count of a new array.
 const FIRST_EVENTS: u64 = 1;
+
+// `WriteMostly1` of `md_p.h`, in `devflags`.
+const WRITE_MOSTLY: u8 = 1;
 
 // The seconds after which the bitmap's daemon wakes, as `mdadm` has it.
 const DAEMON_SLEEP: u32 = 5;
@@ -135,6 +138,16 @@ fn header(params: &CreateParams, size: u64) -> BitmapHeader
     }
 }
 
+// `devflags` of the member of a role.
+fn flags_for(write_mostly: Option<u32>, role: u32) -> u8
+    ensures { result ≡ flags_for write_mostly role }
+{
+    let Some(mostly) = write_mostly else {
+        return 0;
+    };
+    if mostly == role { WRITE_MOSTLY } else { 0 }
+}
+
 fn superblock(
     params: &CreateParams,
     sizes: &[Option<u64>],
@@ -174,7 +187,7 @@ fn superblock(
         dev_number: role,
         cnt_corrected_read: 0,
         device_uuid: device_uuid(&params.set_uuid, role),
-        devflags: 0,
+        devflags: flags_for(params.write_mostly, role),
         bblog_shift: 0,
         bblog_size: LOG_SECTORS,
         bblog_offset: LOG_OFFSET,

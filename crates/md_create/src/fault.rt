@@ -5,7 +5,8 @@ use thiserror::Error;
 #[derive(Clone, Copy, Debug, PartialEq, Eq, Error)]
 pub enum CreateFault {
     /// There are not 1 to 32 roles, no device is there, the size is 0, a device has fewer than 2048
-    /// sectors and the size, or the chunk size or the number of chunks is out of its limits.
+    /// sectors and the size, the chunk size or the number of chunks is out of its limits, or the role
+    /// that is to be write-mostly has no device.
     #[error("BadGeometry")]
     BadGeometry,
     /// There was no memory.

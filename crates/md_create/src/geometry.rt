@@ -1,6 +1,6 @@
 // Whether an array can be made of the devices.
-ghost use Rattle.std.specs.Prelude.{◌≡◌, ◌≤◌, ◌+◌, ℕ, IfSome, IfNone, Some, None};
-ghost use Rattle.md_create.specs.Geometry.{HasDevice, IsGeometry, IsLeast, lesser_of};
+ghost use Rattle.std.specs.Prelude.{◌≡◌, ◌↔◌, ◌≤◌, ◌+◌, ℕ, true, IfSome, IfNone, Some, None};
+ghost use Rattle.md_create.specs.Geometry.{HasDevice, IsGeometry, IsLeast, IsWriteMostlyRole, lesser_of};
 
 use crate::params::CreateParams;
 use crate::places::DATA_SECTOR;
@@ -36,7 +36,21 @@ pub fn size_of(params: &CreateParams, sizes: &[Option<u64>]) -> Option<u64>
     if !has_few_chunks(size, params.chunk_bytes) {
         return None;
     }
+    if !has_write_mostly(params, sizes) {
+        return None;
+    }
     Some(size)
+}
+
+// Whether the role that is to be write-mostly, if one is, has a device.
+fn has_write_mostly(params: &CreateParams, sizes: &[Option<u64>]) -> bool
+    ensures { (result ≡ true) ↔ IsWriteMostlyRole params.now.write_mostly sizes.now }
+{
+    let Some(role) = params.write_mostly else {
+        return true;
+    };
+    let role = role as usize;
+    role < sizes.len() && sizes[role].is_some()
 }
 
 // The sectors of the least device, where one is there.

@@ -8,7 +8,8 @@ use uuid::Uuid;
 /// What an array is made from, besides its devices. `size` is in sectors; without it the array is as
 /// large as the least device lets it be. The low 40 bits of `ctime` are seconds and the top 24
 /// microseconds. `chunk_bytes` is the chunk size of the bitmap. With `assume_clean` the devices are
-/// taken to agree already, and no chunk is marked.
+/// taken to agree already, and no chunk is marked. The member of the role `write_mostly` is read only
+/// where no other can serve.
 #[derive(Clone, Copy, Debug, PartialEq, Eq)]
 pub struct CreateParams {
     pub set_uuid: Uuid,
@@ -17,6 +18,7 @@ pub struct CreateParams {
     pub size: Option<u64>,
     pub chunk_bytes: u32,
     pub assume_clean: bool,
+    pub write_mostly: Option<u32>,
 }
 
 /// A member that can be laid out on a device: its superblock, and its bitmap's header and marks. Its

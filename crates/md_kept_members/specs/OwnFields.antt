@@ -1,6 +1,6 @@
 -- A member's own fields of its superblock, as they are stored next: those that were read, but for what they say of the
 -- bad block log. That is this project's own.
-use Rattle.std.specs.Prelude.{◌≡◌, ℕ, bit_and, bit_or, List, [], ◌∷◌, if◌then◌else◌, refl}
+use Rattle.std.specs.Prelude.{◌≡◌, ◌==◌, ℕ, Bool, not, bit_and, bit_or, List, [], ◌∷◌, if◌then◌else◌, refl}
 use Rattle.std.proofs.Common.{◌∙◌}
 use Rattle.std.proofs.lemmas.Nat.{and_assoc, and_or_apart}
 use Rattle.md_super.specs.declared.superblock.Superblock.{Superblock}
@@ -39,3 +39,7 @@ stored_next bad v = record v {
 -- the superblock that is kept of a member that was read
 abbrev pub kept_superblock : MemberInfo → Superblock
 kept_superblock info = stored_next info.bad info.superblock
+
+-- the member is read only where no other can serve (WriteMostly1 of md_p.h, "mask for writemostly flag in above")
+abbrev pub is_write_mostly : Superblock → Bool
+is_write_mostly v = not (bit_and v.devflags 1 == 0)

@@ -1,8 +1,9 @@
 -- Where a chunk may be read, found by going through a list of members.
-use Rattle.std.specs.Prelude.{◌≡◌, ℕ, ◌+◌, ◌<◌, true, List, slice_get, Some}
+use Rattle.std.specs.Prelude.{◌≡◌, ◌⊎◌, ℕ, ◌+◌, ◌<◌, Bool, true, false, List, length, slice_get, Some}
 use Rattle.md_bitmap.specs.declared.chunks.Chunks.{Chunks}
 use Rattle.md_bitmap.specs.Chunks.{InChunk}
 use Rattle.md_badblocks.specs.Runs.{IsBad}
+use Rattle.md_kept_members.specs.OwnFields.{is_write_mostly}
 use Rattle.md_kept_members.specs.View.{MemberView}
 use Rattle.md_assembly.specs.States.{is_in_sync_as}
 
@@ -13,14 +14,26 @@ pub record ListsAny (chunks : Chunks) (chunk : ℕ) (m : MemberView) : Type 0 wh
   pub bad : IsBad m.bad (m.superblock.data_offset + sector)
 
 -- the member is in sync in the role, and lists none
-pub record MayRead (chunks : Chunks) (chunk role : ℕ) (m : MemberView) : Type 0 where
+pub record Serves (chunks : Chunks) (chunk role : ℕ) (m : MemberView) : Type 0 where
   pub in_sync : is_in_sync_as role m.state ≡ true
   pub unlisted : ListsAny chunks chunk m → ⊥
 
--- so is one of the first n members
-pub record IsPermittedIn (members : List MemberView) (n : ℕ) (chunks : Chunks) (chunk role : ℕ) : Type 0 where
+-- so is one of the first n members, which is write-mostly or is not
+pub record IsServedIn (members : List MemberView) (n : ℕ) (chunks : Chunks) (chunk : ℕ) (mostly : Bool) (role : ℕ) : Type 0 where
   pub at : ℕ
   pub member : MemberView
   pub early : at < n
   pub listed : slice_get members at ≡ Some member
-  pub may_read : MayRead chunks chunk role member
+  pub serves : Serves chunks chunk role member
+  pub flag : is_write_mostly member.superblock ≡ mostly
+
+-- one of all members is
+abbrev pub IsServedAs : List MemberView → Chunks → ℕ → Bool → ℕ → Type 0
+IsServedAs members chunks chunk mostly role = IsServedIn members (length members) chunks chunk mostly role
+
+-- The chunk may be read in the role: a member that is not write-mostly serves it there; or one that is, and none that is not serves it
+-- in any role. Roles are below 32, as many as bits of a word.
+abbrev pub IsPermittedAs : List MemberView → Chunks → ℕ → ℕ → Type 0
+IsPermittedAs members chunks chunk role =
+    IsServedAs members chunks chunk false role
+    ⊎ (IsServedAs members chunks chunk true role × ((other : ℕ) → other < 32 → IsServedAs members chunks chunk false other → ⊥))

@@ -29,6 +29,7 @@ pub use marking::{needs_marks, united_marks};
 pub use member::Member;
 pub use offsets::{admitted_superblock, drop_old_offsets, note_admitted, with_offset};
 pub use other_in_sync::has_other_in_sync;
+pub use own_fields::is_write_mostly;
 pub use permitting::{lists_any, permitted_roles};
 pub use remembering::{chunking_of, members_of};
 pub use resyncing::is_resynced;

@@ -1,10 +1,13 @@
 // A member's own fields of its superblock, as they are stored next.
 ghost use Rattle.std.specs.Prelude.{◌≡◌};
 ghost use Rattle.md_members.specs.Members.{reads_log};
-ghost use Rattle.md_kept_members.specs.OwnFields.{kept_shift, stored_next, with_list};
+ghost use Rattle.md_kept_members.specs.OwnFields.{is_write_mostly, kept_shift, stored_next, with_list};
 
 use md_badblocks::BadSet;
 use md_super::{FEATURE_BAD_BLOCKS, Superblock};
+
+// `WriteMostly1` of `md_p.h`, in `devflags`.
+const WRITE_MOSTLY: u8 = 1;
 
 /// A superblock beside which these bad blocks were read, as it is stored next.
 pub(crate) fn stored_next(v: Superblock, bad: &BadSet) -> Superblock
@@ -39,4 +42,11 @@ fn reads_log(v: &Superblock) -> bool
     ensures { result ≡ reads_log v.now }
 {
     v.feature_map & FEATURE_BAD_BLOCKS != 0 && v.has_bad_block_log()
+}
+
+/// Whether the member is read only where no other can serve.
+pub fn is_write_mostly(v: &Superblock) -> bool
+    ensures { result ≡ is_write_mostly v.now }
+{
+    v.devflags & WRITE_MOSTLY != 0
 }

@@ -27,12 +27,17 @@ use Rattle.md_state.specs.View.{ArrayView}
 use Rattle.md_passes.specs.Passes.{Copies, IsCopiedIn, ListsAlone, PassView, Permits, ServesAtMost, slots_of}
 use Rattle.md_passes.proofs.Kept.{mapped}
 use Rattle.md_passes.specs.Listed.{AreCopiedBy, CopiesAdd, IsFailedOf, IsOfFailed, ListsFailed, MayServe, PassesEnd, PassesGoOn, ServesAs, most_failures}
+use Rattle.md_passes.proofs.Permitted.{served_plainly_or}
 use Rattle.md_passes.proofs.AllPasses.{all_passes, begin, last, step}
 
-permits : Permits ServesAs MayServe ListsFailed
+pub permits : Permits ServesAs MayServe ListsFailed
 permits = record {
-  served = λ a c r may. may;
-  some = λ a c r serves. (r, serves);
+  served = λ a c r (small, low, (k, m, at, in_sync, unlisted, flag)). (small, low, (k, m, at, in_sync, unlisted));
+  some = λ a c r (small, low, (k, m, at, in_sync, unlisted)).
+      elim (served_plainly_or a c) [
+        | inl (q, below, j, n, there, is, free, plain) ↦ (q, (below, low, (j, n, there, is, free, inl plain)))
+        | inr none ↦ (r, (small, low, (k, m, at, in_sync, unlisted, inr none)))
+      ];
   role = λ a c r serves. serves.0;
 }
 

@@ -18,6 +18,7 @@ none_own : (chunks : Chunks) (m : MemberView) → ListsOwn chunks [] m m
 none_own chunks m = record {
   state = refl;
   offset = refl;
+  flags = refl;
   bad = λ sector. (λ bad. inl bad, λ either. elim either [ inl bad ↦ bad | inr of ↦ let (k, below, is) = of.there in absurd (omega (arith, below)) ]);
 }
 
@@ -29,6 +30,7 @@ own_then : (chunks : Chunks) (first second : List Slot) (m n o : MemberView) →
 own_then chunks first second m n o one two = record {
   state = two.state ∙ one.state;
   offset = two.offset ∙ one.offset;
+  flags = two.flags ∙ one.flags;
   bad = λ sector. (
     λ bad. elim ((two.bad sector).0 bad) [
       | inl was ↦ elim ((one.bad sector).0 was) [ inl before ↦ inl before | inr of ↦ inr (in_first sector of) ]
@@ -110,6 +112,7 @@ module _ (k : ℕ) (slot : Slot) (a b : ArrayView) (notes : NotesBad k slot.chun
   own_one = record {
     state = refl;
     offset = refl;
+    flags = refl;
     bad = λ sector. (
       λ bad. elim ((notes.may.list_is.bad sector).0 bad) [
         | inl was ↦ inl was
@@ -133,6 +136,7 @@ module _ (k : ℕ) (slot : Slot) (a b : ArrayView) (notes : NotesBad k slot.chun
   own_other j x other at = record {
     state = refl;
     offset = refl;
+    flags = refl;
     bad = λ sector. (λ bad. inl bad, λ either. elim either [ inl bad ↦ bad | inr of ↦ absurd (not_it of.slot of.there of.own) ]);
   }
     where

@@ -9,18 +9,19 @@ use Rattle.md_cert.specs.declared.slots.Slot.{Slot}
 use Rattle.md_kept_members.specs.Enrolling.{IsOfChunk}
 use Rattle.md_kept_members.specs.View.{MemberView}
 use Rattle.md_pass.specs.Copied.{AreJoined, AreUncopied, failed_slots}
-use Rattle.md_state.specs.Members.{IsMember, IsPermitted}
+use Rattle.md_state.specs.Members.{IsMember, IsPermitted, IsServed}
 use Rattle.md_state.specs.NotingBad.{NotesBad}
 use Rattle.md_state.specs.View.{ArrayView}
 use Rattle.md_passes.specs.Passes.{AddsPass, AreAllPasses, ArePasses, GoesOn, IsCopiedIn, IsPassOf, PassView, ServesAtMost, slots_of}
 
 -- the chunk is of the array, and the member in sync in the role lists no sector of it
 abbrev pub ServesAs : ArrayView → ℕ → ℕ → Type 0
-ServesAs a chunk role = (role < 32) × (chunk < div_ceil a.chunks.size a.chunks.sectors) × IsPermitted a chunk role
+ServesAs a chunk role = (role < 32) × (chunk < div_ceil a.chunks.size a.chunks.sectors) × IsServed a chunk role
 
--- The roles in which a plan may have it read. So far they are all that serve it.
+-- A plan may have it read in the role: in that of a write-mostly member only where no other serves it. So a later table may have roles of
+-- write-mostly members that an earlier one had not, once the others list the chunk.
 abbrev pub MayServe : ArrayView → ℕ → ℕ → Type 0
-MayServe a chunk role = ServesAs a chunk role
+MayServe a chunk role = (role < 32) × (chunk < div_ceil a.chunks.size a.chunks.sectors) × IsPermitted a chunk role
 
 -- a slot that failed is the member's, and has this sector of its device
 pub record IsOfFailed (chunks : Chunks) (failed : List Slot) (m : MemberView) (sector : ℕ) : Type 0 where
@@ -29,10 +30,12 @@ pub record IsOfFailed (chunks : Chunks) (failed : List Slot) (m : MemberView) (s
   pub own : is_in_sync_as slot.source m.state ≡ true
   pub of_chunk : IsOfChunk chunks m.superblock.data_offset slot.chunk sector
 
--- A member before and after: it lists the chunks of its slots that failed too. Its state and where its data start are as before.
+-- A member before and after: it lists the chunks of its slots that failed too. Its state, where its data start and whether it is write-mostly are
+-- as before.
 pub record ListsOwn (chunks : Chunks) (failed : List Slot) (m n : MemberView) : Type 0 where
   pub state : n.state ≡ m.state
   pub offset : n.superblock.data_offset ≡ m.superblock.data_offset
+  pub flags : n.superblock.devflags ≡ m.superblock.devflags
   pub bad : (sector : ℕ) → IsBad n.bad sector ↔ (IsBad m.bad sector ⊎ IsOfFailed chunks failed m sector)
 
 -- The chunk of each slot that failed came to its source's list, and no list grew otherwise. Records may be due or stored meanwhile, and a target's

@@ -6,6 +6,7 @@ use Rattle.md_badblocks.specs.Runs.{IsBad, RisesFrom}
 use Rattle.md_model.proofs.Puts.{by_same}
 use Rattle.md_assembly.specs.declared.state.MemberState.{MemberState}
 use Rattle.md_array.proofs.Worlds.SectorCopied.{in_sync_as}
+use Rattle.md_kept_members.specs.OwnFields.{is_write_mostly}
 use Rattle.md_kept_members.specs.View.{MemberView}
 use Rattle.md_kept_members.proofs.Members.Roles.{bad_below, none_bad}
 use Rattle.md_assembly.specs.States.{is_in_sync_as}
@@ -81,25 +82,35 @@ only_one v sound role k j is m at as_role =
     sound.roles.one_each j k role m is.member at is.at (in_sync_as role m.state as_role).1 (in_sync_as role is.member.state is.in_sync).1
 
 -- ---- what came of it
-module _ (old : MirrorView) (sound : IsConsistent old) (role k sector sectors : ℕ) (is : IsInRole old.array role k) where
-  -- all of them are listed
-  pub all_listed : (new : MirrorView) → ListsAll is.member sector sectors → (s : ℕ) → sector ≤ s → s < sector + sectors → NotGivenIn role s old new
-  all_listed new all s from below j m at as_role =
+module _ (old : MirrorView) (sound : IsConsistent old) (mostly : Bool) (role k sector sectors : ℕ) (is : IsInRole old.array role k) where
+  -- it is the one in the role
+  the_one : (j : ℕ) (m : MemberView) → IsMember old.array j m → is_in_sync_as role m.state ≡ true → m ≡ is.member
+  the_one j m at as_role =
       let same : j ≡ k = only_one old sound role k j is m at as_role in
-      let it : m ≡ is.member = same_Some m is.member (sym at ∙ subst (λ (i : ℕ). IsMember old.array i is.member) (sym same) is.at) in
-      inl (subst (λ (x : MemberView). Lists x s) (sym it) (all s from below))
+      same_Some m is.member (sym at ∙ subst (λ (i : ℕ). IsMember old.array i is.member) (sym same) is.at)
+
+  -- it is not one of those that are asked
+  pub not_asked : (new : MirrorView) → (is_write_mostly is.member.superblock ≡ mostly → ⊥) → (s : ℕ) → NotGivenIn mostly role s old new
+  not_asked new other s j m at as_role flag =
+      absurd (other (subst (λ (x : MemberView). is_write_mostly x.superblock ≡ mostly) (the_one j m at as_role) flag))
+
+  -- all of them are listed
+  pub all_listed : (new : MirrorView) → ListsAll is.member sector sectors → (s : ℕ) → sector ≤ s → s < sector + sectors → NotGivenIn mostly role s old new
+  all_listed new all s from below j m at as_role flag =
+      inl (subst (λ (x : MemberView). Lists x s) (sym (the_one j m at as_role)) (all s from below))
 
   -- its read failed
-  pub read_failed : (new : MirrorView) → FailsToRead k old new → (s : ℕ) → NotGivenIn role s old new
-  read_failed new fails s j m at as_role =
+  pub read_failed : (new : MirrorView) → FailsToRead k old new → (s : ℕ) → NotGivenIn mostly role s old new
+  read_failed new fails s j m at as_role flag =
       let same : j ≡ k = only_one old sound role k j is m at as_role in
       inr (subst (λ (i : ℕ). AtDevice i old.disks new.disks (λ d e. d.honest ≡ true → d.failures < e.failures)) (sym same) fails.failed)
 
   -- it gave them
-  pub gives_in : (new : MirrorView) (bytes : List ℕ) → length bytes / 512 ≡ sectors → (ListsSome is.member sector sectors → ⊥) → ReadsData k sector bytes old new → GivesIn role sector bytes old new
-  gives_in new bytes count none reads = record {
+  pub gives_in : (new : MirrorView) (bytes : List ℕ) → length bytes / 512 ≡ sectors → is_write_mostly is.member.superblock ≡ mostly → (ListsSome is.member sector sectors → ⊥) → ReadsData k sector bytes old new → GivesIn mostly role sector bytes old new
+  gives_in new bytes count flag none reads = record {
     from = k;
     is = is;
+    flag = flag;
     unlisted = λ s from below lists. none (s, lists, from, omega arith);
     holds = λ d m at there honest.
         let low = slice_get_within old.disks k d at in

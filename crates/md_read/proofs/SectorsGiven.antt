@@ -1,5 +1,5 @@
 -- A run of sectors that was given is so in each of them.
-use Rattle.std.proofs.Common.{◌≡◌, ℕ, ◌+◌, ◌*◌, ◌/◌, ◌%◌, ◌<◌, ◌≤◌, List, ◌++◌, length, take, drop, refl, sym, ap, ◌∙◌, arith, length-append, length-drop, drop-drop}
+use Rattle.std.proofs.Common.{◌≡◌, ◌⊎◌, ◌×◌, Bool, true, false, inl, inr, subst, ℕ, ◌+◌, ◌*◌, ◌/◌, ◌%◌, ◌<◌, ◌≤◌, List, ◌++◌, length, take, drop, refl, sym, ap, ◌∙◌, arith, length-append, length-drop, drop-drop}
 use Rattle.std.proofs.lemmas.List.{drop-append-le, drop-take, drop_at, length-take-le, take-append-le}
 use Rattle.std.proofs.lemmas.Slice.{take-put_mid_below}
 use borrow.Rule.Slice.PartMut.{put_mid}
@@ -7,7 +7,7 @@ use Rattle.md_device.proofs.Splices.{length-part, part_part}
 use Rattle.md_device.specs.Device.{held}
 use Rattle.md_device.specs.Splice.{part}
 use Rattle.md_state.specs.View.{MirrorView}
-use Rattle.md_read.specs.Reading.{GivesRun, IsGiven}
+use Rattle.md_read.specs.Reading.{GivesRun, IsAskedBefore, IsGiven, NotGivenIn}
 
 -- ---- parts of lists
 part_front : (xs ys : List ℕ) (at n : ℕ) → at + n ≤ length xs → part (xs ++ ys) at n ≡ part xs at n
@@ -56,18 +56,31 @@ module _ (old new : MirrorView) (sector : ℕ) (bytes : List ℕ) (run : GivesRu
   long : length (held bytes i 512) ≡ 512
   long = length-part bytes (512 * i) 512 (omega arith)
 
+  -- whoever is asked before the one that gave them
+  asked_before : (own mostly : Bool) (earlier role : ℕ) → IsAskedBefore mostly earlier own role → ((mostly ≡ own) × (earlier < role)) ⊎ ((mostly ≡ false) × (own ≡ true))
+  asked_before false false earlier role less = inl (refl, less)
+  asked_before true true earlier role less = inl (refl, less)
+  asked_before true false earlier role all = inr (refl, refl)
+  asked_before false true earlier role none = absurd none
+
+  asked_first : (mostly : Bool) (earlier : ℕ) → IsAskedBefore mostly earlier run.mostly run.given.role → NotGivenIn mostly earlier (sector + i) old new
+  asked_first mostly earlier before = elim (asked_before run.mostly mostly earlier run.given.role before) [
+    | inl own ↦ subst (λ b. NotGivenIn b earlier (sector + i) old new) (sym own.0) (run.given.lowest earlier own.1 (sector + i) (omega arith) (omega arith))
+    | inr other ↦ subst (λ b. NotGivenIn b earlier (sector + i) old new) (sym other.0) (run.others other.1 earlier (sector + i) (omega arith) (omega arith))
+  ]
+
   pub sector_given : IsGiven (sector + i) (held bytes i 512) old new
   sector_given = record {
-    from = run.gives.from;
-    role = run.role;
-    is = run.gives.is;
-    unlisted = run.gives.unlisted (sector + i) (omega arith) (omega arith);
+    from = run.given.gives.from;
+    role = run.given.role;
+    is = run.given.gives.is;
+    unlisted = run.given.gives.unlisted (sector + i) (omega arith) (omega arith);
     holds = λ d m at there honest.
         let start : ℕ = m.superblock.data_offset + sector in
         let moved : 512 * (m.superblock.data_offset + (sector + i)) ≡ 512 * start + 512 * i = omega arith in
         ap (λ (n : ℕ). held d.content (m.superblock.data_offset + (sector + i)) n) long
         ∙ ap (λ (n : ℕ). part d.content n 512) moved
         ∙ sym (part_part d.content (512 * start) (length bytes) (512 * i) 512 (omega arith))
-        ∙ ap (λ (xs : List ℕ). part xs (512 * i) 512) (run.gives.holds d m at there honest);
-    lowest = λ lower below. run.lowest lower below (sector + i) (omega arith) (omega arith);
+        ∙ ap (λ (xs : List ℕ). part xs (512 * i) 512) (run.given.gives.holds d m at there honest);
+    first = λ mostly earlier before. asked_first mostly earlier (subst (λ b. IsAskedBefore mostly earlier b run.given.role) run.given.gives.flag before);
   }

@@ -11,7 +11,8 @@ use md_array::Mirror;
 use md_device::Device;
 
 /// Fills `buf` with what the array has from this sector on. Each sector is read from the member in sync of
-/// the lowest role that does not list it, and from the next where that fails. Sectors that are read at once
+/// the lowest role that does not list it, and from the next where that fails; members that are write-mostly
+/// come after all others. Sectors that are read at once
 /// are passed over at once: those around a bad one come from another member, where that gives all of them.
 /// Nothing is written, and no memory is taken. At `Unreadable(s)` the sectors before s stand in `buf`, and any bytes after them.
 pub fn read<D: Device + Drop>(

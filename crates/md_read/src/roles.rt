@@ -1,6 +1,7 @@
 // Reading sectors of the array in one role.
 ghost use Rattle.std.specs.Prelude.{◌≡◌, ◌+◌, ◌*◌, ◌/◌, ◌%◌, ◌<◌, ◌≤◌, ◌↔◌, ℕ, MatchOption, length, true};
 ghost use Rattle.std.specs.List.{list_any};
+ghost use Rattle.md_kept_members.specs.OwnFields.{is_write_mostly};
 ghost use Rattle.md_kept_members.specs.View.{MemberView};
 ghost use Rattle.md_assembly.specs.States.{is_in_sync_as};
 ghost use Rattle.md_state.specs.Members.{IsMember};
@@ -11,13 +12,14 @@ ghost use Rattle.md_read.specs.Reading.{HasRole, IsInRole, TriesRole, has_all};
 use md_array::Mirror;
 use md_badblocks::Run;
 use md_device::Device;
+use md_kept_members::is_write_mostly;
 
 /// What came of reading some sectors in a role.
 #[derive(Clone, Copy, Debug, PartialEq, Eq)]
 pub(crate) enum Answer {
     /// The member in sync in the role gave all of them.
     All,
-    /// It lists all of them, or there is none.
+    /// It lists all of them, or there is none, or it is not one of those that are asked.
     Nothing,
     /// A read of them failed. Of fewer it may give some.
     Failed,
@@ -35,6 +37,14 @@ fn member_in<D: Device + Drop>(mirror: &Mirror<D>, role: u32) -> Option<usize>
         }
     }
     None
+}
+
+// Whether member k is write-mostly as those that are asked.
+fn is_asked<D: Device + Drop>(mirror: &Mirror<D>, mostly: bool, k: usize) -> bool
+    requires within { k < length mirror.now.array.members }
+    ensures { (m : MemberView) → IsMember mirror.now.array k m → (result ≡ true) ↔ (is_write_mostly m.superblock ≡ mostly) }
+{
+    is_write_mostly(mirror.own(k)) == mostly
 }
 
 // Whether member k lists one of these sectors of the array. No list has sectors from 2^54 on.
@@ -74,9 +84,11 @@ fn one_has(runs: &[Run], start: u64, len: u64) -> bool
         && start - run.start <= run.len - len)
 }
 
-/// Reads these sectors of the array from the member in sync in a role, if it lists none of them.
+/// Reads these sectors of the array from the member in sync in a role, if it lists none of them, and is
+/// write-mostly as is asked.
 pub(crate) fn read_in<D: Device + Drop>(
     mirror: &mut Mirror<D>,
+    mostly: bool,
     role: u32,
     sector: u64,
     buf: &mut [u8],
@@ -85,12 +97,15 @@ pub(crate) fn read_in<D: Device + Drop>(
     requires whole { length buf.old % 512 ≡ 0 }
     requires inside { sector + length buf.old / 512 ≤ mirror.old.array.chunks.size }
     requires sound { IsConsistent mirror.old }
-    ensures { TriesRole role sector buf.old buf.new mirror.old mirror.new result }
+    ensures { TriesRole mostly role sector buf.old buf.new mirror.old mirror.new result }
 {
     let sectors = buf.len() as u64 / 512;
     let Some(k) = member_in(mirror, role) else {
         return Answer::Nothing;
     };
+    if !is_asked(mirror, mostly, k) {
+        return Answer::Nothing;
+    }
     if lists_some(mirror, k, sector, sectors) {
         if lists_all(mirror, k, sector, sectors) {
             return Answer::Nothing;

@@ -1,16 +1,15 @@
 // Reading runs of sectors, each from one member.
 ghost use Rattle.std.specs.Prelude.{◌≡◌, ◌+◌, ◌*◌, ◌/◌, ◌%◌, ◌^◌, ◌<◌, ◌≤◌, MatchOption, MatchResult, length};
 ghost use Rattle.md_array.specs.Consistency.{IsConsistent};
-ghost use Rattle.md_read.specs.Reading.{GivesAll, GivesFront, GivesNoFront, IsGivenUpTo, TriesRoles};
+ghost use Rattle.md_read.specs.Reading.{GivesAll, GivesFront, GivesNoFront, IsGivenUpTo, TriesGroup, TriesRoles, gives_none};
 
 use crate::fault::UnreadFault;
 use crate::roles::{Answer, read_in};
 use md_array::Mirror;
 use md_device::Device;
 
-// Reads these sectors in the lowest role whose member gives them. Where a read of them fails the next roles
-// are asked for all of them, so that a bad area takes one failed read and not one for each of its sectors. A
-// member that lists some of them is not passed over: the others come from it.
+// Reads these sectors from a member that is not write-mostly, and from one that is only where none of those
+// gives them.
 fn read_run<D: Device + Drop>(mirror: &mut Mirror<D>, sector: u64, buf: &mut [u8]) -> Answer
     requires some { 512 ≤ length buf.old }
     requires whole { length buf.old % 512 ≡ 0 }
@@ -18,9 +17,47 @@ fn read_run<D: Device + Drop>(mirror: &mut Mirror<D>, sector: u64, buf: &mut [u8
     requires sound { IsConsistent mirror.old }
     ensures { TriesRoles sector buf.old buf.new mirror.old mirror.new result }
 {
+    let first = read_group(mirror, false, sector, buf);
+    if !is_none(first) {
+        return first;
+    }
+    match read_group(mirror, true, sector, buf) {
+        Answer::All => Answer::All,
+        Answer::Nothing => first,
+        Answer::Failed => Answer::Failed,
+        Answer::Perhaps => Answer::Perhaps,
+    }
+}
+
+// Whether none of the sectors was given.
+fn is_none(answer: Answer) -> bool
+    ensures { result ≡ gives_none answer }
+{
+    match answer {
+        Answer::All | Answer::Perhaps => false,
+        Answer::Nothing | Answer::Failed => true,
+    }
+}
+
+// Reads these sectors in the lowest role whose member gives them, of those that are write-mostly or of the
+// others. Where a read of them fails the next roles are asked for all of them, so that a bad area takes one
+// failed read and not one for each of its sectors. A member that lists some of them is not passed over: the
+// others come from it.
+fn read_group<D: Device + Drop>(
+    mirror: &mut Mirror<D>,
+    mostly: bool,
+    sector: u64,
+    buf: &mut [u8],
+) -> Answer
+    requires some { 512 ≤ length buf.old }
+    requires whole { length buf.old % 512 ≡ 0 }
+    requires inside { sector + length buf.old / 512 ≤ mirror.old.array.chunks.size }
+    requires sound { IsConsistent mirror.old }
+    ensures { TriesGroup mostly sector buf.old buf.new mirror.old mirror.new result }
+{
     let mut has_failed = false;
     for role in 0..mirror.shared().raid_disks {
-        match read_in(mirror, role, sector, buf) {
+        match read_in(mirror, mostly, role, sector, buf) {
             Answer::All => return Answer::All,
             Answer::Perhaps => return Answer::Perhaps,
             Answer::Failed => has_failed = true,

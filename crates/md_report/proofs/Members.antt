@@ -7,6 +7,7 @@ use Rattle.std.proofs.lemmas.Option.{get_or_from_slice_get, same_Some}
 use Rattle.md_super.specs.declared.superblock.Superblock.{Superblock}
 use Rattle.md_assembly.specs.declared.state.MemberState.{MemberState}
 use Rattle.md_assembly.specs.States.{is_in_sync}
+use Rattle.md_kept_members.specs.OwnFields.{is_write_mostly}
 use Rattle.md_kept_members.specs.View.{MemberView}
 use Rattle.md_state.specs.Missing.{is_re_added}
 use Rattle.md_state.specs.View.{ArrayView}
@@ -37,14 +38,14 @@ no_more ms k state lt e is =
     count_by_more_no (λ m. is_in_sync m.state) ms k found.0 lt (ap is_in_sync (state_there ms k found.0 state found.1 e) ∙ is)
 
 -- the line of one more member, whose index is n
-pub line_more : (a : ArrayView) (index : ℕ) (ms : List MemberView) (k n : ℕ) (v : Superblock) (state : MemberState) (re_added : Bool) → n ≡ index + k → k < length ms → option_map (λ m. m.superblock) (slice_get ms k) ≡ Some v → option_map (λ m. m.state) (slice_get ms k) ≡ Some state → ((m : MemberView) → slice_get ms k ≡ Some m → re_added ≡ is_re_added a m) → member_lines a index (take k ms) ++ member_text n v.dev_number state re_added ≡ member_lines a index (take (k + 1) ms)
+pub line_more : (a : ArrayView) (index : ℕ) (ms : List MemberView) (k n : ℕ) (v : Superblock) (state : MemberState) (re_added mostly : Bool) → n ≡ index + k → k < length ms → option_map (λ m. m.superblock) (slice_get ms k) ≡ Some v → option_map (λ m. m.state) (slice_get ms k) ≡ Some state → ((m : MemberView) → slice_get ms k ≡ Some m → re_added ≡ is_re_added a m) → mostly ≡ is_write_mostly v → member_lines a index (take k ms) ++ member_text n v.dev_number state re_added mostly ≡ member_lines a index (take (k + 1) ms)
 unfolding member_lines
-line_more a index [] k n v state re_added place lt own its was = absurd (omega arith)
-line_more a index (m ∷ ms) zero n v state re_added place lt own its was =
+line_more a index [] k n v state re_added mostly place lt own its was flag = absurd (omega arith)
+line_more a index (m ∷ ms) zero n v state re_added mostly place lt own its was flag =
     let here : n ≡ index = omega arith in
-    rw (here, ← same_Some m.superblock v own, ← same_Some m.state state its, was m refl) (sym (append-nil _))
-line_more a index (m ∷ ms) (suc k) n v state re_added place lt own its was =
+    rw (flag, here, ← same_Some m.superblock v own, ← same_Some m.state state its, was m refl) (sym (append-nil _))
+line_more a index (m ∷ ms) (suc k) n v state re_added mostly place lt own its was flag =
     let after : suc k + 1 ≡ suc (k + 1) = omega arith in
-    let rest = line_more a (index + 1) ms k n v state re_added (omega arith) (omega arith) own its was in
-    let first = member_text index m.superblock.dev_number m.state (is_re_added a m) in
-    rw after (append_assoc first (member_lines a (index + 1) (take k ms)) (member_text n v.dev_number state re_added) ∙ ap (λ (t : List ℕ). first ++ t) rest)
+    let rest = line_more a (index + 1) ms k n v state re_added mostly (omega arith) (omega arith) own its was flag in
+    let first = member_text index m.superblock.dev_number m.state (is_re_added a m) (is_write_mostly m.superblock) in
+    rw after (append_assoc first (member_lines a (index + 1) (take k ms)) (member_text n v.dev_number state re_added mostly) ∙ ap (λ (t : List ℕ). first ++ t) rest)

@@ -7,6 +7,7 @@ use Rattle.md_assembly.specs.declared.state.MemberState.{MemberState}
 use Rattle.md_assembly.specs.declared.state.MemberState.TheVariants.{InSync, Recovering, Stale, Spare, Faulty}
 use Rattle.md_assembly.specs.States.{role_of}
 use Rattle.md_bitmap.specs.Marks.{Bitmap}
+use Rattle.md_kept_members.specs.OwnFields.{is_write_mostly}
 use Rattle.md_kept_members.specs.View.{MemberView}
 use Rattle.md_state.specs.Members.{is_degraded}
 use Rattle.md_state.specs.Missing.{is_re_added}
@@ -59,16 +60,16 @@ standing_text Faulty re_added = codes "faulty"
 abbrev pub place_text : List ℕ → List ℕ
 place_text text = right_aligned 6 text ++ codes " "
 
--- the line of a member: its index, its device number, its role and what it is called
-unfoldable pub member_text : ℕ → ℕ → MemberState → Bool → List ℕ
-member_text index dev_number state re_added =
+-- the line of a member: its index, its device number, its role, what it is called, and whether it is write-mostly
+unfoldable pub member_text : ℕ → ℕ → MemberState → Bool → Bool → List ℕ
+member_text index dev_number state re_added mostly =
     place_text (decimal index) ++ place_text (decimal dev_number) ++ place_text (role_text_or_dash (role_of state))
-    ++ standing_text state re_added ++ codes "\n"
+    ++ standing_text state re_added ++ text_where mostly (codes ", write-mostly") ++ codes "\n"
 
 -- the lines of members of an array, counted from an index on
 unfoldable pub member_lines : ArrayView → ℕ → List MemberView → List ℕ
 member_lines a index [] = []
-member_lines a index (m ∷ ms) = member_text index m.superblock.dev_number m.state (is_re_added a m) ++ member_lines a (index + 1) ms
+member_lines a index (m ∷ ms) = member_text index m.superblock.dev_number m.state (is_re_added a m) (is_write_mostly m.superblock) ++ member_lines a (index + 1) ms
 
 -- the whole report
 unfoldable pub detail_text : ArrayView → List ℕ

@@ -55,7 +55,7 @@ fn state<S: Sink, D: Device + Drop>(out: &mut S, mirror: &Mirror<D>) -> Result<(
     three_part_line(out, "State          ", cleanness, degraded, resync)
 }
 
-fn text_where(holds: bool, text: &[u8]) -> &[u8]
+pub(crate) fn text_where(holds: bool, text: &[u8]) -> &[u8]
     ensures { result.now ≡ text_where holds text.now }
 {
     if holds { text } else { &[] }

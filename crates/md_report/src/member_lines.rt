@@ -2,13 +2,15 @@
 ghost use Rattle.std.specs.Prelude.{◌≡◌, codes};
 ghost use Rattle.md_examine.specs.Sink.{PutsOrFails};
 ghost use Rattle.md_assembly.specs.States.{role_of};
-ghost use Rattle.md_report.specs.DetailReport.{member_lines, member_text, place_text, role_text_or_dash, standing_text};
+ghost use Rattle.md_report.specs.DetailReport.{member_lines, member_text, place_text, role_text_or_dash, standing_text, text_where};
 
+use crate::detail_report::text_where;
 use itoa::Integer;
 use md_array::Mirror;
 use md_assembly::MemberState;
 use md_device::Device;
 use md_examine::{Sink, SinkFault, right_aligned, right_aligned_number};
+use md_kept_members::is_write_mostly;
 
 // The places of a number.
 const PLACES: usize = 6;
@@ -21,8 +23,16 @@ pub(crate) fn member_lines<S: Sink, D: Device + Drop>(
     ensures { PutsOrFails S.contents S.failed out.old out.new (member_lines mirror.now.array 0 mirror.now.array.members) result }
 {
     for k in 0..mirror.members() {
-        let dev_number = mirror.own(k).dev_number;
-        member_line(out, k, dev_number, mirror.state(k), mirror.re_added(k))?;
+        let own = mirror.own(k);
+        let mostly = is_write_mostly(own);
+        member_line(
+            out,
+            k,
+            own.dev_number,
+            mirror.state(k),
+            mirror.re_added(k),
+            mostly,
+        )?;
     }
     Ok(())
 }
@@ -33,15 +43,23 @@ fn member_line<S: Sink>(
     dev_number: u32,
     state: MemberState,
     re_added: bool,
+    mostly: bool,
 ) -> Result<(), SinkFault>
-    ensures { PutsOrFails S.contents S.failed out.old out.new (member_text index dev_number state re_added) result }
+    ensures { PutsOrFails S.contents S.failed out.old out.new (member_text index dev_number state re_added mostly) result }
 {
     number(out, index)?;
     number(out, dev_number)?;
     role(out, state)?;
     standing(out, state, re_added)?;
+    flag(out, mostly)?;
     out.put(b"\n")?;
     Ok(())
+}
+
+fn flag<S: Sink>(out: &mut S, mostly: bool) -> Result<(), SinkFault>
+    ensures { PutsOrFails S.contents S.failed out.old out.new (text_where mostly (codes ", write-mostly")) result }
+{
+    out.put(text_where(mostly, b", write-mostly"))
 }
 
 #[tactic(auto, using(md_examine::proofs::Puts::puts_then))]

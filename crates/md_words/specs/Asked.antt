@@ -23,6 +23,7 @@ pub record Options : Type 0 where
   pub bitmap_chunk : ℕ
   pub size : Option ℕ
   pub time : ℕ
+  pub write_mostly : Option ℕ  -- the role of the member that is read only where no other can serve
   pub assume_clean : Bool
 
 -- what is to be done with the images
@@ -62,6 +63,7 @@ options_in rows = record {
   bitmap_chunk = number_in 32 (codes "bitmap-chunk") rows;
   size = option_map (number_of 64) (first_of (codes "size") rows);
   time = number_in 64 (codes "time") rows;
+  write_mostly = option_map (number_of 32) (first_of (codes "write-mostly") rows);
   assume_clean = bytes_eq (text_in (codes "assume-clean") rows) (codes "true");
 }
 
@@ -134,6 +136,7 @@ options_of o = record {
   bitmap_chunk = o.bitmap_chunk;
   size = o.size;
   time = o.time;
+  write_mostly = o.write_mostly;
   assume_clean = o.assume_clean;
 }
 

@@ -80,10 +80,12 @@ with_optional a =
     (with_rule
     (with_rule
     (with_rule
+    (with_rule
     (with_rule a (by_default (codes "md") (value_rule (codes "name"))))
     (by_default (codes "65536") (u32_rule (codes "bitmap-chunk"))))
     (u64_rule (codes "size")))
     (by_default (codes "0") (u64_rule (codes "time"))))
+    (u32_rule (codes "write-mostly")))
     (flag_rule (codes "assume-clean"))
 
 abbrev pub create_app : App

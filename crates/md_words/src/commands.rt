@@ -138,6 +138,15 @@ const TIME: OptionWords = OptionWords {
     default: Some("0"),
 };
 
+const WRITE_MOSTLY: OptionWords = OptionWords {
+    name: "write-mostly",
+    value: "ROLE",
+    help: "The role of a member that is read only where no other can serve",
+    kind: Kind::U32,
+    required: false,
+    default: None,
+};
+
 const ASSUME_CLEAN: OptionWords = OptionWords {
     name: "assume-clean",
     value: "",
@@ -183,6 +192,7 @@ pub(crate) const ARRAY_COMMANDS: [CommandWords; 4] = [
             BITMAP_CHUNK,
             SIZE,
             TIME,
+            WRITE_MOSTLY,
             ASSUME_CLEAN,
         ],
     },

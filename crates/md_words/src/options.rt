@@ -14,5 +14,7 @@ pub struct CreateOptions<'a> {
     pub size: Option<u64>,
     /// In seconds since 1970, as a superblock has it.
     pub time: u64,
+    /// The role of the member that is read only where no other can serve.
+    pub write_mostly: Option<u32>,
     pub assume_clean: bool,
 }

@@ -49,6 +49,13 @@ fn size_of(found: &ArgMatches<'_>) -> Option<u64>
     Some(u64_of(text))
 }
 
+fn write_mostly_of(found: &ArgMatches<'_>) -> Option<u32>
+    ensures { result ≡ option_map (number_of 32) (first_of (codes "write-mostly") (rows_of (found_of found.now))) }
+{
+    let text = found.get_str("write-mostly")?;
+    Some(u32_of(text))
+}
+
 fn create_options<'a>(found: &ArgMatches<'a>) -> CreateOptions<'a>
     ensures { options_of result ≡ options_in (rows_of (found_of found.now)) }
 {
@@ -60,6 +67,7 @@ fn create_options<'a>(found: &ArgMatches<'a>) -> CreateOptions<'a>
         bitmap_chunk: u32_of(text_of(found, "bitmap-chunk")),
         size: size_of(found),
         time: u64_of(text_of(found, "time")),
+        write_mostly: write_mostly_of(found),
         assume_clean: text_of(found, "assume-clean") == "true",
     }
 }

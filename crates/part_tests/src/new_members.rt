@@ -20,6 +20,7 @@ fn params(size: Option<u64>, chunk_bytes: u32) -> CreateParams {
         size,
         chunk_bytes,
         assume_clean: true,
+        write_mostly: None,
     }
 }
 

@@ -44,7 +44,7 @@ returns-in-Nothing g c =
     let long = run_long c.loop-sectors.buf c.loop-sectors.sectors (let same = c.loop-sectors.invariant.long in omega arith) in
     record {
       rests = rests_then old mid new rests c.in-Nothing.ensures.0;
-      none = λ role. not_given_earlier old mid new rests c.in-Nothing.ensures.0 role c.args.sector (c.in-Nothing.ensures.1 role c.args.sector (omega arith) (omega arith));
+      none = λ mostly role. not_given_earlier old mid new rests c.in-Nothing.ensures.0 mostly role c.args.sector (c.in-Nothing.ensures.1 mostly role c.args.sector (omega arith) (omega arith));
     }
 
 pub returns-then-sectors-eq1 : goal.returns-then-sectors-eq1
@@ -58,7 +58,7 @@ returns-then-sectors-eq1 g c =
     let long = run_long c.loop-sectors.buf c.loop-sectors.sectors (let same = c.loop-sectors.invariant.long in omega arith) in
     record {
       rests = rests_then old mid new rests c.in-Failed.ensures.0;
-      none = λ role. not_given_earlier old mid new rests c.in-Failed.ensures.0 role c.args.sector (c.in-Failed.ensures.1 role c.args.sector (omega arith) (omega arith));
+      none = λ mostly role. not_given_earlier old mid new rests c.in-Failed.ensures.0 mostly role c.args.sector (c.in-Failed.ensures.1 mostly role c.args.sector (omega arith) (omega arith));
     }
 
 pub loop-sectors-preserved : goal.loop-sectors-preserved

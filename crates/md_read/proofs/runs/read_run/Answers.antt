@@ -1,67 +1,34 @@
-use Rattle.std.proofs.Common.{◌≡◌, ◌∙◌, ◌+◌, ◌/◌, ◌<◌, ◌≤◌, ℕ, length, arith, sym, ap, subst}
-use Rattle.md_super.specs.declared.superblock.Superblock.{Superblock}
-use Rattle.md_array.proofs.General.Resting.{rests_sound}
-use Rattle.md_laws.proofs.Runs.Rests.{rests_then}
-use Rattle.md_read.specs.Reading.{NotGivenIn}
-use Rattle.md_state.specs.Rests.{Rests}
-use Rattle.md_read.proofs.RunsRead.{NoneBelow, given_run, none_in_any, none_more}
+use Rattle.std.proofs.Common.{◌≡◌, true, false, length, sym}
+use Rattle.md_read.specs.Reading.{gives_none}
+use Rattle.md_read.proofs.RunsRead.{first_group, neither_group, second_group}
 use Rattle.md_read.proofs.runs.read_run.Goals as goal
-use Rattle.md_read.proofs.runs.read_run.Goals.{in-Failed, in-Nothing}
+
+pub returns-then-not-is_none : goal.returns-then-not-is_none
+returns-then-not-is_none g c =
+    let first = c.read_group-first in
+    let some : gives_none first.result ≡ false = let told = c.is_none.ensures in let out = c.if-is_none.false in cc in
+    first_group c.args.sector c.args.buf.now first.new.buf c.args.mirror.now first.new.mirror first.result some first.ensures
 
 pub returns-in-All : goal.returns-in-All
 returns-in-All g c =
-    let old = c.args.mirror.now in
-    let mid = c.loop-role.mirror in
-    let new = c.read_in.new.mirror in
-    let bytes = c.read_in.new.buf in
-    let so_far = c.loop-role.invariant.none in
-    let same : length bytes ≡ length c.args.buf.now = c.read_in.auto.buf ∙ c.loop-role.invariant.long in (
-      rests_then old mid new so_far.rests c.in-All.ensures.0,
-      given_run c.loop-role.role c.args.sector old mid new bytes (subst (λ (n : ℕ). NoneBelow c.loop-role.role c.args.sector (n / 512) old mid) (sym same) so_far) c.in-All.ensures.0 c.in-All.ensures.1,
-    )
+    let first = c.read_group-first in
+    let none : gives_none first.result ≡ true = let told = c.is_none.ensures in let out = c.if-is_none.true in cc in
+    second_group c.args.sector c.args.buf.now first.new.buf first.auto.buf c.args.mirror.now first.new.mirror c.read_group.new.mirror first.result none first.ensures c.read_group.new.buf _ c.read_group.auto.buf c.in-All.ensures
+
+pub returns-in-Nothing : goal.returns-in-Nothing
+returns-in-Nothing g c =
+    let first = c.read_group-first in
+    let none : gives_none first.result ≡ true = let told = c.is_none.ensures in let out = c.if-is_none.true in cc in
+    neither_group c.args.sector c.args.buf.now first.new.buf first.auto.buf c.args.mirror.now first.new.mirror c.read_group.new.mirror first.result none first.ensures c.read_group.new.buf c.in-Nothing.ensures
+
+pub returns-in-Failed : goal.returns-in-Failed
+returns-in-Failed g c =
+    let first = c.read_group-first in
+    let none : gives_none first.result ≡ true = let told = c.is_none.ensures in let out = c.if-is_none.true in cc in
+    second_group c.args.sector c.args.buf.now first.new.buf first.auto.buf c.args.mirror.now first.new.mirror c.read_group.new.mirror first.result none first.ensures c.read_group.new.buf _ c.read_group.auto.buf c.in-Failed.ensures
 
 pub returns-in-Perhaps : goal.returns-in-Perhaps
 returns-in-Perhaps g c =
-    let so_far = c.loop-role.invariant.none in
-    let long = c.loop-role.invariant.long in
-    let many = c.in-Perhaps.ensures.1 in (
-      rests_then c.args.mirror.now c.loop-role.mirror c.read_in.new.mirror so_far.rests c.in-Perhaps.ensures.0,
-      subst (λ (n : ℕ). 1 < n / 512) long many,
-    )
-
-pub loop-role-preserved : goal.loop-role-preserved
-loop-role-preserved g c =
-    let old = c.args.mirror.now in
-    let mid = c.loop-role.mirror in
-    let new = c.read_in.new.mirror in
-    let role = c.loop-role.role in
-    let sectors : ℕ = length c.args.buf.now / 512 in
-    let long = c.loop-role.invariant.long in
-    let same : length c.loop-role.buf / 512 ≡ sectors = ap (λ n. n / 512) long in
-    let gave_none : Rests mid new × ((s : ℕ) → c.args.sector ≤ s → s < c.args.sector + sectors → NotGivenIn role s mid new) = elim c.match-read_in.branch [
-      | in-Failed w ↦ (w.in-Failed.ensures.0, λ s from below. w.in-Failed.ensures.1 s from (omega arith))
-      | in-Nothing w ↦ (w.in-Nothing.ensures.0, λ s from below. w.in-Nothing.ensures.1 s from (omega arith))
-    ] in
-    record {
-      none = none_more role c.args.sector old mid new sectors c.loop-role.invariant.none gave_none.0 gave_none.1;
-      sound = rests_sound mid new gave_none.0 c.loop-role.invariant.sound;
-      long = c.read_in.auto.buf ∙ long;
-    }
-
-pub returns-then-has_failed : goal.returns-then-has_failed
-returns-then-has_failed g c =
-    let so_far = c.loop-role.invariant.none in
-    let past = c.loop-role-test.false in
-    let disks = ap (λ (v : Superblock). v.raid_disks) c.shared.ensures in (
-      so_far.rests,
-      none_in_any c.args.mirror.now c.loop-role.mirror c.requires.sound c.loop-role.role c.args.sector (length c.args.buf.now / 512) (omega arith) so_far,
-    )
-
-pub returns : goal.returns
-returns g c =
-    let so_far = c.loop-role.invariant.none in
-    let past = c.loop-role-test.false in
-    let disks = ap (λ (v : Superblock). v.raid_disks) c.shared.ensures in (
-      so_far.rests,
-      none_in_any c.args.mirror.now c.loop-role.mirror c.requires.sound c.loop-role.role c.args.sector (length c.args.buf.now / 512) (omega arith) so_far,
-    )
+    let first = c.read_group-first in
+    let none : gives_none first.result ≡ true = let told = c.is_none.ensures in let out = c.if-is_none.true in cc in
+    second_group c.args.sector c.args.buf.now first.new.buf first.auto.buf c.args.mirror.now first.new.mirror c.read_group.new.mirror first.result none first.ensures c.read_group.new.buf _ c.read_group.auto.buf c.in-Perhaps.ensures

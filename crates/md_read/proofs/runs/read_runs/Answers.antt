@@ -61,7 +61,7 @@ returns-in_default g c =
       rests = rests_then old mid new rests later;
       from = omega arith;
       below = let whole = so_far.whole in let all = c.requires.whole in omega arith;
-      none = λ role. not_given_earlier old mid new rests later role at (c.in_default.ensures.none role);
+      none = λ mostly role. not_given_earlier old mid new rests later mostly role at (c.in_default.ensures.none mostly role);
       earlier = λ i below.
           let early : i < done / 512 = omega arith in
           subst (λ (xs : List ℕ). IsGiven (c.args.sector + i) xs old new) (sym (held_before done rest was bytes (omega arith) i early))

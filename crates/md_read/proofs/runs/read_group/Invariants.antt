@@ -1,12 +1,12 @@
 use Rattle.std.proofs.Common.{◌≡◌, ◌/◌, length}
 use Rattle.md_array.specs.Consistency.{IsConsistent}
 use Rattle.md_read.proofs.RunsRead.{NoneBelow}
-use Rattle.md_read.proofs.runs.read_run.Given as goal
+use Rattle.md_read.proofs.runs.read_group.Given as goal
 
 abbrev pub invariant-loop-role : goal.invariant-loop-role
 invariant-loop-role g l =
     record {
-      none : NoneBelow l.role l.sector (length l.fn.buf / 512) l.fn.mirror l.mirror;
+      none : NoneBelow l.mostly l.role l.sector (length l.fn.buf / 512) l.fn.mirror l.mirror;
       sound : IsConsistent l.mirror;
       long : length l.buf ≡ length l.fn.buf;
     }
