@@ -1,6 +1,6 @@
 -- What a stop leaves within a whole call that is a list of events: it comes within one of them, from the mirror before that event to the one
 -- after it, of which the step's own contract says what may be left.
-use Rattle.std.specs.Prelude.{◌≡◌, ◌⊎◌, ℕ, ◌+◌, List, [], ◌∷◌, ◌++◌, slice_get, Option, Some}
+use Rattle.std.specs.Prelude.{◌≡◌, ◌⊎◌, ℕ, ◌+◌, List, [], ◌∷◌, ◌++◌, drop, length, slice_get, Option, Some}
 use Rattle.std.proofs.Common.{inl, inr}
 use Rattle.md_kept_members.specs.View.{MemberView}
 use Rattle.md_model.specs.Events.{Event}
@@ -12,12 +12,12 @@ use Rattle.md_array.specs.Events.{IsOldNewOrNone}
 use Rattle.md_array.specs.InTurn.{AllLeftWhole, AllOf, HaltsAt, InTurn, Leads, LeftWhole, Requests}
 use Rattle.md_array.specs.Listing.{HasNoShift}
 use Rattle.md_array.specs.Recording.{super_write}
-use Rattle.md_array.specs.Worlds.{block_on}
+use Rattle.md_array.specs.Worlds.{AreHonest, block_on}
 use Rattle.md_laws.specs.Left.{IsLeft, contents_of}
 use Rattle.md_laws.specs.Lives.{MirrorLife}
 use Rattle.md_laws.specs.Runs.{IsStart, MirrorRun, Moment}
 use Rattle.md_laws.specs.StopsReadAs.{EndsInFirstSector}
-use Rattle.md_laws.specs.StopsWithin.{DiffersInFirst, MayAllBeLeft}
+use Rattle.md_laws.specs.StopsWithin.{DiffersInFirst, MayAllBeLeft, MayBeLeft}
 
 -- It holds at each moment of each life.
 abbrev pub AtMoments : (Moment → Type 0) → Type 0
@@ -87,9 +87,16 @@ abbrev pub BeginsWhole : Event → Type 0
 BeginsWhole (Event.Begin n r) = HasWholeSectors r
 BeginsWhole e = Unit {0}
 
--- So is each that is in flight, and each that one of these events begins, as `begin` asks of its caller.
+-- these events write the request's bytes
+abbrev pub IsWrittenBy : ℕ → List Event → Type 0
+IsWrittenBy n [] = ⊥
+IsWrittenBy n (Event.WriteMember m k ∷ es) = (m ≡ n) ⊎ IsWrittenBy n es
+IsWrittenBy n (Event.WriteMemberFails m k ∷ es) = (m ≡ n) ⊎ IsWrittenBy n es
+IsWrittenBy n (e ∷ es) = IsWrittenBy n es
+
+-- So is each that is in flight and whose bytes they write, and each that they begin, as `begin` asks of its caller.
 pub record AreWhole (es : List Event) (requests : Requests) : Type 0 where
-  pub in_flight : (n : ℕ) (r : Request) → requests n ≡ Some r → HasWholeSectors r
+  pub in_flight : (n : ℕ) (r : Request) → IsWrittenBy n es → requests n ≡ Some r → HasWholeSectors r
   pub begun : AllOf BeginsWhole es
 
 -- ---- what it leaves
@@ -121,7 +128,33 @@ IsLeftHalting e old left = contents_of left ≡ contents_of old.disks
 abbrev pub StopsAtHalts : Type 0
 StopsAtHalts =
     AtMoments (λ t.
-    ((es : List Event) (previous : Option Event) (mid : MirrorView) (between : Requests) (leads : Leads previous t.mirror t.requests es mid between) → AreWhole es t.requests
+    ((es : List Event) (previous : Option Event) (mid : MirrorView) (between : Requests) (leads : Leads previous t.mirror t.requests es mid between)
     → AllLeftWhole es previous t.mirror t.requests (λ m r. (m ≡ mid) × (r ≡ between)) leads
-    → (failing : Event) (new : MirrorView) → HaltsAt mid between failing new
+    → (failing : Event) (new : MirrorView) → HaltsAt mid between failing new → AreWhole (es ++ failing ∷ []) t.requests
     → (left : List Disk) → MayAllBeLeft mid.disks new.disks (contents_of left) → IsLeftHalting failing mid left → IsStopOf es t left))
+
+-- ---- each stop of which a device tells
+-- The devices stand where they stood, and each tells of the stops: so at the steps of a write, of a stop and of a resync. Of a copy the write of
+-- a run of sectors tells.
+abbrev pub IsToldOf : Event → Type 0
+IsToldOf (Event.Copy from k s) = ⊥
+IsToldOf (Event.Remove k) = ⊥
+IsToldOf (Event.Add number device) = ⊥
+IsToldOf (Event.ReAdd own device after) = ⊥
+IsToldOf (Event.SpoilTarget k) = ⊥
+IsToldOf (Event.Enrol k role listed) = ⊥
+IsToldOf e = Unit {0}
+
+-- Within one of these events a stop might have left this on device k.
+abbrev pub IsLeftInOne : (es : List Event) (previous : Option Event) (old : MirrorView) (before : Requests) (Then : MirrorView → Requests → Type 0)
+    → InTurn previous old before es Then → ℕ → List ℕ → Type 0
+IsLeftInOne [] previous old before Then t k c = ⊥
+IsLeftInOne (e ∷ es) previous old before Then t k c = AtDevice k old.disks t.0.disks (λ d x. MayBeLeft d x c) ⊎ IsLeftInOne es (Some e) t.0 t.1 Then t.5 k c
+
+-- Whatever a device tells, after such a call, that a stop since before it might have left there, a stop within one of its events might have left.
+abbrev pub StopsAreTold : Type 0
+StopsAreTold =
+    (es : List Event) (previous : Option Event) (old new : MirrorView) (before after : Requests) (leads : Leads previous old before es new after) → AllOf IsToldOf es
+    → AreHonest old.disks → AllLeftWhole es previous old before (λ m r. (m ≡ new) × (r ≡ after)) leads
+    → (k i : ℕ) (d x : Disk) (c : List ℕ) → slice_get old.disks k ≡ Some d → slice_get new.disks k ≡ Some x → slice_get (drop (length d.stops) x.stops) i ≡ Some c
+    → IsLeftInOne es previous old before (λ m r. (m ≡ new) × (r ≡ after)) leads k c

@@ -1,6 +1,6 @@
 //! What holds of calls that are lists of events.
 
-ghost use Rattle.md_laws.specs.StoppedCalls.{StopsAtHalts, StopsAtSteps};
+ghost use Rattle.md_laws.specs.StoppedCalls.{StopsAreTold, StopsAtHalts, StopsAtSteps};
 ghost use Rattle.md_laws.specs.StoppedCopies.{StopsAtCopies};
 ghost use Rattle.md_laws.specs.StopsWithin.{StopsAtLog};
 ghost use Rattle.md_laws.specs.ReadInTurn.{ReadingCallsAreRuns};
@@ -80,4 +80,7 @@ pub fn stopped_copies()
 pub fn stopped_calls()
     ensures steps { StopsAtSteps }
     ensures halts { StopsAtHalts }
+
+    // What the devices tell of stops after such a call, they tell of one of its steps.
+    ensures told { StopsAreTold }
 {}
