@@ -6,6 +6,8 @@ pub mod AloneChanged
 pub mod AsFailed
 -- What a stop within a step leaves.
 pub mod AtSteps
+-- A request that is in flight lies within the array, and what is asked of a write of its bytes, the model asks.
+pub mod DataInFlight
 -- A member that came into sync, and what a stop within that call leaves of it, once its superblock is written.
 pub mod Enrolled
 -- A superblock that ends within its first sector is read by that sector.
@@ -22,8 +24,12 @@ pub mod ReadAs
 pub mod Spoiled
 -- A stop within a copy of sectors leaves some of them copied: those are events, one after another.
 pub mod StoppedCopies
+-- What a stop leaves within a whole call, a stop of a run leaves.
+pub mod StoppedCalls
 -- A member that `re_add` has taken back, and what a stop within that call leaves of it.
 pub mod TakenBack
+-- What a device tells of stops after a call that is a list of events, it tells of one of them.
+pub mod ToldStops
 -- What a stop within `add` leaves.
 pub mod WithinAdd
 -- A stop within `store_log` is before it or after it, where the log changes in its first sector alone.

@@ -1,6 +1,6 @@
 -- What a stop leaves of a mirror's devices: it comes between two calls or within one, of which its own contract says what may be
 -- left (`MayAllBeLeft`).
-use Rattle.std.specs.Prelude.{◌≡◌, ◌⊎◌, ℕ, ◌<◌, Bool, true, false, List, [], ◌∷◌, ◌++◌, length, map, Option, slice_get, Some, None}
+use Rattle.std.specs.Prelude.{◌≡◌, ◌⊎◌, ℕ, ◌%◌, ◌<◌, Bool, true, false, List, [], ◌∷◌, ◌++◌, length, map, Option, slice_get, Some, None}
 use Rattle.md_assembly.specs.States.{is_recorded}
 use Rattle.md_bitmap.specs.Marks.{Bitmap}
 use Rattle.md_members.specs.Areas.{bitmap_sectors}
@@ -10,7 +10,7 @@ use Rattle.md_kept_members.specs.View.{MemberView}
 use Rattle.md_state.specs.View.{Disk, MirrorView}
 use Rattle.md_state.specs.DiskWrites.{AtDevice}
 use Rattle.md_state.specs.Members.{IsMember}
-use Rattle.md_state.specs.Requests.{IsPending, among}
+use Rattle.md_state.specs.Requests.{among}
 use Rattle.md_state.specs.StoringMarks.{StoresMarkSector}
 use Rattle.md_state.specs.WritingMember.{FailsToWrite, HaltsWritingTo, WritesTo}
 use Rattle.md_array.specs.Admitting.{Admits, FailsToAdmit}
@@ -42,7 +42,7 @@ pub record IsLeftWriting (t : Moment) (left : List Disk) : Type 0 where
   pub request : PendingView
   pub others : ℕ → Option Request
   pub in_flight : t.requests ≡ among request others
-  pub pending : IsPending t.mirror.array request
+  pub whole : length request.bytes % 512 ≡ 0  -- of whole sectors, as `begin` asks
   pub on : ℕ
   pub next : MirrorView
   pub then : PendingView  -- the request after it

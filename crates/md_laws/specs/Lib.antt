@@ -25,6 +25,8 @@ pub mod StopsReadAs
 pub mod Spoiled
 -- What a stop leaves within the copy of a run of sectors.
 pub mod StoppedCopies
+-- What a stop leaves within a whole call.
+pub mod StoppedCalls
 -- A life of a mirror of one member: what the laws on lives ask can be met.
 pub mod SmallLife
 -- What a member that failed still has of the array's content.

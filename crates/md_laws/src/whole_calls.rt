@@ -1,5 +1,6 @@
 //! What holds of calls that are lists of events.
 
+ghost use Rattle.md_laws.specs.StoppedCalls.{StopsAreTold, StopsAtHalts, StopsAtSteps};
 ghost use Rattle.md_laws.specs.StoppedCopies.{StopsAtCopies};
 ghost use Rattle.md_laws.specs.StopsWithin.{StopsAtLog};
 ghost use Rattle.md_laws.specs.ReadInTurn.{ReadingCallsAreRuns};
@@ -69,4 +70,17 @@ pub fn every_reading_call()
 /// leaves, of another list.
 pub fn stopped_copies()
     ensures { StopsAtCopies }
+{}
+
+/// What a stop leaves within a whole call, before, in or after each write of each of its steps, a stop of a run leaves:
+/// of the first of its events, or of none. So `every_run` says of it what the next opening finds. It is so of every
+/// list of steps, and of one that ends by a write that halted the mirror, as `write`, `stop` and the storing of a rebuild
+/// do them. Within a superblock's write it is asked that the old one, the new one or none was left, unless it is done and
+/// neither is longer than a sector. Of events behind the stop nothing is asked.
+pub fn stopped_calls()
+    ensures steps { StopsAtSteps }
+    ensures halts { StopsAtHalts }
+
+    // What the devices tell of stops after such a call, they tell of one of its steps.
+    ensures told { StopsAreTold }
 {}

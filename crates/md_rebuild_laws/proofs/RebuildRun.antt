@@ -34,7 +34,8 @@ use Rattle.md_copy.proofs.PassesTold.{filled_ready}
 use Rattle.md_copy.proofs.RebuildLeads.{before_of, begin_holds, storing_before}
 use Rattle.md_rebuild_laws.specs.RebuildRuns.{LogsUnshifted, RebuildIsARun, RebuildRunsOn, RunsTo}
 use Rattle.md_rebuild_laws.specs.RebuiltInLife.{HeldWhatItHad}
-use Rattle.md_rebuild_laws.specs.StoppedRebuilds.{HasFilled, IsStopEnrolled, StopsAnyhow, StopsEnrolled, StopsIn, StopsInRebuild, StopsSettling}
+use Rattle.md_laws.specs.StoppedCalls.{StopsIn}
+use Rattle.md_rebuild_laws.specs.StoppedRebuilds.{HasFilled, IsStopEnrolled, StopsAnyhow, StopsEnrolled, StopsInRebuild, StopsSettling}
 use Rattle.md_rebuild_laws.proofs.EnrolledRun.{at_end, enrolled_run_with}
 use Rattle.md_rebuild_laws.proofs.HeldAtEnrol.{is_held}
 use Rattle.md_rebuild_laws.proofs.HeldOnDisks.{has_content}
@@ -172,7 +173,7 @@ module _ (target : ℕ) (kept orphans : Bitmap) (t : Moment) (at : IsSteadyAt t)
 
     pub settling_stop : AllLeftWhole g.events None new t.requests Then turn → (left : List Disk) → StopsIn g.events None new t.requests Then turn left → IsStopEnrolled target t content left
     settling_stop whole left stop =
-        let x = (stops_in IsStoring on_members g.events None last Then turn g.steps then_steady.sound.honest whole left stop).after in
+        let x = (stops_in IsStoring on_members g.events None last Then turn g.steps then_steady.sound whole left stop).after in
         let others = all_such IsStoring (IsBeforeEnrol target) (storing_before target) x.events x.steps in
         let all = with_them x.events others x.at x.run in
         record {

@@ -22,11 +22,12 @@ use Rattle.md_array.specs.Worlds.{AreHonest, block_on}
 use Rattle.md_array.proofs.Steps.Turns.{all_on, all_such}
 use Rattle.md_laws.specs.Left.{IsLeft, IsLeftEnrolled, IsLeftEnrolling, IsLeftFilling, IsLeftPreparing, IsLeftRecording, IsLeftTargeted, IsLeftTargeting, contents_of}
 use Rattle.md_laws.specs.Runs.{Moment, then_as}
+use Rattle.md_laws.specs.StoppedCalls.{IsLeftWhole, IsUnshifted, StopsIn}
 use Rattle.md_laws.specs.StopsReadAs.{ReadsAs}
 use Rattle.md_laws.specs.StopsWithin.{MayAllBeLeft}
-use Rattle.md_laws.proofs.Runs.Moments.{run_then}
+use Rattle.md_laws.proofs.Runs.Moments.{IsSoundAt, run_then}
 use Rattle.md_laws.proofs.Runs.Rests.{at_once, at_rest}
-use Rattle.md_laws.proofs.Stops.WithinLog.{stops_at_log}
+use Rattle.md_laws.proofs.Stops.StoppedCalls.{GoesSo, WritesWhole, sound_then, within_event}
 use Rattle.md_laws.proofs.Stops.WithinTarget.{recovering_recorded}
 use Rattle.md_metadata.specs.Going.{GoesOn, only_others}
 use Rattle.md_metadata.specs.Storing.{IsStoring}
@@ -46,10 +47,9 @@ use Rattle.md_copy.proofs.PassRecorded.{filled_ready, recorded_ready}
 use Rattle.md_copy.proofs.Readied.{recovering_admitted, spare_is, spare_rebuilt}
 use Rattle.md_copy.proofs.ReadyStill.{IsCalm, IsOnMembers, ready_filled, ready_noted, stays_all}
 use Rattle.md_copy.proofs.RebuildLeads.{begin_holds, filled, listing_before, storing_before}
-use Rattle.md_copy.proofs.StoringKeeps.{due_within}
 use Rattle.md_copy.proofs.TargetStates.{target_rebuilt}
 use Rattle.md_copy.proofs.UnfinishedEnrol.{prepares}
-use Rattle.md_rebuild_laws.specs.StoppedRebuilds.{HasFilled, HasPassed, IsLeftWhole, IsStopAfter, IsStopBefore, IsSuperWhole, StopsAdmitting, StopsAtCheckpoint, StopsAtFailedCheckpoint, StopsCopying, StopsEnrolling, StopsFilling, StopsFirst, StopsIn, StopsInListed, StopsInPass, StopsInPasses, StopsListing, StopsPassUnrecorded, StopsReadying, StopsRecording, StopsStoring, StopsUnadmitted, StopsUnenrolled, StopsUnrecorded}
+use Rattle.md_rebuild_laws.specs.StoppedRebuilds.{HasFilled, HasPassed, IsStopAfter, IsStopBefore, IsSuperWhole, StopsAdmitting, StopsAtCheckpoint, StopsAtFailedCheckpoint, StopsCopying, StopsEnrolling, StopsFilling, StopsFirst, StopsInListed, StopsInPass, StopsInPasses, StopsListing, StopsPassUnrecorded, StopsReadying, StopsRecording, StopsStoring, StopsUnadmitted, StopsUnenrolled, StopsUnrecorded}
 use Rattle.md_rebuild_laws.proofs.RebuildSteps.{Before, ComesUnspoiled, IfSome, admission_comes, checkpoint_comes, checkpoint_unspoils, fill_comes, filled_comes, if_some, listed_comes, noted_comes, noting_comes, passes_come, ready_comes, recorded_comes, so_last, some_map, stored_comes, stores_come, then_unspoiled, un_listed, un_noted, unshifted_if, until_last, whole_stores}
 use Rattle.md_rebuild_laws.proofs.Steady.{Comes, IsSteadyAt, comes_then, end, end_steady, steady_at}
 use Rattle.md_rebuild_laws.proofs.Unshifted.{Unshifted, unshifted_ready, whole_lists}
@@ -80,21 +80,15 @@ stays_out old new keeps k m n at_m at_n out = by_test (is_in_sync n.state)
     (λ off. off)
 
 -- ---- while marks, logs and superblocks are stored
-within_storing : (e : Event) (previous : Option Event) (t : Moment) (mid : MirrorView) (between : Requests) → IsOnMembers e → IsInOrder previous t.mirror.array e → Did t.mirror t.requests e mid between → AreHonest t.mirror.disks
-    → (left : List Disk) → MayAllBeLeft t.mirror.disks mid.disks (contents_of left) → IsLeftWhole e t.mirror left → IsLeft t left ⊎ (contents_of left ≡ contents_of mid.disks)
-within_storing (Event.Record k) previous t mid between of order did honest left within whole =
-    inl (inr (inr (inr (inl (record { on = k; next = mid; call = inl did.1; within = within; super = whole })))))
-within_storing (Event.RecordFails k) previous t mid between of order did honest left within whole =
-    inl (inr (inr (inr (inl (record { on = k; next = mid; call = inr (inl did.1); within = within; super = whole })))))
-within_storing (Event.StoreMarks k b) previous t mid between of order did honest left within whole =
-    let r = did.1 in
-    inl (inr (inl (record { on = k; block = b; inside = due_within t.mirror.array k b r.member r.may.in_sync order; next = mid; call = r; within = within })))
-within_storing (Event.StoreLog k listed) previous t mid between of order did honest left within whole =
-    let r = did.1 in
-    elim (stops_at_log k t.mirror mid (contents_of left) honest r (λ d at. whole r.member r.in_sync.member d at) within) [ inl before ↦ inl (inl before) | inr after ↦ inr after ]
-within_storing (Event.StoreMarksFails k b) previous t mid between of order did honest left within whole = absurd whole
-within_storing (Event.StoreLogFails k) previous t mid between of order did honest left within whole = absurd whole
-within_storing e previous t mid between of order did honest left within whole = absurd of
+-- no bytes of a request are written
+no_data : (e : Event) (requests : Requests) → IsOnMembers e → WritesWhole e requests
+no_data (Event.WriteMember n k) requests of = absurd of
+no_data (Event.WriteMemberFails n k) requests of = absurd of
+no_data e requests of = tt
+
+no_shift : (e : Event) (old new : MirrorView) → LeftWhole old e new → IsUnshifted e old
+no_shift (Event.StoreLog k listed) old new whole = whole
+no_shift e old new whole = tt
 
 -- a stop of such a run, and who is in sync then
 pub record StopsKeeping (Of : Event → Type 0) (t : Moment) (left : List Disk) : Type 0 where
@@ -109,16 +103,25 @@ keeps_event e previous t mid between of order did happens i y on =
     let x = stays.each i y on in
     (x.0, x.1)
 
+stops_here : (Of : Event → Type 0) (e : Event) (of : Of e) (t : Moment) (left : List Disk) → ((so : GoesSo e t.mirror t.requests left) → StaysOut t.mirror.array so.mid.array)
+    → IsLeft t left ⊎ GoesSo e t.mirror t.requests left → StopsKeeping Of t left
+stops_here Of e of t left keeps (inl is_left) = record { after = record { events = []; steps = tt; at = t; run = at_rest t; is_left = is_left }; keeps = λ i y on. (y, on) }
+stops_here Of e of t left keeps (inr so) =
+    let next = then_as t e so.mid so.between in
+    record {
+      after = record {
+        events = e ∷ [];
+        steps = (of, tt);
+        at = next;
+        run = (so.mid, so.between, at_once t.mirror so.mid t.requests so.between e so.does, at_rest next);
+        is_left = inl so.contents;
+      };
+      keeps = keeps so;
+    }
+
 module _ (Of : Event → Type 0) (e : Event) (of : Of e) (t : Moment) (mid : MirrorView) (between : Requests) (does : Does t.mirror t.requests e mid between) (keeps : StaysOut t.mirror.array mid.array) where
   abbrev next : Moment
   next = then_as t e mid between
-
-  stops_here : (left : List Disk) → IsLeft t left ⊎ (contents_of left ≡ contents_of mid.disks) → StopsKeeping Of t left
-  stops_here left (inl is_left) = record { after = record { events = []; steps = tt; at = t; run = at_rest t; is_left = is_left }; keeps = λ i y on. (y, on) }
-  stops_here left (inr done) = record {
-    after = record { events = e ∷ []; steps = (of, tt); at = next; run = (mid, between, at_once t.mirror mid t.requests between e does, at_rest next); is_left = inl done };
-    keeps = keeps;
-  }
 
   stops_later : (left : List Disk) → StopsKeeping Of next left → StopsKeeping Of t left
   stops_later left rest =
@@ -129,15 +132,15 @@ module _ (Of : Event → Type 0) (e : Event) (of : Of e) (t : Moment) (mid : Mir
       }
 
 pub stops_in : (Of : Event → Type 0) → ((e : Event) → Of e → IsOnMembers e) → (es : List Event) (previous : Option Event) (t : Moment) (Then : MirrorView → Requests → Type 0) (turn : InTurn previous t.mirror t.requests es Then)
-    → AllOf Of es → AreHonest t.mirror.disks → AllLeftWhole es previous t.mirror t.requests Then turn → (left : List Disk) → StopsIn es previous t.mirror t.requests Then turn left → StopsKeeping Of t left
-stops_in Of is [] previous t Then turn of honest whole left stop = absurd stop
-stops_in Of is (e ∷ es) previous t Then turn of honest whole left (inl here) =
-    stops_here Of e of.0 t turn.0 turn.1 (turn.4 honest whole.0) (keeps_event e previous t turn.0 turn.1 (is e of.0) turn.2 turn.3 turn.4) left
-    (within_storing e previous t turn.0 turn.1 (is e of.0) turn.2 turn.3 honest left here.0 here.1)
-stops_in Of is (e ∷ es) previous t Then turn of honest whole left (inr later) =
-    let does = turn.4 honest whole.0 in
+    → AllOf Of es → IsSoundAt t → AllLeftWhole es previous t.mirror t.requests Then turn → (left : List Disk) → StopsIn es previous t.mirror t.requests Then turn left → StopsKeeping Of t left
+stops_in Of is [] previous t Then turn of at whole left stop = absurd stop
+stops_in Of is (e ∷ es) previous t Then turn of at whole left (inl here) =
+    stops_here Of e of.0 t left (λ so. keeps_event e previous t so.mid so.between (is e of.0) turn.2 so.did (λ _ _. so.does))
+    (within_event previous t at turn.0 turn.1 left here.0 e turn.2 turn.3 turn.4 (no_data e t.requests (is e of.0)) (no_shift e t.mirror turn.0 whole.0) here.1)
+stops_in Of is (e ∷ es) previous t Then turn of at whole left (inr later) =
+    let does = turn.4 at.honest whole.0 in
     stops_later Of e of.0 t turn.0 turn.1 does (keeps_event e previous t turn.0 turn.1 (is e of.0) turn.2 turn.3 turn.4) left
-    (stops_in Of is es (Some e) (then_as t e turn.0 turn.1) Then turn.5 of.1 does.honest whole.1 left later)
+    (stops_in Of is es (Some e) (then_as t e turn.0 turn.1) Then turn.5 of.1 (sound_then t e turn.0 turn.1 at does) whole.1 left later)
 
 pub on_members : (e : Event) → IsStoring e → IsOnMembers e
 on_members (Event.Record k) of = tt
@@ -227,7 +230,7 @@ first_stop target t at out new first in_flight left stop =
     let goes = first.stores.goes in
     let Then : MirrorView → Requests → Type 0 = λ v r. (v ≡ new) × (r ≡ t.requests) in
     keeping_stop IsStoring target (storing_before target) t out left
-    (stops_in IsStoring on_members goes.events None t Then (goes.leads None t.requests in_flight) goes.steps at.sound.honest (whole_stores t new goes first.stores.unfailing in_flight) left stop)
+    (stops_in IsStoring on_members goes.events None t Then (goes.leads None t.requests in_flight) goes.steps at.sound (whole_stores t new goes first.stores.unfailing in_flight) left stop)
 
 -- ---- while the target tells of itself
 module _ (target : ℕ) (t : Moment) (at : IsSteadyAt t) where
@@ -307,7 +310,7 @@ module _ (target : ℕ) (t : Moment) (at : IsSteadyAt t) where
         let was : s.before ≡ e.member = same_Some s.before e.member (sym s.member ∙ e.at) in
         ap (λ (x : MemberView). is_in_sync x.state) s.same ∙ ap (λ (x : MemberView). is_in_sync x.state) was ∙ rebuilt_out e.member.state (target_rebuilt t.mirror.array e.member e.may.settled.has_target.target)
 
-    pub unrecorded_stop : (left : List Disk) → MayAllBeLeft why.mid.disks new.disks (contents_of left) → IsLeftWhole (Event.Record target) why.mid left → IsStopBefore target t left
+    pub unrecorded_stop : (left : List Disk) → MayAllBeLeft why.mid.disks new.disks (contents_of left) → IsLeftWhole (Event.RecordTargetFails target) why.mid new left → IsStopBefore target t left
     unrecorded_stop left may whole =
         later_stop target t first_done left
         (at_stop target (end first_done) out_first left
@@ -410,7 +413,7 @@ pub lists_stop : (target : ℕ) (t : Moment) → IsSteadyAt t → IsOut target t
     → (left : List Disk) → StopsIn g.events None t.mirror t.requests (λ m r. (m ≡ last) × (r ≡ t.requests)) (g.leads None t.requests in_flight) left → IsStopBefore target t left
 lists_stop target t at out last g in_flight whole left stop =
     keeping_stop IsStoringList target (listing_before target) t out left
-    (stops_in IsStoringList list_on_members g.events None t (λ v r. (v ≡ last) × (r ≡ t.requests)) (g.leads None t.requests in_flight) g.steps at.sound.honest whole left stop)
+    (stops_in IsStoringList list_on_members g.events None t (λ v r. (v ≡ last) × (r ≡ t.requests)) (g.leads None t.requests in_flight) g.steps at.sound whole left stop)
 
 -- once they are noted
 noted_out : (target : ℕ) (chunks : List ℕ) (p : PassView) (before after : Bitmap) (v x noted : MirrorView) → HoldsSoFar target v before chunks → RecordsPass target chunks p before after v x → NotesLists p.failed x noted → IsOut target noted
@@ -543,7 +546,7 @@ module _ (target : ℕ) (kept orphans : Bitmap) (t : Moment) (at : IsSteadyAt t)
 pub stops_storing : StopsStoring
 stops_storing before m start es rest final t life new g in_flight whole left stop =
     let at = steady_at before m start es rest final t life in
-    let x = stops_in IsStoring on_members g.events None t (λ m r. (m ≡ new) × (r ≡ t.requests)) (g.leads None t.requests in_flight) g.steps at.sound.honest whole left stop in
+    let x = stops_in IsStoring on_members g.events None t (λ m r. (m ≡ new) × (r ≡ t.requests)) (g.leads None t.requests in_flight) g.steps at.sound whole left stop in
     record { after = x.after; out = stays_out t.mirror.array x.after.at.mirror.array x.keeps }
 
 pub stops_unrecorded : StopsUnrecorded

@@ -23,7 +23,7 @@ use Rattle.md_copy.specs.RebuildEvents.{IsBeforeEnrol}
 use Rattle.md_copy.specs.Rebuilding.{Begins, LacksMemory, LacksRoom}
 use Rattle.md_copy.specs.Rebuilt.{failed_of}
 use Rattle.md_rebuild_laws.specs.RebuildRuns.{AtMomentsWith, LogsUnshifted, RunsTo}
-use Rattle.md_rebuild_laws.specs.StoppedRebuilds.{AtMoments, HasPassed, IsStopBefore, IsStopUnfinished, IsSuperWhole}
+use Rattle.md_rebuild_laws.specs.StoppedRebuilds.{HasPassed, IsStopBefore, IsStopUnfinished, IsSuperWhole}
 
 -- Memory was refused, or a log had no room, with these chunks copied. So far it came.
 pub record HasStopped (target : ℕ) (copied : Bitmap) (old stopped : MirrorView) : Type 0 where

@@ -1,6 +1,6 @@
 -- What a stop within a rebuild leaves. It comes within one of its steps, from the mirror before that step to the one after it, of which the
 -- step's own contract says what may be left.
-use Rattle.std.specs.Prelude.{◌≡◌, ◌⊎◌, ℕ, true, false, List, [], ◌∷◌, slice_get, Option, Some, None}
+use Rattle.std.specs.Prelude.{◌≡◌, ◌⊎◌, ℕ, true, false, List, [], ◌∷◌, None}
 use Rattle.std.proofs.Common.{inl, inr}
 use Rattle.md_assembly.specs.States.{is_in_sync, is_recovering}
 use Rattle.md_bitmap.specs.Marks.{Bitmap}
@@ -17,14 +17,12 @@ use Rattle.md_array.specs.Checkpoints.{Checkpoints, FailsToCheckpoint}
 use Rattle.md_array.specs.Consistency.{IsConsistent}
 use Rattle.md_array.specs.Enrolling.{Enrols, FailsToEnrol}
 use Rattle.md_array.specs.Enrolments.{FailsAtSuper}
-use Rattle.md_array.specs.Events.{IsOldNewOrNone}
-use Rattle.md_array.specs.InTurn.{AllLeftWhole, AllOf, InTurn, Requests}
-use Rattle.md_array.specs.Recording.{super_write}
+use Rattle.md_array.specs.InTurn.{AllLeftWhole, AllOf, Requests}
 use Rattle.md_array.specs.Worlds.{block_on}
 use Rattle.md_laws.specs.Left.{IsLeft, contents_of}
-use Rattle.md_laws.specs.Lives.{MirrorLife}
-use Rattle.md_laws.specs.Runs.{IsStart, MirrorRun, MirrorRunWith, Moment}
-use Rattle.md_laws.specs.StopsWithin.{DiffersInFirst, MayAllBeLeft}
+use Rattle.md_laws.specs.Runs.{MirrorRun, MirrorRunWith, Moment}
+use Rattle.md_laws.specs.StoppedCalls.{AtMoments, IsLeftWhole, StopsIn}
+use Rattle.md_laws.specs.StopsWithin.{MayAllBeLeft}
 use Rattle.md_metadata.specs.Going.{GoesOn, only_others}
 use Rattle.md_metadata.specs.Storing.{IsStoring}
 use Rattle.md_copy.specs.declared.rebuilt.Rebuilt.{Rebuilt}
@@ -39,12 +37,6 @@ use Rattle.md_copy.specs.Rebuilt.{failed_of}
 use Rattle.md_copy.specs.Sources.{missing_chunks}
 use Rattle.md_rebuild_laws.specs.RebuildRuns.{AtMomentsWith, LogsUnshifted}
 use Rattle.md_rebuild_laws.specs.RebuiltInLife.{HeldWhatItHad}
-
--- It holds at each moment of each life.
-abbrev pub AtMoments : (Moment → Type 0) → Type 0
-AtMoments Holds =
-    (before : List Disk) (m : MirrorView) → IsStart before m
-    → (es : List Event) (rest : List (List Event)) (final : MirrorView) (t : Moment) → MirrorLife m es rest final t → Holds t
 
 -- ---- what it leaves
 -- It is a stop of a run of events of this kind: they lead from this moment to one from which on a stop leaves that. So the laws over lives
@@ -77,25 +69,7 @@ pub record IsStopStoring (t : Moment) (left : List Disk) : Type 0 where
   pub after : IsStopAfter IsStoring t left
   pub out : (k : ℕ) (m n : MemberView) → IsMember t.mirror.array k m → IsMember after.at.mirror.array k n → is_in_sync m.state ≡ false → is_in_sync n.state ≡ false
 
--- ---- while marks and superblocks are stored
--- What is asked of a stop within one of these events: a superblock that was being stored was left as it was, as it is written, or as one
--- that can't be decoded; and a log that is stored differs from what stood there in its first sector alone. Of a write of marks or of a log that
--- fails nothing is said.
-abbrev pub IsLeftWhole : Event → MirrorView → List Disk → Type 0
-IsLeftWhole (Event.Record k) old left = (m : MemberView) → IsMember old.array k m → AtDevice k old.disks left (IsOldNewOrNone (super_write old.array m).bytes)
-IsLeftWhole (Event.RecordFails k) old left = (m : MemberView) → IsMember old.array k m → AtDevice k old.disks left (IsOldNewOrNone (super_write old.array m).bytes)
-IsLeftWhole (Event.StoreMarksFails k b) old left = ⊥
-IsLeftWhole (Event.StoreLog k listed) old left = (m : MemberView) → IsMember old.array k m → (d : Disk) → slice_get old.disks k ≡ Some d → DiffersInFirst m d.content
-IsLeftWhole (Event.StoreLogFails k) old left = ⊥
-IsLeftWhole e old left = Unit {0}
-
--- the stop came within one of the events that lead on
-abbrev pub StopsIn : (es : List Event) (previous : Option Event) (old : MirrorView) (before : Requests) (Then : MirrorView → Requests → Type 0)
-    → InTurn previous old before es Then → List Disk → Type 0
-StopsIn [] previous old before Then t left = ⊥
-StopsIn (e ∷ es) previous old before Then t left =
-    (MayAllBeLeft old.disks t.0.disks (contents_of left) × IsLeftWhole e old left) ⊎ StopsIn es (Some e) t.0 t.1 Then t.5 left
-
+-- ---- while marks and superblocks are stored: a case of `md_laws::whole_calls::stopped_calls`, in which who is out of sync stays so
 abbrev pub StopsStoring : Type 0
 StopsStoring =
     AtMoments (λ t.
@@ -109,7 +83,7 @@ abbrev pub StopsUnrecorded : Type 0
 StopsUnrecorded =
     AtMoments (λ t.
     ((target : ℕ) (new : MirrorView) (e : EndsStoring target t.mirror (FailsOnTarget target t.mirror new))
-    → (left : List Disk) → MayAllBeLeft e.why.mid.disks new.disks (contents_of left) → IsLeftWhole (Event.Record target) e.why.mid left → IsStopBefore target t left))
+    → (left : List Disk) → MayAllBeLeft e.why.mid.disks new.disks (contents_of left) → IsLeftWhole (Event.RecordTargetFails target) e.why.mid new left → IsStopBefore target t left))
 
 -- ---- while a spare is admitted
 -- the stop left the target's superblock as it was before a call, or as it is after it

@@ -3,6 +3,7 @@
 
 mod chunks;
 mod data;
+pub mod laws;
 mod marks;
 mod writing;
 

@@ -45,8 +45,7 @@ use Rattle.md_laws.specs.Runs.{MirrorRun, MirrorRunWith, Moment, history_of, the
 use Rattle.md_laws.specs.StopsReadAs.{ReadsAs}
 use Rattle.md_array.proofs.Rebuilding.FilledEvent.{fill_happens}
 use Rattle.md_array.proofs.Rebuilding.PreparedEvent.{prepare_happens}
-use Rattle.md_array.proofs.Steps.DataWritten.{may_write}
-use Rattle.md_array.proofs.Steps.InFlight.{inside_of, not_touched, whole_of}
+use Rattle.md_array.proofs.Steps.InFlight.{not_touched}
 use Rattle.md_array.proofs.Steps.MarkSectors.{read_marked, store_marks_happens}
 use Rattle.md_array.proofs.Steps.OneMember.{stored_there}
 use Rattle.md_array.proofs.Worlds.Listed.{IsLogKept, listed_same_bit}
@@ -57,6 +56,7 @@ use Rattle.md_array.proofs.General.Indices.{at_set_same, got_in_map, got_other}
 use Rattle.md_array.proofs.Worlds.Supers.{super_shown}
 use Rattle.md_laws.proofs.Stops.LeftContents.{got_content, got_like, read_changed, read_in, read_same}
 use Rattle.md_laws.proofs.Runs.Moments.{IsSoundAt}
+use Rattle.md_laws.proofs.Stops.DataInFlight.{inside_array, may_write_on, whole_sectors}
 use Rattle.md_laws.proofs.Stops.FirstSector.{cut_reads, reads_same}
 use Rattle.md_laws.proofs.Stops.AsFailed.{failed_as_tried, left_after_write, left_as_tried, stops_as_tried, stops_at_events}
 use Rattle.md_laws.proofs.Stops.AloneChanged.{left_prepared, stops_as_filled, stops_as_prepared, stops_at_enrol}
@@ -240,8 +240,8 @@ module _ (t : Moment) (at : IsSoundAt t) where
         let same = torn.tried.outside d e was is in
         record {
           parts = parts_on a m d.content e.content same.size parts;
-          read = read_beside_data a m d.content e.content parts l.request.sector (request_sectors l.request) (inside_of v l.request at.sound l.pending)
-              (subst (λ (x : ℕ). SameOutside (512 * (m.superblock.data_offset + l.request.sector)) x d.content e.content) (whole_of a l.request l.pending) same)
+          read = read_beside_data a m d.content e.content parts l.request.sector (request_sectors l.request) (inside_array v t.requests l.others l.request at.sound at.in_flight l.in_flight)
+              (subst (λ (x : ℕ). SameOutside (512 * (m.superblock.data_offset + l.request.sector)) x d.content e.content) (whole_sectors l.request l.whole) same)
               t.failed_at (t.spoiled k) (at.read k d m was is_member);
         }
 
@@ -254,15 +254,15 @@ module _ (t : Moment) (at : IsSoundAt t) where
         let e = got_within torn.found k (omega arith) in
         let parts = parts_of v at.sound k d.0 m d.1 is_member in
         let n = request_sectors l.request in
-        let inside = inside_of v l.request at.sound l.pending in
-        let same = subst (λ (x : ℕ). SameOutside (512 * (m.superblock.data_offset + l.request.sector)) x d.0.content e.0.content) (whole_of a l.request l.pending) (torn.tried.outside d.0 e.0 d.1 e.1) in
+        let inside = inside_array v t.requests l.others l.request at.sound at.in_flight l.in_flight in
+        let same = subst (λ (x : ℕ). SameOutside (512 * (m.superblock.data_offset + l.request.sector)) x d.0.content e.0.content) (whole_sectors l.request l.whole) (torn.tried.outside d.0 e.0 d.1 e.1) in
         let was : read_in a v.disks k ≡ stored_of a m d.0.content = stored_there v.disks a k m d.0 is_member d.1 in
         let is : read_in a torn.found k ≡ stored_of a m e.0.content = stored_there torn.found a k m e.0 is_member e.1 in
         record {
           number = l.request.ticket.number;
           request = request_of l.request;
           on = k;
-          let_through = may_write k v l.request at.sound l.pending m torn.may l.others;
+          let_through = may_write_on v t.requests l.others l.request at.sound at.in_flight l.in_flight k m torn.may;
           others = λ j apart. ap (stored_on a (slice_get a.members j)) (torn.tried.others j apart);
           rest = is ∙ data_alone a m d.0.content e.0.content parts l.request.sector n inside same
               ∙ (λ i. record (sym was i) { content = ap (λ (x : Stored). x.content) (sym is) i });

@@ -1,0 +1,160 @@
+-- What a stop leaves within a whole call that is a list of events: it comes within one of them, from the mirror before that event to the one
+-- after it, of which the step's own contract says what may be left.
+use Rattle.std.specs.Prelude.{◌≡◌, ◌⊎◌, ℕ, ◌+◌, List, [], ◌∷◌, ◌++◌, drop, length, slice_get, Option, Some}
+use Rattle.std.proofs.Common.{inl, inr}
+use Rattle.md_kept_members.specs.View.{MemberView}
+use Rattle.md_model.specs.Events.{Event}
+use Rattle.md_model.specs.Worlds.{Request}
+use Rattle.md_state.specs.DiskWrites.{AtDevice}
+use Rattle.md_state.specs.Members.{IsMember}
+use Rattle.md_state.specs.View.{Disk, MirrorView}
+use Rattle.md_array.specs.Events.{IsOldNewOrNone}
+use Rattle.md_array.specs.InTurn.{AllLeftWhole, AllOf, HaltsAt, InTurn, Leads, LeftWhole, Requests}
+use Rattle.md_array.specs.Listing.{HasNoShift}
+use Rattle.md_array.specs.Recording.{super_write}
+use Rattle.md_array.specs.Worlds.{AreHonest, block_on}
+use Rattle.md_laws.specs.Left.{IsLeft, contents_of}
+use Rattle.md_laws.specs.Lives.{MirrorLife}
+use Rattle.md_laws.specs.Runs.{IsStart, MirrorRun, Moment}
+use Rattle.md_laws.specs.StopsReadAs.{EndsInFirstSector}
+use Rattle.md_laws.specs.StopsWithin.{DiffersInFirst, MayAllBeLeft, MayBeLeft}
+
+-- It holds at each moment of each life.
+abbrev pub AtMoments : (Moment → Type 0) → Type 0
+AtMoments Holds =
+    (before : List Disk) (m : MirrorView) → IsStart before m
+    → (es : List Event) (rest : List (List Event)) (final : MirrorView) (t : Moment) → MirrorLife m es rest final t → Holds t
+
+-- ---- where the stop came
+-- The superblock of member k that was being stored was left as it was, as it is written, or as one that can't be decoded;
+abbrev pub LeavesSuperWhole : ℕ → MirrorView → List Disk → Type 0
+LeavesSuperWhole k old left = (m : MemberView) → IsMember old.array k m → AtDevice k old.disks left (IsOldNewOrNone (super_write old.array m).bytes)
+
+-- or both end within the first sector, the one that stands there and the one that is written, as those of at most 128 roles do.
+pub record AreSupersShort (k : ℕ) (old : MirrorView) : Type 0 where
+  pub stands : (d : Disk) → slice_get old.disks k ≡ Some d → EndsInFirstSector (block_on d.content)
+  pub comes : (m : MemberView) → IsMember old.array k m → EndsInFirstSector (super_write old.array m).bytes
+
+-- The stop came before an event, or after it.
+abbrev pub IsBesideEvent : Event → MirrorView → MirrorView → List Disk → Type 0
+IsBesideEvent e old new left = (contents_of left ≡ contents_of old.disks) ⊎ (LeftWhole old e new × (contents_of left ≡ contents_of new.disks))
+
+-- What is asked of what a stop left within one of these events. Of a superblock what `stops_at_steps` asks; of a log that is stored, that it
+-- changes in its first sector alone. Of the steps of a write, a stop and a resync nothing else is asked, whether they are done or fail. But the
+-- sectors of a copy are an event each: within one the stop is told by the write that copies them all (`StoppedCopies`). Where a device comes,
+-- comes back or leaves, and where a member that is rebuilt tells of it, the stop is told by the call (`stops_at_steps`, `Left`): here only
+-- before it and after it.
+abbrev pub IsLeftWhole : Event → MirrorView → MirrorView → List Disk → Type 0
+IsLeftWhole (Event.Record k) old new left = LeavesSuperWhole k old left ⊎ AreSupersShort k old
+IsLeftWhole (Event.RecordFails k) old new left = LeavesSuperWhole k old left
+IsLeftWhole (Event.RecordTargetFails k) old new left = LeavesSuperWhole k old left
+IsLeftWhole (Event.StoreLog k listed) old new left = (m : MemberView) → IsMember old.array k m → (d : Disk) → slice_get old.disks k ≡ Some d → DiffersInFirst m d.content
+IsLeftWhole (Event.Copy from k s) old new left = IsBesideEvent (Event.Copy from k s) old new left
+IsLeftWhole (Event.Remove k) old new left = IsBesideEvent (Event.Remove k) old new left
+IsLeftWhole (Event.Add number device) old new left = IsBesideEvent (Event.Add number device) old new left
+IsLeftWhole (Event.ReAdd own device after) old new left = IsBesideEvent (Event.ReAdd own device after) old new left
+IsLeftWhole (Event.SpoilTarget k) old new left = IsBesideEvent (Event.SpoilTarget k) old new left
+IsLeftWhole (Event.Enrol k role listed) old new left = IsBesideEvent (Event.Enrol k role listed) old new left
+IsLeftWhole (Event.Admit k role listed) old new left = IsBesideEvent (Event.Admit k role listed) old new left
+IsLeftWhole (Event.Checkpoint k offset listed) old new left = IsBesideEvent (Event.Checkpoint k offset listed) old new left
+IsLeftWhole e old new left = Unit {0}
+
+-- The stop came within one of the events that lead on.
+abbrev pub StopsIn : (es : List Event) (previous : Option Event) (old : MirrorView) (before : Requests) (Then : MirrorView → Requests → Type 0)
+    → InTurn previous old before es Then → List Disk → Type 0
+StopsIn [] previous old before Then t left = ⊥
+StopsIn (e ∷ es) previous old before Then t left =
+    (MayAllBeLeft old.disks t.0.disks (contents_of left) × IsLeftWhole e old t.0 left) ⊎ StopsIn es (Some e) t.0 t.1 Then t.5 left
+
+-- What is asked of the events until then: before the stop, what is asked of each event of a call (`AllLeftWhole`); and of a log that was being
+-- stored, that it was read without a shift. Of those behind the stop nothing is.
+abbrev pub IsUnshifted : Event → MirrorView → Type 0
+IsUnshifted (Event.StoreLog k listed) old = HasNoShift k old
+IsUnshifted e old = Unit {0}
+
+abbrev pub LeftWholeUntil : (es : List Event) (previous : Option Event) (old : MirrorView) (before : Requests) (Then : MirrorView → Requests → Type 0)
+    (t : InTurn previous old before es Then) (left : List Disk) → StopsIn es previous old before Then t left → Type 0
+LeftWholeUntil [] previous old before Then t left stop = ⊥
+LeftWholeUntil (e ∷ es) previous old before Then t left (inl here) = IsUnshifted e old
+LeftWholeUntil (e ∷ es) previous old before Then t left (inr later) = LeftWhole old e t.0 × LeftWholeUntil es (Some e) t.0 t.1 Then t.5 left later
+
+-- ---- requests
+-- A request is of whole sectors: it has no bytes past its last one.
+abbrev pub HasWholeSectors : Request → Type 0
+HasWholeSectors r = r.bytes (r.start + r.sectors) ≡ []
+
+abbrev pub BeginsWhole : Event → Type 0
+BeginsWhole (Event.Begin n r) = HasWholeSectors r
+BeginsWhole e = Unit {0}
+
+-- these events write the request's bytes
+abbrev pub IsWrittenBy : ℕ → List Event → Type 0
+IsWrittenBy n [] = ⊥
+IsWrittenBy n (Event.WriteMember m k ∷ es) = (m ≡ n) ⊎ IsWrittenBy n es
+IsWrittenBy n (Event.WriteMemberFails m k ∷ es) = (m ≡ n) ⊎ IsWrittenBy n es
+IsWrittenBy n (e ∷ es) = IsWrittenBy n es
+
+-- So is each that is in flight and whose bytes they write, and each that they begin, as `begin` asks of its caller.
+pub record AreWhole (es : List Event) (requests : Requests) : Type 0 where
+  pub in_flight : (n : ℕ) (r : Request) → IsWrittenBy n es → requests n ≡ Some r → HasWholeSectors r
+  pub begun : AllOf BeginsWhole es
+
+-- ---- what it leaves
+-- It is a stop of a run: the first of these events lead from this moment to one from which on a stop leaves that. So the laws over lives
+-- speak of it. (Where a write failed in the last of them, it may have left other bytes in its range than at its end.)
+pub record IsStopOf (es : List Event) (t : Moment) (left : List Disk) : Type 0 where
+  pub done : List Event
+  pub rest : List Event
+  pub order : es ≡ done ++ rest
+  pub at : Moment
+  pub run : MirrorRun t done at
+  pub is_left : IsLeft at left
+
+-- Wherever a life has come to, a call did these events.
+abbrev pub StopsAtSteps : Type 0
+StopsAtSteps =
+    AtMoments (λ t.
+    ((es : List Event) (previous : Option Event) (new : MirrorView) (after : Requests) (leads : Leads previous t.mirror t.requests es new after) → AreWhole es t.requests
+    → (left : List Disk) (stop : StopsIn es previous t.mirror t.requests (λ m r. (m ≡ new) × (r ≡ after)) leads left)
+    → LeftWholeUntil es previous t.mirror t.requests (λ m r. (m ≡ new) × (r ≡ after)) leads left stop → IsStopOf es t left))
+
+-- What is asked within a write that halted the mirror. Of one of marks, of a copy or of a log nothing is said once it began.
+abbrev pub IsLeftHalting : Event → MirrorView → List Disk → Type 0
+IsLeftHalting (Event.RecordFails k) old left = LeavesSuperWhole k old left
+IsLeftHalting (Event.WriteMemberFails n k) old left = Unit {0}
+IsLeftHalting e old left = contents_of left ≡ contents_of old.disks
+
+-- Or it did these, and then a write failed that halted the mirror: the stop came after them, before that write or within it.
+abbrev pub StopsAtHalts : Type 0
+StopsAtHalts =
+    AtMoments (λ t.
+    ((es : List Event) (previous : Option Event) (mid : MirrorView) (between : Requests) (leads : Leads previous t.mirror t.requests es mid between)
+    → AllLeftWhole es previous t.mirror t.requests (λ m r. (m ≡ mid) × (r ≡ between)) leads
+    → (failing : Event) (new : MirrorView) → HaltsAt mid between failing new → AreWhole (es ++ failing ∷ []) t.requests
+    → (left : List Disk) → MayAllBeLeft mid.disks new.disks (contents_of left) → IsLeftHalting failing mid left → IsStopOf es t left))
+
+-- ---- each stop of which a device tells
+-- The devices stand where they stood, and each tells of the stops: so at the steps of a write, of a stop and of a resync. Of a copy the write of
+-- a run of sectors tells.
+abbrev pub IsToldOf : Event → Type 0
+IsToldOf (Event.Copy from k s) = ⊥
+IsToldOf (Event.Remove k) = ⊥
+IsToldOf (Event.Add number device) = ⊥
+IsToldOf (Event.ReAdd own device after) = ⊥
+IsToldOf (Event.SpoilTarget k) = ⊥
+IsToldOf (Event.Enrol k role listed) = ⊥
+IsToldOf e = Unit {0}
+
+-- Within one of these events a stop might have left this on device k.
+abbrev pub IsLeftInOne : (es : List Event) (previous : Option Event) (old : MirrorView) (before : Requests) (Then : MirrorView → Requests → Type 0)
+    → InTurn previous old before es Then → ℕ → List ℕ → Type 0
+IsLeftInOne [] previous old before Then t k c = ⊥
+IsLeftInOne (e ∷ es) previous old before Then t k c = AtDevice k old.disks t.0.disks (λ d x. MayBeLeft d x c) ⊎ IsLeftInOne es (Some e) t.0 t.1 Then t.5 k c
+
+-- Whatever a device tells, after such a call, that a stop since before it might have left there, a stop within one of its events might have left.
+abbrev pub StopsAreTold : Type 0
+StopsAreTold =
+    (es : List Event) (previous : Option Event) (old new : MirrorView) (before after : Requests) (leads : Leads previous old before es new after) → AllOf IsToldOf es
+    → AreHonest old.disks → AllLeftWhole es previous old before (λ m r. (m ≡ new) × (r ≡ after)) leads
+    → (k i : ℕ) (d x : Disk) (c : List ℕ) → slice_get old.disks k ≡ Some d → slice_get new.disks k ≡ Some x → slice_get (drop (length d.stops) x.stops) i ≡ Some c
+    → IsLeftInOne es previous old before (λ m r. (m ≡ new) × (r ≡ after)) leads k c

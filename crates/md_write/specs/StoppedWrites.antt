@@ -1,0 +1,60 @@
+-- What a stop of the machine leaves within a whole write, and within a whole `stop`: it comes within one of the steps that the call's
+-- contract tells of.
+use Rattle.std.specs.Prelude.{◌≡◌, ℕ, ◌%◌, List, [], ◌∷◌, length, None}
+use Rattle.md_model.specs.Events.{Event}
+use Rattle.md_state.specs.Requests.{AreInFlight, among, request_of}
+use Rattle.md_state.specs.View.{Disk, MirrorView}
+use Rattle.md_array.specs.InTurn.{AllLeftWhole}
+use Rattle.md_laws.specs.Left.{contents_of}
+use Rattle.md_laws.specs.StoppedCalls.{AtMoments, IsLeftHalting, IsStopOf, LeftWholeUntil, StopsIn}
+use Rattle.md_laws.specs.StopsWithin.{MayAllBeLeft}
+use Rattle.md_metadata.specs.Going.{LeadsBy}
+use Rattle.md_metadata.specs.Stopping.{HaltsStop, IsStopping}
+use Rattle.md_write.specs.Writing.{HaltsWrite, Writes, events_of}
+
+-- ---- a write of whole sectors
+-- that is done, whoever failed on the way
+abbrev pub StopsInWrite : Type 0
+StopsInWrite =
+    AtMoments (λ t.
+    ((sector : ℕ) (bytes : List ℕ) (new : MirrorView) → length bytes % 512 ≡ 0 → (w : Writes sector bytes t.mirror new) (in_flight : AreInFlight t.mirror.array t.requests)
+    → (left : List Disk) (stop : StopsIn (events_of w.request w.events) None t.mirror t.requests (λ m r. (m ≡ new) × (r ≡ t.requests)) (w.happens None t.requests in_flight).done left)
+    → LeftWholeUntil (events_of w.request w.events) None t.mirror t.requests (λ m r. (m ≡ new) × (r ≡ t.requests)) (w.happens None t.requests in_flight).done left stop
+    → IsStopOf (events_of w.request w.events) t left))
+
+-- the events of one that was halted, before the write that halted it
+abbrev pub begun_events : {sector : ℕ} {bytes : List ℕ} {old new : MirrorView} → HaltsWrite sector bytes old new → List Event
+begun_events h = Event.Begin h.request.ticket.number (request_of h.request) ∷ h.events
+
+abbrev pub StopsInHaltedWrite : Type 0
+StopsInHaltedWrite =
+    AtMoments (λ t.
+    ((sector : ℕ) (bytes : List ℕ) (new : MirrorView) → length bytes % 512 ≡ 0 → (h : HaltsWrite sector bytes t.mirror new) (in_flight : AreInFlight t.mirror.array t.requests)
+    → (left : List Disk) (stop : StopsIn (begun_events h) None t.mirror t.requests (λ m r. (m ≡ h.mid) × (r ≡ among h.last t.requests)) (h.happens None t.requests in_flight) left)
+    → LeftWholeUntil (begun_events h) None t.mirror t.requests (λ m r. (m ≡ h.mid) × (r ≡ among h.last t.requests)) (h.happens None t.requests in_flight) left stop
+    → IsStopOf (begun_events h) t left))
+
+-- within that write
+abbrev pub StopsHaltingWrite : Type 0
+StopsHaltingWrite =
+    AtMoments (λ t.
+    ((sector : ℕ) (bytes : List ℕ) (new : MirrorView) → length bytes % 512 ≡ 0 → (h : HaltsWrite sector bytes t.mirror new) (in_flight : AreInFlight t.mirror.array t.requests)
+    → AllLeftWhole (begun_events h) None t.mirror t.requests (λ m r. (m ≡ h.mid) × (r ≡ among h.last t.requests)) (h.happens None t.requests in_flight)
+    → (left : List Disk) → MayAllBeLeft h.mid.disks new.disks (contents_of left) → IsLeftHalting h.failing h.mid left → IsStopOf (begun_events h) t left))
+
+-- ---- a `stop`
+-- The list of its events, of one that is done, at which a member failed, or that was halted, before the write that halted it.
+abbrev pub StopsInStop : Type 0
+StopsInStop =
+    AtMoments (λ t.
+    ((mid : MirrorView) (g : LeadsBy IsStopping t.mirror mid) (in_flight : AreInFlight t.mirror.array t.requests)
+    → (left : List Disk) (stop : StopsIn g.events None t.mirror t.requests (λ m r. (m ≡ mid) × (r ≡ t.requests)) (g.leads None t.requests in_flight) left)
+    → LeftWholeUntil g.events None t.mirror t.requests (λ m r. (m ≡ mid) × (r ≡ t.requests)) (g.leads None t.requests in_flight) left stop → IsStopOf g.events t left))
+
+-- within that write
+abbrev pub StopsHaltingStop : Type 0
+StopsHaltingStop =
+    AtMoments (λ t.
+    ((new : MirrorView) (h : HaltsStop t.mirror new) (in_flight : AreInFlight t.mirror.array t.requests)
+    → AllLeftWhole h.goes.events None t.mirror t.requests (λ m r. (m ≡ h.halts.mid) × (r ≡ t.requests)) (h.goes.leads None t.requests in_flight)
+    → (left : List Disk) → MayAllBeLeft h.halts.mid.disks new.disks (contents_of left) → IsLeftHalting h.halts.failing h.halts.mid left → IsStopOf h.goes.events t left))
