@@ -1,4 +1,4 @@
-use Rattle.std.proofs.Common.{◌≡◌, ◌∙◌, ◌+◌, ◌/◌, ◌<◌, ◌≤◌, ℕ, length, arith, sym, ap, subst}
+use Rattle.std.proofs.Common.{◌≡◌, ◌∙◌, ◌+◌, ◌/◌, ◌%◌, ◌<◌, ◌≤◌, ℕ, length, arith, sym, ap, subst}
 use Rattle.md_super.specs.declared.superblock.Superblock.{Superblock}
 use Rattle.md_array.proofs.General.Resting.{rests_sound}
 use Rattle.md_laws.proofs.Runs.Rests.{rests_then}
@@ -13,12 +13,12 @@ returns-in-All g c =
     let old = c.args.mirror.now in
     let mid = c.loop-role.mirror in
     let new = c.read_in.new.mirror in
-    let bytes = c.read_in.new.buf in
+    let run = c.read_in.new.buf in
     let so_far = c.loop-role.invariant.none in
-    let same : length bytes ≡ length c.args.buf.now = c.read_in.auto.buf ∙ c.loop-role.invariant.long in (
-      rests_then old mid new so_far.rests c.in-All.ensures.0,
-      given_run c.loop-role.role c.args.sector old mid new bytes (subst (λ (n : ℕ). NoneBelow c.loop-role.role c.args.sector (n / 512) old mid) (sym same) so_far) c.in-All.ensures.0 c.in-All.ensures.1,
-    )
+    let same : length run ≡ length c.args.buf.now = c.read_in.auto.buf ∙ c.loop-role.invariant.long in
+    let whole = c.requires.whole in
+    let none = subst (λ (n : ℕ). NoneBelow c.loop-role.role c.args.sector (n / 512) old mid) (sym same) so_far in
+    given_run c.loop-role.role c.args.sector old mid new run (omega arith) none c.in-All.ensures.0 c.in-All.ensures.1
 
 pub returns-in-Perhaps : goal.returns-in-Perhaps
 returns-in-Perhaps g c =
