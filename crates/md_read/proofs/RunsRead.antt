@@ -19,7 +19,7 @@ use Rattle.md_assembly.specs.declared.state.MemberState.{MemberState}
 use Rattle.md_assembly.specs.declared.state.MemberState.TheVariants.{Faulty, InSync, Recovering, Spare, Stale}
 
 module _ (old mid : MirrorView) (first : Rests old mid) where
-  abbrev is_earlier : (role k : ℕ) → IsInRole mid.array role k → IsInRole old.array role k
+  abbrev pub is_earlier : (role k : ℕ) → IsInRole mid.array role k → IsInRole old.array role k
   is_earlier role k is = record { member = is.member; at = sym (ap (λ (a : ArrayView). slice_get a.members k) first.array) ∙ is.at; in_sync = is.in_sync }
 
   pub held_earlier : (k sector : ℕ) (bytes : List ℕ) → HoldsData mid k sector bytes → HoldsData old k sector bytes
@@ -81,6 +81,7 @@ module _ (old mid new : MirrorView) (first : Rests old mid) (second : Rests mid 
 
   -- a run that is given is given after devices were read
   pub run_earlier : (sector : ℕ) (run : List ℕ) → GivesRun sector run mid new → GivesRun sector run old new
+  unfolding gives_earlier
   run_earlier sector run given = record {
     rests = rests_then old mid new first second;
     whole = given.whole;
@@ -124,6 +125,7 @@ module _ (role sector : ℕ) (old mid new : MirrorView) where
   }
 
   pub given_run : (run : List ℕ) → length run % 512 ≡ 0 → NoneBelow role sector (length run / 512) old mid → Rests mid new → GivesIn role sector run mid new → GivesRun sector run old new
+  unfolding gives_earlier
   given_run run whole before rests gives = record {
     rests = rests_then old mid new before.rests rests;
     whole = whole;

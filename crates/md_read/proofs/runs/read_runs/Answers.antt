@@ -1,13 +1,24 @@
-use Rattle.std.proofs.Common.{◌≡◌, ◌∙◌, ◌+◌, ◌*◌, ◌-◌, ◌/◌, ◌%◌, ◌<◌, ◌≤◌, ℕ, List, length, drop, take, min, sym, ap, subst, arith, length-drop}
+use Rattle.std.proofs.Common.{◌≡◌, ◌∙◌, ◌+◌, ◌*◌, ◌-◌, ◌/◌, ◌%◌, ◌<◌, ◌≤◌, ℕ, List, length, drop, take, min, refl, sym, ap, subst, arith, length-drop}
 use Rattle.std.proofs.lemmas.List.{length-take-le, take_all}
 use Rattle.std.proofs.lemmas.Slice.{take-put_mid_below}
 use borrow.Rule.Slice.PartMut.{put_mid}
 use Rattle.md_array.proofs.General.Resting.{rests_sound}
-use Rattle.md_laws.proofs.Runs.Rests.{rests_then}
+use Rattle.md_laws.proofs.Runs.Rests.{rests_same, rests_then}
 use Rattle.md_read.specs.Reading.{GivesSectors}
-use Rattle.md_read.proofs.RunsInTurn.{gives_run, gives_then}
+use Rattle.md_read.proofs.RunsInTurn.{gives_none, gives_run, gives_then}
 use Rattle.md_read.proofs.SectorsGiven.{length-replaced, take-replaced}
 use Rattle.md_read.proofs.runs.read_runs.Goals as goal
+
+pub loop-done-init : goal.loop-done-init
+loop-done-init g c = record {
+  rests = rests_same c.args.mirror.now;
+  sound = c.requires.sound;
+  long = refl;
+  whole = refl;
+  few = omega arith;
+  some = λ some. let whole = c.requires.whole in omega arith;
+  given = gives_none c.args.sector c.args.mirror.now;
+}
 
 pub overflow_add-at : goal.overflow_add-at
 overflow_add-at g c =
@@ -89,7 +100,7 @@ loop-done-preserved g c =
     let as_long : length bytes ≡ 512 * sectors = c.read_front.auto.buf ∙ taken in
     let few = front.few in
     let some = front.some in
-    let given : ℕ = c.in-Some.field-0 in
+    let given : ℕ = c.in-Some.given in
     let run = take (512 * given) bytes in
     let so_long : length (take done was) ≡ done = length-take-le done was (omega arith) in
     let here : c.args.sector + done / 512 ≡ c.args.sector + length (take done was) / 512 = omega arith in
