@@ -1,16 +1,14 @@
 -- Pieces that are read one after another are together what one read gives.
-use Rattle.std.proofs.Common.{◌≡◌, ◌∙◌, ℕ, ◌+◌, ◌*◌, ◌-◌, ◌/◌, ◌%◌, ◌<◌, ◌≤◌, List, [], ◌∷◌, ◌++◌, length, take, drop, Ok, refl, sym, ap, subst, inl, inr, arith, length-append, append_assoc, append-nil}
+use Rattle.std.proofs.Common.{◌≡◌, ◌∙◌, ℕ, ◌+◌, ◌*◌, ◌-◌, ◌/◌, ◌%◌, ◌<◌, ◌≤◌, List, [], ◌∷◌, ◌++◌, length, take, Ok, refl, sym, ap, subst, inl, inr, arith, length-append, append_assoc, append-nil}
 use Rattle.std.specs.List.{concat}
 use Rattle.std.proofs.lemmas.Bool.{cases_lt}
-use Rattle.std.proofs.lemmas.List.{length-take-le, take-append-drop}
-use Rattle.md_device.specs.Device.{held}
+use Rattle.std.proofs.lemmas.List.{length-take-le}
 use Rattle.md_array.specs.Consistency.{IsConsistent}
 use Rattle.md_laws.proofs.Runs.Rests.{rests_then}
 use Rattle.md_read.specs.declared.fault.UnreadFault.TheVariants.{Unreadable}
-use Rattle.md_read.specs.Reading.{IsGiven, MayReadAt, Reads, RefusesRead}
+use Rattle.md_read.specs.Reading.{MayReadAt, Reads, RefusesRead}
 use Rattle.md_read.proofs.ReadAnswers.{read_answer}
-use Rattle.md_read.proofs.RunsRead.{given_earlier, given_later}
-use Rattle.md_read.proofs.SectorsGiven.{held_end, held_front}
+use Rattle.md_read.proofs.RunsInTurn.{gives_later, gives_then}
 use Rattle.md_state.specs.Rests.{Rests}
 use Rattle.md_state.specs.View.{ArrayView, MirrorView}
 use Rattle.md_commands.specs.Pieces.{ReadsPiece, ReadsPieces, ReadsSectors, ReadsUpTo}
@@ -34,32 +32,15 @@ module _ (old mid new : MirrorView) (sound : IsConsistent old) (sector : ℕ) (x
     resynced = first.may.resynced;
   }
 
-  given : (i : ℕ) → i < length (xs ++ ys) / 512 → IsGiven (sector + i) (held (xs ++ ys) i 512) old new
-  given i low = elim (cases_lt i (length xs / 512)) [
-    | inl early ↦
-        subst (λ (b : List ℕ). IsGiven (sector + i) b old new) (sym (held_front xs ys i early))
-        (given_later old mid new first.rests second.rests (sector + i) (held xs i 512) (first.given i early))
-    | inr late ↦
-        let j : ℕ = i - length xs / 512 in
-        let at : ℕ = sector + length xs / 512 + j in
-        let there : length xs / 512 + j ≡ i = omega arith in
-        let place : at ≡ sector + i = omega arith in
-        let many = count in
-        subst (λ (s : ℕ). IsGiven s (held (xs ++ ys) i 512) old new) place
-        (subst (λ (k : ℕ). IsGiven at (held (xs ++ ys) k 512) old new) there
-        (subst (λ (b : List ℕ). IsGiven at b old new) (sym (held_end xs ys j whole))
-        (given_earlier old mid new first.rests second.rests at (held ys j 512) (second.given j (omega arith)))))
-  ]
-
   pub both_read : Reads sector (xs ++ ys) old new
-  both_read = read_answer old new sound sector (xs ++ ys) may {T = Unit {0}} (Ok tt) (record { rests = rests_then old mid new first.rests second.rests; given = given })
+  both_read = read_answer old new sound sector (xs ++ ys) may {T = Unit {0}} (Ok tt) (gives_then sector old mid new xs ys first.given second.given)
 
 -- a read that fails after it changes nothing of what was read
 pub reads_later : (old mid new : MirrorView) (sector : ℕ) (bytes : List ℕ) → Reads sector bytes old mid → Rests mid new → Reads sector bytes old new
 reads_later old mid new sector bytes reads rests = record {
   may = reads.may;
   rests = rests_then old mid new reads.rests rests;
-  given = λ i low. given_later old mid new reads.rests rests (sector + i) (held bytes i 512) (reads.given i low);
+  given = gives_later sector old mid new bytes reads.given rests;
   content = reads.content;
 }
 
@@ -82,13 +63,7 @@ module _ (old new : MirrorView) (sound : IsConsistent old) (sector s : ℕ) (pie
       let as_long = long in
       read_answer old new sound sector front
       (record { running = may.running; range = record { some = omega arith; inside = omega arith }; resynced = may.resynced })
-      {T = Unit {0}} (Ok tt) (record {
-        rests = unread.1.rests;
-        given = λ i low.
-            subst (λ (b : List ℕ). IsGiven (sector + i) b old new)
-            (ap (λ (xs : List ℕ). held xs i 512) (sym (take-append-drop n piece)) ∙ held_front front (drop n piece) i low)
-            (unread.1.earlier i (omega arith));
-      })
+      {T = Unit {0}} (Ok tt) (gives_later sector old unread.1.mid new front unread.1.earlier unread.1.later)
 
 -- ---- pieces
 concat_more : (pieces : List (List ℕ)) (piece : List ℕ) → concat (pieces ++ piece ∷ []) ≡ concat pieces ++ piece

@@ -19,7 +19,7 @@ use Rattle.md_state.specs.Members.{IsMember}
 use Rattle.md_state.specs.ReadingData.{FailsToRead, ReadsData}
 use Rattle.md_state.specs.View.{ArrayView, MirrorView}
 use Rattle.md_state.proofs.Members.At.{told}
-use Rattle.md_read.specs.Reading.{GivesIn, HasRole, IsInRole, NotGivenIn}
+use Rattle.md_read.specs.Reading.{GivesInGroup, HasRole, IsInRole, NotGivenIn}
 
 -- ---- what is listed
 
@@ -106,18 +106,20 @@ module _ (old : MirrorView) (sound : IsConsistent old) (mostly : Bool) (role k s
       inr (subst (λ (i : ℕ). AtDevice i old.disks new.disks (λ d e. d.honest ≡ true → d.failures < e.failures)) (sym same) fails.failed)
 
   -- it gave them
-  pub gives_in : (new : MirrorView) (bytes : List ℕ) → length bytes / 512 ≡ sectors → is_write_mostly is.member.superblock ≡ mostly → (ListsSome is.member sector sectors → ⊥) → ReadsData k sector bytes old new → GivesIn mostly role sector bytes old new
+  pub gives_in : (new : MirrorView) (bytes : List ℕ) → length bytes / 512 ≡ sectors → is_write_mostly is.member.superblock ≡ mostly → (ListsSome is.member sector sectors → ⊥) → ReadsData k sector bytes old new → GivesInGroup mostly role sector bytes old new
   gives_in new bytes count flag none reads = record {
-    from = k;
-    is = is;
+    gives = record {
+      from = k;
+      is = is;
+      unlisted = λ s from below lists. none (s, lists, from, omega arith);
+      holds = λ d m at there honest.
+          let low = slice_get_within old.disks k d at in
+          let many = reads.rests.disks.same.as_many in
+          let e = got_within new.disks k (omega arith) in
+          let stays = reads.rests.disks.same.honest k d e.0 at e.1 in
+          let kept = reads.rests.disks.content k d e.0 at e.1 in
+          subst (λ (c : List ℕ). held c (m.superblock.data_offset + sector) (length bytes) ≡ bytes) kept
+          (reads.holds e.0 m e.1 (ap (λ (a : ArrayView). slice_get a.members k) reads.rests.array ∙ there) (stays.honest ∙ honest));
+    };
     flag = flag;
-    unlisted = λ s from below lists. none (s, lists, from, omega arith);
-    holds = λ d m at there honest.
-        let low = slice_get_within old.disks k d at in
-        let many = reads.rests.disks.same.as_many in
-        let e = got_within new.disks k (omega arith) in
-        let stays = reads.rests.disks.same.honest k d e.0 at e.1 in
-        let kept = reads.rests.disks.content k d e.0 at e.1 in
-        subst (λ (c : List ℕ). held c (m.superblock.data_offset + sector) (length bytes) ≡ bytes) kept
-        (reads.holds e.0 m e.1 (ap (λ (a : ArrayView). slice_get a.members k) reads.rests.array ∙ there) (stays.honest ∙ honest));
   }

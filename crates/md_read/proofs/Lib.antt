@@ -1,5 +1,6 @@
 pub mod AllListed
 pub mod InRoles
 pub mod ReadAnswers
+pub mod RunsInTurn
 pub mod RunsRead
 pub mod SectorsGiven

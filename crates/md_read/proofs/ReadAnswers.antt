@@ -16,11 +16,12 @@ use Rattle.md_array.proofs.Worlds.InSync.{in_sync_there}
 use Rattle.md_array.proofs.Worlds.SectorCopied.{in_sync_as, unlisted_there}
 use Rattle.md_read.specs.declared.fault.UnreadFault.{UnreadFault}
 use Rattle.md_read.specs.declared.fault.UnreadFault.TheVariants.{Halted, NotResynced, OutOfRange, Unreadable}
-use Rattle.md_read.specs.Reading.{AreOfContent, GivesAll, IsGivenUpTo, MayReadAt, Reads, RefusesRead}
+use Rattle.md_read.specs.Reading.{AreOfContent, GivesSectors, IsGivenUpTo, MayReadAt, Reads, RefusesRead}
+use Rattle.md_read.proofs.RunsInTurn.{gives_rests, sector_held}
 use Rattle.md_assembly.proofs.Indices.{got_within}
 
-pub read_rests : {T : Type 0} (old new : MirrorView) (sector : ℕ) (bytes : List ℕ) (r : Result T UnreadFault) → MatchResult r (λ _. GivesAll sector bytes old new) (λ fault. IsGivenUpTo sector bytes fault old new) → Rests old new
-read_rests old new sector bytes (Ok x) gives = gives.rests
+pub read_rests : {T : Type 0} (old new : MirrorView) (sector : ℕ) (bytes : List ℕ) (r : Result T UnreadFault) → MatchResult r (λ _. GivesSectors sector bytes old new) (λ fault. IsGivenUpTo sector bytes fault old new) → Rests old new
+read_rests old new sector bytes (Ok x) gives = gives_rests sector bytes old new gives
 read_rests old new sector bytes (Err (Unreadable s)) none = none.rests
 read_rests old new sector bytes (Err Halted) none = absurd none
 read_rests old new sector bytes (Err OutOfRange) none = absurd none
@@ -31,10 +32,10 @@ module _ (old new : MirrorView) (sound : IsConsistent old) (sector : ℕ) (bytes
   a = old.array
 
   -- the member that gave a sector holds the content there
-  are_of_content : GivesAll sector bytes old new → AreOfContent sector bytes old
+  are_of_content : GivesSectors sector bytes old new → AreOfContent sector bytes old
   are_of_content gives honest requests in_flight content rest i low quiet =
       let s : ℕ = sector + i in
-      let given = gives.given i low in
+      let given = sector_held sector bytes old new gives i low in
       let k = given.from in
       let m = given.is.member in
       let at = given.is.at in
@@ -51,9 +52,9 @@ module _ (old new : MirrorView) (sound : IsConsistent old) (sector : ℕ) (bytes
       ∙ sym (ap (λ (x : Stored). x.content s) (stored_there old.disks a k m d.0 at d.1))
       ∙ rest k s inside (in_sync_there old.disks a requests k m on) (unlisted_there old sound honest requests in_flight may.running k s m on inside given.unlisted) quiet (inl may.resynced)
 
-  pub read_answer : {T : Type 0} (r : Result T UnreadFault) → MatchResult r (λ _. GivesAll sector bytes old new) (λ fault. IsGivenUpTo sector bytes fault old new)
+  pub read_answer : {T : Type 0} (r : Result T UnreadFault) → MatchResult r (λ _. GivesSectors sector bytes old new) (λ fault. IsGivenUpTo sector bytes fault old new)
       → MatchResult r (λ _. Reads sector bytes old new) (RefusesRead sector bytes old new)
-  read_answer (Ok x) gives = record { may = may; rests = gives.rests; given = gives.given; content = are_of_content gives }
+  read_answer (Ok x) gives = record { may = may; rests = gives_rests sector bytes old new gives; given = gives; content = are_of_content gives }
   read_answer (Err (Unreadable s)) none = (may, none)
   read_answer (Err Halted) none = absurd none
   read_answer (Err OutOfRange) none = absurd none

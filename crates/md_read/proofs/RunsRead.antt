@@ -1,22 +1,43 @@
--- Roles are tried one after another.
-use Rattle.std.proofs.Common.{◌≡◌, ◌×◌, ℕ, ◌+◌, ◌/◌, ◌<◌, ◌≤◌, Bool, true, false, List, length, slice_get, sym, ap, ◌∙◌, subst, arith, inl, inr}
+-- Roles are tried one after another, and one group of members after the other.
+use Rattle.std.proofs.Common.{◌≡◌, ◌×◌, ◌⊎◌, ℕ, ◌+◌, ◌/◌, ◌%◌, ◌<◌, ◌≤◌, Bool, true, false, List, length, slice_get, refl, sym, ap, ◌∙◌, subst, arith, inl, inr}
+use Rattle.std.proofs.lemmas.Bool.{cases_Bool, eqb-true}
 use Rattle.std.proofs.lemmas.Option.{slice_get_within}
 use Rattle.md_device.specs.Device.{held}
 use Rattle.md_model.proofs.Puts.{by_same}
+use Rattle.md_kept_members.specs.OwnFields.{is_write_mostly}
+use Rattle.md_kept_members.specs.View.{MemberView}
+use Rattle.md_state.specs.Members.{IsInSync, IsMember}
 use Rattle.md_state.specs.ReadingData.{HoldsData}
 use Rattle.md_state.specs.Rests.{Rests}
 use Rattle.md_state.specs.View.{ArrayView, MirrorView}
 use Rattle.md_array.specs.Consistency.{IsConsistent}
-use Rattle.md_array.proofs.Worlds.SectorCopied.{in_sync_as}
+use Rattle.md_array.proofs.Worlds.SectorCopied.{has_role, in_sync_as}
 use Rattle.md_laws.proofs.Runs.Rests.{rests_same, rests_then}
 use Rattle.md_read.specs.declared.roles.Answer.{Answer}
 use Rattle.md_read.specs.declared.roles.Answer.TheVariants as answer
-use Rattle.md_read.specs.Reading.{GivesFirst, GivesIn, IsGiven, GivesRun, IsInRole, NoneGives, NotGivenIn, TriesGroup, TriesRoles, gives_none}
+use Rattle.md_read.specs.Reading.{GivesFirst, GivesIn, GivesInGroup, GivesRun, HasNotGiven, IsAskedBefore, IsBefore, IsInRole, NoneGives, NoneOfGroupGives, NotGivenIn, TriesGroup, TriesRoles, gives_none}
 use Rattle.md_assembly.proofs.Indices.{got_within}
+use Rattle.md_assembly.specs.States.{is_in_sync_as}
+use Rattle.md_assembly.specs.declared.state.MemberState.{MemberState}
+use Rattle.md_assembly.specs.declared.state.MemberState.TheVariants.{Faulty, InSync, Recovering, Spare, Stale}
+
+module _ (old mid : MirrorView) (first : Rests old mid) where
+  abbrev pub is_earlier : (role k : ℕ) → IsInRole mid.array role k → IsInRole old.array role k
+  is_earlier role k is = record { member = is.member; at = sym (ap (λ (a : ArrayView). slice_get a.members k) first.array) ∙ is.at; in_sync = is.in_sync }
+
+  pub held_earlier : (k sector : ℕ) (bytes : List ℕ) → HoldsData mid k sector bytes → HoldsData old k sector bytes
+  held_earlier k sector bytes holds d m at there honest =
+      let low = slice_get_within old.disks k d at in
+      let many = first.disks.same.as_many in
+      let e = got_within mid.disks k (omega arith) in
+      let stays = first.disks.same.honest k d e.0 at e.1 in
+      let kept = first.disks.content k d e.0 at e.1 in
+      subst (λ (c : List ℕ). held c (m.superblock.data_offset + sector) (length bytes) ≡ bytes) kept
+      (holds e.0 m e.1 (ap (λ (a : ArrayView). slice_get a.members k) first.array ∙ there) (stays.honest ∙ honest))
 
 module _ (old mid new : MirrorView) (first : Rests old mid) (second : Rests mid new) where
-  pub not_given_later : (mostly : Bool) (role s : ℕ) → NotGivenIn mostly role s old mid → NotGivenIn mostly role s old new
-  not_given_later mostly role s none k m at as_role flag = elim (none k m at as_role flag) [
+  pub has_not_given_later : (k : ℕ) (m : MemberView) (s : ℕ) → HasNotGiven k m s old mid → HasNotGiven k m s old new
+  has_not_given_later k m s none = elim none [
     | inl lists ↦ inl lists
     | inr failed ↦ inr (λ d f was is honest.
         let low = slice_get_within old.disks k d was in
@@ -27,8 +48,8 @@ module _ (old mid new : MirrorView) (first : Rests old mid) (second : Rests mid 
         omega arith)
   ]
 
-  pub not_given_earlier : (mostly : Bool) (role s : ℕ) → NotGivenIn mostly role s mid new → NotGivenIn mostly role s old new
-  not_given_earlier mostly role s none k m at as_role flag = elim (none k m (ap (λ (a : ArrayView). slice_get a.members k) first.array ∙ at) as_role flag) [
+  pub has_not_given_earlier : (k : ℕ) (m : MemberView) (s : ℕ) → HasNotGiven k m s mid new → HasNotGiven k m s old new
+  has_not_given_earlier k m s none = elim none [
     | inl lists ↦ inl lists
     | inr failed ↦ inr (λ d f was is honest.
         let low = slice_get_within old.disks k d was in
@@ -40,69 +61,59 @@ module _ (old mid new : MirrorView) (first : Rests old mid) (second : Rests mid 
         omega arith)
   ]
 
-  abbrev is_earlier : (role k : ℕ) → IsInRole mid.array role k → IsInRole old.array role k
-  is_earlier role k is = record { member = is.member; at = sym (ap (λ (a : ArrayView). slice_get a.members k) first.array) ∙ is.at; in_sync = is.in_sync }
+  -- a member is the same before
+  abbrev at_earlier : (k : ℕ) (m : MemberView) → IsMember old.array k m → IsMember mid.array k m
+  at_earlier k m at = ap (λ (a : ArrayView). slice_get a.members k) first.array ∙ at
 
-  held_earlier : (k sector : ℕ) (bytes : List ℕ) → HoldsData mid k sector bytes → HoldsData old k sector bytes
-  held_earlier k sector bytes holds d m at there honest =
-      let low = slice_get_within old.disks k d at in
-      let many = first.disks.same.as_many in
-      let e = got_within mid.disks k (omega arith) in
-      let stays = first.disks.same.honest k d e.0 at e.1 in
-      let kept = first.disks.content k d e.0 at e.1 in
-      subst (λ (c : List ℕ). held c (m.superblock.data_offset + sector) (length bytes) ≡ bytes) kept
-      (holds e.0 m e.1 (ap (λ (a : ArrayView). slice_get a.members k) first.array ∙ there) (stays.honest ∙ honest))
+  abbrev in_sync_later : (k : ℕ) (m : MemberView) → IsInSync old.array k m → IsInSync mid.array k m
+  in_sync_later k m on = record { member = at_earlier k m on.member; in_sync = on.in_sync }
 
-  gives_earlier : (mostly : Bool) (role sector : ℕ) (bytes : List ℕ) → GivesIn mostly role sector bytes mid new → GivesIn mostly role sector bytes old new
-  gives_earlier mostly role sector bytes g = record {
+  pub not_given_later : (mostly : Bool) (role s : ℕ) → NotGivenIn mostly role s old mid → NotGivenIn mostly role s old new
+  not_given_later mostly role s none k m at as_role flag = has_not_given_later k m s (none k m at as_role flag)
+
+  pub not_given_earlier : (mostly : Bool) (role s : ℕ) → NotGivenIn mostly role s mid new → NotGivenIn mostly role s old new
+  not_given_earlier mostly role s none k m at as_role flag = has_not_given_earlier k m s (none k m (at_earlier k m at) as_role flag)
+
+  pub none_gives_earlier : (s : ℕ) → NoneGives s mid new → NoneGives s old new
+  none_gives_earlier s none k m on = has_not_given_earlier k m s (none k m (in_sync_later k m on))
+
+  pub group_later : (mostly : Bool) (sector sectors : ℕ) → NoneOfGroupGives mostly sector sectors old mid → NoneOfGroupGives mostly sector sectors old new
+  group_later mostly sector sectors none s from below k m on flag = has_not_given_later k m s (none s from below k m on flag)
+
+  pub group_earlier : (mostly : Bool) (sector sectors : ℕ) → NoneOfGroupGives mostly sector sectors mid new → NoneOfGroupGives mostly sector sectors old new
+  group_earlier mostly sector sectors none s from below k m on flag = has_not_given_earlier k m s (none s from below k m (in_sync_later k m on) flag)
+
+  pub gives_earlier : (role sector : ℕ) (bytes : List ℕ) → GivesIn role sector bytes mid new → GivesIn role sector bytes old new
+  gives_earlier role sector bytes g = record {
     from = g.from;
-    is = is_earlier role g.from g.is;
-    flag = g.flag;
+    is = is_earlier old mid first role g.from g.is;
     unlisted = g.unlisted;
-    holds = held_earlier g.from sector bytes g.holds;
+    holds = held_earlier old mid first g.from sector bytes g.holds;
   }
 
-  pub none_later : (mostly : Bool) (sector sectors : ℕ) → NoneGives mostly sector sectors old mid → NoneGives mostly sector sectors old new
-  none_later mostly sector sectors none role s from below = not_given_later mostly role s (none role s from below)
-
-  pub none_earlier : (mostly : Bool) (sector sectors : ℕ) → NoneGives mostly sector sectors mid new → NoneGives mostly sector sectors old new
-  none_earlier mostly sector sectors none role s from below = not_given_earlier mostly role s (none role s from below)
+  pub in_group_earlier : (mostly : Bool) (role sector : ℕ) (bytes : List ℕ) → GivesInGroup mostly role sector bytes mid new → GivesInGroup mostly role sector bytes old new
+  unfolding gives_earlier
+  in_group_earlier mostly role sector bytes g = record { gives = gives_earlier role sector bytes g.gives; flag = g.flag }
 
   pub first_earlier : (mostly : Bool) (sector : ℕ) (bytes : List ℕ) → GivesFirst mostly sector bytes mid new → GivesFirst mostly sector bytes old new
   first_earlier mostly sector bytes run = record {
     role = run.role;
-    gives = gives_earlier mostly run.role sector bytes run.gives;
+    given = in_group_earlier mostly run.role sector bytes run.given;
     lowest = λ lower low s from below. not_given_earlier mostly lower s (run.lowest lower low s from below);
   }
 
-  pub run_earlier : (sector : ℕ) (bytes : List ℕ) → GivesRun sector bytes mid new → GivesRun sector bytes old new
-  run_earlier sector bytes run = record {
-    mostly = run.mostly;
-    given = first_earlier run.mostly sector bytes run.given;
-    others = λ is. none_earlier false sector (length bytes / 512) (run.others is);
-  }
-
-  pub given_earlier : (s : ℕ) (bytes : List ℕ) → IsGiven s bytes mid new → IsGiven s bytes old new
-  given_earlier s bytes given = record {
-    from = given.from;
+  -- a run that is given is given after devices were read
+  pub run_earlier : (sector : ℕ) (run : List ℕ) → GivesRun sector run mid new → GivesRun sector run old new
+  unfolding gives_earlier
+  run_earlier sector run given = record {
+    rests = rests_then old mid new first second;
+    whole = given.whole;
     role = given.role;
-    is = is_earlier given.role given.from given.is;
-    unlisted = given.unlisted;
-    holds = held_earlier given.from s bytes given.holds;
-    first = λ mostly earlier before. not_given_earlier mostly earlier s (given.first mostly earlier before);
+    gives = gives_earlier given.role sector run given.gives;
+    earlier = λ k m at before s from below. has_not_given_earlier k m s (given.earlier k m (at_earlier k m at) before s from below);
   }
 
-  pub given_later : (s : ℕ) (bytes : List ℕ) → IsGiven s bytes old mid → IsGiven s bytes old new
-  given_later s bytes given = record {
-    from = given.from;
-    role = given.role;
-    is = given.is;
-    unlisted = given.unlisted;
-    holds = given.holds;
-    first = λ mostly earlier before. not_given_later mostly earlier s (given.first mostly earlier before);
-  }
-
--- in the roles below this one nobody who is asked gave these sectors
+-- in the roles below this one nobody of the group gave these sectors
 pub record NoneBelow (mostly : Bool) (role sector sectors : ℕ) (old new : MirrorView) : Type 0 where
   pub rests : Rests old new
   pub none : (lower : ℕ) → lower < role → (s : ℕ) → sector ≤ s → s < sector + sectors → NotGivenIn mostly lower s old new
@@ -112,10 +123,11 @@ none_first mostly sector sectors m = record { rests = rests_same m; none = λ lo
 
 -- every role was tried
 pub none_in_any : (mostly : Bool) (old new : MirrorView) → IsConsistent old → (last sector sectors : ℕ) → old.array.shared.raid_disks ≤ last → NoneBelow mostly last sector sectors old new
-    → NoneGives mostly sector sectors old new
-none_in_any mostly old new sound last sector sectors all so_far role s from below k m at as_role flag =
-    let low = sound.roles.below k role m at (in_sync_as role m.state as_role).1 in
-    so_far.none role (omega arith) s from below k m at as_role flag
+    → NoneOfGroupGives mostly sector sectors old new
+none_in_any mostly old new sound last sector sectors all so_far s from below k m on flag =
+    let as_role = has_role m.state on.in_sync in
+    let low = sound.roles.below k as_role.0 m on.member (in_sync_as as_role.0 m.state as_role.1).1 in
+    so_far.none as_role.0 (omega arith) s from below k m on.member as_role.1 flag
 
 module _ (mostly : Bool) (role sector : ℕ) (old mid new : MirrorView) where
   pub none_more : (sectors : ℕ) → NoneBelow mostly role sector sectors old mid → Rests mid new → ((s : ℕ) → sector ≤ s → s < sector + sectors → NotGivenIn mostly role s mid new) → NoneBelow mostly (role + 1) sector sectors old new
@@ -127,42 +139,89 @@ module _ (mostly : Bool) (role sector : ℕ) (old mid new : MirrorView) where
         (λ apart. not_given_later old mid new before.rests rests mostly lower s (before.none lower (omega arith) s from below));
   }
 
-  pub given_run : (bytes : List ℕ) → NoneBelow mostly role sector (length bytes / 512) old mid → Rests mid new → GivesIn mostly role sector bytes mid new → GivesFirst mostly sector bytes old new
-  given_run bytes before rests gives = record {
+  pub given_first : (bytes : List ℕ) → NoneBelow mostly role sector (length bytes / 512) old mid → Rests mid new → GivesInGroup mostly role sector bytes mid new → GivesFirst mostly sector bytes old new
+  given_first bytes before rests gives = record {
     role = role;
-    gives = gives_earlier old mid new before.rests rests mostly role sector bytes gives;
+    given = in_group_earlier old mid new before.rests rests mostly role sector bytes gives;
     lowest = λ lower low s from below. not_given_later old mid new before.rests rests mostly lower s (before.none lower low s from below);
   }
 
 -- ---- both groups, one after the other
-module _ (sector : ℕ) (was : List ℕ) where
-  -- all of them are of the first group's members, or some may be
-  pub first_group : (bytes : List ℕ) (old new : MirrorView) (first : Answer) → gives_none first ≡ false → TriesGroup false sector was bytes old new first → TriesRoles sector was bytes old new first
-  first_group bytes old new answer.All some (rests, gives) = (rests, record { mostly = false; given = gives; others = λ e. absurd cc })
-  first_group bytes old new answer.Perhaps some perhaps = perhaps
-  first_group bytes old new answer.Nothing some tried = absurd cc
-  first_group bytes old new answer.Failed some tried = absurd cc
+-- a member in sync is so in one role
+one_role : (r q : ℕ) (state : MemberState) → is_in_sync_as r state ≡ true → is_in_sync_as q state ≡ true → r ≡ q
+one_role r q (InSync role) is also = sym (eqb-true role r is) ∙ eqb-true role q also
+one_role r q (Recovering role) is also = absurd cc
+one_role r q (Stale role) is also = absurd cc
+one_role r q Spare is also = absurd cc
+one_role r q Faulty is also = absurd cc
 
-  none_given : (bytes : List ℕ) (old new : MirrorView) (first : Answer) → gives_none first ≡ true → TriesGroup false sector was bytes old new first → Rests old new × NoneGives false sector (length was / 512) old new
+-- whoever is asked before is of the same group, in a lower role, or of the first group where the other is of the second
+asked_before : (own mostly : Bool) (earlier role : ℕ) → IsAskedBefore mostly earlier own role → ((mostly ≡ own) × (earlier < role)) ⊎ ((mostly ≡ false) × (own ≡ true))
+asked_before false false earlier role less = inl (refl, less)
+asked_before true true earlier role less = inl (refl, less)
+asked_before true false earlier role all = inr (refl, refl)
+asked_before false true earlier role none = absurd none
+
+module _ (mostly : Bool) (sector : ℕ) (run : List ℕ) (old new : MirrorView) (given : GivesFirst mostly sector run old new) where
+  module _ (others : mostly ≡ true → NoneOfGroupGives false sector (length run / 512) old new) where
+    none_before : (k : ℕ) (m : MemberView) → IsMember old.array k m → IsBefore m given.given.gives.is.member → (s : ℕ) → sector ≤ s → s < sector + length run / 512 → HasNotGiven k m s old new
+    none_before k m at before s from below =
+        let own : Bool = is_write_mostly m.superblock in
+        let asked = subst (λ b. IsAskedBefore own before.role b before.other) given.given.flag before.asked_before in
+        elim (asked_before mostly own before.role before.other asked) [
+          | inl same_group ↦
+              let same = one_role before.other given.role given.given.gives.is.member.state before.other_in_sync given.given.gives.is.in_sync in
+              let lower = same_group.1 in
+              given.lowest before.role (omega arith) s from below k m at before.in_sync same_group.0
+          | inr first_group ↦ others first_group.1 s from below k m (record { member = at; in_sync = (in_sync_as before.role m.state before.in_sync).0 }) first_group.0
+        ]
+
+    -- what the first of a group gave is a run, if no member of the group before it gave any of it
+    given_run : Rests old new → length run % 512 ≡ 0 → GivesRun sector run old new
+    given_run rests whole = record {
+      rests = rests;
+      whole = whole;
+      role = given.role;
+      gives = given.given.gives;
+      earlier = none_before;
+    }
+
+module _ (sector : ℕ) (was : List ℕ) (whole : length was % 512 ≡ 0) where
+  -- all of them are of the first group's members, or some may be
+  pub first_group : (bytes : List ℕ) (old new : MirrorView) (first : Answer) → length bytes ≡ length was → gives_none first ≡ false → TriesGroup false sector was bytes old new first → TriesRoles sector was bytes old new first
+  first_group bytes old new answer.All long some (rests, gives) = given_run false sector bytes old new gives (λ e. absurd cc) rests (omega arith)
+  first_group bytes old new answer.Perhaps long some perhaps = perhaps
+  first_group bytes old new answer.Nothing long some tried = absurd cc
+  first_group bytes old new answer.Failed long some tried = absurd cc
+
+  none_given : (bytes : List ℕ) (old new : MirrorView) (first : Answer) → gives_none first ≡ true → TriesGroup false sector was bytes old new first → Rests old new × NoneOfGroupGives false sector (length was / 512) old new
   none_given bytes old new answer.All is tried = absurd cc
   none_given bytes old new answer.Perhaps is tried = absurd cc
   none_given bytes old new answer.Nothing is tried = tried
   none_given bytes old new answer.Failed is tried = tried
 
+  abbrev NeitherGives : MirrorView → MirrorView → Type 0
+  NeitherGives old new = (s : ℕ) → sector ≤ s → s < sector + length was / 512 → NoneGives s old new
+
   module _ (left : List ℕ) (long : length left ≡ length was) (old mid new : MirrorView) (first : Answer) (is : gives_none first ≡ true) (tried : TriesGroup false sector was left old mid first) where
-    before : Rests old mid × NoneGives false sector (length was / 512) old mid
+    before : Rests old mid × NoneOfGroupGives false sector (length was / 512) old mid
     before = none_given left old mid first is tried
 
+    first_none : Rests mid new → NoneOfGroupGives false sector (length was / 512) old new
+    first_none rests = group_later old mid new before.0 rests false sector (length was / 512) before.1
+
     -- neither group gave any of them
-    none_of_both : Rests mid new → NoneGives true sector (length left / 512) mid new → (mostly : Bool) → NoneGives mostly sector (length was / 512) old new
-    none_of_both rests also false = none_later old mid new before.0 rests false sector (length was / 512) before.1
-    none_of_both rests also true = none_earlier old mid new before.0 rests true sector (length was / 512) (subst (λ n. NoneGives true sector (n / 512) mid new) long also)
+    none_of_both : Rests mid new → NoneOfGroupGives true sector (length left / 512) mid new → NeitherGives old new
+    none_of_both rests also s from below k m on = elim (cases_Bool (is_write_mostly m.superblock)) [
+      | inl mostly ↦ group_earlier old mid new before.0 rests true sector (length left / 512) also s from (omega arith) k m on mostly
+      | inr other ↦ first_none rests s from below k m on other
+    ]
 
     -- the second did not, so that it is as the first one told
     pub neither_group : (bytes : List ℕ) → TriesGroup true sector left bytes mid new answer.Nothing → TriesRoles sector was bytes old new first
     neither_group bytes (rests, also) = by_first first is (rests_then old mid new before.0 rests) (none_of_both rests also)
       where
-        by_first : (told : Answer) → gives_none told ≡ true → Rests old new → ((mostly : Bool) → NoneGives mostly sector (length was / 512) old new) → TriesRoles sector was bytes old new told
+        by_first : (told : Answer) → gives_none told ≡ true → Rests old new → NeitherGives old new → TriesRoles sector was bytes old new told
         by_first answer.All none all neither = absurd cc
         by_first answer.Perhaps none all neither = absurd cc
         by_first answer.Nothing none all neither = (all, neither)
@@ -170,14 +229,12 @@ module _ (sector : ℕ) (was : List ℕ) where
 
     -- or it did
     pub second_group : (bytes : List ℕ) (second : Answer) → length bytes ≡ length left → TriesGroup true sector left bytes mid new second → TriesRoles sector was bytes old new second
-    second_group bytes answer.All same (rests, gives) = (
-      rests_then old mid new before.0 rests,
-      record {
-        mostly = true;
-        given = first_earlier old mid new before.0 rests true sector bytes gives;
-        others = λ e. subst (λ n. NoneGives false sector (n / 512) old new) (sym (same ∙ long)) (none_later old mid new before.0 rests false sector (length was / 512) before.1);
-      },
-    )
+    second_group bytes answer.All same (rests, gives) =
+        given_run true sector bytes old new
+        (first_earlier old mid new before.0 rests true sector bytes gives)
+        (λ e. subst (λ n. NoneOfGroupGives false sector (n / 512) old new) (sym (same ∙ long)) (first_none rests))
+        (rests_then old mid new before.0 rests)
+        (omega arith)
     second_group bytes answer.Nothing same (rests, also) = (rests_then old mid new before.0 rests, none_of_both rests also)
     second_group bytes answer.Failed same (rests, also) = (rests_then old mid new before.0 rests, none_of_both rests also)
     second_group bytes answer.Perhaps same (rests, some) = (rests_then old mid new before.0 rests, subst (λ n. 1 < n / 512) long some)

@@ -1,6 +1,7 @@
 -- Sectors of the array are read from its members (read_balance and raid1_read_request of raid1.c in the kernel's md driver). As there,
 -- write-mostly members come last; else which member is read is this project's own.
-use Rattle.std.specs.Prelude.{◌≡◌, ◌⊎◌, ⊤, ℕ, ◌+◌, ◌-◌, ◌/◌, ◌<◌, ◌≤◌, ◌&&◌, nat_le, Bool, true, false, List, length, Option}
+use Rattle.std.specs.Prelude.{◌≡◌, ◌⊎◌, ⊤, ℕ, ◌+◌, ◌*◌, ◌-◌, ◌/◌, ◌%◌, ◌<◌, ◌≤◌, ◌&&◌, nat_le, Bool, true, false, List, [], ◌∷◌, length, take, Option}
+use Rattle.std.specs.List.{concat}
 use Rattle.md_badblocks.specs.declared.run.Run.{Run}
 use Rattle.md_device.specs.Device.{held}
 use Rattle.md_model.specs.Content.{Content, HoldsAtRest}
@@ -11,7 +12,7 @@ use Rattle.md_assembly.specs.States.{is_in_sync_as}
 use Rattle.md_state.specs.Beginning.{IsInRange, IsOutOfRange}
 use Rattle.md_state.specs.CopyingData.{Lists}
 use Rattle.md_state.specs.DiskWrites.{AtDevice}
-use Rattle.md_state.specs.Members.{IsMember}
+use Rattle.md_state.specs.Members.{IsInSync, IsMember}
 use Rattle.md_state.specs.ReadingData.{HoldsData}
 use Rattle.md_state.specs.Requests.{AreInFlight}
 use Rattle.md_state.specs.Rests.{Rests}
@@ -35,29 +36,59 @@ HasRole a role = (k : ℕ) × IsInRole a role k
 abbrev pub HasFailed : ℕ → MirrorView → MirrorView → Type 0
 HasFailed k old new = AtDevice k old.disks new.disks (λ d e. d.honest ≡ true → d.failures < e.failures)
 
--- whoever is in sync in the role, and is write-mostly or is not, did not give the sector: it lists it, or failed
-abbrev pub NotGivenIn : Bool → ℕ → ℕ → MirrorView → MirrorView → Type 0
-NotGivenIn mostly role s old new =
-    (k : ℕ) (m : MemberView) → IsMember old.array k m → is_in_sync_as role m.state ≡ true → is_write_mostly m.superblock ≡ mostly
-    → Lists m s ⊎ HasFailed k old new
+-- member k, which is m, did not give the sector: it lists it, or failed
+abbrev pub HasNotGiven : ℕ → MemberView → ℕ → MirrorView → MirrorView → Type 0
+HasNotGiven k m s old new = Lists m s ⊎ HasFailed k old new
 
--- The order in which members are asked, by whether they are write-mostly, and by role: those that are not come first, and in each group the
--- lowest role.
+-- nor did any member in sync
+abbrev pub NoneGives : ℕ → MirrorView → MirrorView → Type 0
+NoneGives s old new = (k : ℕ) (m : MemberView) → IsInSync old.array k m → HasNotGiven k m s old new
+
+-- The order of reading, by whether members are write-mostly, and by role: those that are not come first, and in each group the lowest role.
 abbrev pub IsAskedBefore : Bool → ℕ → Bool → ℕ → Type 0
 IsAskedBefore false earlier true role = ⊤
 IsAskedBefore true earlier false role = ⊥
 IsAskedBefore false earlier false role = earlier < role
 IsAskedBefore true earlier true role = earlier < role
 
--- the sector's bytes are those of the first member in sync that gave it
-pub record IsGiven (s : ℕ) (bytes : List ℕ) (old new : MirrorView) : Type 0 where
-  pub from : ℕ
+-- both are in sync, and the one comes before the other in the order of reading
+pub record IsBefore (m n : MemberView) : Type 0 where
   pub role : ℕ
-  pub is : IsInRole old.array role from
-  pub unlisted : Lists is.member s → ⊥
-  pub holds : HoldsData old from s bytes
-  pub first : (mostly : Bool) (earlier : ℕ) → IsAskedBefore mostly earlier (is_write_mostly is.member.superblock) role → NotGivenIn mostly earlier s old new
+  pub other : ℕ
+  pub in_sync : is_in_sync_as role m.state ≡ true
+  pub other_in_sync : is_in_sync_as other n.state ≡ true
+  pub asked_before : IsAskedBefore (is_write_mostly m.superblock) role (is_write_mostly n.superblock) other
 
+-- ---- sectors that were given
+-- The member in the role gave these sectors, and lists none of them.
+pub record GivesIn (role sector : ℕ) (bytes : List ℕ) (old new : MirrorView) : Type 0 where
+  pub from : ℕ
+  pub is : IsInRole old.array role from
+  pub unlisted : (s : ℕ) → sector ≤ s → s < sector + length bytes / 512 → Lists is.member s → ⊥
+  pub holds : HoldsData old from sector bytes
+
+-- So it is of a run of sectors; and of each of them, while the run was asked for, no member before it in the order of reading gave it.
+pub record GivesRun (sector : ℕ) (run : List ℕ) (old new : MirrorView) : Type 0 where
+  pub rests : Rests old new
+  pub whole : length run % 512 ≡ 0
+  pub role : ℕ
+  pub gives : GivesIn role sector run old new
+  pub earlier : (k : ℕ) (m : MemberView) → IsMember old.array k m → IsBefore m gives.is.member
+      → (s : ℕ) → sector ≤ s → s < sector + length run / 512 → HasNotGiven k m s old new
+
+-- Runs one after another: a read that failed for one of them is none that failed for another.
+abbrev pub GivesInTurn : ℕ → List (List ℕ) → MirrorView → MirrorView → Type 0
+GivesInTurn sector [] old new = Rests old new
+GivesInTurn sector (run ∷ runs) old new =
+    (mid : MirrorView) × GivesRun sector run old mid × GivesInTurn (sector + length run / 512) runs mid new
+
+-- these bytes were given so
+pub record GivesSectors (sector : ℕ) (bytes : List ℕ) (old new : MirrorView) : Type 0 where
+  pub runs : List (List ℕ)
+  pub joined : bytes ≡ concat runs
+  pub in_turn : GivesInTurn sector runs old new
+
+-- ---- what a read gives
 pub record MayReadAt (a : ArrayView) (sector sectors : ℕ) : Type 0 where
   pub running : a.halted ≡ false
   pub range : IsInRange a sector sectors
@@ -73,16 +104,18 @@ AreOfContent sector bytes v =
 pub record Reads (sector : ℕ) (bytes : List ℕ) (old new : MirrorView) : Type 0 where
   pub may : MayReadAt old.array sector (length bytes / 512)
   pub rests : Rests old new
-  pub given : (i : ℕ) → i < length bytes / 512 → IsGiven (sector + i) (held bytes i 512) old new
+  pub given : GivesSectors sector bytes old new
   pub content : AreOfContent sector bytes old
 
--- no member in sync gave this sector, and each before it was given: its bytes stand in their place
+-- The sectors before s were given, and their bytes stand in their place. From then on no member in sync gave s.
 pub record IsUnreadable (sector s : ℕ) (bytes : List ℕ) (old new : MirrorView) : Type 0 where
   pub rests : Rests old new
   pub from : sector ≤ s
   pub below : s < sector + length bytes / 512
-  pub none : (mostly : Bool) (role : ℕ) → NotGivenIn mostly role s old new
-  pub earlier : (i : ℕ) → sector + i < s → IsGiven (sector + i) (held bytes i 512) old new
+  pub mid : MirrorView
+  pub earlier : GivesSectors sector (take (512 * (s - sector)) bytes) old mid
+  pub later : Rests mid new
+  pub none : NoneGives s mid new
 
 pub record IsNotResynced (a : ArrayView) (sector sectors : ℕ) : Type 0 where
   pub running : a.halted ≡ false
@@ -100,35 +133,40 @@ RefusesRead sector bytes old new (Unreadable s) = MayReadAt old.array sector (le
 abbrev pub has_all : ℕ → ℕ → Run → Bool
 has_all start len run = nat_le run.start start && (nat_le len run.len && nat_le (start - run.start) (run.len - len))
 
--- The member in the role, which is write-mostly or is not, gave these sectors, and lists none of them.
-pub record GivesIn (mostly : Bool) (role sector : ℕ) (bytes : List ℕ) (old new : MirrorView) : Type 0 where
-  pub from : ℕ
-  pub is : IsInRole old.array role from
-  pub flag : is_write_mostly is.member.superblock ≡ mostly
-  pub unlisted : (s : ℕ) → sector ≤ s → s < sector + length bytes / 512 → Lists is.member s → ⊥
-  pub holds : HoldsData old from sector bytes
+-- Members are asked in two groups: those that are not write-mostly, and those that are.
+-- whoever of the group is in sync in the role did not give the sector
+abbrev pub NotGivenIn : Bool → ℕ → ℕ → MirrorView → MirrorView → Type 0
+NotGivenIn mostly role s old new =
+    (k : ℕ) (m : MemberView) → IsMember old.array k m → is_in_sync_as role m.state ≡ true → is_write_mostly m.superblock ≡ mostly → HasNotGiven k m s old new
+
+-- the member in the role gave these sectors, and is of the group
+pub record GivesInGroup (mostly : Bool) (role sector : ℕ) (bytes : List ℕ) (old new : MirrorView) : Type 0 where
+  pub gives : GivesIn role sector bytes old new
+  pub flag : is_write_mostly gives.is.member.superblock ≡ mostly
 
 abbrev pub TriesRole : Bool → ℕ → ℕ → List ℕ → List ℕ → MirrorView → MirrorView → Answer → Type 0
-TriesRole mostly role sector was bytes old new answer.All = Rests old new × GivesIn mostly role sector bytes old new
+TriesRole mostly role sector was bytes old new answer.All = Rests old new × GivesInGroup mostly role sector bytes old new
 TriesRole mostly role sector was bytes old new answer.Nothing = Rests old new × ((s : ℕ) → sector ≤ s → s < sector + length was / 512 → NotGivenIn mostly role s old new)
 TriesRole mostly role sector was bytes old new answer.Failed = Rests old new × ((s : ℕ) → sector ≤ s → s < sector + length was / 512 → NotGivenIn mostly role s old new)
 TriesRole mostly role sector was bytes old new answer.Perhaps = Rests old new × (1 < length was / 512)
 
--- ---- the members that are write-mostly, or those that are not
--- none of them gave any of these sectors
-abbrev pub NoneGives : Bool → ℕ → ℕ → MirrorView → MirrorView → Type 0
-NoneGives mostly sector sectors old new =
-    (role s : ℕ) → sector ≤ s → s < sector + sectors → NotGivenIn mostly role s old new
+-- ---- one group
+-- none of its members in sync gave any of these sectors
+abbrev pub NoneOfGroupGives : Bool → ℕ → ℕ → MirrorView → MirrorView → Type 0
+NoneOfGroupGives mostly sector sectors old new =
+    (s : ℕ) → sector ≤ s → s < sector + sectors
+    → (k : ℕ) (m : MemberView) → IsInSync old.array k m → is_write_mostly m.superblock ≡ mostly → HasNotGiven k m s old new
 
+-- one of them gave these sectors, and none of a lower role did
 pub record GivesFirst (mostly : Bool) (sector : ℕ) (bytes : List ℕ) (old new : MirrorView) : Type 0 where
   pub role : ℕ
-  pub gives : GivesIn mostly role sector bytes old new
+  pub given : GivesInGroup mostly role sector bytes old new
   pub lowest : (lower : ℕ) → lower < role → (s : ℕ) → sector ≤ s → s < sector + length bytes / 512 → NotGivenIn mostly lower s old new
 
 abbrev pub TriesGroup : Bool → ℕ → List ℕ → List ℕ → MirrorView → MirrorView → Answer → Type 0
 TriesGroup mostly sector was bytes old new answer.All = Rests old new × GivesFirst mostly sector bytes old new
-TriesGroup mostly sector was bytes old new answer.Nothing = Rests old new × NoneGives mostly sector (length was / 512) old new
-TriesGroup mostly sector was bytes old new answer.Failed = Rests old new × NoneGives mostly sector (length was / 512) old new
+TriesGroup mostly sector was bytes old new answer.Nothing = Rests old new × NoneOfGroupGives mostly sector (length was / 512) old new
+TriesGroup mostly sector was bytes old new answer.Failed = Rests old new × NoneOfGroupGives mostly sector (length was / 512) old new
 TriesGroup mostly sector was bytes old new answer.Perhaps = Rests old new × (1 < length was / 512)
 
 -- none of the sectors was given
@@ -139,32 +177,22 @@ gives_none answer.Failed = true
 gives_none answer.Perhaps = false
 
 -- ---- a run of sectors
-pub record GivesRun (sector : ℕ) (bytes : List ℕ) (old new : MirrorView) : Type 0 where
-  pub mostly : Bool
-  pub given : GivesFirst mostly sector bytes old new
-  pub others : mostly ≡ true → NoneGives false sector (length bytes / 512) old new
-
 abbrev pub TriesRoles : ℕ → List ℕ → List ℕ → MirrorView → MirrorView → Answer → Type 0
-TriesRoles sector was bytes old new answer.All = Rests old new × GivesRun sector bytes old new
-TriesRoles sector was bytes old new answer.Nothing = Rests old new × ((mostly : Bool) → NoneGives mostly sector (length was / 512) old new)
-TriesRoles sector was bytes old new answer.Failed = Rests old new × ((mostly : Bool) → NoneGives mostly sector (length was / 512) old new)
+TriesRoles sector was bytes old new answer.All = GivesRun sector bytes old new
+TriesRoles sector was bytes old new answer.Nothing = Rests old new × ((s : ℕ) → sector ≤ s → s < sector + length was / 512 → NoneGives s old new)
+TriesRoles sector was bytes old new answer.Failed = Rests old new × ((s : ℕ) → sector ≤ s → s < sector + length was / 512 → NoneGives s old new)
 TriesRoles sector was bytes old new answer.Perhaps = Rests old new × (1 < length was / 512)
 
--- so many of the sectors were given
+-- so many of the sectors were given, as one run
 pub record GivesFront (sector : ℕ) (was bytes : List ℕ) (old new : MirrorView) (sectors : ℕ) : Type 0 where
-  pub rests : Rests old new
   pub some : 0 < sectors
   pub few : sectors ≤ length was / 512
-  pub given : (i : ℕ) → i < sectors → IsGiven (sector + i) (held bytes i 512) old new
+  pub given : GivesRun sector (take (512 * sectors) bytes) old new
 
 -- no member in sync gave the first of them
 pub record GivesNoFront (sector : ℕ) (old new : MirrorView) : Type 0 where
   pub rests : Rests old new
-  pub none : (mostly : Bool) (role : ℕ) → NotGivenIn mostly role sector old new
-
-pub record GivesAll (sector : ℕ) (bytes : List ℕ) (old new : MirrorView) : Type 0 where
-  pub rests : Rests old new
-  pub given : (i : ℕ) → i < length bytes / 512 → IsGiven (sector + i) (held bytes i 512) old new
+  pub none : NoneGives sector old new
 
 abbrev pub IsGivenUpTo : ℕ → List ℕ → UnreadFault → MirrorView → MirrorView → Type 0
 IsGivenUpTo sector bytes (Unreadable s) old new = IsUnreadable sector s bytes old new

@@ -1,7 +1,7 @@
 // Reading runs of sectors, each from one member.
 ghost use Rattle.std.specs.Prelude.{◌≡◌, ◌+◌, ◌*◌, ◌/◌, ◌%◌, ◌^◌, ◌<◌, ◌≤◌, MatchOption, MatchResult, length};
 ghost use Rattle.md_array.specs.Consistency.{IsConsistent};
-ghost use Rattle.md_read.specs.Reading.{GivesAll, GivesFront, GivesNoFront, IsGivenUpTo, TriesGroup, TriesRoles, gives_none};
+ghost use Rattle.md_read.specs.Reading.{GivesFront, GivesNoFront, GivesSectors, IsGivenUpTo, TriesGroup, TriesRoles, gives_none};
 
 use crate::fault::UnreadFault;
 use crate::roles::{Answer, read_in};
@@ -105,7 +105,7 @@ pub(crate) fn read_runs<D: Device + Drop>(
     requires inside { sector + length buf.old / 512 ≤ mirror.old.array.chunks.size }
     requires fits { sector + length buf.old / 512 < 2 ^ 64 }
     requires sound { IsConsistent mirror.old }
-    ensures { MatchResult result (λ _. GivesAll sector buf.new mirror.old mirror.new) (λ fault. IsGivenUpTo sector buf.new fault mirror.old mirror.new) }
+    ensures { MatchResult result (λ _. GivesSectors sector buf.new mirror.old mirror.new) (λ fault. IsGivenUpTo sector buf.new fault mirror.old mirror.new) }
 {
     let mut done = 0;
     let mut most = buf.len() / 512;

@@ -7,12 +7,12 @@ use Rattle.md_bitmap.specs.Marks.{Bitmap}
 use Rattle.md_model.specs.Events.{Event}
 use Rattle.md_requests.specs.Pending.{PendingView, extent_of}
 use Rattle.md_kept_members.specs.View.{MemberView}
+use Rattle.md_state.specs.DeviceChanges.{IsUntouched}
 use Rattle.md_state.specs.DiskWrites.{AtDevice}
 use Rattle.md_state.specs.View.{ArrayView, Disk, MirrorView}
 use Rattle.md_state.specs.MakingClean.{IsIdle, first_number}
 use Rattle.md_state.specs.Requests.{AreInFlight, IsPending}
 use Rattle.md_state.specs.Members.{AllInSync, IsAlone, IsInSync}
-use Rattle.md_state.specs.CopyingData.{IsSource}
 use Rattle.md_array.specs.Consistency.{IsConsistent}
 use Rattle.md_array.specs.InTurn.{InTurn, Leads, Requests}
 use Rattle.md_array.specs.NotingResynced.{AllAgreeAt, IsServed}
@@ -27,7 +27,7 @@ use Rattle.md_metadata.specs.Storing.{HasAllMarks, IsNoFailure, IsUpToDate}
 use Rattle.md_metadata.proofs.Going.{fails_after}
 use Rattle.md_resync.specs.declared.fault.ResyncFault.{ResyncFault}
 use Rattle.md_resync.specs.declared.fault.ResyncFault.TheVariants.{Halted, InFlight, MemberFailed, NoMemory, ReadFault}
-use Rattle.md_resync.specs.Resyncing.{Advances, ComesTo, EndsUnresynced, FailsToAgree, FailsToWrite, GivesUp, GoesOn, GoesUnresynced, HaltsResync, HasSameMembers, IdleFails, IsOfResync, LeavesMarks, LosesMember, ReadingFails, RefusesResync, Unresyncs}
+use Rattle.md_resync.specs.Resyncing.{Advances, EndsUnresynced, FailsToAgree, FailsToWrite, GivesUp, GoesOn, GoesUnresynced, HaltsResync, HasSameMembers, IdleFails, IsOfResync, LeavesMarks, LosesMember, ReadingFails, RefusesResync, Unresyncs}
 use Rattle.md_resync.proofs.StepsOn.{by_none, by_on, by_singles}
 
 -- ---- nothing is in flight, before or after
@@ -176,17 +176,6 @@ members_stay : (mid new : MirrorView) → Unresyncs mid new → new.array.member
 members_stay mid new u = ap (λ (a : ArrayView). a.members) u.marks.array
 
 module _ (old mid new : MirrorView) (idle : IsIdle old.array) (u : Unresyncs mid new) where
-  comes_still : (sector k chunk : ℕ) (events : List Event) → ComesTo sector k chunk events old mid → ComesTo sector k chunk events old new
-  comes_still sector k chunk events is = record {
-    inside = is.inside;
-    in_chunk = is.in_chunk;
-    marked = is.marked;
-    source = subst (IsSource k sector) (sym u.marks.array)
-        (record { member = is.source.member; at = is.source.at; role = is.source.role; in_sync = is.source.in_sync; unlisted = is.source.unlisted; lowest = is.source.lowest });
-    before = λ s low marked. agree_same mid new u.marks.disks (members_stay mid new u) s (is.before s low marked);
-    none = is.none;
-  }
-
   pub stops_reading : (k chunk : ℕ) → FailsToAgree k chunk old mid → ReadingFails k chunk old new
   unfolding goes_unresynced stops
   stops_reading k chunk f = record {
@@ -198,12 +187,16 @@ module _ (old mid new : MirrorView) (idle : IsIdle old.array) (u : Unresyncs mid
     };
     marks = ap (λ (a : ArrayView). a.marks) u.marks.array ∙ f.marks;
     stored = subst (λ (a : ArrayView). AllInSync a (HasAllMarks a.marks)) (sym u.marks.array) (λ i m is. f.stored i m (record { member = is.member; in_sync = is.in_sync }));
+    mid = f.mid;
+    reached = f.reached;
+    by_events = f.by_events;
     sector = f.sector;
-    comes = comes_still f.sector k chunk f.advances.goes.events f.comes;
+    comes = f.comes;
     two = f.two;
     member = f.member;
     in_sync = f.in_sync;
-    failed = subst (λ (disks : List Disk). AtDevice k old.disks disks (λ d e. d.honest ≡ true → d.failures < e.failures)) (sym u.marks.disks) f.failed;
+    unwritten = subst (IsUntouched f.mid.disks) (sym u.marks.disks) f.fails.rests.disks;
+    failed = subst (λ (disks : List Disk). AtDevice k f.mid.disks disks (λ d e. d.honest ≡ true → d.failures < e.failures)) (sym u.marks.disks) f.fails.failed;
   }
 
   pub loses_member : (k : ℕ) → FailsToWrite k old mid → LosesMember k old new

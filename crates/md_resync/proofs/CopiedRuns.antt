@@ -1,5 +1,5 @@
 -- A run of sectors goes to the members in sync: what each holds after that, and where members agree.
-use Rattle.std.proofs.Common.{◌≡◌, ◌≢◌, ℕ, zero, suc, ◌+◌, ◌-◌, ◌*◌, ◌/◌, ◌≤◌, inl, inr, true, List, [], ◌∷◌, ◌++◌, length, slice_get, Option, Some, refl, sym, ap, ◌∙◌, subst, arith}
+use Rattle.std.proofs.Common.{◌≡◌, ◌≢◌, ℕ, zero, suc, ◌+◌, ◌-◌, ◌*◌, ◌/◌, ◌≤◌, inl, inr, true, List, [], ◌∷◌, ◌++◌, length, slice_get, Option, Some, refl, sym, ap, ◌∙◌, subst, arith, append-nil}
 use Rattle.std.proofs.lemmas.Option.{slice_get_within}
 use Rattle.md_assembly.specs.States.{is_in_sync}
 use Rattle.md_assembly.proofs.Indices.{got_within, got_same}
@@ -116,6 +116,12 @@ module _ (Of : ℕ → Type 0) where
     array = h.array ∙ g.array;
   }
 
+  -- a read after them is no event
+  pub events_then_read : (old mid new : MirrorView) (g : Copies Of old mid) (rests : Rests mid new) (sound : IsConsistent mid)
+      → (copies_then old mid new g (copies_read mid new rests sound)).goes.events ≡ g.goes.events
+  unfolding copies_then copies_read goes_then goes_read
+  events_then_read old mid new g rests sound = append-nil g.goes.events
+
   -- they are of other sectors too
   pub copies_as : (Such : ℕ → Type 0) → ((s : ℕ) → Of s → Such s) → (old new : MirrorView) → Copies Of old new → Copies Such old new
   copies_as Such widen old new g = record { goes = g.goes; only = all_such (IsCopyIn Of) (IsCopyIn Such) (copy_as Of Such widen) g.goes.events g.only; array = g.array }
@@ -185,6 +191,26 @@ module _ (old new : MirrorView) (rests : Rests old new) where
   read_agrees s agree j k m n d e one other free free_too =
       let a = was_served j m d one in
       let b = was_served k n e other in
+      ap (λ (c : List ℕ). part c (512 * (m.superblock.data_offset + s)) 512) a.2
+      ∙ agree j k m n a.0 b.0 a.1 b.1 free free_too
+      ∙ sym (ap (λ (c : List ℕ). part c (512 * (n.superblock.data_offset + s)) 512) b.2)
+
+  still_served : (k : ℕ) (m : MemberView) (d : Disk) → IsServed old k m d → (e : Disk) × IsServed new k m e × (d.content ≡ e.content)
+  still_served k m d is =
+      let low = slice_get_within old.disks k d is.disk in
+      let many = rests.disks.same.as_many in
+      let e = got_within new.disks k (omega arith) in
+      let stays = rests.disks.same.honest k d e.0 is.disk e.1 in (
+        e.0,
+        record { in_sync = subst (λ (a : ArrayView). IsInSync a k m) (sym rests.array) is.in_sync; disk = e.1; honest = stays.honest ∙ is.honest },
+        sym (rests.disks.content k d e.0 is.disk e.1),
+      )
+
+  -- members that agree after it agreed before
+  pub agreed_before : (s : ℕ) → AllAgreeAt new s → AllAgreeAt old s
+  agreed_before s agree j k m n d e one other free free_too =
+      let a = still_served j m d one in
+      let b = still_served k n e other in
       ap (λ (c : List ℕ). part c (512 * (m.superblock.data_offset + s)) 512) a.2
       ∙ agree j k m n a.0 b.0 a.1 b.1 free free_too
       ∙ sym (ap (λ (c : List ℕ). part c (512 * (n.superblock.data_offset + s)) 512) b.2)

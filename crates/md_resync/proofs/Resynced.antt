@@ -1,5 +1,5 @@
 -- A resync is put together.
-use Rattle.std.proofs.Common.{◌≡◌, ℕ, suc, ◌/◌, ◌<◌, Bool, true, false, not, ◌||◌, List, [], ◌∷◌, length, slice_get, Some, refl, sym, ap, ◌∙◌, ◌⊎◌, inl, inr, subst, arith}
+use Rattle.std.proofs.Common.{◌≡◌, ℕ, suc, ◌/◌, ◌<◌, Bool, true, false, not, ◌||◌, List, [], ◌∷◌, ◌++◌, length, slice_get, Some, refl, sym, ap, ◌∙◌, ◌⊎◌, inl, inr, subst, arith}
 use Rattle.std.specs.Prelude.{Result, Ok, Err, MatchResult}
 use Rattle.std.specs.List.{list_any, range_with_len}
 use Rattle.std.proofs.lemmas.Option.{slice_get_within}
@@ -32,11 +32,11 @@ use Rattle.md_metadata.specs.Storing.{HasAllMarks, IsMarking}
 use Rattle.md_resync.specs.declared.fault.ResyncFault.{ResyncFault}
 use Rattle.md_resync.specs.declared.fault.ResyncFault.TheVariants.{Halted, InFlight, MemberFailed, NoMemory, ReadFault}
 use Rattle.md_resync.specs.Copying.{Copies, CopyingFails, FailsReading, IsCopyIn, IsMarkedAt, LosesCopying}
-use Rattle.md_resync.specs.Resyncing.{Advances, AgreeUnstored, Agrees, ClearsStored, ComesTo, FailsToAgree, FailsToWrite, HasSameMembers, IdleFails, IsCopyBelow, IsResynced, LeavesMarks, MarkingFails, Resyncs, SettlesContent, StoresMarks}
+use Rattle.md_resync.specs.Resyncing.{Advances, AgreeUnstored, Agrees, ClearsStored, ComesTo, FailsToAgree, FailsToWrite, GoesOn, HasSameMembers, IdleFails, IsCopyBelow, IsResynced, LeavesMarks, MarkingFails, Resyncs, SettlesContent, StoresMarks}
 use Rattle.md_resync.proofs.Advancing.{advances_on, agree_same, alone_still, fails_on, goes_on, none_flies}
 use Rattle.md_resync.proofs.Agreeing.{copies_advance, copying_goes, copying_is_calm}
 use Rattle.md_resync.proofs.Cleared.{cleared_stored, clearing_advances, content_on, same_but_marks, same_disks}
-use Rattle.md_resync.proofs.CopiedRuns.{copies_read, copies_then}
+use Rattle.md_resync.proofs.CopiedRuns.{agreed_before, copies_read, copies_then, events_then_read}
 use Rattle.md_resync.proofs.Settled.{settles}
 use Rattle.md_resync.proofs.StepsOn.{by_singles}
 use Rattle.md_resync.proofs.Unstored.{unstored_on}
@@ -206,21 +206,30 @@ module _ (old a b : MirrorView) (idle : IsIdle old.array) (s : StoresMarks old a
     same : b.array ≡ a.array
     same = all_copies.array
 
-    none_from : AllOf (IsCopyBelow h.sector) whole_way.goes.events
-    unfolding whole_way came advances_on goes_on copies_advance copying_goes
-    none_from = all_on (IsCopyBelow h.sector) s.advances.goes.events all_copies.goes.events
-        (all_such IsMarking (IsCopyBelow h.sector) (marking_below h.sector) s.advances.goes.events s.only)
-        (all_such (IsCopyIn Of) (IsCopyBelow h.sector) (copied_below h.sector) all_copies.goes.events all_copies.only)
+    -- up to the read
+    reached : GoesOn old h.mid
+    reached = goes_on old a h.mid idle s.members s.advances.goes (copying_goes a h.mid two_there h.copies.goes)
 
-    comes : ComesTo h.sector k chunk whole_way.goes.events old b
+    by_events : reached.events ≡ whole_way.goes.events
+    unfolding reached whole_way came all_copies advances_on goes_on copies_advance copying_goes
+    by_events = ap (λ (es : List Event). s.advances.goes.events ++ es)
+        (sym (events_then_read Of a h.mid b h.copies h.fails.rests h.copies.goes.sound))
+
+    none_from : AllOf (IsCopyBelow h.sector) reached.events
+    unfolding reached goes_on copying_goes
+    none_from = all_on (IsCopyBelow h.sector) s.advances.goes.events h.copies.goes.events
+        (all_such IsMarking (IsCopyBelow h.sector) (marking_below h.sector) s.advances.goes.events s.only)
+        (all_such (IsCopyIn Of) (IsCopyBelow h.sector) (copied_below h.sector) h.copies.goes.events h.copies.only)
+
+    comes : ComesTo h.sector k chunk reached.events old h.mid
     comes = record {
       inside = subst (λ (x : Chunks). h.sector < x.size) chunks_a h.inside;
       in_chunk = subst (λ (x : Chunks). h.sector / x.sectors ≡ chunk) chunks_a h.in_chunk;
       marked = subst (λ (x : Bitmap). is_set x.bytes chunk ≡ true) marks_a h.marked;
-      source = subst (IsSource k h.sector) (sym same) h.source;
-      before = λ t low marked. h.before t
+      source = subst (IsSource k h.sector) (sym h.copies.array) h.source;
+      before = λ t low marked. agreed_before h.mid b h.fails.rests t (h.before t
           (subst (λ (v : ArrayView). IsMarkedAt v t) (sym s.array)
-          ((let inside = subst (λ (x : Chunks). h.sector < x.size) chunks_a h.inside in omega arith), marked)) low;
+          ((let inside = subst (λ (x : Chunks). h.sector < x.size) chunks_a h.inside in omega arith), marked)) low);
       none = none_from;
     }
 
@@ -235,24 +244,15 @@ module _ (old a b : MirrorView) (idle : IsIdle old.array) (s : StoresMarks old a
           members = subst (HasSameMembers old.array) (sym same) s.members;
           marks = ap (λ (v : ArrayView). v.marks) same ∙ marks_a;
           stored = subst (λ (v : ArrayView). AllInSync v (HasAllMarks v.marks)) (sym same) s.stored;
+          mid = h.mid;
+          reached = reached;
+          by_events = by_events;
           sector = h.sector;
           comes = comes;
           two = two;
           member = m.0;
           in_sync = record { member = m.1; in_sync = subst (λ (x : MemberView). is_in_sync x.state ≡ true) (s.members.each k m.0 h.source.member m.1 h.source.at) on };
-          failed = λ d e was is honest.
-              let low = slice_get_within old.disks k d was in
-              let many = s.advances.same.as_many in
-              let x = got_within a.disks k (omega arith) in
-              let so_far = h.copies.goes.same.as_many in
-              let there = slice_get_within a.disks k x.0 x.1 in
-              let y = got_within h.mid.disks k (omega arith) in
-              let first = s.advances.same.honest k d x.0 was x.1 in
-              let second = h.copies.goes.same.honest k x.0 y.0 x.1 y.1 in
-              let once = first.counted in
-              let twice = second.counted in
-              let after = h.fails.failed y.0 e y.1 is (second.honest ∙ first.honest ∙ honest) in
-              omega arith;
+          fails = h.fails;
         }
 
   copying_loses : (k : ℕ) → LosesCopying k a b → FailsToWrite k a b

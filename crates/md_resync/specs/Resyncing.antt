@@ -9,10 +9,11 @@ use Rattle.md_model.specs.Worlds as worlds
 use Rattle.md_model.specs.Worlds.{IsQuiet, World}
 use Rattle.md_kept_members.specs.View.{MemberView}
 use Rattle.md_state.specs.CopyingData.{IsSource}
-use Rattle.md_state.specs.DeviceChanges.{AreSame}
+use Rattle.md_state.specs.DeviceChanges.{AreSame, IsUntouched}
 use Rattle.md_state.specs.DiskWrites.{AtDevice}
 use Rattle.md_state.specs.MakingClean.{HasInFlight, IsIdle}
 use Rattle.md_state.specs.Members.{AllInSync, IsAlone, IsInSync, IsMember, is_degraded}
+use Rattle.md_state.specs.ReadingData.{FailsToRead}
 use Rattle.md_state.specs.Requests.{AreInFlight}
 use Rattle.md_state.specs.Trying.{Refuses, RefusesHalted}
 use Rattle.md_state.specs.View.{ArrayView, MirrorView, geometry_of}
@@ -121,20 +122,25 @@ pub record EndsUnresynced (old new : MirrorView) : Type 0 where
   pub unresynced : new.array.resynced ≡ false
   pub running : new.array.halted ≡ false
 
--- Member k, which is in sync and not alone, could not be read at a sector of this chunk, to which the copying had come. Marks are
--- stored, and none is cleared.
+-- Member k, which is in sync and not alone, could not be read at a sector of this chunk. Right before that read the mirror was `mid`: these
+-- events had been done, the copying had come to the sector, and from then on nothing was written, and the member's device counted the
+-- failure. Marks are stored, and none is cleared.
 pub record ReadingFails (k chunk : ℕ) (old new : MirrorView) : Type 0 where
   pub stops : EndsUnresynced old new
   pub unfailing : AllOf IsNoFailure stops.goes.events
   pub members : HasSameMembers old.array new.array
   pub marks : new.array.marks ≡ old.array.marks
   pub stored : AllInSync new.array (HasAllMarks new.array.marks)
+  pub mid : MirrorView
+  pub reached : GoesOn old mid
+  pub by_events : reached.events ≡ stops.goes.events
   pub sector : ℕ
-  pub comes : ComesTo sector k chunk stops.goes.events old new
+  pub comes : ComesTo sector k chunk reached.events old mid
   pub two : IsAlone old.array → ⊥
   pub member : MemberView
   pub in_sync : IsInSync old.array k member
-  pub failed : AtDevice k old.disks new.disks (λ d e. d.honest ≡ true → d.failures < e.failures)
+  pub unwritten : IsUntouched mid.disks new.disks
+  pub failed : AtDevice k mid.disks new.disks (λ d e. d.honest ≡ true → d.failures < e.failures)
 
 -- The marks in memory are as they were, or, where the array was not degraded, none is set.
 abbrev pub LeavesMarks : ArrayView → ArrayView → Type 0
@@ -183,12 +189,15 @@ pub record FailsToAgree (k chunk : ℕ) (old new : MirrorView) : Type 0 where
   pub members : HasSameMembers old.array new.array
   pub marks : new.array.marks ≡ old.array.marks
   pub stored : AllInSync new.array (HasAllMarks new.array.marks)
+  pub mid : MirrorView
+  pub reached : GoesOn old mid
+  pub by_events : reached.events ≡ advances.goes.events
   pub sector : ℕ
-  pub comes : ComesTo sector k chunk advances.goes.events old new
+  pub comes : ComesTo sector k chunk reached.events old mid
   pub two : IsAlone old.array → ⊥
   pub member : MemberView
   pub in_sync : IsInSync old.array k member
-  pub failed : AtDevice k old.disks new.disks (λ d e. d.honest ≡ true → d.failures < e.failures)
+  pub fails : FailsToRead k mid new
 
 pub record FailsToWrite (k : ℕ) (old new : MirrorView) : Type 0 where
   pub goes : GoesOn old new

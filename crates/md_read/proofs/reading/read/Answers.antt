@@ -1,5 +1,7 @@
 use Rattle.std.proofs.Common.{◌/◌, ℕ, sym, subst}
 use Rattle.md_array.proofs.General.Resting.{rests_sound}
+use Rattle.md_state.specs.Requests.{IsPending}
+use Rattle.md_state.specs.View.{ArrayView}
 use Rattle.md_read.specs.Reading.{MayReadAt}
 use Rattle.md_read.proofs.ReadAnswers.{read_answer, read_rests}
 use Rattle.md_read.proofs.reading.read.Goals as goal
@@ -15,3 +17,8 @@ returns-clause-sound g c =
     let old = c.args.mirror.now in
     let new = c.read_runs.new.mirror in
     rests_sound old new (read_rests old new c.args.sector c.read_runs.new.buf c.read_runs.result c.read_runs.ensures) c.requires.sound
+
+pub returns-clause-pending : goal.returns-clause-pending
+returns-clause-pending g c p is =
+    let rests = read_rests c.args.mirror.now c.read_runs.new.mirror c.args.sector c.read_runs.new.buf c.read_runs.result c.read_runs.ensures in
+    subst (λ (a : ArrayView). IsPending a p) (sym rests.array) is

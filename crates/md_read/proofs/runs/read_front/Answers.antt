@@ -1,11 +1,11 @@
-use Rattle.std.proofs.Common.{◌≡◌, ◌∙◌, ◌*◌, ◌+◌, ◌/◌, ◌<◌, ◌≤◌, ℕ, List, length, drop, take, sym, subst, arith, length-append, length-drop}
+use Rattle.std.proofs.Common.{◌≡◌, ◌∙◌, ◌*◌, ◌+◌, ◌/◌, ◌<◌, ◌≤◌, ℕ, List, ◌++◌, length, drop, take, sym, ap, subst, arith, length-append, length-drop}
+use Rattle.std.proofs.Math.Seq.{take-append_seam}
 use Rattle.std.proofs.lemmas.List.{length-take-le}
 use Rattle.md_array.proofs.General.Resting.{rests_sound}
 use Rattle.md_laws.proofs.Runs.Rests.{rests_then}
 use Rattle.md_state.specs.Rests.{Rests}
-use Rattle.md_read.specs.Reading.{IsGiven}
-use Rattle.md_read.proofs.RunsRead.{not_given_earlier, run_earlier}
-use Rattle.md_read.proofs.SectorsGiven.{held_front, sector_given}
+use Rattle.md_read.specs.Reading.{GivesRun}
+use Rattle.md_read.proofs.RunsRead.{none_gives_earlier, run_earlier}
 use Rattle.md_read.proofs.runs.read_front.Goals as goal
 use Rattle.md_read.proofs.runs.read_front.Goals.{in-Failed+else-sectors-eq1, in-Perhaps}
 
@@ -22,14 +22,12 @@ returns-in-All g c =
     let rest = drop (512 * c.loop-sectors.sectors) c.loop-sectors.buf in
     let long = run_long c.loop-sectors.buf c.loop-sectors.sectors (let same = c.loop-sectors.invariant.long in omega arith) in
     let same = c.read_run.auto.buf in
-    let run = run_earlier old mid new rests c.in-All.ensures.0 c.args.sector bytes c.in-All.ensures.1 in
     record {
-      rests = rests_then old mid new rests c.in-All.ensures.0;
       some = c.loop-sectors.invariant.some;
       few = c.loop-sectors.invariant.few;
-      given = λ i low.
-          let inside : i < length bytes / 512 = omega arith in
-          subst (λ (xs : List ℕ). IsGiven (c.args.sector + i) xs old new) (sym (held_front bytes rest i inside)) (sector_given old new c.args.sector bytes run i inside);
+      given =
+          let front : take (512 * c.loop-sectors.sectors) (bytes ++ rest) ≡ bytes = ap (λ (n : ℕ). take n (bytes ++ rest)) (sym (same ∙ long)) ∙ take-append_seam bytes rest in
+          subst (λ (xs : List ℕ). GivesRun c.args.sector xs old new) (sym front) (run_earlier old mid new rests c.in-All.ensures.rests c.args.sector bytes c.in-All.ensures);
     }
 
 -- nobody gave the first of them
@@ -44,7 +42,7 @@ returns-in-Nothing g c =
     let long = run_long c.loop-sectors.buf c.loop-sectors.sectors (let same = c.loop-sectors.invariant.long in omega arith) in
     record {
       rests = rests_then old mid new rests c.in-Nothing.ensures.0;
-      none = λ mostly role. not_given_earlier old mid new rests c.in-Nothing.ensures.0 mostly role c.args.sector (c.in-Nothing.ensures.1 mostly role c.args.sector (omega arith) (omega arith));
+      none = none_gives_earlier old mid new rests c.in-Nothing.ensures.0 c.args.sector (c.in-Nothing.ensures.1 c.args.sector (omega arith) (omega arith));
     }
 
 pub returns-then-sectors-eq1 : goal.returns-then-sectors-eq1
@@ -58,7 +56,7 @@ returns-then-sectors-eq1 g c =
     let long = run_long c.loop-sectors.buf c.loop-sectors.sectors (let same = c.loop-sectors.invariant.long in omega arith) in
     record {
       rests = rests_then old mid new rests c.in-Failed.ensures.0;
-      none = λ mostly role. not_given_earlier old mid new rests c.in-Failed.ensures.0 mostly role c.args.sector (c.in-Failed.ensures.1 mostly role c.args.sector (omega arith) (omega arith));
+      none = none_gives_earlier old mid new rests c.in-Failed.ensures.0 c.args.sector (c.in-Failed.ensures.1 c.args.sector (omega arith) (omega arith));
     }
 
 pub loop-sectors-preserved : goal.loop-sectors-preserved

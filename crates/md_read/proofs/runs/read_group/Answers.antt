@@ -4,7 +4,7 @@ use Rattle.md_array.proofs.General.Resting.{rests_sound}
 use Rattle.md_laws.proofs.Runs.Rests.{rests_then}
 use Rattle.md_read.specs.Reading.{NotGivenIn}
 use Rattle.md_state.specs.Rests.{Rests}
-use Rattle.md_read.proofs.RunsRead.{NoneBelow, given_run, none_in_any, none_more}
+use Rattle.md_read.proofs.RunsRead.{NoneBelow, given_first, none_in_any, none_more}
 use Rattle.md_read.proofs.runs.read_group.Goals as goal
 use Rattle.md_read.proofs.runs.read_group.Goals.{in-Failed, in-Nothing}
 
@@ -17,7 +17,7 @@ returns-in-All g c =
     let so_far = c.loop-role.invariant.none in
     let same : length bytes ≡ length c.args.buf.now = c.read_in.auto.buf ∙ c.loop-role.invariant.long in (
       rests_then old mid new so_far.rests c.in-All.ensures.0,
-      given_run c.args.mostly c.loop-role.role c.args.sector old mid new bytes (subst (λ (n : ℕ). NoneBelow c.args.mostly c.loop-role.role c.args.sector (n / 512) old mid) (sym same) so_far) c.in-All.ensures.0 c.in-All.ensures.1,
+      given_first c.args.mostly c.loop-role.role c.args.sector old mid new bytes (subst (λ (n : ℕ). NoneBelow c.args.mostly c.loop-role.role c.args.sector (n / 512) old mid) (sym same) so_far) c.in-All.ensures.0 c.in-All.ensures.1,
     )
 
 pub returns-in-Perhaps : goal.returns-in-Perhaps

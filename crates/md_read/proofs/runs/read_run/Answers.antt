@@ -7,28 +7,28 @@ pub returns-then-not-is_none : goal.returns-then-not-is_none
 returns-then-not-is_none g c =
     let first = c.read_group-first in
     let some : gives_none first.result ≡ false = let told = c.is_none.ensures in let out = c.if-is_none.false in cc in
-    first_group c.args.sector c.args.buf.now first.new.buf c.args.mirror.now first.new.mirror first.result some first.ensures
+    first_group c.args.sector c.args.buf.now c.requires.whole first.new.buf c.args.mirror.now first.new.mirror first.result first.auto.buf some first.ensures
 
 pub returns-in-All : goal.returns-in-All
 returns-in-All g c =
     let first = c.read_group-first in
     let none : gives_none first.result ≡ true = let told = c.is_none.ensures in let out = c.if-is_none.true in cc in
-    second_group c.args.sector c.args.buf.now first.new.buf first.auto.buf c.args.mirror.now first.new.mirror c.read_group.new.mirror first.result none first.ensures c.read_group.new.buf _ c.read_group.auto.buf c.in-All.ensures
+    second_group c.args.sector c.args.buf.now c.requires.whole first.new.buf first.auto.buf c.args.mirror.now first.new.mirror c.read_group.new.mirror first.result none first.ensures c.read_group.new.buf _ c.read_group.auto.buf c.in-All.ensures
 
 pub returns-in-Nothing : goal.returns-in-Nothing
 returns-in-Nothing g c =
     let first = c.read_group-first in
     let none : gives_none first.result ≡ true = let told = c.is_none.ensures in let out = c.if-is_none.true in cc in
-    neither_group c.args.sector c.args.buf.now first.new.buf first.auto.buf c.args.mirror.now first.new.mirror c.read_group.new.mirror first.result none first.ensures c.read_group.new.buf c.in-Nothing.ensures
+    neither_group c.args.sector c.args.buf.now c.requires.whole first.new.buf first.auto.buf c.args.mirror.now first.new.mirror c.read_group.new.mirror first.result none first.ensures c.read_group.new.buf c.in-Nothing.ensures
 
 pub returns-in-Failed : goal.returns-in-Failed
 returns-in-Failed g c =
     let first = c.read_group-first in
     let none : gives_none first.result ≡ true = let told = c.is_none.ensures in let out = c.if-is_none.true in cc in
-    second_group c.args.sector c.args.buf.now first.new.buf first.auto.buf c.args.mirror.now first.new.mirror c.read_group.new.mirror first.result none first.ensures c.read_group.new.buf _ c.read_group.auto.buf c.in-Failed.ensures
+    second_group c.args.sector c.args.buf.now c.requires.whole first.new.buf first.auto.buf c.args.mirror.now first.new.mirror c.read_group.new.mirror first.result none first.ensures c.read_group.new.buf _ c.read_group.auto.buf c.in-Failed.ensures
 
 pub returns-in-Perhaps : goal.returns-in-Perhaps
 returns-in-Perhaps g c =
     let first = c.read_group-first in
     let none : gives_none first.result ≡ true = let told = c.is_none.ensures in let out = c.if-is_none.true in cc in
-    second_group c.args.sector c.args.buf.now first.new.buf first.auto.buf c.args.mirror.now first.new.mirror c.read_group.new.mirror first.result none first.ensures c.read_group.new.buf _ c.read_group.auto.buf c.in-Perhaps.ensures
+    second_group c.args.sector c.args.buf.now c.requires.whole first.new.buf first.auto.buf c.args.mirror.now first.new.mirror c.read_group.new.mirror first.result none first.ensures c.read_group.new.buf _ c.read_group.auto.buf c.in-Perhaps.ensures

@@ -1,14 +1,24 @@
-use Rattle.std.proofs.Common.{◌≡◌, ◌∙◌, ◌+◌, ◌*◌, ◌-◌, ◌/◌, ◌%◌, ◌<◌, ◌≤◌, ℕ, List, length, drop, take, min, sym, subst, arith, inl, inr, length-drop}
-use Rattle.std.proofs.lemmas.Bool.{cases_lt}
-use Rattle.std.proofs.lemmas.List.{length-take-le}
+use Rattle.std.proofs.Common.{◌≡◌, ◌∙◌, ◌+◌, ◌*◌, ◌-◌, ◌/◌, ◌%◌, ◌<◌, ◌≤◌, ℕ, List, length, drop, take, min, refl, sym, ap, subst, arith, length-drop}
+use Rattle.std.proofs.lemmas.List.{length-take-le, take_all}
+use Rattle.std.proofs.lemmas.Slice.{take-put_mid_below}
 use borrow.Rule.Slice.PartMut.{put_mid}
-use Rattle.md_device.specs.Device.{held}
 use Rattle.md_array.proofs.General.Resting.{rests_sound}
-use Rattle.md_laws.proofs.Runs.Rests.{rests_then}
-use Rattle.md_read.specs.Reading.{IsGiven}
-use Rattle.md_read.proofs.RunsRead.{given_earlier, given_later, not_given_earlier}
-use Rattle.md_read.proofs.SectorsGiven.{held_after, held_before, length-replaced}
+use Rattle.md_laws.proofs.Runs.Rests.{rests_same, rests_then}
+use Rattle.md_read.specs.Reading.{GivesSectors}
+use Rattle.md_read.proofs.RunsInTurn.{gives_none, gives_run, gives_then}
+use Rattle.md_read.proofs.SectorsGiven.{length-replaced, take-replaced}
 use Rattle.md_read.proofs.runs.read_runs.Goals as goal
+
+pub loop-done-init : goal.loop-done-init
+loop-done-init g c = record {
+  rests = rests_same c.args.mirror.now;
+  sound = c.requires.sound;
+  long = refl;
+  whole = refl;
+  few = omega arith;
+  some = λ some. let whole = c.requires.whole in omega arith;
+  given = gives_none c.args.sector c.args.mirror.now;
+}
 
 pub overflow_add-at : goal.overflow_add-at
 overflow_add-at g c =
@@ -56,16 +66,17 @@ returns-in_default g c =
     let tries = tried was done sectors c.loop-done.most before (omega arith) so_far.whole (so_far.some (omega arith)) c.min-sectors.ensures in
     let as_long : length bytes ≡ 512 * sectors = c.read_front.auto.buf ∙ as_tried was done sectors tries.1 in
     let long = length-replaced done rest was bytes (omega arith) (omega arith) (omega arith) in
-    let at : ℕ = c.args.sector + done / 512 in
+    let whole = so_far.whole in
+    let front : take (512 * (c.args.sector + done / 512 - c.args.sector)) (put_mid done rest was bytes) ≡ take done was =
+        ap (λ (n : ℕ). take n (put_mid done rest was bytes)) (omega arith) ∙ take-put_mid_below done rest was bytes done (omega arith) (omega arith) in
     record {
       rests = rests_then old mid new rests later;
       from = omega arith;
-      below = let whole = so_far.whole in let all = c.requires.whole in omega arith;
-      none = λ mostly role. not_given_earlier old mid new rests later mostly role at (c.in_default.ensures.none mostly role);
-      earlier = λ i below.
-          let early : i < done / 512 = omega arith in
-          subst (λ (xs : List ℕ). IsGiven (c.args.sector + i) xs old new) (sym (held_before done rest was bytes (omega arith) i early))
-          (given_later old mid new rests later (c.args.sector + i) (held was i 512) (so_far.given i early));
+      below = omega arith;
+      mid = mid;
+      earlier = subst (λ (xs : List ℕ). GivesSectors c.args.sector xs old mid) (sym front) so_far.given;
+      later = later;
+      none = c.in_default.ensures.none;
     }
 
 pub loop-done-preserved : goal.loop-done-preserved
@@ -89,25 +100,26 @@ loop-done-preserved g c =
     let as_long : length bytes ≡ 512 * sectors = c.read_front.auto.buf ∙ taken in
     let few = front.few in
     let some = front.some in
-    let at : (i : ℕ) → List ℕ = λ i. held (put_mid done rest was bytes) i 512 in
+    let given : ℕ = c.in-Some.given in
+    let run = take (512 * given) bytes in
+    let so_long : length (take done was) ≡ done = length-take-le done was (omega arith) in
+    let here : c.args.sector + done / 512 ≡ c.args.sector + length (take done was) / 512 = omega arith in
+    let more = gives_then c.args.sector old mid new (take done was) run so_far.given
+        (subst (λ (s : ℕ). GivesSectors s run mid new) here (gives_run (c.args.sector + done / 512) run mid new front.given)) in
     record {
-      rests = rests_then old mid new so_far.rests front.rests;
-      sound = rests_sound mid new front.rests so_far.sound;
+      rests = rests_then old mid new so_far.rests front.given.rests;
+      sound = rests_sound mid new front.given.rests so_far.sound;
       long = length-replaced done rest was bytes (omega arith) (omega arith) (omega arith) ∙ same;
       whole = omega arith;
       few = omega arith;
       some = λ more. omega arith;
-      given = λ i low. elim (cases_lt i (done / 512)) [
-        | inl early ↦
-            subst (λ (xs : List ℕ). IsGiven (c.args.sector + i) xs old new) (sym (held_before done rest was bytes (omega arith) i early))
-            (given_later old mid new so_far.rests front.rests (c.args.sector + i) (held was i 512) (so_far.given i early))
-        | inr late ↦
-            let j : ℕ = i - done / 512 in
-            let there : done / 512 + j ≡ i = omega arith in
-            let sector : c.args.sector + done / 512 + j ≡ c.args.sector + i = omega arith in
-            subst (λ (s : ℕ). IsGiven s (at i) old new) sector
-            (subst (λ (k : ℕ). IsGiven (c.args.sector + done / 512 + j) (at k) old new) there
-            (subst (λ (xs : List ℕ). IsGiven (c.args.sector + done / 512 + j) xs old new) (sym (held_after done rest was bytes (omega arith) j whole (omega arith)))
-            (given_earlier old mid new so_far.rests front.rests (c.args.sector + done / 512 + j) (held bytes j 512) (front.given j (omega arith)))))
-      ];
+      given = subst (λ (xs : List ℕ). GivesSectors c.args.sector xs old new) (sym (take-replaced done rest was bytes (omega arith) (512 * given) (omega arith))) more;
     }
+
+-- all of them were given
+pub returns : goal.returns
+returns g c =
+    let so_far = c.loop-done.invariant in
+    let past = c.loop-done-test.false in
+    let whole : take c.loop-done.done c.loop-done.buf ≡ c.loop-done.buf = take_all c.loop-done.done c.loop-done.buf (let same = so_far.long in omega arith) in
+    subst (λ (xs : List ℕ). GivesSectors c.args.sector xs c.args.mirror.now c.loop-done.mirror) whole so_far.given

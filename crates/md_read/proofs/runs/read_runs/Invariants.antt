@@ -1,8 +1,7 @@
-use Rattle.std.proofs.Common.{◌≡◌, ℕ, ◌+◌, ◌-◌, ◌/◌, ◌%◌, ◌<◌, ◌≤◌, length}
+use Rattle.std.proofs.Common.{◌≡◌, ◌-◌, ◌%◌, ◌<◌, ◌≤◌, length, take}
 use Rattle.md_state.specs.Rests.{Rests}
 use Rattle.md_array.specs.Consistency.{IsConsistent}
-use Rattle.md_device.specs.Device.{held}
-use Rattle.md_read.specs.Reading.{IsGiven}
+use Rattle.md_read.specs.Reading.{GivesSectors}
 use Rattle.md_read.proofs.runs.read_runs.Given as goal
 
 abbrev pub decreases-loop-done : goal.decreases-loop-done
@@ -17,5 +16,5 @@ invariant-loop-done g l =
       whole : l.done % 512 ≡ 0;
       few : l.done ≤ length l.fn.buf;
       some : l.done < length l.fn.buf → 0 < l.most;
-      given : (i : ℕ) → i < l.done / 512 → IsGiven (l.sector + i) (held l.buf i 512) l.fn.mirror l.mirror;
+      given : GivesSectors l.sector (take l.done l.buf) l.fn.mirror l.mirror;
     }
