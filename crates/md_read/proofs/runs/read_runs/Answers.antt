@@ -68,7 +68,7 @@ returns-in_default g c =
     let long = length-replaced done rest was bytes (omega arith) (omega arith) (omega arith) in
     let whole = so_far.whole in
     let front : take (512 * (c.args.sector + done / 512 - c.args.sector)) (put_mid done rest was bytes) ≡ take done was =
-        ap (λ (n : ℕ). take n (put_mid done rest was bytes)) (omega arith) ∙ take-put_mid_below done rest was bytes done (omega arith) (omega arith) in
+    ap (λ (n : ℕ). take n (put_mid done rest was bytes)) (omega arith) ∙ take-put_mid_below done rest was bytes done (omega arith) (omega arith) in
     record {
       rests = rests_then old mid new rests later;
       from = omega arith;
@@ -105,7 +105,7 @@ loop-done-preserved g c =
     let so_long : length (take done was) ≡ done = length-take-le done was (omega arith) in
     let here : c.args.sector + done / 512 ≡ c.args.sector + length (take done was) / 512 = omega arith in
     let more = gives_then c.args.sector old mid new (take done was) run so_far.given
-        (subst (λ (s : ℕ). GivesSectors s run mid new) here (gives_run (c.args.sector + done / 512) run mid new front.given)) in
+    (subst (λ (s : ℕ). GivesSectors s run mid new) here (gives_run (c.args.sector + done / 512) run mid new front.given)) in
     record {
       rests = rests_then old mid new so_far.rests front.given.rests;
       sound = rests_sound mid new front.given.rests so_far.sound;
