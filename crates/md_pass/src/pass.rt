@@ -40,8 +40,7 @@ pub struct BoardCounts {
 /// a worker of its own: in a turn those of 1 MiB, those of 64 KiB where it is the only source, or one where
 /// a chunk is longer. Then the collector takes what they report, first that of each source's first chunk in
 /// the turn, the lowest role first, then that of the second. All memory is taken before a device leaves the
-/// list, but that of a worker that read a shorter chunk before; a read that fails costs none. The devices are
-/// back in their order whatever the answer is.
+/// list. The devices are back in their order whatever the answer is.
 ///
 /// `copied` gets a mark for each chunk that was copied. After `Ok` a slot whose chunk has no mark failed: its
 /// source could not be read there, and the target has in that chunk what it had. The board counts them.
