@@ -7,9 +7,7 @@ ghost use Rattle.md_pass.specs.Copied.{AreUncopied, BreaksOff, EndsPass, WritesP
 ghost use Rattle.md_pass.specs.Preparing.{CanCopy, sources_of};
 ghost use Rattle.md_pass.specs.Sources.{MayRead, copy_of};
 
-use md_workers::Board;
 use crate::fault::PassFault;
-use md_workers::Gate;
 use crate::preparing::{Preparation, prepare};
 use crate::put_back::put_back;
 use crate::readings::turns_of;
@@ -19,6 +17,7 @@ use crate::turns::run_turns;
 use md_bitmap::{Chunks, Marks};
 use md_cert::Plan;
 use md_device::Device;
+use md_workers::{Board, Gate};
 use std::alloc::Global;
 use std::marker::Brand;
 use std::sync::ledger::{Blank, Ledger};
