@@ -48,8 +48,8 @@ failed_or_not : (failed : List Slot) (m : MemberView) → HasFailed failed m ⊎
 failed_or_not failed m =
     let own : Slot → Bool = λ s. is_in_sync_as s.source m.state in
     elim (cases_Bool (list_any own failed)) [
-      | inl yes ↦ inl (Any-from_list_any own failed yes)
-      | inr no ↦ inr (λ has. both_ways (list_any own failed) no (list_any-from_Any own failed has))
+      | inl some ↦ inl (Any-from_list_any own failed some)
+      | inr none ↦ inr (λ has. both_ways (list_any own failed) none (list_any-from_Any own failed has))
     ]
 
 in_either : (xs ys : List Slot) (m : MemberView) → HasFailed (xs ++ ys) m → HasFailed xs m ⊎ HasFailed ys m
@@ -58,7 +58,7 @@ in_either xs ys m has =
     let both = sym (list_any-append own xs ys) ∙ list_any-from_Any own (xs ++ ys) has in
     elim (cases_Bool (list_any own xs)) [
       | inl first ↦ inl (Any-from_list_any own xs first)
-      | inr no ↦ inr (Any-from_list_any own ys (sym (ap (λ b. b || list_any own ys) no) ∙ both))
+      | inr none ↦ inr (Any-from_list_any own ys (sym (ap (λ b. b || list_any own ys) none) ∙ both))
     ]
 
 -- ---- another member than the target
