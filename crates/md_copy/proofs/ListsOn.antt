@@ -1,5 +1,5 @@
 -- What the device of a member in sync has of its list once this is stored, and that it stays.
-use Rattle.std.proofs.Common.{◌≡◌, ◌≢◌, ◌∙◌, ◌⊎◌, ◌↔◌, ℕ, suc, zero, ◌+◌, ◌*◌, ◌<◌, Bool, true, false, if◌then◌else◌, List, [], ◌∷◌, length, map, set, slice_get, Option, Some, None, pos, refl, sym, ap, subst, arith, inl, inr}
+use Rattle.std.proofs.Common.{◌≡◌, ◌≢◌, ◌∙◌, ◌⊎◌, ◌↔◌, ℕ, suc, zero, ◌+◌, ◌*◌, ◌<◌, Bool, true, false, if◌then◌else◌, List, [], ◌∷◌, length, map, set, slice_get, Option, Some, None, refl, sym, ap, subst, arith, inl, inr}
 use Rattle.std.specs.Prelude.{All}
 use Rattle.std.specs.List.{Any}
 use Rattle.std.proofs.lemmas.Bool.{both_ways, cases_eq}
@@ -52,7 +52,7 @@ use Rattle.md_metadata.specs.Going.{GoesOn, only_others}
 use Rattle.md_metadata.specs.Storing.{IsStoring}
 use Rattle.md_copy.specs.Listing.{all_list_events}
 use Rattle.md_copy.specs.Rebuilt.{HasListOn}
-use Rattle.md_copy.proofs.StoringKeeps.{IsSameMember, KeepsAll, device_before, due_within, keeps_event, member_before}
+use Rattle.md_copy.proofs.StoringKeeps.{KeepsAll, device_before, due_within, keeps_event, member_before}
 
 -- ---- one device
 -- by the own fields that are kept its log lists what is listed in memory
