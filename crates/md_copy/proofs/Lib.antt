@@ -19,6 +19,8 @@ pub mod LentBack
 pub mod ListingEnds
 pub mod ListingKeeps
 pub mod Lists
+pub mod ListsKept
+pub mod ListsOn
 pub mod ListsStored
 pub mod MadeReady
 pub mod NotedLists

@@ -25,6 +25,7 @@ use Rattle.md_copy.specs.Rebuilding.{Rebuilds, RebuildsReadied}
 use Rattle.md_copy.specs.Rebuilt.{AllCounted, HaltsFrom, HasRebuilt, IsRebuilt, IsRebuiltInSync, ListsGrow, failed_of}
 use Rattle.md_copy.specs.Sources.{missing_chunks}
 use Rattle.md_copy.specs.Storing.{Settles}
+use Rattle.md_copy.proofs.ListsKept.{own_stored_so, stored_so}
 use Rattle.md_copy.proofs.PassesTold.{HoldsSoFar, begins_holding}
 use Rattle.md_copy.proofs.Readied.{ready_of}
 use Rattle.md_copy.proofs.RebuiltMember.{all_so, copied_so, counted_so, in_sync_now, lists_so, now_there, passes_so, rebuilt_so}
@@ -224,4 +225,9 @@ module _ (target : ℕ) (told : Rebuilt) (old new : MirrorView) (h : Rebuilds ta
       lists = lists;
       counted = counted;
     };
+    stored = λ k n z e other at_n has at_z in_sync at_e honest.
+        (let o = starts.then k n at_n in
+        stored_so target m h.none v new told r last.0 last.1.goes k o.0 z e other o.1
+        (has.0, has.1, has.2, has.3, o.2.roles has.1.source ∙ has.4) at_z in_sync at_e honest);
+    own_stored = λ e at_e in_sync honest. own_stored_so target m h.none v new told r last.0 last.1.goes rebuilt.now e rebuilt.there at_e in_sync honest;
   }
