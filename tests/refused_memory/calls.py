@@ -39,19 +39,19 @@ WITHIN = {
 # A test that makes the call as a step, which answers that it found no memory, leaves the mirror as it was, and is made again: the
 # name by which the test tells of it.
 AGAIN = {
-    "md_array::Mirror::add": ("step_tests", "members::coming_in::added", "add"),
-    "md_array::Mirror::admit": ("step_tests", "members::recovering::a_spare_is_admitted", "admit"),
-    "md_array::Mirror::begin": ("step_tests", "steps::writes::step_order", "begin"),
-    "md_array::Mirror::missing": ("step_tests", "members::leaving::member_changes", "missing"),
-    "md_array::Mirror::note_bad": ("step_tests", "members::listing::a_list_grows", "note_bad"),
-    "md_array::Mirror::re_add": ("step_tests", "members::leaving::lacks_what_was_written_since", "re_add"),
-    "md_resync::resync": ("step_tests", "steps::writes::step_order", "resync"),
-    "md_write::write": ("step_tests", "members::leaving::member_changes", "write"),
+    "md_array::Mirror::add": ("step_tests", "members::coming_in::members_come_in", "add"),
+    "md_array::Mirror::admit": ("step_tests", "members::recovering::members_recover", "admit"),
+    "md_array::Mirror::begin": ("step_tests", "steps::writes::writes_by_steps", "begin"),
+    "md_array::Mirror::missing": ("step_tests", "members::leaving::members_leave", "missing"),
+    "md_array::Mirror::note_bad": ("step_tests", "members::listing::lists_grow", "note_bad"),
+    "md_array::Mirror::re_add": ("step_tests", "members::leaving::members_leave", "re_add"),
+    "md_resync::resync": ("step_tests", "steps::writes::writes_by_steps", "resync"),
+    "md_write::write": ("step_tests", "members::leaving::members_leave", "write"),
 }
 
 # A test that fails where the call is refused its memory, and in which nothing else fails in these words.
 FAILS = {
-    "md_array::Mirror::open": ("step_tests", "openings::bitmap_accepted", "NoMemory"),
+    "md_array::Mirror::open": ("step_tests", "openings::mirrors_are_opened", "NoMemory"),
     "md_assembly::assemble": ("part_tests", "assembly::stale_by_events", "NoMemory"),
     "md_badblocks::BadSet::from_log": ("part_tests", "bad_block_logs::reads_and_writes_a_log", "NoMemory"),
     "md_badblocks::BadSet::add": ("part_tests", "bad_block_logs::adds_and_removes", "AllocError"),
