@@ -49,7 +49,7 @@ AGAIN = {
     "md_write::write": ("step_tests", "members::leaving::members_leave", "write"),
 }
 
-# A test that fails where the call is refused its memory, and in which nothing else fails in these words.
+# A test that makes the call, and fails where that is refused its memory: the words with which it fails.
 FAILS = {
     "md_array::Mirror::open": ("step_tests", "openings::mirrors_are_opened", "NoMemory"),
     "md_assembly::assemble": ("part_tests", "assembly::stale_by_events", "NoMemory"),
@@ -71,11 +71,9 @@ FAILS = {
     "md_images::MemImages::add": ("command_tests", "faults_in_memory::images_that_fail", "AllocError"),
     "md_images::MemImages::add_protected": ("command_tests", "faults_in_memory::images_that_fail", "AllocError"),
     "md_inflight::Inflight::push_back": ("part_tests", "requests::removed_in_any_order", "NoMemory"),
-    "md_members::read_super": ("part_tests", "damaged::rows::answers", "NoMemory"),
-    "md_members::read_member": ("part_tests", "damaged::rows::answers", "NoMemory"),
+    "md_members::read_member": ("part_tests", "damaged::rows::answers", "no memory"),
     "md_plan::plan": ("part_tests", "plans::small_tables::plan_needs_a_move", "NoMemory"),
     "md_stop_device::Fuse::new": ("stop_tests", "fuses::metadata_stay", "AllocError"),
-    "md_stop_device::Fuse::share": ("stop_tests", "fuses::metadata_stay", "AllocError"),
     "md_super::decode": ("part_tests", "superblocks::reads_a_member", "NoMemory"),
 }
 
@@ -93,7 +91,11 @@ ANSWERS = {
     "md_commands::write_array": "write",
     "md_images::take_images": "assemble",
     "md_images::image_list": "assemble",
+    "md_members::read_super": "examine",
 }
+
+# These take no memory: they say so where a count is spent.
+TAKES_NONE = {"md_stop_device::Fuse::share"}
 
 NOT_SHIPPED = re.compile(r"(.*_tests|example_members|bench_parts|mdcli)$")
 TYPE = re.compile(r"^pub (?:enum|struct) (\w+)[^;{]*\{(.*?)^\}", re.M | re.S)
@@ -152,6 +154,8 @@ def public_calls():
 
 
 def reasons_against(call, outcomes, commands):
+    if call in TAKES_NONE:
+        return []
     if call in WITHIN:
         return [] if WITHIN[call] in LINES else ["it is made within %s, which has no line" % WITHIN[call]]
     if call in ANSWERS:
@@ -165,7 +169,7 @@ def reasons_against(call, outcomes, commands):
     return [] if words in outcome.said else ["no run of %s %s said `%s'" % (suite, test, words)]
 
 
-LINES = {"md_cli::run"}.union(WITHIN, AGAIN, FAILS, ANSWERS)
+LINES = {"md_cli::run"}.union(WITHIN, AGAIN, FAILS, ANSWERS, TAKES_NONE)
 
 
 def judge_all(tally, outcomes, commands):
