@@ -1,6 +1,6 @@
 // What is done with a mirror, and looked at, as values; and what comes of it.
 use crate::data::Data;
-use crate::told::{Pass, Told};
+use crate::told::Told;
 use md_array::{BeginFault, FailFault, ReAddFault, RemoveFault};
 use md_assembly::MemberState;
 use md_check::CheckFault;
@@ -32,8 +32,6 @@ pub(crate) enum Call {
     Table(usize),
     Rebuild(usize),
     RebuildMeeting(usize),
-    // By these passes.
-    RebuildBy(usize, &'static [Pass]),
     // What is looked at.
     Events,
     Show,
@@ -47,7 +45,7 @@ pub(crate) enum Answer {
     Done,
     Begun(u64),
     NotBegun(BeginFault),
-    // Other bytes are read than those, or other passes are made.
+    // Other bytes are read than those.
     Differs,
     NotRead(UnreadFault),
     NotResynced(ResyncFault),
@@ -102,9 +100,7 @@ impl Call {
     pub(crate) fn name(self) -> &'static str {
         match self {
             Call::Table(_) => "no memory: table",
-            Call::Rebuild(_) | Call::RebuildMeeting(_) | Call::RebuildBy(_, _) => {
-                "no memory: rebuild"
-            }
+            Call::Rebuild(_) | Call::RebuildMeeting(_) => "no memory: rebuild",
             Call::Check | Call::CheckCounted | Call::CheckMeeting => "no memory: check_array",
             _ => "no memory: another call",
         }

@@ -5,7 +5,7 @@ use crate::left::{Also, Left};
 use crate::members::{FIRST, Member, SECOND, THIRD, Vary};
 use crate::play::{ROW, Row, play};
 use crate::run::WRITTEN;
-use crate::told::{Pass, Told};
+use crate::told::Told;
 use md_assembly::MemberState;
 use md_copy::RebuildFault;
 use md_metadata::StopFault;
@@ -250,19 +250,13 @@ const LISTING_SPARE: Member = Member {
     ..SPARE
 };
 
-const ALL_BUT_ONE: Pass = Pass {
-    rounds: 7,
-    sources: &[0; 7],
-    certificate: (6, &[0, 1, 2, 4, 5, 6, 7]),
-};
-
 // A chunk that no member holds is listed, and is not made up: sectors 2072 to 2079 of the device.
 const REBUILD_WITH_ORPHAN: [Row; 1] = [Row {
     members: &[LISTING, LISTING_SPARE],
     calls: &[
         (Call::Table(1), Answer::Offers([1, 1, 1, 0, 1, 1, 1, 1])),
         (
-            Call::RebuildBy(1, &[ALL_BUT_ONE]),
+            Call::Rebuild(1),
             Answer::Rebuilt(Told {
                 rounds: (7, 7),
                 slots: 7,

@@ -6,7 +6,7 @@ use crate::data::{Data, WHOLE};
 use crate::gates::{Counting, Meeting, Silent};
 use crate::members::Testing;
 use crate::opening::open;
-use crate::told::{Pass, has_passes, told_of};
+use crate::told::told_of;
 use md_array::Mirror;
 use md_cert::Table;
 use md_check::{CheckFault, check_array};
@@ -78,7 +78,6 @@ impl Run {
             Call::Table(k) => self.table(alloc, k),
             Call::Rebuild(k) => self.rebuild(rt, alloc, k, &Silent),
             Call::RebuildMeeting(k) => self.rebuild_meeting(rt, alloc, k),
-            Call::RebuildBy(k, passes) => self.rebuild_by(rt, alloc, k, passes),
             Call::Events => Answer::Counting(self.mirror.events()),
             Call::Show => self.show(),
             Call::State(k) => self.state(k),
@@ -234,31 +233,6 @@ impl Run {
         match answer {
             Answer::Rebuilt(_) if !gate.have_met() => Answer::NotMet,
             _ => answer,
-        }
-    }
-
-    fn rebuild_by<R: Threads + Wait + Sync>(
-        &mut self,
-        rt: &R,
-        alloc: Global,
-        k: usize,
-        passes: &[Pass],
-    ) -> Answer {
-        if k >= self.mirror.members() {
-            return Answer::NotCalled;
-        }
-        match rebuild(rt, alloc, &mut self.mirror, k, &Silent) {
-            Ok(rebuilt) => {
-                let is_so = has_passes(&rebuilt, passes);
-                let told = told_of(&rebuilt);
-                drop(rebuilt);
-                if is_so {
-                    Answer::Rebuilt(told)
-                } else {
-                    Answer::Differs
-                }
-            }
-            Err(fault) => Answer::NotRebuilt(fault),
         }
     }
 
