@@ -26,8 +26,8 @@ record WritesAlone (n : ℕ) (es : List Event) : Type 0 where
   begun : AllOf BeginsWhole es
 
 written_alone : (n first end : ℕ) (e : Event) (es : List Event) → IsEventOf n first end e → WritesAlone n es → WritesAlone n (e ∷ es)
-written_alone n first end (Event.WriteMember m k) es of rest = record { alone = λ j w. elim w [ | inl here ↦ sym here ∙ of | inr later ↦ rest.alone j later ]; begun = (tt, rest.begun) }
-written_alone n first end (Event.WriteMemberFails m k) es of rest = record { alone = λ j w. elim w [ | inl here ↦ sym here ∙ of | inr later ↦ rest.alone j later ]; begun = (tt, rest.begun) }
+written_alone n first end (Event.WriteMember m k) es of rest = record { alone = λ j w. elim w [ inl here ↦ sym here ∙ of | inr later ↦ rest.alone j later ]; begun = (tt, rest.begun) }
+written_alone n first end (Event.WriteMemberFails m k) es of rest = record { alone = λ j w. elim w [ inl here ↦ sym here ∙ of | inr later ↦ rest.alone j later ]; begun = (tt, rest.begun) }
 written_alone n first end (Event.Record k) es of rest = record { alone = rest.alone; begun = (tt, rest.begun) }
 written_alone n first end (Event.RecordFails k) es of rest = record { alone = rest.alone; begun = (tt, rest.begun) }
 written_alone n first end (Event.StoreMarks k b) es of rest = record { alone = rest.alone; begun = (tt, rest.begun) }
