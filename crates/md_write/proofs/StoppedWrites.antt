@@ -1,10 +1,9 @@
 -- A stop within a whole write, and within a whole `stop`, is a stop of a run.
-use Rattle.std.proofs.Common.{◌≡◌, ◌∙◌, ◌⊎◌, inl, inr, ℕ, ◌%◌, Bool, true, false, List, [], ◌∷◌, ◌++◌, length, Option, Some, None, refl, sym, ap, subst}
+use Rattle.std.proofs.Common.{◌≡◌, ◌∙◌, inl, inr, ℕ, ◌%◌, Bool, true, false, List, [], ◌∷◌, ◌++◌, length, None, sym, ap, subst}
 use Rattle.std.proofs.lemmas.List.{append-nil}
 use Rattle.std.proofs.lemmas.Option.{none-some}
 use Rattle.md_inflight.specs.Inflight.{lookup}
 use Rattle.md_model.specs.Events.{Event}
-use Rattle.md_model.specs.Worlds.{Request}
 use Rattle.md_requests.specs.Pending.{PendingView}
 use Rattle.md_state.specs.Beginning.{Begins}
 use Rattle.md_state.specs.Requests.{AreInFlight, among, request_of}
@@ -15,7 +14,7 @@ use Rattle.md_laws.specs.StoppedCalls.{AreWhole, BeginsWhole, HasWholeSectors, I
 use Rattle.md_laws.proofs.Stops.DataInFlight.{has_whole}
 use Rattle.md_laws.proofs.Stops.StoppedCalls.{stops_at_halts, stops_at_steps}
 use Rattle.md_metadata.specs.Stopping.{IsStopping, IsStoringIf, clears_marks}
-use Rattle.md_write.specs.Progress.{IsEventOf, IsOfRequest, end_chunk, first_chunk}
+use Rattle.md_write.specs.Progress.{IsEventOf, end_chunk, first_chunk}
 use Rattle.md_write.specs.StoppedWrites.{StopsHaltingStop, StopsHaltingWrite, StopsInHaltedWrite, StopsInStop, StopsInWrite, begun_events}
 use Rattle.md_write.specs.Writing.{events_of}
 
