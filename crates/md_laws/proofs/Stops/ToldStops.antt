@@ -65,7 +65,7 @@ module _ (before after : List Disk) (honest : AreHonest before) where
   grows (Event.StoreLog k listed) told (inr w) = grows_tried k w.0 before after honest w.1.tried _ w.1.within
   grows (Event.StoreLogFails k) told w = grows_tried k w.0 before after honest w.1.tried _ w.1.within
   grows (Event.Fill k) told w = grows_alone k _ before after honest w.2
-  grows (Event.Prepare k) told w = grows_alone k _ before after honest w.2
+  grows (Event.Prepare k) told w = grows_alone k _ before after honest w.1
   grows Event.Resynced told same = grows_same before after same
   grows Event.Unresynced told same = grows_same before after same
   grows Event.MakeClean told same = grows_same before after same
