@@ -50,6 +50,7 @@ pub mod SetsMade
 pub mod SourcesChosen
 pub mod StartedAs
 pub mod StartsReadied
+pub mod StatesKept
 pub mod StoppedWithin
 pub mod StoredFirst
 pub mod StoringKeeps

@@ -117,6 +117,12 @@ pub record AreItsPasses (target : ℕ) (passes : List PassView) (chunks : List �
   pub lists : ListsGrow target (failed_of passes) old.array last.array
   pub counted : AllCounted (failed_of passes) old last
 
+-- Each other member is in the state in which it was, or it is faulty, and then its device, if it is honest, has counted a failure.
+abbrev pub KeepStates : ℕ → MirrorView → MirrorView → Type 0
+KeepStates target old last =
+    (k : ℕ) (m n : MemberView) → k ≢ target → IsMember old.array k m → IsMember last.array k n
+    → (n.state ≡ m.state) ⊎ ((n.state ≡ Faulty) × AtDevice k old.disks last.disks (Fails of_disks))
+
 -- ---- what stands on the devices
 -- An opening reads a superblock there, and in the log that this names are these sectors listed, and no others.
 pub record HasListOn (list : List Run) (content : List ℕ) : Type 0 where
@@ -155,6 +161,7 @@ pub record HasRebuilt (target : ℕ) (told : Rebuilt) (old new : MirrorView) : T
   pub rebuilt : IsRebuilt target copied orphans old last
   pub orphans_are : told.orphans.items ≡ uncopied_chunks old.array rebuilt.member copied
   pub passes_are : AreItsPasses target passes (missing_chunks old.array rebuilt.member) old last
+  pub states : KeepStates target old last
   pub stored : ListsStored target (failed_of passes) old.array last
   pub own_stored : (e : Disk) → slice_get last.disks target ≡ Some e → OwnListStored rebuilt.now e
 
