@@ -227,6 +227,8 @@ ALONE = "in sync 1 of 2, events 6, marked 1\n"
 AGREE = "mismatched chunks: 0\n"
 DIFFER = "mismatched chunks: 1\n"
 STORED = "mdcli: a: its bitmap did not tell of the array, so all chunks are marked in it now\n"
+# What a check says of the only member in sync.
+UNCOMPARED = "mdcli: %s: no other member is in sync, so nothing was compared\n"
 
 PLAN = (
     "rounds 4, chunks 8, orphans 0\n   chunk source    round\n",
@@ -403,7 +405,7 @@ CASES = [
         {"a": OUT_OF_DATE},
         [
             Step("assemble --readonly a", MARKED),
-            Step("check --readonly a", AGREE),
+            Step("check --readonly a", AGREE, told=UNCOMPARED % "a"),
             Step("assemble a", MARKED, told=STORED, changes="a"),
             Step("assemble a", MARKED),
         ],
@@ -411,7 +413,10 @@ CASES = [
     (
         "a bitmap that is out of date is marked by a check too",
         {"a": OUT_OF_DATE},
-        [Step("check a", AGREE, told=STORED, changes="a"), Step("check a", AGREE)],
+        [
+            Step("check a", AGREE, told=STORED + UNCOMPARED % "a", changes="a"),
+            Step("check a", AGREE, told=UNCOMPARED % "a"),
+        ],
     ),
     (
         "a bitmap that is out of date is marked by an addition too",
@@ -504,7 +509,7 @@ CASES = [
             Step("check a b", DIFFER),
             Made("b", "b", lambda image: members.with_bad_blocks(image, [(2048 + 8, 1), (2048 + 43, 1)])),
             Step("check a b", AGREE),
-            Step("check b", AGREE),
+            Step("check b", AGREE, told=UNCOMPARED % "b"),
         ],
     ),
     (

@@ -140,14 +140,19 @@ class Disks:
         with loop_device(two, "--read-only") as device:
             self.judge(name, self.run(create([one, device])), (1, "", "mdcli: BadImage 1\n"), before)
 
-    def refused_in_use(self, name, device):
-        """A disk that is in use is not changed, and may be looked at."""
+    def refused_in_use(self, name, image):
+        """What is in use is not changed, and may be looked at."""
         other = self.image("beside.img")
         tool("sync")
-        content = Path(device).read_bytes()
-        before = [(device, content), (other, other.read_bytes())]
-        self.judge(name, self.run(create([other, device])), (1, "", "mdcli: BadImage 1\n"), before)
-        self.judge(name + ", looked at", self.run(["examine", device]), (1, "", "mdcli: Super Magic\n"), before)
+        content = Path(image).read_bytes()
+        before = [(image, content), (other, other.read_bytes())]
+        self.judge(name, self.run(create([other, image])), (1, "", "mdcli: BadImage 1\n"), before)
+        self.judge(name + ", looked at", self.run(["examine", image]), (1, "", "mdcli: Super Magic\n"), before)
+
+    def used_and_file_below(self, name, device, backing):
+        """Neither a disk that is in use nor its backing file is changed."""
+        self.refused_in_use(name, device)
+        self.refused_in_use(name + ": its file", backing)
 
     def mounted(self, name):
         backing = self.image("mounted backing.img", bytes(8192 * SECTOR))
@@ -157,10 +162,31 @@ class Disks:
             tool("mkfs.ext4", "-q", device)
             tool("mount", "-o", "ro", device, folder)
             try:
-                self.refused_in_use(name, device)
+                self.used_and_file_below(name, device, backing)
+                link = self.scratch / "link to mounted backing.img"
+                os.link(str(backing), str(link))
+                self.refused_in_use(name + ": another link to its file", link)
+                link.unlink()
+                backing.rename(self.scratch / "moved backing.img")
+                self.judge(name + ": another file of its name", self.run(create([self.image(backing.name)]))[0], 0)
+                backing = self.scratch / "moved backing.img"
+                self.refused_in_use(name + ": its file, moved", backing)
             finally:
                 tool("umount", folder)
-            self.judge(name + ", no more", self.run(create([device]))[0], 0)
+            for image in (device, backing):
+                self.judge("%s, no more: %s" % (name, Path(image).name), self.run(create([image]))[0], 0)
+
+    def mounted_above(self, name):
+        """Over a disk there is a loop device, which is mounted."""
+        folder = self.scratch / "mounted above"
+        folder.mkdir()
+        with loop_device(self.image("backing of two.img", bytes(8192 * SECTOR))) as below, loop_device(below) as device:
+            tool("mkfs.ext4", "-q", device)
+            tool("mount", "-o", "ro", device, folder)
+            try:
+                self.refused_in_use(name, below)
+            finally:
+                tool("umount", folder)
 
     def swapped_on(self, name):
         backing = self.image("swap backing.img", bytes(8192 * SECTOR))
@@ -168,7 +194,7 @@ class Disks:
             tool("mkswap", device)
             tool("swapon", device)
             try:
-                self.refused_in_use(name, device)
+                self.used_and_file_below(name, device, backing)
             finally:
                 tool("swapoff", device)
 
@@ -178,7 +204,7 @@ class Disks:
             holder = "mdcli-test-%d" % os.getpid()
             tool("dmsetup", "create", holder, "--table", "0 4096 linear %s 0" % device)
             try:
-                self.refused_in_use(name, device)
+                self.used_and_file_below(name, device, backing)
             finally:
                 tool("dmsetup", "remove", "--retry", holder)
 
@@ -198,7 +224,7 @@ class Disks:
                 tool("mkfs.ext4", "-q", first)
                 tool("mount", "-o", "ro", first, folder)
                 try:
-                    self.refused_in_use(name + ": the disk", device)
+                    self.used_and_file_below(name + ": the disk", device, backing)
                     self.refused_in_use(name + ": the partition", first)
                     self.judge(name + ": another partition", self.run(create([second]))[0], 0)
                 finally:
@@ -249,6 +275,7 @@ class Disks:
         self.attempt("create, an image that may not be written", self.not_writable)
         self.attempt("create, a read-only block device", self.read_only_device)
         self.attempt("a mounted disk", self.mounted)
+        self.attempt("a disk below a mounted one", self.mounted_above)
         self.attempt("a disk that is swapped on", self.swapped_on)
         self.attempt("a disk that device mapper holds", self.held)
         self.attempt("a disk with a mounted partition", self.partitioned)

@@ -1,6 +1,6 @@
 // What is done with a mirror, and looked at, as values; and what comes of it.
 use crate::data::Data;
-use crate::told::Told;
+use crate::told::{Plans, Told};
 use md_array::{BeginFault, FailFault, ReAddFault, RemoveFault};
 use md_assembly::MemberState;
 use md_check::CheckFault;
@@ -32,6 +32,8 @@ pub(crate) enum Call {
     Table(usize),
     Rebuild(usize),
     RebuildMeeting(usize),
+    // What its passes planned is told.
+    RebuildPlanned(usize),
     // What is looked at.
     Events,
     Show,
@@ -66,6 +68,7 @@ pub(crate) enum Answer {
     Rebuilt(Told),
     // Wanted: in at most so many passes, and how many chunks nobody gives.
     RebuiltIn(u32, usize),
+    Planned(Plans),
     NotRebuilt(RebuildFault),
     // There is no such member or device.
     NotCalled,
@@ -100,7 +103,9 @@ impl Call {
     pub(crate) fn name(self) -> &'static str {
         match self {
             Call::Table(_) => "no memory: table",
-            Call::Rebuild(_) | Call::RebuildMeeting(_) => "no memory: rebuild",
+            Call::Rebuild(_) | Call::RebuildMeeting(_) | Call::RebuildPlanned(_) => {
+                "no memory: rebuild"
+            }
             Call::Check | Call::CheckCounted | Call::CheckMeeting => "no memory: check_array",
             _ => "no memory: another call",
         }

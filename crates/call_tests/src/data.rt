@@ -34,7 +34,7 @@ impl Data {
         }
         match filling {
             Filling::Same(byte) => byte,
-            Filling::Number => sector as u8,
+            Filling::Number => (sector % 256) as u8,
             Filling::Chunks(bytes) => bytes[sector / 8 % 8],
         }
     }

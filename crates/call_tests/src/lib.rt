@@ -37,4 +37,6 @@ mod run;
 #[cfg(test)]
 mod told;
 #[cfg(test)]
+mod write_mostly;
+#[cfg(test)]
 mod writes;

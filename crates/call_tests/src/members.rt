@@ -40,6 +40,7 @@ pub(crate) struct Member {
     // Writes fail from this number on, and then half of their sectors are written where they are torn.
     pub(crate) fails: u64,
     pub(crate) torn: bool,
+    pub(crate) is_write_mostly: bool,
 }
 
 // Members of a clean array of two without a mark.
@@ -57,6 +58,7 @@ pub(crate) const FIRST: Member = Member {
     bad: (0, 0),
     fails: NEVER,
     torn: false,
+    is_write_mostly: false,
 };
 
 pub(crate) const SECOND: Member = Member { number: 1, ..FIRST };
@@ -82,6 +84,7 @@ fn superblock_of(member: &Member) -> [u8; 4096] {
     if member.is_log_full {
         put(&mut b, 186, &1u16.to_le_bytes());
     }
+    put(&mut b, 184, &[u8::from(member.is_write_mostly)]);
     put(&mut b, 80, &member.size.to_le_bytes());
     put(&mut b, 92, &member.raid_disks.to_le_bytes());
     put(&mut b, 160, &member.number.to_le_bytes());

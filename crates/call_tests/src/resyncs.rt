@@ -131,7 +131,7 @@ const HALTED: [Worked; 2] = [
     ),
 ];
 
-const ROWS: [Row; 17] = [
+const COPIES: [Row; 6] = [
     // Marked chunks are copied from the lowest role, whichever was written.
     Row {
         members: &[FIRST, SECOND],
@@ -203,6 +203,47 @@ const ROWS: [Row; 17] = [
         ],
         ..ROW
     },
+    // While a request is in flight, nothing is done.
+    Row {
+        members: &[Member { marks: 0, ..FIRST }, Member { marks: 0, ..SECOND }],
+        calls: &[
+            (Call::Begin(8), Answer::Begun(0)),
+            (Call::Resync, Answer::NotResynced(ResyncFault::InFlight(0))),
+            (
+                Call::Show,
+                Answer::Shows(Shown {
+                    events: 11,
+                    marked: 1,
+                    resynced: true,
+                    ..MARKED
+                }),
+            ),
+            (Call::Stop, Answer::NotStopped(StopFault::InFlight(0))),
+        ],
+        left: &[
+            Left(10, 0, OLD, Also::Nothing),
+            Left(10, 0, NEW, Also::Nothing),
+        ],
+        ..ROW
+    },
+    // Without a mark there is nothing to do.
+    Row {
+        members: &[Member { marks: 0, ..FIRST }, Member { marks: 0, ..SECOND }],
+        calls: &[(Call::Resync, Answer::Done)],
+        left: &[
+            Left(10, 0, OLD, Also::Nothing),
+            Left(10, 0, NEW, Also::Nothing),
+        ],
+        ..ROW
+    },
+];
+
+#[test]
+fn resyncs(rt: HostRuntime) -> Result<(), Fail> {
+    play(&rt, rt.alloc(), &COPIES)
+}
+
+const UNREADABLE: [Row; 3] = [
     // Whichever sector of a marked chunk can't be read; others are not read.
     Row {
         members: &[FIRST, SECOND],
@@ -245,6 +286,14 @@ const ROWS: [Row; 17] = [
         ],
         ..ROW
     },
+];
+
+#[test]
+fn sectors_that_cannot_be_read(rt: HostRuntime) -> Result<(), Fail> {
+    play(&rt, rt.alloc(), &UNREADABLE)
+}
+
+const FAILING: [Row; 8] = [
     // The writes of the second member are a sector of its bitmap, two chunks, and the sector again once no chunk is marked.
     Row {
         numbers: (1, 2),
@@ -379,42 +428,9 @@ const ROWS: [Row; 17] = [
         ],
         ..ROW
     },
-    // While a request is in flight, nothing is done.
-    Row {
-        members: &[Member { marks: 0, ..FIRST }, Member { marks: 0, ..SECOND }],
-        calls: &[
-            (Call::Begin(8), Answer::Begun(0)),
-            (Call::Resync, Answer::NotResynced(ResyncFault::InFlight(0))),
-            (
-                Call::Show,
-                Answer::Shows(Shown {
-                    events: 11,
-                    marked: 1,
-                    resynced: true,
-                    ..MARKED
-                }),
-            ),
-            (Call::Stop, Answer::NotStopped(StopFault::InFlight(0))),
-        ],
-        left: &[
-            Left(10, 0, OLD, Also::Nothing),
-            Left(10, 0, NEW, Also::Nothing),
-        ],
-        ..ROW
-    },
-    // Without a mark there is nothing to do.
-    Row {
-        members: &[Member { marks: 0, ..FIRST }, Member { marks: 0, ..SECOND }],
-        calls: &[(Call::Resync, Answer::Done)],
-        left: &[
-            Left(10, 0, OLD, Also::Nothing),
-            Left(10, 0, NEW, Also::Nothing),
-        ],
-        ..ROW
-    },
 ];
 
 #[test]
-fn resyncs(rt: HostRuntime) -> Result<(), Fail> {
-    play(&rt, rt.alloc(), &ROWS)
+fn members_that_fail(rt: HostRuntime) -> Result<(), Fail> {
+    play(&rt, rt.alloc(), &FAILING)
 }

@@ -6,7 +6,7 @@ use crate::data::{Data, WHOLE};
 use crate::gates::{Counting, Meeting, Silent};
 use crate::members::Testing;
 use crate::opening::open;
-use crate::told::told_of;
+use crate::told::{plans_of, told_of};
 use md_array::Mirror;
 use md_cert::Table;
 use md_check::{CheckFault, check_array};
@@ -78,6 +78,7 @@ impl Run {
             Call::Table(k) => self.table(alloc, k),
             Call::Rebuild(k) => self.rebuild(rt, alloc, k, &Silent),
             Call::RebuildMeeting(k) => self.rebuild_meeting(rt, alloc, k),
+            Call::RebuildPlanned(k) => self.rebuild_planned(rt, alloc, k),
             Call::Events => Answer::Counting(self.mirror.events()),
             Call::Show => self.show(),
             Call::State(k) => self.state(k),
@@ -233,6 +234,25 @@ impl Run {
         match answer {
             Answer::Rebuilt(_) if !gate.have_met() => Answer::NotMet,
             _ => answer,
+        }
+    }
+
+    fn rebuild_planned<R: Threads + Wait + Sync>(
+        &mut self,
+        rt: &R,
+        alloc: Global,
+        k: usize,
+    ) -> Answer {
+        if k >= self.mirror.members() {
+            return Answer::NotCalled;
+        }
+        match rebuild(rt, alloc, &mut self.mirror, k, &Silent) {
+            Ok(rebuilt) => {
+                let plans = plans_of(&rebuilt);
+                drop(rebuilt);
+                Answer::Planned(plans)
+            }
+            Err(fault) => Answer::NotRebuilt(fault),
         }
     }
 

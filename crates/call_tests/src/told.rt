@@ -1,5 +1,6 @@
 // What is told of a rebuild.
 use md_copy::Rebuilt;
+use md_plan::Planned;
 
 // Of its plans, the rounds of the first and of the last, and the slots of the first; of its orphans, how many there
 // are and which is the first.
@@ -24,4 +25,50 @@ pub(crate) fn told_of(rebuilt: &Rebuilt) -> Told {
         slots: plan.map_or(0, |plan| plan.slots.as_slice().len()),
         orphans: (rebuilt.orphans.len(), rebuilt.orphans.first().copied()),
     }
+}
+
+// Of the first two passes of a rebuild.
+#[derive(Clone, Copy, PartialEq, Eq)]
+pub(crate) struct Plans {
+    pub(crate) passes: u32,
+    pub(crate) rounds: [u32; 2],
+    // Where each of the array's 8 chunks is read; `NOWHERE` where it is not.
+    pub(crate) sources: [[u8; 8]; 2],
+    // The rounds of the certificate, and its chunks as bits.
+    pub(crate) certificates: [(u32, u32); 2],
+}
+
+pub(crate) const NOWHERE: u8 = u8::MAX;
+
+fn sources_of(planned: &Planned) -> [u8; 8] {
+    let mut sources = [NOWHERE; 8];
+    for slot in planned.plan.slots.as_slice() {
+        if let Some(place) = sources.get_mut(slot.chunk as usize) {
+            *place = slot.source;
+        }
+    }
+    sources
+}
+
+fn certificate_of(planned: &Planned) -> (u32, u32) {
+    let mut bits = 0;
+    for chunk in planned.certificate.chunks.as_slice() {
+        bits |= 1u32.wrapping_shl(*chunk);
+    }
+    (planned.certificate.rounds, bits)
+}
+
+pub(crate) fn plans_of(rebuilt: &Rebuilt) -> Plans {
+    let mut plans = Plans {
+        passes: rebuilt.passes,
+        rounds: [0; 2],
+        sources: [[NOWHERE; 8]; 2],
+        certificates: [(0, 0); 2],
+    };
+    for (k, planned) in rebuilt.plans.iter().take(2).enumerate() {
+        plans.rounds[k & 1] = planned.plan.rounds;
+        plans.sources[k & 1] = sources_of(planned);
+        plans.certificates[k & 1] = certificate_of(planned);
+    }
+    plans
 }

@@ -18,7 +18,7 @@ use md_super::SuperFault;
 pub(crate) fn advice(fault: &CommandFault) -> &'static str {
     match fault {
         CommandFault::BadCount => {
-            "name as many images; in `create`, `missing` stands for a member that is not there"
+            "name one image alone, and in `create` as many as `--raid-devices` says, where `missing` stands for a member that is not there"
         }
         CommandFault::BadImage(_, _) => {
             "a file system that can't lock is refused too: copy the image to another one"
@@ -27,7 +27,7 @@ pub(crate) fn advice(fault: &CommandFault) -> &'static str {
         CommandFault::Member(fault) => member_advice(*fault),
         CommandFault::NoBitmap => "there is nothing to show",
         CommandFault::Create(CreateFault::BadGeometry) => {
-            "choose another `--size`, `--bitmap-chunk` or `--write-mostly`, or larger images"
+            "a chunk is a power of two, an array has at most 1,048,576 of them, each image holds 1 MiB more than the array, one of 1 to 32 members is there, and so is the `--write-mostly` one: choose another `--size`, `--bitmap-chunk` or `--write-mostly`, or other images"
         }
         CommandFault::Open(OpenFault::Member(_, fault)) => member_advice(*fault),
         CommandFault::Open(OpenFault::Assemble(fault)) => array_advice(*fault),
@@ -48,9 +48,13 @@ const MORE_MEMORY: &str = "try again with more memory";
 const ANOTHER_OUTPUT: &str =
     "give it an output that takes the whole report, and drop what came so far";
 
-const WITHIN_ARRAY: &str = "`detail` shows the size of the array; a sector has 512 bytes";
+const WITHIN_ARRAY: &str =
+    "`detail` shows the size of the array; a sector has 512 bytes, and an empty input has none";
 
 const RESYNC_FIRST: &str = "run `resync` first";
+
+const RESYNC_OR_LOOK: &str =
+    "run `resync` first; or, to read and change nothing, name one member in sync alone, with `--readonly`";
 
 const SEE_DEVICE: &str =
     "see why the device can't be written (`dmesg`, free space, write protection); run the command again";
@@ -141,7 +145,7 @@ fn re_add_advice(fault: ReAddFault) -> &'static str {
         ReAddFault::Member(fault) => member_advice(fault),
         ReAddFault::Full => REMOVE_ONE,
         ReAddFault::NotReAddable => {
-            "make a spare of it by `add`, which wipes what it holds, and run `rebuild`"
+            "if it was being rebuilt, as after a `re-add` that was interrupted, name it among the images and run `rebuild` on it; else make a spare of it by `add`, which wipes what it holds, and run `rebuild`"
         }
         ReAddFault::NoRole => {
             "`detail` shows which member has its role; `add` makes a spare of it, and wipes what it holds"
@@ -175,7 +179,7 @@ fn check_advice(fault: CheckFault) -> &'static str {
 fn rebuild_advice(fault: RebuildFault) -> &'static str {
     match fault {
         RebuildFault::NotSpare => {
-            "`detail` shows the state of each member: a recovering one can be rebuilt, and a spare where a role is free"
+            "`detail` shows the state of each member: a recovering one can be rebuilt, and a spare where a role is free; `remove` a faulty or stale one, and `re-add` it, or `add` it, which wipes what it holds"
         }
         RebuildFault::Dirty => RESYNC_FIRST,
         RebuildFault::TargetFault => {
@@ -193,7 +197,7 @@ fn rebuild_advice(fault: RebuildFault) -> &'static str {
 fn read_advice(fault: UnreadFault) -> &'static str {
     match fault {
         UnreadFault::OutOfRange => WITHIN_ARRAY,
-        UnreadFault::NotResynced => RESYNC_FIRST,
+        UnreadFault::NotResynced => RESYNC_OR_LOOK,
         UnreadFault::Unreadable(_) => {
             "read the sectors after it, and, where no more than 1 MiB was asked for, those before it"
         }
@@ -204,7 +208,7 @@ fn read_advice(fault: UnreadFault) -> &'static str {
 fn write_advice(fault: BeginFault) -> &'static str {
     match fault {
         BeginFault::OutOfRange => WITHIN_ARRAY,
-        BeginFault::NotResynced => RESYNC_FIRST,
+        BeginFault::NotResynced => RESYNC_OR_LOOK,
         BeginFault::EventsFull => NEW_ARRAY,
         BeginFault::Halted => SEE_DEVICE,
         BeginFault::Overlaps(_) | BeginFault::NumbersSpent => AGAIN,
@@ -229,7 +233,7 @@ fn option_advice(fault: OptionFault) -> &'static str {
         }
         OptionFault::BadName => "choose a shorter name",
         OptionFault::BadCount => {
-            "name as many images; in `create`, `missing` stands for a member that is not there"
+            "name one image alone, and in `create` as many as `--raid-devices` says, where `missing` stands for a member that is not there"
         }
         OptionFault::BadChunk => "choose a smaller chunk, below 4,194,304 KiB",
         OptionFault::BadSize => "choose a smaller size",
@@ -244,12 +248,13 @@ fn member_advice(fault: MemberFault) -> &'static str {
         }
         MemberFault::Super(fault) => superblock_advice(fault),
         MemberFault::Region => {
-            "the copy was cut, or the superblock is damaged: copy it again, or use another member"
+            "the copy was cut, or the superblock is damaged: copy it again, or use another member; an image has to hold Data Offset and Avail Dev Size together, which `examine` shows in sectors of 512 bytes, and `truncate` lengthens a copy, with zeros for what is lost"
         }
         MemberFault::Bitmap(_) => {
-            "it is damaged, or of another version: `examine` still shows the superblock"
+            "it is damaged, or of another version: leave that image out; `examine` still shows the superblock"
         }
-        MemberFault::Log(_) => "it is damaged: `examine` still shows the superblock",
+        MemberFault::Log(_) =>
+            "it is damaged: leave that image out; `examine` still shows the superblock",
         MemberFault::NoMemory => MORE_MEMORY,
     }
 }
@@ -264,7 +269,7 @@ fn superblock_advice(fault: SuperFault) -> &'static str {
         SuperFault::Checksum => "it is damaged or was edited: use another member",
         SuperFault::SuperOffset => "the copy may begin at the wrong sector: copy it again",
         SuperFault::Feature(_) => {
-            "finish the reshape, the replacement or the re-add with the kernel first; arrays with a journal are not for this program"
+            "finish the reshape, the replacement or the re-add with the kernel first, or leave that image out; arrays with a journal are not for this program"
         }
         SuperFault::Level => "not for this program",
         SuperFault::RaidDisks => "not for this program",
@@ -279,7 +284,7 @@ fn array_advice(fault: AssembleFault) -> &'static str {
         AssembleFault::Stranger(_) => "leave it out; `examine` shows the UUID of the array",
         AssembleFault::DoubleNumber(_, _) => "leave one out: often one is a copy of the other",
         AssembleFault::NoBitmap(_) => {
-            "arrays without a bitmap are not for this program; `examine` shows each member"
+            "arrays without a bitmap are not for this program; `losetup --find --show --read-only --offset BYTES` gives the data of one member, from its Data Offset on, which `examine` shows in sectors of 512 bytes"
         }
         AssembleFault::Geometry(_) => "leave it out",
         AssembleFault::DoubleRole(_) => "leave one out: `examine` shows which has fewer events",

@@ -1,6 +1,6 @@
 -- A spare is admitted: its superblock puts it in a role, where it is recovering (this project's own order: before any other superblock
 -- tells of that role).
-use Rattle.std.specs.Prelude.{◌≡◌, ◌⊎◌, ⊤, ℕ, Bool, true, None, Result, MatchResult}
+use Rattle.std.specs.Prelude.{◌≡◌, ◌⊎◌, ⊤, ℕ, None, Result, MatchResult}
 use Rattle.md_faults.specs.declared.admit_fault.AdmitFault.{AdmitFault}
 use Rattle.md_faults.specs.declared.admit_fault.AdmitFault.TheVariants.{Halted, NoRole, EventsFull, TargetFault, NoMemory}
 use Rattle.md_kept_members.specs.TakingBack.{admitted_member}

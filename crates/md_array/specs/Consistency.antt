@@ -1,5 +1,5 @@
 -- What holds of a mirror between its calls: opening gives it, and each call keeps it.
-use Rattle.std.specs.Prelude.{◌≡◌, ℕ, true, false, List, slice_get, Some, ◌↔◌}
+use Rattle.std.specs.Prelude.{◌≡◌, ℕ, true, false, List, slice_get, Some}
 use Rattle.std.specs.Int.{w32, cast_signed}
 use Rattle.md_format.specs.Fields.{number_at}
 use Rattle.md_model.specs.Devices.{Super}

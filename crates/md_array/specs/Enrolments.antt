@@ -9,7 +9,7 @@ use Rattle.md_model.specs.Content.{Content}
 use Rattle.md_model.specs.Events.{Event}
 use Rattle.md_state.specs.Members.{IsMember}
 use Rattle.md_state.specs.Missing.{is_missing}
-use Rattle.md_state.specs.View.{ArrayView, Disk, MirrorView}
+use Rattle.md_state.specs.View.{Disk, MirrorView}
 use Rattle.md_writes.specs.Bitmaps.{bitmap_writes}
 use Rattle.md_writes.specs.Writes.{Write, after}
 use Rattle.md_array.specs.Enrolling.{Enrols, FailsToEnrol, HasContent, log_writes}

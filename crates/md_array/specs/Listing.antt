@@ -1,5 +1,5 @@
 -- The list of a member in sync grows in memory, and then its log is stored.
-use Rattle.std.specs.Prelude.{◌≡◌, ◌⊎◌, ⊤, ℕ, ◌+◌, ◌^◌, ◌<◌, true, false, List, [], ◌∷◌, set, Result, MatchResult}
+use Rattle.std.specs.Prelude.{◌≡◌, ◌⊎◌, ⊤, ℕ, ◌+◌, ◌^◌, ◌<◌, false, List, [], ◌∷◌, set, Result, MatchResult}
 use Rattle.md_bitmap.specs.Chunks.{InChunk}
 use Rattle.md_kept_members.specs.Enrolling.{HasRoomFor}
 use Rattle.md_kept_members.specs.View.{MemberView}
@@ -11,7 +11,7 @@ use Rattle.md_state.specs.DiskWrites.{IsWritten}
 use Rattle.md_state.specs.Members.{IsInSync, IsMember}
 use Rattle.md_state.specs.NotingBad.{NotesBad, WhyUnlisted, logged}
 use Rattle.md_state.specs.Trying.{FailsWriting, HaltsWriting, Refuses, RefusesHalted}
-use Rattle.md_state.specs.View.{ArrayView, Disk, MirrorView}
+use Rattle.md_state.specs.View.{Disk, MirrorView}
 use Rattle.md_writes.specs.Writes.{Write}
 use Rattle.md_array.specs.Enrolling.{log_writes}
 use Rattle.md_array.specs.Events.{Happens, listed_on}

@@ -6,8 +6,8 @@ ghost use Rattle.md_cli.specs.Performing.{access_of, streams};
 ghost use Rattle.md_images.specs.Images.{allows};
 ghost use Rattle.md_images.specs.Taking.{image_list};
 
+use crate::notices::Notices;
 use crate::performing::{access_of, perform};
-use crate::stored_marks::StoredMarks;
 use md_advice::CommandFault;
 use md_array::Mirror;
 use md_commands::{Source, Watch};
@@ -18,8 +18,8 @@ use md_words::ArrayTask;
 use std::alloc::Global;
 use std::thread::Threads;
 
-/// Opens devices as a mirror and does a task with it. They come back in their order. `marks` gets
-/// on which of them the opening stored marks.
+/// Opens devices as a mirror and does a task with it. They come back in their order. `notices` gets
+/// what the array tells as it is opened.
 pub(crate) fn perform_on_devices<
     D: Device + Drop + Send,
     R: Source,
@@ -34,7 +34,7 @@ pub(crate) fn perform_on_devices<
     input: &mut R,
     out: &mut S,
     watch: &W,
-    marks: &mut StoredMarks,
+    notices: &mut Notices,
 ) -> (Vec<D>, Result<(), CommandFault>)
     ensures as_many { length result.0.items ≡ length devices.items }
     ensures gives { OpensDevices R.Source S.Sink task (map (disk_of D.Device) devices.items) (map (disk_of D.Device) result.0.items) (streams input.old out.old) (streams input.new out.new) result.1 }
@@ -42,7 +42,7 @@ pub(crate) fn perform_on_devices<
 {
     match Mirror::open(alloc, devices) {
         Ok(mut mirror) => {
-            marks.note(&mirror);
+            notices.note(&mirror);
             let done = perform(rt, alloc, task, &mut mirror, input, out, watch);
             (mirror.into_devices(), done)
         }
@@ -50,8 +50,8 @@ pub(crate) fn perform_on_devices<
     }
 }
 
-/// Does a task with the array that images make, and puts them back. `marks` gets on which images opening it
-/// stored marks.
+/// Does a task with the array that images make, and puts them back. `notices` gets what the array tells as it
+/// is opened.
 pub(crate) fn perform_on_images<I: Images, R: Source, S: Sink, W: Watch + Sync, T: Threads + Sync>(
     rt: &T,
     alloc: Global,
@@ -61,7 +61,7 @@ pub(crate) fn perform_on_images<I: Images, R: Source, S: Sink, W: Watch + Sync, 
     input: &mut R,
     out: &mut S,
     watch: &W,
-    marks: &mut StoredMarks,
+    notices: &mut Notices,
 ) -> Result<(), CommandFault>
     ensures gives { UsesImages I.Dev.Device (OpensDevices R.Source S.Sink task) (images.new ≡ images.old) (I.known images.old) (λ n. allows (access_of task) (I.changeable images.old n)) (I.device_at images.old) (I.device_at images.new) (image_list false (map (λ s. s.now) names.now)) (streams input.old out.old) (streams input.new out.new) result }
     ensures flushed { IfOk result (λ _. S.is_flushed out.new) }
@@ -71,7 +71,9 @@ pub(crate) fn perform_on_images<I: Images, R: Source, S: Sink, W: Watch + Sync, 
     };
     let words = list.as_slice();
     let devices = take_images(alloc, access_of(task), images, words)?;
-    let (devices, result) = perform_on_devices(rt, alloc, task, devices, input, out, watch, marks);
+    let (devices, result) = perform_on_devices(
+        rt, alloc, task, devices, input, out, watch, notices,
+    );
     put_back(images, words, devices);
     result
 }

@@ -11,7 +11,7 @@ ghost use Rattle.md_cli.specs.Performing.{OfData};
 ghost use Rattle.md_images.specs.Images.{allows};
 ghost use Rattle.md_images.specs.Taking.{image_list};
 
-use crate::stored_marks::StoredMarks;
+use crate::notices::Notices;
 use md_advice::CommandFault;
 use md_array::Mirror;
 use md_commands::{Watch, add_device, re_add_device};
@@ -135,7 +135,7 @@ fn join_mirror<D: Device + Drop + Send, S: Sink, W: Watch + Sync, T: Threads + W
 }
 
 // Opens the devices of the members as a mirror, which one more joins. All of them come back in that order.
-// `marks` gets on which of the members the opening stored marks.
+// `notices` gets what the array tells as it is opened.
 fn join_members<D: Device + Drop + Send, S: Sink, W: Watch + Sync, T: Threads + Wait + Sync>(
     rt: &T,
     alloc: Global,
@@ -145,7 +145,7 @@ fn join_members<D: Device + Drop + Send, S: Sink, W: Watch + Sync, T: Threads + 
     device: D,
     watch: &W,
     out: &mut S,
-    marks: &mut StoredMarks,
+    notices: &mut Notices,
 ) -> (Vec<D>, Result<(), CommandFault>)
     requires empty { list.items ≡ [] }
     requires room { length members.items < vec_capacity list }
@@ -156,7 +156,7 @@ fn join_members<D: Device + Drop + Send, S: Sink, W: Watch + Sync, T: Threads + 
 {
     match Mirror::open(alloc, members) {
         Ok(mirror) => {
-            marks.note(&mirror);
+            notices.note(&mirror);
             join_mirror(rt, alloc, joining, list, mirror, device, watch, out)
         }
         Err((members, fault)) => {
@@ -174,7 +174,7 @@ fn join_last<D: Device + Drop + Send, S: Sink, W: Watch + Sync, T: Threads + Wai
     mut devices: Vec<D>,
     watch: &W,
     out: &mut S,
-    marks: &mut StoredMarks,
+    notices: &mut Notices,
 ) -> (Vec<D>, Result<(), CommandFault>)
     requires some { 0 < length devices.items }
     ensures as_many { length result.0.items ≡ length devices.items }
@@ -187,7 +187,9 @@ fn join_last<D: Device + Drop + Send, S: Sink, W: Watch + Sync, T: Threads + Wai
     let Some(device) = devices.pop() else {
         unreachable!()
     };
-    join_members(rt, alloc, joining, list, devices, device, watch, out, marks)
+    join_members(
+        rt, alloc, joining, list, devices, device, watch, out, notices,
+    )
 }
 
 // The image of the last name joins the array that the images of the others make, and all of them are put
@@ -200,7 +202,7 @@ fn join_last_image<I: Images, S: Sink, W: Watch + Sync, T: Threads + Wait + Sync
     names: &[&str],
     watch: &W,
     out: &mut S,
-    marks: &mut StoredMarks,
+    notices: &mut Notices,
 ) -> Result<(), CommandFault>
     requires some { 0 < length names.now }
     ensures gives { UsesImages I.Dev.Device (JoinsDevices S.Sink joining) (images.new ≡ images.old) (I.known images.old) (λ n. allows Access.Change (I.changeable images.old n)) (I.device_at images.old) (I.device_at images.new) (image_list false (map (λ s. s.now) names.now)) out.old out.new result }
@@ -211,7 +213,7 @@ fn join_last_image<I: Images, S: Sink, W: Watch + Sync, T: Threads + Wait + Sync
     };
     let words = list.as_slice();
     let devices = take_images(alloc, Access::Change, images, words)?;
-    let (devices, result) = join_last(rt, alloc, joining, devices, watch, out, marks);
+    let (devices, result) = join_last(rt, alloc, joining, devices, watch, out, notices);
     put_back(images, words, devices);
     result
 }
@@ -230,8 +232,8 @@ fn with_name<'a>(
 }
 
 /// The image under a name joins the array that the images of the other names make, and all of them are put
-/// back. Among the images it counts after the others. `marks` gets on which of those others opening the
-/// array stored marks. `watch` is told of a rebuild.
+/// back. Among the images it counts after the others. `notices` gets what the array of those others tells
+/// as it is opened. `watch` is told of a rebuild.
 pub(crate) fn join_images<I: Images, S: Sink, W: Watch + Sync, T: Threads + Wait + Sync>(
     rt: &T,
     alloc: Global,
@@ -241,7 +243,7 @@ pub(crate) fn join_images<I: Images, S: Sink, W: Watch + Sync, T: Threads + Wait
     names: &[&str],
     watch: &W,
     out: &mut S,
-    marks: &mut StoredMarks,
+    notices: &mut Notices,
 ) -> Result<(), CommandFault>
     ensures gives { UsesImages I.Dev.Device (JoinsDevices S.Sink joining) (images.new ≡ images.old) (I.known images.old) (λ n. allows Access.Change (I.changeable images.old n)) (I.device_at images.old) (I.device_at images.new) (image_list false (map (λ s. s.now) names.now ++ device.now ∷ [])) out.old out.new result }
     ensures flushed { IfOk result (λ _. S.is_flushed out.new) }
@@ -257,6 +259,6 @@ pub(crate) fn join_images<I: Images, S: Sink, W: Watch + Sync, T: Threads + Wait
         all.as_slice(),
         watch,
         out,
-        marks,
+        notices,
     )
 }

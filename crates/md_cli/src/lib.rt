@@ -8,6 +8,7 @@ mod joining;
 mod laying_out;
 mod looking;
 mod messages;
+mod notices;
 mod output;
 mod performing;
 mod planning;
@@ -17,7 +18,6 @@ mod removing;
 mod running;
 mod showing;
 mod sizing;
-mod stored_marks;
 
 pub use messages::Messages;
 pub use running::run;

@@ -7,7 +7,7 @@ ghost use Rattle.md_images.specs.Images.{allows};
 ghost use Rattle.md_images.specs.Taking.{image_list};
 
 use crate::arrays::perform_on_devices;
-use crate::stored_marks::StoredMarks;
+use crate::notices::Notices;
 use md_advice::CommandFault;
 use md_commands::{Source, Watch};
 use md_examine::Sink;
@@ -17,7 +17,7 @@ use std::alloc::Global;
 use std::thread::Threads;
 
 /// Opens devices as a mirror that keeps in memory what it writes, and does a task with it. The devices are
-/// only looked at.
+/// only looked at. `notices` gets what the array tells as it is opened.
 pub(crate) fn look_at_devices<
     D: SharedRead + Drop + Sync,
     R: Source,
@@ -32,6 +32,7 @@ pub(crate) fn look_at_devices<
     input: &mut R,
     out: &mut S,
     watch: &W,
+    notices: &mut Notices,
 ) -> Result<(), CommandFault>
     ensures gives { LooksAtDevices R.Source S.Sink task (map (disk_of D.Device) devices.now) (streams input.old out.old) (streams input.new out.new) result }
     ensures flushed { IfOk result (λ _. S.is_flushed out.new) }
@@ -39,16 +40,17 @@ pub(crate) fn look_at_devices<
     let Ok(overlays) = lay_over(alloc, devices) else {
         return Err(CommandFault::NoMemory);
     };
-    // None is stored but in memory.
-    let mut marks = StoredMarks::none();
     let (overlays, result) = perform_on_devices(
-        rt, alloc, task, overlays, input, out, watch, &mut marks,
+        rt, alloc, task, overlays, input, out, watch, notices,
     );
     drop(overlays);
+    // None were stored but in memory.
+    notices.forget_marks();
     result
 }
 
 /// Does a task with the array that images make, which are only looked at, and puts them back as they were.
+/// `notices` gets what the array tells as it is opened.
 pub(crate) fn look_at_images<I: Images, R: Source, S: Sink, W: Watch + Sync, T: Threads + Sync>(
     rt: &T,
     alloc: Global,
@@ -58,6 +60,7 @@ pub(crate) fn look_at_images<I: Images, R: Source, S: Sink, W: Watch + Sync, T: 
     input: &mut R,
     out: &mut S,
     watch: &W,
+    notices: &mut Notices,
 ) -> Result<(), CommandFault>
     ensures gives { ViewsImages I.Dev.Device (LooksAtDevices R.Source S.Sink task) (images.new ≡ images.old) (I.known images.old) (λ n. allows Access.Look (I.changeable images.old n)) (I.device_at images.old) (I.device_at images.new) (image_list false (map (λ s. s.now) names.now)) (streams input.old out.old) (streams input.new out.new) result }
     ensures kept { KeepsImages I.known I.device_at I.asked images.old images.new }
@@ -68,7 +71,7 @@ pub(crate) fn look_at_images<I: Images, R: Source, S: Sink, W: Watch + Sync, T: 
     };
     let words = list.as_slice();
     let devices = take_images(alloc, Access::Look, images, words)?;
-    let result = look_at_devices(rt, alloc, task, &devices, input, out, watch);
+    let result = look_at_devices(rt, alloc, task, &devices, input, out, watch, notices);
     put_back(images, words, devices);
     result
 }

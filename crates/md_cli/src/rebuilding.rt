@@ -9,7 +9,7 @@ ghost use Rattle.md_cli.specs.Rebuilding.{RebuildsDevices};
 ghost use Rattle.md_images.specs.Images.{allows};
 ghost use Rattle.md_images.specs.Taking.{image_list};
 
-use crate::stored_marks::StoredMarks;
+use crate::notices::Notices;
 use md_advice::CommandFault;
 use md_array::Mirror;
 use md_commands::{Watch, rebuild_member};
@@ -36,7 +36,7 @@ fn rebuild_and_show<D: Device + Drop + Send, S: Sink, W: Watch + Sync, T: Thread
     Ok(rebuild_member(rt, alloc, mirror, member, watch, out)?)
 }
 
-// Opens devices as a mirror and rebuilds the member with this index. They come back in their order. `marks`
+// Opens devices as a mirror and rebuilds the member with this index. They come back in their order. `notices`
 // gets on which of them the opening stored marks.
 fn rebuild_on_devices<D: Device + Drop + Send, S: Sink, W: Watch + Sync, T: Threads + Wait + Sync>(
     rt: &T,
@@ -45,7 +45,7 @@ fn rebuild_on_devices<D: Device + Drop + Send, S: Sink, W: Watch + Sync, T: Thre
     devices: Vec<D>,
     watch: &W,
     out: &mut S,
-    marks: &mut StoredMarks,
+    notices: &mut Notices,
 ) -> (Vec<D>, Result<(), CommandFault>)
     ensures as_many { length result.0.items ≡ length devices.items }
     ensures gives { RebuildsDevices S.Sink member (map (disk_of D.Device) devices.items) (map (disk_of D.Device) result.0.items) out.old out.new result.1 }
@@ -53,7 +53,7 @@ fn rebuild_on_devices<D: Device + Drop + Send, S: Sink, W: Watch + Sync, T: Thre
 {
     match Mirror::open(alloc, devices) {
         Ok(mut mirror) => {
-            marks.note(&mirror);
+            notices.note(&mirror);
             let done = rebuild_and_show(rt, alloc, &mut mirror, member, watch, out);
             (mirror.into_devices(), done)
         }
@@ -61,7 +61,7 @@ fn rebuild_on_devices<D: Device + Drop + Send, S: Sink, W: Watch + Sync, T: Thre
     }
 }
 
-/// Rebuilds the member with this index of the array that images make, and puts all of them back. `marks`
+/// Rebuilds the member with this index of the array that images make, and puts all of them back. `notices`
 /// gets on which images opening it stored marks. `watch` is told of the rebuild.
 pub(crate) fn rebuild_on_images<I: Images, S: Sink, W: Watch + Sync, T: Threads + Wait + Sync>(
     rt: &T,
@@ -71,7 +71,7 @@ pub(crate) fn rebuild_on_images<I: Images, S: Sink, W: Watch + Sync, T: Threads 
     names: &[&str],
     watch: &W,
     out: &mut S,
-    marks: &mut StoredMarks,
+    notices: &mut Notices,
 ) -> Result<(), CommandFault>
     ensures gives { UsesImages I.Dev.Device (RebuildsDevices S.Sink member) (images.new ≡ images.old) (I.known images.old) (λ n. allows Access.Change (I.changeable images.old n)) (I.device_at images.old) (I.device_at images.new) (image_list false (map (λ s. s.now) names.now)) out.old out.new result }
     ensures flushed { IfOk result (λ _. S.is_flushed out.new) }
@@ -81,7 +81,7 @@ pub(crate) fn rebuild_on_images<I: Images, S: Sink, W: Watch + Sync, T: Threads 
     };
     let words = list.as_slice();
     let devices = take_images(alloc, Access::Change, images, words)?;
-    let (devices, result) = rebuild_on_devices(rt, alloc, member, devices, watch, out, marks);
+    let (devices, result) = rebuild_on_devices(rt, alloc, member, devices, watch, out, notices);
     put_back(images, words, devices);
     result
 }

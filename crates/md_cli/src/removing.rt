@@ -11,7 +11,7 @@ ghost use Rattle.md_cli.specs.Removing.{RemovesFrom, RemovesFromDevices};
 ghost use Rattle.md_images.specs.Images.{allows};
 ghost use Rattle.md_images.specs.Taking.{image_list};
 
-use crate::stored_marks::StoredMarks;
+use crate::notices::Notices;
 use md_advice::CommandFault;
 use md_array::Mirror;
 use md_commands::remove_member;
@@ -77,14 +77,14 @@ fn remove_from_mirror<D: Device + Drop, S: Sink>(
     }
 }
 
-// Opens devices as a mirror and removes the member with this index. They come back in their order. `marks`
+// Opens devices as a mirror and removes the member with this index. They come back in their order. `notices`
 // gets on which of them the opening stored marks.
 fn remove_from_devices<D: Device + Drop, S: Sink>(
     alloc: Global,
     member: u32,
     devices: Vec<D>,
     out: &mut S,
-    marks: &mut StoredMarks,
+    notices: &mut Notices,
 ) -> (Vec<D>, Result<(), CommandFault>)
     ensures as_many { length result.0.items ≡ length devices.items }
     ensures gives { RemovesFromDevices S.Sink member (map (disk_of D.Device) devices.items) (map (disk_of D.Device) result.0.items) out.old out.new result.1 }
@@ -95,14 +95,14 @@ fn remove_from_devices<D: Device + Drop, S: Sink>(
     };
     match Mirror::open(alloc, devices) {
         Ok(mirror) => {
-            marks.note(&mirror);
+            notices.note(&mirror);
             remove_from_mirror(list, mirror, member, out)
         }
         Err((devices, fault)) => (devices, Err(CommandFault::Open(fault))),
     }
 }
 
-/// Removes the member with this index from the array that images make, and puts all of them back. `marks`
+/// Removes the member with this index from the array that images make, and puts all of them back. `notices`
 /// gets on which images opening it stored marks.
 pub(crate) fn remove_from_images<I: Images, S: Sink>(
     alloc: Global,
@@ -110,7 +110,7 @@ pub(crate) fn remove_from_images<I: Images, S: Sink>(
     images: &mut I,
     names: &[&str],
     out: &mut S,
-    marks: &mut StoredMarks,
+    notices: &mut Notices,
 ) -> Result<(), CommandFault>
     ensures gives { UsesImages I.Dev.Device (RemovesFromDevices S.Sink member) (images.new ≡ images.old) (I.known images.old) (λ n. allows Access.Change (I.changeable images.old n)) (I.device_at images.old) (I.device_at images.new) (image_list false (map (λ s. s.now) names.now)) out.old out.new result }
     ensures flushed { IfOk result (λ _. S.is_flushed out.new) }
@@ -120,7 +120,7 @@ pub(crate) fn remove_from_images<I: Images, S: Sink>(
     };
     let words = list.as_slice();
     let devices = take_images(alloc, Access::Change, images, words)?;
-    let (devices, result) = remove_from_devices(alloc, member, devices, out, marks);
+    let (devices, result) = remove_from_devices(alloc, member, devices, out, notices);
     put_back(images, words, devices);
     result
 }

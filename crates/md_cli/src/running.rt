@@ -12,10 +12,10 @@ use crate::examining::examine_images;
 use crate::joining::{Joining, join_images};
 use crate::looking::look_at_images;
 use crate::messages::Messages;
+use crate::notices::Notices;
 use crate::planning::plan;
 use crate::rebuilding::rebuild_on_images;
 use crate::removing::remove_from_images;
-use crate::stored_marks::StoredMarks;
 use md_advice::{CommandFault, advise, tell_lost_content};
 use md_commands::{Source, Watch};
 use md_examine::Sink;
@@ -33,8 +33,8 @@ use std::thread::Threads;
 /// clause can tell whether memory was there.
 ///
 /// `input` is read by `write` alone. A refusal's line goes to `err`, as `mdcli: BadImage 0`, and with advice
-/// further lines; so does, of a command that is done, a line for each image on which marks were stored; and the
-/// parser's text. No clause speaks of what is written to `err`, nor of whether that can be written.
+/// further lines; so do, of a command that is done, a line for each image on which marks were stored, and one for a
+/// check that compared nothing; and the parser's text. No clause speaks of what is written to `err`, nor of whether that can be written.
 ///
 /// `watch` is told of a rebuild, by `rebuild` and `re-add`, and of a check, whose workers `rt` starts.
 pub fn run<'a, I: Images, R: Source, S: Sink, E: Write, W: Watch + Sync, T: Threads + Wait + Sync>(
@@ -62,7 +62,7 @@ pub fn run<'a, I: Images, R: Source, S: Sink, E: Write, W: Watch + Sync, T: Thre
         }
     };
     let names = request.images.as_slice();
-    let mut marks = StoredMarks::none();
+    let mut notices = Notices::none();
     let outcome = act(
         rt,
         alloc,
@@ -72,12 +72,12 @@ pub fn run<'a, I: Images, R: Source, S: Sink, E: Write, W: Watch + Sync, T: Thre
         input,
         out,
         watch,
-        &mut marks,
+        &mut notices,
     );
-    answer(outcome, request.action, names, &marks, messages, err)
+    answer(outcome, request.action, names, &notices, messages, err)
 }
 
-// Does a command on the images that are named. `marks` gets on which of them marks were stored.
+// Does a command on the images that are named. `notices` gets what their array tells as it is opened.
 fn act<I: Images, R: Source, S: Sink, W: Watch + Sync, T: Threads + Wait + Sync>(
     rt: &T,
     alloc: Global,
@@ -87,7 +87,7 @@ fn act<I: Images, R: Source, S: Sink, W: Watch + Sync, T: Threads + Wait + Sync>
     input: &mut R,
     out: &mut S,
     watch: &W,
-    marks: &mut StoredMarks,
+    notices: &mut Notices,
 ) -> Result<(), CommandFault>
     ensures gives { Does I.Dev.Device R.Source S.Sink I.known I.device_at I.changeable I.asked (ask_of action.entry) (map (λ s. s.now) names.now) images.old images.new (streams input.old out.old) (streams input.new out.new) result }
     ensures flushed { IfOk result (λ _. S.is_flushed out.new) }
@@ -97,10 +97,10 @@ fn act<I: Images, R: Source, S: Sink, W: Watch + Sync, T: Threads + Wait + Sync>
         Action::Create(options) => create_array(alloc, options, images, names, out),
         Action::Perform(task, readonly) => {
             perform_on_array(
-                rt, alloc, task, readonly, images, names, input, out, watch, marks,
+                rt, alloc, task, readonly, images, names, input, out, watch, notices,
             )
         }
-        Action::Remove(member) => remove_from_images(alloc, member, images, names, out, marks),
+        Action::Remove(member) => remove_from_images(alloc, member, images, names, out, notices),
         Action::Add(device) => join_images(
             rt,
             alloc,
@@ -110,7 +110,7 @@ fn act<I: Images, R: Source, S: Sink, W: Watch + Sync, T: Threads + Wait + Sync>
             names,
             watch,
             out,
-            marks,
+            notices,
         ),
         Action::ReAdd(device) => join_images(
             rt,
@@ -121,10 +121,10 @@ fn act<I: Images, R: Source, S: Sink, W: Watch + Sync, T: Threads + Wait + Sync>
             names,
             watch,
             out,
-            marks,
+            notices,
         ),
         Action::Rebuild(member) => {
-            rebuild_on_images(rt, alloc, member, images, names, watch, out, marks)
+            rebuild_on_images(rt, alloc, member, images, names, watch, out, notices)
         }
     }
 }
@@ -140,15 +140,15 @@ fn perform_on_array<I: Images, R: Source, S: Sink, W: Watch + Sync, T: Threads +
     input: &mut R,
     out: &mut S,
     watch: &W,
-    marks: &mut StoredMarks,
+    notices: &mut Notices,
 ) -> Result<(), CommandFault>
     ensures gives { PerformsOnArray I.Dev.Device R.Source S.Sink I.known I.device_at I.changeable I.asked task readonly (map (λ s. s.now) names.now) images.old images.new (streams input.old out.old) (streams input.new out.new) result }
     ensures flushed { IfOk result (λ _. S.is_flushed out.new) }
 {
     if readonly {
-        return look_at_images(rt, alloc, task, images, names, input, out, watch);
+        return look_at_images(rt, alloc, task, images, names, input, out, watch, notices);
     }
-    perform_on_images(rt, alloc, task, images, names, input, out, watch, marks)
+    perform_on_images(rt, alloc, task, images, names, input, out, watch, notices)
 }
 
 // Makes an array. No image is touched before the options are accepted.
@@ -169,12 +169,13 @@ fn create_array<I: Images, S: Sink>(
 }
 
 // The status of a command that was done or refused. A refusal is said on `err`, and alone where no advice is
-// asked for; else, or where there is none, so are the images on which marks were stored.
+// asked for; else, or where there is none, so are the images on which marks were stored. A check that is done
+// also tells where it compared nothing.
 fn answer<'a, E: Write>(
     outcome: Result<(), CommandFault>,
     action: Action<'a>,
     names: &[&'a str],
-    marks: &StoredMarks,
+    notices: &Notices,
     messages: Messages,
     err: &mut E,
 ) -> u8
@@ -187,7 +188,10 @@ fn answer<'a, E: Write>(
         }
     }
     if outcome.is_ok() || messages == Messages::WithAdvice {
-        marks.tell(names, err);
+        notices.tell_marks(names, err);
+    }
+    if outcome.is_ok() && matches!(action, Action::Perform(ArrayTask::Check, _)) {
+        notices.tell_uncompared(names, err);
     }
     if messages == Messages::WithAdvice {
         tell_lost_content(&outcome, action, err);

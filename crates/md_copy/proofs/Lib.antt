@@ -19,6 +19,8 @@ pub mod LentBack
 pub mod ListingEnds
 pub mod ListingKeeps
 pub mod Lists
+pub mod ListsKept
+pub mod ListsOn
 pub mod ListsStored
 pub mod MadeReady
 pub mod NotedLists
@@ -48,6 +50,7 @@ pub mod SetsMade
 pub mod SourcesChosen
 pub mod StartedAs
 pub mod StartsReadied
+pub mod StatesKept
 pub mod StoppedWithin
 pub mod StoredFirst
 pub mod StoringKeeps

@@ -40,7 +40,7 @@ use Rattle.md_pass.specs.Copied.{failed_slots, is_failed_slot}
 use Rattle.md_passes.specs.Listed.{IsOfFailed, ListsFailed, ListsOwn}
 use Rattle.md_copy.specs.declared.fault.RebuildFault.{RebuildFault}
 use Rattle.md_copy.specs.declared.fault.RebuildFault.TheVariants.{MetadataFault}
-use Rattle.md_copy.specs.Listing.{AreListsOf, HasFailed, HaveRoom, IsStoringList, KeepsList, ListsAll, NotesLists, StopsAtList, StopsStoringLists, StoresIfFailed, StoresListIf, StoresLists, StoresOwn, WritesMetadata, all_list_events}
+use Rattle.md_copy.specs.Listing.{AreListsOf, FitsLog, HasFailed, HaveRoom, IsStoringList, KeepsList, ListsAll, NotesLists, StopsAtList, StopsStoringLists, StoresIfFailed, StoresListIf, StoresLists, StoresOwn, WritesMetadata, all_list_events}
 use Rattle.md_copy.proofs.ListingKeeps.{KeepsPlaces, LeavesBeside, listing_fields, listing_halts, listing_leaves, writes_one, writes_same, writes_then}
 use Rattle.md_copy.proofs.Served.{in_sync_as}
 
@@ -82,10 +82,13 @@ pub failed_in_sync : (failed : List Slot) (m : MemberView) → HasFailed failed 
 failed_in_sync failed m (i, s, low, is, in_sync) = in_sync_as s.source m.state in_sync
 
 -- and has room
-pub failed_room : (failed : List Slot) (a : ArrayView) → HaveRoom failed a → (k : ℕ) (m : MemberView) → IsMember a k m → HasFailed failed m → HasRoomFor m.superblock m.bad
-failed_room failed a room k m at (i, s, low, is, in_sync) =
-    let Holds : Slot → Type 0 = λ s. (k : ℕ) (m : MemberView) → IsMember a k m → is_in_sync_as s.source m.state ≡ true → HasRoomFor m.superblock m.bad in
+pub failed_fits : (failed : List Slot) (a : ArrayView) → HaveRoom failed a → (k : ℕ) (m : MemberView) → IsMember a k m → HasFailed failed m → FitsLog m.superblock m.bad
+failed_fits failed a room k m at (i, s, low, is, in_sync) =
+    let Holds : Slot → Type 0 = λ s. (k : ℕ) (m : MemberView) → IsMember a k m → is_in_sync_as s.source m.state ≡ true → FitsLog m.superblock m.bad in
     subst Holds is (All-get_or Holds failed i s low room) k m at in_sync
+
+pub failed_room : (failed : List Slot) (a : ArrayView) → HaveRoom failed a → (k : ℕ) (m : MemberView) → IsMember a k m → HasFailed failed m → HasRoomFor m.superblock m.bad
+failed_room failed a room k m at has = (failed_fits failed a room k m at has).0
 
 -- ---- the events of one are of all
 lists_store : (k : ℕ) (e : Event) → IsListing k e → IsStoringList e

@@ -9,7 +9,6 @@ use Rattle.md_assembly.specs.States.{is_in_sync, is_in_sync_as}
 use Rattle.md_bitmap.specs.Marks.{Bitmap, is_set}
 use Rattle.md_cert.specs.declared.slots.Slot.{Slot}
 use Rattle.md_faults.specs.declared.note_fault.NoteFault.TheVariants as note
-use Rattle.md_kept_members.specs.Enrolling.{HasRoomFor}
 use Rattle.md_kept_members.specs.View.{MemberView}
 use Rattle.md_model.specs.Events.{Event}
 use Rattle.md_requests.specs.Pending.{PendingView}
@@ -28,13 +27,13 @@ use Rattle.md_passes.specs.Listed.{IsSourceOf}
 use Rattle.md_passes.proofs.Listing.{lists_add}
 use Rattle.md_copy.specs.declared.fault.RebuildFault.{RebuildFault}
 use Rattle.md_copy.specs.declared.fault.RebuildFault.TheVariants.{LogFull}
-use Rattle.md_copy.specs.Listing.{ChangesListAlone, HaveRoom, IsNoting, NotesLists, RefusesSlot, StopsNoting, WhyNotNoted}
+use Rattle.md_copy.specs.Listing.{ChangesListAlone, FitsLog, HaveRoom, IsNoting, NotesLists, RefusesSlot, StopsNoting, WhyNotNoted}
 use Rattle.md_copy.proofs.Served.{in_sync_as}
 use Rattle.md_copy.proofs.SourcesChosen.{takes_as}
 
 -- who is in sync in the slot's role has room
 abbrev HasRoomThere : ArrayView → Slot → Type 0
-HasRoomThere a slot = (k : ℕ) (m : MemberView) → IsMember a k m → is_in_sync_as slot.source m.state ≡ true → HasRoomFor m.superblock m.bad
+HasRoomThere a slot = (k : ℕ) (m : MemberView) → IsMember a k m → is_in_sync_as slot.source m.state ≡ true → FitsLog m.superblock m.bad
 
 -- ---- one slot
 module _ (k : ℕ) (slot : Slot) (a : MirrorView) (sound : IsConsistent a) (within : (m : MemberView) → IsMember a.array k m → is_in_sync_as slot.source m.state ≡ true) where
@@ -63,7 +62,7 @@ module _ (k : ℕ) (slot : Slot) (a : MirrorView) (sound : IsConsistent a) (with
         let one : ChangesListAlone m n = record {
           same = refl;
           out = λ no. absurd (both_ways (is_in_sync m.state) no (in_sync_as slot.source m.state (within m at)));
-          room = inr noted.notes.may.room;
+          room = inr (noted.notes.may.room, noted.notes.may.list_is.canonical);
         } in
         subst (λ (z : MemberView). ChangesListAlone z y) was (subst (λ (z : MemberView). ChangesListAlone m z) (sym is) one))
         (λ apart there. subst (λ (z : MemberView). ChangesListAlone x z) (same_Some x y (sym at_x ∙ there)) (record { same = refl; out = λ no. refl; room = inl refl }))
@@ -72,7 +71,7 @@ module _ (k : ℕ) (slot : Slot) (a : MirrorView) (sound : IsConsistent a) (with
     has_room = All-cons (HasRoomThere b.array) slot []
         (λ j y at_y is.
         of_set a.array.members k j n y (ap (λ (v : ArrayView). slice_get v.members j) (sym noted.notes.array) ∙ at_y)
-        (λ here now. subst (λ (z : MemberView). HasRoomFor z.superblock z.bad) (sym now) noted.notes.may.room)
+        (λ here now. subst (λ (z : MemberView). FitsLog z.superblock z.bad) (sym now) (noted.notes.may.room, noted.notes.may.list_is.canonical))
         (λ apart there. absurd (apart (alone m at j y there is))))
         (λ i d low. absurd (omega (arith, low)))
 
@@ -119,7 +118,7 @@ changes_on : (l m n : MemberView) → ChangesListAlone l m → ChangesListAlone 
 changes_on l m n x y = record {
   same = y.same ∙ ap (λ (z : MemberView). record z { bad = n.bad }) x.same;
   out = λ no. y.out (ap (λ (z : MemberView). is_in_sync z.state) x.same ∙ no) ∙ x.out no;
-  room = elim y.room [ inr room ↦ inr room | inl same ↦ elim x.room [ inl was ↦ inl (same ∙ was) | inr room ↦ inr (subst (λ (z : MemberView). HasRoomFor z.superblock z.bad) (sym same) room) ] ];
+  room = elim y.room [ inr room ↦ inr room | inl same ↦ elim x.room [ inl was ↦ inl (same ∙ was) | inr room ↦ inr (subst (λ (z : MemberView). FitsLog z.superblock z.bad) (sym same) room) ] ];
 }
 
 module _ (first second : List Slot) (a b c : MirrorView) (x : NotesLists first a b) (y : NotesLists second b c) where
@@ -129,7 +128,7 @@ module _ (first second : List Slot) (a b c : MirrorView) (x : NotesLists first a
       let before = y.lists.before k n at in
       elim (y.members k before.0 n before.1 at).room [
         | inl same ↦
-            subst (λ (z : MemberView). HasRoomFor z.superblock z.bad) (sym same)
+            subst (λ (z : MemberView). FitsLog z.superblock z.bad) (sym same)
             (has k before.0 before.1 (subst (λ (z : MemberView). is_in_sync_as slot.source z.state ≡ true) same is))
         | inr room ↦ room
       ])

@@ -220,7 +220,7 @@ chain_keeps target [] chunks left before after v w h =
 chain_keeps target (p ∷ ps) chunks left before after v w h =
     keeps_on target p.failed (failed_of ps) p.failed (failed_of ps) before h.0 after v h.1 w (lists_keep target chunks p before h.0 v h.1 h.2) (chain_keeps target ps (failed_chunks p) left h.0 after h.1 w h.3)
 
-failed_last : (passes : List PassView) (p : PassView) → p.failed ≡ [] → failed_of (passes ++ p ∷ []) ≡ failed_of passes
+pub failed_last : (passes : List PassView) (p : PassView) → p.failed ≡ [] → failed_of (passes ++ p ∷ []) ≡ failed_of passes
 failed_last [] p none = ap (λ xs. xs ++ []) none
 failed_last (q ∷ qs) p none = ap (λ xs. q.failed ++ xs) (failed_last qs p none)
 

@@ -25,11 +25,13 @@ use Rattle.md_copy.specs.Rebuilding.{Rebuilds, RebuildsReadied}
 use Rattle.md_copy.specs.Rebuilt.{AllCounted, HaltsFrom, HasRebuilt, IsRebuilt, IsRebuiltInSync, ListsGrow, failed_of}
 use Rattle.md_copy.specs.Sources.{missing_chunks}
 use Rattle.md_copy.specs.Storing.{Settles}
+use Rattle.md_copy.proofs.ListsKept.{own_stored_so, stored_so}
 use Rattle.md_copy.proofs.PassesTold.{HoldsSoFar, begins_holding}
 use Rattle.md_copy.proofs.Readied.{ready_of}
 use Rattle.md_copy.proofs.RebuiltMember.{all_so, copied_so, counted_so, in_sync_now, lists_so, now_there, passes_so, rebuilt_so}
 use Rattle.md_copy.proofs.StartedAs.{IsAs, StartsAs, rebuilt_from}
 use Rattle.md_copy.proofs.StartsReadied.{starts_of}
+use Rattle.md_copy.proofs.StatesKept.{so_readied, state_so}
 
 -- ---- the end of the call, or what came right before a write that halted the mirror
 pub record IsLast (enrolled last new : MirrorView) : Type 0 where
@@ -224,4 +226,25 @@ module _ (target : ℕ) (told : Rebuilt) (old new : MirrorView) (h : Rebuilds ta
       lists = lists;
       counted = counted;
     };
+    states = λ k n z other at_n at_z.
+        (let o = starts.then k n at_n in
+        let w = so_readied target h.begins.member old v h.begins.first k other o.0 o.1 in
+        let was : o.0.state ≡ n.state = w.2 ∙ ap (λ (x : MemberView). x.state) (same_Some w.0 n (sym w.1 ∙ at_n)) in
+        elim (state_so target m h.none v new told r last.0 last.1.goes k other o.0 z o.1 at_z) [
+          | inl same ↦ inl (same ∙ was)
+          | inr failed ↦
+              inr (
+                failed.0,
+                λ b x at_b at_x honest.
+                    (let d = starts.disk_then k b at_b in
+                    let first = starts.counted k b d.0 at_b d.1 in
+                    let less = failed.1 d.0 x d.1 at_x (starts.honest k b d.0 at_b d.1 ∙ honest) in
+                    omega (arith, first, less)),
+              )
+        ]);
+    stored = λ k n z e other at_n has at_z in_sync at_e honest.
+        (let o = starts.then k n at_n in
+        stored_so target m h.none v new told r last.0 last.1.goes k o.0 z e other o.1
+        (has.0, has.1, has.2, has.3, o.2.roles has.1.source ∙ has.4) at_z in_sync at_e honest);
+    own_stored = λ e at_e in_sync honest. own_stored_so target m h.none v new told r last.0 last.1.goes rebuilt.now e rebuilt.there at_e in_sync honest;
   }

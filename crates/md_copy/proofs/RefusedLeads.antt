@@ -342,7 +342,7 @@ module _ (target : ℕ) where
           recovers = λ running n at. (filled_ready target m passes none copied ready filled c so).recovering n (ap (λ (v : MirrorView). slice_get v.array.members target) (sym same) ∙ at);
         }
 
-    -- ---- for want of memory, of room, or of a member
+    -- ---- memory was refused, a log had no room, or a member failed
     lacks_memory : (after : Bitmap) (new : MirrorView) → LacksMemory target m none after ready new → ComesTo old new
     lacks_memory after new (inl e) = then_comes (λ left copied now. (after ≡ copied) × (new ≡ now)) e new e.why.1
     lacks_memory after new (inr (inl e)) = broken_off NoMemory new (with_set target m none ready (λ b left copied now. BreaksOff target NoMemory left copied b now new) after e) e.why.breaks.filling

@@ -3,11 +3,14 @@
 use Rattle.std.specs.Prelude.{◌≡◌, ◌≢◌, ◌⊎◌, ◌<◌, ℕ, Bool, true, false, List, [], ◌∷◌, ◌++◌, length, slice_get, All}
 use Rattle.std.specs.List.{AllPairs, Any}
 use Rattle.md_assembly.specs.States.{is_in_sync, is_in_sync_as}
+use Rattle.md_badblocks.specs.declared.run.Run.{Run}
+use Rattle.md_badblocks.specs.Runs.{IsCanonical}
 use Rattle.md_bitmap.specs.Marks.{Bitmap}
 use Rattle.md_cert.specs.declared.slots.Slot.{Slot}
 use Rattle.md_kept_members.specs.Enrolling.{HasRoomFor}
 use Rattle.md_kept_members.specs.View.{MemberView}
 use Rattle.md_model.specs.Events.{Event}
+use Rattle.md_super.specs.declared.superblock.Superblock.{Superblock}
 use Rattle.md_state.specs.DeviceChanges.{StaysHonest}
 use Rattle.md_state.specs.DiskWrites.{AtDevice}
 use Rattle.md_state.specs.Members.{AllInSync, IsInSync, IsMember}
@@ -28,15 +31,19 @@ abbrev pub IsNoting : Event → Type 0
 IsNoting (Event.NoteBad k c) = Unit {0}
 IsNoting e = ⊥
 
+-- the log has room for the list, which is that of the maximal runs of its sectors
+abbrev pub FitsLog : Superblock → List Run → Type 0
+FitsLog v list = HasRoomFor v list × IsCanonical list
+
 -- Of a member its list alone changed, if it is in sync, and else nothing. If it did, its log has room for it.
 pub record ChangesListAlone (m n : MemberView) : Type 0 where
   pub same : n ≡ record m { bad = n.bad }
   pub out : is_in_sync m.state ≡ false → n ≡ m
-  pub room : (n ≡ m) ⊎ HasRoomFor n.superblock n.bad
+  pub room : (n ≡ m) ⊎ FitsLog n.superblock n.bad
 
 -- the members in sync in the roles of these slots have room in their logs for their lists
 abbrev pub HaveRoom : List Slot → ArrayView → Type 0
-HaveRoom failed a = All (λ s. (k : ℕ) (m : MemberView) → IsMember a k m → is_in_sync_as s.source m.state ≡ true → HasRoomFor m.superblock m.bad) failed
+HaveRoom failed a = All (λ s. (k : ℕ) (m : MemberView) → IsMember a k m → is_in_sync_as s.source m.state ≡ true → FitsLog m.superblock m.bad) failed
 
 -- The chunks of these slots came to the lists of their sources. No device is used.
 pub record NotesLists (failed : List Slot) (old new : MirrorView) : Type 0 where

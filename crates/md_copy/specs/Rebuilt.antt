@@ -2,6 +2,7 @@
 use Rattle.std.specs.Prelude.{◌≡◌, ◌≢◌, ◌⊎◌, ◌↔◌, ℕ, ◌+◌, ◌*◌, ◌<◌, ◌≤◌, true, List, [], ◌∷◌, ◌++◌, length, count_by, slice_get, Some}
 use Rattle.md_assembly.specs.declared.state.MemberState.TheVariants.{Faulty}
 use Rattle.md_assembly.specs.States.{is_in_sync, is_in_sync_as, is_recovering, is_spare}
+use Rattle.md_badblocks.specs.declared.run.Run.{Run}
 use Rattle.md_badblocks.specs.Runs.{IsBad}
 use Rattle.md_bitmap.specs.Chunks.{InChunk}
 use Rattle.md_bitmap.specs.Marks.{Bitmap, is_set}
@@ -11,13 +12,15 @@ use Rattle.md_device.specs.Splice.{part}
 use Rattle.md_kept_members.specs.Enrolling.{IsListAfter}
 use Rattle.md_kept_members.specs.View.{MemberView}
 use Rattle.md_model.specs.Content.{Content}
+use Rattle.md_super.specs.declared.superblock.Superblock.{Superblock}
 use Rattle.md_state.specs.DiskWrites.{AtDevice}
 use Rattle.md_state.specs.Members.{IsInSync, IsMember}
 use Rattle.md_state.specs.Missing.{is_missing}
 use Rattle.md_state.specs.View.{ArrayView, Disk, MirrorView, of_disks}
 use Rattle.md_array.specs.Enrolling.{HasContent, KeepsData}
 use Rattle.md_array.specs.Lending.{IsBesideChunk, IsBesideMissing}
-use Rattle.md_array.specs.Worlds.{AreHonest}
+use Rattle.md_array.specs.ReadAsKept.{IsSuperOn}
+use Rattle.md_array.specs.Worlds.{AreHonest, is_listed}
 use Rattle.md_array.specs.InTurn.{HaltsAt, Requests}
 use Rattle.md_metadata.specs.Storing.{IsStoring}
 use Rattle.md_model.specs.Events.{Event}
@@ -25,6 +28,7 @@ use Rattle.md_pass.specs.Readings.{is_of}
 use Rattle.md_passes.specs.Listed.{ArrayPasses, IsOfFailed, MayServe, ServesAs, most_failures}
 use Rattle.md_passes.specs.Passes.{IsCopiedIn, PassView}
 use Rattle.md_copy.specs.declared.rebuilt.Rebuilt.{Rebuilt}
+use Rattle.md_copy.specs.Listing.{HasFailed}
 use Rattle.md_copy.specs.Preparing.{Tells, is_in, uncopied_chunks}
 use Rattle.md_copy.specs.Sources.{missing_chunks}
 
@@ -113,6 +117,29 @@ pub record AreItsPasses (target : ℕ) (passes : List PassView) (chunks : List �
   pub lists : ListsGrow target (failed_of passes) old.array last.array
   pub counted : AllCounted (failed_of passes) old last
 
+-- Each other member is in the state in which it was, or it is faulty, and then its device, if it is honest, has counted a failure.
+abbrev pub KeepStates : ℕ → MirrorView → MirrorView → Type 0
+KeepStates target old last =
+    (k : ℕ) (m n : MemberView) → k ≢ target → IsMember old.array k m → IsMember last.array k n
+    → (n.state ≡ m.state) ⊎ ((n.state ≡ Faulty) × AtDevice k old.disks last.disks (Fails of_disks))
+
+-- ---- what stands on the devices
+-- An opening reads a superblock there, and in the log that this names are these sectors listed, and no others.
+pub record HasListOn (list : List Run) (content : List ℕ) : Type 0 where
+  pub super : Superblock
+  pub read : IsSuperOn content super
+  pub listed : (sector : ℕ) → (is_listed super content sector ≡ true) ↔ IsBad list sector
+
+-- So it is of each other member of which a slot failed, as it is in sync still: a write to it that failed would have made it faulty.
+abbrev pub ListsStored : ℕ → List Slot → ArrayView → MirrorView → Type 0
+ListsStored target failed old last =
+    (k : ℕ) (m n : MemberView) (e : Disk) → k ≢ target → IsMember old k m → HasFailed failed m
+    → IsMember last.array k n → is_in_sync n.state ≡ true → slice_get last.disks k ≡ Some e → e.honest ≡ true → HasListOn n.bad e.content
+
+-- and of this member
+abbrev pub OwnListStored : MemberView → Disk → Type 0
+OwnListStored m d = is_in_sync m.state ≡ true → d.honest ≡ true → HasListOn m.bad d.content
+
 -- ---- the whole call
 -- The write of a mark or of a superblock failed on a member that can't be made faulty, and the mirror is halted.
 pub record HaltsFrom (last new : MirrorView) : Type 0 where
@@ -121,7 +148,7 @@ pub record HaltsFrom (last new : MirrorView) : Type 0 where
   pub halts : (others : Requests) → HaltsAt last others failing new
 
 -- It is rebuilt at the end of the call, or where a write that failed halted the mirror after it came into sync, right before that write.
--- This is told of its passes, and of the orphans.
+-- This is told of its passes, and of the orphans. The lists that grew stand on the devices then, and its own.
 pub record HasRebuilt (target : ℕ) (told : Rebuilt) (old new : MirrorView) : Type 0 where
   pub passes : List PassView
   pub tells : Tells passes told.orphans.items told
@@ -134,6 +161,9 @@ pub record HasRebuilt (target : ℕ) (told : Rebuilt) (old new : MirrorView) : T
   pub rebuilt : IsRebuilt target copied orphans old last
   pub orphans_are : told.orphans.items ≡ uncopied_chunks old.array rebuilt.member copied
   pub passes_are : AreItsPasses target passes (missing_chunks old.array rebuilt.member) old last
+  pub states : KeepStates target old last
+  pub stored : ListsStored target (failed_of passes) old.array last
+  pub own_stored : (e : Disk) → slice_get last.disks target ≡ Some e → OwnListStored rebuilt.now e
 
 -- ---- a call that is refused
 -- these bytes lie in the member's data area, beside the chunks that it lacks

@@ -4,6 +4,9 @@ use std::io::ErrorKind;
 use std::os::unix::fs::{FileTypeExt, MetadataExt};
 use std::{fs, io, str};
 
+// The major number of loop devices.
+const LOOP_MAJOR: u32 = 7;
+
 /// A block device, by the two numbers that its nodes have.
 #[derive(Clone, Copy, Debug, PartialEq, Eq)]
 pub(crate) struct BlockDevice {
@@ -63,6 +66,24 @@ impl BlockDevice {
         )
     }
 
+    /// Whether it is a loop device, and the file with this metadata is its backing file. The system names that by a
+    /// path, which is another file's where it was opened in another root, or deleted since.
+    fn is_backed_by<R: Files + AllocGlobal>(self, rt: &R, file: &Metadata) -> io::Result<bool> {
+        if self.major != LOOP_MAJOR {
+            return Ok(false);
+        }
+        let path = self.path(rt, "loop/backing_file")?;
+        let line = read(rt, path.as_str())?;
+        let name = line
+            .strip_suffix(b"\n")
+            .and_then(|name| str::from_utf8(name).ok());
+        let Some(name) = name else {
+            return Ok(false);
+        };
+        let named = told(fs::metadata(rt, name))?;
+        Ok(named.is_some_and(|named| named.dev() == file.dev() && named.ino() == file.ino()))
+    }
+
     fn path<R: AllocGlobal>(self, rt: &R, name: &str) -> io::Result<String> {
         let (major, minor) = (self.major, self.minor);
         Ok(format!(in rt.alloc(); "/sys/dev/block/{major}:{minor}/{name}")?)
@@ -98,6 +119,33 @@ impl BlockDevice {
         };
         Ok(holders.next().is_some())
     }
+}
+
+/// Whether a loop device that the system uses has the file with this metadata as its backing file.
+pub(crate) fn backs_device_in_use<R: Files + AllocGlobal>(
+    rt: &R,
+    file: &Metadata,
+) -> io::Result<bool> {
+    // It lists the devices that have a size, so no loop device without a backing file.
+    let devices = read(rt, "/proc/partitions")?;
+    for line in devices.split(|byte| *byte == b'\n') {
+        if let Some(device) = device_in_line(line)
+            && device.is_backed_by(rt, file)?
+            && device.is_in_use(rt)?
+        {
+            return Ok(true);
+        }
+    }
+    Ok(false)
+}
+
+// The device of a line of the system's list of devices: its numbers come first.
+fn device_in_line(line: &[u8]) -> Option<BlockDevice> {
+    let mut words = str::from_utf8(line).ok()?.split_whitespace();
+    Some(BlockDevice {
+        major: words.next()?.parse().ok()?,
+        minor: words.next()?.parse().ok()?,
+    })
 }
 
 // The disk of which the device in a folder of the system's is a partition.

@@ -3,7 +3,7 @@ ghost use Rattle.std.specs.Prelude.{◌≡◌, ◌≢◌, ◌+◌, ◌*◌, ◌^
 ghost use Rattle.std.specs.Fs.{file_type, IsDir, IsFile};
 ghost use Rattle.md_images.specs.declared.access.Access.TheVariants.{Look, Change};
 
-use crate::block_device::BlockDevice;
+use crate::block_device::{BlockDevice, backs_device_in_use};
 use md_device::{Device, ReadFault, WriteFault};
 use md_images::{Access, ImageFault};
 use std::fs::{File, Files, Metadata, OpenOptions, TryLockError};
@@ -55,16 +55,18 @@ impl FileDevice {
     /// file have a lock each, and so have two nodes where there is no /sys. Where the file system
     /// can't lock it answers `Io`: without the lock nothing would stop two writers.
     ///
-    /// A block device that the system uses is not opened to be changed, as far as /proc and /sys tell:
-    /// what they don't tell, as where they are absent, counts as not in use. They tell of the mounts of
-    /// this process's own mount namespace.
+    /// A block device that the system uses is not opened to be changed, nor is the backing file of a loop
+    /// device that it uses, as far as /proc and /sys tell: what they don't tell, as where they are absent,
+    /// counts as not in use. They tell of the mounts of this process's own mount namespace, and of a backing
+    /// file by the path at which it was opened.
     ///
     /// It doesn't wait for the other end of a pipe: what kind of file a path names is asked before
     /// it is opened, and again of what was opened.
     ///
     /// Each variant of `ImageFault` but the last comes where its message says. `Io` has the system's
     /// words for what else went wrong. To look, an image is never refused as `NotWritable` or `InUse`.
-    /// It takes memory for a block device alone; where that runs out it answers `Io`.
+    /// It takes memory to find whether an image is in use, and for a block device; where that runs out it
+    /// answers `Io`.
     pub fn open<R: Files<File = File> + AllocGlobal>(
         rt: &R,
         path: &str,
@@ -218,11 +220,15 @@ fn open_to_change<R: Files<File = File> + AllocGlobal>(
 ) -> Result<FileDevice, ImageFault>
     ensures { IfOk result (λ device. (device.sectors ≤ 2 ^ 54) × (device.writable ≡ true) × (device.sync_failed ≡ false)) }
 {
-    let block_device = check_kind(&fs::metadata(rt, path).map_err(fault_of)?)?;
+    let metadata = fs::metadata(rt, path).map_err(fault_of)?;
+    let block_device = check_kind(&metadata)?;
 
     // Before it is opened, since closing what could be written is an event to udev.
     if let Some(device) = block_device {
         check_unused(rt, device)?;
+    }
+    if backs_device_in_use(rt, &metadata).map_err(ImageFault::Io)? {
+        return Err(ImageFault::InUse);
     }
     match OpenOptions::new().read(true).write(true).open(rt, path) {
         Ok(file) => {

@@ -22,8 +22,8 @@ pub enum ImageFault {
     #[error("it can't be written: ask for write permission, or make its file system or device writable")]
     NotWritable,
     /// A block device that is mounted, swapped on or held by another driver, or of which a partition
-    /// is, or whose whole disk is.
-    #[error("in use by the system: unmount it, end swapping on it, or stop what holds it")]
+    /// is, or whose whole disk is; or the backing file of a loop device that is.
+    #[error("in use by the system: unmount it or the loop device over it, end swapping on it, or stop what holds it")]
     InUse,
     #[error("in use by another program, or named twice: close it there, or name it once")]
     Locked,

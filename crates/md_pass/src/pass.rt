@@ -7,9 +7,7 @@ ghost use Rattle.md_pass.specs.Copied.{AreUncopied, BreaksOff, EndsPass, WritesP
 ghost use Rattle.md_pass.specs.Preparing.{CanCopy, sources_of};
 ghost use Rattle.md_pass.specs.Sources.{MayRead, copy_of};
 
-use md_workers::Board;
 use crate::fault::PassFault;
-use md_workers::Gate;
 use crate::preparing::{Preparation, prepare};
 use crate::put_back::put_back;
 use crate::readings::turns_of;
@@ -19,6 +17,7 @@ use crate::turns::run_turns;
 use md_bitmap::{Chunks, Marks};
 use md_cert::Plan;
 use md_device::Device;
+use md_workers::{Board, Gate};
 use std::alloc::Global;
 use std::marker::Brand;
 use std::sync::ledger::{Blank, Ledger};
@@ -40,8 +39,7 @@ pub struct BoardCounts {
 /// a worker of its own: in a turn those of 1 MiB, those of 64 KiB where it is the only source, or one where
 /// a chunk is longer. Then the collector takes what they report, first that of each source's first chunk in
 /// the turn, the lowest role first, then that of the second. All memory is taken before a device leaves the
-/// list, but that of a worker that read a shorter chunk before; a read that fails costs none. The devices are
-/// back in their order whatever the answer is.
+/// list. The devices are back in their order whatever the answer is.
 ///
 /// `copied` gets a mark for each chunk that was copied. After `Ok` a slot whose chunk has no mark failed: its
 /// source could not be read there, and the target has in that chunk what it had. The board counts them.

@@ -7,10 +7,10 @@ ghost use Rattle.md_pass.specs.Beside.{WritesBeside};
 ghost use Rattle.md_pass.specs.Settling.{Books, books, IsAllowed, IsSettled};
 ghost use Rattle.md_pass.specs.Passes.{HaveSettled, IsPassing, SameDevices};
 
-use md_workers::Lane;
 use md_bitmap::Marks;
 use md_collect::Collector;
 use md_device::{Device, WriteFault};
+use md_workers::Lane;
 use std::sync::ledger::Ledger;
 
 /// The collector takes the report that waits first in the lane, if one waits. The chunk is marked as copied

@@ -8,15 +8,12 @@ ghost use Rattle.md_pass.specs.Copied.{OnFault};
 ghost use Rattle.md_pass.specs.Settling.{books};
 ghost use Rattle.md_pass.specs.Passes.{IsPassing, LanesOnlyRead};
 
-use md_workers::Board;
 use crate::fault::PassFault;
-use md_workers::Gate;
-use md_workers::Lane;
 use crate::settle::settle_all;
-use md_workers::turn;
 use md_bitmap::{Chunks, Marks};
 use md_collect::Collector;
 use md_device::Device;
+use md_workers::{Board, Gate, Lane, turn};
 use std::alloc::Global;
 use std::sync::ledger::Ledger;
 use std::sync::{Mutex, Wait};

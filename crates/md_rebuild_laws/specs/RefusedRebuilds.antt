@@ -15,6 +15,7 @@ use Rattle.md_array.specs.InTurn.{AllLeftWhole}
 use Rattle.md_array.specs.Worlds.{block_on}
 use Rattle.md_laws.specs.Left.{contents_of}
 use Rattle.md_laws.specs.Runs.{Moment}
+use Rattle.md_laws.specs.StoppedCalls.{AtMoments}
 use Rattle.md_laws.specs.StopsWithin.{MayAllBeLeft}
 use Rattle.md_metadata.specs.Going.{GoesOn, only_others}
 use Rattle.md_copy.specs.Listing.{IsStoringList, NotesLists}

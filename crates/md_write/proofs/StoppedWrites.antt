@@ -1,10 +1,9 @@
 -- A stop within a whole write, and within a whole `stop`, is a stop of a run.
-use Rattle.std.proofs.Common.{◌≡◌, ◌∙◌, ◌⊎◌, inl, inr, ℕ, ◌%◌, Bool, true, false, List, [], ◌∷◌, ◌++◌, length, Option, Some, None, refl, sym, ap, subst}
+use Rattle.std.proofs.Common.{◌≡◌, ◌∙◌, inl, inr, ℕ, ◌%◌, Bool, true, false, List, [], ◌∷◌, ◌++◌, length, None, sym, ap, subst}
 use Rattle.std.proofs.lemmas.List.{append-nil}
 use Rattle.std.proofs.lemmas.Option.{none-some}
 use Rattle.md_inflight.specs.Inflight.{lookup}
 use Rattle.md_model.specs.Events.{Event}
-use Rattle.md_model.specs.Worlds.{Request}
 use Rattle.md_requests.specs.Pending.{PendingView}
 use Rattle.md_state.specs.Beginning.{Begins}
 use Rattle.md_state.specs.Requests.{AreInFlight, among, request_of}
@@ -15,8 +14,9 @@ use Rattle.md_laws.specs.StoppedCalls.{AreWhole, BeginsWhole, HasWholeSectors, I
 use Rattle.md_laws.proofs.Stops.DataInFlight.{has_whole}
 use Rattle.md_laws.proofs.Stops.StoppedCalls.{stops_at_halts, stops_at_steps}
 use Rattle.md_metadata.specs.Stopping.{IsStopping, IsStoringIf, clears_marks}
-use Rattle.md_write.specs.Progress.{IsEventOf, IsOfRequest, end_chunk, first_chunk}
-use Rattle.md_write.specs.StoppedWrites.{StopsHaltingStop, StopsHaltingWrite, StopsInHaltedWrite, StopsInStop, StopsInWrite}
+use Rattle.md_write.specs.Progress.{IsEventOf, end_chunk, first_chunk}
+use Rattle.md_write.specs.StoppedWrites.{StopsHaltingStop, StopsHaltingWrite, StopsInHaltedWrite, StopsInStop, StopsInWrite, begun_events}
+use Rattle.md_write.specs.Writing.{events_of}
 
 -- ---- which requests are written, and which begun
 -- these events write no request's bytes but those of this number, and none begins
@@ -25,8 +25,8 @@ record WritesAlone (n : ℕ) (es : List Event) : Type 0 where
   begun : AllOf BeginsWhole es
 
 written_alone : (n first end : ℕ) (e : Event) (es : List Event) → IsEventOf n first end e → WritesAlone n es → WritesAlone n (e ∷ es)
-written_alone n first end (Event.WriteMember m k) es of rest = record { alone = λ j w. elim w [ | inl here ↦ sym here ∙ of | inr later ↦ rest.alone j later ]; begun = (tt, rest.begun) }
-written_alone n first end (Event.WriteMemberFails m k) es of rest = record { alone = λ j w. elim w [ | inl here ↦ sym here ∙ of | inr later ↦ rest.alone j later ]; begun = (tt, rest.begun) }
+written_alone n first end (Event.WriteMember m k) es of rest = record { alone = λ j w. elim w [ inl here ↦ sym here ∙ of | inr later ↦ rest.alone j later ]; begun = (tt, rest.begun) }
+written_alone n first end (Event.WriteMemberFails m k) es of rest = record { alone = λ j w. elim w [ inl here ↦ sym here ∙ of | inr later ↦ rest.alone j later ]; begun = (tt, rest.begun) }
 written_alone n first end (Event.Record k) es of rest = record { alone = rest.alone; begun = (tt, rest.begun) }
 written_alone n first end (Event.RecordFails k) es of rest = record { alone = rest.alone; begun = (tt, rest.begun) }
 written_alone n first end (Event.StoreMarks k b) es of rest = record { alone = rest.alone; begun = (tt, rest.begun) }
@@ -65,16 +65,16 @@ stops_in_write before m start events rest final t life sector bytes new whole w 
     let p = w.request in
     let chunks = t.mirror.array.chunks in
     let alone = all_alone p.ticket.number (first_chunk chunks p) (end_chunk chunks p) w.events (Event.Finish p.ticket.number ∷ []) w.steps (finish_alone p.ticket.number) in
-    stops_at_steps before m start events rest final t life _ None new t.requests (w.happens None t.requests in_flight).done
-    (write_whole sector bytes t.mirror w.begun p w.begins whole t.requests in_flight _ alone) left stop until
+    stops_at_steps before m start events rest final t life (events_of p w.events) None new t.requests (w.happens None t.requests in_flight).done
+    (write_whole sector bytes t.mirror w.begun p w.begins whole t.requests in_flight (w.events ++ Event.Finish p.ticket.number ∷ []) alone) left stop until
 
 pub stops_in_halted_write : StopsInHaltedWrite
 stops_in_halted_write before m start events rest final t life sector bytes new whole h in_flight left stop until =
     let p = h.request in
     let chunks = t.mirror.array.chunks in
     let alone = subst (WritesAlone p.ticket.number) (append-nil h.events) (all_alone p.ticket.number (first_chunk chunks p) (end_chunk chunks p) h.events [] h.steps (none_alone p.ticket.number)) in
-    stops_at_steps before m start events rest final t life _ None h.mid (among h.last t.requests) (h.happens None t.requests in_flight)
-    (write_whole sector bytes t.mirror h.begun p h.begins whole t.requests in_flight _ alone) left stop until
+    stops_at_steps before m start events rest final t life (begun_events h) None h.mid (among h.last t.requests) (h.happens None t.requests in_flight)
+    (write_whole sector bytes t.mirror h.begun p h.begins whole t.requests in_flight h.events alone) left stop until
 
 pub stops_halting_write : StopsHaltingWrite
 stops_halting_write before m start events rest final t life sector bytes new whole h in_flight all left within asked =
@@ -83,8 +83,8 @@ stops_halting_write before m start events rest final t life sector bytes new who
     let chunks = t.mirror.array.chunks in
     let last = written_alone n (first_chunk chunks p) (end_chunk chunks p) h.failing [] h.of (none_alone n) in
     let alone = all_alone n (first_chunk chunks p) (end_chunk chunks p) h.events (h.failing ∷ []) h.steps last in
-    stops_at_halts before m start events rest final t life _ None h.mid (among h.last t.requests) (h.happens None t.requests in_flight) all h.failing new (h.halts t.requests)
-    (write_whole sector bytes t.mirror h.begun p h.begins whole t.requests in_flight _ alone) left within asked
+    stops_at_halts before m start events rest final t life (begun_events h) None h.mid (among h.last t.requests) (h.happens None t.requests in_flight) all h.failing new (h.halts t.requests)
+    (write_whole sector bytes t.mirror h.begun p h.begins whole t.requests in_flight (h.events ++ h.failing ∷ []) alone) left within asked
 
 -- ---- of a `stop`
 -- no request is written or begun

@@ -1,6 +1,6 @@
 -- What a stop of the machine leaves within a whole write, and within a whole `stop`: it comes within one of the steps that the call's
 -- contract tells of.
-use Rattle.std.specs.Prelude.{◌≡◌, ℕ, ◌%◌, List, [], ◌∷◌, length, None}
+use Rattle.std.specs.Prelude.{◌≡◌, ℕ, ◌%◌, List, ◌∷◌, length, None}
 use Rattle.md_model.specs.Events.{Event}
 use Rattle.md_state.specs.Requests.{AreInFlight, among, request_of}
 use Rattle.md_state.specs.View.{Disk, MirrorView}

@@ -1,7 +1,7 @@
 // Mirrors as they are opened.
 use crate::checks::same;
 use crate::images::{FIRST, Field, Image, SECOND, Testing, devices_of};
-use crate::play::{Chapter, expect_stored, play_each};
+use crate::play::{Chapter, expect_stored, play_all};
 use crate::shown::{CLEAN, Shown, Stored, UNWRITTEN};
 use crate::step::{Answer, Step};
 use md_array::{Mirror, OpenFault};
@@ -87,11 +87,6 @@ const ACCEPTED: [Chapter; 3] = [
     },
 ];
 
-#[test]
-fn bitmap_accepted(rt: HostRuntime) -> Result<(), Fail> {
-    play_each(&rt, rt.alloc(), &ACCEPTED)
-}
-
 const ALONE: [Chapter; 1] = [Chapter {
     images: &[Image {
         also: &EARLY,
@@ -114,11 +109,6 @@ const ALONE: [Chapter; 1] = [Chapter {
     ]],
     stored: &[ALL_MARKED_SECOND],
 }];
-
-#[test]
-fn opened_alone(rt: HostRuntime) -> Result<(), Fail> {
-    play_each(&rt, rt.alloc(), &ALONE)
-}
 
 // The first member's log names sectors 2056 to 2063 of the device, which are those of chunk 1. The second one's is not read.
 const LISTING: [Chapter; 1] = [Chapter {
@@ -148,11 +138,6 @@ const LISTING: [Chapter; 1] = [Chapter {
     ]],
     stored: &[],
 }];
-
-#[test]
-fn log_entry_on_device(rt: HostRuntime) -> Result<(), Fail> {
-    play_each(&rt, rt.alloc(), &LISTING)
-}
 
 // The second device's first write fails.
 const UNSTORED: [Image; 2] = [
@@ -198,4 +183,13 @@ fn life_of_a_lone_member(rt: HostRuntime) -> Result<(), Fail> {
     same(&rt, &"the events", mirror.events(), 11);
     drop(mirror);
     Ok(())
+}
+
+const ROWS: [&[Chapter]; 3] = [&ACCEPTED, &ALONE, &LISTING];
+
+const LIVES: [&[Chapter]; 0] = [];
+
+#[test]
+fn mirrors_are_opened(rt: HostRuntime) -> Result<(), Fail> {
+    play_all(&rt, rt.alloc(), &ROWS, &LIVES)
 }

@@ -120,15 +120,20 @@ pub(crate) fn play(
     Ok(())
 }
 
-// Plays each row.
-pub(crate) fn play_each(
+// Plays lists of chapters: each chapter of the first by itself, and those of each of the others one after the other.
+pub(crate) fn play_all(
     rt: &(impl Abort + Print),
     alloc: Global,
-    rows: &[Chapter],
+    rows: &[&[Chapter]],
+    lives: &[&[Chapter]],
 ) -> Result<(), Fail> {
     for row in rows {
-        let devices = play_on(rt, alloc, Vec::new(alloc), row)?;
-        drop(devices);
+        for k in 0..row.len() {
+            play(rt, alloc, &row[k..k + 1])?;
+        }
+    }
+    for life in lives {
+        play(rt, alloc, life)?;
     }
     Ok(())
 }

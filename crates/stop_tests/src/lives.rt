@@ -11,7 +11,7 @@ use crate::run::{Opened, Run};
 use example_members::copied;
 use md_device::MemDevice;
 use std::alloc::Global;
-use std::env::{VarError, var};
+use std::env::{Env, VarError, var};
 use std::process::Abort;
 use std::sync::Wait;
 use std::test::Fail;

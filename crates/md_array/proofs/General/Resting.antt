@@ -1,5 +1,5 @@
 -- A mirror whose devices were only read is consistent as before.
-use Rattle.std.proofs.Common.{◌≡◌, ℕ, Bool, List, length, slice_get, Option, Some, None, refl, sym, ap, ◌∙◌, subst, arith, ◌↔◌, true}
+use Rattle.std.proofs.Common.{◌≡◌, ℕ, Bool, List, length, slice_get, Option, Some, None, refl, sym, ap, ◌∙◌, subst, arith, true}
 use Rattle.std.proofs.lemmas.Option.{none-some, slice_get_within}
 use Rattle.md_model.specs.Worlds.{Request}
 use Rattle.md_kept_members.specs.View.{MemberView}

@@ -1,5 +1,5 @@
 -- What `admit` answers, by what the calls in it do.
-use Rattle.std.proofs.Common.{◌≡◌, ℕ, true, List, map, set, refl, sym, ap, ◌∙◌, subst}
+use Rattle.std.proofs.Common.{◌≡◌, ℕ, true, map, set, refl, sym, ap, ◌∙◌, subst}
 use Rattle.md_assembly.specs.declared.state.MemberState.{MemberState}
 use Rattle.md_assembly.specs.declared.state.MemberState.TheVariants.{InSync, Recovering, Stale, Spare, Faulty}
 use Rattle.md_assembly.specs.States.{is_spare}
@@ -10,10 +10,9 @@ use Rattle.md_requests.specs.Pending.{PendingView}
 use Rattle.md_state.specs.Admitting.{MayAdmit, admitted}
 use Rattle.md_state.specs.DiskWrites.{IsFailed, IsWritten}
 use Rattle.md_state.specs.Joining.{joined_shared}
-use Rattle.md_state.specs.Members.{IsMember}
 use Rattle.md_state.specs.Missing.{is_rebuilt}
 use Rattle.md_state.specs.Requests.{IsPending}
-use Rattle.md_state.specs.View.{ArrayView, Disk, MirrorView}
+use Rattle.md_state.specs.View.{ArrayView, MirrorView}
 use Rattle.md_super.specs.declared.superblock.Superblock.{Superblock}
 use Rattle.md_super.specs.Merge.{merged}
 use Rattle.md_array.specs.Admitting.{Admits, FailsAsTarget, FailsToAdmit}

@@ -1,11 +1,11 @@
 -- A spare is admitted by the write of its superblock: the mirror stays consistent, an opening reads what is kept, and that is the model's event.
-use Rattle.std.proofs.Common.{◌≡◌, ◌≢◌, ℕ, ◌+◌, ◌*◌, ◌/◌, ◌<◌, ◌≤◌, ◌↔◌, Bool, true, false, not, true≢false, cond, ◌&&◌, ◌||◌, ◌==◌, eqb, nat_lt, [], length, map, set, count_by, slice_get, Option, Some, None, refl, sym, ap, ◌∙◌, subst, arith, eq-eqb, eqb-true, length-set}
+use Rattle.std.proofs.Common.{◌≡◌, ◌≢◌, ℕ, ◌+◌, ◌*◌, ◌/◌, ◌<◌, Bool, true, false, not, true≢false, cond, ◌&&◌, ◌||◌, ◌==◌, eqb, nat_lt, length, count_by, slice_get, Option, Some, None, refl, sym, ap, ◌∙◌, subst, arith, eq-eqb, eqb-true, length-set}
 use Rattle.std.specs.Prelude.{leb, option_map, unwrap_or}
 use Rattle.std.specs.List.{list_any}
 use Rattle.std.proofs.lemmas.List.FromFn.{length-map-range_with_len}
 use Rattle.std.proofs.lemmas.Nat.{and_or_self}
 use Rattle.std.proofs.lemmas.Option.{same_Some, slice_get_within}
-use Rattle.md_assembly.proofs.Indices.{got_same, got_within}
+use Rattle.md_assembly.proofs.Indices.{got_within}
 use Rattle.md_assembly.specs.declared.state.MemberState.{MemberState}
 use Rattle.md_assembly.specs.declared.state.MemberState.TheVariants.{InSync, Recovering, Stale, Spare, Faulty}
 use Rattle.md_assembly.specs.States.{has_recovery_offset, is_active, is_in_sync, is_recorded, is_spare, role_in, takes_role}
@@ -13,7 +13,7 @@ use Rattle.md_bitmap.specs.Marks.{is_set}
 use Rattle.md_device.specs.Splice.{SameOutside}
 use Rattle.md_device.proofs.Splices.{part-spliced}
 use Rattle.md_kept_members.specs.Members.{made_due}
-use Rattle.md_kept_members.specs.TakingBack.{admitted_member, recovering}
+use Rattle.md_kept_members.specs.TakingBack.{admitted_member}
 use Rattle.md_kept_members.specs.View.{MemberView}
 use Rattle.md_members.specs.Areas.{BitmapIsPlaced, IsPlaced, bitmap_sectors}
 use Rattle.md_members.specs.Members.{sectors_of}
@@ -25,7 +25,6 @@ use Rattle.md_model.specs.Membership.{joined_super}
 use Rattle.md_model.specs.Rebuilding as model
 use Rattle.md_model.specs.Sectors.{put}
 use Rattle.md_model.specs.States as states
-use Rattle.md_model.specs.Worlds as worlds
 use Rattle.md_model.specs.Worlds.{Request, World}
 use Rattle.md_model.proofs.Puts.{put-at, put-miss, put-self}
 use Rattle.md_model.proofs.Steps.Between.{between_step, in_flight_step}
@@ -35,11 +34,10 @@ use Rattle.md_state.specs.Members.{IsInSync, IsMember}
 use Rattle.md_state.specs.Requests.{AreInFlight, IsPending, lacks}
 use Rattle.md_state.specs.Rising.{is_absent, risen}
 use Rattle.md_state.specs.View.{ArrayView, Disk, MirrorView, geometry_of}
-use Rattle.md_super.specs.declared.superblock.Superblock.{Superblock}
 use Rattle.md_super.specs.Merge.{merged}
 use Rattle.md_array.specs.Admitting.{Admits}
 use Rattle.md_array.specs.Consistency.{IsConsistent}
-use Rattle.md_array.specs.Events.{Does, Happens, listed_on}
+use Rattle.md_array.specs.Events.{Happens, listed_on}
 use Rattle.md_array.specs.ReadAsKept.{AreReadAsKept, IsReadAsKept}
 use Rattle.md_array.specs.Recording.{IsReadable, super_write}
 use Rattle.md_array.specs.Worlds.{AreHonest, block_on, kind_of, lists_of, stored_of, stored_on, super_in, super_of, world_of, world_on}

@@ -1,6 +1,5 @@
 -- A chunk is listed in memory: the mirror stays consistent, and that is the model's event.
-use Rattle.std.proofs.Common.{◌≡◌, ◌≢◌, ℕ, ◌+◌, ◌*◌, ◌/◌, ◌^◌, ◌<◌, ◌≤◌, Result, Ok, Err, ◌⊎◌, inl, inr, Bool, true, false, ◌&&◌, ◌||◌, nat_lt, eqb, List, length, set, slice_get, Option, Some, refl, sym, ap, ◌∙◌, subst, arith, eq-eqb, eqb-true}
-use Rattle.std.proofs.lemmas.Bool.{and_from, and_parts}
+use Rattle.std.proofs.Common.{◌≡◌, ℕ, ◌+◌, ◌*◌, ◌/◌, ◌^◌, ◌<◌, ◌≤◌, Result, Ok, Err, ◌⊎◌, inl, inr, Bool, true, false, ◌&&◌, ◌||◌, nat_lt, eqb, List, length, set, slice_get, Option, Some, refl, sym, ap, ◌∙◌, subst, arith, eq-eqb, eqb-true}
 use Rattle.std.proofs.lemmas.Option.{same_Some, slice_get_within}
 use Rattle.md_assembly.specs.States.{has_recovery_offset, is_in_sync}
 use Rattle.std.specs.Prelude.{MatchResult}
@@ -10,26 +9,25 @@ use Rattle.md_badblocks.specs.declared.run.Run.{Run}
 use Rattle.md_badblocks.specs.Runs.{IsBad}
 use Rattle.md_bitmap.specs.Chunks.{InChunk}
 use Rattle.md_bitmap.specs.Marks.{is_set}
-use Rattle.md_kept_members.specs.Enrolling.{IsListWith, IsOfChunk}
 use Rattle.md_kept_members.specs.View.{MemberView}
 use Rattle.md_model.specs.Devices.{Stored}
 use Rattle.md_model.specs.Events.{Event, Step}
 use Rattle.md_model.specs.Listing as model
 use Rattle.md_model.specs.Sectors.{put}
 use Rattle.md_model.specs.Worlds.{Request, World}
-use Rattle.md_model.proofs.Cases.{by_test, is_below}
+use Rattle.md_model.proofs.Cases.{is_below}
 use Rattle.md_model.proofs.Puts.{put-self}
 use Rattle.md_model.proofs.Steps.Between.{between_step, in_flight_step}
 use Rattle.md_requests.specs.Pending.{PendingView}
-use Rattle.md_state.specs.Members.{IsInSync, IsMember}
+use Rattle.md_state.specs.Members.{IsMember}
 use Rattle.md_state.specs.NotingBad.{NotesBad, RefusesNote}
-use Rattle.md_state.specs.Requests.{AreInFlight, IsPending}
+use Rattle.md_state.specs.Requests.{IsPending}
 use Rattle.md_state.specs.View.{ArrayView, Disk, MirrorView, geometry_of}
 use Rattle.md_array.specs.Consistency.{HasSuper, IsConsistent}
 use Rattle.md_array.specs.Events.{Happens}
 use Rattle.md_array.specs.Listing.{IsWhole, NoteHappens, NotesChunk, RefusesChunk}
 use Rattle.md_array.specs.ReadAsKept.{AreReadAsKept, IsReadAsKept}
-use Rattle.md_array.specs.Worlds.{AreHonest, is_listed_next, lies_in, lists_of, stored_of, world_of}
+use Rattle.md_array.specs.Worlds.{AreHonest, lies_in, lists_of, stored_of, world_of}
 use Rattle.md_array.proofs.General.Replaced.{of_set}
 use Rattle.md_array.proofs.Rebuilding.HeldContent.{chunk_unique, its_chunk}
 use Rattle.md_array.proofs.Rebuilding.OffsetMoved.{nothing, untried}

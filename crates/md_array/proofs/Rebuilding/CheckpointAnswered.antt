@@ -1,5 +1,5 @@
 -- What `checkpoint` answers, by what the calls in it do.
-use Rattle.std.proofs.Common.{◌≡◌, ℕ, true, false, length, length-set, List, set, slice_get, Some, refl, sym, ap, ◌∙◌, subst}
+use Rattle.std.proofs.Common.{◌≡◌, ℕ, true, length, length-set, List, slice_get, sym, ap, ◌∙◌, subst}
 use Rattle.std.proofs.lemmas.Option.{same_Some, slice_get_within}
 use Rattle.md_assembly.specs.States.{is_recovering}
 use Rattle.md_assembly.proofs.Indices.{got_same}

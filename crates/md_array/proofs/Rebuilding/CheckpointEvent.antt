@@ -1,15 +1,13 @@
 -- A recovering member records how far it is rebuilt: that is the model's event.
-use Rattle.std.proofs.Common.{◌≡◌, ◌≢◌, ℕ, ◌+◌, ◌*◌, ◌/◌, ◌<◌, ◌≤◌, ◌⊎◌, inl, inr, Bool, true, false, true≢false, cond, not, max, ◌&&◌, ◌||◌, nat_lt, List, [], length, set, slice_get, Option, Some, refl, sym, ap, ◌∙◌, subst, arith, lt-ltb}
+use Rattle.std.proofs.Common.{◌≡◌, ℕ, ◌+◌, ◌*◌, ◌/◌, ◌<◌, ◌≤◌, ◌⊎◌, inl, inr, Bool, true, false, true≢false, cond, max, ◌&&◌, ◌||◌, List, [], set, slice_get, Option, refl, sym, ap, ◌∙◌, subst, arith}
 use Rattle.std.specs.Prelude.{leb}
 use Rattle.std.specs.Int.{div_ceil}
-use Rattle.std.proofs.lemmas.Bool.{and_from, and_parts, cases_lt}
-use Rattle.std.proofs.lemmas.Bool.Decides.{nat_tests}
+use Rattle.std.proofs.lemmas.Bool.{cases_lt}
 use Rattle.std.proofs.lemmas.Grind.{div_ceil_times}
 use Rattle.std.proofs.lemmas.Nat.{div_below}
 use Rattle.std.proofs.lemmas.Option.{same_Some, slice_get_within}
 use Rattle.std.proofs.Math.Nat.{add-mul, mul-le-mul_right}
 use Rattle.md_assembly.proofs.Indices.{got_same, got_within}
-use Rattle.md_assembly.specs.States.{is_in_sync, is_recovering}
 use Rattle.md_bitmap.specs.Marks.{Bitmap, is_set}
 use Rattle.md_device.specs.Splice.{part}
 use Rattle.md_kept_members.specs.TakingBack.{with_offset}
@@ -21,28 +19,25 @@ use Rattle.md_model.specs.Rebuilding as model
 use Rattle.md_model.specs.Sectors.{Geometry, is_passed}
 use Rattle.md_model.specs.States as states
 use Rattle.md_model.specs.Steps as steps
-use Rattle.md_model.specs.Worlds as worlds
 use Rattle.md_model.specs.Worlds.{Request, World}
-use Rattle.md_model.proofs.Cases.{below-nat_lt, by_test, is_at_most, above-leb}
+use Rattle.md_model.proofs.Cases.{below-nat_lt, by_test, above-leb}
 use Rattle.md_model.proofs.Puts.{put-hit}
 use Rattle.md_model.proofs.Steps.Between.{between_step, in_flight_step}
-use Rattle.md_state.specs.Checkpoints.{IsFirstStop, IsNextOffset, Stops, with_offset_of}
-use Rattle.md_state.specs.Members.{IsInSync, IsMember}
+use Rattle.md_state.specs.Checkpoints.{IsNextOffset, Stops, with_offset_of}
 use Rattle.md_state.specs.Missing.{is_missing}
 use Rattle.md_state.specs.Requests.{AreInFlight}
 use Rattle.md_state.specs.View.{ArrayView, Disk, MirrorView, geometry_of}
 use Rattle.md_array.specs.Checkpoints.{Checkpoints, MayCheckpoint, MovesOffset}
 use Rattle.md_array.specs.Consistency.{IsConsistent}
 use Rattle.md_array.specs.Enrolling.{HasContent}
-use Rattle.md_array.specs.Events.{Does, Happens, listed_on}
+use Rattle.md_array.specs.Events.{Happens, listed_on}
 use Rattle.md_array.specs.Filling.{MayRebuild}
-use Rattle.md_array.specs.ReadAsKept.{AreReadAsKept}
 use Rattle.md_array.specs.Recording.{IsReadable, Records, super_write}
 use Rattle.md_super.specs.Merge.{merged}
 use Rattle.md_writes.specs.Writes.{Write}
 use Rattle.md_state.specs.DiskWrites.{IsWritten}
-use Rattle.md_array.specs.Worlds.{AreHonest, is_listed, kind_of, stored_of, world_of}
-use Rattle.md_array.proofs.General.Indices.{at_set_same, set_itself}
+use Rattle.md_array.specs.Worlds.{AreHonest, is_listed, kind_of, world_of}
+use Rattle.md_array.proofs.General.Indices.{at_set_same}
 use Rattle.md_array.proofs.Rebuilding.CopiedContent as some
 use Rattle.md_array.proofs.Rebuilding.FilledEvent.{same_missing}
 use Rattle.md_array.proofs.Rebuilding.HeldContent.{its_chunk}

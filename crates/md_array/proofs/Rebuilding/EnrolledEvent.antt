@@ -5,8 +5,7 @@ use Rattle.md_badblocks.specs.Runs.{IsBad}
 use Rattle.std.proofs.lemmas.Bool.{cases_lt, and_parts}
 use Rattle.std.proofs.lemmas.Option.{slice_get_within}
 use Rattle.md_assembly.proofs.Indices.{got_same, got_within}
-use Rattle.md_assembly.specs.declared.state.MemberState.{MemberState}
-use Rattle.md_assembly.specs.declared.state.MemberState.TheVariants.{InSync, Recovering, Stale, Spare, Faulty}
+use Rattle.md_assembly.specs.declared.state.MemberState.TheVariants.{Recovering}
 use Rattle.md_assembly.specs.States.{is_in_sync, role_in, takes_role}
 use Rattle.md_bitmap.specs.declared.header.BitmapHeader.{BitmapHeader}
 use Rattle.md_bitmap.specs.Marks.{Bitmap, is_set}
@@ -42,7 +41,7 @@ use Rattle.md_array.specs.Events.{Does}
 use Rattle.md_array.specs.InTurn.{Leads, Requests}
 use Rattle.md_array.specs.ReadAsKept.{AreReadAsKept, IsReadAsKept}
 use Rattle.md_array.specs.Recording.{IsReadable, write_of}
-use Rattle.md_array.specs.Worlds.{AreHonest, from_super, header_on, is_listed, kind_of, lies_in, stored_of, world_of, world_on, lists_of}
+use Rattle.md_array.specs.Worlds.{AreHonest, from_super, header_on, is_listed, kind_of, stored_of, world_of, world_on, lists_of}
 use Rattle.md_array.proofs.General.Indices.{at_map, at_set_same, got_in_map, got_other}
 use Rattle.md_array.proofs.General.Replaced.{of_set}
 use Rattle.md_array.proofs.General.Tests.{and_same}

@@ -1,5 +1,5 @@
 -- A member that is rebuilt gets data in chunks that it lacks: that is the model's event.
-use Rattle.std.proofs.Common.{◌≡◌, ◌≢◌, ℕ, ◌+◌, ◌*◌, ◌/◌, ◌<◌, ◌≤◌, inl, inr, Bool, true, false, true≢false, cond, not, ◌&&◌, ◌||◌, nat_lt, List, [], drop, length, slice_get, Option, Some, refl, sym, ap, ◌∙◌, subst, arith, get_or-drop}
+use Rattle.std.proofs.Common.{◌≡◌, ◌≢◌, ℕ, ◌+◌, ◌*◌, ◌/◌, ◌<◌, ◌≤◌, inl, inr, true, false, true≢false, cond, ◌&&◌, nat_lt, List, [], drop, length, slice_get, Option, Some, refl, sym, ap, ◌∙◌, subst, arith, get_or-drop}
 use Rattle.md_model.specs.Sectors.{is_passed}
 use Rattle.md_array.proofs.Worlds.States.{same_in_sync, same_recovering}
 use Rattle.md_array.proofs.Worlds.Noted.{noted_there}

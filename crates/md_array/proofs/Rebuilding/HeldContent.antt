@@ -1,10 +1,10 @@
 -- A member that comes into sync holds what the members in sync hold, in each sector that it does not list then.
-use Rattle.std.proofs.Common.{◌≡◌, ◌≢◌, ℕ, ◌+◌, ◌*◌, ◌/◌, ◌<◌, ◌≤◌, inl, inr, Bool, true, false, true≢false, cond, not, ◌&&◌, eqb, nat_lt, List, ◌∷◌, length, set, slice_get, Option, Some, None, zero, suc, ◌⊎◌, refl, sym, ap, ◌∙◌, subst, arith, eq-eqb, ne_eqb, lt-ltb}
+use Rattle.std.proofs.Common.{◌≡◌, ◌≢◌, ℕ, ◌+◌, ◌*◌, ◌/◌, ◌<◌, ◌≤◌, inl, inr, Bool, true, false, true≢false, nat_lt, List, set, slice_get, Some, refl, sym, ap, ◌∙◌, subst, arith, lt-ltb}
 use Rattle.std.specs.Int.{div_ceil}
-use Rattle.std.proofs.lemmas.Bool.{and_from, and_parts, cases_lt}
+use Rattle.std.proofs.lemmas.Bool.{and_from, cases_lt}
 use Rattle.std.proofs.lemmas.Nat.{div_below, le-div}
 use Rattle.std.proofs.lemmas.Grind.{div_ceil_times}
-use Rattle.std.proofs.lemmas.Option.{same_Some, slice_get_within}
+use Rattle.std.proofs.lemmas.Option.{same_Some}
 use Rattle.md_assembly.specs.States.{is_in_sync}
 use Rattle.md_assembly.proofs.Indices.{got_same}
 use Rattle.md_badblocks.specs.declared.run.Run.{Run}
@@ -16,7 +16,6 @@ use Rattle.md_kept_members.specs.Enrolling.{IsOf}
 use Rattle.md_kept_members.specs.View.{MemberView}
 use Rattle.md_model.specs.Content.{Content}
 use Rattle.md_model.proofs.Cases.{by_test}
-use Rattle.md_model.proofs.Puts.{by_same}
 use Rattle.md_state.specs.Members.{IsInSync}
 use Rattle.md_state.specs.Missing.{is_missing}
 use Rattle.md_state.specs.View.{ArrayView, Disk, MirrorView}
@@ -24,7 +23,7 @@ use Rattle.md_super.specs.declared.superblock.Superblock.{Superblock}
 use Rattle.md_array.specs.Consistency.{IsConsistent}
 use Rattle.md_array.specs.Enrolling.{Enrols, HasContent, MayEnrol}
 use Rattle.md_array.specs.Enrolments.{IsHeldBy}
-use Rattle.md_array.specs.Worlds.{AreHonest, is_listed, lies_in, lists_of}
+use Rattle.md_array.specs.Worlds.{AreHonest, lies_in, lists_of}
 use Rattle.md_array.proofs.General.Indices.{got_other}
 use Rattle.md_array.proofs.Rebuilding.CopiedContent as some
 use Rattle.md_array.proofs.Rebuilding.CopiedContent.{HasSector}

@@ -3,7 +3,7 @@ use Rattle.std.proofs.Common.{◌≡◌, ℕ, ◌*◌, ◌/◌, ◌↔◌, inl, 
 use Rattle.std.proofs.lemmas.Bool.{and_from, and_parts}
 use Rattle.std.proofs.lemmas.List.{map-set}
 use Rattle.std.proofs.lemmas.Option.{same_Some, slice_get_within}
-use Rattle.md_assembly.specs.States.{has_recovery_offset, is_in_sync}
+use Rattle.md_assembly.specs.States.{has_recovery_offset}
 use Rattle.md_assembly.proofs.Indices.{got_within}
 use Rattle.md_badblocks.specs.declared.run.Run.{Run}
 use Rattle.md_badblocks.specs.Log.{log_bytes}
@@ -16,7 +16,6 @@ use Rattle.md_format.specs.Fields.{number_at}
 use Rattle.md_kept_members.specs.Enrolling.{HasRoomFor, log_room, logged_superblock}
 use Rattle.md_kept_members.specs.View.{MemberView}
 use Rattle.md_members.specs.Areas.{BitmapIsPlaced, IsPlaced, LogIsPlaced, log_area}
-use Rattle.md_members.specs.Members.{sectors_of}
 use Rattle.md_model.specs.Devices.{Stored}
 use Rattle.md_model.specs.Events.{Event, Step}
 use Rattle.md_model.specs.Failures.{LeftByLog}
@@ -34,7 +33,7 @@ use Rattle.md_state.specs.DiskWrites.{IsFailed, IsTried, IsWritten}
 use Rattle.md_state.specs.Failing.{AnswersStore}
 use Rattle.md_state.specs.Members.{IsInSync, IsMember}
 use Rattle.md_state.specs.NotingBad.{logged}
-use Rattle.md_state.specs.Requests.{AreInFlight, IsPending}
+use Rattle.md_state.specs.Requests.{IsPending}
 use Rattle.md_state.specs.View.{ArrayView, Disk, MirrorView, disk_of, geometry_of}
 use Rattle.md_super.specs.declared.superblock.Superblock.{Superblock}
 use Rattle.md_super.specs.Log.{has_bad_block_log}
@@ -44,7 +43,7 @@ use Rattle.md_array.specs.Enrolling.{log_writes}
 use Rattle.md_array.specs.Events.{Happens, listed_on}
 use Rattle.md_array.specs.Listing.{AreWritten, FailsToStoreLog, HasNoShift, IfLogFailed, RefusesLog, StoresLog}
 use Rattle.md_array.specs.ReadAsKept.{AreReadAsKept, HasOwnSuper, IsReadAsKept}
-use Rattle.md_array.specs.Worlds.{AreHonest, block_on, from_super, header_on, is_listed, is_listed_next, is_logged, list_bit, lists_of, reads_log_on, stored_of, stored_on, super_in, world_of, world_on}
+use Rattle.md_array.specs.Worlds.{block_on, from_super, header_on, is_listed, is_listed_next, is_logged, list_bit, lists_of, reads_log_on, stored_of, stored_on, super_in, world_of, world_on}
 use Rattle.md_array.proofs.General.Honesty.{tried_honest}
 use Rattle.md_array.proofs.General.Indices.{at_set_same, set_itself}
 use Rattle.md_array.proofs.General.Replaced.{of_set}

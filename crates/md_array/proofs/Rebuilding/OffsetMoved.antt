@@ -1,5 +1,5 @@
 -- A member has another offset in memory: the mirror stays consistent, an opening reads what is kept, and its world has that offset.
-use Rattle.std.proofs.Common.{◌≡◌, ◌≢◌, ℕ, ◌+◌, ◌*◌, ◌<◌, inl, inr, Bool, true, false, true≢false, ◌&&◌, nat_lt, List, [], length, set, slice_get, zero, suc, ◌∷◌, Option, Some, refl, sym, ap, ◌∙◌, subst, arith}
+use Rattle.std.proofs.Common.{◌≡◌, ℕ, ◌+◌, ◌*◌, Bool, true, false, true≢false, ◌&&◌, nat_lt, List, [], set, slice_get, zero, suc, ◌∷◌, Option, Some, refl, sym, ap, ◌∙◌, subst, arith}
 use Rattle.std.proofs.lemmas.Option.{same_Some, slice_get_within}
 use Rattle.md_assembly.specs.declared.state.MemberState.{MemberState}
 use Rattle.md_assembly.specs.declared.state.MemberState.TheVariants.{InSync, Recovering, Stale, Spare, Faulty}
@@ -26,7 +26,7 @@ use Rattle.md_writes.specs.Writes.{Write}
 use Rattle.md_array.specs.Checkpoints.{MovesOffset}
 use Rattle.md_array.specs.Consistency.{IsConsistent}
 use Rattle.md_array.specs.ReadAsKept.{AreReadAsKept, HasOwnSuper, IsReadAsKept}
-use Rattle.md_array.specs.Worlds.{is_listed, lists_of, stored_of, world_of, world_on}
+use Rattle.md_array.specs.Worlds.{lists_of, stored_of, world_of}
 use Rattle.md_array.proofs.General.Indices.{at_set_same, set_itself}
 use Rattle.md_array.proofs.General.Replaced.{of_set}
 use Rattle.md_array.proofs.Steps.OneMember.{ChangesOwn, IsNear, member_there, own_is_consistent, own_is_pending, own_world, stored_there}

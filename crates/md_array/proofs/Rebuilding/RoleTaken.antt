@@ -1,47 +1,24 @@
 -- An array in which a member takes a role: what holds of it in memory.
-use Rattle.std.proofs.Common.{◌≡◌, ◌≢◌, ℕ, ◌+◌, ◌*◌, ◌/◌, ◌<◌, ◌≤◌, ◌↔◌, inl, inr, Bool, true, false, not, true≢false, List, length, length-set, slice_get, Some, refl, sym, ap, ◌∙◌, subst, arith, eq-eqb, eqb-true, set, map}
+use Rattle.std.proofs.Common.{◌≡◌, ◌≢◌, ℕ, ◌/◌, ◌<◌, ◌≤◌, true, false, not, List, length, length-set, slice_get, Some, refl, sym, ap, ◌∙◌, subst, arith, set}
 use Rattle.md_array.proofs.Steps.OneMember.{HasPlacesOf, fits_places}
-use Rattle.std.proofs.lemmas.Bool.{cases_lt}
-use Rattle.std.proofs.lemmas.Bool.Decides.{nat_tests}
-use Rattle.std.proofs.lemmas.List.{get_or_past, length-map}
-use Rattle.std.proofs.lemmas.List.FromFn.{length-map-range_with_len}
+use Rattle.std.proofs.lemmas.List.{length-map}
 use Rattle.std.proofs.lemmas.Option.{slice_get_within}
-use Rattle.md_device.specs.Splice.{part}
-use Rattle.md_super.specs.declared.superblock.Superblock.{Superblock}
-use Rattle.md_super.specs.Log.{has_bad_block_log}
-use Rattle.md_super.specs.Merge.{merged}
-use Rattle.md_super.proofs.Order.{sound_without_fault}
-use Rattle.md_super.proofs.RoleLists.{length-roles_in}
 use Rattle.md_bitmap.specs.declared.header.BitmapHeader.{BitmapHeader}
-use Rattle.md_bitmap.specs.Sound.{IsSound}
-use Rattle.md_badblocks.specs.declared.run.Run.{Run}
-use Rattle.md_badblocks.specs.Log.{log_bytes}
-use Rattle.md_badblocks.specs.Runs.{IsBad, IsCanonical}
-use Rattle.md_members.specs.Areas.{IsPlaced, bitmap_sectors, has_bitmap}
-use Rattle.md_members.specs.Members.{sectors_of}
 use Rattle.md_model.specs.Sectors.{put}
 use Rattle.md_model.proofs.Puts.{put-hit, put-miss}
-use Rattle.md_assembly.specs.declared.state.MemberState.{MemberState}
-use Rattle.md_assembly.specs.declared.state.MemberState.TheVariants.{InSync, Recovering, Stale, Spare, Faulty}
 use Rattle.md_assembly.specs.States.{is_in_sync, role_in, takes_role}
 use Rattle.md_assembly.proofs.Indices.{got_within}
-use Rattle.md_kept_members.specs.Enrolling.{HasRoomFor, in_sync_superblock, log_room}
 use Rattle.md_kept_members.specs.Members.{made_due}
 use Rattle.md_kept_members.specs.View.{MemberView}
-use Rattle.md_state.specs.Enrolling.{enrolled}
 use Rattle.md_state.specs.InMemory.{HasChunks, HasRoles}
-use Rattle.md_state.specs.Joining.{entries_with, joined_roles, role_after, joined_shared}
+use Rattle.md_state.specs.Joining.{joined_shared}
 use Rattle.md_state.specs.Members.{IsMember, is_degraded, IsInSync}
 use Rattle.md_state.specs.Rising.{risen}
-use Rattle.md_state.specs.View.{ArrayView, Disk, MirrorView}
-use Rattle.md_array.specs.Consistency.{HasPlaces, HasSuper, IsConsistent}
-use Rattle.md_array.specs.Enrolling.{IsStorable}
+use Rattle.md_state.specs.View.{ArrayView, Disk}
+use Rattle.md_array.specs.Consistency.{IsConsistent}
 use Rattle.md_array.specs.Fits.{Fits, FitsMember}
-use Rattle.md_array.specs.Recording.{IsReadable}
-use Rattle.md_array.specs.Worlds.{from_super, is_listed_next, super_in, super_of, is_listed}
-use Rattle.md_array.proofs.General.Indices.{any_at, at_map, at_set_same, got_in_map}
+use Rattle.md_array.proofs.General.Indices.{at_map, at_set_same, got_in_map}
 use Rattle.md_array.proofs.General.Replaced.{of_set}
-use Rattle.md_array.proofs.Steps.SuperRecorded.{listed_written, readable_super}
 use Rattle.md_array.proofs.Worlds.Joined.{role_joined}
 use Rattle.md_array.proofs.Worlds.Risen.{risen_is_consistent}
 

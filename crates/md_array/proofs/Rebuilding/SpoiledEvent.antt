@@ -1,5 +1,5 @@
 -- A write of a superblock failed on a member that is rebuilt, and left any: that is the model's event, and the mirror is as it was.
-use Rattle.std.proofs.Common.{◌≡◌, ℕ, ◌*◌, ◌/◌, inl, inr, Bool, true, false, true≢false, List, length, slice_get, Option, Some, refl, sym, ap, ◌∙◌, subst}
+use Rattle.std.proofs.Common.{◌≡◌, ℕ, ◌*◌, ◌/◌, inl, inr, Bool, true, true≢false, List, length, slice_get, Option, Some, refl, sym, ap, ◌∙◌, subst}
 use Rattle.md_device.specs.Splice.{SameOutside}
 use Rattle.md_format.specs.Fields.{number_at}
 use Rattle.md_kept_members.specs.View.{MemberView}

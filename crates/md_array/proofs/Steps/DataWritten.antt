@@ -1,5 +1,5 @@
 -- A member gets a request's bytes: no more than those sectors of its data changes, and that is the model's event.
-use Rattle.std.proofs.Common.{◌≡◌, ℕ, ◌+◌, ◌-◌, ◌*◌, ◌/◌, ◌<◌, ◌≤◌, Bool, true, false, cond, ◌&&◌, ◌||◌, not, eqb, nat_lt, List, [], ◌∷◌, ◌++◌, length, take, drop, slice_get, count_by, Option, Some, refl, sym, ap, ◌∙◌, subst, arith, drop-drop, eq-eqb, ◌↔◌}
+use Rattle.std.proofs.Common.{◌≡◌, ℕ, ◌+◌, ◌-◌, ◌*◌, ◌/◌, ◌<◌, ◌≤◌, Bool, true, false, cond, ◌&&◌, ◌||◌, not, eqb, nat_lt, List, [], ◌∷◌, ◌++◌, length, take, drop, slice_get, count_by, Option, Some, refl, sym, ap, ◌∙◌, subst, arith, drop-drop, eq-eqb}
 use Rattle.std.proofs.lemmas.List.{drop-take, drop_at, length-append, length-take-le, take-take, take_at}
 use Rattle.std.proofs.lemmas.List.Folds.{list_any-append}
 use Rattle.std.proofs.lemmas.Option.{slice_get_within}
@@ -28,13 +28,12 @@ use Rattle.md_array.specs.Events.{HappensAmong}
 use Rattle.md_array.specs.Worlds.{stored_of, super_in, world_of}
 use Rattle.md_array.proofs.General.Honesty.{tried_honest}
 use Rattle.md_array.proofs.Steps.InFlight.{among_in_flight, inside_of, is_touched, not_touched, whole_of}
-use Rattle.md_array.proofs.Worlds.Listed.{still_next, listed_kept, still_known}
+use Rattle.md_array.proofs.Worlds.Listed.{still_next, still_known}
 use Rattle.md_array.proofs.Steps.OneMember.{ChangesMember, changed_is_consistent, changed_world, member_there, stored_there}
 use Rattle.md_array.proofs.Worlds.PartsApart.{HasParts, block_beside_data, data_alone, data_elsewhere, log_beside_data, parts_of}
 use Rattle.md_array.proofs.Worlds.ReadAsKept.{changed_read, read_beside_data}
 use Rattle.md_array.proofs.Worlds.InSync.{in_sync_is, in_sync_there, number_at}
 use Rattle.md_array.proofs.General.Indices.{one_fewer, set_itself}
-use Rattle.md_badblocks.specs.Runs.{IsBad}
 
 -- ---- the numbers of those that have it
 written_too : (p : PendingView) (number d : ℕ) → has_written (record p { written = p.written ++ number ∷ [] }) d ≡ (has_written p d || eqb d number)

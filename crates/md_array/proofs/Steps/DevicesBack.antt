@@ -1,5 +1,5 @@
 -- Devices that were lent and have come back: the mirror is consistent again, and an opening reads what is kept.
-use Rattle.std.proofs.Common.{◌≡◌, ℕ, ◌+◌, ◌*◌, ◌/◌, ◌<◌, ◌≤◌, ◌⊎◌, inl, inr, true, false, List, slice_get, Some, pos, refl, sym, ap, ◌∙◌, subst, arith, ◌↔◌, Bool}
+use Rattle.std.proofs.Common.{◌≡◌, ℕ, ◌+◌, ◌*◌, ◌/◌, ◌<◌, ◌≤◌, ◌⊎◌, inl, inr, true, false, List, slice_get, Some, pos, refl, sym, ap, ◌∙◌, subst, arith, Bool}
 use Rattle.std.specs.Int.{div_ceil}
 use Rattle.std.proofs.Math.Nat.{add-mul, mul-le-mul_right}
 use Rattle.std.proofs.lemmas.Grind.{div_ceil_times}

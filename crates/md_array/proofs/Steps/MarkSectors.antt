@@ -1,5 +1,5 @@
 -- A sector of a member's bitmap that is stored is the model's event, and the mirror stays consistent.
-use Rattle.std.proofs.Common.{◌≡◌, ◌≢◌, ℕ, ◌+◌, ◌-◌, ◌*◌, ◌/◌, ◌<◌, ◌≤◌, Bool, true, false, cond, ◌&&◌, eqb, nat_lt, List, ◌++◌, length, drop, slice_get, slice_index, Option, Some, refl, sym, ap, ◌∙◌, subst, arith, eq-eqb, get_or-drop, ◌↔◌}
+use Rattle.std.proofs.Common.{◌≡◌, ◌≢◌, ℕ, ◌+◌, ◌-◌, ◌*◌, ◌/◌, ◌<◌, ◌≤◌, Bool, true, false, cond, ◌&&◌, eqb, nat_lt, List, ◌++◌, length, drop, slice_get, slice_index, Option, Some, refl, sym, ap, ◌∙◌, subst, arith, eq-eqb, get_or-drop}
 use Rattle.std.proofs.lemmas.List.{ext_get_or, get_or-append-add, get_or_append_left}
 use Rattle.std.proofs.lemmas.Option.{slice_get_within}
 use Rattle.std.proofs.lemmas.Bool.{and_from, ne_eqb}
@@ -36,7 +36,7 @@ use Rattle.md_array.specs.ReadAsKept.{HasWidth, IsReadAsKept}
 use Rattle.md_array.specs.Events.{Happens}
 use Rattle.md_array.specs.Worlds.{block_on, from_super, header_on, kind_of, stored_of, super_in, world_of}
 use Rattle.md_array.proofs.General.Honesty.{tried_honest}
-use Rattle.md_array.proofs.Worlds.Listed.{still_next, listed_kept, still_known}
+use Rattle.md_array.proofs.Worlds.Listed.{still_next, still_known}
 use Rattle.md_array.proofs.Steps.OneMember.{ChangesMember, changed_in_flight, changed_is_consistent, changed_is_pending, changed_world, member_there, stored_there}
 use Rattle.md_array.proofs.Worlds.PartsApart.{HasParts, bits_elsewhere, block_beside_marks, events_elsewhere, fits_elsewhere, header_elsewhere, log_beside_marks, marks_alone, parts_of}
 use Rattle.md_array.proofs.Worlds.ReadAsKept.{changed_read, stays}
@@ -46,7 +46,6 @@ use Rattle.md_array.proofs.Worlds.Outside.{sector_at_is, starts_at}
 use Rattle.md_array.proofs.Worlds.States.{same_in_sync}
 use Rattle.md_array.proofs.General.Tests.{and_same}
 use Rattle.md_array.proofs.Worlds.Writes.{is_set-same}
-use Rattle.md_badblocks.specs.Runs.{IsBad}
 
 -- by whether two numbers are the same
 by_equal : {A : Type 0} (x y : ℕ) (p q z : A) → (x ≡ y → z ≡ p) → (x ≢ y → z ≡ q) → z ≡ cond (eqb x y) p q

@@ -1,5 +1,5 @@
 -- A write of a superblock fails: where it left the old superblock, the new one or none, that is the model's event.
-use Rattle.std.proofs.Common.{◌≡◌, ℕ, ◌*◌, inl, inr, Bool, true, Some, slice_get, Option, refl, sym, ap, ◌∙◌, subst}
+use Rattle.std.proofs.Common.{◌≡◌, ℕ, ◌*◌, inl, inr, true, Some, slice_get, Option, refl, sym, ap, ◌∙◌, subst}
 use Rattle.md_badblocks.specs.Runs.{IsBad}
 use Rattle.md_model.specs.Steps.{GrowsTo}
 use Rattle.md_array.proofs.Steps.ListGrown.{grows_by}
@@ -23,7 +23,7 @@ use Rattle.md_array.proofs.Worlds.Listed.{listed_kept, listed_unread, next_kept,
 use Rattle.md_array.proofs.Steps.OneMember.{stored_there}
 use Rattle.md_array.proofs.Worlds.PartsApart.{log_beside_super, parts_of, super_alone}
 use Rattle.md_array.proofs.Worlds.ReadAsKept.{own_stays, own_written}
-use Rattle.md_array.proofs.Steps.SuperRecorded.{listed_written, lists_alike, readable_super, super_is_for}
+use Rattle.md_array.proofs.Steps.SuperRecorded.{listed_written, readable_super, super_is_for}
 use Rattle.md_array.proofs.Worlds.Failed.{IsThere, does_failing, left, member_fails, there_is}
 use Rattle.md_array.proofs.Worlds.InSync.{in_sync_of}
 use Rattle.md_array.proofs.Worlds.Supers.{super_shown}

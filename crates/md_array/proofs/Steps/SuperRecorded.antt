@@ -1,7 +1,5 @@
 -- A member's superblock that is stored is the model's event, and the mirror stays consistent.
-use Rattle.std.proofs.Common.{◌≡◌, ℕ, ◌+◌, ◌*◌, ◌/◌, inl, inr, Bool, true, false, true≢false, ◌&&◌, nat_lt, List, slice_get, Option, Some, refl, sym, ap, ◌∙◌, subst, arith, ◌↔◌}
-use Rattle.std.proofs.lemmas.Bool.{and_from, and_parts}
-use Rattle.md_model.proofs.Cases.{by_test}
+use Rattle.std.proofs.Common.{◌≡◌, ℕ, ◌+◌, ◌*◌, ◌/◌, inl, inr, Bool, true, false, true≢false, ◌&&◌, nat_lt, List, slice_get, Option, Some, refl, sym, ap, ◌∙◌, subst, arith}
 use Rattle.md_array.proofs.Steps.ListGrown.{grows_by}
 use Rattle.std.proofs.lemmas.Option.{slice_get_within}
 use Rattle.md_device.specs.Splice.{SameOutside}
@@ -16,7 +14,6 @@ use Rattle.md_assembly.specs.States.{has_recovery_offset, is_in_sync}
 use Rattle.md_assembly.proofs.Indices.{got_within}
 use Rattle.md_model.specs.Sectors.{put}
 use Rattle.md_model.specs.States as model
-use Rattle.md_model.specs.Devices.{Stored}
 use Rattle.md_model.specs.Worlds.{Request, World}
 use Rattle.md_model.specs.Steps.{KeepsList, recorded, recorded_device, super_for}
 use Rattle.md_model.specs.Events.{Event, Step}
@@ -39,7 +36,6 @@ use Rattle.md_array.proofs.Worlds.ReadAsKept.{changed_read, own_written}
 use Rattle.md_array.proofs.Worlds.InSync.{in_sync_of}
 use Rattle.md_array.proofs.Worlds.States.{same_recorded}
 use Rattle.md_array.proofs.Worlds.Supers.{super_shown}
-use Rattle.md_badblocks.specs.Runs.{IsBad}
 
 -- ---- a superblock that is read back
 abbrev as_read : (v : Superblock) → IsReadable v → Superblock

@@ -1,5 +1,5 @@
 -- Which offsets count, once it is known when marks were last cleared.
-use Rattle.std.proofs.Common.{◌≡◌, ◌∙◌, ℕ, ◌<◌, ◌&&◌, false, List, length, map, Some, None, Option, cond, ap, refl, sym, subst, arith, inl, inr, ⊎_elim}
+use Rattle.std.proofs.Common.{◌≡◌, ◌∙◌, ℕ, false, List, length, map, Some, None, Option, cond, ap, refl, sym, subst, arith, inl, inr}
 use Rattle.std.specs.Prelude.{nat_lt}
 use Rattle.std.specs.List.{slice_get}
 use Rattle.std.specs.Option.{option_map}
@@ -11,12 +11,11 @@ use Rattle.md_members.specs.declared.info.MemberInfo.{MemberInfo}
 use Rattle.md_members.specs.Members.{IsAccepted}
 use Rattle.md_assembly.specs.declared.state.MemberState.{MemberState}
 use Rattle.md_assembly.specs.declared.state.MemberState.TheVariants.{InSync, Recovering, Stale, Spare, Faulty}
-use Rattle.md_assembly.specs.States.{is_in_sync, is_recovering}
 use Rattle.md_kept_members.specs.View.{MemberView}
 use Rattle.md_kept_members.specs.OwnFields.{kept_superblock}
 use Rattle.md_kept_members.specs.Kept.{IsKept, known_offset, with_known_offset}
 use Rattle.md_kept_members.specs.Members.{NeedsMarks}
-use Rattle.md_kept_members.specs.Remembering.{AreKept, ClearedIn, HasAccepted, IsLastClearedIn, IsLastClearedOr}
+use Rattle.md_kept_members.specs.Remembering.{AreKept, ClearedIn, HasAccepted, IsLastClearedOr}
 
 -- no superblock is older than 0 events
 none_below : (n : ℕ) → nat_lt n 0 ≡ false

@@ -1,5 +1,5 @@
 -- A device that is taken back as it was left lies behind the content by what is marked.
-use Rattle.std.proofs.Common.{◌≡◌, ℕ, ◌+◌, ◌*◌, inr, true, true≢false, cond, ◌&&◌, nat_lt, List, [], Some, sym, ap, ◌∙◌, subst}
+use Rattle.std.proofs.Common.{◌≡◌, ℕ, ◌+◌, ◌*◌, inr, true, true≢false, cond, ◌&&◌, nat_lt, List, [], Some, refl, sym, ap, ◌∙◌, subst}
 use Rattle.md_device.specs.Splice.{part}
 use Rattle.md_kept_members.specs.OwnFields.{kept_superblock}
 use Rattle.md_kept_members.specs.TakingBack.{recovering}
@@ -111,7 +111,7 @@ failed_joins before m a start holds es rest final t b life k f o d is_member the
     (subst (λ (x : Stored). IsBehind g c x (world_of last.mirror last.requests)) shown later.behind))
 
 pub log_joins : LogJoins
-log_joins before m a start holds es rest final t b life k f o d is_member there more others newest last c degraded j device new r honest still listed =
+log_joins before m a start holds es rest final t b life k f o d is_member there more others newest last c degraded j device new r honest still no_less =
     let g = geometry_of m.array in
     let then = log_held before m a start holds es rest final t b life k f in
     let later = log_later before m a start holds es rest final t b life k f in
@@ -121,7 +121,7 @@ log_joins before m a start holds es rest final t b life k f o d is_member there 
     let same = same_data f.mirror.array o d.content (parts_of f.mirror then.sound.sound k d o there is_member)
     ((then.sound.read k d o there is_member).super (log_clear before m a start holds es rest final t b life k f))
     j device last.mirror new r honest still (same_sizes g last.mirror.array f.mirror.array late.held.geometry then.geometry) in
-    inr (later (stored_of new.array r.recorded.takes.member device.content) (λ s low. same s ∙ sym (ap (λ (x : Stored). x.content s) shown)) listed more others newest last c degraded).behind
+    inr (later (stored_of new.array r.recorded.takes.member device.content) (λ s low. same s ∙ sym (ap (λ (x : Stored). x.content s) shown)) no_less more others newest last c degraded).behind
 
 pub missing_joins : MissingJoins
 missing_joins before m a start holds es rest final t b life k next r c becomes more others newest last d degraded j device new back honest still =

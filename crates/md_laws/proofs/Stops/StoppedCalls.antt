@@ -1,5 +1,5 @@
 -- What a stop leaves within a whole call, a stop of a run leaves.
-use Rattle.std.proofs.Common.{◌≡◌, ◌∙◌, ◌⊎◌, inl, inr, ℕ, ◌+◌, ◌%◌, ◌<◌, true, List, [], ◌∷◌, ◌++◌, length, slice_get, Option, Some, None, refl, sym, ap, subst, arith}
+use Rattle.std.proofs.Common.{◌≡◌, ◌∙◌, ◌⊎◌, inl, inr, ℕ, ◌+◌, ◌<◌, List, [], ◌∷◌, ◌++◌, Option, Some, None, refl, sym, ap, subst, arith}
 use Rattle.std.proofs.lemmas.Bool.{cases_lt}
 use Rattle.std.proofs.lemmas.List.{append-nil}
 use Rattle.std.proofs.lemmas.Option.{same_Some, none-some}
@@ -14,17 +14,15 @@ use Rattle.md_state.specs.CopyingData.{FailsToCopy, run_write}
 use Rattle.md_state.specs.Members.{IsInSync}
 use Rattle.md_state.specs.Requests.{among, request_of}
 use Rattle.md_state.specs.StoringMarks.{FailsToStoreMarks}
-use Rattle.md_state.specs.Trying.{FailsWriting}
 use Rattle.md_state.specs.View.{ArrayView, Disk, MirrorView}
-use Rattle.md_writes.specs.Writes.{Write}
 use Rattle.md_array.specs.Events.{Does}
-use Rattle.md_array.specs.InTurn.{AllLeftWhole, AllOf, Did, HaltsAt, InTurn, IsInOrder, IsPut, IsSectorDue, IsUnder, Leads, LeftWhole, Requests}
+use Rattle.md_array.specs.InTurn.{AllLeftWhole, Did, HaltsAt, InTurn, IsInOrder, IsPut, IsSectorDue, IsUnder, Leads, LeftWhole, Requests}
 use Rattle.md_array.specs.Listing.{FailsToStoreLog}
 use Rattle.md_array.specs.Worlds.{AreHonest}
 use Rattle.md_array.proofs.Rebuilding.LogStored.{store_log_fails_happens}
 use Rattle.md_array.proofs.Steps.MarksFailed.{store_marks_fails_happens}
 use Rattle.md_array.proofs.Worlds.CopyFailed.{copy_fails_happens}
-use Rattle.md_laws.specs.Left.{IsLeft, IsLeftFilling, IsLeftPreparing, IsLeftRecording, IsLeftRecordingShort, IsLeftStoring, IsLeftWriting, contents_of}
+use Rattle.md_laws.specs.Left.{IsLeft, contents_of}
 use Rattle.md_laws.specs.Runs.{MirrorRun, Moment, then_as}
 use Rattle.md_laws.specs.StoppedCalls.{AreWhole, BeginsWhole, HasWholeSectors, IsBesideEvent, IsLeftHalting, IsLeftWhole, IsStopOf, IsUnshifted, IsWrittenBy, LeftWholeUntil, StopsAtHalts, StopsAtSteps, StopsIn}
 use Rattle.md_laws.specs.StopsWithin.{MayAllBeLeft}

@@ -1,7 +1,7 @@
 -- What a device tells of stops after a call that is a list of events, it tells of one of them.
-use Rattle.std.proofs.Common.{◌≡◌, ◌≢◌, ◌∙◌, ◌⊎◌, inl, inr, ℕ, zero, suc, true, List, [], ◌∷◌, ◌++◌, drop, length, slice_get, Option, Some, refl, sym, ap, subst, arith}
+use Rattle.std.proofs.Common.{◌≡◌, ◌∙◌, ◌⊎◌, inl, inr, ℕ, zero, suc, true, List, [], ◌∷◌, ◌++◌, drop, length, slice_get, Option, Some, refl, sym, ap, subst, arith}
 use Rattle.std.proofs.lemmas.List.{append-nil, append_assoc, drop_at}
-use Rattle.std.proofs.lemmas.Option.{same_Some, slice_get_within}
+use Rattle.std.proofs.lemmas.Option.{slice_get_within}
 use Rattle.md_model.specs.Events.{Event}
 use Rattle.md_model.proofs.Puts.{by_same}
 use Rattle.md_state.specs.DeviceChanges.{LeavesOn}
@@ -65,7 +65,7 @@ module _ (before after : List Disk) (honest : AreHonest before) where
   grows (Event.StoreLog k listed) told (inr w) = grows_tried k w.0 before after honest w.1.tried _ w.1.within
   grows (Event.StoreLogFails k) told w = grows_tried k w.0 before after honest w.1.tried _ w.1.within
   grows (Event.Fill k) told w = grows_alone k _ before after honest w.2
-  grows (Event.Prepare k) told w = grows_alone k _ before after honest w.2
+  grows (Event.Prepare k) told w = grows_alone k _ before after honest w.1
   grows Event.Resynced told same = grows_same before after same
   grows Event.Unresynced told same = grows_same before after same
   grows Event.MakeClean told same = grows_same before after same

@@ -1,6 +1,6 @@
 // Devices that come in as spares: what is laid out on them, and why they are refused.
 use crate::images::{FIRST, Image, SECOND, SPENT, Testing};
-use crate::play::{Chapter, Worked, play_each, play_on};
+use crate::play::{Chapter, Worked, play_all, play_on};
 use crate::shown::{CLEAN, Shown, Stored, UNWRITTEN};
 use crate::step::{Answer, Step};
 use example_members::{small_image, small_metadata};
@@ -83,11 +83,6 @@ const ADDED: [Chapter; 2] = [
     },
 ];
 
-#[test]
-fn added(rt: HostRuntime) -> Result<(), Fail> {
-    play_each(&rt, rt.alloc(), &ADDED)
-}
-
 const TOO_SMALL: Answer = Answer::NotAdded(AddFault::TooSmall);
 
 const UNWRITABLE: Answer = Answer::NotAdded(AddFault::WriteFault);
@@ -135,11 +130,6 @@ const REFUSED: [Chapter; 2] = [
         stored: &[UNWRITTEN, SECOND_UNWRITTEN, THIRD],
     },
 ];
-
-#[test]
-fn not_added(rt: HostRuntime) -> Result<(), Fail> {
-    play_each(&rt, rt.alloc(), &REFUSED)
-}
 
 const MOST: u32 = 64;
 
@@ -238,4 +228,13 @@ fn full_at_the_event_count_limit(rt: HostRuntime) -> Result<(), Fail> {
     let devices = play_on(&rt, alloc, devices, &AT_LIMIT)?;
     drop(devices);
     Ok(())
+}
+
+const ROWS: [&[Chapter]; 2] = [&ADDED, &REFUSED];
+
+const LIVES: [&[Chapter]; 0] = [];
+
+#[test]
+fn members_come_in(rt: HostRuntime) -> Result<(), Fail> {
+    play_all(&rt, rt.alloc(), &ROWS, &LIVES)
 }

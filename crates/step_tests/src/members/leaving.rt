@@ -1,6 +1,6 @@
 // Members that fail, leave and are taken back, and what each of them lacks then.
 use crate::images::{FIRST, Field, Image, SECOND};
-use crate::play::{Chapter, Worked, play_each};
+use crate::play::{Chapter, Worked, play_all};
 use crate::shown::{CLEAN, Shown, Stored, UNWRITTEN};
 use crate::step::{Answer, Step};
 use md_array::{
@@ -119,11 +119,6 @@ const MEMBER_CHANGES: [Chapter; 2] = [
     },
 ];
 
-#[test]
-fn member_changes(rt: HostRuntime) -> Result<(), Fail> {
-    play_each(&rt, rt.alloc(), &MEMBER_CHANGES)
-}
-
 // Its number has no entry.
 pub(crate) const SPARE: Image = Image {
     fields: &[Field::Super(160, 4, 2), Field::Map(32, 8, 8)],
@@ -195,11 +190,6 @@ const OTHERS: [Chapter; 2] = [
     },
 ];
 
-#[test]
-fn others_leave(rt: HostRuntime) -> Result<(), Fail> {
-    play_each(&rt, rt.alloc(), &OTHERS)
-}
-
 // The record of the other member is due then, and its own is not. Sectors 40 and 41 are in chunk 5.
 const COMES_BACK: [Worked; 14] = [
     (Step::Fail(1), Answer::Done),
@@ -246,11 +236,6 @@ const BACK: [Chapter; 2] = [
         stored: &[],
     },
 ];
-
-#[test]
-fn lacks_what_was_written_since(rt: HostRuntime) -> Result<(), Fail> {
-    play_each(&rt, rt.alloc(), &BACK)
-}
 
 // A device of role 1 that has this number of six, is write-mostly, and was once rebuilt up to sector 40.
 const SIXTH: [Field; 7] = [
@@ -379,11 +364,6 @@ const ROLES_GROW: [Chapter; 4] = [
     },
 ];
 
-#[test]
-fn roles_grow(rt: HostRuntime) -> Result<(), Fail> {
-    play_each(&rt, rt.alloc(), &ROLES_GROW)
-}
-
 // Once member 1 has left, the next write is to the last member in sync, and fails.
 const HALTED: Shown = Shown {
     members: 1,
@@ -424,7 +404,11 @@ const FAILING: [Chapter; 1] = [Chapter {
     stored: &[],
 }];
 
+const ROWS: [&[Chapter]; 5] = [&MEMBER_CHANGES, &OTHERS, &BACK, &ROLES_GROW, &FAILING];
+
+const LIVES: [&[Chapter]; 0] = [];
+
 #[test]
-fn halted(rt: HostRuntime) -> Result<(), Fail> {
-    play_each(&rt, rt.alloc(), &FAILING)
+fn members_leave(rt: HostRuntime) -> Result<(), Fail> {
+    play_all(&rt, rt.alloc(), &ROWS, &LIVES)
 }

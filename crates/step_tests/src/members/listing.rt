@@ -1,6 +1,6 @@
 // The list of a member grows: in memory, then in its log, and then by its superblock.
 use crate::images::{FIRST, Field, Image, SECOND};
-use crate::play::{Chapter, Worked, play, play_each};
+use crate::play::{Chapter, Worked, play_all};
 use crate::shown::{CLEAN, Shown, Stored, UNWRITTEN};
 use crate::step::{Answer, Step};
 use md_array::{NoteFault, StoreFault};
@@ -105,11 +105,6 @@ const GROWS: [Chapter; 2] = [
     },
 ];
 
-#[test]
-fn a_list_grows(rt: HostRuntime) -> Result<(), Fail> {
-    play(&rt, rt.alloc(), &GROWS)
-}
-
 // A stop before that leaves no list.
 const ONLY_NOTED: [Chapter; 2] = [
     Chapter {
@@ -136,12 +131,6 @@ const ONLY_LOGGED: [Chapter; 2] = [
         stored: &[],
     },
 ];
-
-#[test]
-fn a_list_is_forgotten(rt: HostRuntime) -> Result<(), Fail> {
-    play(&rt, rt.alloc(), &ONLY_NOTED)?;
-    play(&rt, rt.alloc(), &ONLY_LOGGED)
-}
 
 // With room for 64 entries, one sector each from 4096 on, every second one.
 const ONE_SECTOR: [Field; 2] = [Field::Super(8, 4, 9), Field::Super(186, 2, 1)];
@@ -242,7 +231,11 @@ const LIMITS: [Chapter; 4] = [
     },
 ];
 
+const ROWS: [&[Chapter]; 1] = [&LIMITS];
+
+const LIVES: [&[Chapter]; 3] = [&GROWS, &ONLY_NOTED, &ONLY_LOGGED];
+
 #[test]
-fn limits_of_a_list(rt: HostRuntime) -> Result<(), Fail> {
-    play_each(&rt, rt.alloc(), &LIMITS)
+fn lists_grow(rt: HostRuntime) -> Result<(), Fail> {
+    play_all(&rt, rt.alloc(), &ROWS, &LIVES)
 }

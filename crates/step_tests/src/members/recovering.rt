@@ -1,14 +1,11 @@
 // Members that are recovering: what they lack by their offset, and how they come to be so.
-use crate::checks::same;
-use crate::images::{FIRST, Field, Image, SECOND, SPENT, Testing, devices_of, image_of};
+use crate::images::{FIRST, Field, Image, SECOND, SPENT};
 use crate::members::leaving::{LEAVES, RECOVERING, SPARE};
-use crate::play::{Chapter, Worked, play_each, play_on};
+use crate::play::{Chapter, Worked, play_all};
 use crate::shown::{CLEAN, SECTOR_8, Shown, Stored, UNWRITTEN};
 use crate::step::{Answer, Step};
 use md_array::{AdmitFault, FailFault, ReAddFault, RemoveFault};
 use md_assembly::MemberState;
-use std::alloc::Global;
-use std::process::Abort;
 use std::test::Fail;
 
 const NOT_ALL: Answer = Answer::Is(MemberState::Recovering(1), false, false);
@@ -107,11 +104,6 @@ const OFFSETS: [Chapter; 7] = [
     },
 ];
 
-#[test]
-fn lacks_what_the_offset_has_not_passed(rt: HostRuntime) -> Result<(), Fail> {
-    play_each(&rt, rt.alloc(), &OFFSETS)
-}
-
 // Chunk 1, which the offset has passed, is marked by a write, and is lacking from then on. Where marks were cleared since the
 // member was recorded, its offset tells nothing, and a write records that.
 const WRITTEN_SINCE: [Chapter; 2] = [
@@ -173,11 +165,6 @@ const WRITTEN_SINCE: [Chapter; 2] = [
         ],
     },
 ];
-
-#[test]
-fn lacks_what_is_marked(rt: HostRuntime) -> Result<(), Fail> {
-    play_each(&rt, rt.alloc(), &WRITTEN_SINCE)
-}
 
 // The device that left is not taken back then.
 const ADMITS: [Worked; 7] = [
@@ -320,11 +307,6 @@ const ADMISSIONS: [Chapter; 5] = [
     },
 ];
 
-#[test]
-fn a_spare_is_admitted(rt: HostRuntime) -> Result<(), Fail> {
-    play_each(&rt, rt.alloc(), &ADMISSIONS)
-}
-
 // A device with a mark that the array lacks was used elsewhere, and lacks everything.
 const USED_ELSEWHERE: [Chapter; 4] = [
     Chapter {
@@ -390,85 +372,51 @@ const USED_ELSEWHERE: [Chapter; 4] = [
     },
 ];
 
-#[test]
-fn used_elsewhere(rt: HostRuntime) -> Result<(), Fail> {
-    play_each(&rt, rt.alloc(), &USED_ELSEWHERE)
-}
-
 // A spare whose superblock can't be written, all of it or the last half.
-const UNWRITABLE: [Image; 2] = [
-    Image {
-        fails: (1, 1),
-        ..SPARE
+const UNWRITABLE: Image = Image {
+    fails: (1, 1),
+    ..SPARE
+};
+
+const HALF_WRITABLE: Image = Image {
+    torn: true,
+    ..UNWRITABLE
+};
+
+// It stays a spare, and is admitted once it can be written.
+const NOT_ADMITTED: [Worked; 6] = [
+    (Step::Admit, Answer::NotAdmitted(AdmitFault::TargetFault)),
+    (Step::Member(1), A_SPARE),
+    (Step::Lack(1), EVERYTHING),
+    (Step::Show, Answer::Shows(DEGRADED)),
+    (Step::Admit, Answer::Done),
+    (Step::Member(1), NOT_ALL),
+];
+
+const ADMISSIONS_THAT_FAIL: [Chapter; 2] = [
+    Chapter {
+        images: &[FIRST, UNWRITABLE],
+        steps: &[&NOT_ADMITTED],
+        stored: &[],
     },
-    Image {
-        fails: (1, 1),
-        torn: true,
-        ..SPARE
+    Chapter {
+        images: &[FIRST, HALF_WRITABLE],
+        steps: &[&NOT_ADMITTED],
+        stored: &[],
     },
 ];
 
-// It stays a spare.
-const NOT_ADMITTED: Chapter = Chapter {
-    images: &[FIRST],
-    steps: &[&[
-        (Step::Admit, Answer::NotAdmitted(AdmitFault::TargetFault)),
-        (Step::Member(1), A_SPARE),
-        (Step::Lack(1), EVERYTHING),
-        (Step::Show, Answer::Shows(DEGRADED)),
-    ]],
-    stored: &[],
-};
+const ROWS: [&[Chapter]; 5] = [
+    &OFFSETS,
+    &WRITTEN_SINCE,
+    &ADMISSIONS,
+    &USED_ELSEWHERE,
+    &ADMISSIONS_THAT_FAIL,
+];
 
-const ADMITTED_THEN: Chapter = Chapter {
-    images: &[FIRST],
-    steps: &[&[
-        (Step::Admit, Answer::NotAdmitted(AdmitFault::TargetFault)),
-        (Step::Admit, Answer::Done),
-        (Step::Member(1), NOT_ALL),
-    ]],
-    stored: &[],
-};
-
-// Whether they differ in the superblock alone, or, where that is as it was, in nothing.
-fn is_kept(bytes: &[u8], before: &[u8], torn: bool) -> bool {
-    for (k, (byte, before)) in bytes.iter().zip(before).enumerate() {
-        let may_differ = torn && (8 * 512..16 * 512).contains(&k);
-        if !may_differ && byte != before {
-            return false;
-        }
-    }
-    bytes.len() == before.len()
-}
-
-fn expect_kept(
-    rt: &impl Abort,
-    alloc: Global,
-    devices: Vec<Testing>,
-    torn: bool,
-) -> Result<(), Fail> {
-    let before = image_of(alloc, &SPARE)?;
-    let mut kept = false;
-    for device in devices {
-        let device = device.into_inner();
-        kept = is_kept(device.bytes(), before.bytes(), torn);
-        drop(device);
-    }
-    drop(before);
-    same(rt, &torn, kept, true);
-    Ok(())
-}
+const LIVES: [&[Chapter]; 0] = [];
 
 #[test]
-fn an_admission_fails(rt: HostRuntime) -> Result<(), Fail> {
-    let alloc = rt.alloc();
-    for image in &UNWRITABLE {
-        let devices = devices_of(alloc, &[*image])?;
-        let devices = play_on(&rt, alloc, devices, &NOT_ADMITTED)?;
-        expect_kept(&rt, alloc, devices, image.torn)?;
-        let devices = devices_of(alloc, &[*image])?;
-        let devices = play_on(&rt, alloc, devices, &ADMITTED_THEN)?;
-        drop(devices);
-    }
-    Ok(())
+fn members_recover(rt: HostRuntime) -> Result<(), Fail> {
+    play_all(&rt, rt.alloc(), &ROWS, &LIVES)
 }

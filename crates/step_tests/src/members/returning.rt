@@ -1,7 +1,7 @@
 // Devices that left and come back, with or without a field changed meanwhile.
 use crate::images::{FIRST, Field, Image, SECOND};
 use crate::members::leaving::LEAVES;
-use crate::play::{Chapter, Worked, play_each};
+use crate::play::{Chapter, Worked, play_all};
 use crate::shown::{CLEAN, Shown};
 use crate::step::{Answer, Step};
 use md_array::ReAddFault;
@@ -220,7 +220,11 @@ const RETURNS: [Chapter; 4] = [
     },
 ];
 
+const ROWS: [&[Chapter]; 1] = [&RETURNS];
+
+const LIVES: [&[Chapter]; 0] = [];
+
 #[test]
-fn refused_returns(rt: HostRuntime) -> Result<(), Fail> {
-    play_each(&rt, rt.alloc(), &RETURNS)
+fn members_return(rt: HostRuntime) -> Result<(), Fail> {
+    play_all(&rt, rt.alloc(), &ROWS, &LIVES)
 }

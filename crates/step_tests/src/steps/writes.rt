@@ -1,6 +1,6 @@
 // The steps of a write, in their turn and out of it, with failing writes, and on a lone member.
 use crate::images::{FIRST, Field, Image, SECOND, SPENT};
-use crate::play::{Chapter, Worked, play, play_each};
+use crate::play::{Chapter, Worked, play_all};
 use crate::shown::{CLEAN, SECTOR_8, Shown, Stored, UNWRITTEN};
 use crate::step::{Answer, Step};
 use md_array::{BeginFault, ClearFault, FinishFault, StoreFault, WriteMemberFault};
@@ -94,11 +94,6 @@ const STEP_ORDER: [Chapter; 2] = [
     },
 ];
 
-#[test]
-fn step_order(rt: HostRuntime) -> Result<(), Fail> {
-    play(&rt, rt.alloc(), &STEP_ORDER)
-}
-
 // Request 1 keeps its chunk's mark until it is finished.
 const OVERLAP: [Worked; 22] = [
     (Step::Begin(8), Answer::Begun(0)),
@@ -130,11 +125,6 @@ const OVERLAPPING: [Chapter; 1] = [Chapter {
     steps: &[&OVERLAP],
     stored: &[],
 }];
-
-#[test]
-fn overlapping_requests(rt: HostRuntime) -> Result<(), Fail> {
-    play(&rt, rt.alloc(), &OVERLAPPING)
-}
 
 const WITHOUT_SECOND: Shown = Shown {
     events: 12,
@@ -226,11 +216,6 @@ const WRITE_FAILS: [Chapter; 2] = [
     },
 ];
 
-#[test]
-fn write_fails_on_one(rt: HostRuntime) -> Result<(), Fail> {
-    play(&rt, rt.alloc(), &WRITE_FAILS)
-}
-
 const SPENT_ACTIVE: [Field; 4] = [
     Field::Super(200, 8, u64::MAX),
     Field::Super(208, 8, 0),
@@ -293,11 +278,6 @@ const LIMITS: [Chapter; 2] = [
     },
 ];
 
-#[test]
-fn event_count_limit(rt: HostRuntime) -> Result<(), Fail> {
-    play_each(&rt, rt.alloc(), &LIMITS)
-}
-
 const WRITTEN_ALONE: Shown = Shown {
     members: 1,
     degraded: true,
@@ -347,11 +327,6 @@ const LAST_FAILS: [Chapter; 1] = [Chapter {
     steps: &[&HALTS],
     stored: &[MARKED_ALONE],
 }];
-
-#[test]
-fn last_member_fails(rt: HostRuntime) -> Result<(), Fail> {
-    play(&rt, rt.alloc(), &LAST_FAILS)
-}
 
 // A whole write to sector 8.
 const WRITES: [Worked; 6] = [
@@ -423,8 +398,18 @@ const ABSENT_FROM_ACTIVE: [Chapter; 2] = [
     },
 ];
 
+const ROWS: [&[Chapter]; 1] = [&LIMITS];
+
+const LIVES: [&[Chapter]; 6] = [
+    &STEP_ORDER,
+    &OVERLAPPING,
+    &WRITE_FAILS,
+    &LAST_FAILS,
+    &ABSENT_FROM_CLEAN,
+    &ABSENT_FROM_ACTIVE,
+];
+
 #[test]
-fn absent_member_is_left_out(rt: HostRuntime) -> Result<(), Fail> {
-    play(&rt, rt.alloc(), &ABSENT_FROM_CLEAN)?;
-    play(&rt, rt.alloc(), &ABSENT_FROM_ACTIVE)
+fn writes_by_steps(rt: HostRuntime) -> Result<(), Fail> {
+    play_all(&rt, rt.alloc(), &ROWS, &LIVES)
 }

@@ -1,4 +1,4 @@
-use Rattle.std.proofs.Common.{◌≡◌, ◌<◌, true, ap, length, map, refl, sym, subst}
+use Rattle.std.proofs.Common.{◌≡◌, ◌<◌, true, length, map, refl, sym, subst}
 use Rattle.md_state.specs.Members.{IsMember}
 use Rattle.md_state.specs.View.{MirrorView, disk_of}
 use Rattle.md_assembly.specs.States.{is_in_sync}

@@ -1,7 +1,5 @@
-use Rattle.std.proofs.Common.{◌≡◌, ◌∙◌, ◌<◌, true, false, ap, inl, length, map, set, refl, sym, subst}
-use Rattle.md_assembly.specs.States.{is_in_sync}
+use Rattle.std.proofs.Common.{◌≡◌, ◌∙◌, ◌<◌, false, ap, length, map, set, sym, subst}
 use Rattle.md_kept_members.specs.Enrolling.{HasRoomFor}
-use Rattle.md_faults.specs.declared.step_fault.StoreFault.TheVariants.{Halted}
 use Rattle.md_state.specs.Members.{IsInSync, IsMember}
 use Rattle.md_state.specs.View.{MirrorView, disk_of}
 use Rattle.md_array.specs.Consistency.{IsConsistent}
