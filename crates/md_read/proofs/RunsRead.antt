@@ -194,7 +194,7 @@ module _ (sector : ℕ) (was : List ℕ) (whole : length was % 512 ≡ 0) where
   first_group bytes old new answer.Nothing long some tried = absurd cc
   first_group bytes old new answer.Failed long some tried = absurd cc
 
-  none_given : (bytes : List ℕ) (old new : MirrorView) (first : Answer) → gives_none first ≡ true → TriesGroup false sector was bytes old new first → Rests old new × NoneOfGroupGives false sector (length was / 512) old new
+  pub none_given : (bytes : List ℕ) (old new : MirrorView) (first : Answer) → gives_none first ≡ true → TriesGroup false sector was bytes old new first → Rests old new × NoneOfGroupGives false sector (length was / 512) old new
   none_given bytes old new answer.All is tried = absurd cc
   none_given bytes old new answer.Perhaps is tried = absurd cc
   none_given bytes old new answer.Nothing is tried = tried

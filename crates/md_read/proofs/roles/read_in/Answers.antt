@@ -19,7 +19,7 @@ returns-then-not-is_asked g c =
     let old = c.args.mirror.now in
     let is = c.in-Some.ensures in (
       rests_same old,
-      λ s from below. not_asked old c.requires.sound c.args.mostly c.args.role c.in-Some.k c.args.sector (length c.args.buf.now / 512) is old (λ flag. let on = (c.is_asked.ensures is.member is.at).1 flag in let out = c.if-is_asked.false in cc) s,
+      λ s from below. not_asked old c.requires.sound c.args.mostly c.args.role c.in-Some.k c.args.sector (length c.args.buf.now / 512) is old (λ flag. let on = (c.is_asked.ensures is.member is.at).1 flag in let out = c.if-not-is_asked.true in cc) s,
     )
 
 pub lists_some-requires : goal.lists_some-requires
@@ -52,7 +52,7 @@ returns-in-Ok g c =
     let reads = c.in-Ok.ensures.gives in (
       reads.rests,
       gives_in old c.requires.sound c.args.mostly c.args.role c.in-Some.k c.args.sector (length c.args.buf.now / 512) is c.read_data.new.self c.read_data.new.buf (let same = c.read_data.auto.buf in omega arith)
-          ((c.is_asked.ensures is.member is.at).0 c.if-is_asked.true)
+          ((c.is_asked.ensures is.member is.at).0 (let out = c.if-not-is_asked.false in cc))
           (λ lists. let on = (c.lists_some.ensures is.member is.at).1 lists in let out = c.if-lists_some.false in cc)
           reads,
     )
