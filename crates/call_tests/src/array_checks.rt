@@ -1,13 +1,13 @@
 // Checks of members in sync: the chunks that are counted, what is read, and what is refused.
 use crate::call::{Answer, Call};
-use crate::data::{Data, Filling, ONLY};
+use crate::data::{Data, Filling, NONE_OTHER};
 use crate::members::{FIRST, Member, SECOND};
 use crate::play::{ROW, Row, play};
 use md_check::CheckFault;
 use std::test::Fail;
 
 // What all members have.
-const DATA: Data = Data(Filling::Same(7), ONLY);
+const DATA: Data = Data(Filling::Same(7), NONE_OTHER, NONE_OTHER);
 
 const ONE: Member = Member {
     data: DATA,
@@ -35,7 +35,7 @@ const SECOND_OF_THREE: Member = Member {
 
 const THIRD_OF_THREE: Member = Member {
     number: 2,
-    data: Data(Filling::Same(7), [(20, 1, 8), (41, 1, 8)]),
+    data: Data(Filling::Same(7), (20, 1, 8), (41, 1, 8)),
     ..SECOND_OF_THREE
 };
 
@@ -52,7 +52,7 @@ const CHECK_COUNTS: [Row; 2] = [
         members: &[
             ONE,
             Member {
-                data: Data(Filling::Same(7), [(13, 1, 8), (13, 1, 8)]),
+                data: Data(Filling::Same(7), (13, 1, 8), (13, 1, 8)),
                 ..OTHER
             },
         ],
@@ -75,7 +75,7 @@ const ROWS: [Row; 11] = [
         members: &[
             ONE,
             Member {
-                data: Data(Filling::Same(7), [(8, 1, 8), (15, 1, 8)]),
+                data: Data(Filling::Same(7), (8, 1, 8), (15, 1, 8)),
                 ..OTHER
             },
         ],
@@ -86,7 +86,7 @@ const ROWS: [Row; 11] = [
         members: &[
             ONE,
             Member {
-                data: Data(Filling::Same(7), [(7, 1, 8), (8, 1, 8)]),
+                data: Data(Filling::Same(7), (7, 1, 8), (8, 1, 8)),
                 ..OTHER
             },
         ],
@@ -97,7 +97,7 @@ const ROWS: [Row; 11] = [
         members: &[
             ONE,
             Member {
-                data: Data(Filling::Same(7), [(0, 1, 8), (63, 1, 8)]),
+                data: Data(Filling::Same(7), (0, 1, 8), (63, 1, 8)),
                 ..OTHER
             },
         ],
@@ -158,7 +158,7 @@ const ROWS: [Row; 11] = [
             Member {
                 listed: (13, 1),
                 bad: (13, 1),
-                data: Data(Filling::Same(7), [(13, 1, 8), (13, 1, 8)]),
+                data: Data(Filling::Same(7), (13, 1, 8), (13, 1, 8)),
                 ..OTHER
             },
         ],

@@ -1,6 +1,6 @@
 // What is done with a mirror, and looked at, as values; and what comes of it.
 use crate::data::Data;
-use crate::told::{Plans, Told};
+use crate::told::{Planning, Told};
 use md_array::{BeginFault, FailFault, ReAddFault, RemoveFault};
 use md_assembly::MemberState;
 use md_check::CheckFault;
@@ -68,7 +68,8 @@ pub(crate) enum Answer {
     Rebuilt(Told),
     // Wanted: in at most so many passes, and how many chunks nobody gives.
     RebuiltIn(u32, usize),
-    Planned(Plans),
+    // How many passes there were, and what the first two planned.
+    Planned(u32, Planning, Planning),
     NotRebuilt(RebuildFault),
     // There is no such member or device.
     NotCalled,
@@ -95,7 +96,7 @@ pub(crate) struct Shown {
     pub(crate) marked: u32,
     pub(crate) resynced: bool,
     pub(crate) halted: bool,
-    pub(crate) states: [MemberState; 2],
+    pub(crate) states: (MemberState, MemberState),
 }
 
 impl Call {

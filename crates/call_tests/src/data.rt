@@ -15,22 +15,29 @@ pub(crate) enum Filling {
     Chunks([u8; 8]),
 }
 
-// A filling, but for so many sectors from one on, which have this byte, twice.
+// From one sector on so many have this byte.
+type Other = (usize, usize, u8);
+
+// A filling, but for some sectors, twice.
 #[derive(Clone, Copy)]
-pub(crate) struct Data(pub(crate) Filling, pub(crate) [(usize, usize, u8); 2]);
+pub(crate) struct Data(pub(crate) Filling, pub(crate) Other, pub(crate) Other);
 
-// But for none.
-pub(crate) const ONLY: [(usize, usize, u8); 2] = [(0, 0, 0); 2];
+pub(crate) const NONE_OTHER: Other = (0, 0, 0);
 
-pub(crate) const NUMBERED: Data = Data(Filling::Number, ONLY);
+pub(crate) const NUMBERED: Data = Data(Filling::Number, NONE_OTHER, NONE_OTHER);
+
+fn is_of((first, count, _): Other, sector: usize) -> bool {
+    sector >= first && sector - first < count
+}
 
 impl Data {
     pub(crate) fn byte(&self, sector: usize) -> u8 {
-        let Data(filling, but) = *self;
-        for (first, count, byte) in but {
-            if sector >= first && sector - first < count {
-                return byte;
-            }
+        let Data(filling, one, two) = *self;
+        if is_of(one, sector) {
+            return one.2;
+        }
+        if is_of(two, sector) {
+            return two.2;
         }
         match filling {
             Filling::Same(byte) => byte,

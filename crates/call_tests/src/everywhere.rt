@@ -1,7 +1,7 @@
 // Sources that can't be read in any one sector, or in half of them: nothing is lost that one of them gives. Each failed read costs a
 // pass at most.
 use crate::call::{Answer, Call};
-use crate::data::{Data, Filling, NUMBERED, ONLY};
+use crate::data::{Data, Filling, NONE_OTHER, NUMBERED};
 use crate::left::{Also, Left};
 use crate::members::{FIRST, Member, Vary};
 use crate::play::{ROW, Row, Worked, play};
@@ -28,7 +28,7 @@ const LAST_HALF: Member = Member {
 
 const LONG_SPARE: Member = Member {
     number: 2,
-    data: Data(Filling::Same(NEW), ONLY),
+    data: Data(Filling::Same(NEW), NONE_OTHER, NONE_OTHER),
     ..LONG
 };
 

@@ -3,7 +3,7 @@ ghost use Rattle.std.specs.Prelude.{[], IfOk, false};
 ghost use Rattle.md_array.specs.Consistency.{IsConsistent};
 
 use crate::checks::holds;
-use crate::data::{Data, Filling, ONLY, WHOLE};
+use crate::data::{Data, Filling, NONE_OTHER, WHOLE};
 use crate::members::{DATA, FIRST, Member, NEVER, device_of};
 use crate::opening::open;
 use md_array::Mirror;
@@ -54,7 +54,7 @@ fn failing_member(alloc: Global, number: u8, bad: &[u64]) -> Result<Counted, Fai
     }
     let member = Member {
         number: u32::from(number),
-        data: Data(Filling::Same(number), ONLY),
+        data: Data(Filling::Same(number), NONE_OTHER, NONE_OTHER),
         ..FIRST
     };
     let device = device_of(alloc, &member)?;

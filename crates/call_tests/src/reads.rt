@@ -1,14 +1,14 @@
 // Sectors of the array are read, as one call.
 use crate::call::{Answer, Call};
-use crate::data::{Data, Filling, ONLY};
+use crate::data::{Data, Filling, NONE_OTHER};
 use crate::members::{FIRST, Member, SECOND};
 use crate::play::{ROW, Row, play};
 use md_read::UnreadFault;
 use std::test::Fail;
 
-const ZEROS: Data = Data(Filling::Same(0), ONLY);
+const ZEROS: Data = Data(Filling::Same(0), NONE_OTHER, NONE_OTHER);
 
-const ONES: Data = Data(Filling::Same(1), ONLY);
+const ONES: Data = Data(Filling::Same(1), NONE_OTHER, NONE_OTHER);
 
 // Members that are filled with their numbers. The first lists sectors 10 to 19.
 const LISTING: Member = Member {
@@ -24,7 +24,7 @@ const OTHER: Member = Member {
 };
 
 // Each sector from the lowest role that gives it.
-const GIVEN: Data = Data(Filling::Same(0), [(10, 10, 1), (0, 0, 0)]);
+const GIVEN: Data = Data(Filling::Same(0), (10, 10, 1), (0, 0, 0));
 
 const ROWS: [Row; 3] = [
     Row {

@@ -1,6 +1,6 @@
 // Rebuilds: what a member holds once it is in sync, what is told of it, and what is refused.
 use crate::call::{ANY, Answer, Call};
-use crate::data::{Data, Filling, NUMBERED, ONLY};
+use crate::data::{Data, Filling, NONE_OTHER, NUMBERED};
 use crate::left::{Also, Left};
 use crate::members::{FIRST, Member, SECOND, THIRD, Vary};
 use crate::play::{ROW, Row, play};
@@ -15,7 +15,7 @@ use std::test::Fail;
 pub(crate) const NEW: u8 = 0x77;
 
 const SPARE: Member = Member {
-    data: Data(Filling::Same(NEW), ONLY),
+    data: Data(Filling::Same(NEW), NONE_OTHER, NONE_OTHER),
     ..THIRD
 };
 
@@ -30,14 +30,14 @@ pub(crate) const SHORT_SECOND: Member = Member { number: 1, ..SHORT };
 
 pub(crate) const SHORT_SPARE: Member = Member {
     number: 2,
-    data: Data(Filling::Same(NEW), ONLY),
+    data: Data(Filling::Same(NEW), NONE_OTHER, NONE_OTHER),
     ..SHORT
 };
 
 pub(crate) const SHORT_REBUILT: Left = Left(
     12,
     0,
-    Data(Filling::Number, [(16, 48, NEW), (0, 0, 0)]),
+    Data(Filling::Number, (16, 48, NEW), (0, 0, 0)),
     Also::Nothing,
 );
 
@@ -121,7 +121,7 @@ const FAILING_SOURCES: [Row; 3] = [
             Left(
                 12,
                 0,
-                Data(Filling::Number, [(8, 56, NEW), (0, 0, 0)]),
+                Data(Filling::Number, (8, 56, NEW), (0, 0, 0)),
                 Also::Nothing,
             ),
         ],
@@ -228,7 +228,12 @@ const STOPPING: [Row; 3] = [
         ],
         left: &[
             Left(10, 0, NUMBERED, Also::Kept(FIRST)),
-            Left(11, 0, Data(Filling::Same(NEW), ONLY), Also::Nothing),
+            Left(
+                11,
+                0,
+                Data(Filling::Same(NEW), NONE_OTHER, NONE_OTHER),
+                Also::Nothing,
+            ),
         ],
         ..ROW
     },
@@ -273,7 +278,7 @@ const REBUILD_WITH_ORPHAN: [Row; 1] = [Row {
         Left(
             12,
             0,
-            Data(Filling::Number, [(24, 8, NEW), (0, 0, 0)]),
+            Data(Filling::Number, (24, 8, NEW), (0, 0, 0)),
             Also::Entry([0x08, 0x60, 0x20, 0, 0, 0, 0, 0]),
         ),
     ],
@@ -372,7 +377,7 @@ fn refused_rebuilds(rt: HostRuntime) -> Result<(), Fail> {
     play(&rt, rt.alloc(), &REFUSED)
 }
 
-const AWAY: Data = Data(Filling::Number, [(8, 1, WRITTEN), (0, 0, 0)]);
+const AWAY: Data = Data(Filling::Number, (8, 1, WRITTEN), (0, 0, 0));
 
 // A member that left and was taken back gets what it lacks: nothing, or what was written since.
 const TAKEN_BACK: [Row; 2] = [
@@ -457,7 +462,7 @@ const MEETING: [Row; 1] = [Row {
         Left(
             12,
             0,
-            Data(Filling::Number, [(20, 44, NEW), (0, 0, 0)]),
+            Data(Filling::Number, (20, 44, NEW), (0, 0, 0)),
             Also::Nothing,
         ),
     ],

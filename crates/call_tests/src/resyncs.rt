@@ -1,6 +1,6 @@
 // Members that may differ are resynchronised.
 use crate::call::{Answer, Call, Shown};
-use crate::data::{Data, Filling, ONLY};
+use crate::data::{Data, Filling, NONE_OTHER};
 use crate::left::{Also, Left};
 use crate::members::{FAULTY, FIRST as ONE, Member, SECOND as OTHER, Vary};
 use crate::play::{ROW, Row, Worked, play};
@@ -13,17 +13,30 @@ use md_resync::ResyncFault;
 use std::test::Fail;
 
 // What the first member has.
-const OLD: Data = Data(Filling::Chunks([0, 1, 2, 3, 4, 5, 6, 7]), ONLY);
+const OLD: Data = Data(
+    Filling::Chunks([0, 1, 2, 3, 4, 5, 6, 7]),
+    NONE_OTHER,
+    NONE_OTHER,
+);
 
 // The second was written in chunks 1 and 2, which are marked, and in chunk 7, which is not.
 const NEW: Data = Data(
     Filling::Chunks([0, WRITTEN, WRITTEN, 3, 4, 5, 6, WRITTEN]),
-    ONLY,
+    NONE_OTHER,
+    NONE_OTHER,
 );
 
-const HALF: Data = Data(Filling::Chunks([0, 1, WRITTEN, 3, 4, 5, 6, WRITTEN]), ONLY);
+const HALF: Data = Data(
+    Filling::Chunks([0, 1, WRITTEN, 3, 4, 5, 6, WRITTEN]),
+    NONE_OTHER,
+    NONE_OTHER,
+);
 
-const COPIED: Data = Data(Filling::Chunks([0, 1, 2, 3, 4, 5, 6, WRITTEN]), ONLY);
+const COPIED: Data = Data(
+    Filling::Chunks([0, 1, 2, 3, 4, 5, 6, WRITTEN]),
+    NONE_OTHER,
+    NONE_OTHER,
+);
 
 // The bits of chunk 1, and of chunks 1 and 2.
 const MARKS_ONE: u8 = 0b010;
@@ -48,7 +61,7 @@ const MARKED: Shown = Shown {
     marked: 2,
     resynced: false,
     halted: false,
-    states: [MemberState::InSync(0), MemberState::InSync(1)],
+    states: (MemberState::InSync(0), MemberState::InSync(1)),
 };
 
 const RESYNCED: [Worked; 3] = [
@@ -77,12 +90,12 @@ const CLOSED: Answer = Answer::NotRead(UnreadFault::NotResynced);
 
 const WITHOUT_SECOND: Shown = Shown {
     events: 11,
-    states: [MemberState::InSync(0), MemberState::Faulty],
+    states: (MemberState::InSync(0), MemberState::Faulty),
     ..MARKED
 };
 
 const WITHOUT_FIRST: Shown = Shown {
-    states: [MemberState::Faulty, MemberState::InSync(1)],
+    states: (MemberState::Faulty, MemberState::InSync(1)),
     ..WITHOUT_SECOND
 };
 

@@ -248,9 +248,10 @@ impl Run {
         }
         match rebuild(rt, alloc, &mut self.mirror, k, &Silent) {
             Ok(rebuilt) => {
-                let plans = plans_of(&rebuilt);
+                let passes = rebuilt.passes;
+                let (first, second) = plans_of(&rebuilt);
                 drop(rebuilt);
-                Answer::Planned(plans)
+                Answer::Planned(passes, first, second)
             }
             Err(fault) => Answer::NotRebuilt(fault),
         }
@@ -266,7 +267,7 @@ impl Run {
             marked: mirror.marks().count(),
             resynced: mirror.resynced(),
             halted: mirror.halted(),
-            states: [mirror.state(0), mirror.state(1)],
+            states: (mirror.state(0), mirror.state(1)),
         })
     }
 

@@ -27,48 +27,45 @@ pub(crate) fn told_of(rebuilt: &Rebuilt) -> Told {
     }
 }
 
-// Of the first two passes of a rebuild.
+// What a pass planned.
 #[derive(Clone, Copy, PartialEq, Eq)]
-pub(crate) struct Plans {
-    pub(crate) passes: u32,
-    pub(crate) rounds: [u32; 2],
+pub(crate) struct Planning {
+    pub(crate) rounds: u32,
     // Where each of the array's 8 chunks is read; `NOWHERE` where it is not.
-    pub(crate) sources: [[u8; 8]; 2],
+    pub(crate) sources: [u8; 8],
     // The rounds of the certificate, and its chunks as bits.
-    pub(crate) certificates: [(u32, u32); 2],
+    pub(crate) certificate: (u32, u32),
 }
 
 pub(crate) const NOWHERE: u8 = u8::MAX;
 
-fn sources_of(planned: &Planned) -> [u8; 8] {
+pub(crate) const NO_PLAN: Planning = Planning {
+    rounds: 0,
+    sources: [NOWHERE; 8],
+    certificate: (0, 0),
+};
+
+fn planning_of(planned: &Planned) -> Planning {
     let mut sources = [NOWHERE; 8];
     for slot in planned.plan.slots.as_slice() {
         if let Some(place) = sources.get_mut(slot.chunk as usize) {
             *place = slot.source;
         }
     }
-    sources
-}
-
-fn certificate_of(planned: &Planned) -> (u32, u32) {
     let mut bits = 0;
     for chunk in planned.certificate.chunks.as_slice() {
         bits |= 1u32.wrapping_shl(*chunk);
     }
-    (planned.certificate.rounds, bits)
+    Planning {
+        rounds: planned.plan.rounds,
+        sources,
+        certificate: (planned.certificate.rounds, bits),
+    }
 }
 
-pub(crate) fn plans_of(rebuilt: &Rebuilt) -> Plans {
-    let mut plans = Plans {
-        passes: rebuilt.passes,
-        rounds: [0; 2],
-        sources: [[NOWHERE; 8]; 2],
-        certificates: [(0, 0); 2],
-    };
-    for (k, planned) in rebuilt.plans.iter().take(2).enumerate() {
-        plans.rounds[k & 1] = planned.plan.rounds;
-        plans.sources[k & 1] = sources_of(planned);
-        plans.certificates[k & 1] = certificate_of(planned);
-    }
-    plans
+// Of the first two passes of a rebuild, if there are two.
+pub(crate) fn plans_of(rebuilt: &Rebuilt) -> (Planning, Planning) {
+    let first = rebuilt.plans.first().map_or(NO_PLAN, planning_of);
+    let second = rebuilt.plans.get(1).map_or(NO_PLAN, planning_of);
+    (first, second)
 }

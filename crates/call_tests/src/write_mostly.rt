@@ -1,10 +1,10 @@
 // The second of three roles is that of a write-mostly member: it is read only where the first can't serve.
 use crate::call::{Answer, Call};
-use crate::data::{Data, Filling, ONLY};
+use crate::data::{Data, Filling, NONE_OTHER};
 use crate::members::{FIRST, Member, SECOND, THIRD};
 use crate::play::{ROW, Row, play};
 use crate::rebuilds::NEW;
-use crate::told::{NOWHERE, Plans};
+use crate::told::{NO_PLAN, NOWHERE, Planning};
 use std::test::Fail;
 
 const PLAIN: Member = Member {
@@ -20,18 +20,29 @@ const MOSTLY: Member = Member {
 
 const SPARE: Member = Member {
     raid_disks: 3,
-    data: Data(Filling::Same(NEW), ONLY),
+    data: Data(Filling::Same(NEW), NONE_OTHER, NONE_OTHER),
     ..THIRD
 };
 
-const NO_PLAN: [u8; 8] = [NOWHERE; 8];
-
 // All from the first member, which shows that fewer rounds are too few.
-const FROM_THE_FIRST: Plans = Plans {
-    passes: 1,
-    rounds: [8, 0],
-    sources: [[0; 8], NO_PLAN],
-    certificates: [(7, 0xff), (0, 0)],
+const FROM_THE_FIRST: Planning = Planning {
+    rounds: 8,
+    sources: [0; 8],
+    certificate: (7, 0xff),
+};
+
+const ONE_FROM_THE_SECOND: Planning = Planning {
+    rounds: 7,
+    sources: [0, 0, 0, 1, 0, 0, 0, 0],
+    certificate: (6, 0xf7),
+};
+
+const THEN_THE_FOURTH: Planning = Planning {
+    rounds: 1,
+    sources: [
+        NOWHERE, NOWHERE, NOWHERE, 1, NOWHERE, NOWHERE, NOWHERE, NOWHERE,
+    ],
+    certificate: (0, 1 << 3),
 };
 
 const ROWS: [Row; 4] = [
@@ -39,7 +50,10 @@ const ROWS: [Row; 4] = [
         members: &[PLAIN, MOSTLY, SPARE],
         calls: &[
             (Call::Table(2), Answer::Offers([1; 8])),
-            (Call::RebuildPlanned(2), Answer::Planned(FROM_THE_FIRST)),
+            (
+                Call::RebuildPlanned(2),
+                Answer::Planned(1, FROM_THE_FIRST, NO_PLAN),
+            ),
         ],
         ..ROW
     },
@@ -57,12 +71,7 @@ const ROWS: [Row; 4] = [
             (Call::Table(2), Answer::Offers([1, 1, 1, 2, 1, 1, 1, 1])),
             (
                 Call::RebuildPlanned(2),
-                Answer::Planned(Plans {
-                    rounds: [7, 0],
-                    sources: [[0, 0, 0, 1, 0, 0, 0, 0], NO_PLAN],
-                    certificates: [(6, 0xf7), (0, 0)],
-                    ..FROM_THE_FIRST
-                }),
+                Answer::Planned(1, ONE_FROM_THE_SECOND, NO_PLAN),
             ),
         ],
         ..ROW
@@ -81,17 +90,7 @@ const ROWS: [Row; 4] = [
             (Call::Table(2), Answer::Offers([1; 8])),
             (
                 Call::RebuildPlanned(2),
-                Answer::Planned(Plans {
-                    passes: 2,
-                    rounds: [8, 1],
-                    sources: [
-                        [0; 8],
-                        [
-                            NOWHERE, NOWHERE, NOWHERE, 1, NOWHERE, NOWHERE, NOWHERE, NOWHERE,
-                        ],
-                    ],
-                    certificates: [(7, 0xff), (0, 1 << 3)],
-                }),
+                Answer::Planned(2, FROM_THE_FIRST, THEN_THE_FOURTH),
             ),
         ],
         ..ROW
@@ -102,18 +101,18 @@ const ROWS: [Row; 4] = [
         members: &[
             Member {
                 is_write_mostly: true,
-                data: Data(Filling::Same(0), ONLY),
+                data: Data(Filling::Same(0), NONE_OTHER, NONE_OTHER),
                 ..FIRST
             },
             Member {
                 listed: (8, 1),
                 bad: (30, 1),
-                data: Data(Filling::Same(1), ONLY),
+                data: Data(Filling::Same(1), NONE_OTHER, NONE_OTHER),
                 ..SECOND
             },
         ],
         calls: &[(
-            Call::Read(0, 64, 64, Data(Filling::Same(1), [(8, 1, 0), (23, 16, 0)])),
+            Call::Read(0, 64, 64, Data(Filling::Same(1), (8, 1, 0), (23, 16, 0))),
             Answer::Done,
         )],
         ..ROW

@@ -1,6 +1,6 @@
 // What is written is read back, and what a write leaves where a member fails on the way.
 use crate::call::{Answer, Call, Shown};
-use crate::data::{Data, Filling, ONLY};
+use crate::data::{Data, Filling, NONE_OTHER};
 use crate::left::{Also, Left};
 use crate::members::{FIRST, Member, SECOND, Vary};
 use crate::play::{ROW, Row, Worked, play};
@@ -9,9 +9,17 @@ use md_assembly::MemberState;
 use md_metadata::StopFault;
 use std::test::Fail;
 
-const OLD: Data = Data(Filling::Chunks([0, 1, 2, 3, 4, 5, 6, 7]), ONLY);
+const OLD: Data = Data(
+    Filling::Chunks([0, 1, 2, 3, 4, 5, 6, 7]),
+    NONE_OTHER,
+    NONE_OTHER,
+);
 
-const NEW: Data = Data(Filling::Chunks([0, WRITTEN, 2, 3, 4, 5, 6, 7]), ONLY);
+const NEW: Data = Data(
+    Filling::Chunks([0, WRITTEN, 2, 3, 4, 5, 6, 7]),
+    NONE_OTHER,
+    NONE_OTHER,
+);
 
 const MEMBERS: [Member; 2] = [
     Member { data: OLD, ..FIRST },
@@ -26,7 +34,7 @@ const SHOWN: Shown = Shown {
     marked: 1,
     resynced: true,
     halted: false,
-    states: [MemberState::InSync(0), MemberState::InSync(1)],
+    states: (MemberState::InSync(0), MemberState::InSync(1)),
 };
 
 const STOPPED: Shown = Shown {
@@ -40,7 +48,12 @@ const READ_BACK: Row = Row {
     calls: &[
         (Call::Write(8, 1), Answer::Done),
         (
-            Call::Read(8, 1, 1, Data(Filling::Same(WRITTEN), ONLY)),
+            Call::Read(
+                8,
+                1,
+                1,
+                Data(Filling::Same(WRITTEN), NONE_OTHER, NONE_OTHER),
+            ),
             Answer::Done,
         ),
         (Call::Read(9, 1, 1, OLD), Answer::Done),
@@ -83,7 +96,7 @@ const WITHOUT_FIRST: [Worked; 2] = [
         Call::Show,
         Answer::Shows(Shown {
             events: 12,
-            states: [MemberState::Faulty, MemberState::InSync(1)],
+            states: (MemberState::Faulty, MemberState::InSync(1)),
             ..SHOWN
         }),
     ),
@@ -95,7 +108,7 @@ const WITHOUT_SECOND: [Worked; 2] = [
         Call::Show,
         Answer::Shows(Shown {
             events: 12,
-            states: [MemberState::InSync(0), MemberState::Faulty],
+            states: (MemberState::InSync(0), MemberState::Faulty),
             ..SHOWN
         }),
     ),
