@@ -23,7 +23,7 @@ use Rattle.md_resync.proofs.CopiedRuns.{tried_same}
 steps_apart : (steps more : List MirrorStep) (old : MirrorView) (before : Requests) (P : MirrorView → Requests → Type 0)
     → StepsInTurn old before (steps ++ more) P → StepsInTurn old before steps (λ m r. StepsInTurn m r more P)
 steps_apart [] more old before P t = (old, rests_same old, t)
-steps_apart (MirrorStep.Single e ∷ steps) more old before P t = (t.0, t.1, t.2, t.3, t.4, t.5, t.6, steps_apart steps more t.1 t.2 P t.7)
+steps_apart (MirrorStep.Single e ∷ steps) more old before P t = (t.0, t.1, t.2, t.3, t.4, t.5, t.6, t.7, steps_apart steps more t.1 t.2 P t.8)
 steps_apart (MirrorStep.CopyRun r ∷ steps) more old before P t = (t.0, t.1, t.2, t.3, t.4, steps_apart steps more t.1 before P t.5)
 
 all_after : (Of : Event → Type 0) (es fs : List Event) → AllOf Of (es ++ fs) → AllOf Of fs
@@ -41,7 +41,7 @@ steps_run [] h Then t all honest sound =
     (record h { mirror = t.0 }, record { rests = t.1; is = refl }, same_honest h.mirror.disks t.0.disks t.1.disks.same honest, rests_sound h.mirror t.0 t.1 sound, t.2)
 steps_run (MirrorStep.Single e ∷ steps) h Then t all honest sound =
     let does = t.6 (same_honest h.mirror.disks t.0.disks t.3.disks.same honest) (left_whole e t.0 t.1 all.0) in
-    let rest = steps_run steps (then_as h e t.1 t.2) Then t.7 all.1 does.honest does.sound in
+    let rest = steps_run steps (then_as h e t.1 t.2) Then t.8 all.1 does.honest does.sound in
     (rest.0, (t.1, t.2, record { mid = t.0; rests = t.3; does = does }, rest.1), rest.2, rest.3, rest.4)
 steps_run (MirrorStep.CopyRun r ∷ steps) h Then t all honest sound =
     let Here : MirrorView → Requests → Type 0 = λ m s. StepsInTurn m s steps Then × AreHonest m.disks × IsConsistent m in

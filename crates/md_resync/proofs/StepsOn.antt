@@ -15,21 +15,21 @@ use Rattle.md_resync.specs.Steps.{GoesBySteps, IsNoCopy, MirrorStep, StepsInTurn
 steps_then : (steps : List MirrorStep) (old : MirrorView) (before : Requests) (P Q : MirrorView → Requests → Type 0)
     → ((m : MirrorView) (r : Requests) → P m r → Q m r) → StepsInTurn old before steps P → StepsInTurn old before steps Q
 steps_then [] old before P Q f t = (t.0, t.1, f t.0 before t.2)
-steps_then (MirrorStep.Single e ∷ steps) old before P Q f t = (t.0, t.1, t.2, t.3, t.4, t.5, t.6, steps_then steps t.1 t.2 P Q f t.7)
+steps_then (MirrorStep.Single e ∷ steps) old before P Q f t = (t.0, t.1, t.2, t.3, t.4, t.5, t.6, t.7, steps_then steps t.1 t.2 P Q f t.8)
 steps_then (MirrorStep.CopyRun r ∷ steps) old before P Q f t = (t.0, t.1, t.2, t.3, t.4, steps_then steps t.1 before P Q f t.5)
 
 -- reads before the first step
 steps_first : (steps : List MirrorStep) (old rested : MirrorView) (before : Requests) (P : MirrorView → Requests → Type 0)
     → Rests old rested → StepsInTurn rested before steps P → StepsInTurn old before steps P
 steps_first [] old rested before P rests t = (t.0, rests_then old rested t.0 rests t.1, t.2)
-steps_first (MirrorStep.Single e ∷ steps) old rested before P rests t = (t.0, t.1, t.2, rests_then old rested t.0 rests t.3, t.4, t.5, t.6, t.7)
+steps_first (MirrorStep.Single e ∷ steps) old rested before P rests t = (t.0, t.1, t.2, rests_then old rested t.0 rests t.3, t.4, t.5, t.6, t.7, t.8)
 steps_first (MirrorStep.CopyRun r ∷ steps) old rested before P rests t = (t.0, t.1, rests_then old rested t.0 rests t.2, t.3, t.4, t.5)
 
 -- steps after others
 steps_on : (steps more : List MirrorStep) (old : MirrorView) (before : Requests) (P : MirrorView → Requests → Type 0)
     → StepsInTurn old before steps (λ m r. StepsInTurn m r more P) → StepsInTurn old before (steps ++ more) P
 steps_on [] more old before P t = steps_first more old t.0 before P t.1 t.2
-steps_on (MirrorStep.Single e ∷ steps) more old before P t = (t.0, t.1, t.2, t.3, t.4, t.5, t.6, steps_on steps more t.1 t.2 P t.7)
+steps_on (MirrorStep.Single e ∷ steps) more old before P t = (t.0, t.1, t.2, t.3, t.4, t.5, t.6, t.7, steps_on steps more t.1 t.2 P t.8)
 steps_on (MirrorStep.CopyRun r ∷ steps) more old before P t = (t.0, t.1, t.2, t.3, t.4, steps_on steps more t.1 before P t.5)
 
 events_on : (steps more : List MirrorStep) → events_of (steps ++ more) ≡ events_of steps ++ events_of more
@@ -91,7 +91,7 @@ singles_are (e ∷ es) = ap (λ (xs : List Event). e ∷ xs) (singles_are es)
 singles_lead : (es : List Event) → AllOf IsNoCopy es → (previous : Option Event) (old : MirrorView) (before : Requests) (P : MirrorView → Requests → Type 0)
     → InTurn previous old before es P → StepsInTurn old before (singles es) P
 singles_lead [] none previous old before P t = (old, rests_same old, t)
-singles_lead (e ∷ es) none previous old before P t = (old, t.0, t.1, rests_same old, none.0, t.3, t.4, singles_lead es none.1 (Some e) t.0 t.1 P t.5)
+singles_lead (e ∷ es) none previous old before P t = (old, t.0, t.1, rests_same old, none.0, t.3, t.4, (previous, t.2), singles_lead es none.1 (Some e) t.0 t.1 P t.5)
 
 pub by_singles : (es : List Event) (old new : MirrorView) → AllOf IsNoCopy es
     → ((previous : Option Event) (requests : Requests) → AreInFlight old.array requests → Leads previous old requests es new requests) → GoesBySteps es old new

@@ -5,9 +5,9 @@ use Rattle.md_model.specs.Events.{Event}
 use Rattle.md_state.specs.CopyingData.{CopiesTo, copies_of}
 use Rattle.md_state.specs.Requests.{AreInFlight}
 use Rattle.md_state.specs.Rests.{Rests}
-use Rattle.md_state.specs.View.{MirrorView}
+use Rattle.md_state.specs.View.{ArrayView, MirrorView}
 use Rattle.md_array.specs.Events.{Does}
-use Rattle.md_array.specs.InTurn.{Did, LeftWhole, Leads, Requests}
+use Rattle.md_array.specs.InTurn.{Did, IsInOrder, LeftWhole, Leads, Requests}
 use Rattle.md_array.specs.Worlds.{AreHonest}
 
 -- These bytes go from one member to another, from this sector of the array on.
@@ -35,6 +35,10 @@ abbrev pub IsNoCopy : Event → Type 0
 IsNoCopy (Event.Copy from k s) = ⊥
 IsNoCopy e = Unit {0}
 
+-- As in a write, a sector of a bitmap is stored where it is due.
+abbrev pub IsDue : Event → ArrayView → Type 0
+IsDue e a = (previous : Option Event) × IsInOrder previous a e
+
 -- From this mirror, with these requests in flight, the steps were done one after another, and then it holds of where they lead.
 -- Devices may have been read before each step, and after the last. What a stop leaves within a step is said by its own contract:
 -- `Did` of an event, and `CopiesTo` of a run, whose events lead from before its write to after it.
@@ -42,7 +46,7 @@ abbrev pub StepsInTurn : MirrorView → Requests → List MirrorStep → (Mirror
 StepsInTurn old before [] Then = (rested : MirrorView) × Rests old rested × Then rested before
 StepsInTurn old before (MirrorStep.Single e ∷ steps) Then =
     (rested mid : MirrorView) × (between : Requests) × Rests old rested × IsNoCopy e × Did rested before e mid between
-    × (AreHonest rested.disks → LeftWhole rested e mid → Does rested before e mid between) × StepsInTurn mid between steps Then
+    × (AreHonest rested.disks → LeftWhole rested e mid → Does rested before e mid between) × IsDue e rested.array × StepsInTurn mid between steps Then
 StepsInTurn old before (MirrorStep.CopyRun r ∷ steps) Then =
     (rested mid : MirrorView) × Rests old rested × CopiesTo r.to r.sector r.bytes rested mid
     × ((previous : Option Event) → Leads previous rested before (copies_in r) mid before) × StepsInTurn mid before steps Then

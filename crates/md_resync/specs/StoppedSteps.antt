@@ -1,0 +1,37 @@
+-- What a stop of the machine leaves within a whole resync: it comes within one of its steps, from the mirror before that step to the one after it.
+use Rattle.std.specs.Prelude.{◌≡◌, ◌⊎◌, List, [], ◌∷◌}
+use Rattle.md_model.specs.Events.{Event}
+use Rattle.md_state.specs.View.{Disk, MirrorView}
+use Rattle.md_array.specs.InTurn.{AllOf, Requests}
+use Rattle.md_laws.specs.Left.{IsLeft, contents_of}
+use Rattle.md_laws.specs.Runs.{MirrorRun, Moment}
+use Rattle.md_laws.specs.StoppedCalls.{AtMoments}
+use Rattle.md_laws.specs.StopsWithin.{MayAllBeLeft}
+use Rattle.md_resync.specs.Resyncing.{IsOfResync}
+use Rattle.md_resync.specs.Steps.{MirrorStep, StepsInTurn, StepsLead, events_of}
+
+-- an event of a resync, that it came to no end among them
+abbrev pub IsResyncing : Event → Type 0
+IsResyncing Event.Unresynced = Unit {0}
+IsResyncing e = IsOfResync e
+
+-- The stop came within one of the steps. While devices are only read, it leaves what stands there before the step and after the read.
+abbrev pub StopsInSteps : (steps : List MirrorStep) (old : MirrorView) (before : Requests) (Then : MirrorView → Requests → Type 0) → StepsInTurn old before steps Then → List Disk → Type 0
+StopsInSteps [] old before Then t left = ⊥
+StopsInSteps (MirrorStep.Single e ∷ steps) old before Then t left = MayAllBeLeft t.0.disks t.1.disks (contents_of left) ⊎ StopsInSteps steps t.1 t.2 Then t.8 left
+StopsInSteps (MirrorStep.CopyRun r ∷ steps) old before Then t left = MayAllBeLeft t.0.disks t.1.disks (contents_of left) ⊎ StopsInSteps steps t.1 before Then t.5 left
+
+-- It is a stop of a run of such events: they lead from this moment to one from which on a stop leaves that.
+pub record IsStopOfRun (t : Moment) (left : List Disk) : Type 0 where
+  pub events : List Event
+  pub steps : AllOf IsResyncing events
+  pub at : Moment
+  pub run : MirrorRun t events at
+  pub is_left : IsLeft at left
+
+-- So it is wherever a life has come to, whatever comes of the resync, and whatever was left. (Of a write that halts the mirror this is said before it.)
+abbrev pub StopsAreOfRuns : Type 0
+StopsAreOfRuns =
+    AtMoments (λ t.
+    ((steps : List MirrorStep) (new : MirrorView) (after : Requests) (leads : StepsLead t.mirror t.requests steps new after) → AllOf IsResyncing (events_of steps)
+    → (left : List Disk) → StopsInSteps steps t.mirror t.requests (λ m r. (m ≡ new) × (r ≡ after)) leads left → IsStopOfRun t left))
