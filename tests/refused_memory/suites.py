@@ -31,6 +31,8 @@ COUNTS_BLOCKS = ("part_tests",)
 
 # In these a call that finds no memory is made again, or ends the test, and so no comparison may fail; see their src/play.rt.
 NEVER_DIFFER = ("step_tests", "call_tests")
+# But for these, whose reads have to overlap: where a thread finds no memory its read comes after the other one.
+OVERLAPPING = ("array_checks::checks", "rebuilds::reads_overlap")
 
 LEAKED = 99
 IS_ASSERTION = re.compile(r"^test stopped at src/", re.M)
@@ -65,14 +67,14 @@ def run_test(suite, name, settings):
     return done.returncode, (done.stdout + done.stderr).decode("utf-8", "replace")
 
 
-def against(suite, status, output):
+def against(suite, name, status, output):
     """The reason against a run, if there is one."""
     if status is None:
         return "it does not end"
     if status in (0, 101):
         return None
     if status == -6 or status == 134:
-        if IS_ASSERTION.search(output) and suite not in NEVER_DIFFER:
+        if IS_ASSERTION.search(output) and (suite not in NEVER_DIFFER or name in OVERLAPPING):
             return None
     if status == LEAKED:
         return "it leaves memory that it did not free"
@@ -86,7 +88,7 @@ def sweep_test(suite, name, library):
             outcome.reasons.append("the calls come to no end")
             break
         outcome.calls = number
-        reason = against(suite, *ended)
+        reason = against(suite, name, *ended)
         if reason:
             outcome.reasons.append("where call %d is refused: %s" % (number, reason))
             break
