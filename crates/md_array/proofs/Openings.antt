@@ -6,6 +6,8 @@ pub mod Consistent
 pub mod DevicesInTurn
 -- Devices fit the array that they make.
 pub mod Fitting
+-- The superblock that is kept of a member tells of its log, where the list that is kept has anything.
+pub mod ListTold
 -- Marks are stored on one member after another.
 pub mod MarksStored
 -- Members are read one after another, and their devices stay what they are.

@@ -27,6 +27,9 @@ pub mod DevicesBack
 pub mod Finished
 -- The requests in flight, by the mirror's list of them.
 pub mod InFlight
+-- A superblock is written to a member that is rebuilt, or its write fails: the log on the device lists what the list in memory has, if it did
+-- before.
+pub mod ListStays
 -- An active array becomes clean, as the model has it.
 pub mod MadeClean
 -- A sector of a member's bitmap that is stored is the model's event, and the mirror stays consistent.

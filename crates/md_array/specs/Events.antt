@@ -6,7 +6,8 @@ use Rattle.md_super.specs.Log.{has_bad_block_log}
 use Rattle.md_members.specs.Areas.{bitmap_sectors}
 use Rattle.md_model.specs.Sectors.{put}
 use Rattle.md_model.specs.Devices.{Super}
-use Rattle.md_model.specs.Worlds.{Request}
+use Rattle.md_model.specs.Rebuilding.{is_target}
+use Rattle.md_model.specs.Worlds.{Request, World}
 use Rattle.md_model.specs.Content.{Content, Becomes, HoldsBetween, HoldsInFlight}
 use Rattle.md_model.specs.Events.{Event, Step}
 use Rattle.md_model.specs.Runs.{failed_after, spoiled_after}
@@ -123,6 +124,22 @@ WritesOnce (Event.StoreLogFails k) before after = (w : Write) × IsFailed k w be
 abbrev pub listed_on : MirrorView → ℕ → ℕ → Bool
 listed_on v k = (stored_on v.array (slice_get v.array.members k) (slice_get v.disks k)).listed
 
+-- The device of member k lists each sector that its list in memory has. So it does still, if the member is rebuilt.
+abbrev pub ListsIn : World → ℕ → Type 0
+ListsIn w k = (s : ℕ) → w.bad k s ≡ true → (w.stored k).listed s ≡ true
+
+abbrev pub ListsStill : ℕ → World → World → Type 0
+ListsStill k w w' = is_target (w.state k) ≡ true → ListsIn w k → ListsIn w' k
+
+-- The model's events of a superblock of a member that is rebuilt let its list be any. By the calls that do them the log stays, and the
+-- superblock that is stored tells of it.
+abbrev pub KeepsLists : Event → World → World → Type 0
+KeepsLists (Event.Record k) w w' = ListsStill k w w'
+KeepsLists (Event.RecordTargetFails k) w w' = ListsStill k w w'
+KeepsLists (Event.Admit k role listed) w w' = ListsStill k w w'
+KeepsLists (Event.Checkpoint k offset listed) w w' = ListsStill k w w'
+KeepsLists e w w' = ⊤
+
 -- By the event the mirror goes from its world with these requests in flight to that with those. A content that the members in
 -- sync held before it, they hold after it, changed as the event says; and who was written of a request in flight has its bytes.
 -- An opening reads what is kept, if it did before. The devices do what they answer still, and one is written at most: what a
@@ -137,6 +154,7 @@ pub record Does (old : MirrorView) (before : ℕ → Option Request) (e : Event)
       → HoldsBetween (geometry_of old.array) b (world_of new after)
   pub written : HoldsInFlight (world_of old before) → HoldsInFlight (world_of new after)
   pub sound : IsConsistent new
+  pub lists : KeepsLists e (world_of old before) (world_of new after)
   pub read : (failed_at : ℕ) (spoiled : ℕ → Bool) → AreReadAsKept old failed_at spoiled
       → AreReadAsKept new (failed_after e (world_of new after) failed_at) (spoiled_after e (world_of old before) spoiled)
 

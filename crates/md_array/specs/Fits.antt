@@ -2,12 +2,18 @@
 use Rattle.std.specs.Prelude.{◌≡◌, ℕ, ◌^◌, ◌≤◌, true, List, length, slice_get, Some}
 use Rattle.md_bitmap.specs.Sound.{IsSound}
 use Rattle.md_members.specs.Areas.{IsPlaced, bitmap_sectors, has_bitmap}
-use Rattle.md_members.specs.Members.{sectors_of}
+use Rattle.md_members.specs.Members.{reads_log, sectors_of}
 use Rattle.md_kept_members.specs.View.{MemberView}
 use Rattle.md_state.specs.View.{Disk, ArrayView}
 use Rattle.md_state.specs.Members.{IsMember}
+use Rattle.md_state.specs.Missing.{is_rebuilt}
+use Rattle.md_array.specs.Worlds.{lies_in}
 
--- a member's parts lie on its device, and its chunks fit the size of the array
+-- Of a member that is rebuilt: where its list in memory has anything, its superblock that is kept tells of its log.
+abbrev pub TellsOfList : MemberView → Type 0
+TellsOfList m = is_rebuilt m.state ≡ true → (sector : ℕ) → lies_in m.bad sector ≡ true → reads_log m.superblock ≡ true
+
+-- A member's parts lie on its device, and its chunks fit the size of the array.
 pub record FitsMember (a : ArrayView) (m : MemberView) (d : Disk) : Type 0 where
   pub long : 16 ≤ sectors_of d.content
   pub short : sectors_of d.content ≤ 2 ^ 54  -- as long as any device
@@ -15,6 +21,7 @@ pub record FitsMember (a : ArrayView) (m : MemberView) (d : Disk) : Type 0 where
   pub placed : IsPlaced (sectors_of d.content) m.superblock (bitmap_sectors m.stored.chunks)
   pub few_chunks : m.stored.chunks ≤ 1048576
   pub sound : IsSound a.shared.size m.header.chunksize
+  pub told : TellsOfList m
 
 -- as many devices as members, and each fits its member
 pub record Fits (disks : List Disk) (a : ArrayView) : Type 0 where

@@ -9,7 +9,7 @@ use Rattle.md_bitmap.specs.Sound.{IsChunkSize, chunk_count}
 use Rattle.md_bitmap.proofs.Accepted.{sound_is}
 use Rattle.md_members.specs.declared.info.MemberInfo.{MemberInfo}
 use Rattle.md_members.specs.Areas.{has_bitmap}
-use Rattle.md_members.specs.Members.{HasBitmap, sectors_of}
+use Rattle.md_members.specs.Members.{HasBitmap, reads_log, sectors_of}
 use Rattle.md_members.specs.Reading.{ReadsBitmap, ReadsHeader, front_of}
 use Rattle.md_kept_members.specs.View.{MemberView}
 use Rattle.md_kept_members.specs.OwnFields.{kept_superblock}
@@ -19,6 +19,9 @@ use Rattle.md_array.specs.Fits.{Fits, FitsMember}
 use Rattle.md_state.proofs.Kept.Geometry.{alike, states_as_many}
 use Rattle.md_array.proofs.Openings.OwnFields.{at_offset, bitmap_same, placed_next}
 use Rattle.md_array.proofs.Openings.Whole.{are_whole}
+use Rattle.md_array.proofs.Openings.ListTold.{told_next}
+use Rattle.md_array.specs.Worlds.{lies_in}
+use Rattle.md_badblocks.specs.declared.run.Run.{Run}
 use Rattle.md_assembly.proofs.Indices.{got_within}
 
 -- the bitmap that was read with a header
@@ -46,8 +49,8 @@ superblock_at infos i v is = by (slice_get infos i) refl where
 -- a member that is kept of what was read on its device
 kept_fits : (a : ArrayView) (m : MemberView) (d : Disk) (offset : ℕ) (info : MemberInfo) → 16 ≤ sectors_of d.content → sectors_of d.content ≤ 2 ^ 54
     → m.superblock ≡ at_offset offset (kept_superblock info) → m.stored.chunks ≡ chunk_count info.superblock.size m.header.chunksize → a.shared.size ≡ info.superblock.size
-    → ReadsWith d.content d.honest info.superblock m.header → FitsMember a m d
-kept_fits a m d offset info long short superblock chunks size read = record {
+    → ReadsWith d.content d.honest info.superblock m.header → ((sector : ℕ) → lies_in m.bad sector ≡ true → reads_log (kept_superblock info) ≡ true) → FitsMember a m d
+kept_fits a m d offset info long short superblock chunks size read told = record {
   long = long;
   short = short;
   has = rw superblock (bitmap_same info.bad info.superblock ∙ read.has);
@@ -57,6 +60,7 @@ kept_fits a m d offset info long short superblock chunks size read = record {
     chunk_size = chunk_size_of d.content d.honest info.superblock m.header read.reads.header;
     few_chunks = rw size read.reads.few_chunks;
   };
+  told = λ _ sector bad. ap reads_log superblock ∙ told sector bad;
 }
 
 pub fits : (disks : List Disk) (a : ArrayView) → IsArrayOf disks a → Fits disks a
@@ -75,5 +79,6 @@ fits disks a of = record {
       let same = alike of.infos of.assembly.freshest k fresh.0 info.0 (whole of.assembly.freshest fresh.0 fresh.1).header m.header whole of.sound fresh.1 info.1 (whole of.assembly.freshest fresh.0 fresh.1).has_header kept.header in
       let within = member.superblock.read.within in
       kept_fits a m d _ info.0 (omega arith) (of.read.short k d at_disk) kept.superblock kept.chunks (ap (λ (v : Superblock). v.size) (sym fresh.2) ∙ same.size)
-      (reads_with d.content d.honest info.0.superblock info.0.header info.0.marks m.header kept.header member.bitmap);
+      (reads_with d.content d.honest info.0.superblock info.0.header info.0.marks m.header kept.header member.bitmap)
+      (λ sector bad. told_next d.content d.honest info.0.superblock info.0.bad member.bad sector (sym (ap (λ (runs : List Run). lies_in runs sector) kept.bad) ∙ bad));
 }

@@ -126,6 +126,7 @@ module _ (before mid : List Disk) (untouched : IsUntouched before mid) (a : Arra
           placed = subst (λ (c : List ℕ). IsPlaced (sectors_of c) m.superblock (bitmap_sectors m.stored.chunks)) (sym (untouched.content k d x was is)) fit.placed;
           few_chunks = fit.few_chunks;
           sound = fit.sound;
+          told = fit.told;
         };
   }
 

@@ -31,6 +31,7 @@ use Rattle.md_model.proofs.Steps.Between.{between_step, in_flight_step}
 use Rattle.md_requests.specs.Pending.{PendingView}
 use Rattle.md_state.specs.Admitting.{admitted}
 use Rattle.md_state.specs.Members.{IsInSync, IsMember}
+use Rattle.md_state.specs.Missing.{is_rebuilt}
 use Rattle.md_state.specs.Requests.{AreInFlight, IsPending, lacks}
 use Rattle.md_state.specs.Rising.{is_absent, risen}
 use Rattle.md_state.specs.View.{ArrayView, Disk, MirrorView, geometry_of}
@@ -40,19 +41,22 @@ use Rattle.md_array.specs.Consistency.{IsConsistent}
 use Rattle.md_array.specs.Events.{Happens, listed_on}
 use Rattle.md_array.specs.ReadAsKept.{AreReadAsKept, IsReadAsKept}
 use Rattle.md_array.specs.Recording.{IsReadable, super_write}
-use Rattle.md_array.specs.Worlds.{AreHonest, block_on, kind_of, lists_of, stored_of, stored_on, super_in, super_of, world_of, world_on}
+use Rattle.md_array.specs.Worlds.{AreHonest, block_on, from_super, is_listed, is_listed_next, is_logged, kind_of, lists_of, stored_of, stored_on, super_in, super_of, world_of, world_on}
 use Rattle.md_array.proofs.General.Honesty.{tried_honest}
 use Rattle.md_array.proofs.General.Indices.{any_at, any_kept, at_map, at_set_same, count_map, counted_kept, got_in_map, got_other}
 use Rattle.md_array.proofs.General.Replaced.{of_set, read_changed, read_kept}
+use Rattle.md_array.proofs.Openings.ListTold.{recovering_log_bit}
 use Rattle.md_array.proofs.Rebuilding.RoleTaken as taken
 use Rattle.md_array.proofs.Rebuilding.RoleTaken.{TakesRole}
 use Rattle.md_array.proofs.Steps.MemberTakenBack.{recovering_bitmap, recovering_placed}
 use Rattle.md_array.proofs.Steps.OneMember.{HasPlacesOf, member_there, stored_there}
-use Rattle.md_array.proofs.Steps.SuperRecorded.{readable_super}
+use Rattle.md_array.proofs.Steps.ListStays.{lists_still}
+use Rattle.md_array.proofs.Steps.SuperRecorded.{listed_written, readable_super}
 use Rattle.md_array.proofs.Steps.TakenBackEvent.{takes_own}
 use Rattle.md_array.proofs.Worlds.InSync.{in_sync_is}
 use Rattle.md_array.proofs.Worlds.Joined.{count_roles, grew, role_joined}
-use Rattle.md_array.proofs.Worlds.PartsApart.{HasParts, parts_of, super_alone}
+use Rattle.md_array.proofs.Worlds.Listed.{next_kept}
+use Rattle.md_array.proofs.Worlds.PartsApart.{HasParts, log_beside_super, parts_of, super_alone}
 use Rattle.md_array.proofs.Worlds.ReadAsKept.{IsSameArray, kept_in, own_written}
 use Rattle.md_array.proofs.Worlds.Risen.{risen_is_consistent, world_risen}
 use Rattle.md_array.proofs.Worlds.Shown.{at_is, at_past, by_member}
@@ -71,6 +75,13 @@ spare_recorded (Recovering role) e = refl
 spare_recorded (Stale role) e = absurd cc
 spare_recorded Spare e = refl
 spare_recorded Faulty e = absurd cc
+
+spare_rebuilt : (s : MemberState) → is_spare s ≡ true → is_rebuilt s ≡ true
+spare_rebuilt (InSync role) e = absurd cc
+spare_rebuilt (Recovering role) e = refl
+spare_rebuilt (Stale role) e = absurd cc
+spare_rebuilt Spare e = refl
+spare_rebuilt Faulty e = absurd cc
 
 spare_there : (s : MemberState) → is_spare s ≡ true → membership.is_spare (kind_of s) ≡ true
 spare_there (InSync role) e = absurd cc
@@ -121,6 +132,7 @@ module _ (k : ℕ) (old new : MirrorView) (c : IsConsistent old) (r : Admits k o
     placed = recovering_placed 0 m.superblock;
     header = refl;
     chunks = refl;
+    told = λ tells rebuilt sector bad. recovering_log_bit 0 m.superblock ∙ tells (spare_rebuilt m.state spare) sector bad;
   }
 
   own : (wanted : ℕ) → takes_role wanted n.state ≡ true → role ≡ wanted
@@ -252,6 +264,14 @@ module _ (k : ℕ) (old new : MirrorView) (c : IsConsistent old) (r : Admits k o
           size = p.size;
           count = p.count;
         }
+
+    -- its log lists what it was to list next
+    still_listed : (sector : ℕ) → is_listed n.superblock e.content sector ≡ is_listed_next m.superblock d.content sector
+    unfolding is_listed_next
+    still_listed sector =
+        listed_written b n e.content readable (block_is d e was is honest) sector
+        ∙ next_kept n.superblock d.content e.content (log_beside_super b n d.content e.content parts_then (outside d e was is)) sector
+        ∙ ap (λ x. x && is_logged d.content (from_super m.superblock.bblog_offset) m.superblock.bblog_size m.superblock.bblog_shift sector) (recovering_log_bit 0 m.superblock)
 
     stored_up : u.stored k ≡ stored_of a m d.content
     stored_up = ap (λ o. stored_on up o (slice_get old.disks k)) up_at ∙ ap (stored_on up (Some (made_due m))) was
@@ -385,5 +405,7 @@ module _ (k : ℕ) (old new : MirrorView) (c : IsConsistent old) (r : Admits k o
         content = λ x y holds becomes. between_step (geometry_of a) (world_of old requests) event (world_of new requests) x y happens becomes holds;
         written = in_flight_step (geometry_of a) (world_of old requests) event (world_of new requests) happens;
         sound = admitted_is_consistent;
+        lists = lists_still k old new c m n r.may.at admitted_at d.0 e.0 d.1 e.1 requests
+            (ap (λ (x : ArrayView). x.chunks.size) r.array) refl refl (λ sector _ next. still_listed d.0 e.0 d.1 e.1 (honest k d.0 d.1) requests sector ∙ next);
         read = admitted_read honest;
       }

@@ -1,5 +1,5 @@
 -- A chunk is listed in memory: the mirror stays consistent, and that is the model's event.
-use Rattle.std.proofs.Common.{◌≡◌, ℕ, ◌+◌, ◌*◌, ◌/◌, ◌^◌, ◌<◌, ◌≤◌, Result, Ok, Err, ◌⊎◌, inl, inr, Bool, true, false, ◌&&◌, ◌||◌, nat_lt, eqb, List, length, set, slice_get, Option, Some, refl, sym, ap, ◌∙◌, subst, arith, eq-eqb, eqb-true}
+use Rattle.std.proofs.Common.{◌≡◌, ℕ, ◌+◌, ◌*◌, ◌/◌, ◌^◌, ◌<◌, ◌≤◌, Result, Ok, Err, ◌⊎◌, inl, inr, Bool, true, false, true≢false, ◌&&◌, ◌||◌, nat_lt, eqb, List, length, set, slice_get, Option, Some, refl, sym, ap, ◌∙◌, subst, arith, eq-eqb, eqb-true}
 use Rattle.std.proofs.lemmas.Option.{same_Some, slice_get_within}
 use Rattle.md_assembly.specs.States.{has_recovery_offset, is_in_sync}
 use Rattle.std.specs.Prelude.{MatchResult}
@@ -31,6 +31,7 @@ use Rattle.md_array.specs.Worlds.{AreHonest, lies_in, lists_of, stored_of, world
 use Rattle.md_array.proofs.General.Replaced.{of_set}
 use Rattle.md_array.proofs.Rebuilding.HeldContent.{chunk_unique, its_chunk}
 use Rattle.md_array.proofs.Rebuilding.OffsetMoved.{nothing, untried}
+use Rattle.md_array.proofs.Steps.DevicesBack.{unrebuilt}
 use Rattle.md_array.proofs.Steps.OneMember.{ChangesOwn, member_there, own_in_flight, own_is_consistent, own_is_pending, own_world, stored_there}
 use Rattle.md_array.proofs.Worlds.Bad.{bad_from_test, same_test, test_from_bad}
 use Rattle.md_array.proofs.Steps.SpareAdded.{told}
@@ -50,7 +51,7 @@ or_second : (a b : Bool) → b ≡ true → (a || b) ≡ true
 or_second true b is = refl
 or_second false b is = is
 
-module _ (k chunk : ℕ) (old new : MirrorView) (c : IsConsistent old) (r : NotesChunk k chunk old new) where
+module _ (k chunk : ℕ) (old new : MirrorView) (c : IsConsistent old) (r : NotesChunk k chunk old new) (in_sync : is_in_sync r.notes.may.member.state ≡ true) where
   abbrev a : ArrayView
   a = old.array
 
@@ -66,7 +67,18 @@ module _ (k chunk : ℕ) (old new : MirrorView) (c : IsConsistent old) (r : Note
   changes : ChangesOwn k m n nothing old new
   changes = record {
     at = r.notes.may.at;
-    near = record { places = record { number = refl; size = refl; has = refl; placed = λ _ _ p. p; header = refl; chunks = refl }; state = refl };
+    near = record {
+      places = record {
+        number = refl;
+        size = refl;
+        has = refl;
+        placed = λ _ _ p. p;
+        header = refl;
+        chunks = refl;
+        told = λ tells rebuilt. absurd (true≢false (sym rebuilt ∙ unrebuilt m.state in_sync));
+      };
+      state = refl;
+    };
     disks = subst (λ (xs : List Disk). IsTried k nothing old.disks xs) (sym r.disks) (untried k old.disks);
     array = r.notes.array;
   }
@@ -105,7 +117,7 @@ module _ (k chunk : ℕ) (old new : MirrorView) (c : IsConsistent old) (r : Note
       (λ apart is. let had = are j e x there is in record { super = had.super; header = had.header }))
 
   -- ---- the event
-  module _ (in_sync : is_in_sync m.state ≡ true) (resynced : a.resynced ≡ true) (whole : IsWhole k chunk old) (requests : ℕ → Option Request) where
+  module _ (resynced : a.resynced ≡ true) (whole : IsWhole k chunk old) (requests : ℕ → Option Request) where
     abbrev w : World
     w = world_of old requests
 
@@ -162,10 +174,10 @@ module _ (k chunk : ℕ) (old new : MirrorView) (c : IsConsistent old) (r : Note
     step : Step (geometry_of a) w (Event.NoteBad k chunk) (world_of new requests)
     step = (r.notes.may.running, (record { in_sync = in_sync_there old.disks a requests k m (record { member = r.notes.may.at; in_sync = in_sync }); resynced = resynced }, world_noted))
 
-  pub note_happens : is_in_sync m.state ≡ true → a.resynced ≡ true → IsWhole k chunk old → Happens old (Event.NoteBad k chunk) new
-  note_happens in_sync resynced whole honest requests in_flight =
+  pub note_happens : a.resynced ≡ true → IsWhole k chunk old → Happens old (Event.NoteBad k chunk) new
+  note_happens resynced whole honest requests in_flight =
       let event : Event = Event.NoteBad k chunk in
-      let happens = step in_sync resynced whole requests in
+      let happens = step resynced whole requests in
       record {
         honest = subst AreHonest (sym r.disks) honest;
         writes = r.disks;
@@ -175,6 +187,7 @@ module _ (k chunk : ℕ) (old new : MirrorView) (c : IsConsistent old) (r : Note
         content = λ x y holds becomes. between_step (geometry_of a) (world_of old requests) event (world_of new requests) x y happens becomes holds;
         written = in_flight_step (geometry_of a) (world_of old requests) event (world_of new requests) happens;
         sound = noted_is_consistent;
+        lists = tt;
         read = noted_read;
       }
 
@@ -190,23 +203,24 @@ is_whole k chunk v c d there sectors long limit m at s inside =
     (subst (λ (n : ℕ). s < n) (sym has.size) inside.within) has.placed.data_holds (subst (λ (n : ℕ). m.superblock.data_offset + m.superblock.data_size ≤ n) (sym same) has.placed.data_within) limit
 
 -- ---- what it answers
-module _ (k chunk : ℕ) (old new : MirrorView) (c : IsConsistent old) (disks : new.disks ≡ old.disks) where
+module _ (k chunk : ℕ) (old new : MirrorView) (c : IsConsistent old) (disks : new.disks ≡ old.disks)
+    (in_sync : (m : MemberView) → IsMember old.array k m → is_in_sync m.state ≡ true) where
   pub note_gives : {T : Type 0} (r : Result T NoteFault) → MatchResult r (λ _. NotesBad k chunk old.array new.array) (RefusesNote k chunk old.array new.array)
       → MatchResult r (λ _. NotesChunk k chunk old new) (RefusesChunk k chunk old new)
   note_gives (Ok x) notes = record { disks = disks; notes = notes }
   note_gives (Err f) refuses = record { unchanged = λ i. record { disks = disks i; array = refuses.unchanged i }; reason = refuses.why }
 
   pub note_sound : {T : Type 0} (r : Result T NoteFault) → MatchResult r (λ _. NotesBad k chunk old.array new.array) (RefusesNote k chunk old.array new.array) → IsConsistent new
-  note_sound (Ok x) notes = noted_is_consistent k chunk old new c (record { disks = disks; notes = notes })
+  note_sound (Ok x) notes = noted_is_consistent k chunk old new c (record { disks = disks; notes = notes }) (in_sync notes.may.member notes.may.at)
   note_sound (Err f) refuses = subst IsConsistent (λ i. record { disks = sym disks i; array = sym refuses.unchanged i }) c
 
   pub note_pending : {T : Type 0} (r : Result T NoteFault) → MatchResult r (λ _. NotesBad k chunk old.array new.array) (RefusesNote k chunk old.array new.array)
       → (p : PendingView) → IsPending old.array p → IsPending new.array p
-  note_pending (Ok x) notes p = noted_is_pending k chunk old new c (record { disks = disks; notes = notes }) p
+  note_pending (Ok x) notes p = noted_is_pending k chunk old new c (record { disks = disks; notes = notes }) (in_sync notes.may.member notes.may.at) p
   note_pending (Err f) refuses p = subst (λ (a : ArrayView). IsPending a p) (sym refuses.unchanged)
 
-  pub note_event : ((m : MemberView) → IsMember old.array k m → is_in_sync m.state ≡ true) → old.array.resynced ≡ true → IsWhole k chunk old
+  pub note_event : old.array.resynced ≡ true → IsWhole k chunk old
       → {T : Type 0} (r : Result T NoteFault) → MatchResult r (λ _. NotesBad k chunk old.array new.array) (RefusesNote k chunk old.array new.array) → NoteHappens k chunk old new r
-  note_event in_sync resynced whole (Ok x) notes =
+  note_event resynced whole (Ok x) notes =
       note_happens k chunk old new c (record { disks = disks; notes = notes }) (in_sync notes.may.member notes.may.at) resynced whole
-  note_event in_sync resynced whole (Err f) refuses = tt
+  note_event resynced whole (Err f) refuses = tt

@@ -30,7 +30,7 @@ use Rattle.md_state.specs.View.{ArrayView, Disk, MirrorView, geometry_of}
 use Rattle.md_array.specs.Checkpoints.{Checkpoints, MayCheckpoint, MovesOffset}
 use Rattle.md_array.specs.Consistency.{IsConsistent}
 use Rattle.md_array.specs.Enrolling.{HasContent}
-use Rattle.md_array.specs.Events.{Happens, listed_on}
+use Rattle.md_array.specs.Events.{Happens, ListsStill, listed_on}
 use Rattle.md_array.specs.Filling.{MayRebuild}
 use Rattle.md_array.specs.Recording.{IsReadable, Records, super_write}
 use Rattle.md_super.specs.Merge.{merged}
@@ -236,5 +236,6 @@ module _ (k : ℕ) (copied : Bitmap) (had : ℕ) (old mid new : MirrorView) (c :
         content = λ x y holds becomes. between_step (geometry_of was) w event (world_of new requests) x y step becomes holds;
         written = in_flight_step (geometry_of was) w event (world_of new requests) step;
         sound = sound;
+        lists = subst (λ (x : World). ListsStill k x (world_of new requests)) between did.lists;
         read = λ failed_at spoiled are. did.read failed_at spoiled (moved_read k offset had old mid c moves failed_at spoiled are);
       }

@@ -38,6 +38,7 @@ fits_as_long a m d e long fit =
       placed = subst (λ (x : ℕ). IsPlaced x m.superblock (bitmap_sectors m.stored.chunks)) sectors fit.placed;
       few_chunks = fit.few_chunks;
       sound = fit.sound;
+      told = fit.told;
     }
 
 module _ (k : ℕ) (copied orphans : Bitmap) (old new : MirrorView) (c : IsConsistent old) (r : FailsToEnrol k copied orphans old new) where

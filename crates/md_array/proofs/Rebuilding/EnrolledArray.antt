@@ -1,5 +1,5 @@
 -- An array with a member that came into sync: what holds of it in memory, and of the member's device.
-use Rattle.std.proofs.Common.{◌≡◌, ◌≢◌, ℕ, ◌+◌, ◌*◌, ◌<◌, ◌≤◌, ◌↔◌, inl, inr, Bool, true, List, length, slice_get, Some, refl, sym, ap, ◌∙◌, subst, arith, eq-eqb, eqb-true, map}
+use Rattle.std.proofs.Common.{◌≡◌, ◌≢◌, ℕ, ◌+◌, ◌*◌, ◌<◌, ◌≤◌, ◌↔◌, inl, inr, Bool, true, true≢false, List, length, slice_get, Some, refl, sym, ap, ◌∙◌, subst, arith, eq-eqb, eqb-true, map}
 use Rattle.md_array.proofs.Steps.OneMember.{HasPlacesOf}
 use Rattle.std.proofs.lemmas.Bool.{cases_lt}
 use Rattle.std.proofs.lemmas.Bool.Decides.{nat_tests}
@@ -30,6 +30,8 @@ use Rattle.md_state.specs.Members.{IsMember}
 use Rattle.md_state.specs.View.{ArrayView, Disk, MirrorView}
 use Rattle.md_array.specs.Consistency.{HasPlaces, HasSuper, IsConsistent}
 use Rattle.md_array.specs.Enrolling.{IsStorable}
+use Rattle.md_state.specs.Missing.{is_rebuilt}
+use Rattle.md_state.specs.Missing.{is_rebuilt}
 use Rattle.md_array.specs.Fits.{Fits}
 use Rattle.md_array.specs.Recording.{IsReadable}
 use Rattle.md_array.specs.Worlds.{from_super, is_listed_next, super_in, super_of, is_listed}
@@ -104,6 +106,7 @@ module _ (disks now : List Disk) (a : ArrayView) (c : IsConsistent (record { dis
     placed = λ sectors width p. subst (λ (o : Superblock). IsPlaced sectors o width) (sym superblock) (placed_in_sync m.superblock list sectors width p);
     header = header;
     chunks = chunks ∙ sym (c.chunks.member_count k m is);
+    told = λ tells rebuilt. absurd (true≢false (sym rebuilt ∙ ap is_rebuilt state));
   }
 
   own : (wanted : ℕ) → takes_role wanted n.state ≡ true → role ≡ wanted

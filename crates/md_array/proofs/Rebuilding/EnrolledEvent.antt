@@ -355,6 +355,7 @@ module _ (k : ℕ) (copied orphans : Bitmap) (old new : MirrorView) (c : IsConsi
           content = λ x y holds becomes. between_step (geometry_of array) (world_of mid requests) ev (world_of new requests) x y s becomes holds;
           written = in_flight_step (geometry_of array) (world_of mid requests) ev (world_of new requests) s;
           sound = sound;
+          lists = tt;
           read = enrolled_read;
         }
 

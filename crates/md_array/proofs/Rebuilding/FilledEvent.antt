@@ -221,6 +221,6 @@ fill_happens k old new c f honest requests in_flight =
     only_does k f.may.member old new c f.may.at f.may.rebuilt f.array (only k old new c f honest) requests (Event.Fill k) honest
     (old.array, f.may.member, f.disks) in_flight
     (fill_step k old new c f honest requests in_flight d.0 e.0 d.1 e.1)
-    (λ _. refl) (λ spoiled j apart. refl)
+    tt (λ _. refl) (λ spoiled j apart. refl)
     (λ failed_at spoiled b x was is. read_back old old.disks new.disks (fills_back k old new c f honest) f.may.member b x (back_at k old new c f honest k b x f.may.member was is f.may.at)
     (parts_of old c k b f.may.member was f.may.at) failed_at (spoiled k))

@@ -62,6 +62,7 @@ use Rattle.md_array.proofs.Worlds.InSync.{in_sync_there}
 use Rattle.md_array.proofs.Worlds.Listed.{listed_alike}
 use Rattle.md_array.proofs.Worlds.Outside.{sector_at_is}
 use Rattle.md_array.proofs.Worlds.PartsApart.{HasParts, block_beside_log, header_beside_log, log_alone, parts_of}
+use Rattle.md_array.proofs.Openings.ListTold.{told_logged}
 use Rattle.md_array.proofs.Worlds.ReadAsKept.{super_was}
 use Rattle.md_array.proofs.Worlds.States.{in_sync_recorded}
 
@@ -85,7 +86,7 @@ module _ (bad : List Run) (v : Superblock) where
 
 near_logged : (m : MemberView) → IsNear m (logged m)
 near_logged m = record {
-  places = record { number = refl; size = refl; has = own_fields.bitmap_same m.bad m.superblock; placed = placed_then m.bad m.superblock; header = refl; chunks = refl };
+  places = record { number = refl; size = refl; has = own_fields.bitmap_same m.bad m.superblock; placed = placed_then m.bad m.superblock; header = refl; chunks = refl; told = λ tells rebuilt sector bad. told_logged m.bad m.superblock sector bad (tells rebuilt sector bad) };
   state = refl;
 }
 
@@ -317,6 +318,7 @@ module _ (k : ℕ) (old new : MirrorView) (c : IsConsistent old) (r : StoresLog 
         content = λ x y holds becomes. between_step (geometry_of a) (world_of old requests) event (world_of new requests) x y happens becomes holds;
         written = in_flight_step (geometry_of a) (world_of old requests) event (world_of new requests) happens;
         sound = logged_is_consistent;
+        lists = tt;
         read = read_all unshifted;
       }
 
@@ -374,7 +376,7 @@ module _ (k : ℕ) (old new : MirrorView) (c : IsConsistent old) (f : FailsToSto
       let t = there_is old k x u new.disks c x_at f.fails.disks.tried in
       does_failing k u old new c f.fails x x_at requests (Event.StoreLogFails k) honest (u, f.fails.disks) in_flight
       (f.running, (left k u old new c f.fails x x_at requests, in_sync_there old.disks v requests k x f.in_sync, left_by_log requests t, member_fails k u old new c f.fails x x_at requests (in_sync_recorded x.state f.in_sync.in_sync)))
-      (λ _. refl) (λ _. refl)
+      tt (λ _. refl) (λ _. refl)
       (λ d e was is. own_beside v x d.content e.content (block_beside_log v x d.content e.content (parts_of old c k d x was x_at) has_log (beside_log d e was is)) x.superblock refl refl refl refl refl)
 
 -- ---- all of the refusals

@@ -71,7 +71,7 @@ module _ (offset : ℕ) (v : Superblock) where
 
 pub near_at_offset : (offset : ℕ) (m : MemberView) → IsNear m (with_offset offset m)
 near_at_offset offset m = record {
-  places = record { number = refl; size = refl; has = refl; placed = placed_at_offset offset m.superblock; header = refl; chunks = refl };
+  places = record { number = refl; size = refl; has = refl; placed = placed_at_offset offset m.superblock; header = refl; chunks = refl; told = λ tells. tells };
   state = refl;
 }
 

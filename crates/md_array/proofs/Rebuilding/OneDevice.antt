@@ -20,7 +20,7 @@ use Rattle.md_state.specs.Requests.{AreInFlight}
 use Rattle.md_state.specs.View.{ArrayView, Disk, MirrorView, geometry_of}
 use Rattle.md_writes.specs.Writes.{Write}
 use Rattle.md_array.specs.Consistency.{IsConsistent}
-use Rattle.md_array.specs.Events.{Does, IsChangedAlone, WritesOnce}
+use Rattle.md_array.specs.Events.{Does, IsChangedAlone, KeepsLists, WritesOnce}
 use Rattle.md_array.specs.ReadAsKept.{AreReadAsKept, IsReadAsKept}
 use Rattle.md_array.specs.Worlds.{AreHonest, stored_of, stored_on, world_of, world_on}
 use Rattle.md_array.proofs.Steps.DevicesBack.{same_super, unrebuilt}
@@ -148,13 +148,13 @@ module _ (k : ℕ) (m : MemberView) (old new : MirrorView) (c : IsConsistent old
     only_world = ap (λ (x : ArrayView). world_on new.disks x requests) array ∙ (λ i. record (world_on old.disks a requests) { stored = λ j. stored_at j i })
 
     pub only_does : (e : Event) → AreHonest old.disks → WritesOnce e old.disks new.disks → AreInFlight a requests
-        → Step (geometry_of a) (world_of old requests) e (world_of new requests)
+        → Step (geometry_of a) (world_of old requests) e (world_of new requests) → KeepsLists e (world_of old requests) (world_of new requests)
         → ((failed_at : ℕ) → failed_after e (world_of new requests) failed_at ≡ failed_at)
         → ((spoiled : ℕ → Bool) → IsTheSameBut k spoiled (spoiled_after e (world_of old requests) spoiled))
         → ((failed_at : ℕ) (spoiled : ℕ → Bool) → AtDevice k old.disks new.disks
         (λ d n. IsReadAsKept a m failed_at (spoiled k) d.content → IsReadAsKept a m failed_at (spoiled_after e (world_of old requests) spoiled k) n.content))
         → Does old requests e new requests
-    only_does e honest writes in_flight step after others keeps = record {
+    only_does e honest writes in_flight step lists after others keeps = record {
       honest = only_honest honest;
       writes = writes;
       in_flight = subst (λ (x : ArrayView). AreInFlight x requests) (sym array) in_flight;
@@ -163,6 +163,7 @@ module _ (k : ℕ) (m : MemberView) (old new : MirrorView) (c : IsConsistent old
       content = λ x y holds becomes. between_step (geometry_of a) (world_of old requests) e (world_of new requests) x y step becomes holds;
       written = in_flight_step (geometry_of a) (world_of old requests) e (world_of new requests) step;
       sound = only_is_consistent;
+      lists = lists;
       read = λ failed_at spoiled are.
           let then = spoiled_after e (world_of old requests) spoiled in
           subst (λ n. AreReadAsKept new n then) (sym (after failed_at)) (only_read failed_at spoiled then (others spoiled) (keeps failed_at spoiled) are);

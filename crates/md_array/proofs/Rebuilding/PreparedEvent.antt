@@ -162,5 +162,5 @@ prepare_happens k old new c f honest requests in_flight =
     only_does k f.may.member old new c f.may.at f.may.rebuilt f.array (only k old new c f honest) requests (Event.Prepare k) honest
     (f.may.member, f.disks) in_flight
     (prepare_step k old new c f honest d.0 e.0 d.1 e.1 requests in_flight)
-    (λ _. refl) (λ spoiled j apart. refl)
+    tt (λ _. refl) (λ spoiled j apart. refl)
     (λ failed_at spoiled b x was is. read_prepared k old new c f honest b x was is failed_at (spoiled k))

@@ -133,5 +133,5 @@ module _ (disks now : List Disk) (a : ArrayView) (c : IsConsistent (record { dis
         subst (λ (z : MemberView). FitsMember b z e) (sym x_is) (fits_places a b m n d.0 e refl places (long d.0 e d.1 at_now) (c.fits.each k d.0 m d.1 is)))
         (λ apart here.
         let fit = u.fits.each j e x (sym (others j apart) ∙ found) here in
-        record { long = fit.long; short = fit.short; has = fit.has; placed = fit.placed; few_chunks = fit.few_chunks; sound = fit.sound });
+        record { long = fit.long; short = fit.short; has = fit.has; placed = fit.placed; few_chunks = fit.few_chunks; sound = fit.sound; told = fit.told });
   }

@@ -81,5 +81,5 @@ spoil_happens k old new c f honest requests in_flight =
     let t = there_is old k f.member f.write new.disks c f.at f.disks.tried in
     only_does k f.member old new c f.at f.rebuilt f.array (only k old new c f) requests (Event.SpoilTarget k) honest (f.write, f.disks) in_flight
     (spoil_step k old new c f t.old t.new t.was t.is requests)
-    (λ _. refl) (λ spoiled. put-miss k true spoiled)
+    tt (λ _. refl) (λ spoiled. put-miss k true spoiled)
     (λ failed_at spoiled d e was is. read_spoiled k old new c f d e was is failed_at (spoiled k) _ (put-hit k true spoiled))

@@ -15,7 +15,7 @@ use Rattle.md_model.proofs.Cases.{none_some}
 use Rattle.md_state.specs.View.{ArrayView, Disk, MirrorView, geometry_of}
 use Rattle.md_writes.specs.Writes.{Write}
 use Rattle.md_array.specs.Consistency.{IsConsistent}
-use Rattle.md_array.specs.Events.{IsOldNewOrNone}
+use Rattle.md_array.specs.Events.{IsOldNewOrNone, ListsStill}
 use Rattle.md_array.specs.ReadAsKept.{HasOwnSuper, IsReadAsKept}
 use Rattle.md_array.specs.Recording.{super_write}
 use Rattle.md_array.specs.RecordingTarget.{FailsOnTarget, TargetFails}
@@ -24,9 +24,11 @@ use Rattle.md_array.proofs.Rebuilding.FilledEvent.{rebuilt_target}
 use Rattle.md_array.proofs.Rebuilding.OneDevice.{IsOnlyAt, only_does, only_left, only_world, tried_only}
 use Rattle.md_array.proofs.Steps.DevicesBack.{unrebuilt}
 use Rattle.md_array.proofs.Steps.OneMember.{member_there, stored_there}
-use Rattle.md_array.proofs.Steps.SuperRecorded.{readable_super, super_is_for}
+use Rattle.md_array.proofs.Steps.ListStays.{lists_still}
+use Rattle.md_array.proofs.Steps.SuperRecorded.{listed_written, readable_super, super_is_for}
 use Rattle.md_array.proofs.Worlds.Failed.{there_is}
 use Rattle.md_array.proofs.Worlds.InSync.{in_sync_of}
+use Rattle.md_array.proofs.Worlds.Listed.{IsLogKept, listed_kept, listed_unread, next_kept}
 use Rattle.md_array.proofs.Worlds.PartsApart.{HasParts, header_beside_super, log_beside_super, parts_of, super_alone}
 use Rattle.md_array.proofs.Worlds.ReadAsKept.{own_stays, own_written}
 use Rattle.md_array.proofs.Worlds.Supers.{super_shown}
@@ -95,6 +97,21 @@ module _ (k : ℕ) (old new : MirrorView) (c : IsConsistent old) (f : FailsOnTar
             ];
           }
 
+      -- its log lists what it did, and is told of as before
+      target_lists : ListsStill k (world_of old requests) (world_of new requests)
+      target_lists =
+          let log : IsLogKept m.superblock d.content e.content = log_beside_super a m d.content e.content parts outside in
+          lists_still k old new c m m f.leaves.may.at (ap (λ (x : ArrayView). slice_get x.members k) f.leaves.array ∙ f.leaves.may.at) d e was is requests
+          (ap (λ (x : ArrayView). x.chunks.size) f.leaves.array) refl refl
+          (λ sector now next. elim leaves [
+            | inl same ↦ listed_kept m.superblock d.content e.content log sector same ∙ now
+            | inr other ↦
+                elim other [
+                  | inl written ↦ listed_written a m e.content f.leaves.may.readable written sector ∙ next_kept m.superblock d.content e.content log sector ∙ next
+                  | inr none ↦ listed_unread m.superblock e.content none sector ∙ next_kept m.superblock d.content e.content log sector ∙ next
+                ]
+          ])
+
       target_step : Step (geometry_of a) (world_of old requests) (Event.RecordTargetFails k) (world_of new requests)
       target_step =
           let state_is : (world_of old requests).state k ≡ kind_of m.state = member_there a k m states.State.Faulty (λ x. kind_of x.state) f.leaves.may.at in (
@@ -117,5 +134,6 @@ module _ (k : ℕ) (old new : MirrorView) (c : IsConsistent old) (f : FailsOnTar
       λ d e was is. subst (λ (x : MemberView). IsOldNewOrNone (super_write a x).bytes d e) same (leaves d e was is) in
       only_does k m old new c f.leaves.may.at f.rebuilt f.leaves.array only requests (Event.RecordTargetFails k) honest (w, f.leaves.disks) in_flight
       (target_step t.old t.new t.was t.is (whole t.old t.new t.was t.is) requests)
+      (target_lists t.old t.new t.was t.is (whole t.old t.new t.was t.is) requests)
       (λ _. refl) (λ spoiled j apart. refl)
       (λ failed_at spoiled d e was is. read_left d e was is (whole d e was is) failed_at (spoiled k))

@@ -22,6 +22,7 @@ use Rattle.md_super.specs.Merge.{merged}
 use Rattle.md_writes.specs.Writes.{Write}
 use Rattle.md_array.specs.Admitting.{FailsAsTarget, FailsOnTargetAlone, IsOldOrNone}
 use Rattle.md_array.specs.Consistency.{IsConsistent}
+use Rattle.md_array.specs.Events.{ListsStill}
 use Rattle.md_array.specs.ReadAsKept.{HasOwnSuper, IsReadAsKept}
 use Rattle.md_array.specs.Recording.{IsReadable, own_write}
 use Rattle.md_array.specs.Worlds.{block_on, kind_of, stored_of, super_in, super_of, world_of}
@@ -29,9 +30,11 @@ use Rattle.md_array.proofs.Rebuilding.FilledEvent.{rebuilt_target}
 use Rattle.md_array.proofs.Rebuilding.OneDevice.{IsOnlyAt, only_does, only_is_consistent, only_left, only_world, tried_only}
 use Rattle.md_array.proofs.Steps.DevicesBack.{unrebuilt}
 use Rattle.md_array.proofs.Steps.OneMember.{member_there, stored_there}
+use Rattle.md_array.proofs.Steps.ListStays.{lists_still}
 use Rattle.md_array.proofs.Steps.TargetUnrecorded.{rebuilt_recorded}
 use Rattle.md_array.proofs.Worlds.Failed.{there_is}
 use Rattle.md_array.proofs.Worlds.InSync.{in_sync_of}
+use Rattle.md_array.proofs.Worlds.Listed.{IsLogKept, listed_kept, listed_unread, next_kept}
 use Rattle.md_array.proofs.Worlds.PartsApart.{HasParts, header_beside_super, log_beside_super, parts_of, super_alone}
 use Rattle.md_array.proofs.Worlds.ReadAsKept.{own_stays}
 use Rattle.md_array.proofs.Worlds.Supers.{super_shown}
@@ -97,6 +100,17 @@ module _ (k : ℕ) (old new : MirrorView) (c : IsConsistent old) (running : old.
             ];
           }
 
+      -- its log lists what it did, and is told of as before
+      left_lists : ListsStill k (world_of old requests) (world_of new requests)
+      left_lists =
+          let log : IsLogKept m.superblock d.content e.content = log_beside_super a m d.content e.content parts outside in
+          lists_still k old new c m m at (ap (λ (x : ArrayView). slice_get x.members k) array ∙ at) d e was is requests
+          (ap (λ (x : ArrayView). x.chunks.size) array) refl refl
+          (λ sector now next. elim leaves [
+            | inl same ↦ listed_kept m.superblock d.content e.content log sector same ∙ now
+            | inr none ↦ listed_unread m.superblock e.content none sector ∙ next_kept m.superblock d.content e.content log sector ∙ next
+          ])
+
       left_step : Step (geometry_of a) (world_of old requests) (Event.RecordTargetFails k) (world_of new requests)
       left_step =
           let state_is : (world_of old requests).state k ≡ kind_of m.state = member_there a k m states.State.Faulty (λ x. kind_of x.state) at in
@@ -107,6 +121,7 @@ module _ (k : ℕ) (old new : MirrorView) (c : IsConsistent old) (running : old.
       let t = there_is old k m w new.disks c at disks.tried in
       only_does k m old new c at rebuilt array only requests (Event.RecordTargetFails k) honest (w, disks) in_flight
       (left_step t.old t.new t.was t.is (leaves t.old t.new t.was t.is) requests)
+      (left_lists t.old t.new t.was t.is (leaves t.old t.new t.was t.is) requests)
       (λ _. refl) (λ spoiled j apart. refl)
       (λ failed_at spoiled d e was is. read_left d e was is (leaves d e was is) failed_at (spoiled k))
 

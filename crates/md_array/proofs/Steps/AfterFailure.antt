@@ -85,10 +85,10 @@ module _ (a : ArrayView) (k : ℕ) (m : MemberView) (at : IsMember a k m) where
   }
 
   fits_faulty : (d : Disk) → FitsMember a m d → FitsMember b (made_faulty m) d
-  fits_faulty d fit = record { long = fit.long; short = fit.short; has = fit.has; placed = fit.placed; few_chunks = fit.few_chunks; sound = fit.sound }
+  fits_faulty d fit = record { long = fit.long; short = fit.short; has = fit.has; placed = fit.placed; few_chunks = fit.few_chunks; sound = fit.sound; told = λ rebuilt. absurd cc }
 
   fits_other : (x : MemberView) (d : Disk) → FitsMember a x d → FitsMember b x d
-  fits_other x d fit = record { long = fit.long; short = fit.short; has = fit.has; placed = fit.placed; few_chunks = fit.few_chunks; sound = fit.sound }
+  fits_other x d fit = record { long = fit.long; short = fit.short; has = fit.has; placed = fit.placed; few_chunks = fit.few_chunks; sound = fit.sound; told = fit.told }
 
   fits_without : (disks : List Disk) → Fits disks a → Fits disks b
   fits_without disks f = record {
@@ -131,7 +131,7 @@ halted_is_consistent k w old new c halts =
     let h = c.chunks in
     subst (λ (a : ArrayView). IsConsistent (record { disks = new.disks; array = a })) (sym halts.array.array)
     (record {
-      fits = record { as_many = fits.as_many; each = λ j d m at is. let fit = fits.each j d m at is in record { long = fit.long; short = fit.short; has = fit.has; placed = fit.placed; few_chunks = fit.few_chunks; sound = fit.sound } };
+      fits = record { as_many = fits.as_many; each = λ j d m at is. let fit = fits.each j d m at is in record { long = fit.long; short = fit.short; has = fit.has; placed = fit.placed; few_chunks = fit.few_chunks; sound = fit.sound; told = fit.told } };
       roles = record { few = r.few; numbers = r.numbers; shared = r.shared; below = r.below; one_each = r.one_each; serving = λ running. absurd (true≢false running) };
       chunks = record { size = h.size; count = h.count; wide = h.wide; none_past = h.none_past; member_size = h.member_size; member_width = h.member_width; member_count = h.member_count };
       inside = c.inside;

@@ -249,6 +249,7 @@ module _ (sector : ℕ) (bytes : List ℕ) (old new : MirrorView) (c : IsConsist
       content = λ before next holds becomes. between_step (geometry_of a) (world_of old others) (Event.Begin number (request_of begun_request)) (world_of new (among begun_request others)) before next (step others listed) becomes holds;
       written = in_flight_step (geometry_of a) (world_of old others) (Event.Begin number (request_of begun_request)) (world_of new (among begun_request others)) (step others listed);
       sound = begun_is_consistent;
+      lists = tt;
       read = λ failed_at spoiled. unwritten_read old new failed_at spoiled begins.disks same_begun
           (λ j m is. (counted_like a full (has_to_rise a)).1 j m (sym (ap (λ (x : ArrayView). slice_get x.members j) begins.array) ∙ is));
     })

@@ -109,6 +109,7 @@ module _ (chunk : ℕ) (old new : MirrorView) (c : IsConsistent old) (clears : C
     content = λ before next holds becomes. between_step (geometry_of a) (world_of old requests) (Event.ClearIdle chunk) (world_of new requests) before next (step requests listed) becomes holds;
     written = in_flight_step (geometry_of a) (world_of old requests) (Event.ClearIdle chunk) (world_of new requests) (step requests listed);
     sound = cleared_is_consistent;
+    lists = tt;
     read = λ failed_at spoiled. unwritten_read old new failed_at spoiled clears.disks
         (same_array a new.array (ap (λ (x : ArrayView). x.shared) clears.array) (ap (λ (x : ArrayView). x.chunks) clears.array))
         (λ j m is. (m, sym (ap (λ (x : ArrayView). slice_get x.members j) clears.array) ∙ is, same_member m));

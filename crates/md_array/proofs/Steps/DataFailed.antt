@@ -64,7 +64,7 @@ module _ (k : ℕ) (old new : MirrorView) (p q : PendingView) (c : IsConsistent 
       subst (λ (x : PendingView). Does old requests e new (among x others)) (sym f.pending)
       (does_failing k w old new c f.fails m at requests e honest (w, f.fails.disks) (among_in_flight a p pending others in_flight)
       (f.may.intent.running, (left k w old new c f.fails m at requests, request_of p, may_write k old p c pending m f.may others, left_by_data others t, fails))
-      (λ _. refl) (λ _. refl)
+      tt (λ _. refl) (λ _. refl)
       (λ d e was is.
       let parts = parts_of old c k d m was at in
       let inside = inside_of old p c pending in

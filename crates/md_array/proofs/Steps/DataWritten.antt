@@ -244,6 +244,7 @@ module _ (k : ℕ) (old new : MirrorView) (p q : PendingView) (c : IsConsistent 
         content = λ x y holds becomes. between_step (geometry_of a) (world_of old (among p others)) (Event.WriteMember p.ticket.number k) (world_of new (among q others)) x y happens becomes holds;
         written = in_flight_step (geometry_of a) (world_of old (among p others)) (Event.WriteMember p.ticket.number k) (world_of new (among q others)) happens;
         sound = written_is_consistent;
+        lists = tt;
         read = λ failed_at spoiled. changed_read k m m (data_write m p) old new failed_at spoiled spoiled changes (λ j apart. refl)
             (λ d' e' was is. read_beside_data a m d'.content e'.content (parts d' was) p.sector n inside (outside d' e' was is) failed_at (spoiled k));
       }

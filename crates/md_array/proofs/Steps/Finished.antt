@@ -45,7 +45,7 @@ with_requests : (v : MirrorView) (list : InflightList Extent) → AreInside (rec
 with_requests v list inside c = record {
   fits = record {
     as_many = c.fits.as_many;
-    each = λ k d m at_disk at_member. let f = c.fits.each k d m at_disk at_member in record { long = f.long; short = f.short; has = f.has; placed = f.placed; few_chunks = f.few_chunks; sound = f.sound };
+    each = λ k d m at_disk at_member. let f = c.fits.each k d m at_disk at_member in record { long = f.long; short = f.short; has = f.has; placed = f.placed; few_chunks = f.few_chunks; sound = f.sound; told = f.told };
   };
   roles = record {
     few = c.roles.few;
@@ -126,6 +126,7 @@ module _ (old new : MirrorView) (p : PendingView) (f : Finishes old new p) where
         content = λ a b holds becomes. between_step (geometry_of old.array) (world_of old (among p others)) (Event.Finish p.ticket.number) (world_of new (put p.ticket.number None others)) a b s becomes holds;
         written = in_flight_step (geometry_of old.array) (world_of old (among p others)) (Event.Finish p.ticket.number) (world_of new (put p.ticket.number None others)) s;
         sound = finished_is_consistent c;
+        lists = tt;
         read = λ failed_at spoiled. unwritten_read old new failed_at spoiled f.disks
             (same_array old.array new.array (ap (λ (x : ArrayView). x.shared) f.array) (ap (λ (x : ArrayView). x.chunks) f.array))
             (λ j m is. (m, sym (ap (λ (x : ArrayView). slice_get x.members j) f.array) ∙ is, same_member m));

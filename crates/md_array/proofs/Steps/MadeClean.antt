@@ -107,6 +107,7 @@ module _ (old new : MirrorView) (c : IsConsistent old) (makes : MakesClean old n
     content = λ before next holds becomes. between_step (geometry_of a) (world_of old requests) Event.MakeClean (world_of new requests) before next (step requests listed) becomes holds;
     written = in_flight_step (geometry_of a) (world_of old requests) Event.MakeClean (world_of new requests) (step requests listed);
     sound = clean_is_consistent;
+    lists = tt;
     read = λ failed_at spoiled. unwritten_read old new failed_at spoiled makes.disks same_clean
         (λ j m is. (counted_like a full true).1 j m (sym (ap (λ (x : ArrayView). slice_get x.members j) makes.array) ∙ is));
   }

@@ -272,6 +272,7 @@ module _ (k block : ℕ) (old new : MirrorView) (is : IsConsistent old) (low : b
         content = λ x y holds becomes. between_step (geometry_of a) (world_of old requests) (Event.StoreMarks k block) (world_of new requests) x y happens becomes holds;
         written = in_flight_step (geometry_of a) (world_of old requests) (Event.StoreMarks k block) (world_of new requests) happens;
         sound = marks_stored_is_consistent;
+        lists = tt;
         read = λ failed_at spoiled. changed_read k m n r.write old new failed_at spoiled spoiled changes (λ j apart. refl)
             (λ d' e' before after. read_marked d' e' before after (honest k d' before) requests failed_at (spoiled k));
       }

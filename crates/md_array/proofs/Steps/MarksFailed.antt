@@ -73,7 +73,7 @@ module _ (k block : ℕ) (old new : MirrorView) (c : IsConsistent old) (f : Fail
       let t = there_is old k m w new.disks c at f.fails.disks.tried in
       does_failing k w old new c f.fails m at requests (Event.StoreMarksFails k block) honest (w, f.fails.disks) in_flight
       (f.may.running, (left k w old new c f.fails m at requests, in_sync_there old.disks a requests k m f.may.in_sync, left_by_marks requests t, member_fails k w old new c f.fails m at requests (in_sync_recorded m.state f.may.in_sync.in_sync)))
-      (λ _. refl) (λ _. refl)
+      tt (λ _. refl) (λ _. refl)
       (λ d e was is.
       let parts = parts_of old c k d m was at in
       let here : block < bitmap_sectors m.stored.chunks = subst (λ (n : ℕ). block < bitmap_sectors n) (sym parts.count) low in

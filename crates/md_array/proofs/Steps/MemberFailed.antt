@@ -170,6 +170,7 @@ module _ (k : ℕ) (old new : MirrorView) (c : IsConsistent old) (fails : FailsM
     content = λ x y holds becomes. between_step (geometry_of a) (world_of old requests) (Event.Fail k) (world_of new requests) x y (step requests) becomes holds;
     written = in_flight_step (geometry_of a) (world_of old requests) (Event.Fail k) (world_of new requests) (step requests);
     sound = fail_is_consistent;
+    lists = tt;
     read = fail_read;
   }
 

@@ -220,6 +220,7 @@ module _ (k : ℕ) (disk : Disk) (old new : MirrorView) (c : IsConsistent old) (
     content = λ x y holds becomes. between_step (geometry_of old.array) (world_of old requests) (Event.Remove k) (world_of new requests) x y (step requests) becomes holds;
     written = in_flight_step (geometry_of old.array) (world_of old requests) (Event.Remove k) (world_of new requests) (step requests);
     sound = remove_is_consistent;
+    lists = tt;
     read = remove_read;
   }
 

@@ -24,7 +24,7 @@ use Rattle.md_members.specs.declared.fault.MemberFault.TheVariants as member_fau
 use Rattle.md_members.specs.declared.info.MemberInfo.{MemberInfo}
 use Rattle.md_members.specs.Members as members
 use Rattle.md_members.specs.Areas.{BitmapIsPlaced, IsPlaced, LogIsPlaced, bitmap_sectors, has_bitmap}
-use Rattle.md_members.specs.Members.{HasBitmap, sectors_of}
+use Rattle.md_members.specs.Members.{HasBitmap, reads_log, sectors_of}
 use Rattle.md_assembly.specs.declared.state.MemberState.{MemberState}
 use Rattle.md_assembly.specs.States.{is_in_sync}
 use Rattle.md_writes.specs.Writes.{DoesWrites, FailsInWrites}
@@ -46,7 +46,10 @@ use Rattle.md_array.specs.Consistency.{IsConsistent}
 use Rattle.md_array.specs.Fits.{FitsMember}
 use Rattle.md_array.specs.Recording.{IsReadable, write_of}
 use Rattle.md_array.specs.ReAdding.{FailsToRecordLast, IsOnlyRead, ReAdds, RecordsLast, RefusesDevice, RefusesInfo, RefusesReAdd, RefusesToRecordLast, unread_as}
+use Rattle.md_array.proofs.Openings.ListTold.{recovering_log_bit, told_next}
 use Rattle.md_array.proofs.Openings.OwnFields.{bitmap_same, placed_next}
+use Rattle.md_array.specs.Worlds.{lies_in}
+use Rattle.md_badblocks.specs.declared.run.Run.{Run}
 use Rattle.md_array.proofs.Steps.CountedAtBegin.{counted_keeps_pending}
 use Rattle.md_array.proofs.Steps.RemarkedWorlds.{same_mirror}
 use Rattle.md_array.proofs.Steps.OneWrite.{is_failed, is_written}
@@ -143,6 +146,9 @@ module _ (a : ArrayView) (offset : ℕ) (info : MemberInfo) (m : MemberView) (ta
         placed = rw (taken.superblock, reads.counted, ← as_long) (recovering_placed offset v _ _ (placed_next info.bad info.superblock.recovery_offset info.superblock _ _ reads.placed));
         few_chunks = rw reads.counted reads.few;
         sound = record { chunk_size = m.header.sound.chunk_size; few_chunks = subst (λ n. chunk_count n m.header.chunksize ≤ 1048576) size_there reads.few };
+        told = λ _ sector bad.
+            ap reads_log taken.superblock ∙ recovering_log_bit offset v
+            ∙ told_next content honest info.superblock info.bad read.bad sector (sym (ap (λ (runs : List Run). lies_in runs sector) taken.bad) ∙ bad);
       }
 
 -- its bitmap has a bit for each chunk of the array

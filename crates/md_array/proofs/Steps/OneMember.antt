@@ -8,8 +8,9 @@ use Rattle.md_super.specs.declared.superblock.Superblock.{Superblock}
 use Rattle.md_bitmap.specs.declared.header.BitmapHeader.{BitmapHeader}
 use Rattle.md_bitmap.specs.Marks.{is_set}
 use Rattle.md_bitmap.specs.Sound.{IsSound}
+use Rattle.md_badblocks.specs.declared.run.Run.{Run}
 use Rattle.md_members.specs.Areas.{IsPlaced, bitmap_sectors, has_bitmap}
-use Rattle.md_members.specs.Members.{sectors_of}
+use Rattle.md_members.specs.Members.{reads_log, sectors_of}
 use Rattle.md_assembly.specs.States.{has_recovery_offset, is_in_sync, role_in, takes_role}
 use Rattle.md_assembly.proofs.Indices.{got_within}
 use Rattle.md_model.specs.Sectors.{put}
@@ -21,10 +22,11 @@ use Rattle.md_requests.specs.Pending.{PendingView}
 use Rattle.md_kept_members.specs.View.{MemberView}
 use Rattle.md_state.specs.View.{ArrayView, Disk, MirrorView}
 use Rattle.md_state.specs.Members.{IsInSync, IsMember}
+use Rattle.md_state.specs.Missing.{is_rebuilt}
 use Rattle.md_state.specs.InMemory.{HasChunks, HasRoles}
 use Rattle.md_state.specs.DiskWrites.{IsTried}
 use Rattle.md_state.specs.Requests.{AreInFlight, IsPending, lacks}
-use Rattle.md_array.specs.Fits.{Fits, FitsMember}
+use Rattle.md_array.specs.Fits.{Fits, FitsMember, TellsOfList}
 use Rattle.md_array.specs.Consistency.{HasSuper, HaveSupers, IsConsistent}
 use Rattle.md_array.specs.Worlds.{at_member, kind_of, lies_in, lists_of, stored_of, stored_on, world_on, world_of}
 use Rattle.md_array.proofs.General.Indices.{any_kept, at_set_same, counted_kept, got_other, got_put}
@@ -37,6 +39,7 @@ pub record HasPlacesOf (m n : MemberView) : Type 0 where
   pub placed : (sectors width : ℕ) → IsPlaced sectors m.superblock width → IsPlaced sectors n.superblock width
   pub header : n.header ≡ m.header
   pub chunks : n.stored.chunks ≡ m.stored.chunks
+  pub told : TellsOfList m → TellsOfList n
 
 -- and one state
 pub record IsNear (m n : MemberView) : Type 0 where
@@ -44,7 +47,7 @@ pub record IsNear (m n : MemberView) : Type 0 where
   pub state : n.state ≡ m.state
 
 near_itself : (m : MemberView) → IsNear m m
-near_itself m = record { places = record { number = refl; size = refl; has = refl; placed = λ _ _ p. p; header = refl; chunks = refl }; state = refl }
+near_itself m = record { places = record { number = refl; size = refl; has = refl; placed = λ _ _ p. p; header = refl; chunks = refl; told = λ tells. tells }; state = refl }
 
 -- two members have the same superblock, list and header, as many chunks, and one state
 pub record IsLike (m n : MemberView) : Type 0 where
@@ -66,6 +69,8 @@ near_like m n like = record {
     placed = λ sectors width p. subst (λ (v : Superblock). IsPlaced sectors v width) (sym like.superblock) p;
     header = like.header;
     chunks = like.chunks;
+    told = λ tells rebuilt sector bad.
+        ap reads_log like.superblock ∙ tells (sym (ap is_rebuilt like.state) ∙ rebuilt) sector (sym (ap (λ (runs : List Run). lies_in runs sector) like.bad) ∙ bad);
   };
   state = like.state;
 }
@@ -96,6 +101,7 @@ fits_places a b m n d e size near long fit =
           (near.placed (sectors_of e.content) (bitmap_sectors m.stored.chunks) (subst (λ (x : ℕ). IsPlaced x m.superblock (bitmap_sectors m.stored.chunks)) sectors fit.placed));
       few_chunks = subst (λ (x : ℕ). x ≤ 1048576) (sym near.chunks) fit.few_chunks;
       sound = subst (λ (x : ℕ). IsSound x n.header.chunksize) (sym size) (subst (λ (h : BitmapHeader). IsSound a.shared.size h.chunksize) (sym near.header) fit.sound);
+      told = near.told fit.told;
     }
 
 pub fits_like : (a b : ArrayView) (m n : MemberView) (d e : Disk) → b.shared.size ≡ a.shared.size → IsLike m n → length e.content ≡ length d.content → FitsMember a m d → FitsMember b n e

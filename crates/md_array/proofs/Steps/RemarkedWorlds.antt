@@ -50,7 +50,7 @@ module _ (a : ArrayView) (offset : ℕ) (marks : Bitmap) (requests : InflightLis
   fits_remarked : (disks : List Disk) → Fits disks a → Fits disks remarked
   fits_remarked disks f = record {
     as_many = f.as_many;
-    each = λ k d m at x. let fit = f.each k d m at x in record { long = fit.long; short = fit.short; has = fit.has; placed = fit.placed; few_chunks = fit.few_chunks; sound = fit.sound };
+    each = λ k d m at x. let fit = f.each k d m at x in record { long = fit.long; short = fit.short; has = fit.has; placed = fit.placed; few_chunks = fit.few_chunks; sound = fit.sound; told = fit.told };
   }
 
   pub remarked_is_consistent : (disks : List Disk) → ((c : ℕ) → marks.chunks ≤ c → is_set marks.bytes c ≡ false) → AreInside remarked

@@ -76,6 +76,7 @@ module _ (a : ArrayView) (number sectors : ℕ) (laid : NewMember) (may : MayAdd
         placed = new_placed laid.superblock laid.new.places (sectors_of d.content) (bitmap_sectors laid.marks.chunks) (let few = few_sectors laid in omega arith) (omega arith);
         few_chunks = omega (arith, laid.new.chunks, laid.header.sound.few_chunks);
         sound = subst (λ n. IsSound n laid.header.chunksize) (laid.new.sync_size ∙ size_there) laid.header.sound;
+        told = λ rebuilt sector bad. absurd cc;
       }
 
 -- ---- the mirror with it

@@ -120,5 +120,5 @@ module _ (k : ℕ) (old new : MirrorView) (c : IsConsistent old) (f : FailsToRec
       let by_super = left_by_super requests t (honest k t.old t.was) whole in
       does_failing k w old new c f.fails m f.may.at requests (Event.RecordFails k) honest (super_write a m, f.fails.disks) in_flight
       (f.may.running, (left k w old new c f.fails m f.may.at requests, by_super, member_fails k w old new c f.fails m f.may.at requests f.may.active))
-      (λ _. refl) (λ _. refl)
+      tt (λ _. refl) (λ _. refl)
       (λ d e was is. own_left d e was is (subst (λ (x : MemberView). IsOldNewOrNone (super_write a x).bytes d e) same (leaves d e was is)))

@@ -22,6 +22,7 @@ use Rattle.md_model.proofs.Puts.{put-miss, put-self}
 use Rattle.md_requests.specs.Pending.{PendingView}
 use Rattle.md_kept_members.specs.View.{MemberView}
 use Rattle.md_state.specs.View.{ArrayView, Disk, MirrorView, geometry_of}
+use Rattle.md_state.specs.Members.{IsMember}
 use Rattle.md_state.specs.Requests.{IsPending}
 use Rattle.md_array.specs.Consistency.{HasPlaces, HasSuper, IsConsistent}
 use Rattle.md_array.specs.ReadAsKept.{IsReadAsKept}
@@ -29,7 +30,9 @@ use Rattle.md_array.specs.Recording.{IsReadable, Records, super_write}
 use Rattle.md_array.specs.Events.{Happens}
 use Rattle.md_array.specs.Worlds.{block_on, is_listed, is_listed_next, kind_of, stored_of, super_in, super_of, world_of, world_on}
 use Rattle.md_array.proofs.General.Honesty.{tried_honest}
+use Rattle.md_array.proofs.General.Indices.{at_set_same}
 use Rattle.md_array.proofs.Worlds.Listed.{listed_as_next, next_kept, IsLogKept, still_known}
+use Rattle.md_array.proofs.Steps.ListStays.{lists_still}
 use Rattle.md_array.proofs.Steps.OneMember.{ChangesMember, changed_in_flight, changed_is_consistent, changed_is_pending, changed_world, member_there, stored_there}
 use Rattle.md_array.proofs.Worlds.PartsApart.{header_beside_super, log_beside_super, parts_of, super_alone}
 use Rattle.md_array.proofs.Worlds.ReadAsKept.{changed_read, own_written}
@@ -102,6 +105,9 @@ module _ (k : ℕ) (old new : MirrorView) (is : IsConsistent old) (r : Records k
 
   log_kept : (d e : Disk) → slice_get old.disks k ≡ Some d → slice_get new.disks k ≡ Some e → IsLogKept m.superblock d.content e.content
   log_kept d e before after = log_beside_super a m d.content e.content (parts_of old is k d m before r.may.at) (super_outside d e before after)
+
+  at_new : IsMember new.array k n
+  at_new = ap (λ (x : ArrayView). slice_get x.members k) r.array ∙ at_set_same a.members k n (slice_get_within a.members k m r.may.at)
 
   -- the log lists what was to be listed next
   lists_next : (d e : Disk) → slice_get old.disks k ≡ Some d → slice_get new.disks k ≡ Some e → d.honest ≡ true
@@ -199,6 +205,8 @@ module _ (k : ℕ) (old new : MirrorView) (is : IsConsistent old) (r : Records k
         content = λ x y holds becomes. between_step (geometry_of a) (world_of old requests) (Event.Record k) (world_of new requests) x y happens becomes holds;
         written = in_flight_step (geometry_of a) (world_of old requests) (Event.Record k) (world_of new requests) happens;
         sound = recorded_is_consistent;
+        lists = lists_still k old new is m n r.may.at at_new d.0 e.0 d.1 e.1 requests
+            (ap (λ (x : ArrayView). x.chunks.size) r.array) refl refl (λ sector _ next. lists_next d.0 e.0 d.1 e.1 (honest k d.0 d.1) sector ∙ next);
         read = λ failed_at spoiled. changed_read k m n (super_write a m) old new failed_at spoiled (put k false spoiled) changes (put-miss k false spoiled)
             (λ d' e' before after. read_recorded failed_at (spoiled k) (put k false spoiled k) d' e' before after (honest k d' before));
       }

@@ -302,6 +302,7 @@ module _ (k : ℕ) (device : Disk) (old new : MirrorView) (c : IsConsistent old)
         content = λ x y holds becomes. between_step g (world_of old requests) e (world_of new requests) x y (step requests) becomes holds;
         written = in_flight_step g (world_of old requests) e (world_of new requests) (step requests);
         sound = taken_back_is_consistent k device old new c r;
+        lists = tt;
         read = re_add_read;
       }
 

@@ -81,7 +81,7 @@ module _ (k chunk : ℕ) (old new : MirrorView) (c : IsConsistent old) (f : Fail
       let chunk_may = subst (MayCopyChunk (world_of old requests)) f.in_chunk may in
       does_failing k w old new c f.fails m at requests e honest (w, f.fails.disks) in_flight
       (f.copy.may.may.idle.running, (left k w old new c f.fails m at requests, in_sync_there old.disks a requests k m f.copy.may.in_sync, chunk_may, left_by_copy requests t, fails))
-      (λ _. refl) (λ _. refl)
+      tt (λ _. refl) (λ _. refl)
       (λ d e was is.
       let parts = parts_of old c k d m was at in
       let same = outside d e (f.fails.disks.tried.outside d e was is) in

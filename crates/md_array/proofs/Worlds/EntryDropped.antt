@@ -54,7 +54,7 @@ module _ (a : ArrayView) (k : ℕ) (m : MemberView) (at : IsMember a k m) where
     fits_dropped : (disks : List Disk) → Fits disks a → Fits disks b
     fits_dropped disks f = record {
       as_many = f.as_many;
-      each = λ j d x there is. let fit = f.each j d x there is in record { long = fit.long; short = fit.short; has = fit.has; placed = fit.placed; few_chunks = fit.few_chunks; sound = fit.sound };
+      each = λ j d x there is. let fit = f.each j d x there is in record { long = fit.long; short = fit.short; has = fit.has; placed = fit.placed; few_chunks = fit.few_chunks; sound = fit.sound; told = fit.told };
     }
 
     pub dropped_is_consistent : (disks : List Disk) → IsConsistent (record { disks = disks; array = a }) → IsConsistent (record { disks = disks; array = b })

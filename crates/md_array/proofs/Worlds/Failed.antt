@@ -26,7 +26,7 @@ use Rattle.md_state.specs.DiskWrites.{AtDevice, IsTried}
 use Rattle.md_state.specs.Requests.{AreInFlight}
 use Rattle.md_state.specs.Trying.{FailsWriting}
 use Rattle.md_array.specs.Consistency.{IsConsistent}
-use Rattle.md_array.specs.Events.{Does, WritesOnce}
+use Rattle.md_array.specs.Events.{Does, KeepsLists, WritesOnce}
 use Rattle.md_array.specs.ReadAsKept.{AreReadAsKept, HasOwnSuper}
 use Rattle.md_array.specs.Worlds.{AreHonest, kind_of, world_of, world_on}
 use Rattle.md_array.proofs.General.Honesty.{tried_honest}
@@ -109,12 +109,12 @@ module _ (k : ℕ) (w : Write) (old new : MirrorView) (is : IsConsistent old) (f
       member_fails = (full, may_fail, full_failed, world_failed)
 
     -- by such an event the mirror goes to its next world
-    pub does_failing : (e : Event) → AreHonest old.disks → WritesOnce e old.disks new.disks → AreInFlight a requests → Step (geometry_of a) before e (world_of new requests)
+    pub does_failing : (e : Event) → AreHonest old.disks → WritesOnce e old.disks new.disks → AreInFlight a requests → Step (geometry_of a) before e (world_of new requests) → KeepsLists e before (world_of new requests)
         → ((failed_at : ℕ) → failed_after e (world_of new requests) failed_at ≡ new.array.shared.events)
         → ((spoiled : ℕ → Bool) → spoiled_after e before spoiled ≡ spoiled)
         → AtDevice k old.disks new.disks (λ d n. HasOwnSuper a.shared m.superblock d.content → HasOwnSuper a.shared m.superblock n.content)
         → Does old requests e new requests
-    does_failing e honest writes in_flight step after same keeps = record {
+    does_failing e honest writes in_flight step lists after same keeps = record {
       honest = tried_honest k w old.disks new.disks fails.disks.tried honest;
       writes = writes;
       in_flight = subst (λ (x : ArrayView). AreInFlight x requests) (sym array_failed) in_flight;
@@ -123,6 +123,7 @@ module _ (k : ℕ) (w : Write) (old new : MirrorView) (is : IsConsistent old) (f
       content = λ x y holds becomes. between_step (geometry_of a) before e (world_of new requests) x y step becomes holds;
       written = in_flight_step (geometry_of a) before e (world_of new requests) step;
       sound = failed_is_consistent k w old new is fails;
+      lists = lists;
       read = λ failed_at spoiled are.
           let then = spoiled_after e before spoiled in
           subst (λ n. AreReadAsKept new n then) (sym (after failed_at ∙ ap (λ (x : ArrayView). x.shared.events) array_failed))

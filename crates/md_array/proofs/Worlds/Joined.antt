@@ -179,14 +179,14 @@ module _ (a : ArrayView) (m : MemberView) (role : ℕ) (small : m.superblock.dev
           as_many = let many = f.as_many in let more = length_push disks d in let too = length_push up.members m in omega arith;
           each = λ j e x there is. elim (was j x is) [
             | inl old ↦ elim (listed_push disks d e j there) [
-              | inl here ↦ let fits = f.each j e x here old in record { long = fits.long; short = fits.short; has = fits.has; placed = fits.placed; few_chunks = fits.few_chunks; sound = fits.sound }
+              | inl here ↦ let fits = f.each j e x here old in record { long = fits.long; short = fits.short; has = fits.has; placed = fits.placed; few_chunks = fits.few_chunks; sound = fits.sound; told = fits.told }
               | inr end ↦ let low = slice_get_within up.members j x old in let many = f.as_many in let last = end.0 in absurd (omega arith)
             ]
             | inr new ↦ elim (listed_push disks d e j there) [
               | inl here ↦ let low = slice_get_within disks j e here in let many = f.as_many in let last = new.0 in absurd (omega arith)
               | inr end ↦
                   let fits : FitsMember a x e = subst (λ (n : MemberView). FitsMember a n e) new.1 (subst (FitsMember a m) end.1 fit) in
-                  record { long = fits.long; short = fits.short; has = fits.has; placed = fits.placed; few_chunks = fits.few_chunks; sound = fits.sound }
+                  record { long = fits.long; short = fits.short; has = fits.has; placed = fits.placed; few_chunks = fits.few_chunks; sound = fits.sound; told = fits.told }
             ]
           ];
         }

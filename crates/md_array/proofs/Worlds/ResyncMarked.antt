@@ -17,7 +17,7 @@ use Rattle.md_state.specs.View.{ArrayView, Disk, MirrorView, geometry_of}
 use Rattle.md_state.specs.InMemory.{HasChunks, HasRoles}
 use Rattle.md_state.specs.Requests.{AreInFlight, IsPending}
 use Rattle.md_array.specs.Consistency.{IsConsistent}
-use Rattle.md_array.specs.Events.{Does, Happens, WritesOnce}
+use Rattle.md_array.specs.Events.{Does, Happens, KeepsLists, WritesOnce}
 use Rattle.md_array.specs.Fits.{Fits}
 use Rattle.md_array.specs.NotingResynced.{AllAgreeWhereMarked, BecomesResynced, IsServed, NotesResynced, sector_of, AreNoted}
 use Rattle.md_array.specs.ReadAsKept.{AreReadAsKept}
@@ -42,7 +42,7 @@ module _ (is : Bool) (old new : MirrorView) (c : IsConsistent old) (t : NotesRes
   fits_marked : Fits old.disks b
   fits_marked = record {
     as_many = c.fits.as_many;
-    each = λ k d m at x. let fit = c.fits.each k d m at x in record { long = fit.long; short = fit.short; has = fit.has; placed = fit.placed; few_chunks = fit.few_chunks; sound = fit.sound };
+    each = λ k d m at x. let fit = c.fits.each k d m at x in record { long = fit.long; short = fit.short; has = fit.has; placed = fit.placed; few_chunks = fit.few_chunks; sound = fit.sound; told = fit.told };
   }
 
   roles_marked : HasRoles b
@@ -78,10 +78,10 @@ module _ (is : Bool) (old new : MirrorView) (c : IsConsistent old) (t : NotesRes
 
   -- an event by which it is
   does_marking : (e : Event) → AreHonest old.disks → (requests : ℕ → Option Request) → AreInFlight a requests → new.disks ≡ old.disks
-      → Step (geometry_of a) (world_of old requests) e (world_of new requests) → ((failed_at : ℕ) → failed_after e (world_of new requests) failed_at ≡ failed_at)
+      → Step (geometry_of a) (world_of old requests) e (world_of new requests) → KeepsLists e (world_of old requests) (world_of new requests) → ((failed_at : ℕ) → failed_after e (world_of new requests) failed_at ≡ failed_at)
       → ((spoiled : ℕ → Bool) → spoiled_after e (world_of old requests) spoiled ≡ spoiled)
       → WritesOnce e old.disks new.disks → Does old requests e new requests
-  does_marking e honest requests in_flight same step after alike writes = record {
+  does_marking e honest requests in_flight same step lists after alike writes = record {
     honest = subst AreHonest (sym t.disks) honest;
     writes = writes;
     in_flight = subst (λ (x : ArrayView). AreInFlight x requests) (sym t.array) in_flight;
@@ -90,6 +90,7 @@ module _ (is : Bool) (old new : MirrorView) (c : IsConsistent old) (t : NotesRes
     content = λ x y holds becomes. between_step (geometry_of a) (world_of old requests) e (world_of new requests) x y step becomes holds;
     written = in_flight_step (geometry_of a) (world_of old requests) e (world_of new requests) step;
     sound = marked_is_consistent;
+    lists = lists;
     read = λ failed_at spoiled are. subst (λ n. AreReadAsKept new n (spoiled_after e (world_of old requests) spoiled)) (sym (after failed_at))
         (subst (AreReadAsKept new failed_at) (sym (alike spoiled))
         (unwritten_read old new failed_at spoiled t.disks
@@ -103,7 +104,7 @@ module _ (is : Bool) (old new : MirrorView) (c : IsConsistent old) (t : NotesRes
 pub unresynced_happens : (old new : MirrorView) → IsConsistent old → NotesResynced false old new → Happens old Event.Unresynced new
 unresynced_happens old new c t honest requests in_flight =
     does_marking false old new c t Event.Unresynced honest requests in_flight t.disks
-    (t.idle.running, (none_in_list false old new c t requests in_flight, world_marked false old new c t requests)) (λ _. refl) (λ _. refl) t.disks
+    (t.idle.running, (none_in_list false old new c t requests in_flight, world_marked false old new c t requests)) tt (λ _. refl) (λ _. refl) t.disks
 
 -- ---- members in sync agree where marks are
 module _ (old : MirrorView) (c : IsConsistent old) (running : old.array.halted ≡ false) (honest : AreHonest old.disks) (requests : ℕ → Option Request) (in_flight : AreInFlight old.array requests) (agree : AllAgreeWhereMarked old) (noted : AreNoted old.array) where
@@ -153,4 +154,4 @@ pub resynced_happens : (old new : MirrorView) → IsConsistent old → BecomesRe
 resynced_happens old new c t honest requests in_flight =
     let m = t.marks in
     does_marking true old new c m Event.Resynced honest requests in_flight m.disks
-    (m.idle.running, (may_resync old c m.idle.running honest requests in_flight t.agree t.stored (none_in_list true old new c m requests in_flight), world_marked true old new c m requests)) (λ _. refl) (λ _. refl) m.disks
+    (m.idle.running, (may_resync old c m.idle.running honest requests in_flight t.agree t.stored (none_in_list true old new c m requests in_flight), world_marked true old new c m requests)) tt (λ _. refl) (λ _. refl) m.disks

@@ -139,7 +139,7 @@ module _ (a : ArrayView) (full : Bool) where
         let p = member_risen k m x in
         let fit = f.each k d p.0 at p.1 in
         subst (λ (o : MemberView). FitsMember (risen a full) o d) (sym p.2)
-        (record { long = fit.long; short = fit.short; has = fit.has; placed = fit.placed; few_chunks = fit.few_chunks; sound = fit.sound });
+        (record { long = fit.long; short = fit.short; has = fit.has; placed = fit.placed; few_chunks = fit.few_chunks; sound = fit.sound; told = fit.told });
   }
 
 super_risen : (m : MemberView) (d : Disk) → HasSuper m d → HasSuper (made_due m) d

@@ -246,6 +246,7 @@ module _ (from k s : ℕ) (old new : MirrorView) (c : IsConsistent old) (t : Cop
         content = λ x y holds becomes. between_step (geometry_of array) (world_of old requests) (Event.Copy from k s) (world_of new requests) x y happens becomes holds;
         written = in_flight_step (geometry_of array) (world_of old requests) (Event.Copy from k s) (world_of new requests) happens;
         sound = copied_is_consistent;
+        lists = tt;
         read = λ failed_at spoiled. changed_read k m m (run_write m s t.bytes) old new failed_at spoiled spoiled changes (λ j apart. refl)
             (λ d' e' was is. read_beside_data array m d'.content e'.content (parts d' was) s 1 inside (outside d' e' was is) failed_at (spoiled k));
       }

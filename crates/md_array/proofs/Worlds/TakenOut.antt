@@ -83,7 +83,7 @@ module _ (a : ArrayView) (k : ℕ) (m : MemberView) (at : IsMember a k m) (low :
           omega arith;
       each = λ j d x there is.
           let fit = f.each (skip k j) d x (was_at disks k j d there) (was j x is) in
-          record { long = fit.long; short = fit.short; has = fit.has; placed = fit.placed; few_chunks = fit.few_chunks; sound = fit.sound };
+          record { long = fit.long; short = fit.short; has = fit.has; placed = fit.placed; few_chunks = fit.few_chunks; sound = fit.sound; told = fit.told };
     }
 
     pub left_is_consistent : IsConsistent (record { disks = disks; array = a }) → IsConsistent (record { disks = remove disks k; array = b })

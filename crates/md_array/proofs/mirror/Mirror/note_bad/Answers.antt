@@ -23,9 +23,9 @@ returns g c =
     subst (λ (v : MirrorView). (m : MemberView) → IsMember v.array c.args.k m → is_in_sync m.state ≡ true) (sym c.self.view_is) c.requires.in_sync in
     let resynced : was.array.resynced ≡ true = subst (λ (v : MirrorView). v.array.resynced ≡ true) (sym c.self.view_is) c.requires.resynced in
     rw (← c.self.view_is) (record {
-      gives = note_gives c.args.k c.args.chunk was new sound refl c.note_bad.result c.note_bad.ensures;
+      gives = note_gives c.args.k c.args.chunk was new sound refl in_sync c.note_bad.result c.note_bad.ensures;
       whole = whole;
       event = note_event c.args.k c.args.chunk was new sound refl in_sync resynced whole c.note_bad.result c.note_bad.ensures;
-      sound = note_sound c.args.k c.args.chunk was new sound refl c.note_bad.result c.note_bad.ensures;
-      pending = note_pending c.args.k c.args.chunk was new sound refl c.note_bad.result c.note_bad.ensures;
+      sound = note_sound c.args.k c.args.chunk was new sound refl in_sync c.note_bad.result c.note_bad.ensures;
+      pending = note_pending c.args.k c.args.chunk was new sound refl in_sync c.note_bad.result c.note_bad.ensures;
     })
