@@ -10,8 +10,8 @@ pub mod MirrorContents
 pub mod Joined
 -- A member that failed differs from the content only in marked chunks.
 pub mod LeftBehind
--- A record or a checkpoint of a member whose log is read stores what is kept of it, and leaves the log.
-pub mod LogRecorded
+-- The log of a member that is rebuilt lists what its list in memory has, as long as the log is known, if it was so at the opening.
+pub mod Lists
 -- A life of a mirror is one of the model, so that what always holds of the model holds of the mirror.
 pub mod MirrorLives
 -- A run of a mirror is a run of the model, so that the model's laws hold of it.

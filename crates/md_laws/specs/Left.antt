@@ -1,6 +1,7 @@
 -- What a stop leaves of a mirror's devices: it comes between two calls or within one, of which its own contract says what may be
 -- left (`MayAllBeLeft`).
 use Rattle.std.specs.Prelude.{◌≡◌, ◌⊎◌, ℕ, ◌%◌, ◌<◌, Bool, true, false, List, [], ◌∷◌, ◌++◌, length, map, Option, slice_get, Some, None}
+use Rattle.std.proofs.Common.{inl, inr}
 use Rattle.md_assembly.specs.States.{is_recorded}
 use Rattle.md_bitmap.specs.Marks.{Bitmap}
 use Rattle.md_members.specs.Areas.{bitmap_sectors}
@@ -168,3 +169,9 @@ IsLeft t left =
     ⊎ (IsLeftRecording t left
     ⊎ (IsLeftRecordingShort t left ⊎ (IsLeftTakingBack t left ⊎ (IsLeftFilling t left ⊎ (IsLeftPreparing t left ⊎ (IsLeftEnrolling t left
     ⊎ (IsLeftEnrolled t left ⊎ (IsLeftTargeting t left ⊎ IsLeftTargeted t left))))))))))
+
+-- The bitmap and the log of member k were being stored, before its superblock.
+abbrev pub IsStoring : (t : Moment) (left : List Disk) → IsLeft t left → ℕ → Type 0
+IsStoring t left (inr (inr (inr (inr (inr (inr (inr (inl l)))))))) k = l.on ≡ k
+IsStoring t left (inr (inr (inr (inr (inr (inr (inr (inr (inl l))))))))) k = l.on ≡ k
+IsStoring t left is k = ⊥

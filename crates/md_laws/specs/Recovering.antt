@@ -1,25 +1,18 @@
 -- What the recovering members of a mirror hold of the array's content, over its life: by this a member that was taken back, or a rebuild that
 -- was interrupted, is rebuilt in the chunks that it lacks alone.
 use Rattle.std.specs.Prelude.{◌≡◌, ◌⊎◌, ℕ, ◌≤◌, true, false, List, [], ◌∷◌, Option, slice_get, Some}
-use Rattle.md_bitmap.specs.Marks.{Bitmap}
-use Rattle.md_members.specs.Members.{reads_log}
 use Rattle.md_model.specs.Behind.{IsBehind}
 use Rattle.md_model.specs.Content.{Content, Becomes, BecomesAtOpening, Holds}
 use Rattle.md_model.specs.Devices.{Stored, Super}
 use Rattle.md_model.specs.Events.{Event}
-use Rattle.md_model.specs.Rebuilding.{MayFill}
+use Rattle.md_model.specs.Rebuilding.{MayFill, is_target}
 use Rattle.md_model.specs.Sectors.{Geometry}
 use Rattle.md_model.specs.Recovering.{IsAsPrepared, IsAsStored, JoinsBehind, RecoveringHolds, recovered}
 use Rattle.md_model.specs.States.{is_recovering}
 use Rattle.md_model.specs.Worlds.{Request, World}
-use Rattle.md_kept_members.specs.View.{MemberView}
-use Rattle.md_state.specs.Members.{IsMember}
 use Rattle.md_state.specs.View.{Disk, MirrorView, geometry_of}
-use Rattle.md_array.specs.Checkpoints.{Checkpoints}
-use Rattle.md_array.specs.Consistency.{IsConsistent}
-use Rattle.md_array.specs.Recording.{Records}
-use Rattle.md_array.specs.Worlds.{AreHonest, none_in_flight, stored_on, world_of}
-use Rattle.md_laws.specs.Left.{IsLeft}
+use Rattle.md_array.specs.Worlds.{none_in_flight, stored_on, world_of}
+use Rattle.md_laws.specs.Left.{IsLeft, IsStoring}
 use Rattle.md_laws.specs.Lives.{IsReopened, MirrorLife, MirrorLifeWith}
 use Rattle.md_laws.specs.Runs.{IsStart, MirrorRun, MirrorRunWith, Moment, opened_as, then_as}
 
@@ -59,21 +52,21 @@ OffsetsAreKept =
     → (own : Super) → (stored_on t.mirror.array (slice_get t.mirror.array.members k) (slice_get left k)).super ≡ Some own
     → own.offset ≤ (world_of t.mirror t.requests).offset k
 
--- So of one whose list in memory is empty it is so at each such stop.
+-- And the device lists what the list in memory has, where the superblock can be read that such a stop left of a member that is rebuilt. Its log
+-- has to be known (`Moment`), and the stop not to have come while it was being stored.
+abbrev pub SaysNoMoreWhereKnown : Type 0
+SaysNoMoreWhereKnown =
+    (before : List Disk) (m : MirrorView) → IsStart before m → ((k : ℕ) → KeepsOffset m k)
+    → (es : List Event) (t : Moment) → MirrorRun (opened_as m) es t → (left : List Disk) (is : IsLeft t left)
+    → (k : ℕ) → is_target ((world_of t.mirror t.requests).state k) ≡ true → t.spoiled k ≡ false → t.log_unknown k ≡ false → (IsStoring t left is k → ⊥)
+    → (own : Super) → (stored_on t.mirror.array (slice_get t.mirror.array.members k) (slice_get left k)).super ≡ Some own → SaysNoMore t left k
+
+-- Of one whose list in memory is empty it is so in any case.
 abbrev pub SaysNoMoreWithoutList : Type 0
 SaysNoMoreWithoutList =
     (before : List Disk) (m : MirrorView) → IsStart before m → ((k : ℕ) → KeepsOffset m k)
     → (es : List Event) (t : Moment) → MirrorRun (opened_as m) es t → (left : List Disk) → IsLeft t left
     → (k : ℕ) → t.spoiled k ≡ false → ((s : ℕ) → (world_of t.mirror t.requests).bad k s ≡ false) → SaysNoMore t left k
-
--- Of a longer list no event tells it: that of a record, or of a checkpoint, lets the log of a member that is not in sync be any. The calls
--- do. Where the superblock that is kept says that the log is read, they leave the device so that it says no more, if it was so before.
-abbrev pub SaysNoMoreWhenRecorded : Type 0
-SaysNoMoreWhenRecorded =
-    (k : ℕ) (m : MemberView) (old new : MirrorView) → IsConsistent old → AreHonest old.disks → IsMember old.array k m → reads_log m.superblock ≡ true
-    → Records k old new ⊎ ((copied : Bitmap) × Checkpoints k copied old new)
-    → (requests : ℕ → Option Request) → IsAsStored (world_of old requests) k ((world_of old requests).stored k)
-    → IsAsStored (world_of new requests) k ((world_of new requests).stored k)
 
 -- A recovering member of the next mirror is such a device that was left; or it is told of what it has, as of one that was left out before.
 abbrev pub MirrorOpensBehind : (opened : MirrorView) (t : Moment) (next : MirrorView) → IsReopened opened t next → Content → Type 0

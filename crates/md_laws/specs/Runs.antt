@@ -1,8 +1,10 @@
 -- Lists of events of a mirror, from its opening on: each is done by a call, as the calls' contracts say (`Does`). Between them
 -- devices may be read, and reads may fail: that is no event, and the world stays.
-use Rattle.std.specs.Prelude.{◌≡◌, ℕ, Bool, false, not, List, [], ◌∷◌, Option}
+use Rattle.std.specs.Prelude.{◌≡◌, ℕ, Bool, true, false, not, List, [], ◌∷◌, Option}
+use Rattle.md_model.specs.Sectors.{put}
 use Rattle.md_model.specs.Devices.{Covered}
-use Rattle.md_model.specs.Worlds.{Request, IsInSync}
+use Rattle.md_model.specs.Membership.{skip}
+use Rattle.md_model.specs.Worlds.{Request, World, IsInSync}
 use Rattle.md_model.specs.Content.{Content, Becomes, Holds, Tells}
 use Rattle.md_model.specs.Events.{Event}
 use Rattle.md_model.specs.Runs.{History, away_after, failed_after, spoiled_after, tried_after}
@@ -21,13 +23,25 @@ pub record Moment : Type 0 where
   pub tried : Bool  -- data was written to a member, or a write of it failed
   pub away : ℕ → Bool  -- no member had this number at any moment since the opening
   pub spoiled : ℕ → Bool  -- of this member a write of its superblock failed and may have left any, and none was stored since
+  pub log_unknown : ℕ → Bool  -- of this member an `enrol`, an `admit` or a `checkpoint` failed since it joined: its log may be any, or untold of
+
+-- An `enrol` that failed may have left any log. A superblock that may be any may not tell of the log, and a record after it doesn't make
+-- that known.
+abbrev pub log_unknown_after : Event → World → (ℕ → Bool) → ℕ → Bool
+log_unknown_after (Event.Prepare k) w before = put k true before
+log_unknown_after (Event.SpoilTarget k) w before = put k true before
+log_unknown_after (Event.Enrol k role listed) w before = put k false before
+log_unknown_after (Event.Remove k) w before = λ j. before (skip k j)
+log_unknown_after (Event.Add number left) w before = put w.members false before
+log_unknown_after (Event.ReAdd own device left) w before = put w.members false before
+log_unknown_after e w before = before
 
 -- the same of the mirror's world
 abbrev pub history_of : Moment → History
 history_of t = record { now = world_of t.mirror t.requests; failed_at = t.failed_at; tried = t.tried; away = t.away; spoiled = t.spoiled }
 
 abbrev pub opened_as : MirrorView → Moment
-opened_as m = record { mirror = m; requests = none_in_flight; failed_at = 0; tried = false; away = λ d. not (has_number m.array d); spoiled = λ _. false }
+opened_as m = record { mirror = m; requests = none_in_flight; failed_at = 0; tried = false; away = λ d. not (has_number m.array d); spoiled = λ _. false; log_unknown = λ _. false }
 
 abbrev pub then_as : Moment → Event → MirrorView → (ℕ → Option Request) → Moment
 then_as t e m requests =
@@ -38,6 +52,7 @@ then_as t e m requests =
       tried = tried_after e t.tried;
       away = away_after e t.away;
       spoiled = spoiled_after e (world_of t.mirror t.requests) t.spoiled;
+      log_unknown = log_unknown_after e (world_of t.mirror t.requests) t.log_unknown;
     }
 
 -- since the one moment devices were only read

@@ -16,7 +16,7 @@ ghost use Rattle.md_array.specs.Worlds.{AreHonest, none_in_flight, super_of, wor
 ghost use Rattle.md_laws.specs.Fresh.{StartsFresh, StaysFresh};
 ghost use Rattle.md_laws.specs.LeftBehind.{FailedJoins, LiesBehind, LogJoins, LogLiesBehind, MissingJoins, MissingLiesBehind};
 ghost use Rattle.md_laws.specs.Lives.{AtEachMoment, ContentGoesAlongTold, FindsAll, FindsInSync, FindsOut, FitsWhenThere, IsReadAsKeptInLives, KeepsContent, KeepsGeometry, StaysAsLeft};
-ghost use Rattle.md_laws.specs.Recovering.{ContentGoesAlong, KeepsRecovering, OffsetsAreKept, SaysNoMoreWhenOpened, SaysNoMoreWhenRecorded, SaysNoMoreWithoutList};
+ghost use Rattle.md_laws.specs.Recovering.{ContentGoesAlong, KeepsRecovering, OffsetsAreKept, SaysNoMoreWhenOpened, SaysNoMoreWhereKnown, SaysNoMoreWithoutList};
 ghost use Rattle.md_laws.specs.Returning.{StartsAgain};
 ghost use Rattle.md_laws.specs.Runs.{HasContent};
 ghost use Rattle.md_laws.specs.Spoiled.{StopsAsSpoiled, StopsAtEnrolAsSpoiled, StopsAtFailedEnrolAsSpoiled};
@@ -158,14 +158,15 @@ pub fn leaving_members()
 /// also after a stop and the next opening. It is asked that each `re_add` is told, as `leaving_members` tells of a device that still is as
 /// it was left, and that the first opening is told of the members that it finds recovering. A later one is told of further devices alone, if
 /// each of those that were left says no more than the mirror kept of it (`SaysNoMore`). So each does right after an opening that took no
-/// offset as 0. Until the next one its offset stays such, unless it is spoiled; so where its list in memory is empty it says no more at any
-/// stop. Of a longer list that is asked, as a log that failed may be any; a record and a checkpoint keep it so.
+/// offset as 0. Until the next one its offset stays such, unless it is spoiled; and its log lists what the list in memory has, as long as no
+/// `enrol`, `admit` or `checkpoint` of it failed (`Moment`, `log_unknown`). So it says no more at any stop, but for one within an `enrol`
+/// while the bitmap and the log are stored (`IsStoring`). Where the list in memory is empty the log may be any.
 pub fn recovering_members()
     ensures kept { KeepsRecovering }
     ensures as_opened { SaysNoMoreWhenOpened }
     ensures offsets { OffsetsAreKept }
+    ensures known { SaysNoMoreWhereKnown }
     ensures unlisted { SaysNoMoreWithoutList }
-    ensures recorded { SaysNoMoreWhenRecorded }
 {}
 
 /// An interrupted open of a mirror's devices, at any moment of its life, leaves each as it was left, so that

@@ -17,7 +17,7 @@ use Rattle.md_array.proofs.General.Resting.{geometry_rests, world_rests}
 use Rattle.md_array.proofs.Steps.Turns.{all_on, all_such}
 use Rattle.md_laws.specs.Left.{contents_of}
 use Rattle.md_laws.specs.Lives.{MirrorLifeWith}
-use Rattle.md_laws.specs.Runs.{HasRested, IsStart, MirrorRun, MirrorRunWith, Moment, opened_as, then_as}
+use Rattle.md_laws.specs.Runs.{HasRested, IsStart, MirrorRun, MirrorRunWith, Moment, log_unknown_after, opened_as, then_as}
 use Rattle.md_laws.specs.StopsWithin.{MayAllBeLeft}
 use Rattle.md_laws.proofs.Runs.CallRuns.{call_is_run}
 use Rattle.md_laws.proofs.Runs.ContentRuns.{without_content}
@@ -69,8 +69,8 @@ rests_run_with (e ∷ es) t mid last a b r s =
     let x = subst (λ (m : Moment). MirrorRunWith m a (e ∷ es) last b) r.is s in
     let becomes = subst (λ g. Becomes g e (world_of t.mirror t.requests) a x.2) (geometry_rests t.mirror mid.mirror r.rests)
     (subst (λ (w : World). Becomes (geometry_of mid.mirror.array) e w a x.2) (world_rests t.mirror mid.mirror r.rests t.requests) x.4) in
-    let spoiled = ap (λ (w : World). spoiled_after e w t.spoiled) (world_rests t.mirror mid.mirror r.rests t.requests) in
-    let rest = subst (λ (f : ℕ → Bool). MirrorRunWith (record (then_as t e x.0 x.1) { spoiled = f }) x.2 es last b) spoiled x.5 in
+    let rest = subst (λ (w : World). MirrorRunWith (record (then_as t e x.0 x.1) { spoiled = spoiled_after e w t.spoiled; log_unknown = log_unknown_after e w t.log_unknown }) x.2 es last b)
+    (world_rests t.mirror mid.mirror r.rests t.requests) x.5 in
     (x.0, x.1, x.2, record { mid = x.3.mid; rests = rests_then t.mirror mid.mirror x.3.mid r.rests x.3.rests; does = x.3.does }, becomes, rest)
 
 pub run_with_then : (es more : List Event) (t mid last : Moment) (a b c : Content) → MirrorRunWith t a es mid b → MirrorRunWith mid b more last c → MirrorRunWith t a (es ++ more) last c

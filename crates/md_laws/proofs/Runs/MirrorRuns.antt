@@ -12,7 +12,7 @@ use Rattle.md_model.proofs.Content.ContentLives.{some_content}
 use Rattle.md_state.specs.View.{Disk, MirrorView, geometry_of}
 use Rattle.md_array.specs.Worlds.{none_in_flight, super_of, world_of}
 use Rattle.md_array.proofs.General.Resting.{world_rests}
-use Rattle.md_laws.specs.Runs.{HasRested, IsStart, MirrorRun, Moment, history_of, then_as}
+use Rattle.md_laws.specs.Runs.{HasRested, IsStart, MirrorRun, Moment, history_of, log_unknown_after, then_as}
 use Rattle.md_array.proofs.Worlds.InSync.{in_sync_is}
 use Rattle.md_laws.proofs.Runs.Rests.{history_rests, rests_does, rests_then}
 use Rattle.md_laws.proofs.Openings.Opened as opening
@@ -34,7 +34,10 @@ rests_run [] t mid last r s = record { rests = rests_then t.mirror mid.mirror la
 rests_run (e ∷ es) t mid last r s =
     let x = subst (λ (m : Moment). MirrorRun m (e ∷ es) last) r.is s in
     let same : then_as (record t { mirror = mid.mirror }) e x.0 x.1 ≡ then_as t e x.0 x.1 =
-    λ i. record (then_as t e x.0 x.1) { spoiled = spoiled_after e (world_rests t.mirror mid.mirror r.rests t.requests i) t.spoiled } in
+    λ i. record (then_as t e x.0 x.1) {
+      spoiled = spoiled_after e (world_rests t.mirror mid.mirror r.rests t.requests i) t.spoiled;
+      log_unknown = log_unknown_after e (world_rests t.mirror mid.mirror r.rests t.requests i) t.log_unknown;
+    } in
     (x.0, x.1, record { mid = x.2.mid; rests = rests_then t.mirror mid.mirror x.2.mid r.rests x.2.rests; does = x.2.does }, subst (λ (m : Moment). MirrorRun m es last) same x.3)
 
 module _ (before : List Disk) (m : MirrorView) (start : IsStart before m) where

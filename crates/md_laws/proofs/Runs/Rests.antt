@@ -10,7 +10,7 @@ use Rattle.md_state.specs.View.{Disk, MirrorView, geometry_of}
 use Rattle.md_state.specs.DeviceChanges.{IsUntouched}
 use Rattle.md_state.specs.Rests.{Rests}
 use Rattle.md_array.specs.Consistency.{IsConsistent}
-use Rattle.md_array.specs.Events.{Does}
+use Rattle.md_array.specs.Events.{Does, KeepsLists}
 use Rattle.md_array.specs.ReadAsKept.{AreReadAsKept}
 use Rattle.md_array.specs.Worlds.{world_of}
 use Rattle.md_laws.specs.Runs.{HasRested, Moment, RestsThenDoes, history_of}
@@ -58,6 +58,7 @@ pub record Leads (old : MirrorView) (before : ℕ → Option Request) (e : Event
   pub geometry : geometry_of new.array ≡ geometry_of old.array
   pub step : Step (geometry_of old.array) (world_of old before) e (world_of new after)
   pub sound : IsConsistent new
+  pub lists : KeepsLists e (world_of old before) (world_of new after)
   pub read : (failed_at : ℕ) (spoiled : ℕ → Bool) → AreReadAsKept old failed_at spoiled → AreReadAsKept new (failed_after e (world_of new after) failed_at) (spoiled_after e (world_of old before) spoiled)
 
 -- an event after it
@@ -69,6 +70,7 @@ rests_does old new before after e x =
       step = subst (λ g. Step g (world_of old before) e (world_of new after)) (geometry_rests old mid x.rests)
           (subst (λ (w : World). Step (geometry_of mid.array) w e (world_of new after)) (world_rests old mid x.rests before) x.does.step);
       sound = x.does.sound;
+      lists = subst (λ (w : World). KeepsLists e w (world_of new after)) (world_rests old mid x.rests before) x.does.lists;
       read = λ failed_at spoiled are.
           subst (λ (w : World). AreReadAsKept new (failed_after e (world_of new after) failed_at) (spoiled_after e w spoiled)) (world_rests old mid x.rests before)
           (x.does.read failed_at spoiled (rests_read old mid x.rests failed_at spoiled are));

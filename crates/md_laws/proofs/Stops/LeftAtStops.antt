@@ -20,7 +20,7 @@ use Rattle.md_model.specs.Steps as model_steps
 use Rattle.md_model.specs.Stops as stops
 use Rattle.md_model.specs.Worlds.{World}
 use Rattle.md_model.proofs.Cases.{by_test, none_some}
-use Rattle.md_model.proofs.Puts.{by_same, put-at}
+use Rattle.md_model.proofs.Puts.{by_same, put-at, put-miss}
 use Rattle.md_requests.specs.Pending.{request_sectors}
 use Rattle.md_assembly.specs.States.{is_recorded}
 use Rattle.md_kept_members.specs.TakingBack.{admitted_member, with_offset}
@@ -39,7 +39,7 @@ use Rattle.md_array.specs.ReadAsKept.{HasOwnSuper, IsReadAsKept}
 use Rattle.md_array.specs.Recording.{MayRecord, Records, super_write}
 use Rattle.md_array.specs.Worlds.{block_on, is_listed, stored_of, stored_on, super_in, super_of, world_of}
 use Rattle.md_laws.specs.StopsWithin.{MayAllBeLeft}
-use Rattle.md_laws.specs.Left.{IsLeft, IsLeftEnrolled, IsLeftEnrolling, IsLeftFilling, IsLeftPreparing, IsLeftRecording, IsLeftRecordingShort, IsLeftTakingBack, IsLeftTargeted, IsLeftTargeting, IsLeftWriting, contents_of}
+use Rattle.md_laws.specs.Left.{IsLeft, IsLeftEnrolled, IsLeftEnrolling, IsLeftFilling, IsLeftPreparing, IsLeftRecording, IsLeftRecordingShort, IsLeftTakingBack, IsLeftTargeted, IsLeftTargeting, IsLeftWriting, IsStoring, contents_of}
 use Rattle.md_laws.specs.Recovering.{MirrorRunJoins}
 use Rattle.md_laws.specs.Runs.{MirrorRun, MirrorRunWith, Moment, history_of, then_as}
 use Rattle.md_laws.specs.StopsReadAs.{ReadsAs}
@@ -114,7 +114,8 @@ marks_memory w k b = record {
       (λ _. known);
 }
 
-pub record IsSorted (t : Moment) (left : List Disk) : Type 0 where
+-- It is told of these members that the stop did not come while their bitmap and their log were being stored.
+pub record IsSortedBeside (Beside : ℕ → Type 0) (t : Moment) (left : List Disk) : Type 0 where
   pub events : List Event
   pub few : length events ≤ 1
   pub moment : Moment
@@ -125,6 +126,7 @@ pub record IsSorted (t : Moment) (left : List Disk) : Type 0 where
   pub away : (d : ℕ) → moment.away d ≡ t.away d
   pub tried : moment.tried ≡ t.tried
   pub spoiled : (k : ℕ) → t.spoiled k ≡ false → moment.spoiled k ≡ false
+  pub log_known : (k : ℕ) → Beside k → t.log_unknown k ≡ false → moment.log_unknown k ≡ false
   pub memory : KeepsMemory (world_of t.mirror t.requests) (history_of moment).now
   pub count : (history_of moment).now.events ≡ (world_of t.mirror t.requests).events
   pub cut : ℕ → Stored
@@ -132,7 +134,10 @@ pub record IsSorted (t : Moment) (left : List Disk) : Type 0 where
   pub read : (k : ℕ) → (read_in t.mirror.array left k ≡ cut k) ⊎ ((read_in t.mirror.array left k).super ≡ None)
   pub device : (k : ℕ) (e : Disk) (m : MemberView) → slice_get left k ≡ Some e → IsMember t.mirror.array k m → IsLeftDevice t.mirror.array m t.failed_at (t.spoiled k) e.content
 
-sorted_like : (t : Moment) (found left : List Disk) → contents_of found ≡ contents_of left → IsSorted t found → IsSorted t left
+abbrev pub IsSorted : Moment → List Disk → Type 0
+IsSorted t left = IsSortedBeside (λ _. ⊥) t left
+
+sorted_like : {Beside : ℕ → Type 0} (t : Moment) (found left : List Disk) → contents_of found ≡ contents_of left → IsSortedBeside Beside t found → IsSortedBeside Beside t left
 sorted_like t found left same s = record {
   events = s.events;
   few = s.few;
@@ -144,6 +149,7 @@ sorted_like t found left same s = record {
   away = s.away;
   tried = s.tried;
   spoiled = s.spoiled;
+  log_known = s.log_known;
   memory = s.memory;
   count = s.count;
   cut = s.cut;
@@ -156,10 +162,10 @@ sorted_like t found left same s = record {
 }
 
 -- the stop came within a write of data, which is let through at that moment
-abbrev IsSortedWriting : Moment → List Disk → Type 0
-IsSortedWriting t left = (s : IsSorted t left) × stops.WasTried (geometry_of t.mirror.array) (history_of s.moment)
+abbrev IsSortedWriting : (ℕ → Type 0) → Moment → List Disk → Type 0
+IsSortedWriting Beside t left = (s : IsSortedBeside Beside t left) × stops.WasTried (geometry_of t.mirror.array) (history_of s.moment)
 
-writing_like : (t : Moment) (found left : List Disk) → contents_of found ≡ contents_of left → IsSortedWriting t found → IsSortedWriting t left
+writing_like : {Beside : ℕ → Type 0} (t : Moment) (found left : List Disk) → contents_of found ≡ contents_of left → IsSortedWriting Beside t found → IsSortedWriting Beside t left
 unfolding sorted_like
 writing_like t found left same s = (sorted_like t found left same s.0, s.1)
 
@@ -172,7 +178,7 @@ record IsTorn (t : Moment) (left : List Disk) : Type 0 where
   tried : IsTried l.on (data_write member l.request) t.mirror.disks found
   same : contents_of found ≡ contents_of left
 
-module _ (t : Moment) (at : IsSoundAt t) where
+module _ (Beside : ℕ → Type 0) (t : Moment) (at : IsSoundAt t) where
   abbrev v : MirrorView
   v = t.mirror
 
@@ -182,7 +188,7 @@ module _ (t : Moment) (at : IsSoundAt t) where
   as_it_was : (k : ℕ) (d : Disk) (m : MemberView) → slice_get v.disks k ≡ Some d → IsMember a k m → IsLeftDevice a m t.failed_at (t.spoiled k) d.content
   as_it_was k d m there is = record { parts = parts_of v at.sound k d m there is; read = at.read k d m there is }
 
-  between : IsSorted t v.disks
+  between : IsSortedBeside Beside t v.disks
   between = record {
     events = [];
     few = omega arith;
@@ -194,6 +200,7 @@ module _ (t : Moment) (at : IsSoundAt t) where
     away = λ _. refl;
     tried = refl;
     spoiled = λ _ clear. clear;
+    log_known = λ _ _ known. known;
     memory = same_memory (world_of v t.requests) (world_of v t.requests).stored (world_of v t.requests).due;
     count = refl;
     cut = (world_of v t.requests).stored;
@@ -271,7 +278,7 @@ module _ (t : Moment) (at : IsSoundAt t) where
               ∙ sym (ap (λ (x : Stored). x.content s) was);
         }
 
-    torn_found : IsSortedWriting t torn.found
+    torn_found : IsSortedWriting Beside t torn.found
     torn_found = (
       record {
         events = [];
@@ -284,6 +291,7 @@ module _ (t : Moment) (at : IsSoundAt t) where
         away = λ _. refl;
         tried = refl;
         spoiled = λ _ clear. clear;
+        log_known = λ _ _ known. known;
         memory = same_memory (world_of v t.requests) (world_of v t.requests).stored (world_of v t.requests).due;
         count = refl;
         cut = read_in a torn.found;
@@ -294,10 +302,10 @@ module _ (t : Moment) (at : IsSoundAt t) where
       inr (torn_cut.number, torn_cut.request, torn_cut.on, subst (λ r. model_steps.MayWrite (geometry_of a) (world_of v r) torn_cut.number torn_cut.request torn_cut.on) (sym l.in_flight) torn_cut.let_through),
     )
 
-    torn_sorted : IsSortedWriting t left
+    torn_sorted : IsSortedWriting Beside t left
     torn_sorted = writing_like t torn.found left torn.same torn_found
 
-  writing : (left : List Disk) → IsLeftWriting t left → IsSortedWriting t left
+  writing : (left : List Disk) → IsLeftWriting t left → IsSortedWriting Beside t left
   writing left l =
       let wrote : (m : MemberView) → MayWrite l.on a l.request m → IsWritten l.on (data_write m l.request) v.disks l.next.disks → IsTorn t left =
       λ m may done. let f = stops_as_tried l.on (data_write m l.request) v.disks l.next.disks (contents_of left) at.honest done l.within in record { l = l; member = m; may = may; found = f.0; tried = f.1; same = f.2 } in
@@ -326,7 +334,7 @@ module _ (t : Moment) (at : IsSoundAt t) where
           read = read_marked k block v next at.sound inside r d e was is (at.honest k d was) t.requests t.failed_at (t.spoiled k) (at.read k d m was is_member);
         }
 
-    marked : IsSorted t next.disks
+    marked : IsSortedBeside Beside t next.disks
     marked =
         let does = store_marks_happens k block v next at.sound inside r at.honest t.requests at.in_flight in
         record {
@@ -340,6 +348,7 @@ module _ (t : Moment) (at : IsSoundAt t) where
           away = λ _. refl;
           tried = refl;
           spoiled = λ _ clear. clear;
+          log_known = λ _ _ known. known;
           memory = subst (KeepsMemory (world_of v t.requests)) (sym does.step.1.1) (marks_memory (world_of v t.requests) k block);
           count = ap (λ (w : World). w.events) does.step.1.1;
           cut = (world_of next t.requests).stored;
@@ -348,7 +357,7 @@ module _ (t : Moment) (at : IsSoundAt t) where
           device = each_device k r.member r.write next.disks r.may.in_sync.member r.disks.tried marked_device;
         }
 
-    stored_sorted : (left : List Disk) → MayAllBeLeft v.disks next.disks (contents_of left) → IsSorted t left
+    stored_sorted : (left : List Disk) → MayAllBeLeft v.disks next.disks (contents_of left) → IsSortedBeside Beside t left
     stored_sorted left within =
         let long : length r.write.bytes ≡ 512 = ap (λ (x : Write). length x.bytes) r.may.write.is ∙ length-bitmap_sector r.may.write.header a.marks block in
         elim (stops_at_events e_marks v.disks next.disks (contents_of left) at.honest (r.write, long, r.disks) within) [
@@ -400,7 +409,7 @@ module _ (t : Moment) (at : IsSoundAt t) where
           (λ b x _ there. subst (λ (y : Disk). IsLeftDevice a m t.failed_at (t.spoiled k) y.content) (got_same disks k e x is there) (super_device has))
 
       -- the old one is read there, or none
-      unrecorded : ReadsAs block (block_on d.content) ⊎ (super_in block ≡ None) → IsSorted t disks
+      unrecorded : ReadsAs block (block_on d.content) ⊎ (super_in block ≡ None) → IsSortedBeside Beside t disks
       unrecorded reads = record {
         events = [];
         few = omega arith;
@@ -412,6 +421,7 @@ module _ (t : Moment) (at : IsSoundAt t) where
         away = λ _. refl;
         tried = refl;
         spoiled = λ _ clear. clear;
+        log_known = λ _ _ known. known;
         memory = same_memory (world_of v t.requests) (world_of v t.requests).stored (world_of v t.requests).due;
         count = refl;
         cut = (world_of v t.requests).stored;
@@ -497,7 +507,7 @@ module _ (t : Moment) (at : IsSoundAt t) where
             (λ apart. elsewhere k m w disks may.at tried j apart ∙ sym (elsewhere k m w next.disks may.at new_tried j apart))
             ∙ sym (read_changed a k m (record m { due = false }) may.at refl next.disks j)
 
-        recorded : IsSorted t disks
+        recorded : IsSortedBeside Beside t disks
         recorded =
             let does = record_happens k v next at.sound records at.honest t.requests at.in_flight in
             record {
@@ -511,6 +521,7 @@ module _ (t : Moment) (at : IsSoundAt t) where
               away = λ _. refl;
               tried = refl;
               spoiled = λ j clear. put-at k false t.spoiled j (λ b. b ≡ false) (λ _. refl) (λ _. clear);
+              log_known = λ _ _ known. known;
               memory = subst (KeepsMemory (world_of v t.requests)) (sym does.step.1.3)
                   (same_memory (world_of v t.requests) (model_steps.recorded (world_of v t.requests) k does.step.1.0).stored (model_steps.recorded (world_of v t.requests) k does.step.1.0).due);
               count = ap (λ (w : World). w.events) does.step.1.3;
@@ -532,7 +543,7 @@ module _ (t : Moment) (at : IsSoundAt t) where
   record_cut : (left : List Disk) (c : IsRecordCut left)
       → ((d e : Disk) → slice_get v.disks c.on ≡ Some d → slice_get c.found c.on ≡ Some e
       → ReadsAs (block_on e.content) (block_on d.content) ⊎ (ReadsAs (block_on e.content) (super_write a c.member).bytes ⊎ (super_in (block_on e.content) ≡ None)))
-      → IsSorted t left
+      → IsSortedBeside Beside t left
   record_cut left c reads =
       let low = slice_get_within a.members c.on c.member c.may.at in
       let as_many = at.sound.fits.as_many in
@@ -548,13 +559,13 @@ module _ (t : Moment) (at : IsSoundAt t) where
             ]
       ])
 
-  recording : (left : List Disk) → IsLeftRecording t left → IsSorted t left
+  recording : (left : List Disk) → IsLeftRecording t left → IsSortedBeside Beside t left
   recording left l =
       let wrote : (m : MemberView) → MayRecord l.on a m → IsWritten l.on (super_write a m) v.disks l.next.disks → IsRecordCut left =
       λ m may done. let f = stops_as_tried l.on (super_write a m) v.disks l.next.disks (contents_of left) at.honest done l.within in record { on = l.on; member = m; may = may; found = f.0; tried = f.1; same = f.2 } in
       let failed : (m : MemberView) → MayRecord l.on a m → IsFailed l.on (super_write a m) v.disks l.next.disks → IsRecordCut left =
       λ m may tried. let f = failed_as_tried l.on (super_write a m) v.disks l.next.disks (contents_of left) at.honest tried l.within in record { on = l.on; member = m; may = may; found = f.0; tried = f.1; same = f.2 } in
-      let whole : (c : IsRecordCut left) → c.on ≡ l.on → IsSorted t left =
+      let whole : (c : IsRecordCut left) → c.on ≡ l.on → IsSortedBeside Beside t left =
       λ c here. record_cut left c (λ d e was is.
       let x = got_like left c.found (sym c.same) c.on e is in
       let leaves = l.super c.member (ap (slice_get a.members) (sym here) ∙ c.may.at) d x.0 (ap (slice_get v.disks) (sym here) ∙ was) (ap (slice_get left) (sym here) ∙ x.1) in
@@ -580,7 +591,7 @@ module _ (t : Moment) (at : IsSoundAt t) where
       ]
 
   -- where both superblocks end in the first sector, that one tells which is read
-  recording_short : (left : List Disk) → IsLeftRecordingShort t left → IsSorted t left
+  recording_short : (left : List Disk) → IsLeftRecordingShort t left → IsSortedBeside Beside t left
   recording_short left l =
       let m = l.call.member in
       let w = super_write a m in
@@ -596,7 +607,7 @@ module _ (t : Moment) (at : IsSoundAt t) where
       ])
 
   -- where the superblock of a device that was taken back reads as after the call, it is a stop after it
-  taking_back : (left : List Disk) → IsLeftTakingBack t left → IsSorted t left
+  taking_back : (left : List Disk) → IsLeftTakingBack t left → IsSortedBeside Beside t left
   taking_back left l =
       let r = l.call.recorded in
       let m = r.takes.member in
@@ -618,8 +629,9 @@ module _ (t : Moment) (at : IsSoundAt t) where
       → KeepsMemory (world_of v t.requests) (world_of mid t.requests) → (world_of mid t.requests).events ≡ (world_of v t.requests).events
       → (then_as t e mid t.requests).tried ≡ t.tried → (then_as t e mid t.requests).failed_at ≡ t.failed_at → ((n : ℕ) → (then_as t e mid t.requests).away n ≡ t.away n)
       → ((n : ℕ) → (then_as t e mid t.requests).spoiled n ≡ t.spoiled n)
-      → IsSorted t mid.disks
-  changed e mid does same becomes joins memory count tried counted away spoiled = record {
+      → ((n : ℕ) → Beside n → t.log_unknown n ≡ false → (then_as t e mid t.requests).log_unknown n ≡ false)
+      → IsSortedBeside Beside t mid.disks
+  changed e mid does same becomes joins memory count tried counted away spoiled log_known = record {
     events = e ∷ [];
     few = omega arith;
     moment = then_as t e mid t.requests;
@@ -630,6 +642,7 @@ module _ (t : Moment) (at : IsSoundAt t) where
     away = away;
     tried = tried;
     spoiled = λ n clear. spoiled n ∙ clear;
+    log_known = log_known;
     memory = memory;
     count = count;
     cut = (world_of mid t.requests).stored;
@@ -645,39 +658,40 @@ module _ (t : Moment) (at : IsSoundAt t) where
   }
 
   -- within a filling: after one that leaves no more than this
-  filled : (k : ℕ) (mid : MirrorView) → Fills k v mid → IsSorted t mid.disks
+  filled : (k : ℕ) (mid : MirrorView) → Fills k v mid → IsSortedBeside Beside t mid.disks
   filled k mid fills =
       let does = fill_happens k v mid at.sound fills at.honest t.requests at.in_flight in
-      changed (Event.Fill k) mid does fills.array (λ _. refl) (λ _. tt) (device_memory (world_of v t.requests) k does.step.1.0 (world_of mid t.requests) does.step.1.3) (ap (λ (w : World). w.events) does.step.1.3) refl refl (λ _. refl) (λ _. refl)
+      changed (Event.Fill k) mid does fills.array (λ _. refl) (λ _. tt) (device_memory (world_of v t.requests) k does.step.1.0 (world_of mid t.requests) does.step.1.3) (ap (λ (w : World). w.events) does.step.1.3) refl refl (λ _. refl) (λ _. refl) (λ _ _ known. known)
 
   -- and so within a preparing
-  prepared : (k : ℕ) (mid : MirrorView) → Prepares k v mid → IsSorted t mid.disks
-  prepared k mid prepares =
+  prepared : (k : ℕ) (mid : MirrorView) → (Beside k → ⊥) → Prepares k v mid → IsSortedBeside Beside t mid.disks
+  prepared k mid none prepares =
       let does = prepare_happens k v mid at.sound prepares at.honest t.requests at.in_flight in
       changed (Event.Prepare k) mid does prepares.array (λ _. refl) (λ _. tt) (device_memory (world_of v t.requests) k does.step.1.0 (world_of mid t.requests) does.step.1.3) (ap (λ (w : World). w.events) does.step.1.3) refl refl (λ _. refl) (λ _. refl)
+      (λ n beside known. put-miss k true t.log_unknown n (λ same. none (subst Beside same beside)) ∙ known)
 
-  preparing : (left : List Disk) → IsLeftPreparing t left → IsSorted t left
-  preparing left l =
+  preparing : (left : List Disk) (l : IsLeftPreparing t left) → (Beside l.on → ⊥) → IsSortedBeside Beside t left
+  preparing left l none =
       let f = stops_as_prepared l.on v l.next (contents_of left) at.honest l.call l.within in
-      sorted_like t f.0.disks left f.2 (prepared l.on f.0 f.1)
+      sorted_like t f.0.disks left f.2 (prepared l.on f.0 none f.1)
 
   -- and within `enrol`, before the superblock is written
-  enrolling : (left : List Disk) → IsLeftEnrolling t left → IsSorted t left
-  enrolling left l =
+  enrolling : (left : List Disk) (l : IsLeftEnrolling t left) → (Beside l.on → ⊥) → IsSortedBeside Beside t left
+  enrolling left l none =
       let but = stops_at_enrol l.on l.copied l.orphans v l.next (contents_of left) at.honest l.call l.within in
       let x = left_prepared l.on l.copied l.orphans v l.next at.sound l.call l.may (contents_of left) but
       (λ d e was is.
       let found = got_content left l.on e is in
       ap block_on (sym found.2) ∙ l.super d found.0 was found.1) in
-      sorted_like t x.0.disks left x.2 (prepared l.on x.0 x.1)
+      sorted_like t x.0.disks left x.2 (prepared l.on x.0 none x.1)
 
-  filling : (left : List Disk) → IsLeftFilling t left → IsSorted t left
+  filling : (left : List Disk) → IsLeftFilling t left → IsSortedBeside Beside t left
   filling left l =
       let f = stops_as_filled l.on v l.next (contents_of left) at.honest l.call l.within in
       sorted_like t f.0.disks left f.2 (filled l.on f.0 f.1)
 
   -- where the superblock stands as after `enrol`, it is a stop after it
-  enrolled : (left : List Disk) → IsLeftEnrolled t left → IsSorted t left
+  enrolled : (left : List Disk) → IsLeftEnrolled t left → IsSortedBeside Beside t left
   enrolled left l =
       let m = l.call.member in
       let may = may_record_new l.on l.copied l.orphans l.before v l.sound at.sound l.call l.honest l.failed_at l.spoiled l.read l.unspoiled in
@@ -705,7 +719,7 @@ module _ (t : Moment) (at : IsSoundAt t) where
     pub tried : IsTried on (record { sector = 8; bytes = bytes }) v.disks found
     pub same : contents_of found ≡ contents_of left
 
-  targeting : (left : List Disk) → IsLeftTargeting t left → IsSorted t left
+  targeting : (left : List Disk) → IsLeftTargeting t left → IsSortedBeside Beside t left
   targeting left l =
       let wrote : (m : MemberView) → IsMember a l.on m → (bytes : List ℕ) → length bytes ≡ 4096 → IsWritten l.on (record { sector = 8; bytes = bytes }) v.disks l.next.disks → IsTargetCut left =
       λ m is bytes size done. let f = stops_as_tried l.on (record { sector = 8; bytes = bytes }) v.disks l.next.disks (contents_of left) at.honest done l.within in
@@ -713,7 +727,7 @@ module _ (t : Moment) (at : IsSoundAt t) where
       let failed : (m : MemberView) → IsMember a l.on m → (bytes : List ℕ) → length bytes ≡ 4096 → IsFailed l.on (record { sector = 8; bytes = bytes }) v.disks l.next.disks → IsTargetCut left =
       λ m is bytes size tried. let f = failed_as_tried l.on (record { sector = 8; bytes = bytes }) v.disks l.next.disks (contents_of left) at.honest tried l.within in
       record { on = l.on; member = m; is_member = is; bytes = bytes; size = size; found = f.0; tried = f.1; same = f.2 } in
-      let whole : (c : IsTargetCut left) → c.on ≡ l.on → IsSorted t left =
+      let whole : (c : IsTargetCut left) → c.on ≡ l.on → IsSortedBeside Beside t left =
       λ c here.
       let low = slice_get_within a.members c.on c.member c.is_member in
       let as_many = at.sound.fits.as_many in
@@ -737,7 +751,7 @@ module _ (t : Moment) (at : IsSoundAt t) where
 
   -- where it reads as after the call, it is a stop after it
   targeted_by : (left : List Disk) (l : IsLeftTargeted t left) (m : MemberView) → IsMember a l.on m → is_recorded m.state ≡ true → (bytes : List ℕ) → length bytes ≡ 4096
-      → IsWritten l.on (record { sector = 8; bytes = bytes }) l.before.disks v.disks → IsSorted t left
+      → IsWritten l.on (record { sector = 8; bytes = bytes }) l.before.disks v.disks → IsSortedBeside Beside t left
   targeted_by left l m is active bytes size done =
       let w : Write = record { sector = 8; bytes = bytes } in
       let f = left_as_tried l.on w v.disks (contents_of left) (left_after_write l.on w l.before.disks v.disks (contents_of left) l.honest done l.within) in
@@ -750,28 +764,33 @@ module _ (t : Moment) (at : IsSoundAt t) where
       sorted_like t f.0 left f.2
       (unrecorded l.on m is active bytes size f.0 f.1 d.0 e.0 d.1 e.1 (inl (subst (λ (c : List ℕ). ReadsAs (block_on c) (block_on d.0.content)) x.2 (l.reads d.0 x.0 d.1 x.1))))
 
-  targeted : (left : List Disk) → IsLeftTargeted t left → IsSorted t left
+  targeted : (left : List Disk) → IsLeftTargeted t left → IsSortedBeside Beside t left
   targeted left l = elim l.call [
     | inl admits ↦ targeted_by left l (admitted_member admits.role admits.may.member) (admitted_there l.on l.before v admits) refl _ admits.readable.size admits.disks
     | inr stores ↦ targeted_by left l (record (with_offset stores.1.offset stores.1.may.member) { due = false }) (checkpointed_there l.on stores.0 l.before v stores.1)
         (recovering_recorded stores.1.may.member.state stores.1.may.recovering) _ stores.1.readable.size stores.1.disks
   ]
 
-  pub sorted : (left : List Disk) → IsLeft t left → IsSorted t left
-  sorted left (inl same) = sorted_like t v.disks left (sym same) between
-  sorted left (inr (inl l)) = stored_sorted l.on l.block l.inside l.next l.call left l.within
-  sorted left (inr (inr (inl l))) = (writing left l).0
-  sorted left (inr (inr (inr (inl l)))) = recording left l
-  sorted left (inr (inr (inr (inr (inl l))))) = recording_short left l
-  sorted left (inr (inr (inr (inr (inr (inl l)))))) = taking_back left l
-  sorted left (inr (inr (inr (inr (inr (inr (inl l))))))) = filling left l
-  sorted left (inr (inr (inr (inr (inr (inr (inr (inl l)))))))) = preparing left l
-  sorted left (inr (inr (inr (inr (inr (inr (inr (inr (inl l))))))))) = enrolling left l
-  sorted left (inr (inr (inr (inr (inr (inr (inr (inr (inr (inl l)))))))))) = enrolled left l
-  sorted left (inr (inr (inr (inr (inr (inr (inr (inr (inr (inr (inl l))))))))))) = targeting left l
-  sorted left (inr (inr (inr (inr (inr (inr (inr (inr (inr (inr (inr l))))))))))) = targeted left l
+  pub sorted_beside : (left : List Disk) (is : IsLeft t left) → ((k : ℕ) → IsStoring t left is k → Beside k → ⊥) → IsSortedBeside Beside t left
+  sorted_beside left (inl same) none = sorted_like t v.disks left (sym same) between
+  sorted_beside left (inr (inl l)) none = stored_sorted l.on l.block l.inside l.next l.call left l.within
+  sorted_beside left (inr (inr (inl l))) none = (writing left l).0
+  sorted_beside left (inr (inr (inr (inl l)))) none = recording left l
+  sorted_beside left (inr (inr (inr (inr (inl l))))) none = recording_short left l
+  sorted_beside left (inr (inr (inr (inr (inr (inl l)))))) none = taking_back left l
+  sorted_beside left (inr (inr (inr (inr (inr (inr (inl l))))))) none = filling left l
+  sorted_beside left (inr (inr (inr (inr (inr (inr (inr (inl l)))))))) none = preparing left l (none l.on refl)
+  sorted_beside left (inr (inr (inr (inr (inr (inr (inr (inr (inl l))))))))) none = enrolling left l (none l.on refl)
+  sorted_beside left (inr (inr (inr (inr (inr (inr (inr (inr (inr (inl l)))))))))) none = enrolled left l
+  sorted_beside left (inr (inr (inr (inr (inr (inr (inr (inr (inr (inr (inl l))))))))))) none = targeting left l
+  sorted_beside left (inr (inr (inr (inr (inr (inr (inr (inr (inr (inr (inr l))))))))))) none = targeted left l
 
-  -- within a write of data that is let through at the moment of which the stop is
-  pub sorted_writing : (left : List Disk) (l : IsLeftWriting t left) → stops.WasTried (geometry_of a) (history_of (sorted left (inr (inr (inl l)))).moment)
-  unfolding sorted
-  sorted_writing left l = (writing left l).1
+-- whatever stop it is
+pub sorted : (t : Moment) → IsSoundAt t → (left : List Disk) → IsLeft t left → IsSorted t left
+sorted t at left is = sorted_beside (λ _. ⊥) t at left is (λ _ _ no. no)
+
+-- within a write of data that is let through at the moment of which the stop is
+pub sorted_writing : (t : Moment) (at : IsSoundAt t) (left : List Disk) (l : IsLeftWriting t left)
+    → stops.WasTried (geometry_of t.mirror.array) (history_of (sorted t at left (inr (inr (inl l)))).moment)
+unfolding sorted sorted_beside
+sorted_writing t at left l = (writing (λ _. ⊥) t at left l).1
