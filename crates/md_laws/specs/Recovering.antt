@@ -68,11 +68,19 @@ SaysNoMoreWithoutList =
     → (es : List Event) (t : Moment) → MirrorRun (opened_as m) es t → (left : List Disk) → IsLeft t left
     → (k : ℕ) → t.spoiled k ≡ false → ((s : ℕ) → (world_of t.mirror t.requests).bad k s ≡ false) → SaysNoMore t left k
 
--- A recovering member of the next mirror is such a device that was left; or it is told of what it has, as of one that was left out before.
+-- So what such a device says is known, from an opening that took no offset as 0 on.
+pub record IsKnown (opened : MirrorView) (t : Moment) (left : List Disk) (is : IsLeft t left) (k : ℕ) : Type 0 where
+  pub offsets : (j : ℕ) → KeepsOffset opened j
+  pub rebuilt : is_target ((world_of t.mirror t.requests).state k) ≡ true
+  pub log : t.log_unknown k ≡ false
+  pub beside : IsStoring t left is k → ⊥
+
+-- A recovering member of the next mirror is such a device that was left, and it is known or told that it says no more; or it is told of what it
+-- has, as of one that was left out before.
 abbrev pub MirrorOpensBehind : (opened : MirrorView) (t : Moment) (next : MirrorView) → IsReopened opened t next → Content → Type 0
 MirrorOpensBehind opened t next again b =
     (j : ℕ) → is_recovering ((world_of next none_in_flight).state j) ≡ true
-    → ((k : ℕ) × (again.devices.from j ≡ Some k) × SaysNoMore t again.devices.left k)
+    → ((k : ℕ) × (again.devices.from j ≡ Some k) × (IsKnown opened t again.devices.left again.devices.is_left k ⊎ SaysNoMore t again.devices.left k))
     ⊎ IsBehind (geometry_of next.array) b (recovered (geometry_of next.array) (world_of next none_in_flight) j) (world_of next none_in_flight)
 
 -- ---- lives

@@ -18,12 +18,13 @@ use Rattle.md_model.proofs.Cases.{by_test, none_some}
 use Rattle.md_model.proofs.Puts.{by_same, put-at, put-hit, put-miss}
 use Rattle.md_state.specs.View.{Disk, MirrorView, geometry_of}
 use Rattle.md_array.specs.Events.{KeepsLists, ListsIn, ListsStill}
-use Rattle.md_array.specs.Worlds.{none_in_flight, world_of}
+use Rattle.md_array.specs.Opening.{IsOpenedFrom}
+use Rattle.md_array.specs.Worlds.{AreHonest, none_in_flight, world_of}
 use Rattle.md_laws.specs.Left.{IsLeft, IsStoring}
 use Rattle.md_laws.specs.Recovering.{SaysNoMoreWhereKnown}
-use Rattle.md_laws.specs.Runs.{IsStart, MirrorRun, Moment, history_of, log_unknown_after, opened_as, then_as}
+use Rattle.md_laws.specs.Runs.{MirrorRun, Moment, history_of, log_unknown_after, opened_as, then_as}
+use Rattle.md_laws.proofs.Openings.Opened as opening
 use Rattle.md_laws.proofs.Runs.Moments.{IsSoundAt, run_keeps, sound_when_opened}
-use Rattle.md_laws.proofs.Runs.MirrorRuns.{starts}
 use Rattle.md_laws.proofs.Runs.Offsets.{offsets_are_kept}
 use Rattle.md_laws.proofs.Runs.Rests.{history_rests, rests_does}
 use Rattle.md_laws.proofs.Stops.LeftAtStops.{IsSortedBeside, sorted_beside}
@@ -207,13 +208,13 @@ listed_at_stop t sound kept left is k target known beside own told s off =
     ]
 
 -- at an opening the list in memory is what was read
-pub lists_when_opened : (before : List Disk) (m : MirrorView) → IsStart before m → ListsAreIn (λ _. false) (world_of m none_in_flight)
-lists_when_opened before m start k known target s bad = sym ((starts before m start).opening.states.bad k s) ∙ bad
+pub lists_when_opened : (before : List Disk) (m : MirrorView) → AreHonest before → IsOpenedFrom before m → ListsAreIn (λ _. false) (world_of m none_in_flight)
+lists_when_opened before m honest opens k known target s bad = sym ((opening.opened before m honest opens).states.bad k s) ∙ bad
 
 pub says_no_more_where_known : SaysNoMoreWhereKnown
 says_no_more_where_known before m start at_first es t r left is k target clear known beside own told =
     let sound = run_keeps es (opened_as m) t r (sound_when_opened before m start.honest start.opened) in
-    let kept = lists_run es (opened_as m) t r (lists_when_opened before m start) in
+    let kept = lists_run es (opened_as m) t r (lists_when_opened before m start.honest start.opened) in
     inl (record {
       offset = offsets_are_kept before m start at_first es t r left is k clear;
       listed = listed_at_stop t sound kept left is k target known beside own told;

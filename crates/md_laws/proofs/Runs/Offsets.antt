@@ -14,19 +14,21 @@ use Rattle.md_model.specs.Runs.{spoiled_after}
 use Rattle.md_model.specs.Stops as stops
 use Rattle.md_model.proofs.Cases.{none_some}
 use Rattle.md_model.proofs.Puts.{by_same, put-at, put-hit, put-miss}
-use Rattle.md_state.specs.View.{geometry_of}
+use Rattle.md_state.specs.View.{Disk, geometry_of}
 use Rattle.md_array.specs.Worlds.{world_of}
+use Rattle.md_laws.specs.Left.{IsLeft}
 use Rattle.md_laws.specs.Recovering.{OffsetsAreKept, SaysNoMoreWithoutList}
 use Rattle.md_laws.specs.Runs.{MirrorRun, Moment, history_of, opened_as, then_as}
-use Rattle.md_laws.proofs.Runs.Moments.{run_keeps, sound_when_opened}
+use Rattle.md_laws.proofs.Runs.Moments.{IsSoundAt, run_keeps, sound_when_opened}
 use Rattle.md_laws.proofs.Runs.Rests.{history_rests, rests_does}
 use Rattle.md_laws.proofs.Stops.LeftAtStops.{IsSorted, sorted}
+use Rattle.md_laws.proofs.Stops.LeftContents.{read_in}
 
-abbrev OffsetIn : World → ℕ → Type 0
+abbrev pub OffsetIn : World → ℕ → Type 0
 OffsetIn w k = (own : Super) → (w.stored k).super ≡ Some own → own.offset ≤ w.offset k
 
 -- so of each member that is not spoiled
-abbrev OffsetsIn : (ℕ → Bool) → World → Type 0
+abbrev pub OffsetsIn : (ℕ → Bool) → World → Type 0
 OffsetsIn spoiled w = (k : ℕ) → spoiled k ≡ false → OffsetIn w k
 
 -- ---- one device changes
@@ -128,7 +130,7 @@ offset_step g w s t (Event.StoreLog k listed) w' h = subst (OffsetsIn s) (sym h.
 offset_step g w s t (Event.StoreLogFails k) w' h = subst (OffsetsIn s) (sym h.3.3) (by_left s w t k h.0 h.2.super)
 
 -- ---- over runs, and at stops
-offsets_run : (es : List Event) (t last : Moment) → MirrorRun t es last → OffsetsIn t.spoiled (world_of t.mirror t.requests) → OffsetsIn last.spoiled (world_of last.mirror last.requests)
+pub offsets_run : (es : List Event) (t last : Moment) → MirrorRun t es last → OffsetsIn t.spoiled (world_of t.mirror t.requests) → OffsetsIn last.spoiled (world_of last.mirror last.requests)
 offsets_run [] t last r kept = subst (λ h. OffsetsIn h.spoiled h.now) (sym (history_rests t last r)) kept
 offsets_run (e ∷ es) t last r kept =
     offsets_run es (then_as t e r.0 r.1) last r.3
@@ -143,17 +145,23 @@ cut_super g w cut is k = elim is [
       (λ apart. ap (λ (d : Stored). d.super) (torn.others k apart))
 ]
 
-pub offsets_are_kept : OffsetsAreKept
-offsets_are_kept before m start at_first es t r left is k clear own told =
-    let s : IsSorted t left = sorted t (run_keeps es (opened_as m) t r (sound_when_opened before m start.honest start.opened)) left is in
+-- so does what it left of a device
+pub offset_at_stop : (t : Moment) → IsSoundAt t → OffsetsIn t.spoiled (world_of t.mirror t.requests) → (left : List Disk) → IsLeft t left → (k : ℕ) → t.spoiled k ≡ false
+    → (own : Super) → (read_in t.mirror.array left k).super ≡ Some own → own.offset ≤ (world_of t.mirror t.requests).offset k
+offset_at_stop t sound held left is k clear own told =
+    let s : IsSorted t left = sorted t sound left is in
     let now : World = (history_of s.moment).now in
-    let kept = offsets_run s.events t s.moment s.run (offsets_run es (opened_as m) t r (λ j _. at_first j)) in
+    let kept = offsets_run s.events t s.moment s.run held in
     elim (s.read k) [
       | inl same ↦
           let super : (now.stored k).super ≡ Some own = sym (cut_super (geometry_of t.mirror.array) now s.cut s.is_cut k) ∙ sym (ap (λ (d : Stored). d.super) same) ∙ told in
           subst (λ (n : ℕ). own.offset ≤ n) (s.memory.offset k) (kept k (s.spoiled k clear) own super)
       | inr none ↦ absurd (none_some own (sym none ∙ told))
     ]
+
+pub offsets_are_kept : OffsetsAreKept
+offsets_are_kept before m start at_first es t r left is k clear own told =
+    offset_at_stop t (run_keeps es (opened_as m) t r (sound_when_opened before m start.honest start.opened)) (offsets_run es (opened_as m) t r (λ j _. at_first j)) left is k clear own told
 
 pub says_no_more_without_list : SaysNoMoreWithoutList
 says_no_more_without_list before m start at_first es t r left is k clear none =

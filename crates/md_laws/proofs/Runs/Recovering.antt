@@ -1,5 +1,5 @@
 -- What recovering members hold goes along each life, and with it a content.
-use Rattle.std.proofs.Common.{◌≡◌, ℕ, ◌≤◌, inl, inr, List, [], ◌∷◌, Option, refl, sym, ap, ◌∙◌, subst}
+use Rattle.std.proofs.Common.{◌≡◌, ℕ, ◌≤◌, inl, inr, false, List, [], ◌∷◌, Option, Some, refl, sym, ap, ◌∙◌, subst}
 use Rattle.md_model.specs.Sectors.{Geometry, chunk_of, is_passed}
 use Rattle.md_model.specs.Devices.{Stored, Super}
 use Rattle.md_model.specs.States.{is_in_sync, is_recovering}
@@ -20,9 +20,12 @@ use Rattle.md_model.proofs.Steps.Roles.{HasRoles, roles_opened, roles_step}
 use Rattle.md_state.specs.View.{Disk, MirrorView, geometry_of}
 use Rattle.md_array.specs.Worlds.{none_in_flight, super_of, world_of}
 use Rattle.md_laws.specs.Lives.{IsReopened, MirrorLife, MirrorLifeWith}
-use Rattle.md_laws.specs.Recovering.{ContentGoesAlong, KeepsRecovering, MirrorLifeJoins, MirrorLifeTells, MirrorOpensBehind, MirrorRunJoins, MirrorRunTells, SaysNoMore, SaysNoMoreWhenOpened}
+use Rattle.md_laws.specs.Recovering.{ContentGoesAlong, IsKnown, KeepsRecovering, MirrorLifeJoins, MirrorLifeTells, MirrorOpensBehind, MirrorRunJoins, MirrorRunTells, SaysNoMore, SaysNoMoreWhenOpened}
 use Rattle.md_laws.specs.Runs.{HasRested, IsStart, MirrorRun, MirrorRunWith, Moment, RestsThenDoes, history_of, opened_as, then_as}
 use Rattle.md_laws.proofs.Runs.LeftBehind.{content_next, held_along, held_next, held_then, kept_here, leads_to, reopens_here, same, same_here, small_here}
+use Rattle.md_laws.proofs.Runs.ContentRuns.{without_content}
+use Rattle.md_laws.proofs.Runs.Lists.{ListsAreIn, listed_at_stop, lists_run, lists_when_opened}
+use Rattle.md_laws.proofs.Runs.Offsets.{offset_at_stop, offsets_run}
 use Rattle.md_laws.proofs.Runs.MirrorContents.{IsHeldAt, life_held_at, starts_small}
 use Rattle.md_laws.proofs.Runs.MirrorLives.{as_left, left}
 use Rattle.md_laws.proofs.Runs.MirrorRuns.{starts}
@@ -152,14 +155,35 @@ module _ (g : Geometry) (small : IsWithinLimits g) where
               (fill_still here (world_of t.mirror t.requests) now s.memory k d x.1) (prepared_still here (world_of t.mirror t.requests) now s.memory k d x.2)
         ]
 
-    module _ (b : Content) (told : MirrorOpensBehind opened t next again b) (becomes : BecomesAtOpening (geometry_of next.array) w a b) where
+    -- what a device says that is known
+    module _ (es : List Event) (r : MirrorRun (opened_as opened) es t) (first_lists : ListsAreIn (λ _. false) (world_of opened none_in_flight)) (k : ℕ) (clear : t.spoiled k ≡ false)
+        (known : IsKnown opened t again.devices.left again.devices.is_left k) where
+      known_says : (own : Super) → (read_in t.mirror.array again.devices.left k).super ≡ Some own → SaysNoMore t again.devices.left k
+      known_says own told = inl (record {
+        offset = offset_at_stop t is.held.sound (offsets_run es (opened_as opened) t r (λ j _. known.offsets j)) again.devices.left again.devices.is_left k clear;
+        listed = listed_at_stop t is.held.sound (lists_run es (opened_as opened) t r first_lists) again.devices.left again.devices.is_left k known.rebuilt known.log known.beside own told;
+      })
+
+      known_as_kept : model.IsAsKept here now k (read_in t.mirror.array again.devices.left k)
+      known_as_kept = record {
+        offset = λ own told. (as_kept k (known_says own told)).offset own told;
+        listed = λ own told. (as_kept k (known_says own told)).listed own told;
+      }
+
+    module _ (es : List Event) (run : MirrorRun (opened_as opened) es t) (first_lists : ListsAreIn (λ _. false) (world_of opened none_in_flight))
+        (b : Content) (told : MirrorOpensBehind opened t next again b) (becomes : BecomesAtOpening (geometry_of next.array) w a b) where
       opens_behind : OpensBehind here was (history_of s.moment) first w (reopens_here g small opened same_opened t a is.held next again) b
       opens_behind j on = elim (told j on) [
         | inl x ↦
             let there = as_left t is.held.sound next opened (same_here g small opened same_opened t a is.held next again) small_there (kept_here g small opened same_opened t a is.held next again) again j x.0 x.1 in
             let r = reopens_here g small opened same_opened t a is.held next again in
-            inl (subst (λ i. (r.made_of i ≡ r.left i) × model.IsAsKept here now i (r.left i)) (sym there.0)
-            (there.1, half_kept here now x.0 (read_in t.mirror.array again.devices.left x.0) (r.left x.0) there.2 (as_kept x.0 x.2)))
+            inl (subst (λ i. (r.made_of i ≡ r.left i) × model.IsAsKept here now i (r.left i)) (sym there.0) (
+              there.1,
+              half_kept here now x.0 (read_in t.mirror.array again.devices.left x.0) (r.left x.0) there.2 (elim x.2 [
+                | inl known ↦ known_as_kept es run first_lists x.0 (again.devices.unspoiled x.0 j (again.devices.found j x.0 x.1)) known
+                | inr says ↦ as_kept x.0 says
+              ]),
+            ))
         | inr late ↦ inr (subst (λ y. IsBehind y b (recovered y w j) w) same_next late)
       ]
 
@@ -175,28 +199,30 @@ module _ (g : Geometry) (small : IsWithinLimits g) where
 
   -- ---- lives
   resumed_life : (m : MirrorView) (a : Content) (es : List Event) (rest : List (List Event)) (final : MirrorView) (last : Moment) (b : Content) (life : MirrorLifeWith m a es rest final last b)
-      → MirrorLifeJoins m a es rest final last b life → geometry_of m.array ≡ g → IsResumedAt g (super_of m.array.shared) (opened_as m) a
+      → MirrorLifeJoins m a es rest final last b life → geometry_of m.array ≡ g → ListsAreIn (λ _. false) (world_of m none_in_flight) → IsResumedAt g (super_of m.array.shared) (opened_as m) a
       → IsResumedAt g (super_of final.array.shared) last b
-  resumed_life m a es [] final last b life told chunks is =
+  resumed_life m a es [] final last b life told chunks lists is =
       subst (λ (x : MirrorView). IsResumedAt g (super_of x.array.shared) last b) (sym life.0) (resumed_along (super_of m.array.shared) es (opened_as m) a last b life.1 told is)
-  resumed_life m a es (more ∷ rest) final last b life told chunks is =
+  resumed_life m a es (more ∷ rest) final last b life told chunks lists is =
       let next = life.1 in
       let mid = resumed_along (super_of m.array.shared) es (opened_as m) a life.0 life.2 life.4 told.0 is in
       resumed_life next life.3 more rest final last b life.7 told.2 (same g small m chunks life.0 life.2 mid.held next life.5)
-      (resumed_next m chunks life.0 life.2 mid next life.5 life.3 told.1 life.6)
+      (lists_when_opened life.5.before next life.5.devices.honest life.5.opens)
+      (resumed_next m chunks life.0 life.2 mid next life.5 es (without_content es (opened_as m) a life.0 life.2 life.4) lists life.3 told.1 life.6)
 
-  along_life : (m : MirrorView) (a : Content) (es : List Event) (rest : List (List Event)) (final : MirrorView) (last : Moment) → geometry_of m.array ≡ g → IsResumedAt g (super_of m.array.shared) (opened_as m) a
+  along_life : (m : MirrorView) (a : Content) (es : List Event) (rest : List (List Event)) (final : MirrorView) (last : Moment) → geometry_of m.array ≡ g → ListsAreIn (λ _. false) (world_of m none_in_flight) → IsResumedAt g (super_of m.array.shared) (opened_as m) a
       → (life : MirrorLife m es rest final last) → MirrorLifeTells m a es rest final last life → (b : Content) × MirrorLifeWith m a es rest final last b
-  along_life m a es [] final last chunks is life told =
+  along_life m a es [] final last chunks lists is life told =
       let x = along (super_of m.array.shared) es (opened_as m) a last is life.1 told in
       (x.0, (life.0, x.1))
-  along_life m a es (more ∷ rest) final last chunks is life told =
+  along_life m a es (more ∷ rest) final last chunks lists is life told =
       let t = life.0 in
       let next = life.1 in
       let x = along (super_of m.array.shared) es (opened_as m) a t is life.2 told.0 in
       let d = content_next g small m chunks t x.0 x.2.held next life.3 in
       let behind = told.1 x.0 d.0 x.1 d.1 in
-      let y = along_life next d.0 more rest final last (same g small m chunks t x.0 x.2.held next life.3) (resumed_next m chunks t x.0 x.2 next life.3 d.0 behind.0 d.1) life.4 behind.1 in
+      let y = along_life next d.0 more rest final last (same g small m chunks t x.0 x.2.held next life.3) (lists_when_opened life.3.before next life.3.devices.honest life.3.opens)
+      (resumed_next m chunks t x.0 x.2 next life.3 es life.2 lists d.0 behind.0 d.1) life.4 behind.1 in
       (y.0, (t, next, x.0, d.0, x.1, life.3, d.1, y.1))
 
 resumed_first : (before : List Disk) (m : MirrorView) (a : Content) → IsStart before m → Holds (geometry_of m.array) a (world_of m none_in_flight) → RecoveringHolds (geometry_of m.array) a (world_of m none_in_flight)
@@ -213,8 +239,10 @@ says_no_more_when_opened before m start k kept =
 
 pub keeps_recovering : KeepsRecovering
 keeps_recovering before m a start holds recovering es rest final last b life told =
-    (resumed_life (geometry_of m.array) (starts_small before m start) m a es rest final last b life told refl (resumed_first before m a start holds recovering)).recovering
+    (resumed_life (geometry_of m.array) (starts_small before m start) m a es rest final last b life told refl (lists_when_opened before m start.honest start.opened)
+    (resumed_first before m a start holds recovering)).recovering
 
 pub content_along : ContentGoesAlong
 content_along before m a start holds recovering es rest final last life told =
-    along_life (geometry_of m.array) (starts_small before m start) m a es rest final last refl (resumed_first before m a start holds recovering) life told
+    along_life (geometry_of m.array) (starts_small before m start) m a es rest final last refl (lists_when_opened before m start.honest start.opened)
+    (resumed_first before m a start holds recovering) life told
