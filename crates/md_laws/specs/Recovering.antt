@@ -1,6 +1,6 @@
 -- What the recovering members of a mirror hold of the array's content, over its life: by this a member that was taken back, or a rebuild that
 -- was interrupted, is rebuilt in the chunks that it lacks alone.
-use Rattle.std.specs.Prelude.{◌≡◌, ◌⊎◌, ℕ, ◌≤◌, true, false, List, [], ◌∷◌, Option, slice_get, Some}
+use Rattle.std.specs.Prelude.{◌≡◌, ◌⊎◌, ℕ, ◌≤◌, true, false, List, [], ◌∷◌, slice_get, Some}
 use Rattle.md_model.specs.Behind.{IsBehind}
 use Rattle.md_model.specs.Content.{Content, Becomes, BecomesAtOpening, Holds}
 use Rattle.md_model.specs.Devices.{Stored, Super}
@@ -9,7 +9,7 @@ use Rattle.md_model.specs.Rebuilding.{MayFill, is_target}
 use Rattle.md_model.specs.Sectors.{Geometry}
 use Rattle.md_model.specs.Recovering.{IsAsPrepared, IsAsStored, JoinsBehind, RecoveringHolds, recovered}
 use Rattle.md_model.specs.States.{is_recovering}
-use Rattle.md_model.specs.Worlds.{Request, World}
+use Rattle.md_model.specs.Worlds.{World}
 use Rattle.md_state.specs.View.{Disk, MirrorView, geometry_of}
 use Rattle.md_array.specs.Worlds.{none_in_flight, stored_on, world_of}
 use Rattle.md_laws.specs.Left.{IsLeft, IsStoring}

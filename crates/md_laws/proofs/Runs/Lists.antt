@@ -1,5 +1,5 @@
 -- The log of a member that is rebuilt lists what its list in memory has, as long as the log is known, if it was so at the opening.
-use Rattle.std.proofs.Common.{◌≡◌, ◌≢◌, ℕ, inl, inr, Bool, true, false, true≢false, ◌&&◌, ◌||◌, eqb, nat_lt, List, [], ◌∷◌, Some, None, refl, sym, ap, ◌∙◌, subst}
+use Rattle.std.proofs.Common.{◌≡◌, ℕ, inl, inr, Bool, true, false, true≢false, ◌&&◌, ◌||◌, eqb, nat_lt, List, [], ◌∷◌, Some, refl, sym, ap, ◌∙◌, subst}
 use Rattle.md_model.specs.Sectors.{Geometry, chunk_of, put}
 use Rattle.md_model.specs.States.{State, is_in_sync}
 use Rattle.md_model.specs.States.State.{InSync, Recovering, Stale, Spare, Faulty}
@@ -10,7 +10,7 @@ use Rattle.md_model.specs.Failures.{failed}
 use Rattle.md_model.specs.Steps.{marked_device, recorded_device, with_device, written_device}
 use Rattle.md_model.specs.Resyncing.{copied_device}
 use Rattle.md_model.specs.Membership.{Newcomer, former_member, is_spare, joined, new_member, removed, skip}
-use Rattle.md_model.specs.Rebuilding.{Taking, admitted, as_in_sync, as_recovering, checkpointed, is_target, takes_role, taking_device, with_offset}
+use Rattle.md_model.specs.Rebuilding.{as_in_sync, as_recovering, is_target, takes_role, taking_device, with_offset}
 use Rattle.md_model.specs.Events.{Event, Happens}
 use Rattle.md_model.specs.Listing.{noted_bad}
 use Rattle.md_model.specs.Stops as stops
