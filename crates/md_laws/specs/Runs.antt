@@ -23,10 +23,10 @@ pub record Moment : Type 0 where
   pub tried : Bool  -- data was written to a member, or a write of it failed
   pub away : ℕ → Bool  -- no member had this number at any moment since the opening
   pub spoiled : ℕ → Bool  -- of this member a write of its superblock failed and may have left any, and none was stored since
-  pub log_unknown : ℕ → Bool  -- of this member an `enrol`, an `admit` or a `checkpoint` failed since it joined: its log may be any, or untold of
+  pub log_unknown : ℕ → Bool  -- of this member an `enrol`, an `admit` or a `checkpoint` failed: its log may be any, or a superblock not tell of it
 
 -- An `enrol` that failed may have left any log. A superblock that may be any may not tell of the log, and a record after it doesn't make
--- that known.
+-- that known. An `enrol` that is done stores the log, and a device that comes in has its own.
 abbrev pub log_unknown_after : Event → World → (ℕ → Bool) → ℕ → Bool
 log_unknown_after (Event.Prepare k) w before = put k true before
 log_unknown_after (Event.SpoilTarget k) w before = put k true before
