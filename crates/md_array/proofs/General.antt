@@ -8,6 +8,8 @@ pub mod Appended
 pub mod Honesty
 -- Lists by their indices.
 pub mod Indices
+-- An array is degraded exactly where fewer members are in sync than there are raid disks.
+pub mod InSyncCounted
 -- Sectors are read from a member's device.
 pub mod ReadingData
 -- A list with one element replaced.

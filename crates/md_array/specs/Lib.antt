@@ -8,6 +8,8 @@ pub mod Opening
 pub mod Refusals
 -- What holds of a mirror between its calls: opening gives it, and each call keeps it.
 pub mod Consistency
+-- How many members are in sync.
+pub mod InSyncCount
 -- Devices and the array that is kept of them fit one another, so that marks may be stored on the members.
 pub mod Fits
 -- The mirror as the array's world: each device's bytes are read for what assembly, marks and data are.

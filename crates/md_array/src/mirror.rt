@@ -6,6 +6,8 @@ ghost use Rattle.md_kept_members.specs.Members.{NeedsMarks};
 ghost use Rattle.md_state.specs.View.{disk_of};
 ghost use Rattle.md_state.specs.Missing.{is_re_added};
 ghost use Rattle.md_state.specs.Members.{IsMember, IsPermitted, is_degraded};
+ghost use Rattle.md_array.specs.Consistency.{IsConsistent};
+ghost use Rattle.md_array.specs.InSyncCount.{in_sync_count};
 
 use md_assembly::MemberState;
 use md_badblocks::BadSet;
@@ -147,9 +149,11 @@ impl<D: Device + Drop> Mirror<D> {
         Some(number)
     }
 
-    /// Whether some role has no member in sync.
+    /// Whether some role has no member in sync: whether fewer members are in sync than there are raid
+    /// disks, since the roles of members in sync differ and are below raid_disks.
     pub fn degraded(&self) -> bool
-        ensures { result ≡ is_degraded self.now.array }
+        ensures roles { result ≡ is_degraded self.now.array }
+        ensures counted { IsConsistent self.now → IsTrue result ↔ (in_sync_count self.now.array < self.now.array.shared.raid_disks) }
     {
         self.array.is_degraded()
     }

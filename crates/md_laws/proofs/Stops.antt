@@ -12,6 +12,8 @@ pub mod DataInFlight
 pub mod Enrolled
 -- A superblock that ends within its first sector is read by that sector.
 pub mod FirstSector
+-- A write of marks or of a log that halts the mirror, and that a stop left done or not done.
+pub mod HaltedWrites
 -- What a stop leaves within a call is what one leaves between two calls, or in the midst of a write of data.
 pub mod LeftAtStops
 -- What is read of devices goes by what stands on them.

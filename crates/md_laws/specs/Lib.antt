@@ -27,6 +27,8 @@ pub mod Spoiled
 pub mod StoppedCopies
 -- What a stop leaves within a whole call.
 pub mod StoppedCalls
+-- What a stop leaves within a write that halts the mirror.
+pub mod HaltedWrites
 -- A life of a mirror of one member: what the laws on lives ask can be met.
 pub mod SmallLife
 -- What a member that failed still has of the array's content.

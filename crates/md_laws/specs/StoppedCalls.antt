@@ -118,7 +118,8 @@ StopsAtSteps =
     → (left : List Disk) (stop : StopsIn es previous t.mirror t.requests (λ m r. (m ≡ new) × (r ≡ after)) leads left)
     → LeftWholeUntil es previous t.mirror t.requests (λ m r. (m ≡ new) × (r ≡ after)) leads left stop → IsStopOf es t left))
 
--- What is asked within a write that halted the mirror. Of one of marks, of a copy or of a log nothing is said once it began.
+-- What is asked within a write that halted the mirror. Of one of marks, of a copy or of a log nothing is said here once it began
+-- (`HaltedWrites` speaks of one that was left done or not done).
 abbrev pub IsLeftHalting : Event → MirrorView → List Disk → Type 0
 IsLeftHalting (Event.RecordFails k) old left = LeavesSuperWhole k old left
 IsLeftHalting (Event.WriteMemberFails n k) old left = Unit {0}

@@ -1,5 +1,6 @@
 //! What holds of calls that are lists of events.
 
+ghost use Rattle.md_laws.specs.HaltedWrites.{StopsAtHaltedCopies, StopsAtHaltedLog, StopsAtHaltedMarks};
 ghost use Rattle.md_laws.specs.StoppedCalls.{StopsAreTold, StopsAtHalts, StopsAtSteps};
 ghost use Rattle.md_laws.specs.StoppedCopies.{StopsAtCopies};
 ghost use Rattle.md_laws.specs.StopsWithin.{StopsAtLog};
@@ -32,7 +33,7 @@ pub fn joining_calls()
 /// A rebuild is in the list: what its worker gives to one member while the devices are lent, a superblock of that member that
 /// could not be stored, and `enrol`, which is two events: the member is prepared, and comes into sync by the write of its
 /// superblock. Where that write fails, it is prepared and spoiled, so that the next opening has to leave it out. Of an `enrol` that
-/// fails by a write of the bitmap or the log nothing is said.
+/// fails by a write of the bitmap or the log `md_rebuild_laws` speaks (`unfinished_enrols`).
 pub fn rebuilding_calls()
     ensures fill { FillIsACall }
     ensures target { TargetFailureIsACall }
@@ -83,4 +84,13 @@ pub fn stopped_calls()
 
     // What the devices tell of stops after such a call, they tell of one of its steps.
     ensures told { StopsAreTold }
+{}
+
+/// A write of marks, of a log or of a copy that fails and halts the mirror may leave any bytes in its range, and of these nothing is
+/// said. Where a stop within it left it done or not done, and of a copy each sector as it was or as written, that stands on
+/// the devices after a step that is done, or after a copy of some of the sectors: so it is what a stop between two events leaves, of another list.
+pub fn halted_writes()
+    ensures marks { StopsAtHaltedMarks }
+    ensures log { StopsAtHaltedLog }
+    ensures copy { StopsAtHaltedCopies }
 {}

@@ -1,5 +1,5 @@
 -- What is known of the members, and of one role.
-use Rattle.std.proofs.Common.{◌≡◌, ◌↔◌, ℕ, ◌+◌, ◌-◌, ◌/◌, ◌^◌, ◌<◌, ◌≤◌, Bool, true, false, List, length, slice_get, Some, sym, ap, ◌∙◌, subst, arith, inl, inr}
+use Rattle.std.proofs.Common.{◌≡◌, ◌↔◌, ℕ, ◌+◌, ◌-◌, ◌/◌, ◌^◌, ◌<◌, ◌≤◌, Bool, true, false, List, length, slice_get, Some, sym, ap, ◌∙◌, subst, arith, inr}
 use Rattle.std.specs.Prelude.{option_map}
 use Rattle.std.proofs.lemmas.Option.{same_Some, slice_get_within}
 use Rattle.md_badblocks.specs.Runs.{IsBad, RisesFrom}
@@ -19,7 +19,7 @@ use Rattle.md_state.specs.Members.{IsMember}
 use Rattle.md_state.specs.ReadingData.{FailsToRead, ReadsData}
 use Rattle.md_state.specs.View.{ArrayView, MirrorView}
 use Rattle.md_state.proofs.Members.At.{told}
-use Rattle.md_read.specs.Reading.{GivesInGroup, HasRole, IsInRole, NotGivenIn}
+use Rattle.md_read.specs.Reading.{GivesInGroup, HasRole, IsInRole, ListedIn, NotGivenIn}
 
 -- ---- what is listed
 
@@ -90,14 +90,14 @@ module _ (old : MirrorView) (sound : IsConsistent old) (mostly : Bool) (role k s
       same_Some m is.member (sym at ∙ subst (λ (i : ℕ). IsMember old.array i is.member) (sym same) is.at)
 
   -- it is not one of those that are asked
-  pub not_asked : (new : MirrorView) → (is_write_mostly is.member.superblock ≡ mostly → ⊥) → (s : ℕ) → NotGivenIn mostly role s old new
-  not_asked new other s j m at as_role flag =
+  pub not_asked : (is_write_mostly is.member.superblock ≡ mostly → ⊥) → (s : ℕ) → ListedIn mostly role s old.array
+  not_asked other s j m at as_role flag =
       absurd (other (subst (λ (x : MemberView). is_write_mostly x.superblock ≡ mostly) (the_one j m at as_role) flag))
 
   -- all of them are listed
-  pub all_listed : (new : MirrorView) → ListsAll is.member sector sectors → (s : ℕ) → sector ≤ s → s < sector + sectors → NotGivenIn mostly role s old new
-  all_listed new all s from below j m at as_role flag =
-      inl (subst (λ (x : MemberView). Lists x s) (sym (the_one j m at as_role)) (all s from below))
+  pub all_listed : ListsAll is.member sector sectors → (s : ℕ) → sector ≤ s → s < sector + sectors → ListedIn mostly role s old.array
+  all_listed all s from below j m at as_role flag =
+      subst (λ (x : MemberView). Lists x s) (sym (the_one j m at as_role)) (all s from below)
 
   -- its read failed
   pub read_failed : (new : MirrorView) → FailsToRead k old new → (s : ℕ) → NotGivenIn mostly role s old new

@@ -15,7 +15,7 @@ use Rattle.md_array.proofs.Worlds.SectorCopied.{has_role, in_sync_as}
 use Rattle.md_laws.proofs.Runs.Rests.{rests_same, rests_then}
 use Rattle.md_read.specs.declared.roles.Answer.{Answer}
 use Rattle.md_read.specs.declared.roles.Answer.TheVariants as answer
-use Rattle.md_read.specs.Reading.{GivesFirst, GivesIn, GivesInGroup, GivesRun, HasNotGiven, IsAskedBefore, IsBefore, IsInRole, NoneGives, NoneOfGroupGives, NotGivenIn, TriesGroup, TriesRoles, gives_none}
+use Rattle.md_read.specs.Reading.{AllOfGroupList, GivesFirst, GivesIn, GivesInGroup, GivesRun, HasNotGiven, IsAskedBefore, IsBefore, IsInRole, ListedIn, NoneGives, NoneOfGroupGives, NotGivenIn, TriesGroup, TriesRoles, all_listed, gives_none}
 use Rattle.md_assembly.proofs.Indices.{got_within}
 use Rattle.md_assembly.specs.States.{is_in_sync_as}
 use Rattle.md_assembly.specs.declared.state.MemberState.{MemberState}
@@ -129,6 +129,34 @@ none_in_any mostly old new sound last sector sectors all so_far s from below k m
     let low = sound.roles.below k as_role.0 m on.member (in_sync_as as_role.0 m.state as_role.1).1 in
     so_far.none as_role.0 (omega arith) s from below k m on.member as_role.1 flag
 
+-- in the roles below this one everybody of the group lists these sectors
+pub record ListedBelow (mostly : Bool) (role sector sectors : ℕ) (a : ArrayView) : Type 0 where
+  pub lists : (lower : ℕ) → lower < role → (s : ℕ) → sector ≤ s → s < sector + sectors → ListedIn mostly lower s a
+
+pub listed_first : (mostly : Bool) (sector sectors : ℕ) (a : ArrayView) → ListedBelow mostly 0 sector sectors a
+listed_first mostly sector sectors a = record { lists = λ lower low s from below. absurd (omega arith) }
+
+pub listed_more : (mostly : Bool) (role sector sectors : ℕ) (old mid : MirrorView) → Rests old mid → ListedBelow mostly role sector sectors old.array
+    → ((s : ℕ) → sector ≤ s → s < sector + sectors → ListedIn mostly role s mid.array) → ListedBelow mostly (role + 1) sector sectors old.array
+listed_more mostly role sector sectors old mid rests before lists = record {
+  lists = λ lower low s from below.
+      by_same lower role
+      (λ same. subst (λ (a : ArrayView). ListedIn mostly lower s a) rests.array (subst (λ (r : ℕ). ListedIn mostly r s mid.array) (sym same) (lists s from below)))
+      (λ apart. before.lists lower (omega arith) s from below);
+}
+
+-- every role was tried
+pub listed_in_any : (mostly : Bool) (old : MirrorView) → IsConsistent old → (last sector sectors : ℕ) → old.array.shared.raid_disks ≤ last → ListedBelow mostly last sector sectors old.array
+    → AllOfGroupList mostly sector sectors old.array
+listed_in_any mostly old sound last sector sectors all so_far s from below k m on flag =
+    let as_role = has_role m.state on.in_sync in
+    let low = sound.roles.below k as_role.0 m on.member (in_sync_as as_role.0 m.state as_role.1).1 in
+    so_far.lists as_role.0 (omega arith) s from below k m on.member as_role.1 flag
+
+-- who lists a sector does not give it
+pub listed_not_given : (mostly : Bool) (role s : ℕ) (old new : MirrorView) → ListedIn mostly role s old.array → NotGivenIn mostly role s old new
+listed_not_given mostly role s old new lists k m at as_role flag = inl (lists k m at as_role flag)
+
 module _ (mostly : Bool) (role sector : ℕ) (old mid new : MirrorView) where
   pub none_more : (sectors : ℕ) → NoneBelow mostly role sector sectors old mid → Rests mid new → ((s : ℕ) → sector ≤ s → s < sector + sectors → NotGivenIn mostly role s mid new) → NoneBelow mostly (role + 1) sector sectors old new
   none_more sectors before rests none = record {
@@ -194,47 +222,70 @@ module _ (sector : ℕ) (was : List ℕ) (whole : length was % 512 ≡ 0) where
   first_group bytes old new answer.Nothing long some tried = absurd cc
   first_group bytes old new answer.Failed long some tried = absurd cc
 
-  pub none_given : (bytes : List ℕ) (old new : MirrorView) (first : Answer) → gives_none first ≡ true → TriesGroup false sector was bytes old new first → Rests old new × NoneOfGroupGives false sector (length was / 512) old new
-  none_given bytes old new answer.All is tried = absurd cc
-  none_given bytes old new answer.Perhaps is tried = absurd cc
-  none_given bytes old new answer.Nothing is tried = tried
-  none_given bytes old new answer.Failed is tried = tried
+  -- none of them was given by a group
+  pub none_given : (mostly : Bool) (bytes : List ℕ) (old new : MirrorView) (told : Answer) → gives_none told ≡ true → TriesGroup mostly sector was bytes old new told
+      → Rests old new × NoneOfGroupGives mostly sector (length was / 512) old new
+  none_given mostly bytes old new answer.All is tried = absurd cc
+  none_given mostly bytes old new answer.Perhaps is tried = absurd cc
+  none_given mostly bytes old new answer.Nothing is (rests, lists) = (rests, λ s from below k m on flag. inl (lists s from below k m on flag))
+  none_given mostly bytes old new answer.Failed is tried = tried
 
-  abbrev NeitherGives : MirrorView → MirrorView → Type 0
-  NeitherGives old new = (s : ℕ) → sector ≤ s → s < sector + length was / 512 → NoneGives s old new
+  -- all of them are listed by a group
+  listed_by : (mostly : Bool) (bytes : List ℕ) (old new : MirrorView) (told : Answer) → all_listed told ≡ true → TriesGroup mostly sector was bytes old new told
+      → AllOfGroupList mostly sector (length was / 512) old.array
+  listed_by mostly bytes old new answer.All is tried = absurd cc
+  listed_by mostly bytes old new answer.Perhaps is tried = absurd cc
+  listed_by mostly bytes old new answer.Nothing is tried = tried.1
+  listed_by mostly bytes old new answer.Failed is tried = absurd cc
 
-  module _ (left : List ℕ) (long : length left ≡ length was) (old mid new : MirrorView) (first : Answer) (is : gives_none first ≡ true) (tried : TriesGroup false sector was left old mid first) where
+module _ (sector : ℕ) (was : List ℕ) (whole : length was % 512 ≡ 0) (left : List ℕ) (long : length left ≡ length was) (old mid new : MirrorView) where
+  module _ (first : Answer) (is : gives_none first ≡ true) (tried : TriesGroup false sector was left old mid first) where
     before : Rests old mid × NoneOfGroupGives false sector (length was / 512) old mid
-    before = none_given left old mid first is tried
+    before = none_given sector was whole false left old mid first is tried
 
     first_none : Rests mid new → NoneOfGroupGives false sector (length was / 512) old new
     first_none rests = group_later old mid new before.0 rests false sector (length was / 512) before.1
 
-    -- neither group gave any of them
-    none_of_both : Rests mid new → NoneOfGroupGives true sector (length left / 512) mid new → NeitherGives old new
-    none_of_both rests also s from below k m on = elim (cases_Bool (is_write_mostly m.superblock)) [
-      | inl mostly ↦ group_earlier old mid new before.0 rests true sector (length left / 512) also s from (omega arith) k m on mostly
-      | inr other ↦ first_none rests s from below k m on other
-    ]
-
-    -- the second did not, so that it is as the first one told
-    pub neither_group : (bytes : List ℕ) → TriesGroup true sector left bytes mid new answer.Nothing → TriesRoles sector was bytes old new first
-    neither_group bytes (rests, also) = by_first first is (rests_then old mid new before.0 rests) (none_of_both rests also)
-      where
-        by_first : (told : Answer) → gives_none told ≡ true → Rests old new → NeitherGives old new → TriesRoles sector was bytes old new told
-        by_first answer.All none all neither = absurd cc
-        by_first answer.Perhaps none all neither = absurd cc
-        by_first answer.Nothing none all neither = (all, neither)
-        by_first answer.Failed none all neither = (all, neither)
-
-    -- or it did
-    pub second_group : (bytes : List ℕ) (second : Answer) → length bytes ≡ length left → TriesGroup true sector left bytes mid new second → TriesRoles sector was bytes old new second
-    second_group bytes answer.All same (rests, gives) =
+    -- the second group gave them, or some of them may be given
+    pub second_group : (bytes : List ℕ) (second : Answer) → length bytes ≡ length left → gives_none second ≡ false → TriesGroup true sector left bytes mid new second → TriesRoles sector was bytes old new second
+    second_group bytes answer.All same some (rests, gives) =
         given_run true sector bytes old new
         (first_earlier old mid new before.0 rests true sector bytes gives)
         (λ e. subst (λ n. NoneOfGroupGives false sector (n / 512) old new) (sym (same ∙ long)) (first_none rests))
         (rests_then old mid new before.0 rests)
         (omega arith)
-    second_group bytes answer.Nothing same (rests, also) = (rests_then old mid new before.0 rests, none_of_both rests also)
-    second_group bytes answer.Failed same (rests, also) = (rests_then old mid new before.0 rests, none_of_both rests also)
-    second_group bytes answer.Perhaps same (rests, some) = (rests_then old mid new before.0 rests, subst (λ n. 1 < n / 512) long some)
+    second_group bytes answer.Nothing same some tried_also = absurd cc
+    second_group bytes answer.Failed same some tried_also = absurd cc
+    second_group bytes answer.Perhaps same some (rests, several) = (rests_then old mid new before.0 rests, subst (λ n. 1 < n / 512) long several)
+
+    -- neither group gave any of them
+    module _ (bytes : List ℕ) (second : Answer) (also : gives_none second ≡ true) (tried_also : TriesGroup true sector left bytes mid new second) where
+      after : Rests mid new × NoneOfGroupGives true sector (length left / 512) mid new
+      after = none_given sector left (omega arith) true bytes mid new second also tried_also
+
+      both_rest : Rests old new
+      both_rest = rests_then old mid new before.0 after.0
+
+      neither : (s : ℕ) → sector ≤ s → s < sector + length was / 512 → NoneGives s old new
+      neither s from below k m on = elim (cases_Bool (is_write_mostly m.superblock)) [
+        | inl mostly ↦ group_earlier old mid new before.0 after.0 true sector (length left / 512) after.1 s from (omega arith) k m on mostly
+        | inr other ↦ first_none after.0 s from below k m on other
+      ]
+
+      -- a read of one sector alone failed
+      pub one_failed : length was ≡ 512 → TriesRoles sector was bytes old new answer.Failed
+      one_failed one = (both_rest, omega arith, neither sector (omega arith) (omega arith))
+
+      -- of several some may be given
+      pub some_perhaps : 1 < length was / 512 → TriesRoles sector was bytes old new answer.Perhaps
+      some_perhaps several = (both_rest, several)
+
+      -- all members in sync list all of them
+      pub both_list : all_listed first ≡ true → all_listed second ≡ true → TriesRoles sector was bytes old new answer.Nothing
+      both_list listed listed_also = (
+        both_rest,
+        λ s from below k m on. elim (cases_Bool (is_write_mostly m.superblock)) [
+          | inl mostly ↦ listed_by sector left (omega arith) true bytes mid new second listed_also tried_also s from (omega arith) k m (in_sync_later old mid new before.0 after.0 k m on) mostly
+          | inr other ↦ listed_by sector was whole false left old mid first listed tried s from below k m on other
+        ],
+      )

@@ -12,7 +12,7 @@ use Rattle.md_assembly.specs.States.{is_in_sync_as}
 use Rattle.md_state.specs.Beginning.{IsInRange, IsOutOfRange}
 use Rattle.md_state.specs.CopyingData.{Lists}
 use Rattle.md_state.specs.DiskWrites.{AtDevice}
-use Rattle.md_state.specs.Members.{IsInSync, IsMember}
+use Rattle.md_state.specs.Members.{AllInSync, IsInSync, IsMember}
 use Rattle.md_state.specs.ReadingData.{HoldsData}
 use Rattle.md_state.specs.Requests.{AreInFlight}
 use Rattle.md_state.specs.Rests.{Rests}
@@ -139,6 +139,11 @@ abbrev pub NotGivenIn : Bool → ℕ → ℕ → MirrorView → MirrorView → T
 NotGivenIn mostly role s old new =
     (k : ℕ) (m : MemberView) → IsMember old.array k m → is_in_sync_as role m.state ≡ true → is_write_mostly m.superblock ≡ mostly → HasNotGiven k m s old new
 
+-- whoever of the group is in sync in the role lists the sector
+abbrev pub ListedIn : Bool → ℕ → ℕ → ArrayView → Type 0
+ListedIn mostly role s a =
+    (k : ℕ) (m : MemberView) → IsMember a k m → is_in_sync_as role m.state ≡ true → is_write_mostly m.superblock ≡ mostly → Lists m s
+
 -- the member in the role gave these sectors, and is of the group
 pub record GivesInGroup (mostly : Bool) (role sector : ℕ) (bytes : List ℕ) (old new : MirrorView) : Type 0 where
   pub gives : GivesIn role sector bytes old new
@@ -146,7 +151,7 @@ pub record GivesInGroup (mostly : Bool) (role sector : ℕ) (bytes : List ℕ) (
 
 abbrev pub TriesRole : Bool → ℕ → ℕ → List ℕ → List ℕ → MirrorView → MirrorView → Answer → Type 0
 TriesRole mostly role sector was bytes old new answer.All = Rests old new × GivesInGroup mostly role sector bytes old new
-TriesRole mostly role sector was bytes old new answer.Nothing = Rests old new × ((s : ℕ) → sector ≤ s → s < sector + length was / 512 → NotGivenIn mostly role s old new)
+TriesRole mostly role sector was bytes old new answer.Nothing = Rests old new × ((s : ℕ) → sector ≤ s → s < sector + length was / 512 → ListedIn mostly role s old.array)
 TriesRole mostly role sector was bytes old new answer.Failed = Rests old new × ((s : ℕ) → sector ≤ s → s < sector + length was / 512 → NotGivenIn mostly role s old new)
 TriesRole mostly role sector was bytes old new answer.Perhaps = Rests old new × (1 < length was / 512)
 
@@ -157,6 +162,12 @@ NoneOfGroupGives mostly sector sectors old new =
     (s : ℕ) → sector ≤ s → s < sector + sectors
     → (k : ℕ) (m : MemberView) → IsInSync old.array k m → is_write_mostly m.superblock ≡ mostly → HasNotGiven k m s old new
 
+-- all of its members in sync list all of them
+abbrev pub AllOfGroupList : Bool → ℕ → ℕ → ArrayView → Type 0
+AllOfGroupList mostly sector sectors a =
+    (s : ℕ) → sector ≤ s → s < sector + sectors
+    → (k : ℕ) (m : MemberView) → IsInSync a k m → is_write_mostly m.superblock ≡ mostly → Lists m s
+
 -- one of them gave these sectors, and none of a lower role did
 pub record GivesFirst (mostly : Bool) (sector : ℕ) (bytes : List ℕ) (old new : MirrorView) : Type 0 where
   pub role : ℕ
@@ -165,7 +176,7 @@ pub record GivesFirst (mostly : Bool) (sector : ℕ) (bytes : List ℕ) (old new
 
 abbrev pub TriesGroup : Bool → ℕ → List ℕ → List ℕ → MirrorView → MirrorView → Answer → Type 0
 TriesGroup mostly sector was bytes old new answer.All = Rests old new × GivesFirst mostly sector bytes old new
-TriesGroup mostly sector was bytes old new answer.Nothing = Rests old new × NoneOfGroupGives mostly sector (length was / 512) old new
+TriesGroup mostly sector was bytes old new answer.Nothing = Rests old new × AllOfGroupList mostly sector (length was / 512) old.array
 TriesGroup mostly sector was bytes old new answer.Failed = Rests old new × NoneOfGroupGives mostly sector (length was / 512) old new
 TriesGroup mostly sector was bytes old new answer.Perhaps = Rests old new × (1 < length was / 512)
 
@@ -176,11 +187,19 @@ gives_none answer.Nothing = true
 gives_none answer.Failed = true
 gives_none answer.Perhaps = false
 
+-- all members in sync that were asked list them: no read failed
+abbrev pub all_listed : Answer → Bool
+all_listed answer.All = false
+all_listed answer.Nothing = true
+all_listed answer.Failed = false
+all_listed answer.Perhaps = false
+
 -- ---- a run of sectors
+-- Only of one sector alone a failed read says that nobody gives it: of several that were read at once some may be given yet.
 abbrev pub TriesRoles : ℕ → List ℕ → List ℕ → MirrorView → MirrorView → Answer → Type 0
 TriesRoles sector was bytes old new answer.All = GivesRun sector bytes old new
-TriesRoles sector was bytes old new answer.Nothing = Rests old new × ((s : ℕ) → sector ≤ s → s < sector + length was / 512 → NoneGives s old new)
-TriesRoles sector was bytes old new answer.Failed = Rests old new × ((s : ℕ) → sector ≤ s → s < sector + length was / 512 → NoneGives s old new)
+TriesRoles sector was bytes old new answer.Nothing = Rests old new × ((s : ℕ) → sector ≤ s → s < sector + length was / 512 → AllInSync old.array (λ m. Lists m s))
+TriesRoles sector was bytes old new answer.Failed = Rests old new × (length was / 512 ≡ 1) × NoneGives sector old new
 TriesRoles sector was bytes old new answer.Perhaps = Rests old new × (1 < length was / 512)
 
 -- so many of the sectors were given, as one run

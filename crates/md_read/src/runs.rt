@@ -1,7 +1,7 @@
 // Reading runs of sectors, each from one member.
 ghost use Rattle.std.specs.Prelude.{◌≡◌, ◌+◌, ◌*◌, ◌/◌, ◌%◌, ◌^◌, ◌<◌, ◌≤◌, MatchOption, MatchResult, length};
 ghost use Rattle.md_array.specs.Consistency.{IsConsistent};
-ghost use Rattle.md_read.specs.Reading.{GivesFront, GivesNoFront, GivesSectors, IsGivenUpTo, TriesGroup, TriesRoles, gives_none};
+ghost use Rattle.md_read.specs.Reading.{GivesFront, GivesNoFront, GivesSectors, IsGivenUpTo, TriesGroup, TriesRoles, all_listed, gives_none};
 
 use crate::fault::UnreadFault;
 use crate::roles::{Answer, read_in};
@@ -9,7 +9,7 @@ use md_array::Mirror;
 use md_device::Device;
 
 // Reads these sectors from a member that is not write-mostly, and from one that is only where none of those
-// gives them.
+// gives them. Where reads of several sectors failed, some of these may be given yet.
 fn read_run<D: Device + Drop>(mirror: &mut Mirror<D>, sector: u64, buf: &mut [u8]) -> Answer
     requires some { 512 ≤ length buf.old }
     requires whole { length buf.old % 512 ≡ 0 }
@@ -21,12 +21,17 @@ fn read_run<D: Device + Drop>(mirror: &mut Mirror<D>, sector: u64, buf: &mut [u8
     if !is_none(first) {
         return first;
     }
-    match read_group(mirror, true, sector, buf) {
-        Answer::All => Answer::All,
-        Answer::Nothing => first,
-        Answer::Failed => Answer::Failed,
-        Answer::Perhaps => Answer::Perhaps,
+    let second = read_group(mirror, true, sector, buf);
+    if !is_none(second) {
+        return second;
     }
+    if are_listed(first) && are_listed(second) {
+        return Answer::Nothing;
+    }
+    if buf.len() == 512 {
+        return Answer::Failed;
+    }
+    Answer::Perhaps
 }
 
 // Whether none of the sectors was given.
@@ -36,6 +41,16 @@ fn is_none(answer: Answer) -> bool
     match answer {
         Answer::All | Answer::Perhaps => false,
         Answer::Nothing | Answer::Failed => true,
+    }
+}
+
+// Whether all of the sectors are listed by all that were asked, so that no read failed.
+fn are_listed(answer: Answer) -> bool
+    ensures { result ≡ all_listed answer }
+{
+    match answer {
+        Answer::Nothing => true,
+        Answer::All | Answer::Failed | Answer::Perhaps => false,
     }
 }
 
@@ -84,11 +99,7 @@ fn read_front<D: Device + Drop>(mirror: &mut Mirror<D>, sector: u64, buf: &mut [
         match read_run(mirror, sector, &mut buf[..512 * sectors]) {
             Answer::All => return Some(sectors as u64),
             Answer::Nothing => return None,
-            Answer::Failed => {
-                if sectors == 1 {
-                    return None;
-                }
-            }
+            Answer::Failed => return None,
             Answer::Perhaps => {}
         }
         sectors /= 2;

@@ -6,3 +6,5 @@ pub mod StoppedRebuilds
 pub mod RebuildRuns
 -- A rebuild that ends with a fault.
 pub mod RefusedRebuilds
+-- An `enrol` by itself of which a write of the bitmap or of the log failed.
+pub mod UnfinishedEnrols

@@ -3,6 +3,7 @@
 ghost use Rattle.md_rebuild_laws.specs.RebuildRuns.{RebuildIsARun, RebuildRunsOn};
 ghost use Rattle.md_rebuild_laws.specs.RebuiltInLife.{CopiesContent, HeldInLives, NewHadNothing, RebuildsContent, RebuildsResumed, RecoveringHeldIt, TakenBackHeldIt};
 ghost use Rattle.md_rebuild_laws.specs.RefusedRebuilds.{LostIsARun, RefusedIsARun, StopsLeaving, StopsLeavingAnyhow, StopsLeavingLost, StopsLeavingLostAnyhow, StopsUnleft, StopsUnleftLost};
+ghost use Rattle.md_rebuild_laws.specs.UnfinishedEnrols.{StopsUnfinishedEnrol, UnfinishedEnrolsPrepare};
 ghost use Rattle.md_rebuild_laws.specs.StoppedRebuilds.{StopsAdmitting, StopsAdmittingAnyhow, StopsAnyhow, StopsAtCheckpoint, StopsAtCheckpointAnyhow, StopsAtFailedCheckpoint, StopsEnrolled, StopsEnrolling, StopsEnrollingAnyhow, StopsFilling, StopsInRebuild, StopsListing, StopsPassUnrecorded, StopsRecording, StopsRecordingAnyhow, StopsSettling, StopsStoring, StopsTelling, StopsUnadmitted, StopsUnadmittedAnyhow, StopsUnenrolled, StopsUnenrolledAnyhow, StopsUnrecorded};
 
 /// A mirror was opened from devices that do what they answer, whose stored marks covered what they differ in,
@@ -81,4 +82,11 @@ pub fn refused_rebuilds()
     // Whatever stands in place of the target's superblock.
     ensures leaving_anyhow { StopsLeavingAnyhow }
     ensures leaving_lost_anyhow { StopsLeavingLostAnyhow }
+{}
+
+/// An `enrol` by itself of which a write of the bitmap or of the log failed is the event `Prepare`, whatever that write
+/// left (`md_laws::whole_calls::rebuilding_calls`, clause `prepare`), and a stop within it is one of a run.
+pub fn unfinished_enrols()
+    ensures prepares { UnfinishedEnrolsPrepare }
+    ensures stopped { StopsUnfinishedEnrol }
 {}

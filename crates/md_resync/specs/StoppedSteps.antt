@@ -10,7 +10,7 @@ use Rattle.md_laws.specs.StopsWithin.{MayAllBeLeft}
 use Rattle.md_resync.specs.Resyncing.{IsOfResync}
 use Rattle.md_resync.specs.Steps.{MirrorStep, StepsInTurn, StepsLead, events_of}
 
--- an event of a resync, that it came to no end among them
+-- an event of a resync, or the one by which a resync that was broken off notes that the array is not resynced
 abbrev pub IsResyncing : Event → Type 0
 IsResyncing Event.Unresynced = Unit {0}
 IsResyncing e = IsOfResync e

@@ -1,5 +1,5 @@
 -- What a stop leaves within the write of an event: devices that the event might leave at its end, or that a torn write leaves.
-use Rattle.std.proofs.Common.{◌≡◌, ◌≢◌, ◌∙◌, ◌⊎◌, ⊎_elim, inl, inr, ℕ, ◌*◌, ◌<◌, List, [], ◌∷◌, ◌++◌, length, map, slice_get, Some, sym, ap, refl, subst, arith}
+use Rattle.std.proofs.Common.{◌≡◌, ◌≢◌, ◌∙◌, ◌⊎◌, ⊎_elim, inl, inr, ℕ, ◌*◌, ◌<◌, ◌≤◌, List, [], ◌∷◌, ◌++◌, length, map, slice_get, Some, sym, ap, refl, subst, arith}
 use Rattle.std.specs.List.{insert}
 use Rattle.std.proofs.lemmas.Bool.{cases_lt}
 use Rattle.std.proofs.lemmas.List.{length-map}
@@ -7,7 +7,7 @@ use Rattle.std.proofs.lemmas.Option.{same_Some, slice_get_past, slice_get_within
 use Rattle.md_device.specs.Splice.{SameOutside, spliced}
 use Rattle.md_device.specs.Device.{held, written}
 use Rattle.md_device.specs.Stops.{IsMixed}
-use Rattle.md_device.proofs.Leaving.{three_same, in_three}
+use Rattle.md_device.proofs.Leaving.{in_three, leaves_none, three_same}
 use Rattle.md_writes.specs.Writes.{IsAnyIn, IsCutShort, Write}
 use Rattle.md_writes.proofs.Frames.{outside_none, outside_then}
 use Rattle.md_writes.proofs.Runs.{cut_one}
@@ -267,3 +267,52 @@ stops_at_events (Event.NoteBad k c) before after left honest writes may = in_mem
 stops_at_events (Event.StoreLog k listed) before after left honest (inl same) may = inl (in_memory before after left same may)
 stops_at_events (Event.StoreLog k listed) before after left honest (inr writes) may = inr (writes.0, writes.1, stops_at_write k writes.0 before after left honest writes.1 may)
 stops_at_events (Event.StoreLogFails k) before after left honest writes may = (writes.0, writes.1, stops_at_failure k writes.0 before after left honest writes.1 may)
+
+-- ---- a write that fails, and that a stop left done or not done
+module _ (k : ℕ) (w : Write) (before after : List Disk) (left : List (List ℕ)) (honest : AreHonest before) (failed : IsFailed k w before after) (may : MayAllBeLeft before after left) where
+  but_failed : IsLeftBut k (IsAnyIn w) before left
+  but_failed = stops_at_failure k w before after left honest failed may
+
+  as_it_was : ((d : Disk) (c : List ℕ) → slice_get before k ≡ Some d → slice_get left k ≡ Some c → c ≡ d.content) → left ≡ map (λ (d : Disk). d.content) before
+  as_it_was same = same_lists (map (λ (d : Disk). d.content) before) left (but_failed.as_many ∙ sym (length-map before (λ (d : Disk). d.content)))
+      (λ j x c at is.
+      let low = slice_get_within left j c is in
+      let long = but_failed.as_many in
+      let d = got_within before j (omega arith) in
+      let x_is : x ≡ d.0.content = same_Some x d.0.content (sym at ∙ got_in_map (λ (y : Disk). y.content) before j d.0 d.1) in
+      by_same j k
+      (λ here. same d.0 c (subst (λ (i : ℕ). slice_get before i ≡ Some d.0) here d.1) (subst (λ (i : ℕ). slice_get left i ≡ Some c) here is) ∙ sym x_is)
+      (λ apart. but_failed.others j apart d.0 c d.1 is ∙ sym x_is))
+
+  as_done : (d : Disk) (c : List ℕ) → slice_get before k ≡ Some d → slice_get left k ≡ Some c → c ≡ written d.content w.sector w.bytes
+      → (disks : List Disk) × IsWritten k w before disks × (map (λ (y : Disk). y.content) disks ≡ left)
+  as_done d c was is done =
+      let none = untouched k w before in (
+        with_contents before left,
+        record {
+          tried = found_tried k w before before left (IsAnyIn w) none but_failed (λ x y at any. any);
+          done = λ x e at here h.
+              let f = found_at k w before before left (IsAnyIn w) none but_failed x e at here in
+              ap (λ (y : Disk). y.content) f.same ∙ same_Some f.bytes c (sym f.at_left ∙ is) ∙ done ∙ ap (λ (y : Disk). written y.content w.sector w.bytes) (same_Some d x (sym was ∙ at));
+          within = λ x e at here h.
+              let f = found_at k w before before left (IsAnyIn w) none but_failed x e at here in
+              let same : f.then_was ≡ x = same_Some f.then_was x (sym f.at_then ∙ at) in
+              subst (λ (y : Disk). LeavesOn (IsCutShort x.content (w ∷ [])) x y) (sym f.same)
+              (subst (λ (y : Disk). LeavesOn (IsCutShort x.content (w ∷ [])) x y) (sym same) (leaves_none x.stops (IsCutShort x.content (w ∷ []))));
+        },
+        contents_found k w before before left (IsAnyIn w) none but_failed,
+      )
+
+  pub done_or_not : ((d : Disk) (c : List ℕ) → slice_get before k ≡ Some d → slice_get left k ≡ Some c → (c ≡ d.content) ⊎ (c ≡ written d.content w.sector w.bytes))
+      → (left ≡ map (λ (d : Disk). d.content) before) ⊎ ((disks : List Disk) × IsWritten k w before disks × (map (λ (y : Disk). y.content) disks ≡ left))
+  done_or_not either = ⊎_elim
+      (λ (low : k < length before).
+      let long = but_failed.as_many in
+      let d = got_within before k low in
+      let c = got_within left k (omega arith) in
+      ⊎_elim
+      (λ (same : c.0 ≡ d.0.content). inl (as_it_was (λ x y at here. same_Some y c.0 (sym here ∙ c.1) ∙ same ∙ ap (λ (z : Disk). z.content) (same_Some d.0 x (sym d.1 ∙ at)))))
+      (λ (done : c.0 ≡ written d.0.content w.sector w.bytes). inr (as_done d.0 c.0 d.1 c.1 done))
+      (either d.0 c.0 d.1 c.1))
+      (λ (past : length before ≤ k). inl (as_it_was (λ x y at here. let low = slice_get_within before k x at in absurd (omega arith))))
+      (cases_lt k (length before))

@@ -13,13 +13,15 @@ use Rattle.md_writes.specs.Writes.{IsCutShort}
 use Rattle.md_writes.proofs.Runs.{cut_one}
 use Rattle.md_kept_members.specs.View.{MemberView}
 use Rattle.md_state.specs.View.{Disk, MirrorView}
-use Rattle.md_state.specs.CopyingData.{CopiesSector, CopiesTo, MayCopy, run_write}
+use Rattle.md_state.specs.CopyingData.{CopiesSector, CopiesTo, IsCopy, MayCopy, run_write}
 use Rattle.md_state.specs.DeviceChanges.{StaysHonest}
 use Rattle.md_state.specs.ReadingData.{HoldsData}
 use Rattle.md_state.specs.Requests.{AreInFlight}
 use Rattle.md_array.specs.Consistency.{IsConsistent}
 use Rattle.md_array.specs.InTurn.{Leads, Requests}
-use Rattle.md_laws.specs.StoppedCopies.{StopsAtCopies, copies_at}
+use Rattle.md_laws.specs.HaltedWrites.{StopsAtHaltedCopies}
+use Rattle.md_laws.specs.StoppedCopies.{IsCopiedInPart, StopsAtCopies, copies_at}
+use Rattle.md_laws.specs.StopsWithin.{IsLeftBut}
 use Rattle.md_array.proofs.Steps.CopiedRun.{first_holds, first_may, others_hold, others_may}
 use Rattle.md_array.proofs.Steps.DataWritten.{part-spliced_within}
 use Rattle.md_array.proofs.Steps.OneWrite.{at_device}
@@ -27,7 +29,7 @@ use Rattle.md_array.proofs.Worlds.PartsApart.{parts_of}
 use Rattle.md_array.proofs.Steps.RunsOfSectors.{first_half, half, second_half}
 use Rattle.md_array.proofs.Worlds.SectorCopied.{copied_is_consistent, copy_happens}
 use Rattle.md_array.proofs.General.Indices.{at_set_same, got_in_map, got_other}
-use Rattle.md_laws.proofs.Stops.AtSteps.{same_lists, stops_at_write}
+use Rattle.md_laws.proofs.Stops.AtSteps.{same_lists, stops_at_failure, stops_at_write}
 use Rattle.md_assembly.proofs.Indices.{got_within}
 
 -- some of these sectors were copied: the device then has these bytes, and the others are as they were
@@ -230,18 +232,17 @@ copied_in_part zero from k = none_copied from k
 copied_in_part (suc n) from k = one_more n from k (copied_in_part n from k)
 
 -- ---- what a stop leaves
-pub stops_at_copies : StopsAtCopies
-stops_at_copies k sector bytes old new left c honest t may =
-    let copy = t.copy in
+-- no other device changed, and this one has each sector as it was or as written
+pub left_in_part : (k sector : ℕ) (bytes : List ℕ) (old : MirrorView) (left : List (List ℕ)) → IsConsistent old → (copy : IsCopy k sector bytes old)
+    → IsLeftBut k (IsMixed (copy.may.target.superblock.data_offset + sector) bytes) old.disks left → IsCopiedInPart k old left
+left_in_part k sector bytes old left c copy but =
     let m = copy.may.target in
-    let w = run_write m sector bytes in
-    let but = stops_at_write k w old.disks new.disks left honest t.disks may in
     let low = slice_get_within old.array.members k m copy.may.in_sync.member in
     let as_many = c.fits.as_many in
     let long = but.as_many in
     let d = got_within old.disks k (omega arith) in
     let x = got_within left k (omega arith) in
-    let mixed = as_mixed k sector bytes old new c t d.0 d.1 (honest k d.0 d.1) x.0 (but.this d.0 x.0 d.1 x.1) in
+    let mixed = but.this d.0 x.0 d.1 x.1 in
     let reached = copied_in_part copy.sectors copy.from k sector bytes old d.0 x.0 c copy.may copy.long copy.holds d.1
     (subst (λ (n : ℕ). SameOutside (512 * (m.superblock.data_offset + sector)) n d.0.content x.0) copy.long mixed.outside)
     (λ i below. let size = copy.long in mixed.each i (omega arith)) in
@@ -261,3 +262,18 @@ stops_at_copies k sector bytes old new left c honest t may =
           but.others j apart e.0 z e.1 is
           ∙ sym (same_Some y e.0.content (sym was ∙ got_in_map (λ (f : Disk). f.content) reached.mid.disks j e.0 (reached.others j apart ∙ e.1))))));
     }
+
+pub stops_at_copies : StopsAtCopies
+stops_at_copies k sector bytes old new left c honest t may =
+    let but = stops_at_write k (run_write t.copy.may.target sector bytes) old.disks new.disks left honest t.disks may in
+    left_in_part k sector bytes old left c t.copy (record {
+      as_many = but.as_many;
+      others = but.others;
+      this = λ d x was is. as_mixed k sector bytes old new c t d was (honest k d was) x (but.this d x was is);
+    })
+
+-- where the write fails and halts the mirror
+pub stops_at_halted_copies : StopsAtHaltedCopies
+stops_at_halted_copies k chunk old new left c honest h may mixed =
+    let but = stops_at_failure k (run_write h.copy.may.target h.sector h.bytes) old.disks new.disks left honest h.halts.disks may in
+    left_in_part k h.sector h.bytes old left c h.copy (record { as_many = but.as_many; others = but.others; this = mixed })

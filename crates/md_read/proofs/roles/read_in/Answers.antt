@@ -19,7 +19,7 @@ returns-then-not-is_asked g c =
     let old = c.args.mirror.now in
     let is = c.in-Some.ensures in (
       rests_same old,
-      λ s from below. not_asked old c.requires.sound c.args.mostly c.args.role c.in-Some.k c.args.sector (length c.args.buf.now / 512) is old (λ flag. let on = (c.is_asked.ensures is.member is.at).1 flag in let out = c.if-not-is_asked.true in cc) s,
+      λ s from below. not_asked old c.requires.sound c.args.mostly c.args.role c.in-Some.k c.args.sector (length c.args.buf.now / 512) is (λ flag. let on = (c.is_asked.ensures is.member is.at).1 flag in let out = c.if-not-is_asked.true in cc) s,
     )
 
 pub lists_some-requires : goal.lists_some-requires
@@ -30,7 +30,7 @@ returns-then-lists_all g c =
     let old = c.args.mirror.now in
     let is = c.in-Some.ensures in (
       rests_same old,
-      all_listed old c.requires.sound c.args.mostly c.args.role c.in-Some.k c.args.sector (length c.args.buf.now / 512) is old ((c.lists_all.ensures is.member is.at).0 c.if-lists_all.true),
+      all_listed old c.requires.sound c.args.mostly c.args.role c.in-Some.k c.args.sector (length c.args.buf.now / 512) is ((c.lists_all.ensures is.member is.at).0 c.if-lists_all.true),
     )
 
 pub returns-then-lists_some : goal.returns-then-lists_some

@@ -1,4 +1,4 @@
-use Rattle.std.proofs.Common.{◌≡◌, ◌∙◌, ◌*◌, ◌+◌, ◌/◌, ◌<◌, ◌≤◌, ℕ, List, ◌++◌, length, drop, take, sym, ap, subst, arith, length-append, length-drop}
+use Rattle.std.proofs.Common.{◌≡◌, ◌∙◌, ◌*◌, ◌+◌, ◌/◌, ◌<◌, ◌≤◌, ℕ, List, ◌++◌, length, drop, take, sym, ap, subst, arith, length-append, length-drop, inl}
 use Rattle.std.proofs.Math.Seq.{take-append_seam}
 use Rattle.std.proofs.lemmas.List.{length-take-le}
 use Rattle.md_array.proofs.General.Resting.{rests_sound}
@@ -7,7 +7,6 @@ use Rattle.md_state.specs.Rests.{Rests}
 use Rattle.md_read.specs.Reading.{GivesRun}
 use Rattle.md_read.proofs.RunsRead.{none_gives_earlier, run_earlier}
 use Rattle.md_read.proofs.runs.read_front.Goals as goal
-use Rattle.md_read.proofs.runs.read_front.Goals.{in-Failed+else-sectors-eq1, in-Perhaps}
 
 run_long : (buf : List ℕ) (sectors : ℕ) → sectors ≤ length buf / 512 → length (take (512 * sectors) buf) ≡ 512 * sectors
 run_long buf sectors few = length-take-le (512 * sectors) buf (omega arith)
@@ -30,7 +29,7 @@ returns-in-All g c =
           subst (λ (xs : List ℕ). GivesRun c.args.sector xs old new) (sym front) (run_earlier old mid new rests c.in-All.ensures.rests c.args.sector bytes c.in-All.ensures);
     }
 
--- nobody gave the first of them
+-- all list the first of them
 pub returns-in-Nothing : goal.returns-in-Nothing
 returns-in-Nothing g c =
     let old = c.args.mirror.now in
@@ -42,21 +41,19 @@ returns-in-Nothing g c =
     let long = run_long c.loop-sectors.buf c.loop-sectors.sectors (let same = c.loop-sectors.invariant.long in omega arith) in
     record {
       rests = rests_then old mid new rests c.in-Nothing.ensures.0;
-      none = none_gives_earlier old mid new rests c.in-Nothing.ensures.0 c.args.sector (c.in-Nothing.ensures.1 c.args.sector (omega arith) (omega arith));
+      none = none_gives_earlier old mid new rests c.in-Nothing.ensures.0 c.args.sector (λ k m on. inl (c.in-Nothing.ensures.1 c.args.sector (omega arith) (omega arith) k m on));
     }
 
-pub returns-then-sectors-eq1 : goal.returns-then-sectors-eq1
-returns-then-sectors-eq1 g c =
+-- nobody gave it, when it was read alone
+pub returns-in-Failed : goal.returns-in-Failed
+returns-in-Failed g c =
     let old = c.args.mirror.now in
     let mid = c.loop-sectors.mirror in
     let new = c.read_run.new.mirror in
     let rests = c.loop-sectors.invariant.rests in
-    let few = c.loop-sectors.invariant.few in
-    let some = c.loop-sectors.invariant.some in
-    let long = run_long c.loop-sectors.buf c.loop-sectors.sectors (let same = c.loop-sectors.invariant.long in omega arith) in
     record {
       rests = rests_then old mid new rests c.in-Failed.ensures.0;
-      none = none_gives_earlier old mid new rests c.in-Failed.ensures.0 c.args.sector (c.in-Failed.ensures.1 c.args.sector (omega arith) (omega arith));
+      none = none_gives_earlier old mid new rests c.in-Failed.ensures.0 c.args.sector c.in-Failed.ensures.2;
     }
 
 pub loop-sectors-preserved : goal.loop-sectors-preserved
@@ -69,10 +66,7 @@ loop-sectors-preserved g c =
     let few = c.loop-sectors.invariant.few in
     let same = c.loop-sectors.invariant.long in
     let long = run_long c.loop-sectors.buf sectors (omega arith) in
-    let halves : Rests mid new × (1 < sectors) = elim c.match-read_run.branch [
-      | in-Failed+else-sectors-eq1 w ↦ (w.in-Failed.ensures.0, let not_one = w.if-sectors-eq1.false in omega arith)
-      | in-Perhaps w ↦ (w.in-Perhaps.ensures.0, let two = w.in-Perhaps.ensures.1 in omega arith)
-    ] in
+    let halves : Rests mid new × (1 < sectors) = (c.in-Perhaps.ensures.0, let two = c.in-Perhaps.ensures.1 in omega arith) in
     let given = c.read_run.auto.buf in
     let rest = length-drop (512 * sectors) c.loop-sectors.buf in
     record {

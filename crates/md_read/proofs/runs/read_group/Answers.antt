@@ -1,10 +1,10 @@
-use Rattle.std.proofs.Common.{◌≡◌, ◌∙◌, ◌+◌, ◌/◌, ◌<◌, ◌≤◌, ℕ, length, arith, sym, ap, subst}
+use Rattle.std.proofs.Common.{◌≡◌, ◌∙◌, ◌+◌, ◌/◌, ◌<◌, ◌≤◌, ℕ, length, arith, sym, ap, subst, true≢false}
 use Rattle.md_super.specs.declared.superblock.Superblock.{Superblock}
 use Rattle.md_array.proofs.General.Resting.{rests_sound}
 use Rattle.md_laws.proofs.Runs.Rests.{rests_then}
 use Rattle.md_read.specs.Reading.{NotGivenIn}
 use Rattle.md_state.specs.Rests.{Rests}
-use Rattle.md_read.proofs.RunsRead.{NoneBelow, given_first, none_in_any, none_more}
+use Rattle.md_read.proofs.RunsRead.{NoneBelow, given_first, listed_in_any, listed_more, listed_not_given, none_in_any, none_more}
 use Rattle.md_read.proofs.runs.read_group.Goals as goal
 use Rattle.md_read.proofs.runs.read_group.Goals.{in-Failed, in-Nothing}
 
@@ -40,10 +40,16 @@ loop-role-preserved g c =
     let same : length c.loop-role.buf / 512 ≡ sectors = ap (λ n. n / 512) long in
     let gave_none : Rests mid new × ((s : ℕ) → c.args.sector ≤ s → s < c.args.sector + sectors → NotGivenIn c.args.mostly role s mid new) = elim c.match-read_in.branch [
       | in-Failed w ↦ (w.in-Failed.ensures.0, λ s from below. w.in-Failed.ensures.1 s from (omega arith))
-      | in-Nothing w ↦ (w.in-Nothing.ensures.0, λ s from below. w.in-Nothing.ensures.1 s from (omega arith))
+      | in-Nothing w ↦ (w.in-Nothing.ensures.0, λ s from below. listed_not_given c.args.mostly role s mid new (w.in-Nothing.ensures.1 s from (omega arith)))
     ] in
     record {
       none = none_more c.args.mostly role c.args.sector old mid new sectors c.loop-role.invariant.none gave_none.0 gave_none.1;
+      listed = λ clear. elim c.match-read_in.branch [
+        | in-Failed w ↦ absurd (true≢false (sym w.has_failed-is ∙ clear))
+        | in-Nothing w ↦
+            listed_more c.args.mostly role c.args.sector sectors old mid c.loop-role.invariant.none.rests (c.loop-role.invariant.listed (sym w.has_failed-is ∙ clear))
+            (λ s from below. w.in-Nothing.ensures.1 s from (omega arith))
+      ];
       sound = rests_sound mid new gave_none.0 c.loop-role.invariant.sound;
       long = c.read_in.auto.buf ∙ long;
     }
@@ -63,5 +69,5 @@ returns g c =
     let past = c.loop-role-test.false in
     let disks = ap (λ (v : Superblock). v.raid_disks) c.shared.ensures in (
       so_far.rests,
-      none_in_any c.args.mostly c.args.mirror.now c.loop-role.mirror c.requires.sound c.loop-role.role c.args.sector (length c.args.buf.now / 512) (omega arith) so_far,
+      listed_in_any c.args.mostly c.args.mirror.now c.requires.sound c.loop-role.role c.args.sector (length c.args.buf.now / 512) (omega arith) (c.loop-role.invariant.listed c.if-has_failed.false),
     )

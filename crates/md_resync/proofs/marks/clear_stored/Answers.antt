@@ -5,9 +5,9 @@ use Rattle.md_resync.proofs.Resynced.{cleared_or_stops}
 use Rattle.md_resync.proofs.marks.clear_stored.Goals as goal
 
 pub returns-then-degraded-clause-gives : goal.returns-then-degraded-clause-gives
-returns-then-degraded-clause-gives g c = cleared_nothing c.args.mirror.now c.requires.idle c.requires.sound (sym c.degraded.ensures ∙ c.if-degraded.true) c.requires.stored
+returns-then-degraded-clause-gives g c = cleared_nothing c.args.mirror.now c.requires.idle c.requires.sound (sym c.degraded.ensures.roles ∙ c.if-degraded.true) c.requires.stored
 
 pub returns-clause-gives : goal.returns-clause-gives
 returns-clause-gives g c =
-    let full : is_degraded c.args.mirror.now.array ≡ false = sym c.degraded.ensures ∙ c.if-degraded.false in
+    let full : is_degraded c.args.mirror.now.array ≡ false = sym c.degraded.ensures.roles ∙ c.if-degraded.false in
     cleared_or_stops c.args.mirror.now c.clear_marks.new.mirror c.store_marks.new.mirror c.requires.idle full c.clear_marks.ensures c.store_marks.result c.store_marks.ensures.gives

@@ -1,0 +1,7 @@
+-- How many members of an array are in sync.
+use Rattle.std.specs.Prelude.{ℕ, count_by}
+use Rattle.md_assembly.specs.States.{is_in_sync}
+use Rattle.md_state.specs.View.{ArrayView}
+
+abbrev pub in_sync_count : ArrayView → ℕ
+in_sync_count a = count_by (λ m. is_in_sync m.state) a.members

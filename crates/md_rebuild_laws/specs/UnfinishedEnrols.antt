@@ -1,0 +1,23 @@
+-- An `enrol` by itself of which a write of the bitmap or of the log failed, and what a stop within it leaves.
+use Rattle.std.specs.Prelude.{ℕ, List}
+use Rattle.md_bitmap.specs.Marks.{Bitmap}
+use Rattle.md_state.specs.View.{Disk, MirrorView}
+use Rattle.md_array.specs.Consistency.{IsConsistent}
+use Rattle.md_array.specs.Enrolling.{FailsToEnrol, MayEnrol}
+use Rattle.md_array.specs.Enrolments.{Prepares}
+use Rattle.md_laws.specs.Left.{IsLeft, IsLeftWithin}
+use Rattle.md_laws.specs.Runs.{Moment}
+use Rattle.md_copy.specs.RebuildEvents.{FailsAtMarks}
+
+-- It is a member that is prepared, in part: so it is the event `Prepare`, whatever that write left.
+abbrev pub UnfinishedEnrolsPrepare : Type 0
+UnfinishedEnrolsPrepare =
+    (k : ℕ) (copied orphans : Bitmap) (old new : MirrorView) → IsConsistent old → MayEnrol k copied orphans old
+    → (f : FailsToEnrol k copied orphans old new) → FailsAtMarks f → Prepares k old new
+
+-- A stop at any moment within it is one of a run: so the laws over lives speak of it.
+abbrev pub StopsUnfinishedEnrol : Type 0
+StopsUnfinishedEnrol =
+    (t : Moment) (k : ℕ) (copied orphans : Bitmap) (new : MirrorView) → IsConsistent t.mirror → MayEnrol k copied orphans t.mirror
+    → (f : FailsToEnrol k copied orphans t.mirror new) → FailsAtMarks f
+    → (left : List Disk) → IsLeftWithin t new left → IsLeft t left
