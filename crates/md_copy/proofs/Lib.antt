@@ -48,6 +48,7 @@ pub mod Sectors
 pub mod Served
 pub mod SetsMade
 pub mod SourcesChosen
+mod Stands
 pub mod StartedAs
 pub mod StartsReadied
 pub mod StatesKept

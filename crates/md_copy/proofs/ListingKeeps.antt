@@ -1,5 +1,5 @@
 -- Where the list of a member in sync is stored, whatever fails, its data are as before, and of the others nothing changes but that they are due.
-use Rattle.std.proofs.Common.{◌≡◌, ◌≢◌, ◌∙◌, ℕ, ◌+◌, ◌*◌, ◌<◌, Bool, true, false, if◌then◌else◌, List, [], ◌∷◌, length, length-set, map, set, slice_get, Option, Some, None, pos, refl, sym, ap, subst, arith, inl, inr}
+use Rattle.std.proofs.Common.{◌≡◌, ◌≢◌, ◌∙◌, ℕ, ◌+◌, ◌*◌, ◌<◌, Bool, true, false, if◌then◌else◌, List, [], ◌∷◌, ◌++◌, length, length-set, map, set, slice_get, Option, Some, None, pos, refl, sym, ap, subst, arith, inl, inr}
 use Rattle.std.proofs.lemmas.Bool.{cases_eq}
 use Rattle.std.proofs.lemmas.Int.{ints}
 use Rattle.std.proofs.lemmas.Option.{none-some, same_Some, slice_get_within}
@@ -38,7 +38,7 @@ use Rattle.md_array.proofs.Rebuilding.LogStored.{is_log, log_of}
 use Rattle.md_array.proofs.Rebuilding.MemberStored.{log_long}
 use Rattle.md_array.proofs.Worlds.Outside.{LiesIn, apart_either_way, apart_from_part, sector_at_is, stays}
 use Rattle.md_metadata.specs.Going.{GoesOn, HaltsAfter, only_others}
-use Rattle.md_metadata.specs.Storing.{IsNoFailure}
+use Rattle.md_metadata.specs.Storing.{FailsAtLast, IsFailureOf, IsNoFailure}
 use Rattle.md_metadata.specs.StoringLists.{IsListing}
 use Rattle.md_copy.specs.Listing.{WritesMetadata}
 use Rattle.md_copy.proofs.StoringKeeps.{fails_many, set_state}
@@ -365,6 +365,47 @@ leaves_events k (e ∷ es) previous old new before after all leads =
 pub listing_leaves : (k : ℕ) (old new : MirrorView) → GoesOn only_others only_others (IsListing k) old new → LeavesBeside k old new
 listing_leaves k old new goes =
     leaves_events k goes.events None old new (λ n. None) (λ n. None) goes.steps (goes.leads None (λ n. None) (λ n p e. absurd (none-some p e)))
+
+-- a write that failed is counted
+fails_event : (k : ℕ) (old new : MirrorView) (before between : Requests) (e : Event) → IsListing k e → IsFailureOf k e → Did old before e new between
+    → AtDevice k old.disks new.disks (λ d f. d.honest ≡ true → d.failures < f.failures)
+fails_event k old new before between (Event.StoreLogFails j) of is did =
+    subst (λ i. AtDevice i old.disks new.disks (λ d f. d.honest ≡ true → d.failures < f.failures)) is did.1.fails.disks.failed
+fails_event k old new before between (Event.StoreMarksFails j b) of is did =
+    subst (λ i. AtDevice i old.disks new.disks (λ d f. d.honest ≡ true → d.failures < f.failures)) is did.1.fails.disks.failed
+fails_event k old new before between (Event.RecordFails j) of is did =
+    subst (λ i. AtDevice i old.disks new.disks (λ d f. d.honest ≡ true → d.failures < f.failures)) is did.1.fails.disks.failed
+fails_event k old new before between (Event.StoreLog j listed) of is did = absurd is
+fails_event k old new before between (Event.StoreMarks j b) of is did = absurd is
+fails_event k old new before between (Event.Record j) of is did = absurd is
+fails_event k old new before between e of is did = absurd of
+
+-- and so it is where it is the last of them
+fails_events : (k : ℕ) (first : List Event) (failing : Event) (previous : Option Event) (old new : MirrorView) (before after : Requests) → AllOf (IsListing k) (first ++ failing ∷ []) → IsFailureOf k failing
+    → Leads previous old before (first ++ failing ∷ []) new after → (m : MemberView) → IsMember old.array k m → HasDataApart m.superblock m.stored.chunks
+    → AtDevice k old.disks new.disks (λ d f. d.honest ≡ true → d.failures < f.failures)
+fails_events k [] failing previous old new before after all is leads m at apart d f at_d at_f honest =
+    fails_event k old leads.0 before leads.1 failing all.0 is leads.3 d f at_d (ap (λ (v : MirrorView). slice_get v.disks k) leads.5.0 ∙ at_f) honest
+fails_events k (e ∷ es) failing previous old new before after all is leads m at apart d f at_d at_f honest =
+    let left = leaves_event old leads.0 k before leads.1 e all.0 leads.3 in
+    let uses = left.disks m at apart in
+    let low = slice_get_within old.array.members k m at in
+    let many = left.array.as_many in
+    let n = got_within leads.0.array.members k (omega (arith, low, many)) in
+    let near = left.array.own m n.0 at n.1 in
+    let low_d = slice_get_within old.disks k d at_d in
+    let as_many = uses.as_many in
+    let c = got_within leads.0.disks k (omega (arith, low_d, as_many)) in
+    let first = uses.stays d c.0 at_d c.1 in
+    let counted = first.counted in
+    let less = fails_events k es failing (Some e) leads.0 new leads.1 after all.1 is leads.5 n.0 n.1 (near.apart apart) c.0 f c.1 at_f (first.honest ∙ honest) in
+    omega (arith, counted, less)
+
+pub listing_fails : (k : ℕ) (old new : MirrorView) → (goes : GoesOn only_others only_others (IsListing k) old new) → FailsAtLast k goes.events → (m : MemberView) → IsMember old.array k m
+    → HasDataApart m.superblock m.stored.chunks → AtDevice k old.disks new.disks (λ d f. d.honest ≡ true → d.failures < f.failures)
+listing_fails k old new goes last =
+    fails_events k last.before last.failing None old new (λ n. None) (λ n. None) (subst (AllOf (IsListing k)) last.list goes.steps) last.of
+    (subst (λ (es : List Event). Leads None old (λ n. None) es new (λ n. None)) last.list (goes.leads None (λ n. None) (λ n p e. absurd (none-some p e))))
 
 -- up to a write that halted the mirror
 pub listing_halts : (k : ℕ) (old new : MirrorView) → (h : HaltsAfter only_others only_others (IsListing k) old new) → LeavesBeside k old new × Halts k h.mid.array new.array

@@ -30,10 +30,10 @@ use Rattle.md_metadata.specs.Going.{GoesOn, only_others}
 use Rattle.md_metadata.specs.Storing.{IsStoring}
 use Rattle.md_copy.specs.declared.rebuilt.Rebuilt.{Rebuilt}
 use Rattle.md_copy.specs.Filling.{IsFilling}
-use Rattle.md_copy.specs.Listing.{HasFailed, NotesLists}
+use Rattle.md_copy.specs.Listing.{HasFailed, HasListOn, NotesLists}
 use Rattle.md_copy.specs.Passing.{AreListedPasses, CopiesAll, ListsPass, RecordsPass}
 use Rattle.md_copy.specs.Rebuilding.{RebuildsReadied}
-use Rattle.md_copy.specs.Rebuilt.{HasListOn, failed_of}
+use Rattle.md_copy.specs.Rebuilt.{failed_of}
 use Rattle.md_copy.specs.Sources.{missing_chunks}
 use Rattle.md_copy.proofs.HeldRecorded.{other_is}
 use Rattle.md_copy.proofs.ListsOn.{AtInSync, IsCanonicalAt, IsRecordedOn, list_on, lists_stored, recorded_still, recorded_storing, same_bad}
@@ -41,7 +41,7 @@ use Rattle.md_copy.proofs.ListsStored.{failed_fits}
 use Rattle.md_copy.proofs.PassesKeep.{all_keep, failed_last, pass_keeps}
 
 -- ---- whether a slot of a member failed
-of_state : (failed : List Slot) (s t : MemberState) → s ≡ t → Any (λ (slot : Slot). is_in_sync_as slot.source s ≡ true) failed → Any (λ (slot : Slot). is_in_sync_as slot.source t ≡ true) failed
+pub of_state : (failed : List Slot) (s t : MemberState) → s ≡ t → Any (λ (slot : Slot). is_in_sync_as slot.source s ≡ true) failed → Any (λ (slot : Slot). is_in_sync_as slot.source t ≡ true) failed
 of_state failed s t same has = subst (λ (z : MemberState). Any (λ (slot : Slot). is_in_sync_as slot.source z ≡ true) failed) same has
 
 failed_or_not : (failed : List Slot) (m : MemberView) → HasFailed failed m ⊎ (HasFailed failed m → ⊥)
@@ -180,7 +180,7 @@ module _ (target k : ℕ) (other : k ≢ target) where
         | inr now ↦ inl (of_state p.failed n.state y.0.state y.2.state now)
       ])
 
-  lists_chain : (passes : List PassView) (failed : List Slot) (chunks left : List ℕ) (before after : Bitmap) (v w : MirrorView) → AreListedPasses target passes chunks left before after v w
+  pub lists_chain : (passes : List PassView) (failed : List Slot) (chunks left : List ℕ) (before after : Bitmap) (v w : MirrorView) → AreListedPasses target passes chunks left before after v w
       → IfFailed failed v → IfFailed (failed ++ failed_of passes) w
   lists_chain [] failed chunks left before after v w h so =
       subst (λ (u : MirrorView). IfFailed (failed ++ []) u) (sym h.2) (subst (λ (fs : List Slot). IfFailed fs v) (sym (append-nil failed)) so)
@@ -188,7 +188,7 @@ module _ (target k : ℕ) (other : k ≢ target) where
       subst (λ (fs : List Slot). IfFailed fs w) (append_assoc failed p.failed (failed_of ps))
       (lists_chain ps (failed ++ p.failed) (failed_chunks p) left h.0 after h.1 w h.3 (lists_pass failed chunks p before h.0 v h.1 h.2 so))
 
-  lists_all : (m : MemberView) (passes : List PassView) (before after : Bitmap) (v w : MirrorView) → CopiesAll target m passes before after v w → IfFailed (failed_of passes) w
+  pub lists_all : (m : MemberView) (passes : List PassView) (before after : Bitmap) (v w : MirrorView) → CopiesAll target m passes before after v w → IfFailed (failed_of passes) w
   lists_all m passes before after v w h n at has =
       let is : failed_of passes ≡ failed_of h.listed = ap failed_of h.passes_are ∙ failed_last h.listed h.last h.done in
       let l = (pass_keeps target h.left h.last h.mid after h.now w h.records).lists.before k n at in

@@ -50,8 +50,7 @@ use Rattle.md_array.proofs.Worlds.Outside.{sector_at_is, starts_at}
 use Rattle.md_array.proofs.Worlds.PartsApart.{block_beside_marks, log_beside_marks, log_beside_super, parts_of}
 use Rattle.md_metadata.specs.Going.{GoesOn, only_others}
 use Rattle.md_metadata.specs.Storing.{IsStoring}
-use Rattle.md_copy.specs.Listing.{all_list_events}
-use Rattle.md_copy.specs.Rebuilt.{HasListOn}
+use Rattle.md_copy.specs.Listing.{HasListOn, all_list_events}
 use Rattle.md_copy.proofs.StoringKeeps.{KeepsAll, device_before, due_within, keeps_event, member_before}
 
 -- ---- one device
@@ -385,6 +384,9 @@ any_rest : (l : ℕ × (ℕ → Bool)) (ls : List (ℕ × (ℕ → Bool))) (k : 
 any_rest l ls k apart (zero, x, low, is, holds) = absurd (apart (sym (ap (λ (z : ℕ × (ℕ → Bool)). z.0) is ∙ holds)))
 any_rest l ls k apart (suc i, x, low, is, holds) = (i, x, omega (arith, low), is, holds)
 
+any_more : (l : ℕ × (ℕ → Bool)) (ls : List (ℕ × (ℕ → Bool))) (k : ℕ) → Any (λ (x : ℕ × (ℕ → Bool)). x.0 ≡ k) ls → Any (λ (x : ℕ × (ℕ → Bool)). x.0 ≡ k) (l ∷ ls)
+any_more l ls k (i, x, low, is, holds) = (suc i, x, omega (arith, low), is, holds)
+
 -- the three events of one
 module _ (j : ℕ) (listed : ℕ → Bool) (rest : List Event) (previous : Option Event) (old new : MirrorView) (before after : Requests) (sound : IsConsistent old) (canonical : IsCanonicalAt j old.array)
     (leads : Leads previous old before (Event.StoreLog j listed ∷ Event.StoreMarks j 0 ∷ Event.Record j ∷ rest) new after) where
@@ -445,3 +447,31 @@ lists_stored k (l ∷ ls) previous old new before after sound canonical leads ei
         | inr has ↦ inr (stored_still l.0 l.1 rest previous old new before after sound at_l leads k apart has)
       ]
     ])
+
+-- ---- the devices of other members
+log_apart : (j k : ℕ) (old new : MirrorView) → k ≢ j → StoresLog j old new → slice_get new.disks k ≡ slice_get old.disks k
+log_apart j k old new apart r =
+    let logs : Bool → List Write = λ b. if b then log_of r.member ∷ [] else [] in
+    by_test (has_bad_block_log r.member.superblock)
+    (λ there. (subst (λ (ws : List Write). AreWritten j ws old.disks new.disks) (ap logs there) r.disks).1.tried.others k apart)
+    (λ none. ap (λ (xs : List Disk). slice_get xs k) (subst (λ (ws : List Write). AreWritten j ws old.disks new.disks) (ap logs none) r.disks))
+
+-- whether its list is among these
+pub any_or_none : (k : ℕ) (ls : List (ℕ × (ℕ → Bool))) → Any (λ (l : ℕ × (ℕ → Bool)). l.0 ≡ k) ls ⊎ (Any (λ (l : ℕ × (ℕ → Bool)). l.0 ≡ k) ls → ⊥)
+any_or_none k [] = inr (λ any. (let low = any.2 in absurd (omega (arith, low))))
+any_or_none k (l ∷ ls) = elim (cases_eq l.0 k) [
+  | inl here ↦ inl (zero, l, omega arith, refl, here)
+  | inr apart ↦ elim (any_or_none k ls) [
+    | inl any ↦ inl (any_more l ls k any)
+    | inr none ↦ inr (λ any. none (any_rest l ls k (λ here. apart (sym here)) any))
+  ]
+]
+
+-- Where no list of its own is stored a device stays as it is.
+pub lists_beside : (k : ℕ) (ls : List (ℕ × (ℕ → Bool))) (previous : Option Event) (old new : MirrorView) (before after : Requests) → (Any (λ (l : ℕ × (ℕ → Bool)). l.0 ≡ k) ls → ⊥)
+    → Leads previous old before (all_list_events ls) new after → slice_get new.disks k ≡ slice_get old.disks k
+lists_beside k [] previous old new before after none leads = ap (λ (v : MirrorView). slice_get v.disks k) (sym leads.0)
+lists_beside k (l ∷ ls) previous old new before after none leads =
+    let apart : k ≢ l.0 = λ here. none (zero, l, omega arith, refl, sym here) in
+    lists_beside k ls (Some (Event.Record l.0)) leads.5.5.0 new leads.5.5.1 after (λ any. none (any_more l ls k any)) leads.5.5.5
+    ∙ leads.5.5.3.1.disks.tried.others k apart ∙ leads.5.3.1.disks.tried.others k apart ∙ log_apart l.0 k old leads.0 apart leads.3.1

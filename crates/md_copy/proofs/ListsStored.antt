@@ -1,5 +1,5 @@
 -- Lists are stored, member by member.
-use Rattle.std.proofs.Common.{◌≡◌, ◌≢◌, ◌∙◌, ◌⊎◌, ◌↔◌, ℕ, ◌+◌, ◌<◌, ◌≤◌, Bool, true, false, ◌&&◌, ◌||◌, List, [], ◌∷◌, ◌++◌, length, get_or, take, slice_get, refl, sym, ap, subst, arith, inl, inr}
+use Rattle.std.proofs.Common.{◌≡◌, ◌≢◌, ◌∙◌, ◌⊎◌, ◌↔◌, ℕ, ◌+◌, ◌<◌, ◌≤◌, Bool, true, false, ◌&&◌, ◌||◌, List, [], ◌∷◌, ◌++◌, length, get_or, take, slice_get, None, refl, sym, ap, subst, arith, inl, inr}
 use Rattle.std.specs.Prelude.{All, filter}
 use Rattle.std.specs.List.{AllPairs, Any, list_any}
 use Rattle.std.proofs.lemmas.Bool.{both_ways, cases_Bool, cases_eq, cases_lt}
@@ -8,14 +8,14 @@ use Rattle.std.proofs.lemmas.List.{append-nil, append_assoc, take_all}
 use Rattle.std.proofs.lemmas.List.Elements.{All-get_or, All-nil, All-push, All-weaker}
 use Rattle.std.proofs.lemmas.List.Folds.{Any-from_list_any, list_any-from_Any, list_any_at, list_any_more}
 use Rattle.std.proofs.lemmas.List.Quantifiers.{Any-push, all_pairs_push}
-use Rattle.std.proofs.lemmas.Option.{same_Some, slice_get_within}
+use Rattle.std.proofs.lemmas.Option.{none-some, same_Some, slice_get_within}
 use Rattle.md_assembly.specs.declared.state.MemberState.{MemberState}
 use Rattle.md_assembly.specs.States.{is_in_sync, is_in_sync_as}
 use Rattle.md_assembly.proofs.Indices.{got_within}
 use Rattle.md_bitmap.specs.declared.chunks.Chunks.{Chunks}
 use Rattle.md_bitmap.specs.Marks.{Bitmap}
 use Rattle.md_badblocks.specs.declared.run.Run.{Run}
-use Rattle.md_badblocks.specs.Runs.{IsBad}
+use Rattle.md_badblocks.specs.Runs.{IsBad, IsCanonical}
 use Rattle.md_cert.specs.declared.slots.Slot.{Slot}
 use Rattle.md_kept_members.specs.Enrolling.{HasRoomFor}
 use Rattle.md_kept_members.specs.View.{MemberView}
@@ -26,7 +26,7 @@ use Rattle.md_state.specs.Rising.{HasSpentEvents}
 use Rattle.md_state.specs.View.{ArrayView, MirrorView}
 use Rattle.md_state.specs.WritingMember.{IsNotDue}
 use Rattle.md_array.specs.Consistency.{IsConsistent}
-use Rattle.md_array.specs.InTurn.{AllOf}
+use Rattle.md_array.specs.InTurn.{AllOf, Leads}
 use Rattle.md_array.proofs.General.Indices.{got_other}
 use Rattle.md_array.proofs.General.Replaced.{of_set}
 use Rattle.md_array.proofs.Worlds.States.{in_sync_recorded}
@@ -40,8 +40,9 @@ use Rattle.md_pass.specs.Copied.{failed_slots, is_failed_slot}
 use Rattle.md_passes.specs.Listed.{IsOfFailed, ListsFailed, ListsOwn}
 use Rattle.md_copy.specs.declared.fault.RebuildFault.{RebuildFault}
 use Rattle.md_copy.specs.declared.fault.RebuildFault.TheVariants.{MetadataFault}
-use Rattle.md_copy.specs.Listing.{AreListsOf, FitsLog, HasFailed, HaveRoom, IsStoringList, KeepsList, ListsAll, NotesLists, StopsAtList, StopsStoringLists, StoresIfFailed, StoresListIf, StoresLists, StoresOwn, WritesMetadata, all_list_events}
-use Rattle.md_copy.proofs.ListingKeeps.{KeepsPlaces, LeavesBeside, listing_fields, listing_halts, listing_leaves, writes_one, writes_same, writes_then}
+use Rattle.md_copy.specs.Listing.{AreListsOf, FitsLog, HasFailed, HasListOn, HaveRoom, IsListOn, IsStoringList, KeepsList, ListsAll, NotesLists, StopsAtList, StopsStoringLists, StoresIfFailed, StoresListIf, StoresLists, StoresOwn, WritesMetadata, all_list_events}
+use Rattle.md_copy.proofs.ListingKeeps.{KeepsPlaces, LeavesBeside, apart_of, listing_fails, listing_fields, listing_halts, listing_leaves, writes_one, writes_same, writes_then}
+use Rattle.md_copy.proofs.ListsOn.{IsCanonicalAt, any_or_none, list_on, lists_beside, lists_stored}
 use Rattle.md_copy.proofs.Served.{in_sync_as}
 
 -- ---- whether a slot of a member failed
@@ -233,6 +234,8 @@ module _ (failed : List Slot) (k : ℕ) where
                   ];
             });
             members = lists_kept leaves.0;
+            own = λ x y at_x at_y. inl (fields.state k x y at_x (sym (ap (λ (xs : List MemberView). slice_get xs k) members) ∙ at_y));
+            others = λ j x apart at_x is. inr ((leaves.0.disks m at (apart_of old sound k m at)).others j apart);
             writes = writes_one k old new sound m in_sync leaves.0;
           }
       stops_one unspent (part.MemberFailed j) h =
@@ -243,6 +246,11 @@ module _ (failed : List Slot) (k : ℕ) where
             source = has m at;
             ends = inl (stops_as (IsListing k) IsStoringList (lists_store k) old new (part.MemberFailed k) h.1);
             members = lists_kept leaves;
+            own = λ x y at_x at_y. inr (
+              ap (λ (z : MemberView). z.state) (same_Some y h.1.faulty.member (sym at_y ∙ h.1.faulty.at)) ∙ h.1.faulty.faulty,
+              listing_fails k old new h.1.loses.goes h.1.last m at (apart_of old sound k m at),
+            );
+            others = λ j x apart at_x is. inr ((leaves.disks m at (apart_of old sound k m at)).others j apart);
             writes = writes_one k old new sound m in_sync leaves;
           }
 
@@ -400,9 +408,29 @@ module _ (failed : List Slot) where
       out = λ no. list.out (ap is_in_sync own.state ∙ no) ∙ ap (λ (z : MemberView). record z { due = n.due }) (own.out no);
     }
 
+    -- what stands on the devices of the others
+    module _ (sound : IsConsistent old) (room : HaveRoom failed old.array) where
+      canonical : All (λ (l : ℕ × (ℕ → Bool)). IsCanonicalAt l.0 old.array) x.stored
+      canonical = All-weaker (IsBelow failed old.array k) (λ (l : ℕ × (ℕ → Bool)). IsCanonicalAt l.0 old.array)
+          (λ l is m at. subst (λ (z : MemberView). IsCanonical z.bad) (same_Some is.1.0 m (sym is.1.1 ∙ at)) (failed_fits failed old.array room l.0 is.1.0 is.1.1 is.1.2).1)
+          x.stored x.lists.only
+
+      leads : Leads None old (λ n. None) (all_list_events x.stored) mid (λ n. None)
+      leads = subst (λ (es : List Event). Leads None old (λ n. None) es mid (λ n. None)) x.events (x.goes.goes.leads None (λ n. None) (λ n q e. absurd (none-some q e)))
+
+      others_below : (j : ℕ) (new : MirrorView) (m n : MemberView) → IsMember mid.array j n → n.bad ≡ m.bad → is_in_sync n.state ≡ true → IsListOn n.bad j new ⊎ (slice_get new.disks j ≡ slice_get mid.disks j)
+          → IsListOn m.bad j new ⊎ (slice_get new.disks j ≡ slice_get old.disks j)
+      others_below j new m n at own in_sync (inl on) = inl (λ e at_e honest. subst (λ (list : List Run). HasListOn list e.content) own (on e at_e honest))
+      others_below j new m n at own in_sync (inr same) = elim (any_or_none j x.stored) [
+        | inl any ↦
+            let has = lists_stored j x.stored None old mid (λ n. None) (λ n. None) sound canonical leads (inl any) in
+            inl (λ e at_e honest. subst (λ (list : List Run). HasListOn list e.content) own (list_on n e (has n e at (sym same ∙ at_e) in_sync honest)))
+        | inr none ↦ inr (same ∙ lists_beside j x.stored None old mid (λ n. None) (λ n. None) none leads)
+      ]
+
     -- a write to a member failed
-    pub stops_below : (i : ℕ) (new : MirrorView) → StopsAtList failed i mid new → StopsAtList failed i old new
-    stops_below i new y =
+    pub stops_below : IsConsistent old → HaveRoom failed old.array → (i : ℕ) (new : MirrorView) → StopsAtList failed i mid new → StopsAtList failed i old new
+    stops_below sound room i new y =
         let was = before i y.member y.was.member in
         let state = (kept i was.0 y.member was.1 y.was.member).state in
         let in_sync : is_in_sync was.0.state ≡ true = sym (ap is_in_sync state) ∙ y.was.in_sync in
@@ -420,12 +448,34 @@ module _ (failed : List Slot) where
               let late = y.members j n.0 o n.1 there in
               let own = kept j m n.0 at n.1 in
               (lists_then new j m n.0 o own late.0, λ apart. late.1 apart ∙ own.state));
+          others = λ j m apart at is.
+              (let n = afterwards j m at in
+              let own = kept j m n.0 at n.1 in
+              let still = ap is_in_sync own.state ∙ is in
+              others_below sound room j new m n.0 n.1 own.bad still (y.others j n.0 apart n.1 still));
+          own = λ m o at there.
+              (let n = afterwards i m at in
+              let same = (kept i m n.0 at n.1).state in
+              elim (y.own n.0 o n.1 there) [
+                | inl still ↦ inl (still ∙ same)
+                | inr failed ↦ inr (
+                  failed.0,
+                  λ d f at_d at_f honest.
+                      (let low = slice_get_within old.disks i d at_d in
+                      let many = x.writes.as_many in
+                      let e = got_within mid.disks i (omega (arith, low, many)) in
+                      let first = x.writes.stays i d e.0 at_d e.1 in
+                      let counted = first.counted in
+                      let less = failed.1 e.0 f e.1 at_f (first.honest ∙ honest) in
+                      omega (arith, counted, less)),
+                )
+              ]);
           writes = writes_then old mid new below_places x.writes y.writes;
         }
 
-    pub lists_stop : (new : MirrorView) (fault : RebuildFault) → StopsStoringLists failed mid new fault → StopsStoringLists failed old new fault
-    lists_stop new (MetadataFault i) y = stops_below i new y
-    lists_stop new fault y = absurd y
+    pub lists_stop : IsConsistent old → HaveRoom failed old.array → (new : MirrorView) (fault : RebuildFault) → StopsStoringLists failed mid new fault → StopsStoringLists failed old new fault
+    lists_stop sound room new (MetadataFault i) y = stops_below sound room i new y
+    lists_stop sound room new fault y = absurd y
 
 -- ---- both
 module _ (failed : List Slot) (old noted new : MirrorView) (notes : NotesLists failed old noted) (stores : StoresLists failed noted new) where

@@ -20,9 +20,10 @@ use Rattle.md_state.specs.Members.{IsMember, IsServedPlainly, IsUnlisted}
 use Rattle.md_state.specs.Missing.{is_missing}
 use Rattle.md_state.specs.View.{MirrorView}
 use Rattle.md_copy.specs.declared.rebuilt.Rebuilt.{Rebuilt}
+use Rattle.md_copy.specs.Filling.{CountsFailed}
 use Rattle.md_copy.specs.Preparing.{is_in}
 use Rattle.md_copy.specs.Rebuilding.{Rebuilds, RebuildsReadied}
-use Rattle.md_copy.specs.Rebuilt.{AllCounted, HaltsFrom, HasRebuilt, IsRebuilt, IsRebuiltInSync, ListsGrow, failed_of}
+use Rattle.md_copy.specs.Rebuilt.{HaltsFrom, HasRebuilt, IsRebuilt, IsRebuiltInSync, ListsGrow, failed_of}
 use Rattle.md_copy.specs.Sources.{missing_chunks}
 use Rattle.md_copy.specs.Storing.{Settles}
 use Rattle.md_copy.proofs.ListsKept.{own_stored_so, stored_so}
@@ -180,12 +181,12 @@ module _ (target : ℕ) (told : Rebuilt) (old new : MirrorView) (h : Rebuilds ta
         λ either. grown.1 (elim either [ inl was ↦ inl (subst (λ runs. IsBad runs sector) (sym z.2.bad) was) | inr of ↦ inr (failed.1 of) ]),
       )
 
-  counted : AllCounted (failed_of r.passes) old last.0
-  counted honest k role n at_n in_role d e at_d at_e =
+  counted : CountsFailed (failed_of r.passes) old last.0
+  counted k role n at_n in_role d e at_d at_e honest =
       let z = starts.then k n at_n in
       let w = starts.disk_then k d at_d in
       let first = starts.counted k d w.0 at_d w.1 in
-      let more = counted_so target m h.none v new told r at_m so h.begins.is_none.bits last.0 last.1.goes k role z.0 z.1 (z.2.roles role ∙ in_role) w.0 e w.1 at_e (starts.honest k d w.0 at_d w.1 ∙ honest k d at_d) in
+      let more = counted_so target m h.none v new told r at_m so h.begins.is_none.bits last.0 last.1.goes k role z.0 z.1 (z.2.roles role ∙ in_role) w.0 e w.1 at_e (starts.honest k d w.0 at_d w.1 ∙ honest) in
       omega (arith, first, more)
 
   few : length r.passes ≤ most_failures old.array + 1
@@ -239,7 +240,8 @@ module _ (target : ℕ) (told : Rebuilt) (old new : MirrorView) (h : Rebuilds ta
                     (let d = starts.disk_then k b at_b in
                     let first = starts.counted k b d.0 at_b d.1 in
                     let less = failed.1 d.0 x d.1 at_x (starts.honest k b d.0 at_b d.1 ∙ honest) in
-                    omega (arith, first, less)),
+                    let once = less.0 in
+                    (omega (arith, first, once), λ role in_role. (let more = less.1 role (o.2.roles role ∙ in_role) in omega (arith, first, more)))),
               )
         ]);
     stored = λ k n z e other at_n has at_z in_sync at_e honest.

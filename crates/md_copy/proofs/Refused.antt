@@ -2,27 +2,32 @@
 use Rattle.std.proofs.Common.{◌≡◌, ◌≢◌, ◌∙◌, ◌⊎◌, ◌↔◌, ℕ, ◌+◌, ◌*◌, ◌<◌, ◌≤◌, true, List, length, count_by, get_or, slice_get, Some, refl, sym, ap, subst, arith, inl, inr}
 use Rattle.std.proofs.lemmas.Bool.{cases_eq}
 use Rattle.std.proofs.lemmas.Option.{same_Some, slice_get-get_or, slice_get_within}
+use Rattle.md_assembly.specs.declared.state.MemberState.TheVariants.{Faulty}
+use Rattle.md_assembly.proofs.Indices.{got_within}
 use Rattle.md_assembly.specs.States.{is_in_sync_as, is_recovering, is_spare}
 use Rattle.md_badblocks.specs.declared.run.Run.{Run}
 use Rattle.md_badblocks.specs.Runs.{IsBad}
 use Rattle.md_bitmap.specs.declared.chunks.Chunks.{Chunks}
 use Rattle.md_bitmap.specs.Marks.{Bitmap}
 use Rattle.md_cert.specs.declared.slots.Slot.{Slot}
+use Rattle.md_collect.specs.Reading.{Fails}
 use Rattle.md_device.specs.Splice.{SameOutside, part}
 use Rattle.md_kept_members.specs.View.{MemberView}
 use Rattle.md_pass.specs.Readings.{is_of}
 use Rattle.md_passes.specs.Listed.{IsOfFailed}
-use Rattle.md_state.specs.DiskWrites.{IsTried}
+use Rattle.md_state.specs.DiskWrites.{AtDevice, IsTried}
 use Rattle.md_state.specs.Members.{IsMember}
 use Rattle.md_state.specs.Missing.{is_missing}
-use Rattle.md_state.specs.View.{ArrayView, Disk, MirrorView}
+use Rattle.md_state.specs.View.{ArrayView, Disk, MirrorView, of_disks}
 use Rattle.md_super.specs.declared.superblock.Superblock.{Superblock}
+use Rattle.md_array.specs.Consistency.{IsConsistent}
 use Rattle.md_array.specs.Enrolling.{KeepsData}
 use Rattle.md_array.specs.Lending.{IsBesideChunk, IsBesideMissing}
 use Rattle.md_array.specs.Recording.{super_write}
-use Rattle.md_copy.specs.Rebuilt.{AllCounted, HaltsFrom, HasEnded, IsBesideLacking, ListsGrow, OthersKeepData}
+use Rattle.md_copy.specs.Filling.{CountsFailed}
+use Rattle.md_copy.specs.Rebuilt.{HaltsFrom, HasEnded, IsBesideLacking, KeepStates, ListsGrow, OthersKeepData, StandStored}
 use Rattle.md_copy.proofs.StartedAs.{StartsAs}
-use Rattle.md_copy.proofs.StoringKeeps.{HasPlace, HavePlaces, KeepsAll, beside_super_of, device_then, member_then}
+use Rattle.md_copy.proofs.StoringKeeps.{HasPlace, HavePlaces, KeepsAll, beside_super_of, device_before, device_then, member_then, places_of}
 
 -- ---- the target
 pub record StaysTarget (m n : MemberView) : Type 0 where
@@ -154,6 +159,10 @@ preserves_started target old v st own = record {
 }
 
 -- ---- from then on
+-- its state is what it was, or it is faulty, and a call on its device failed
+abbrev pub IsSameOrLost : ℕ → MirrorView → MirrorView → MemberView → MemberView → Type 0
+IsSameOrLost k old new m n = (n.state ≡ m.state) ⊎ ((n.state ≡ Faulty) × AtDevice k old.disks new.disks (Fails of_disks))
+
 -- No data change any more, nor does a list.
 pub record KeepsRest (target : ℕ) (old new : MirrorView) : Type 0 where
   pub then : (k : ℕ) (m : MemberView) → IsMember old.array k m → (n : MemberView) × IsMember new.array k n
@@ -163,6 +172,8 @@ pub record KeepsRest (target : ℕ) (old new : MirrorView) : Type 0 where
   pub own : (m n : MemberView) → IsMember old.array target m → IsMember new.array target n → StaysTarget m n
   pub bad : (k : ℕ) (m n : MemberView) → IsMember old.array k m → IsMember new.array k n → n.bad ≡ m.bad
   pub counted : (k : ℕ) (d e : Disk) → slice_get old.disks k ≡ Some d → slice_get new.disks k ≡ Some e → d.failures ≤ e.failures
+  pub honest : (k : ℕ) (d e : Disk) → slice_get old.disks k ≡ Some d → slice_get new.disks k ≡ Some e → e.honest ≡ d.honest
+  pub states : (k : ℕ) (m n : MemberView) → k ≢ target → IsMember old.array k m → IsMember new.array k n → IsSameOrLost k old new m n
   pub keeps : (k : ℕ) (d e : Disk) (m : MemberView) → slice_get old.disks k ≡ Some d → slice_get new.disks k ≡ Some e → IsMember old.array k m → KeepsData m d e
 
 pub rest_none : (target : ℕ) (v : MirrorView) → KeepsRest target v v
@@ -176,6 +187,8 @@ rest_none target v =
       own = none.own;
       bad = λ k m n at there. ap (λ (z : MemberView). z.bad) (same_Some n m (sym there ∙ at));
       counted = λ k d e at_d at_e. (let same = ap (λ (z : Disk). z.failures) (same_Some e d (sym at_e ∙ at_d)) in omega (arith, same));
+      honest = λ k d e at_d at_e. ap (λ (z : Disk). z.honest) (same_Some e d (sym at_e ∙ at_d));
+      states = λ k m n other at there. inl (ap (λ (z : MemberView). z.state) (same_Some n m (sym there ∙ at)));
       keeps = λ k d e m at_d at_e at_m i n from to. ap (λ (z : Disk). part z.content i n) (same_Some e d (sym at_e ∙ at_d));
     }
 
@@ -192,6 +205,33 @@ rest_on target old mid new x y = record {
       let first = x.counted k d e.0 at_d e.1 in
       let second = y.counted k e.0 f e.1 at_f in
       omega (arith, first, second));
+  honest = λ k d f at_d at_f. (let e = x.disk_then k d at_d in y.honest k e.0 f e.1 at_f ∙ x.honest k d e.0 at_d e.1);
+  states = λ k m o other at there.
+      (let n = x.then k m at in
+      elim (y.states k n.0 o other n.1 there) [
+        | inr lost ↦
+            inr (
+              lost.0,
+              λ d f at_d at_f honest.
+                  (let e = x.disk_then k d at_d in
+                  let first = x.counted k d e.0 at_d e.1 in
+                  let less = lost.1 e.0 f e.1 at_f (x.honest k d e.0 at_d e.1 ∙ honest) in
+                  omega (arith, first, less)),
+            )
+        | inl same ↦
+            elim (x.states k m n.0 other at n.1) [
+              | inl was ↦ inl (same ∙ was)
+              | inr lost ↦
+                  inr (
+                    same ∙ lost.0,
+                    λ d f at_d at_f honest.
+                        (let e = x.disk_then k d at_d in
+                        let second = y.counted k e.0 f e.1 at_f in
+                        let less = lost.1 d e.0 at_d e.1 honest in
+                        omega (arith, second, less)),
+                  )
+            ]
+      ]);
   keeps = λ k d f m at_d at_f at_m i n from to.
       (let e = x.disk_then k d at_d in
       let o = x.then k m at_m in
@@ -217,8 +257,8 @@ preserves_rest target old new x chunks marks missing = record {
 }
 
 -- marks and superblocks were stored, and the target is in the state in which it was
-pub rest_stored : (target : ℕ) (old new : MirrorView) → KeepsAll old new → HavePlaces new → ((m n : MemberView) → IsMember old.array target m → IsMember new.array target n → n.state ≡ m.state) → KeepsRest target old new
-rest_stored target old new keeps places state = record {
+pub rest_stored : (target : ℕ) (old new : MirrorView) → KeepsAll old new → IsConsistent new → ((m n : MemberView) → IsMember old.array target m → IsMember new.array target n → n.state ≡ m.state) → KeepsRest target old new
+rest_stored target old new keeps sound state = record {
   then = member_then old new keeps;
   disk_then = device_then old new keeps;
   offset = λ k m n at there. ap (λ (s : Superblock). s.data_offset) (keeps.each k m n at there).superblock;
@@ -227,12 +267,32 @@ rest_stored target old new keeps places state = record {
       (let same = keeps.each target m n at there in target_same m n (state m n at there) (ap (λ (s : Superblock). s.recovery_offset) same.superblock) same.bad);
   bad = λ k m n at there. (keeps.each k m n at there).bad;
   counted = keeps.counted;
-  keeps = λ k d e m at_d at_e at_m. keeps.area places k d e m at_d at_e at_m;
+  honest = keeps.honest;
+  states = λ k m n other at there.
+      (let low = slice_get_within new.array.members k n there in
+      let many = sound.fits.as_many in
+      let e = got_within new.disks k (omega (arith, low, many)) in
+      let d = device_before old new keeps k e.0 e.1 in
+      elim (keeps.state k m n d.0 e.0 at there d.1 e.1) [
+        | inl same ↦ inl same
+        | inr lost ↦
+            inr (
+              lost.0,
+              λ b f at_b at_f honest.
+                  (let was = same_Some d.0 b (sym d.1 ∙ at_b) in
+                  let now = same_Some e.0 f (sym e.1 ∙ at_f) in
+                  let less = lost.1 (ap (λ (z : Disk). z.honest) was ∙ honest) in
+                  let first = ap (λ (z : Disk). z.failures) was in
+                  let second = ap (λ (z : Disk). z.failures) now in
+                  omega (arith, first, second, less)),
+            )
+      ]);
+  keeps = λ k d e m at_d at_e at_m. keeps.area (places_of new sound) k d e m at_d at_e at_m;
 }
 
 -- One device was used, beside its member's data. In memory all is as it was.
 pub rest_alone : (target k : ℕ) (old new : MirrorView) → new.array ≡ old.array → length new.disks ≡ length old.disks → ((j : ℕ) → j ≢ k → slice_get new.disks j ≡ slice_get old.disks j)
-    → ((d e : Disk) → slice_get old.disks k ≡ Some d → slice_get new.disks k ≡ Some e → d.failures ≤ e.failures)
+    → ((d e : Disk) → slice_get old.disks k ≡ Some d → slice_get new.disks k ≡ Some e → (d.failures ≤ e.failures) × (e.honest ≡ d.honest))
     → ((d e : Disk) (m : MemberView) → slice_get old.disks k ≡ Some d → slice_get new.disks k ≡ Some e → IsMember old.array k m → KeepsData m d e) → KeepsRest target old new
 rest_alone target k old new same as_many others counted keeps =
     let none = preserves_none target old in
@@ -244,9 +304,14 @@ rest_alone target k old new same as_many others counted keeps =
       own = λ m n at there. none.own m n at (before target n there);
       bad = λ j m n at there. ap (λ (z : MemberView). z.bad) (same_Some n m (sym (before j n there) ∙ at));
       counted = λ j d e at_d at_e. elim (cases_eq j k) [
-        | inl here ↦ counted d e (sym (ap (slice_get old.disks) here) ∙ at_d) (sym (ap (slice_get new.disks) here) ∙ at_e)
+        | inl here ↦ (counted d e (sym (ap (slice_get old.disks) here) ∙ at_d) (sym (ap (slice_get new.disks) here) ∙ at_e)).0
         | inr other ↦ (let is = ap (λ (z : Disk). z.failures) (same_Some e d (sym at_e ∙ others j other ∙ at_d)) in omega (arith, is))
       ];
+      honest = λ j d e at_d at_e. elim (cases_eq j k) [
+        | inl here ↦ (counted d e (sym (ap (slice_get old.disks) here) ∙ at_d) (sym (ap (slice_get new.disks) here) ∙ at_e)).1
+        | inr other ↦ ap (λ (z : Disk). z.honest) (same_Some e d (sym at_e ∙ others j other ∙ at_d))
+      ];
+      states = λ j m n other at there. inl (ap (λ (z : MemberView). z.state) (same_Some n m (sym (before j n there) ∙ at)));
       keeps = λ j d e m at_d at_e at_m. elim (cases_eq j k) [
         | inl here ↦ keeps d e m (sym (ap (slice_get old.disks) here) ∙ at_d) (sym (ap (slice_get new.disks) here) ∙ at_e) (sym (ap (slice_get old.array.members) here) ∙ at_m)
         | inr other ↦ λ i n from to. ap (λ (z : Disk). part z.content i n) (same_Some e d (sym at_e ∙ others j other ∙ at_d))
@@ -260,38 +325,75 @@ rest_alone target k old new same as_many others counted keeps =
 pub rest_super : (target k : ℕ) (b : ArrayView) (own : MemberView) (old new : MirrorView) → HavePlaces old → IsTried k (super_write b own) old.disks new.disks → new.array ≡ old.array → length (super_write b own).bytes ≡ 4096
     → KeepsRest target old new
 rest_super target k b own old new places tried same long =
-    rest_alone target k old new same tried.as_many tried.others (λ d e at_d at_e. (tried.stays d e at_d at_e).counted)
+    rest_alone target k old new same tried.as_many tried.others (λ d e at_d at_e. ((tried.stays d e at_d at_e).counted, (tried.stays d e at_d at_e).honest))
     (λ d e m at_d at_e at_m. beside_super_of m d e (places.each k m d at_m at_d) (subst (λ n. SameOutside (512 * 8) n d.content e.content) long (tried.outside d e at_d at_e)))
 
--- ---- the lists, and what the devices counted
+-- ---- the lists, what the devices counted, and the states
 pub record GrowsSo (target : ℕ) (failed : List Slot) (old new : MirrorView) : Type 0 where
   pub lists : ListsGrow target failed old.array new.array
-  pub counted : AllCounted failed old new
+  pub counted : CountsFailed failed old new
+  pub states : (k : ℕ) (m n : MemberView) → k ≢ target → IsMember old.array k m → IsMember new.array k n → n.state ≡ m.state
+  pub rises : (k : ℕ) (d e : Disk) → slice_get old.disks k ≡ Some d → slice_get new.disks k ≡ Some e → d.failures ≤ e.failures
+  pub honest : (k : ℕ) (d e : Disk) → slice_get old.disks k ≡ Some d → slice_get new.disks k ≡ Some e → e.honest ≡ d.honest
 
--- no list grows, where devices count no fewer failures
-pub grows_rest : (target : ℕ) (failed : List Slot) (old mid new : MirrorView) → ((k : ℕ) (m : MemberView) → IsMember old.array k m → (n : MemberView) × IsMember mid.array k n)
-    → ((k : ℕ) (d : Disk) → slice_get old.disks k ≡ Some d → (e : Disk) × (slice_get mid.disks k ≡ Some e)) → GrowsSo target failed old mid
-    → ((k : ℕ) (m n : MemberView) → IsMember mid.array k m → IsMember new.array k n → n.bad ≡ m.bad)
-    → ((k : ℕ) (d e : Disk) → slice_get mid.disks k ≡ Some d → slice_get new.disks k ≡ Some e → d.failures ≤ e.failures) → GrowsSo target failed old new
-grows_rest target failed old mid new then disk_then g bad counted = record {
-  lists = λ k m o other at there sector.
-      (let n = then k m at in
-      subst (λ (runs : List Run). IsBad runs sector ↔ (IsBad m.bad sector ⊎ IsOfFailed old.array.chunks failed m sector)) (sym (bad k n.0 o n.1 there)) (g.lists k m n.0 other at n.1 sector));
-  counted = λ honest k role m at in_role d f at_d at_f.
-      (let e = disk_then k d at_d in
-      let first = g.counted honest k role m at in_role d e.0 at_d e.1 in
+-- and then no list grows, as devices count no fewer failures
+module _ (target : ℕ) (failed : List Slot) (old mid new : MirrorView) (then : (k : ℕ) (m : MemberView) → IsMember old.array k m → (n : MemberView) × IsMember mid.array k n)
+    (disk_then : (k : ℕ) (d : Disk) → slice_get old.disks k ≡ Some d → (e : Disk) × (slice_get mid.disks k ≡ Some e)) (g : GrowsSo target failed old mid) where
+  lists_rest : ((k : ℕ) (m n : MemberView) → IsMember mid.array k m → IsMember new.array k n → n.bad ≡ m.bad) → ListsGrow target failed old.array new.array
+  lists_rest bad k m o other at there sector =
+      let n = then k m at in
+      subst (λ (runs : List Run). IsBad runs sector ↔ (IsBad m.bad sector ⊎ IsOfFailed old.array.chunks failed m sector)) (sym (bad k n.0 o n.1 there)) (g.lists k m n.0 other at n.1 sector)
+
+  counted_rest : ((k : ℕ) (d e : Disk) → slice_get mid.disks k ≡ Some d → slice_get new.disks k ≡ Some e → d.failures ≤ e.failures) → CountsFailed failed old new
+  counted_rest counted k role m at in_role d f at_d at_f honest =
+      let e = disk_then k d at_d in
+      let first = g.counted k role m at in_role d e.0 at_d e.1 honest in
       let second = counted k e.0 f e.1 at_f in
-      omega (arith, first, second));
-}
+      omega (arith, first, second)
+
+  -- and no state changes
+  pub grows_rest : ((k : ℕ) (m n : MemberView) → IsMember mid.array k m → IsMember new.array k n → n.bad ≡ m.bad)
+      → ((k : ℕ) (m n : MemberView) → IsMember mid.array k m → IsMember new.array k n → n.state ≡ m.state)
+      → ((k : ℕ) (d e : Disk) → slice_get mid.disks k ≡ Some d → slice_get new.disks k ≡ Some e → (d.failures ≤ e.failures) × (e.honest ≡ d.honest)) → GrowsSo target failed old new
+  grows_rest bad states counted = record {
+    lists = lists_rest bad;
+    counted = counted_rest (λ k d e at_d at_e. (counted k d e at_d at_e).0);
+    states = λ k m o other at there. (let n = then k m at in states k n.0 o n.1 there ∙ g.states k m n.0 other at n.1);
+    rises = λ k d f at_d at_f.
+        (let e = disk_then k d at_d in
+        let first = g.rises k d e.0 at_d e.1 in
+        let second = (counted k e.0 f e.1 at_f).0 in
+        omega (arith, first, second));
+    honest = λ k d f at_d at_f. (let e = disk_then k d at_d in (counted k e.0 f e.1 at_f).1 ∙ g.honest k d e.0 at_d e.1);
+  }
+
+  -- or only where a write failed
+  pub states_rest : KeepsRest target mid new → KeepStates target failed old new
+  states_rest y k m o other at there =
+      let n = then k m at in
+      let same = g.states k m n.0 other at n.1 in
+      elim (y.states k n.0 o other n.1 there) [
+        | inl still ↦ inl (still ∙ same)
+        | inr lost ↦
+            inr (
+              lost.0,
+              λ d f at_d at_f honest.
+                  (let e = disk_then k d at_d in
+                  let first = g.rises k d e.0 at_d e.1 in
+                  let less = lost.1 e.0 f e.1 at_f (g.honest k d e.0 at_d e.1 ∙ honest) in (
+                    omega (arith, first, less),
+                    λ role in_role. (let more = g.counted k role m at in_role d e.0 at_d e.1 honest in omega (arith, more, less)),
+                  )),
+            )
+      ]
 
 -- ---- all of it
 pub has_ended : (target : ℕ) (failed : List Slot) (old mid last new : MirrorView) (member : MemberView) → IsMember old.array target member → Preserves target old mid → GrowsSo target failed old mid → KeepsRest target mid last
-    → (last ≡ new) ⊎ HaltsFrom last new → HasEnded target old new
-has_ended target failed old mid last new member at x grows y ends =
+    → (last ≡ new) ⊎ HaltsFrom last new → StandStored target failed old.array last → HasEnded target old new
+has_ended target failed old mid last new member at x grows y ends stood =
     let between = x.then target member at in
     let now = y.then target between.0 between.1 in
     let own = target_on member between.0 now.0 (x.own member between.0 at between.1) (y.own between.0 now.0 between.1 now.1) in
-    let grown = grows_rest target failed old mid last x.then x.disk_then grows y.bad y.counted in
     record {
       last = last;
       ends = ends;
@@ -316,6 +418,8 @@ has_ended target failed old mid last new member at x grows y ends =
           let size = x.size j m o.0 at_m o.1 in
           y.keeps j e.0 f o.0 e.1 at_f o.1 i n (omega (arith, offset, from)) (omega (arith, offset, size, to)) ∙ x.others j d e.0 m other at_d e.1 at_m i n from to);
       failed = failed;
-      lists = grown.lists;
-      counted = grown.counted;
+      lists = lists_rest target failed old mid last x.then x.disk_then grows y.bad;
+      counted = counted_rest target failed old mid last x.then x.disk_then grows y.counted;
+      states = states_rest target failed old mid last x.then x.disk_then grows y;
+      stored = stood;
     }

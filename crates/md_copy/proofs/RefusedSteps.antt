@@ -40,9 +40,10 @@ use Rattle.md_copy.proofs.HeldRecorded.{chunks_is, data_kept, lacked, marks_is, 
 use Rattle.md_copy.proofs.PassesKeep.{PassesKeep}
 use Rattle.md_copy.proofs.Readied.{after_so, ready_of, recovering_admitted, spare_is, spare_twice, stored_so}
 use Rattle.md_copy.proofs.ReadyStill.{storing_states}
-use Rattle.md_copy.proofs.Refused.{GrowsSo, KeepsRest, Preserves, StaysTarget, preserves_rest, preserves_started, rest_alone, rest_none, rest_on, rest_stored, rest_super, target_same}
+use Rattle.md_copy.proofs.Refused.{GrowsSo, IsSameOrLost, KeepsRest, Preserves, StaysTarget, preserves_rest, preserves_started, rest_alone, rest_none, rest_on, rest_stored, rest_super, target_same}
 use Rattle.md_copy.proofs.StartedAs.{IsAs, StartsAs, starts_on}
 use Rattle.md_copy.proofs.StartsReadied.{starts_admitted, starts_of, starts_stored}
+use Rattle.md_copy.proofs.StatesKept.{WasSo, so_admitted, so_readied, so_stored}
 use Rattle.md_copy.proofs.StoringKeeps.{places_of, storing_keeps}
 
 -- ---- what is due is stored
@@ -58,7 +59,7 @@ module _ (target : ℕ) (old new : MirrorView) (s : Stores IsStoring old new) wh
       target_same m n (ap (λ (z : MemberView). z.state) is) (ap (λ (z : MemberView). z.superblock.recovery_offset) is) (ap (λ (z : MemberView). z.bad) is)
 
   pub rest_stores : KeepsRest target old new
-  rest_stores = rest_stored target old new (storing_keeps old new s.goes) (places_of new s.goes.sound) (λ m n at there. ap (λ (z : MemberView). z.state) (as_was target m n at there))
+  rest_stores = rest_stored target old new (storing_keeps old new s.goes) s.goes.sound (λ m n at there. ap (λ (z : MemberView). z.state) (as_was target m n at there))
 
 -- ---- and it is not all stored
 -- up to the end, or to right before a write that halted the mirror
@@ -73,7 +74,7 @@ stops_so target k old new h = elim h.ends [
       let goes = lost.loses.goes in
       record {
         last = new;
-        rest = rest_stored target old new (storing_keeps old new goes) (places_of new goes.sound)
+        rest = rest_stored target old new (storing_keeps old new goes) goes.sound
             (λ m n at there. (let x = storing_states target k old new h.other lost n there in x.2 ∙ ap (λ (z : MemberView). z.state) (same_Some x.0 m (sym x.1 ∙ at))));
         ends = inl refl;
       }
@@ -143,7 +144,22 @@ module _ (target : ℕ) (old admitted : MirrorView) (sound : IsConsistent old) (
   pub preserves_admitted : Preserves target old admitted
   preserves_admitted = preserves_started target old admitted starts_after own_admitted
 
--- ---- lists and counts, from before the call
+-- ---- lists, counts and states, from before the call
+-- the members beside the target are in the states in which they were
+abbrev pub StatesSo : ℕ → MirrorView → MirrorView → Type 0
+StatesSo target old v = (k : ℕ) (m n : MemberView) → k ≢ target → IsMember old.array k m → IsMember v.array k n → n.state ≡ m.state
+
+was_same : (old v : MirrorView) (k : ℕ) (m n : MemberView) → IsMember old.array k m → WasSo old k n → n.state ≡ m.state
+was_same old v k m n at was = was.2 ∙ ap (λ (z : MemberView). z.state) (same_Some was.0 m (sym was.1 ∙ at))
+
+pub states_begun : (target : ℕ) (old v : MirrorView) (none : Bitmap) → Begins target old v none → StatesSo target old v
+states_begun target old v none b k m n other at there = was_same old v k m n at (so_readied target b.member old v b.first k other n there)
+
+pub states_admitted : (target : ℕ) (old admitted : MirrorView) → AdmitsAfter target old admitted → StatesSo target old admitted
+states_admitted target old admitted h k m n other at there =
+    let a = so_admitted target h.stored admitted h.admits k other n there in
+    a.2 ∙ was_same old h.stored k m a.0 at (so_stored old h.stored h.first k a.0 a.1)
+
 pub grows_none : (target : ℕ) (v : MirrorView) → GrowsSo target [] v v
 grows_none target v = record {
   lists = λ k m n other at there sector. (
@@ -151,10 +167,13 @@ grows_none target v = record {
     λ either. subst (λ (runs : List Run). IsBad runs sector) (ap (λ (z : MemberView). z.bad) (same_Some m n (sym at ∙ there)))
         (elim either [ inl bad ↦ bad | inr of ↦ absurd (let low = of.there.1 in omega (arith, low)) ]),
   );
-  counted = λ honest k role m at in_role d e at_d at_e. (let same = ap (λ (z : Disk). z.failures) (same_Some e d (sym at_e ∙ at_d)) in omega (arith, same));
+  counted = λ k role m at in_role d e at_d at_e honest. (let same = ap (λ (z : Disk). z.failures) (same_Some e d (sym at_e ∙ at_d)) in omega (arith, same));
+  states = λ k m n other at there. ap (λ (z : MemberView). z.state) (same_Some n m (sym there ∙ at));
+  rises = λ k d e at_d at_e. (let same = ap (λ (z : Disk). z.failures) (same_Some e d (sym at_e ∙ at_d)) in omega (arith, same));
+  honest = λ k d e at_d at_e. ap (λ (z : Disk). z.honest) (same_Some e d (sym at_e ∙ at_d));
 }
 
-module _ (target : ℕ) (old v : MirrorView) (starts : StartsAs target old v) where
+module _ (target : ℕ) (old v : MirrorView) (starts : StartsAs target old v) (so : StatesSo target old v) where
   of_failed : (failed : List Slot) (n z : MemberView) → IsAs n z → (sector : ℕ) → IsOfFailed v.array.chunks failed z sector ↔ IsOfFailed old.array.chunks failed n sector
   of_failed failed n z alike sector = (
     λ of. record {
@@ -183,13 +202,23 @@ module _ (target : ℕ) (old v : MirrorView) (starts : StartsAs target old v) wh
           λ bad. elim (grown.0 bad) [ inl was ↦ inl (subst (λ (runs : List Run). IsBad runs sector) z.2.bad was) | inr is ↦ inr (of.0 is) ],
           λ either. grown.1 (elim either [ inl was ↦ inl (subst (λ (runs : List Run). IsBad runs sector) (sym z.2.bad) was) | inr is ↦ inr (of.1 is) ]),
         ));
-    counted = λ honest k role m at in_role d f at_d at_f.
+    counted = λ k role m at in_role d f at_d at_f honest.
         (let z = starts.then k m at in
         let e = starts.disk_then k d at_d in
         let first = starts.counted k d e.0 at_d e.1 in
-        let second = p.fails k role z.0 z.1 (z.2.roles role ∙ in_role) e.0 f e.1 at_f (starts.honest k d e.0 at_d e.1 ∙ honest k d at_d) in
+        let second = p.fails k role z.0 z.1 (z.2.roles role ∙ in_role) e.0 f e.1 at_f (starts.honest k d e.0 at_d e.1 ∙ honest) in
         let few = fewer role in
         omega (arith, first, second, few));
+    states = λ k m o other at there.
+        (let z = starts.then k m at in
+        let n = p.lists.after k z.0 z.1 in
+        ap (λ (x : MemberView). x.state) (same_Some o n.0 (sym there ∙ n.1)) ∙ n.2.state ∙ so k m z.0 other at z.1);
+    rises = λ k d f at_d at_f.
+        (let e = starts.disk_then k d at_d in
+        let first = starts.counted k d e.0 at_d e.1 in
+        let second = p.counted k e.0 f e.1 at_f in
+        omega (arith, first, second));
+    honest = λ k d f at_d at_f. (let e = starts.disk_then k d at_d in p.honest k e.0 f e.1 at_f ∙ starts.honest k d e.0 at_d e.1);
   }
 
 -- ---- how far the target is rebuilt is recorded
@@ -243,6 +272,11 @@ module _ (target : ℕ) (copied : Bitmap) (v w : MirrorView) (sound : IsConsiste
       | inl here ↦ (tried.stays d e (sym (ap (slice_get v.disks) here) ∙ at_d) (sym (ap (slice_get w.disks) here) ∙ at_e)).counted
       | inr other ↦ (let is = ap (λ (z : Disk). z.failures) (same_Some e d (sym at_e ∙ tried.others k other ∙ at_d)) in omega (arith, is))
     ];
+    honest = λ k d e at_d at_e. elim (cases_eq k target) [
+      | inl here ↦ (tried.stays d e (sym (ap (slice_get v.disks) here) ∙ at_d) (sym (ap (slice_get w.disks) here) ∙ at_e)).honest
+      | inr other ↦ ap (λ (z : Disk). z.honest) (same_Some e d (sym at_e ∙ tried.others k other ∙ at_d))
+    ];
+    states = λ k l n other at there. inl (same_of (λ z. z.state) (λ z. refl) k l n at there);
     keeps = λ k d e l at_d at_e at_l. elim (cases_eq k target) [
       | inl here ↦
           subst (λ (z : MemberView). KeepsData z d e) (same_Some m l (sym r.may.at ∙ sym (ap (slice_get v.array.members) here) ∙ at_l))
@@ -268,7 +302,7 @@ rest_left target copied v w sound (inr (inr f)) = rest_unrecordable target copie
 -- the target does not come into sync
 pub rest_unenrolled : (target : ℕ) (kept orphans : Bitmap) (v w : MirrorView) → FailsToEnrol target kept orphans v w → KeepsRest target v w
 rest_unenrolled target kept orphans v w f =
-    rest_alone target target v w f.array f.disks.as_many f.disks.others (λ d e at_d at_e. (f.disks.change d e at_d at_e).0.kept.counted)
+    rest_alone target target v w f.array f.disks.as_many f.disks.others (λ d e at_d at_e. (let kept = (f.disks.change d e at_d at_e).0.kept in (kept.counted, kept.honest_kept)))
     (λ d e m at_d at_e at_m i n from to.
     (let was = same_Some f.comes.member m (sym f.comes.at ∙ at_m) in
     let offset = ap (λ (s : Superblock). s.data_offset) f.comes.comes.superblock ∙ ap (λ (z : MemberView). z.superblock.data_offset) was in
@@ -296,6 +330,11 @@ rest_list target k failed v w recovers h = record {
       target_same m n (ap (λ (z : MemberView). z.state) is) (ap (λ (z : MemberView). z.superblock.recovery_offset) is) (ap (λ (z : MemberView). z.bad) is));
   bad = λ j m n at there. (h.members j m n at there).0.bad;
   counted = λ j d e at_d at_e. (h.writes.stays j d e at_d at_e).counted;
+  honest = λ j d e at_d at_e. (h.writes.stays j d e at_d at_e).honest;
+  states = λ j m n other at there. elim (cases_eq j k) [
+    | inl here ↦ subst (λ i. IsSameOrLost i v w m n) (sym here) (h.own m n (sym (ap (slice_get v.array.members) here) ∙ at) (sym (ap (slice_get w.array.members) here) ∙ there))
+    | inr apart ↦ inl ((h.members j m n at there).1 apart)
+  ];
   keeps = λ j d e m at_d at_e at_m. h.writes.keeps j m at_m d e at_d at_e;
 }
   where

@@ -1,16 +1,16 @@
 -- A member beside the target is in the state in which it was through a rebuild, unless a write to it fails.
-use Rattle.std.proofs.Common.{◌≡◌, ◌≢◌, ◌∙◌, ◌⊎◌, ℕ, ◌<◌, map, slice_get, sym, ap, subst, arith, inl, inr}
+use Rattle.std.proofs.Common.{◌≡◌, ◌≢◌, ◌∙◌, ◌⊎◌, ℕ, ◌+◌, ◌<◌, count_by, map, slice_get, sym, ap, subst, arith, inl, inr}
 use Rattle.std.proofs.lemmas.Option.{same_Some, slice_get_within}
 use Rattle.md_assembly.specs.declared.state.MemberState.TheVariants.{Faulty}
 use Rattle.md_assembly.proofs.Indices.{got_within}
 use Rattle.md_bitmap.specs.Marks.{Bitmap}
-use Rattle.md_collect.specs.Reading.{Fails}
 use Rattle.md_kept_members.specs.Members.{made_due}
 use Rattle.md_kept_members.specs.TakingBack.{admitted_member}
 use Rattle.md_kept_members.specs.View.{MemberView}
+use Rattle.md_pass.specs.Readings.{is_of}
 use Rattle.md_state.specs.DiskWrites.{AtDevice}
 use Rattle.md_state.specs.Members.{IsMember}
-use Rattle.md_state.specs.View.{ArrayView, Disk, MirrorView, of_disks}
+use Rattle.md_state.specs.View.{ArrayView, Disk, MirrorView}
 use Rattle.md_array.specs.Admitting.{Admits}
 use Rattle.md_array.proofs.General.Indices.{at_map, got_in_map, got_other}
 use Rattle.md_metadata.specs.Going.{GoesOn, only_others}
@@ -18,6 +18,7 @@ use Rattle.md_metadata.specs.Storing.{IsStoring}
 use Rattle.md_copy.specs.declared.rebuilt.Rebuilt.{Rebuilt}
 use Rattle.md_copy.specs.Readying.{AdmitsFirst, Readies}
 use Rattle.md_copy.specs.Rebuilding.{RebuildsReadied}
+use Rattle.md_copy.specs.Rebuilt.{FailsWrite, failed_of}
 use Rattle.md_copy.specs.Storing.{StoresFirst}
 use Rattle.md_copy.proofs.PassesKeep.{all_keep, disk_then}
 use Rattle.md_copy.proofs.StoringKeeps.{device_then, storing_keeps}
@@ -27,10 +28,10 @@ use Rattle.md_copy.proofs.StoringKeeps.{device_then, storing_keeps}
 abbrev pub WasSo : MirrorView → ℕ → MemberView → Type 0
 WasSo old k n = (m : MemberView) × IsMember old.array k m × (n.state ≡ m.state)
 
-so_stored : (old new : MirrorView) → StoresFirst old new → (k : ℕ) (n : MemberView) → IsMember new.array k n → WasSo old k n
+pub so_stored : (old new : MirrorView) → StoresFirst old new → (k : ℕ) (n : MemberView) → IsMember new.array k n → WasSo old k n
 so_stored old new first k n at = (let s = first.stores.ready.each k n at in (s.before, s.member, ap (λ (z : MemberView). z.state) s.same))
 
-so_admitted : (target : ℕ) (old new : MirrorView) → Admits target old new → (k : ℕ) → k ≢ target → (n : MemberView) → IsMember new.array k n → WasSo old k n
+pub so_admitted : (target : ℕ) (old new : MirrorView) → Admits target old new → (k : ℕ) → k ≢ target → (n : MemberView) → IsMember new.array k n → WasSo old k n
 so_admitted target old new r k other n at =
     let found = at_map made_due old.array.members k n
     (sym (got_other (map made_due old.array.members) target k (admitted_member r.role r.may.member) other) ∙ sym (ap (λ (a : ArrayView). slice_get a.members k) r.array) ∙ at) in
@@ -54,7 +55,7 @@ module _ (target : ℕ) (m : MemberView) (none : Bitmap) (v new : MirrorView) (t
   abbrev u : MirrorView
   u = h.by.enrolled
 
-  pub state_so : (z.state ≡ n.state) ⊎ ((z.state ≡ Faulty) × AtDevice k v.disks y.disks (Fails of_disks))
+  pub state_so : (z.state ≡ n.state) ⊎ ((z.state ≡ Faulty) × AtDevice k v.disks y.disks (FailsWrite (failed_of h.passes) n))
   state_so =
       let keeps = all_keep target m h.passes none h.copied v f h.by.fills.copies in
       let nf = keeps.lists.after k n at_n in
@@ -76,6 +77,11 @@ module _ (target : ℕ) (m : MemberView) (none : Bitmap) (v new : MirrorView) (t
                   let first = keeps.counted k b c.0 at_b c.1 in
                   let count = ap (λ (x : Disk). x.failures) is in
                   let less = failed.1 (ap (λ (x : Disk). x.honest) is ∙ keeps.honest k b c.0 at_b c.1 ∙ honest) in
-                  subst (λ (x : Disk). b.failures < x.failures) (sym (same_Some w e.0 (sym at_w ∙ e.1))) (omega (arith, first, count, less))),
+                  let last : w ≡ e.0 = same_Some w e.0 (sym at_w ∙ e.1) in (
+                    subst (λ (x : Disk). b.failures < x.failures) (sym last) (omega (arith, first, count, less)),
+                    λ role in_role.
+                        (let own = keeps.fails k role n at_n in_role b c.0 at_b c.1 honest in
+                        subst (λ (x : Disk). b.failures + count_by (is_of role) (failed_of h.passes) < x.failures) (sym last) (omega (arith, own, count, less))),
+                  )),
             )
       ]

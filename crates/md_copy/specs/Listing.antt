@@ -1,12 +1,14 @@
 -- A chunk that a source failed to give is listed as bad on it: first in memory, slot by slot, and then the lists are stored, member by member (this
 -- project's own order).
-use Rattle.std.specs.Prelude.{◌≡◌, ◌≢◌, ◌⊎◌, ◌<◌, ℕ, Bool, true, false, List, [], ◌∷◌, ◌++◌, length, slice_get, All}
+use Rattle.std.specs.Prelude.{◌≡◌, ◌≢◌, ◌⊎◌, ◌<◌, ℕ, Bool, true, false, List, [], ◌∷◌, ◌++◌, length, slice_get, All, Some, ◌↔◌}
 use Rattle.std.specs.List.{AllPairs, Any}
+use Rattle.md_assembly.specs.declared.state.MemberState.TheVariants.{Faulty}
 use Rattle.md_assembly.specs.States.{is_in_sync, is_in_sync_as}
 use Rattle.md_badblocks.specs.declared.run.Run.{Run}
-use Rattle.md_badblocks.specs.Runs.{IsCanonical}
+use Rattle.md_badblocks.specs.Runs.{IsBad, IsCanonical}
 use Rattle.md_bitmap.specs.Marks.{Bitmap}
 use Rattle.md_cert.specs.declared.slots.Slot.{Slot}
+use Rattle.md_collect.specs.Reading.{Fails}
 use Rattle.md_kept_members.specs.Enrolling.{HasRoomFor}
 use Rattle.md_kept_members.specs.View.{MemberView}
 use Rattle.md_model.specs.Events.{Event}
@@ -15,10 +17,12 @@ use Rattle.md_state.specs.DeviceChanges.{StaysHonest}
 use Rattle.md_state.specs.DiskWrites.{AtDevice}
 use Rattle.md_state.specs.Members.{AllInSync, IsInSync, IsMember}
 use Rattle.md_state.specs.NotingBad.{HasFullLogFor}
-use Rattle.md_state.specs.View.{ArrayView, MirrorView}
+use Rattle.md_state.specs.View.{ArrayView, Disk, MirrorView, of_disks}
 use Rattle.md_state.specs.WritingMember.{IsNotDue}
 use Rattle.md_array.specs.Enrolling.{KeepsData}
 use Rattle.md_array.specs.InTurn.{AllOf}
+use Rattle.md_array.specs.ReadAsKept.{IsSuperOn}
+use Rattle.md_array.specs.Worlds.{is_listed}
 use Rattle.md_metadata.specs.Going.{GoesOn, only_others}
 use Rattle.md_metadata.specs.Storing.{HaltsAtWrite, IsNoFailure, LosesStoring}
 use Rattle.md_metadata.specs.StoringLists.{HasStoredList, list_events}
@@ -143,6 +147,16 @@ pub record StoresLists (failed : List Slot) (old new : MirrorView) : Type 0 wher
   pub recorded : AllInSync new.array IsNotDue
   pub writes : WritesMetadata old new
 
+-- An opening reads a superblock there, and in the log that this names are these sectors listed, and no others.
+pub record HasListOn (list : List Run) (content : List ℕ) : Type 0 where
+  pub super : Superblock
+  pub read : IsSuperOn content super
+  pub listed : (sector : ℕ) → (is_listed super content sector ≡ true) ↔ IsBad list sector
+
+-- so it is on this device, if it is honest
+abbrev pub IsListOn : List Run → ℕ → MirrorView → Type 0
+IsListOn list k v = (e : Disk) → slice_get v.disks k ≡ Some e → e.honest ≡ true → HasListOn list e.content
+
 -- After lists were stored, and nothing failed, a write to member k failed. It is in sync, and no other member is, so that the mirror is halted.
 pub record HaltsAtList (k : ℕ) (old new : MirrorView) : Type 0 where
   pub halts : HaltsAtWrite IsStoringList k old new
@@ -157,13 +171,17 @@ pub record KeepsList (m n : MemberView) : Type 0 where
   pub size : n.superblock.data_size ≡ m.superblock.data_size
   pub out : is_in_sync m.state ≡ false → n ≡ record m { due = n.due }
 
--- A write to member k failed, which a failed slot is of, and that was the end: it is faulty, or the mirror is halted.
+-- A write to member k failed, which a failed slot is of, and that was the end: it is faulty, or the mirror is halted. Of each other member in sync the
+-- list is stored, or its device is as it was.
 pub record StopsAtList (failed : List Slot) (k : ℕ) (old new : MirrorView) : Type 0 where
   pub member : MemberView
   pub was : IsInSync old.array k member
   pub source : HasFailed failed member
   pub ends : LosesStoring IsStoringList k old new ⊎ HaltsAtList k old new
   pub members : (j : ℕ) (m n : MemberView) → IsMember old.array j m → IsMember new.array j n → KeepsList m n × (j ≢ k → n.state ≡ m.state)
+  pub own : (m n : MemberView) → IsMember old.array k m → IsMember new.array k n
+      → (n.state ≡ m.state) ⊎ ((n.state ≡ Faulty) × AtDevice k old.disks new.disks (Fails of_disks))
+  pub others : (j : ℕ) (m : MemberView) → j ≢ k → IsMember old.array j m → is_in_sync m.state ≡ true → IsListOn m.bad j new ⊎ (slice_get new.disks j ≡ slice_get old.disks j)
   pub writes : WritesMetadata old new
 
 abbrev pub StopsStoringLists : List Slot → MirrorView → MirrorView → RebuildFault → Type 0

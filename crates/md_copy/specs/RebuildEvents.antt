@@ -8,9 +8,10 @@ use Rattle.md_state.specs.View.{Disk, MirrorView}
 use Rattle.md_array.specs.Admitting.{FailsOnTargetAlone, FailsToAdmit}
 use Rattle.md_array.specs.Checkpoints.{FailsToCheckpoint}
 use Rattle.md_array.specs.Enrolling.{FailsToEnrol}
+use Rattle.md_array.specs.Enrolments.{FailsAtSuper}
 use Rattle.md_array.specs.InTurn.{AllOf, HaltsAt, Requests}
 use Rattle.md_metadata.specs.Going.{LeadsBy}
-use Rattle.md_metadata.specs.Storing.{IsNoFailure, IsStoring}
+use Rattle.md_metadata.specs.Storing.{IsFailureOf, IsNoFailure, IsStoring}
 use Rattle.md_copy.specs.declared.fault.RebuildFault.{RebuildFault}
 use Rattle.md_copy.specs.declared.fault.RebuildFault.TheVariants.{Halted, NotSpare, Dirty, InFlight, LogFull, NoMemory, TargetFault, MetadataFault, EventsFull}
 use Rattle.md_copy.specs.Leaving.{Leaves}
@@ -125,9 +126,72 @@ pub record IsListOfUnfinished (target : ℕ) (events : List Event) : Type 0 wher
   pub spoils : (last ≡ []) ⊎ (last ≡ Event.SpoilTarget target ∷ [])
   pub list : events ≡ before ++ last
 
-pub record LeadsUnfinished (target : ℕ) (old new : MirrorView) : Type 0 where
+-- The write of `enrol` that failed was not that of the superblock, as others were to come after it: it was of the bitmap or of the log. What it
+-- left in its range is not asked. (`FailsAtSuper` of md_array is the other case.)
+pub record FailsAtMarks {target : ℕ} {copied orphans : Bitmap} {old new : MirrorView} (f : FailsToEnrol target copied orphans old new) : Type 0 where
+  pub disk : Disk
+  pub is : slice_get old.disks target ≡ Some disk
+  pub left : Disk
+  pub left_is : slice_get new.disks target ≡ Some left
+  pub more : (f.disks.change disk left is left_is).0.rest ≢ []
+
+-- ---- which event stands for which fault
+-- this event is the last
+abbrev pub EndsWith : Event → List Event → Type 0
+EndsWith e events = (before : List Event) × (events ≡ before ++ e ∷ [])
+
+-- How far the target is rebuilt was recorded, or could not be; or neither was tried.
+abbrev pub AreOfLeaving : ℕ → List Event → Type 0
+AreOfLeaving target events =
+    (events ≡ [])
+    ⊎ (((offset : ℕ) × (listed : ℕ → Bool) × (events ≡ Event.Checkpoint target offset listed ∷ [])) ⊎ (events ≡ Event.SpoilTarget target ∷ []))
+
+-- a write to member k failed, and then at most this came
+pub record FailsAtMember (target k : ℕ) (events : List Event) : Type 0 where
+  pub before : List Event
+  pub failing : Event
+  pub of : IsFailureOf k failing
+  pub after : List Event
+  pub leaving : AreOfLeaving target after
+  pub list : events ≡ before ++ failing ∷ after
+
+-- Or the write to it that failed halted the mirror.
+abbrev pub TellsMember : {IsOf : Event → Type 0} {last new : MirrorView} → ℕ → ℕ → List Event → (last ≡ new) ⊎ HaltsIn IsOf last new → Type 0
+TellsMember target k events (inl same) = FailsAtMember target k events
+TellsMember target k events (inr halts) = IsFailureOf k halts.failing
+
+-- a write to the target: of a pass, by which its offset was to be recorded, or one of `enrol`, before its last or the last
+abbrev pub TellsTarget : {target : ℕ} {m : MemberView} {none : Bitmap} {ready new : MirrorView} → LosesTarget target m none ready new → List Event → Type 0
+TellsTarget {target} (inl pass) events = EndsWith (Event.Fill target) events
+TellsTarget {target} (inr (inl recording)) events = EndsWith (Event.SpoilTarget target) events
+TellsTarget {target} (inr (inr ends)) events =
+    (FailsAtMarks ends.why × EndsWith (Event.Prepare target) events) ⊎ (FailsAtSuper ends.why × EndsWith (Event.SpoilTarget target) events)
+
+-- how far the target is rebuilt was recorded before the fault was answered, or could not be
+abbrev pub TellsLeaving : {target : ℕ} {copied : Bitmap} {stopped new : MirrorView} → Leaves target copied stopped new → List Event → Type 0
+TellsLeaving {target} (inl halted) events = Unit {0}
+TellsLeaving {target} (inr (inl recorded)) events = (offset : ℕ) × (listed : ℕ → Bool) × EndsWith (Event.Checkpoint target offset listed) events
+TellsLeaving {target} (inr (inr fails)) events = EndsWith (Event.SpoilTarget target) events
+
+-- The mirror was halted only where `MetadataFault` is answered.
+abbrev pub TellsFault : (target : ℕ) (old new : MirrorView) (fault : RebuildFault) → RefusesRebuild target old new fault → LeadsOrHalts (IsOfUnfinished target) old new → Type 0
+TellsFault target old new Halted h goes = (goes.last ≡ new) × (goes.leads.events ≡ [])
+TellsFault target old new NotSpare h goes = (goes.last ≡ new) × (goes.leads.events ≡ [])
+TellsFault target old new Dirty h goes = (goes.last ≡ new) × (goes.leads.events ≡ [])
+TellsFault target old new (InFlight number) h goes = (goes.last ≡ new) × (goes.leads.events ≡ [])
+TellsFault target old new EventsFull h goes = (goes.last ≡ new) × (goes.leads.events ≡ [])
+TellsFault target old new (MetadataFault k) h goes = TellsMember target k goes.leads.events goes.ends
+TellsFault target old new TargetFault (inl recording) goes = (goes.last ≡ new) × EndsWith (Event.RecordTargetFails target) goes.leads.events
+TellsFault target old new TargetFault (inr (inl admission)) goes = (goes.last ≡ new) × EndsWith (Event.SpoilTarget target) goes.leads.events
+TellsFault target old new TargetFault (inr (inr ends)) goes = (goes.last ≡ new) × TellsTarget ends.why goes.leads.events
+TellsFault target old new NoMemory (inl first) goes = goes.last ≡ new
+TellsFault target old new NoMemory (inr h) goes = (goes.last ≡ new) × TellsLeaving h.leaves goes.leads.events
+TellsFault target old new (LogFull k) h goes = (goes.last ≡ new) × TellsLeaving h.leaves goes.leads.events
+
+pub record LeadsUnfinished (target : ℕ) (old new : MirrorView) (fault : RebuildFault) (h : RefusesRebuild target old new fault) : Type 0 where
   pub goes : LeadsOrHalts (IsOfUnfinished target) old new
   pub list : IsListOfUnfinished target goes.leads.events
+  pub tells : TellsFault target old new fault h goes
 
 -- The write failed by which the target is admitted. Where it left the old superblock or none, that is the event of a record that failed,
 -- too: then the next opening need not leave the target out.
@@ -175,13 +239,3 @@ pub record LeadsUnrecorded (target : ℕ) (old new : MirrorView) : Type 0 where
   pub leads : LeadsBy (IsBeforeEnrol target) old mid
   pub fails : FailsToCheckpoint target copied mid new
   pub event : FailsOnTargetAlone target mid new
-
--- ---- where `enrol` fails
--- The write that failed was not that of the superblock, as others were to come after it: it was of the bitmap or of the log. What it left in its
--- range is not asked. (`FailsAtSuper` of md_array is the other case.)
-pub record FailsAtMarks {target : ℕ} {copied orphans : Bitmap} {old new : MirrorView} (f : FailsToEnrol target copied orphans old new) : Type 0 where
-  pub disk : Disk
-  pub is : slice_get old.disks target ≡ Some disk
-  pub left : Disk
-  pub left_is : slice_get new.disks target ≡ Some left
-  pub more : (f.disks.change disk left is left_is).0.rest ≢ []

@@ -1,5 +1,5 @@
 -- What a rebuild makes of its target, in plain terms, whatever the steps were (this project's own).
-use Rattle.std.specs.Prelude.{◌≡◌, ◌≢◌, ◌⊎◌, ◌↔◌, ℕ, ◌+◌, ◌*◌, ◌<◌, ◌≤◌, true, List, [], ◌∷◌, ◌++◌, length, count_by, slice_get, Some}
+use Rattle.std.specs.Prelude.{◌≡◌, ◌≢◌, ◌⊎◌, ◌↔◌, ℕ, ◌+◌, ◌*◌, ◌<◌, ◌≤◌, true, false, List, [], ◌∷◌, ◌++◌, length, count_by, slice_get, Some}
 use Rattle.md_assembly.specs.declared.state.MemberState.TheVariants.{Faulty}
 use Rattle.md_assembly.specs.States.{is_in_sync, is_in_sync_as, is_recovering, is_spare}
 use Rattle.md_badblocks.specs.declared.run.Run.{Run}
@@ -7,6 +7,7 @@ use Rattle.md_badblocks.specs.Runs.{IsBad}
 use Rattle.md_bitmap.specs.Chunks.{InChunk}
 use Rattle.md_bitmap.specs.Marks.{Bitmap, is_set}
 use Rattle.md_cert.specs.declared.slots.Slot.{Slot}
+use Rattle.md_cert.specs.Plans.{SlotsRise}
 use Rattle.md_collect.specs.Reading.{Fails}
 use Rattle.md_device.specs.Splice.{part}
 use Rattle.md_kept_members.specs.Enrolling.{IsListAfter}
@@ -28,7 +29,8 @@ use Rattle.md_pass.specs.Readings.{is_of}
 use Rattle.md_passes.specs.Listed.{ArrayPasses, IsOfFailed, MayServe, ServesAs, most_failures}
 use Rattle.md_passes.specs.Passes.{IsCopiedIn, PassView}
 use Rattle.md_copy.specs.declared.rebuilt.Rebuilt.{Rebuilt}
-use Rattle.md_copy.specs.Listing.{HasFailed}
+use Rattle.md_copy.specs.Filling.{CountsFailed}
+use Rattle.md_copy.specs.Listing.{HasFailed, HasListOn}
 use Rattle.md_copy.specs.Preparing.{Tells, is_in, uncopied_chunks}
 use Rattle.md_copy.specs.Sources.{missing_chunks}
 
@@ -99,12 +101,6 @@ ListsGrow target failed old new =
     (k : ℕ) (m n : MemberView) → k ≢ target → IsMember old k m → IsMember new k n
     → (sector : ℕ) → IsBad n.bad sector ↔ (IsBad m.bad sector ⊎ IsOfFailed old.chunks failed m sector)
 
--- The device of each member in sync has counted a failure for each of its slots that failed, or more.
-abbrev pub AllCounted : List Slot → MirrorView → MirrorView → Type 0
-AllCounted failed old new =
-    AreHonest old.disks → (k role : ℕ) (m : MemberView) → IsMember old.array k m → is_in_sync_as role m.state ≡ true
-    → AtDevice k old.disks new.disks (λ d e. d.failures + count_by (is_of role) failed ≤ e.failures)
-
 -- The first pass is planned by where a chunk may be read before the call, the others by where it may be once what failed before is listed, and
 -- each is least. There are no more of them than chunks to read, counted for each member in sync, and one.
 pub record AreItsPasses (target : ℕ) (passes : List PassView) (chunks : List ℕ) (old : MirrorView) (last : MirrorView) : Type 0 where
@@ -115,22 +111,21 @@ pub record AreItsPasses (target : ℕ) (passes : List PassView) (chunks : List �
   pub are : ArrayPasses passes first chunks end
   pub few : length passes ≤ most_failures old.array + 1
   pub lists : ListsGrow target (failed_of passes) old.array last.array
-  pub counted : AllCounted (failed_of passes) old last
+  pub counted : CountsFailed (failed_of passes) old last
 
--- Each other member is in the state in which it was, or it is faulty, and then its device, if it is honest, has counted a failure.
-abbrev pub KeepStates : ℕ → MirrorView → MirrorView → Type 0
-KeepStates target old last =
+-- A write to the member failed: its device, if it is honest, has counted a failure, and if the member was in sync, more than slots of it failed.
+abbrev pub FailsWrite : List Slot → MemberView → Disk → Disk → Type 0
+FailsWrite failed m d e =
+    d.honest ≡ true → (d.failures < e.failures) × ((role : ℕ) → is_in_sync_as role m.state ≡ true → d.failures + count_by (is_of role) failed < e.failures)
+
+-- Each other member is in the state in which it was, or it is faulty, as a write to it failed.
+abbrev pub KeepStates : ℕ → List Slot → MirrorView → MirrorView → Type 0
+KeepStates target failed old last =
     (k : ℕ) (m n : MemberView) → k ≢ target → IsMember old.array k m → IsMember last.array k n
-    → (n.state ≡ m.state) ⊎ ((n.state ≡ Faulty) × AtDevice k old.disks last.disks (Fails of_disks))
+    → (n.state ≡ m.state) ⊎ ((n.state ≡ Faulty) × AtDevice k old.disks last.disks (FailsWrite failed m))
 
 -- ---- what stands on the devices
--- An opening reads a superblock there, and in the log that this names are these sectors listed, and no others.
-pub record HasListOn (list : List Run) (content : List ℕ) : Type 0 where
-  pub super : Superblock
-  pub read : IsSuperOn content super
-  pub listed : (sector : ℕ) → (is_listed super content sector ≡ true) ↔ IsBad list sector
-
--- So it is of each other member of which a slot failed, as it is in sync still: a write to it that failed would have made it faulty.
+-- The list of each other member of which a slot failed stands there, as it is in sync still: a write to it that failed would have made it faulty.
 abbrev pub ListsStored : ℕ → List Slot → ArrayView → MirrorView → Type 0
 ListsStored target failed old last =
     (k : ℕ) (m n : MemberView) (e : Disk) → k ≢ target → IsMember old k m → HasFailed failed m
@@ -139,6 +134,27 @@ ListsStored target failed old last =
 -- and of this member
 abbrev pub OwnListStored : MemberView → Disk → Type 0
 OwnListStored m d = is_in_sync m.state ≡ true → d.honest ≡ true → HasListOn m.bad d.content
+
+-- An opening reads a superblock there. The log that this names lists these sectors, and none that is not in the list.
+pub record HasListWithin (Known : ℕ → Type 0) (list : List Run) (content : List ℕ) : Type 0 where
+  pub super : Superblock
+  pub read : IsSuperOn content super
+  pub known : (sector : ℕ) → Known sector → is_listed super content sector ≡ true
+  pub only : (sector : ℕ) → is_listed super content sector ≡ true → IsBad list sector
+
+-- So it is, where the rebuild is refused, of each other member of which one of these slots failed: its list before, and the chunks of these slots.
+abbrev pub ListsStand : ℕ → List Slot → ArrayView → MirrorView → Type 0
+ListsStand target stored old last =
+    (k : ℕ) (m n : MemberView) (e : Disk) → k ≢ target → IsMember old k m → HasFailed stored m → IsMember last.array k n → is_in_sync n.state ≡ true
+    → slice_get last.disks k ≡ Some e → e.honest ≡ true → HasListWithin (λ sector. IsBad m.bad sector ⊎ IsOfFailed old.chunks stored m sector) n.bad e.content
+
+-- Of the slots by which lists grew these stand on the devices, those of passes whose lists were stored. The others are of one more pass.
+pub record StandStored (target : ℕ) (failed : List Slot) (old : ArrayView) (last : MirrorView) : Type 0 where
+  pub stored : List Slot
+  pub noted : List Slot
+  pub slots : failed ≡ stored ++ noted
+  pub of_one : SlotsRise noted
+  pub stand : last.array.halted ≡ false → ListsStand target stored old last
 
 -- ---- the whole call
 -- The write of a mark or of a superblock failed on a member that can't be made faulty, and the mirror is halted.
@@ -161,7 +177,7 @@ pub record HasRebuilt (target : ℕ) (told : Rebuilt) (old new : MirrorView) : T
   pub rebuilt : IsRebuilt target copied orphans old last
   pub orphans_are : told.orphans.items ≡ uncopied_chunks old.array rebuilt.member copied
   pub passes_are : AreItsPasses target passes (missing_chunks old.array rebuilt.member) old last
-  pub states : KeepStates target old last
+  pub states : KeepStates target (failed_of passes) old last
   pub stored : ListsStored target (failed_of passes) old.array last
   pub own_stored : (e : Disk) → slice_get last.disks target ≡ Some e → OwnListStored rebuilt.now e
 
@@ -174,7 +190,8 @@ pub record IsBesideLacking (a : ArrayView) (m : MemberView) (at n : ℕ) : Type 
 
 -- At the end of the call, or where a write that failed halted the mirror before a pass, right before that write: the target is what it was, or it
 -- was a spare and is recovering. How far it is rebuilt is no less than before, its list is as before, and so are its data beside what it lacked. The
--- data of all other members are as before, and their lists grew by slots that failed alone, which the devices have counted.
+-- data of all other members are as before, their lists grew by slots that failed alone, which the devices have counted, and their states are as
+-- before where no write to them failed. What was listed of passes whose lists were stored stands on the devices.
 pub record HasEnded (target : ℕ) (old new : MirrorView) : Type 0 where
   pub last : MirrorView
   pub ends : (last ≡ new) ⊎ HaltsFrom last new
@@ -190,4 +207,6 @@ pub record HasEnded (target : ℕ) (old new : MirrorView) : Type 0 where
   pub others : OthersKeepData target old last
   pub failed : List Slot
   pub lists : ListsGrow target failed old.array last.array
-  pub counted : AllCounted failed old last
+  pub counted : CountsFailed failed old last
+  pub states : KeepStates target failed old last
+  pub stored : StandStored target failed old.array last

@@ -27,13 +27,14 @@ pub fn rebuilt_by_call()
 /// enrolment. Where a write failed by which the target was to be admitted, or to record how far it is rebuilt,
 /// or the last write of `enrol`, the target is spoiled by the last event, whatever that write left. Where one of
 /// the first two left the old superblock or none, it is no more than a record that failed. Where another write of
-/// `enrol` failed, the target may have any bitmap and any log, and is as before.
+/// `enrol` failed, the target may have any bitmap and any log, and is as before. Which event stands for which fault
+/// is said of each refusal.
 pub fn rebuild_events()
     ensures done { (target : ℕ) (told : Rebuilt) (old new : MirrorView)
         → Rebuilds target told old new → RebuildLeads target old new }
     ensures refused { (target : ℕ) (old new : MirrorView) → IsConsistent old → IsConsistent new
-        → (fault : RebuildFault) → RefusesRebuild target old new fault
-        → LeadsUnfinished target old new }
+        → (fault : RebuildFault) (h : RefusesRebuild target old new fault)
+        → LeadsUnfinished target old new fault h }
     ensures unadmitted { (target : ℕ) (old new : MirrorView) → FailsAdmission target old new → LeadsUnadmitted target old new }
     ensures unrecorded { (target : ℕ) (old new : MirrorView) → (fault : RebuildFault) (h : RefusesRebuild target old new fault)
         → FailsCheckpoint target old new fault h → LeadsUnrecorded target old new }

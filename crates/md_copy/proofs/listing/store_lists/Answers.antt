@@ -35,7 +35,9 @@ store_if_failed-requires-clause-room g c =
 pub returns-in-Err : goal.returns-in-Err
 returns-in-Err g c =
     subst (λ (xs : List Slot). StopsStoringLists (failed_slots xs c.args.copied.now) c.args.mirror.now c.store_if_failed.new.mirror c.in-Err.fault) c.as_slice-slots.ensures
-    (lists_stop (failed_slots c.as_slice-slots.result.now c.args.copied.now) c.loop-k.k c.args.mirror.now c.loop-k.mirror c.loop-k.invariant c.store_if_failed.new.mirror c.in-Err.fault c.in-Err.ensures)
+    (lists_stop (failed_slots c.as_slice-slots.result.now c.args.copied.now) c.loop-k.k c.args.mirror.now c.loop-k.mirror c.loop-k.invariant c.requires.sound
+    (subst (λ (xs : List Slot). HaveRoom (failed_slots xs c.args.copied.now) c.args.mirror.now.array) (sym c.as_slice-slots.ensures) c.requires.room)
+    c.store_if_failed.new.mirror c.in-Err.fault c.in-Err.ensures)
 
 pub loop-k-preserved : goal.loop-k-preserved
 loop-k-preserved g c =

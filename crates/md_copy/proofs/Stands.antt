@@ -1,0 +1,184 @@
+-- What was listed of passes that were stored stands on the devices, whatever comes after them.
+use Rattle.std.proofs.Common.{◌≡◌, ◌≢◌, ◌∙◌, ◌⊎◌, ℕ, ◌<◌, true, false, List, [], ◌∷◌, ◌++◌, append-nil, length, get_or, slice_get, Some, refl, sym, ap, subst, arith, inl, inr}
+use Rattle.std.proofs.lemmas.Bool.{both_ways, cases_eq}
+use Rattle.std.proofs.lemmas.List.{get_or_append_left, length-append}
+use Rattle.std.proofs.lemmas.Option.{same_Some, slice_get-get_or, slice_get_within}
+use Rattle.md_assembly.specs.States.{is_in_sync}
+use Rattle.md_assembly.proofs.Indices.{got_within}
+use Rattle.md_badblocks.specs.Runs.{IsBad}
+use Rattle.md_bitmap.specs.Marks.{Bitmap}
+use Rattle.md_cert.specs.declared.slots.Slot.{Slot}
+use Rattle.md_cert.specs.Plans.{SlotsRise}
+use Rattle.md_kept_members.specs.View.{MemberView}
+use Rattle.md_passes.specs.Listed.{IsOfFailed}
+use Rattle.md_state.specs.Members.{IsMember}
+use Rattle.md_state.specs.View.{ArrayView, Disk, MirrorView}
+use Rattle.md_array.specs.Checkpoints.{Checkpoints, FailsToCheckpoint}
+use Rattle.md_array.specs.Consistency.{IsConsistent}
+use Rattle.md_array.specs.Enrolling.{FailsToEnrol}
+use Rattle.md_array.specs.ReadAsKept.{IsSuperOn}
+use Rattle.md_array.specs.Worlds.{is_listed}
+use Rattle.md_copy.specs.Filling.{IsFilling}
+use Rattle.md_copy.specs.Leaving.{Leaves}
+use Rattle.md_copy.specs.Listing.{HasFailed, HasListOn, NotesLists, StopsAtList}
+use Rattle.md_copy.specs.Rebuilt.{HasListWithin, ListsStand, StandStored}
+use Rattle.md_copy.proofs.HeldRecorded.{other_is}
+use Rattle.md_copy.proofs.PassesKeep.{disk_then}
+
+-- ---- nothing was listed
+pub stand_none : (target : ℕ) (old : ArrayView) (v : MirrorView) → StandStored target [] old v
+stand_none target old v = record {
+  stored = [];
+  noted = [];
+  slots = refl;
+  of_one = λ i j d lt within. absurd (omega (arith, within));
+  stand = λ running k m n e other at has. (let low = has.2 in absurd (omega (arith, low)));
+}
+
+-- the first slots of a pass rise as its slots do
+pub rise_first : (xs ys : List Slot) → SlotsRise (xs ++ ys) → SlotsRise xs
+rise_first xs ys rise i j d lt within =
+    let many = length-append xs ys in
+    let less = rise i j d lt (omega (arith, within, many)) in
+    let first = ap (λ (s : Slot). s.chunk) (get_or_append_left xs ys d i (omega (arith, lt, within))) in
+    let second = ap (λ (s : Slot). s.chunk) (get_or_append_left xs ys d j within) in
+    omega (arith, less, first, second)
+
+-- a list that stands there exactly
+pub within_exact : (Known : ℕ → Type 0) (n : MemberView) (content : List ℕ) → HasListOn n.bad content → ((sector : ℕ) → Known sector → IsBad n.bad sector) → HasListWithin Known n.bad content
+within_exact Known n content on known = record {
+  super = on.super;
+  read = on.read;
+  known = λ sector is. (on.listed sector).1 (known sector is);
+  only = λ sector. (on.listed sector).0;
+}
+
+-- ---- what leaves them there
+-- who is in sync now was so, on the same bytes, and its list is no shorter
+pub record WasOn (k : ℕ) (v : MirrorView) (n : MemberView) (e : Disk) : Type 0 where
+  pub member : MemberView
+  pub device : Disk
+  pub at : IsMember v.array k member
+  pub there : slice_get v.disks k ≡ Some device
+  pub in_sync : is_in_sync member.state ≡ true
+  pub honest : device.honest ≡ true
+  pub content : e.content ≡ device.content
+  pub bad : (sector : ℕ) → IsBad member.bad sector → IsBad n.bad sector
+
+module _ (target : ℕ) (stored : List Slot) (old : ArrayView) where
+  abbrev Stand : MirrorView → Type 0
+  Stand = ListsStand target stored old
+
+  pub stand_on : (v w : MirrorView) → Stand v
+      → ((k : ℕ) (n : MemberView) (e : Disk) → k ≢ target → IsMember w.array k n → slice_get w.disks k ≡ Some e → is_in_sync n.state ≡ true → e.honest ≡ true → WasOn k v n e) → Stand w
+  stand_on v w so was k m n e other at has there in_sync at_e honest =
+      let x = was k n e other there at_e in_sync honest in
+      let h = so k m x.member x.device other at has x.at x.in_sync x.there x.honest in
+      record {
+        super = h.super;
+        read = subst (λ (c : List ℕ). IsSuperOn c h.super) (sym x.content) h.read;
+        known = λ sector is. ap (λ (c : List ℕ). is_listed h.super c sector) x.content ∙ h.known sector is;
+        only = λ sector is. x.bad sector (h.only sector (sym (ap (λ (c : List ℕ). is_listed h.super c sector) x.content) ∙ is));
+      }
+
+  -- no other member and no other device changed
+  pub stand_same : (v w : MirrorView) → ((k : ℕ) → k ≢ target → slice_get w.array.members k ≡ slice_get v.array.members k) → ((k : ℕ) → k ≢ target → slice_get w.disks k ≡ slice_get v.disks k)
+      → Stand v → Stand w
+  stand_same v w members disks so =
+      stand_on v w so (λ k n e other at at_e in_sync honest. record {
+        member = n;
+        device = e;
+        at = sym (members k other) ∙ at;
+        there = sym (disks k other) ∙ at_e;
+        in_sync = in_sync;
+        honest = honest;
+        content = refl;
+        bad = λ sector is. is;
+      })
+
+  -- the target is filled
+  pub stand_filled : (m : MemberView) (slots : List Slot) (v w : MirrorView) → IsFilling target m slots v w → Stand v → Stand w
+  stand_filled m slots v w f so =
+      stand_on v w so (λ k n e other at at_e in_sync honest.
+      let low = slice_get_within w.disks k e at_e in
+      let many = f.as_many in
+      let d = got_within v.disks k (omega (arith, low, many)) in
+      let read = f.others k d.0 e other d.1 at_e in
+      record {
+        member = n;
+        device = d.0;
+        at = sym (ap (λ (a : ArrayView). slice_get a.members k) f.array) ∙ at;
+        there = d.1;
+        in_sync = in_sync;
+        honest = sym read.honest_kept ∙ honest;
+        content = read.content_kept;
+        bad = λ sector is. is;
+      })
+
+  -- how far it is rebuilt is recorded, or is not
+  pub stand_recorded : (copied : Bitmap) (v w : MirrorView) → IsConsistent v → Checkpoints target copied v w → Stand v → Stand w
+  stand_recorded copied v w sound r = stand_same v w (other_is target copied v w sound r) r.disks.tried.others
+
+  pub stand_unrecorded : (copied : Bitmap) (v w : MirrorView) → FailsToCheckpoint target copied v w → Stand v → Stand w
+  stand_unrecorded copied v w f = stand_same v w (λ k other. ap (λ (a : ArrayView). slice_get a.members k) f.array) f.disks.tried.others
+
+  pub stand_left : (copied : Bitmap) (v w : MirrorView) → (v.array.halted ≡ false → IsConsistent v) → Leaves target copied v w → (v.array.halted ≡ false → Stand v) → w.array.halted ≡ false → Stand w
+  stand_left copied v w sound (inl same) so running =
+      absurd (both_ways v.array.halted (ap (λ (x : MirrorView). x.array.halted) (sym same.1) ∙ running) same.0)
+  stand_left copied v w sound (inr (inl r)) so running = stand_recorded copied v w (sound r.may.idle.running) r (so r.may.idle.running)
+  stand_left copied v w sound (inr (inr f)) so running = stand_unrecorded copied v w f (so f.running)
+
+  -- it does not come into sync
+  pub stand_unenrolled : (kept orphans : Bitmap) (v w : MirrorView) → FailsToEnrol target kept orphans v w → Stand v → Stand w
+  stand_unenrolled kept orphans v w f = stand_same v w (λ k other. ap (λ (a : ArrayView). slice_get a.members k) f.array) f.disks.others
+
+  -- more is listed in memory
+  pub stand_noted : (taken : List Slot) (v w : MirrorView) → NotesLists taken v w → Stand v → Stand w
+  stand_noted taken v w notes so =
+      stand_on v w so (λ k n e other at at_e in_sync honest.
+      let b = notes.lists.before k n at in
+      record {
+        member = b.0;
+        device = e;
+        at = b.1;
+        there = sym (ap (λ (ds : List Disk). slice_get ds k) notes.disks) ∙ at_e;
+        in_sync = ap is_in_sync (sym b.2.state) ∙ in_sync;
+        honest = honest;
+        content = refl;
+        bad = λ sector is. (b.2.bad sector).1 (inl is);
+      })
+
+  -- A list of member i is not stored. Of another one in sync the list is stored, or its device is as it was.
+  module _ (failed : List Slot) (i : ℕ) (v w : MirrorView) (h : StopsAtList failed i v w) (many : length w.array.members ≡ length v.array.members) (so : Stand v) where
+    stand_other : (k : ℕ) (m z n : MemberView) (d e : Disk) → k ≢ target → k ≢ i → IsMember old k m → HasFailed stored m → IsMember v.array k z → IsMember w.array k n → is_in_sync n.state ≡ true
+        → slice_get v.disks k ≡ Some d → slice_get w.disks k ≡ Some e → e.honest ≡ true → HasListWithin (λ sector. IsBad m.bad sector ⊎ IsOfFailed old.chunks stored m sector) n.bad e.content
+    stand_other k m z n d e other apart at has at_z at_n in_sync at_d at_e honest =
+        let kept = h.members k z n at_z at_n in
+        let was : is_in_sync z.state ≡ true = ap is_in_sync (sym (kept.1 apart)) ∙ in_sync in
+        let before = so k m z d other at has at_z was at_d (sym (h.writes.stays k d e at_d at_e).honest ∙ honest) in
+        let same = kept.0.bad in
+        elim (h.others k z apart at_z was) [
+          | inl on ↦
+              within_exact (λ sector. IsBad m.bad sector ⊎ IsOfFailed old.chunks stored m sector) n e.content (subst (λ runs. HasListOn runs e.content) (sym same) (on e at_e honest))
+              (λ sector is. subst (λ runs. IsBad runs sector) (sym same) (before.only sector (before.known sector is)))
+          | inr still ↦
+              let content : e.content ≡ d.content = ap (λ (x : Disk). x.content) (same_Some e d (sym at_e ∙ still ∙ at_d)) in
+              record {
+                super = before.super;
+                read = subst (λ (c : List ℕ). IsSuperOn c before.super) (sym content) before.read;
+                known = λ sector is. ap (λ (c : List ℕ). is_listed before.super c sector) content ∙ before.known sector is;
+                only = λ sector is. subst (λ runs. IsBad runs sector) (sym same) (before.only sector (sym (ap (λ (c : List ℕ). is_listed before.super c sector) content) ∙ is));
+              }
+        ]
+
+    pub stand_listing : ((n : MemberView) → IsMember w.array i n → is_in_sync n.state ≡ true → ⊥) → Stand w
+    stand_listing out k m n e other at has at_n in_sync at_e honest = elim (cases_eq k i) [
+      | inl here ↦ absurd (out n (sym (ap (slice_get w.array.members) here) ∙ at_n) in_sync)
+      | inr apart ↦
+          let low = slice_get_within w.array.members k n at_n in
+          let z = got_within v.array.members k (omega (arith, low, many)) in
+          let low_d = slice_get_within w.disks k e at_e in
+          let as_many = h.writes.as_many in
+          let d = got_within v.disks k (omega (arith, low_d, as_many)) in
+          stand_other k m z.0 n d.0 e other apart at has z.1 at_n in_sync d.1 at_e honest
+    ]
