@@ -13,7 +13,7 @@ use Rattle.md_check.specs.declared.seat.Seat.{Seat}
 use Rattle.md_check.specs.declared.lent.Missed.{Missed}
 use Rattle.md_check.specs.Differences.{DifferIn}
 use Rattle.md_check.specs.Readings.{HasRead, IsToRead, MissesIn}
-use Rattle.md_check.specs.Seats.{AreHonest, AreSeatsRead, HaveNotFailed, IsSeated, OnlySeatRead, SeatShows, in_window, on_device}
+use Rattle.md_check.specs.Seats.{AreHonest, AreSeatsRead, HaveNotFailed, IsNoted, IsSeated, OnlySeatRead, SeatShows, in_window, on_device}
 use Rattle.md_check.proofs.Differing.{differ_as}
 
 -- a chunk that is to be read in a window is to be read in the array
@@ -38,10 +38,23 @@ module _ {D : Type 0} {g : Ghosts D} where
 
   seat_then : (a b c : Seat D) → OnlySeatRead g a b → OnlySeatRead g b c → OnlySeatRead g a c
   seat_then a b c first second = record {
-    kept = second.kept ∙ ap (λ (s : Seat D). record s { device = c.device; bytes = c.bytes; missed = c.missed }) first.kept;
+    kept = second.kept ∙ ap (λ (s : Seat D). record s { device = c.device; bytes = c.bytes; alike = c.alike; missed = c.missed }) first.kept;
     only_read = read_then first.only_read second.only_read;
     unused = λ none. second.unused (ap is_some (role_kept a b first) ∙ none) ∙ first.unused none;
   }
+
+  -- a seat whose worker read a window, and that was noted since
+  pub read_noted : {chunks : Chunks} {from sectors : ℕ} (old mid new : Seat D) → HasRead g chunks from sectors old mid → IsNoted mid new → HasRead g chunks from sectors old new
+  read_noted {chunks = chunks} {from = from} {sectors = sectors} old mid new has noted =
+      let kept : record mid { alike = new.alike } ≡ record old { device = mid.device; bytes = mid.bytes; alike = new.alike; missed = mid.missed } = ap (λ (s : Seat D). record s { alike = new.alike }) has.read.kept in
+      subst (λ (s : Seat D). HasRead g chunks from sectors old s) (sym noted)
+      (record {
+        read = record { kept = kept; only_read = has.read.only_read; unused = has.read.unused };
+        size = has.size;
+        gave = has.gave;
+        missed = λ c at. let m = has.missed c at in record { reads = m.reads; read = m.read; fails = m.fails };
+        unfailing = has.unfailing;
+      })
 
   pub none_read : (seats : List (Seat D)) → AreSeatsRead g seats seats
   none_read seats = record { as_many = refl; each = λ k d below. record { kept = refl; only_read = not_read (get_or seats k d).device; unused = λ _. refl } }

@@ -21,6 +21,15 @@ module _ {D : Type 0} where
   abbrev pub in_window : ℕ → Seat D → ℕ → List ℕ
   in_window from seat s = held seat.bytes.items (s - from) 512
 
+  -- a seat before and after it noted whether what was read of its member is what was read of another
+  abbrev pub IsNoted : Seat D → Seat D → Type 0
+  IsNoted old new = new ≡ record old { alike = new.alike }
+
+  -- the other's bytes are these
+  pub record HasNoted (bytes : List ℕ) (old new : Seat D) : Type 0 where
+    pub kept : IsNoted old new
+    pub alike : new.alike ≡ true → is_some old.role ≡ true → old.bytes.items ≡ bytes
+
 module _ {D : Type 0} (g : Ghosts D) where
   -- what stands on the device
   abbrev pub on_device : Seat D → ℕ → List ℕ
@@ -36,7 +45,7 @@ module _ {D : Type 0} (g : Ghosts D) where
 
   -- a seat before and after its device was read; that of a member that is not in sync was not used
   pub record OnlySeatRead (old new : Seat D) : Type 0 where
-    pub kept : new ≡ record old { device = new.device; bytes = new.bytes; missed = new.missed }
+    pub kept : new ≡ record old { device = new.device; bytes = new.bytes; alike = new.alike; missed = new.missed }
     pub only_read : OnlyRead g old.device new.device
     pub unused : is_some old.role ≡ false → new.device ≡ old.device
 

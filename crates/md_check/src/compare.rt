@@ -1,5 +1,5 @@
 // What was read of a window is compared.
-ghost use Rattle.std.specs.Prelude.{◌≡◌, ◌+◌, ◌-◌, ◌*◌, ◌<◌, ◌≤◌, ◌↔◌, ℕ, MatchOption, false, is_some, length, slice_get, slice_index_or, Some, true};
+ghost use Rattle.std.specs.Prelude.{◌≡◌, ◌+◌, ◌-◌, ◌*◌, ◌≤◌, ◌↔◌, ℕ, MatchOption, is_some, length, slice_get, Some, true};
 ghost use Rattle.std.specs.Int.{div_ceil};
 ghost use Rattle.std.specs.List.{All};
 ghost use Rattle.md_device.specs.Splice.{part};
@@ -19,20 +19,23 @@ impl<D> Seat<D> {
     }
 }
 
-/// Marks each chunk in which two members in sync differ in a sector of the window that neither lists.
+/// Marks each chunk in which two members in sync differ in a sector of the window that neither lists. Where
+/// all that was read is known to be alike, there is none.
 pub(crate) fn mark_window<D>(
     seats: &[Seat<D>],
     chunks: Chunks,
     from: u64,
     sectors: u64,
+    alike: bool,
     marks: &mut Marks,
 )
     requires inside { from + sectors ≤ chunks.size }
     requires size { All (λ seat. length seat.bytes.items ≡ 512 * sectors) seats.now }
+    requires alike { alike ≡ true → (s : ℕ) → DifferIn (SeatShows (in_window from) seats.now) s → ⊥ }
     requires marks { marks.old.chunks ≡ div_ceil chunks.size chunks.sectors }
     ensures { AddsDifferent (SeatShows (in_window from) seats.now) chunks from (from + sectors) marks.old marks.new }
 {
-    if are_alike(seats) {
+    if alike {
         return;
     }
     for at in 0..sectors {
@@ -40,55 +43,6 @@ pub(crate) fn mark_window<D>(
             marks.mark(chunks.chunk_of(from + at));
         }
     }
-}
-
-// Whether it is seen at once that no two members differ: all that was read is the same.
-fn are_alike<D>(seats: &[Seat<D>]) -> bool
-    ensures { result ≡ true → (from s : ℕ) → DifferIn (SeatShows (in_window from) seats.now) s → ⊥ }
-{
-    let Some(first) = first_read(seats) else {
-        return true;
-    };
-    for k in 0..seats.len() {
-        if !agrees(seats, k, first) {
-            return false;
-        }
-    }
-    true
-}
-
-// Whether the same was read of these two, or nothing of the one. None is compared with itself.
-fn agrees<D>(seats: &[Seat<D>], k: usize, first: usize) -> bool
-    requires { (k < length seats.now) × (first < length seats.now) }
-    ensures { result ≡ true → (one other : Seat D) → slice_get seats.now k ≡ Some one → slice_get seats.now first ≡ Some other
-        → is_some one.role ≡ true → one.bytes.items ≡ other.bytes.items }
-{
-    if k == first {
-        return true;
-    }
-    is_alike(&seats[k], &seats[first])
-}
-
-// Whether the same was read of two members, or nothing of the one, which is not in sync.
-fn is_alike<D>(one: &Seat<D>, other: &Seat<D>) -> bool
-    ensures { result ≡ true → is_some one.now.role ≡ true → one.now.bytes.items ≡ other.now.bytes.items }
-{
-    if one.role.is_none() {
-        return true;
-    }
-    one.bytes.as_slice() == other.bytes.as_slice()
-}
-
-// The first seat whose member is in sync.
-fn first_read<D>(seats: &[Seat<D>]) -> Option<usize>
-    ensures { MatchOption result (All (λ seat. is_some seat.role ≡ false) seats.now) (λ k. k < length seats.now) }
-{
-    for k in 0..seats.len() {
-        if seats[k].role.is_some() {
-            return Some(k);
-        }
-    }
-    None
 }
 
 // Whether two members in sync differ in a sector of the window that neither lists.

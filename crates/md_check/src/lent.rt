@@ -26,7 +26,7 @@ pub(crate) struct Missed {
 }
 
 /// Marks each chunk in which two members in sync differ in a sector that neither lists, window by window:
-/// the workers read it, and then it is compared. It takes no memory.
+/// it is read and compared, and one in which not all is the same is then looked through. It takes no memory.
 pub(crate) fn check_lent<D: Device + Send, G: Gate + Sync, R: Threads + Sync>(
     rt: &R,
     gate: &G,
@@ -48,11 +48,11 @@ pub(crate) fn check_lent<D: Device + Send, G: Gate + Sync, R: Threads + Sync>(
     let mut from = 0;
     while from < chunks.size {
         let sectors = WINDOW.min(chunks.size - from);
-        turn(rt, gate, chunks, from, sectors, seats);
+        let alike = turn(rt, gate, chunks, from, sectors, seats);
         if let Some(missed) = first_missed(seats.as_slice()) {
             return Err(missed);
         }
-        mark_window(seats.as_slice(), chunks, from, sectors, marks);
+        mark_window(seats.as_slice(), chunks, from, sectors, alike, marks);
         from += sectors;
     }
     Ok(())

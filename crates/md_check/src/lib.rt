@@ -2,6 +2,7 @@
 //! counted. Nothing is written.
 #![tactic(auto)]
 
+mod alike;
 mod check;
 mod compare;
 mod fault;

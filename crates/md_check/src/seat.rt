@@ -14,6 +14,8 @@ pub(crate) struct Seat<D> {
     pub(crate) listed: BadSet,
     /// What was read of the window. In a sector that the member lists any bytes may stand.
     pub(crate) bytes: Vec<u8>,
+    /// Whether that was found to be what was read of the first member, in the last window that was compared.
+    pub(crate) alike: bool,
     /// The chunk that could not be read.
     pub(crate) missed: Option<u32>,
 }

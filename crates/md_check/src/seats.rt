@@ -38,6 +38,7 @@ fn seat_of<D>(device: D, order: Order) -> Seat<D>
         offset,
         listed,
         bytes,
+        alike: false,
         missed: None,
     }
 }
@@ -62,6 +63,7 @@ fn device_of<D>(seat: Seat<D>) -> D
         offset: _,
         listed: _,
         bytes: _,
+        alike: _,
         missed: _,
     } = seat;
     device

@@ -6,10 +6,10 @@ use Rattle.md_check.proofs.Differing.{adds_none, adds_not, adds_one}
 use Rattle.md_check.proofs.compare.mark_window.Goals as goal
 use Rattle.md_check.proofs.compare.mark_window.Goals.{then-differ_in, else-differ_in}
 
-pub returns-then-are_alike : goal.returns-then-are_alike
-returns-then-are_alike g c =
+pub returns-then-alike : goal.returns-then-alike
+returns-then-alike g c =
     adds_none (SeatShows (in_window c.args.from) c.args.seats.now) c.args.chunks c.args.from (c.args.from + c.args.sectors) c.args.marks.now
-    (λ s up below. c.are_alike.ensures c.if-are_alike.true c.args.from s)
+    (λ s up below. c.requires.alike c.if-alike.true s)
 
 pub loop-at-preserved : goal.loop-at-preserved
 loop-at-preserved g c =
