@@ -2,7 +2,7 @@
 # SPDX-License-Identifier: MIT OR Apache-2.0
 
 _mdcli_commands() {
-  printf '%s\n' examine examine-bitmap examine-badblocks assemble detail plan read check write resync fail remove add re-add rebuild stop create help
+  printf '%s\n' examine examine-bitmap examine-badblocks create assemble detail plan read write check resync stop fail remove add re-add rebuild help
 }
 
 # The options of a command, beside --help. A value follows one that ends in =.
@@ -11,10 +11,10 @@ _mdcli_options() {
     create) printf '%s\n' --level= --raid-devices= --uuid= --name= --bitmap-chunk= --size= --time= --write-mostly= --assume-clean ;;
     assemble | detail | check) printf '%s\n' --readonly ;;
     plan) printf '%s\n' --member= --readonly ;;
-    fail | remove | rebuild) printf '%s\n' --member= ;;
-    add | re-add) printf '%s\n' --device= ;;
     read) printf '%s\n' --sector= --count= --readonly ;;
     write) printf '%s\n' --sector= ;;
+    fail | remove | rebuild) printf '%s\n' --member= ;;
+    add | re-add) printf '%s\n' --device= ;;
   esac
 }
 

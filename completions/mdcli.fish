@@ -5,43 +5,40 @@ complete -c mdcli -f
 complete -c mdcli -s h -l help -d 'Print help'
 complete -c mdcli -n __fish_use_subcommand -s V -l version -d 'Print the version'
 
-complete -c mdcli -n __fish_use_subcommand -a examine -d 'Show the superblock of a member'
-complete -c mdcli -n __fish_use_subcommand -a examine-bitmap -d 'Show the write-intent bitmap of a member'
-complete -c mdcli -n __fish_use_subcommand -a examine-badblocks -d 'Show the bad blocks of a member'
-complete -c mdcli -n __fish_use_subcommand -a assemble -d 'Show in a line what array the images make'
-complete -c mdcli -n __fish_use_subcommand -a detail -d 'Show the array that the images make'
-complete -c mdcli -n __fish_use_subcommand -a plan -d "Show the plan of a member's rebuild"
-complete -c mdcli -n __fish_use_subcommand -a read -d 'Write sectors of the array to standard output'
-complete -c mdcli -n __fish_use_subcommand -a check -d 'Compare the members in sync'
-complete -c mdcli -n __fish_use_subcommand -a write -d 'Write standard input to the array'
-complete -c mdcli -n __fish_use_subcommand -a resync -d 'Make the members in sync agree'
-complete -c mdcli -n __fish_use_subcommand -a fail -d 'Make a member faulty'
-complete -c mdcli -n __fish_use_subcommand -a remove -d 'Take a member out of the array'
-complete -c mdcli -n __fish_use_subcommand -a add -d 'Add an image to the array as a spare'
-complete -c mdcli -n __fish_use_subcommand -a re-add -d 'Take an image back that left the array'
-complete -c mdcli -n __fish_use_subcommand -a rebuild -d 'Rebuild a member from the others'
-complete -c mdcli -n __fish_use_subcommand -a stop -d 'Leave the array clean'
-complete -c mdcli -n __fish_use_subcommand -a create -d 'Make an array of the images'
-complete -c mdcli -n __fish_use_subcommand -a help -d 'Show the help of a command'
+complete -c mdcli -n __fish_use_subcommand -a examine -d "Shows the superblock of a member's image"
+complete -c mdcli -n __fish_use_subcommand -a examine-bitmap -d "Shows the write-intent bitmap of a member's image"
+complete -c mdcli -n __fish_use_subcommand -a examine-badblocks -d "Shows the bad block log of a member's image"
+complete -c mdcli -n __fish_use_subcommand -a create -d "Makes an array of the images; what they held is lost"
+complete -c mdcli -n __fish_use_subcommand -a assemble -d "Shows in a line what array the images make; may store marks"
+complete -c mdcli -n __fish_use_subcommand -a detail -d "Shows the array that the images make; may store marks"
+complete -c mdcli -n __fish_use_subcommand -a plan -d "Shows the plan of a member's rebuild, in the fewest rounds; may store marks"
+complete -c mdcli -n __fish_use_subcommand -a read -d "Writes sectors of the array to standard output; may change images"
+complete -c mdcli -n __fish_use_subcommand -a write -d "Writes standard input to the array, and stops it"
+complete -c mdcli -n __fish_use_subcommand -a check -d "Counts the chunks in which members in sync differ; may store marks"
+complete -c mdcli -n __fish_use_subcommand -a resync -d "Makes the members in sync agree where they may differ, and stops the array"
+complete -c mdcli -n __fish_use_subcommand -a stop -d "Stops the array: it is clean then, unless its members may differ"
+complete -c mdcli -n __fish_use_subcommand -a fail -d "Makes a member faulty, and stops the array"
+complete -c mdcli -n __fish_use_subcommand -a remove -d "Takes a member that is not in use out of the array, and stops it"
+complete -c mdcli -n __fish_use_subcommand -a add -d "Adds an image to the array as a spare, and stops it; what the image held is lost"
+complete -c mdcli -n __fish_use_subcommand -a re-add -d "Takes an image back that left the array, rebuilds what it lacks, and stops the array"
+complete -c mdcli -n __fish_use_subcommand -a rebuild -d "Rebuilds a member from all others at once by its plan, and stops the array"
+complete -c mdcli -n __fish_use_subcommand -a help -d "Shows the help of a command"
 
 complete -c mdcli -n 'not __fish_use_subcommand; and not __fish_seen_subcommand_from help' -F
 
-complete -c mdcli -n '__fish_seen_subcommand_from assemble detail plan read check' -l readonly -d 'Change no image'
+complete -c mdcli -n '__fish_seen_subcommand_from create' -l level -x -a 'raid1 mirror 1' -d "The RAID level: 1, raid1 or mirror"
+complete -c mdcli -n '__fish_seen_subcommand_from create' -l raid-devices -x -d "The number of members"
+complete -c mdcli -n '__fish_seen_subcommand_from create' -l uuid -x -d "The UUID of the array"
+complete -c mdcli -n '__fish_seen_subcommand_from create' -l name -x -d "The name of the array, of at most 32 bytes"
+complete -c mdcli -n '__fish_seen_subcommand_from create' -l bitmap-chunk -x -d "The size of a chunk of the bitmap"
+complete -c mdcli -n '__fish_seen_subcommand_from create' -l size -x -d "The size of the array: by default all that its members have"
+complete -c mdcli -n '__fish_seen_subcommand_from create' -l time -x -d "The time that the array is created at, since 1970"
+complete -c mdcli -n '__fish_seen_subcommand_from create' -l write-mostly -x -d "The role of a member that is read only where no other can serve"
+complete -c mdcli -n '__fish_seen_subcommand_from create' -l assume-clean -d "Takes the members for equal, so that nothing is to be copied"
+complete -c mdcli -n '__fish_seen_subcommand_from assemble detail plan read check' -l readonly -d "Changes no image: what would be stored is kept in memory"
+complete -c mdcli -n '__fish_seen_subcommand_from plan fail remove rebuild' -l member -x -d "The member, by its place among the images, from 0"
+complete -c mdcli -n '__fish_seen_subcommand_from read write' -l sector -x -d "The first sector of the array, from 0; a sector has 512 bytes"
+complete -c mdcli -n '__fish_seen_subcommand_from read' -l count -x -d "The number of sectors"
+complete -c mdcli -n '__fish_seen_subcommand_from add re-add' -l device -r -F -d "The image that joins the array: a file or a block device, none of those listed"
 
-complete -c mdcli -n '__fish_seen_subcommand_from plan fail remove rebuild' -l member -x -d 'The member, by its place among the images, from 0'
-
-complete -c mdcli -n '__fish_seen_subcommand_from add re-add' -l device -r -F -d 'The image that joins the array'
-
-complete -c mdcli -n '__fish_seen_subcommand_from read write' -l sector -x -d 'The first sector of the array, from 0'
-complete -c mdcli -n '__fish_seen_subcommand_from read' -l count -x -d 'The number of sectors'
-
-complete -c mdcli -n '__fish_seen_subcommand_from create' -l level -x -a 'raid1 mirror 1' -d 'The RAID level'
-complete -c mdcli -n '__fish_seen_subcommand_from create' -l raid-devices -x -d 'The number of members'
-complete -c mdcli -n '__fish_seen_subcommand_from create' -l uuid -x -d 'The UUID of the array'
-complete -c mdcli -n '__fish_seen_subcommand_from create' -l name -x -d 'The name of the array'
-complete -c mdcli -n '__fish_seen_subcommand_from create' -l bitmap-chunk -x -d 'The size of a chunk of the bitmap, in KiB'
-complete -c mdcli -n '__fish_seen_subcommand_from create' -l size -x -d 'How much of each member the array uses, in KiB'
-complete -c mdcli -n '__fish_seen_subcommand_from create' -l time -x -d 'The creation time in seconds since 1970'
-complete -c mdcli -n '__fish_seen_subcommand_from create' -l write-mostly -x -d 'The role of a member that is read only where no other can serve'
-complete -c mdcli -n '__fish_seen_subcommand_from create' -l assume-clean -d 'Mark no chunk: the members agree'
 complete -c mdcli -n '__fish_seen_subcommand_from create' -a missing -d 'A member that is not there'

@@ -7,27 +7,33 @@ import support
 
 SECONDS = 20
 
-# In a list of options: the short name where there is one, the long name, and the value's.
-OPTION = re.compile(r"^ +(?:-\w, |    )--([a-z-]+)(?: <([^>]+)>)?(?:  |$)")
-COMMAND = re.compile(r"^  ([a-z-]+)(?:  |$)")
+# In a list of options: the short name where there is one, the long name, the value's, what it says, and the default.
+OPTION = re.compile(r"^ +(?:-\w, |    )--([a-z-]+)(?: <([^>]+)>)?(?: {2,}(.*?)(?: \[default: .*\])?)?$")
+COMMAND = re.compile(r"^  ([a-z-]+)(?: {2,}(.*))?$")
 # Options of every command.
 COMMON = {"help", "version"}
 
 
 class Option:
-    def __init__(self, name, value, required):
+    def __init__(self, name, value, required, says):
         self.name = name
         self.value = value
         self.required = required
+        self.says = says
 
     def shown(self):
         return "--" + self.name + (" " + self.value if self.value else "")
 
 
 class Command:
-    def __init__(self, name, options):
+    def __init__(self, name, options, says):
         self.name = name
         self.options = options
+        self.says = says
+
+    def takes_one_image(self):
+        """Of the words for images the parser takes any number; the commands on one image have this name."""
+        return self.name.startswith("examine")
 
 
 def help_of(words):
@@ -52,20 +58,20 @@ def section(lines, title):
 
 def commands():
     listed = [COMMAND.match(line) for line in section(help_of([]), "Commands:")]
-    names = [found.group(1) for found in listed if found and found.group(1) != "help"]
-    return {name: command(name) for name in names}
+    said = {found.group(1): found.group(2) for found in listed if found and found.group(1) != "help"}
+    return {name: command(name, says) for name, says in said.items()}
 
 
-def command(name):
+def command(name, says):
     lines = help_of([name])
     usage = next(line for line in lines if line.startswith("Usage: "))
     found = [OPTION.match(line) for line in section(lines, "Options:")]
     options = [
-        Option(one.group(1), one.group(2), ("--%s <" % one.group(1)) in usage)
+        Option(one.group(1), one.group(2), ("--%s <" % one.group(1)) in usage, one.group(3))
         for one in found
         if one and one.group(1) not in COMMON
     ]
-    return Command(name, options)
+    return Command(name, options, says)
 
 
 def version():

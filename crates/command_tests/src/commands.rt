@@ -2,9 +2,10 @@
 use crate::checks::{holds, reads};
 use crate::images::{HeldImages, Image, expect_kept_under, held};
 use crate::silent::Silent;
-use md_cli::{Messages, run};
+use md_cli::{Messages, Session, run};
 use md_commands::{Input, Source};
 use md_examine::{Output, Sink};
+use md_words::parse;
 use std::alloc::Global;
 use std::process::Abort;
 use std::sync::Wait;
@@ -48,21 +49,17 @@ pub(crate) struct Case {
 }
 
 // A run with these words on the errors. Its status.
-pub(crate) fn runs<'a, R: Abort + Threads + Wait + Sync, I: Source, S: Sink>(
-    rt: &R,
-    alloc: Global,
+pub(crate) fn runs<'a, R: Abort + Threads + Wait + Sync, I: Source + Drop, S: Sink + Drop>(
+    session: &mut Session<'_, R, I, S, Silent>,
     words: &'a [&'a str],
     images: &mut HeldImages,
-    input: &mut I,
-    out: &mut S,
     messages: Messages,
     says: &str,
 ) -> Result<u8, Fail> {
-    let mut err: Vec<u8> = vec![in alloc]?;
-    let status = run(
-        rt, alloc, words, images, input, out, &mut err, &Silent, messages,
-    );
-    reads(rt, "the errors", &err, says);
+    let mut err: Vec<u8> = vec![in session.alloc]?;
+    let parsed = parse(session.alloc, words);
+    let status = run(session, words, parsed, images, &mut err, messages);
+    reads(session.rt, "the errors", &err, says);
     drop(err);
     Ok(status)
 }
@@ -84,20 +81,22 @@ fn give<R: Abort + Threads + Wait + Sync>(
     images: &mut HeldImages,
     command: &Command,
 ) -> Result<(), Fail> {
-    let mut input = Input::new(command.input);
-    let mut out = Output::new(vec![in alloc]?);
-    let status = runs(
+    let mut session = Session {
         rt,
         alloc,
+        input: Input::new(command.input),
+        out: Output::new(vec![in alloc]?),
+        watch: &Silent,
+    };
+    let status = runs(
+        &mut session,
         command.words,
         images,
-        &mut input,
-        &mut out,
         command.messages,
         command.says,
     )?;
     holds(rt, "the status", status == command.status);
-    let shown: Vec<u8> = out.into_inner();
+    let shown: Vec<u8> = session.out.into_inner();
     expect_shown(rt, &shown, command.shows);
     drop(shown);
     Ok(())

@@ -3,7 +3,8 @@
 use crate::checks::holds;
 use crate::commands::{Case, Command, DONE, play, runs};
 use crate::images::{HeldImages, Image, MEMBER, expect_kept_under, held};
-use md_cli::Messages;
+use crate::silent::Silent;
+use md_cli::{Messages, Session};
 use md_commands::Input;
 use md_examine::Output;
 use std::alloc::Global;
@@ -74,19 +75,15 @@ fn fills<R: Abort + Threads + Wait + Sync>(
     images: &mut HeldImages,
 ) -> Result<(), Fail> {
     let mut room = [0u8; 100];
-    let mut out = Output::new(room.as_mut_slice());
-    let mut input = Input::new([].as_slice());
-    let says = "mdcli: OutputFault\n";
-    let status = runs(
+    let mut session = Session {
         rt,
         alloc,
-        EXAMINE,
-        images,
-        &mut input,
-        &mut out,
-        Messages::Plain,
-        says,
-    )?;
+        input: Input::new([].as_slice()),
+        out: Output::new(room.as_mut_slice()),
+        watch: &Silent,
+    };
+    let says = "mdcli: OutputFault\n";
+    let status = runs(&mut session, EXAMINE, images, Messages::Plain, says)?;
     holds(rt, "the status", status == 1);
     expect_kept_under(rt, alloc, images, "a")
 }

@@ -2,7 +2,8 @@
 use crate::checks::{holds, reads};
 use crate::commands::runs;
 use crate::images::{HeldImages, MEMBER, expect_kept_under, held};
-use md_cli::Messages;
+use crate::silent::Silent;
+use md_cli::{Messages, Session};
 use md_commands::{Input, Source, SourceFault};
 use md_examine::Output;
 use std::alloc::Global;
@@ -98,12 +99,16 @@ fn ends_with<R: Abort + Threads + Wait + Sync>(
     said: &str,
 ) -> Result<(), Fail> {
     let words = ["mdcli", "write", "--sector", "0", "a"];
-    let mut input = Input::new(Steps { steps });
-    let mut out = Output::new(vec![in alloc]?);
-    let plain = Messages::Plain;
-    let ended = runs(rt, alloc, &words, images, &mut input, &mut out, plain, said)?;
+    let mut session = Session {
+        rt,
+        alloc,
+        input: Input::new(Steps { steps }),
+        out: Output::new(vec![in alloc]?),
+        watch: &Silent,
+    };
+    let ended = runs(&mut session, &words, images, Messages::Plain, said)?;
     holds(rt, "the status", ended == status);
-    let shown: Vec<u8> = out.into_inner();
+    let shown: Vec<u8> = session.out.into_inner();
     drop(shown);
     Ok(())
 }

@@ -9,7 +9,7 @@ use md_copy::RebuildFault;
 use md_images::{ImageFault, ImageRefusal, is_missing};
 use md_metadata::StopFault;
 use md_resync::ResyncFault;
-use md_words::{Action, ArrayTask};
+use md_words::Command;
 use std::io::Write;
 
 // The image that a fault is about.
@@ -88,60 +88,58 @@ fn culprit_of_rebuild(fault: RebuildFault) -> Option<Culprit> {
 
 // The image of the member that a command fails, removes or rebuilds, or of the device that it adds or takes
 // back.
-fn named_by<'a>(action: Action<'a>, names: &[&'a str]) -> Option<&'a str> {
-    match action {
-        Action::Perform(ArrayTask::Fail(member), _) => names.get(member as usize).copied(),
-        Action::Remove(member) => names.get(member as usize).copied(),
-        Action::Rebuild(member) => names.get(member as usize).copied(),
-        Action::Add(device) => Some(device),
-        Action::ReAdd(device) => Some(device),
-        _ => None,
+fn named_by<'a>(command: Command<'a>, names: &[&'a str]) -> Option<&'a str> {
+    match command {
+        Command::Fail { member } => names.get(member as usize).copied(),
+        Command::Remove { member } => names.get(member as usize).copied(),
+        Command::Rebuild { member } => names.get(member as usize).copied(),
+        _ => command.device(),
     }
 }
 
 // The image at a place among all of them: one that joins comes after the others.
-fn image_at<'a>(place: usize, action: Action<'a>, names: &[&'a str]) -> Option<&'a str> {
-    match action {
-        Action::Add(device) | Action::ReAdd(device) if place == names.len() => Some(device),
-        _ => names.get(place).copied(),
+fn image_at<'a>(place: usize, command: Command<'a>, names: &[&'a str]) -> Option<&'a str> {
+    if place == names.len() {
+        return command.device();
     }
+    names.get(place).copied()
 }
 
 // The place among all images of one that stays when a member is removed.
-fn place_of(device: usize, action: Action<'_>) -> usize {
-    match action {
-        Action::Remove(member) if device >= member as usize => device.saturating_add(1),
+fn place_of(device: usize, command: Command<'_>) -> usize {
+    match command.leaving() {
+        Some(member) if device >= member as usize => device.saturating_add(1),
         _ => device,
     }
 }
 
-fn path_of<'a>(culprit: Culprit, names: &[&'a str], action: Action<'a>) -> Option<&'a str> {
+fn path_of<'a>(culprit: Culprit, names: &[&'a str], command: Command<'a>) -> Option<&'a str> {
     match culprit {
-        Culprit::Word(word) => image_at(word, action, names),
+        Culprit::Word(word) => image_at(word, command, names),
         Culprit::Device(device) => {
-            let may_miss = matches!(action, Action::Create(_));
+            let may_miss = matches!(command, Command::Create(_));
             let mut images = names.iter().filter(|name| !is_missing(may_miss, name));
             images.nth(device).copied()
         }
-        Culprit::Staying(device) => image_at(place_of(device, action), action, names),
-        Culprit::Named => named_by(action, names),
+        Culprit::Staying(device) => image_at(place_of(device, command), command, names),
+        Culprit::Named => named_by(command, names),
     }
 }
 
 // The index of the member that a command rebuilds. One that is taken back comes after the others.
-fn target_of(action: Action<'_>, names: &[&str]) -> Option<usize> {
-    match action {
-        Action::Rebuild(member) => Some(member as usize),
-        Action::ReAdd(_) => Some(names.len()),
+fn target_of(command: Command<'_>, names: &[&str]) -> Option<usize> {
+    match command {
+        Command::Rebuild { member } => Some(member as usize),
+        Command::ReAdd { .. } => Some(names.len()),
         _ => None,
     }
 }
 
 // What to do. Of a log that is full it depends on whether it is the target's.
-fn what_to_do(fault: &CommandFault, names: &[&str], action: Action<'_>) -> &'static str {
+fn what_to_do(fault: &CommandFault, names: &[&str], command: Command<'_>) -> &'static str {
     match fault {
         CommandFault::Data(DataFault::Rebuild(RebuildFault::LogFull(device)))
-            if target_of(action, names) != Some(*device) => { LEAVE_SOURCE_OUT }
+            if target_of(command, names) != Some(*device) => { LEAVE_SOURCE_OUT }
         _ => advice(fault),
     }
 }
@@ -150,15 +148,15 @@ fn what_to_do(fault: &CommandFault, names: &[&str], action: Action<'_>) -> &'sta
 pub fn advise<'a, E: Write>(
     fault: &CommandFault,
     names: &[&'a str],
-    action: Action<'a>,
+    command: Command<'a>,
     err: &mut E,
 ) {
     if let Some(culprit) = culprit_of(fault) {
-        if let Some(path) = path_of(culprit, names, action) {
+        if let Some(path) = path_of(culprit, names, command) {
             let _ = write!(err, "{path}: ");
         }
     }
-    let what_to_do = what_to_do(fault, names, action);
+    let what_to_do = what_to_do(fault, names, command);
     let _ = match fault {
         CommandFault::BadImage(_, ImageRefusal::Unopened(ImageFault::Io(error))) => {
             writeln!(err, "{error}; {what_to_do}")

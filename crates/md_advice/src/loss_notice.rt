@@ -1,7 +1,7 @@
 // What is said where the content of an image is lost.
 use crate::fault::CommandFault;
 use md_commands::DataFault;
-use md_words::Action;
+use md_words::Command;
 use std::io::Write;
 
 // Whether a command that adds a device came as far as that: the stop and the report come after it.
@@ -17,10 +17,10 @@ fn has_added(outcome: &Result<(), CommandFault>) -> bool {
 /// Says on `err` that what an image held is lost, where the command has added it to an array.
 pub fn tell_lost_content<E: Write>(
     outcome: &Result<(), CommandFault>,
-    action: Action<'_>,
+    command: Command<'_>,
     err: &mut E,
 ) {
-    if let Action::Add(device) = action {
+    if let Command::Add { device } = command {
         if has_added(outcome) {
             let _ = writeln!(
                 err,

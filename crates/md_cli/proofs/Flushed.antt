@@ -7,7 +7,7 @@ use Rattle.md_examine.specs.Sink.{Flushes, Puts}
 use Rattle.md_state.specs.View.{ArrayView}
 use Rattle.md_advice.specs.declared.fault.CommandFault.{CommandFault}
 use Rattle.md_advice.specs.declared.fault.CommandFault.TheVariants.{OutputFault}
-use Rattle.md_words.specs.declared.report.Report.{Report}
+use Rattle.md_words.specs.Asks.{Ask}
 use Rattle.md_cli.specs.Examining.{Examines, RefusesOrFails, ShownBy}
 use Rattle.md_cli.specs.RebuildPlans.{IsPlanText}
 use Rattle.md_cli.specs.Reports.{ShowsPlan}
@@ -27,9 +27,9 @@ module _ {S : Type 0} (contents : S → Option (List ℕ)) (failed : S → Bool)
   put_all : Puts contents failed a b text → Puts contents failed b c [] → Puts contents failed a c text
   put_all p q = record { appends = appends_none (contents a) (contents b) (contents c) text p.appends q.appends; well = q.well ∙ p.well }
 
-  pub examined : (report : Report) (content : List ℕ) (honest : Bool) (Failed : Type 0) (result : Result (Unit {0}) CommandFault) → ShownBy report content honest text → Puts contents failed a b text → PassesOn result → Examines report contents failed a c content honest Failed result
-  examined report content honest Failed (Ok v) shown p q = (text, shown, put_all p q.puts)
-  examined report content honest Failed (Err f) shown p q = subst (λ (e : CommandFault). RefusesOrFails report failed a c content honest Failed e) (sym q.0) (q.1, text, shown)
+  pub examined : (ask : Ask) (content : List ℕ) (honest : Bool) (Failed : Type 0) (result : Result (Unit {0}) CommandFault) → ShownBy ask content honest text → Puts contents failed a b text → PassesOn result → Examines ask contents failed a c content honest Failed result
+  examined ask content honest Failed (Ok v) shown p q = (text, shown, put_all p q.puts)
+  examined ask content honest Failed (Err f) shown p q = subst (λ (e : CommandFault). RefusesOrFails ask failed a c content honest Failed e) (sym q.0) (q.1, text, shown)
 
   pub flushed_at : (result : Result (Unit {0}) CommandFault) → PassesOn result → IfOk result (λ _. flushed c)
   flushed_at (Ok v) q = q.flushed

@@ -1,23 +1,33 @@
--- No task wins or loses a device.
-use Rattle.std.proofs.Common.{ℕ, length, Result, Ok, Err, MatchResult, ap}
+-- No command wins or loses a device: all come back from an opened array, and from beside it.
+use Rattle.md_device.specs.declared.device.Device.{Ghosts}
+use Rattle.std.proofs.Common.{◌≡◌, ◌∙◌, ◌+◌, ◌<◌, ◌≤◌, ℕ, true, false, List, ◌∷◌, ◌++◌, drop, take, length, map, Option, None, Some, option_map, Result, Ok, Err, ap, ap₂, refl, sym, subst, arith, true≢false}
+use Rattle.std.specs.List.{insert}
+use Rattle.std.proofs.lemmas.List.{drop-map, length-map, map-append, take-map}
+use Rattle.std.proofs.lemmas.List.Edits.{length-insert}
+use Rattle.std.specs.Prelude.{is_some}
+use Rattle.std.proofs.Math.Nat.{le_refl}
+use Rattle.std.proofs.lemmas.Option.{slice_get_within}
 use Rattle.md_commands.proofs.DeviceCounts.{AsMany, checks_as_many, done_check, done_fail, done_read, done_resync, done_write, fails_as_many, reads_as_many, resyncs_as_many, stops_as_many, writes_as_many, stopped}
 use Rattle.md_commands.proofs.RebuildCounts.{done_rebuild, rebuilds_as_many}
 use Rattle.md_commands.specs.declared.fault.DataFault.{DataFault}
 use Rattle.md_commands.specs.declared.source.Source.{Ghosts as SourceGhosts}
+use Rattle.md_commands.specs.Adding.{KeepsDevice}
 use Rattle.md_commands.specs.Checking.{RefusesToCheck}
 use Rattle.md_commands.specs.Failing.{RefusesToFail}
 use Rattle.md_commands.specs.Reading.{RefusesToRead}
-use Rattle.md_commands.specs.Rebuilding.{RebuildsArray, RefusesToRebuild}
+use Rattle.md_commands.specs.Rebuilding.{RefusesToRebuild}
+use Rattle.md_commands.specs.Removing.{HandsBack}
 use Rattle.md_commands.specs.Resyncing.{RefusesToResync}
 use Rattle.md_commands.specs.Stopping.{RefusesToStop}
 use Rattle.md_commands.specs.Writing.{RefusesToWrite}
 use Rattle.md_examine.specs.declared.sink.Sink.{Ghosts as SinkGhosts}
-use Rattle.md_state.specs.View.{MirrorView}
-use Rattle.md_words.specs.declared.array_task.ArrayTask.{ArrayTask}
-use Rattle.md_words.specs.declared.array_task.ArrayTask.TheVariants as task
+use Rattle.md_state.specs.View.{Disk, disk_of}
+use Rattle.md_words.specs.Asks.{Ask, device_of, leaving_of, examines, examines_bitmap, examines_badblocks, creates, assembles, details, plans, reads, checks, writes, resyncs, stops, fails, removes, adds, re_adds, rebuilds}
 use Rattle.md_advice.specs.declared.fault.CommandFault.{CommandFault}
 use Rattle.md_advice.specs.declared.fault.CommandFault.TheVariants as fault
-use Rattle.md_cli.specs.Performing.{OfData, Performs, Streams}
+use Rattle.md_cli.specs.Opened.{OpenedView, count, moves_device, place_of, with_beside}
+use Rattle.md_cli.specs.Performing.{OfData, Performs}
+use Rattle.md_cli.specs.Streams.{Streams}
 
 of_data : {X : Type 0} (P : DataFault → Type 0) (f : CommandFault) → OfData P f → ((d : DataFault) → P d → X) → X
 of_data P (fault.Data d) h f = f d h
@@ -33,28 +43,170 @@ of_data P (fault.Rebuild d) h f = absurd h
 of_data P fault.OutputFault h f = absurd h
 of_data P fault.NoMemory h f = absurd h
 
-module _ {R S : Type 0} (r : SourceGhosts R) (s : SinkGhosts S) (opened left : MirrorView) (old new : Streams R S) where
-  pub as_many : (t : ArrayTask) (result : Result (Unit {0}) CommandFault) → Performs r s t opened left old new result → AsMany opened left
-  as_many task.Summary result h = ap (λ (v : MirrorView). length v.disks) h.0
-  as_many task.Detail result h = ap (λ (v : MirrorView). length v.disks) h.0
-  as_many (task.Plan k) result h = ap (λ (v : MirrorView). length v.disks) h.0
-  as_many (task.Read sector count) (Ok v) h = done_read s opened left old.output new.output sector count h.1
-  as_many (task.Read sector count) (Err f) h =
-      of_data (RefusesToRead s sector count opened left old.output new.output) f h.1 (reads_as_many s opened left old.output new.output sector count)
-  as_many task.Check (Ok v) h = done_check s opened left old.output new.output h.1
-  as_many task.Check (Err f) h = of_data (RefusesToCheck s opened left old.output new.output) f h.1 (checks_as_many s opened left old.output new.output)
-  as_many (task.Write sector) (Ok v) h = done_write sector h.bytes opened left h.done
-  as_many (task.Write sector) (Err f) h =
-      of_data (RefusesToWrite r s sector opened left old.input new.input old.output new.output) f h (writes_as_many s opened left old.output new.output r sector old.input new.input)
-  as_many task.Resync (Ok v) h = done_resync opened left h.1.stops
-  as_many task.Resync (Err f) h = of_data (RefusesToResync s opened left old.output new.output) f h.1 (resyncs_as_many s opened left old.output new.output)
-  as_many (task.Fail k) (Ok v) h = done_fail s k opened left old.output new.output h.1
-  as_many (task.Fail k) (Err f) h = of_data (RefusesToFail s k opened left old.output new.output) f h.1 (fails_as_many s k opened left old.output new.output)
-  as_many task.Stop (Ok v) h = stopped opened left h.1.stops
-  as_many task.Stop (Err f) h = of_data (RefusesToStop s opened left old.output new.output) f h.1 (stops_as_many s opened left old.output new.output)
+-- Where there was a device beside the array only if the command brought one: as many devices as before come back, the one beside
+-- the array has its place among them, and there is one only where one may leave or join.
+pub record AllBack (ask : Ask) (before after : List Disk) (was left : Option Disk) : Type 0 where
+  pub as_many : length after + count left ≡ length before + count was
+  pub within : is_some left ≡ true → place_of ask (length after) ≤ length after
+  pub moves : is_some left ≡ true → moves_device ask ≡ true
 
--- nor does a rebuild
-pub rebuilt_as_many : {S : Type 0} (s : SinkGhosts S) (k : ℕ) (opened left : MirrorView) (old new : S) (result : Result (Unit {0}) CommandFault)
-    → MatchResult result (λ _. RebuildsArray s k opened left old new) (OfData (RefusesToRebuild s k opened left old new)) → AsMany opened left
-rebuilt_as_many s k opened left old new (Ok v) h = done_rebuild s k opened left old new h
-rebuilt_as_many s k opened left old new (Err f) h = of_data (RefusesToRebuild s k opened left old new) f h (rebuilds_as_many s k opened left old new)
+none_there : {X : Type 0} (o : Option X) → is_some o ≡ false → o ≡ None
+none_there None e = refl
+none_there (Some x) e = absurd (true≢false e)
+
+one_there : {X : Type 0} (o : Option X) (x : X) → o ≡ Some x → count o ≡ 1
+one_there o x e = ap count e
+
+-- of a command by which none leaves or joins
+kept : (ask : Ask) (before after : OpenedView) → is_some before.beside ≡ false → after.beside ≡ before.beside → AsMany before.mirror after.mirror
+    → AllBack ask before.mirror.disks after.mirror.disks before.beside after.beside
+kept ask before after none same as_many = record {
+  as_many = ap (λ o. length after.mirror.disks + count o) same ∙ ap (λ n. n + count before.beside) as_many;
+  within = λ there. absurd (true≢false (sym there ∙ ap is_some same ∙ none));
+  moves = λ there. absurd (true≢false (sym there ∙ ap is_some same ∙ none));
+}
+
+-- the device of the member that leaves
+left_place : (k : ℕ) (before after : List Disk) (beside : Option Disk) → HandsBack k before after beside → length after + count beside ≡ length before
+left_place k before after None h = omega (arith, h)
+left_place k before after (Some d) h = h.1
+
+joins_count : (before after : List Disk) (beside : Option Disk) → KeepsDevice before after beside → length after + count beside ≡ length before + 1
+joins_count before after None h = omega (arith, h)
+joins_count before after (Some d) h = ap (λ (n : ℕ). n + 1) h
+
+left_within : (k : ℕ) (before after : List Disk) (beside : Option Disk) → HandsBack k before after beside → is_some beside ≡ true → k ≤ length after
+left_within k before after None h e = absurd (true≢false (sym e))
+left_within k before after (Some d) h e = let place = slice_get_within before k d h.0 in omega (arith, place, h.1)
+
+module _ {R S : Type 0} (r : SourceGhosts R) (s : SinkGhosts S) (before after : OpenedView) (old new : Streams R S) where
+  pub all_kept : (ask : Ask) (result : Result (Unit {0}) CommandFault) → is_some before.beside ≡ is_some (device_of ask) → Performs r s ask before after old new result → AllBack ask before.mirror.disks after.mirror.disks before.beside after.beside
+  all_kept examines result brings h = absurd h
+  all_kept examines_bitmap result brings h = absurd h
+  all_kept examines_badblocks result brings h = absurd h
+  all_kept (creates o) result brings h = absurd h
+  all_kept (assembles readonly) result brings h = kept _ before after brings (ap (λ (o : OpenedView). o.beside) h.0) (ap (λ (o : OpenedView). length o.mirror.disks) h.0)
+  all_kept (details readonly) result brings h = kept _ before after brings (ap (λ (o : OpenedView). o.beside) h.0) (ap (λ (o : OpenedView). length o.mirror.disks) h.0)
+  all_kept (plans k readonly) result brings h = kept _ before after brings (ap (λ (o : OpenedView). o.beside) h.0) (ap (λ (o : OpenedView). length o.mirror.disks) h.0)
+  all_kept (reads sector count readonly) (Ok v) brings h =
+      kept _ before after brings h.0 (done_read s before.mirror after.mirror old.output new.output sector count h.2)
+  all_kept (reads sector count readonly) (Err f) brings h =
+      kept _ before after brings h.0 (of_data (RefusesToRead s sector count before.mirror after.mirror old.output new.output) f h.2 (reads_as_many s before.mirror after.mirror old.output new.output sector count))
+  all_kept (checks readonly) (Ok v) brings h = kept _ before after brings h.0 (done_check s before.mirror after.mirror old.output new.output h.2)
+  all_kept (checks readonly) (Err f) brings h =
+      kept _ before after brings h.0 (of_data (RefusesToCheck s before.mirror after.mirror old.output new.output) f h.2 (checks_as_many s before.mirror after.mirror old.output new.output))
+  all_kept (writes sector) (Ok v) brings h = kept _ before after brings h.0 (done_write sector h.1.bytes before.mirror after.mirror h.1.done)
+  all_kept (writes sector) (Err f) brings h =
+      kept _ before after brings h.0 (of_data (RefusesToWrite r s sector before.mirror after.mirror old.input new.input old.output new.output) f h.1 (writes_as_many s before.mirror after.mirror old.output new.output r sector old.input new.input))
+  all_kept resyncs (Ok v) brings h = kept _ before after brings h.0 (done_resync before.mirror after.mirror h.2.stops)
+  all_kept resyncs (Err f) brings h =
+      kept _ before after brings h.0 (of_data (RefusesToResync s before.mirror after.mirror old.output new.output) f h.2 (resyncs_as_many s before.mirror after.mirror old.output new.output))
+  all_kept stops (Ok v) brings h = kept _ before after brings h.0 (stopped before.mirror after.mirror h.2.stops)
+  all_kept stops (Err f) brings h =
+      kept _ before after brings h.0 (of_data (RefusesToStop s before.mirror after.mirror old.output new.output) f h.2 (stops_as_many s before.mirror after.mirror old.output new.output))
+  all_kept (fails k) (Ok v) brings h = kept _ before after brings h.0 (done_fail s k before.mirror after.mirror old.output new.output h.2)
+  all_kept (fails k) (Err f) brings h =
+      kept _ before after brings h.0 (of_data (RefusesToFail s k before.mirror after.mirror old.output new.output) f h.2 (fails_as_many s k before.mirror after.mirror old.output new.output))
+  all_kept (rebuilds k) (Ok v) brings h = kept _ before after brings h.0 (done_rebuild s k before.mirror after.mirror old.output new.output h.2)
+  all_kept (rebuilds k) (Err f) brings h =
+      kept _ before after brings h.0 (of_data (RefusesToRebuild s k before.mirror after.mirror old.output new.output) f h.2 (rebuilds_as_many s k before.mirror after.mirror old.output new.output))
+  all_kept (removes k) result brings h = record {
+    as_many = left_place k before.mirror.disks after.mirror.disks after.beside h.1.handed_back
+        ∙ omega (arith, ap (λ o. count o) (none_there before.beside brings));
+    within = left_within k before.mirror.disks after.mirror.disks after.beside h.1.handed_back;
+    moves = λ _. refl;
+  }
+  all_kept (adds name) result brings h = record {
+    as_many = joins_count before.mirror.disks after.mirror.disks after.beside h.1.kept ∙ ap (λ (n : ℕ). length before.mirror.disks + n) (sym (one_there before.beside h.1.device h.1.is));
+    within = λ _. le_refl _;
+    moves = λ _. refl;
+  }
+  all_kept (re_adds name) result brings h = record {
+    as_many = joins_count before.mirror.disks after.mirror.disks after.beside h.1.kept ∙ ap (λ (n : ℕ). length before.mirror.disks + n) (sym (one_there before.beside h.1.device h.1.is));
+    within = λ _. le_refl _;
+    moves = λ _. refl;
+  }
+
+-- one that is to join comes last
+pub joins_last : (ask : Ask) → is_some (device_of ask) ≡ true → leaving_of ask ≡ None
+joins_last examines e = refl
+joins_last examines_bitmap e = refl
+joins_last examines_badblocks e = refl
+joins_last (creates o) e = refl
+joins_last (assembles readonly) e = refl
+joins_last (details readonly) e = refl
+joins_last (plans k readonly) e = refl
+joins_last (reads sector count readonly) e = refl
+joins_last (checks readonly) e = refl
+joins_last (writes sector) e = refl
+joins_last resyncs e = refl
+joins_last stops e = refl
+joins_last (fails k) e = refl
+joins_last (removes k) e = absurd (true≢false (sym e))
+joins_last (adds name) e = refl
+joins_last (re_adds name) e = refl
+joins_last (rebuilds k) e = refl
+
+-- where the members make no array, the device that was to join comes back too
+pub refused_back : (ask : Ask) (before after : List Disk) (was : Option Disk) → is_some was ≡ is_some (device_of ask) → length after ≡ length before → AllBack ask before after was was
+refused_back ask before after was brings same = record {
+  as_many = ap (λ (n : ℕ). n + count was) same;
+  within = λ there. rw (joins_last ask (sym brings ∙ there)) (le_refl _);
+  moves = λ there. rw (sym brings ∙ there) refl;
+}
+
+counted : {X Y : Type 0} (f : X → Y) (o : Option X) → count (option_map f o) ≡ count o
+counted f None = refl
+counted f (Some x) = refl
+
+seen_there : {X Y : Type 0} (f : X → Y) (o : Option X) → is_some o ≡ true → is_some (option_map f o) ≡ true
+seen_there f None e = e
+seen_there f (Some x) e = refl
+
+pub there_same : {X Y : Type 0} (f : X → Y) (o : Option X) → is_some (option_map f o) ≡ is_some o
+there_same f None = refl
+there_same f (Some x) = refl
+
+one_counted : {X : Type 0} (o : Option X) → is_some o ≡ true → count o ≡ 1
+one_counted None e = absurd (true≢false (sym e))
+one_counted (Some x) e = refl
+
+map-insert : {X Y : Type 0} (f : X → Y) (xs : List X) (i : ℕ) (y : X) → map f (insert xs i y) ≡ insert (map f xs) i (f y)
+map-insert f xs i y =
+    map-append f (take i xs) (y ∷ drop i xs) ∙ ap₂ (λ a b. a ++ f y ∷ b) (sym (take-map f i xs)) (sym (drop-map f i xs))
+
+plus_zero : (n : ℕ) → n + 0 ≡ n
+plus_zero n = omega arith
+
+-- the devices themselves, of which `members` were opened and `given` come back
+module _ {D : Type 0} (g : Ghosts D) (ask : Ask) (members given : List D) (was left : Option D) (before after : List Disk) (many : length before ≡ length members) (are : map (disk_of g) given ≡ after) (back : AllBack ask before after (option_map (disk_of g) was) (option_map (disk_of g) left)) where
+  long : length given ≡ length after
+  long = sym (length-map given (disk_of g)) ∙ ap length are
+
+  sum_is : length given + count left ≡ length members + count was
+  sum_is =
+      ap₂ (λ (m n : ℕ). m + n) long (sym (counted (disk_of g) left)) ∙ back.as_many ∙ ap₂ (λ (m n : ℕ). m + n) many (counted (disk_of g) was)
+
+  pub room_back : (room : ℕ) → (moves_device ask ≡ true → length members + count was ≤ room) → is_some left ≡ true → length given < room
+  room_back room enough there =
+      let fits = enough (back.moves (seen_there (disk_of g) left there)) in
+      omega (arith, fits, sum_is, one_counted left there)
+
+  pub within_back : is_some left ≡ true → place_of ask (length given) ≤ length given
+  within_back there = subst (λ (n : ℕ). place_of ask n ≤ n) (sym long) (back.within (seen_there (disk_of g) left there))
+
+  pub as_many_back : (all : List D) → all ≡ with_beside ask given left → length all ≡ length members + count was
+  as_many_back all is = by left all is sum_is within_back
+    where
+      by : (o : Option D) (ds : List D) → ds ≡ with_beside ask given o → length given + count o ≡ length members + count was → (is_some o ≡ true → place_of ask (length given) ≤ length given) → length ds ≡ length members + count was
+      by None ds e sum fits = ap length e ∙ sym (plus_zero (length given)) ∙ sum
+      by (Some d) ds e sum fits = ap length e ∙ length-insert given (place_of ask (length given)) d (fits refl) ∙ sum
+
+  pub shown_back : (all : List D) → all ≡ with_beside ask given left → map (disk_of g) all ≡ with_beside ask after (option_map (disk_of g) left)
+  shown_back all is = ap (map (disk_of g)) is ∙ by left
+    where
+      by : (o : Option D) → map (disk_of g) (with_beside ask given o) ≡ with_beside ask after (option_map (disk_of g) o)
+      by None = are
+      by (Some d) =
+          map-insert (disk_of g) given (place_of ask (length given)) d
+          ∙ ap₂ (λ (n : ℕ) (ds : List Disk). insert ds (place_of ask n) (disk_of g d)) long are

@@ -1,32 +1,57 @@
 -- Devices that are taken out of their images, worked on and put back.
 use Rattle.md_device.specs.declared.device.Device.{Ghosts}
-use Rattle.std.proofs.Common.{◌≡◌, ◌∙◌, ℕ, Bool, true, List, length, Option, Result, subst, inl}
+use Rattle.std.proofs.Common.{◌≡◌, ◌∙◌, ℕ, Bool, true, false, List, length, Option, Result, subst, inl, ap, sym, true≢false}
 use Rattle.clap.specs.Words.{Text}
 use Rattle.md_state.specs.View.{Disk}
 use Rattle.md_array.specs.Refusals.{RefusesOpen}
 use Rattle.md_array.specs.declared.fault.OpenFault.{OpenFault}
 use Rattle.md_array.specs.declared.fault.OpenFault.TheVariants as opening
 use Rattle.md_advice.specs.declared.fault.CommandFault.{CommandFault}
-use Rattle.md_cli.specs.Arrays.{UsesImages, Work, disks}
+use Rattle.md_images.specs.declared.access.Access.{Access}
+use Rattle.md_images.specs.declared.images.Images.{Ghosts as ImagesGhosts}
+use Rattle.md_images.specs.Images.{asks}
 use Rattle.md_images.specs.Taking.{AreOut, ArePut, TakesImages, Word, names_of}
+use Rattle.md_words.specs.Asks.{Ask, access_of, is_readonly, marking, examines, examines_bitmap, examines_badblocks, creates, assembles, details, plans, reads, checks, writes, resyncs, stops, fails, removes, adds, re_adds, rebuilds}
+use Rattle.md_cli.specs.Arrays.{UsesImages, Work, disks, may}
 
 module _ {D : Type 0} where
   together : (before mid after : Text → Option D) (names : List Text) (n : ℕ) (taken given : List D) → AreOut before mid names n taken → ArePut mid after names n given → ArePut before after names n given
   together before mid after names n taken given out put = record { back = put.back; others = λ other h. put.others other h ∙ out.others other h }
 
-  pub used : {S : Type 0} (g : Ghosts D) (Does : Work S) (Unchanged : Type 0) (known now : Bool) (allowed : Text → Bool) (before mid after : Text → Option D) (words : List Word) (taken given : List D) (old new : S) (result : Result (Unit {0}) CommandFault)
-      → TakesImages known allowed before mid words taken → now ≡ known → length given ≡ length taken → (now ≡ true → ArePut mid after (names_of words) (length given) given) → Does (disks g taken) (disks g given) old new result
-      → UsesImages g Does Unchanged known allowed before after words old new result
-  used g Does Unchanged known now allowed before mid after words taken given old new result takes kept many put done = inl (record {
+  pub used : {I S : Type 0} (i : ImagesGhosts I D) (g : Ghosts D) (Does : Work S) (access : Access) (words : List Word) (before mid after : I) (taken given : List D) (old new : S) (result : Result (Unit {0}) CommandFault)
+      → TakesImages (i.known before) (may i access before) (i.device_at before) (i.device_at mid) words taken → i.known mid ≡ i.known before → length given ≡ length taken
+      → (i.known mid ≡ true → ArePut (i.device_at mid) (i.device_at after) (names_of words) (length given) given) → Does (disks g taken) (disks g given) old new result
+      → UsesImages i g Does access words before after old new result
+  used i g Does access words before mid after taken given old new result takes kept many put done = inl (record {
     taken = taken;
     given = given;
     distinct = takes.distinct;
     were = λ is. (takes.taken is).were;
     there = takes.there;
     put = λ is.
-        together before mid after (names_of words) (length words) taken given (takes.taken is) (subst (λ n. ArePut mid after (names_of words) n given) (many ∙ takes.many) (put (kept ∙ is)));
+        together (i.device_at before) (i.device_at mid) (i.device_at after) (names_of words) (length words) taken given (takes.taken is) (subst (λ n. ArePut (i.device_at mid) (i.device_at after) (names_of words) n given) (many ∙ takes.many) (put (kept ∙ is)));
     done = done;
   })
+
+-- a command that is to change no image opens none so that it might be changed
+pub only_looks : (ask : Ask) → is_readonly ask ≡ true → asks (access_of ask) ≡ false
+only_looks (assembles readonly) e = ap (λ (b : Bool). asks (marking b)) e
+only_looks (details readonly) e = ap (λ (b : Bool). asks (marking b)) e
+only_looks (plans k readonly) e = ap (λ (b : Bool). asks (marking b)) e
+only_looks (reads sector count readonly) e = ap (λ (b : Bool). asks (marking b)) e
+only_looks (checks readonly) e = ap (λ (b : Bool). asks (marking b)) e
+only_looks examines e = absurd (true≢false (sym e))
+only_looks examines_bitmap e = absurd (true≢false (sym e))
+only_looks examines_badblocks e = absurd (true≢false (sym e))
+only_looks (creates o) e = absurd (true≢false (sym e))
+only_looks (writes sector) e = absurd (true≢false (sym e))
+only_looks resyncs e = absurd (true≢false (sym e))
+only_looks stops e = absurd (true≢false (sym e))
+only_looks (fails k) e = absurd (true≢false (sym e))
+only_looks (removes k) e = absurd (true≢false (sym e))
+only_looks (adds name) e = absurd (true≢false (sym e))
+only_looks (re_adds name) e = absurd (true≢false (sym e))
+only_looks (rebuilds k) e = absurd (true≢false (sym e))
 
 -- no device is lost or won by an opening that is refused
 pub refused_as_many : (before after : List Disk) (fault : OpenFault) → RefusesOpen before after fault → length after ≡ length before

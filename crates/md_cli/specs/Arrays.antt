@@ -1,6 +1,7 @@
 -- What the commands that open a whole array give.
 use Rattle.md_device.specs.declared.device.Device.{Ghosts}
-use Rattle.std.specs.Prelude.{◌≡◌, ◌⊎◌, ◌<◌, ℕ, Bool, true, List, [], length, map, Option, Result, Err}
+use Rattle.std.specs.Prelude.{◌≡◌, ◌⊎◌, ◌<◌, ℕ, Bool, true, false, List, [], length, map, Option, is_some, Result, Err}
+use Rattle.std.specs.Borrow.{Bor}
 use Rattle.clap.specs.Words.{Text}
 use Rattle.md_state.specs.View.{Disk, MirrorView, disk_of}
 use Rattle.md_array.specs.Opening.{IsOpenedFrom}
@@ -9,14 +10,19 @@ use Rattle.md_array.specs.declared.fault.OpenFault.{OpenFault}
 use Rattle.md_commands.specs.declared.source.Source.{Ghosts as SourceGhosts}
 use Rattle.md_examine.specs.declared.sink.Sink.{Ghosts as SinkGhosts}
 use Rattle.md_report.specs.SummaryReport.{summary_text}
-use Rattle.md_words.specs.declared.array_task.ArrayTask.{ArrayTask}
+use Rattle.md_images.specs.declared.access.Access.{Access}
+use Rattle.md_images.specs.declared.fault.ImagesFault.{ImagesFault}
+use Rattle.md_images.specs.declared.images.Images.{Ghosts as ImagesGhosts}
+use Rattle.md_images.specs.Images.{allows}
+use Rattle.md_images.specs.Taking.{ArePut, AreUnder, IsDistinct, IsThere, RefusesImages, Word, names_of}
+use Rattle.md_words.specs.Asks.{Ask, device_of, is_readonly}
 use Rattle.md_advice.specs.Faults.{of_images}
 use Rattle.md_advice.specs.declared.fault.CommandFault.{CommandFault}
 use Rattle.md_advice.specs.declared.fault.CommandFault.TheVariants.{NoMemory, Open}
-use Rattle.md_cli.specs.Performing.{Performs, Streams}
+use Rattle.md_cli.specs.Opened.{OpenedView, moves_device, with_beside, with_last}
+use Rattle.md_cli.specs.Performing.{Performs}
 use Rattle.md_cli.specs.Reports.{ShowsText}
-use Rattle.md_images.specs.declared.fault.ImagesFault.{ImagesFault}
-use Rattle.md_images.specs.Taking.{ArePut, AreUnder, IsDistinct, IsThere, RefusesImages, Word, names_of}
+use Rattle.md_cli.specs.Streams.{Streams}
 
 -- a device that is only looked at, and over which what is written is kept in memory: no call on it has failed yet, and no
 -- stop leaves any of what is written
@@ -31,12 +37,6 @@ module _ {X : Type 0} where
     pub refused : RefusesOpen before after fault
     pub unused : new ≡ old
 
-  -- there is no memory for the list in which they come back
-  pub record RefusesList (before after : List Disk) (old new : X) (result : Result (Unit {0}) CommandFault) : Type 0 where
-    pub is : result ≡ Err NoMemory
-    pub devices : after ≡ before
-    pub unused : new ≡ old
-
 module _ {S : Type 0} (s : SinkGhosts S) where
   -- The devices are opened as a mirror, which is shown in a line. `before` and `after` are the devices as contracts see them.
   pub record ShowsMirror (before after : List Disk) (old new : S) (result : Result (Unit {0}) CommandFault) : Type 0 where
@@ -48,81 +48,110 @@ module _ {S : Type 0} (s : SinkGhosts S) where
   abbrev pub ShowsDevices : List Disk → List Disk → S → S → Result (Unit {0}) CommandFault → Type 0
   ShowsDevices before after old new result = ShowsMirror before after old new result ⊎ RefusesMirror before after old new result
 
-module _ {R S : Type 0} (r : SourceGhosts R) (s : SinkGhosts S) where
-  -- The devices are opened as a mirror, and the task is done with it. They come back as it left them.
-  pub record PerformsOnMirror (task : ArrayTask) (before after : List Disk) (old new : Streams R S) (result : Result (Unit {0}) CommandFault) : Type 0 where
-    pub opened : MirrorView
-    pub opens : IsOpenedFrom before opened
-    pub left : MirrorView
-    pub performs : Performs r s task opened left old new result
-    pub devices : after ≡ left.disks
+-- the texts of words
+abbrev pub texts : List (Bor Text) → List Text
+texts = map (λ s. s.now)
 
-  abbrev pub OpensDevices : ArrayTask → List Disk → List Disk → Streams R S → Streams R S → Result (Unit {0}) CommandFault → Type 0
-  OpensDevices task before after old new result = PerformsOnMirror task before after old new result ⊎ RefusesMirror before after old new result
+module _ {R S : Type 0} (r : SourceGhosts R) (s : SinkGhosts S) (ask : Ask) where
+  -- The devices of the members are opened as a mirror, and the command is done with it. All devices come back in the order of
+  -- their images, as it left them: those of the members, and the one beside them.
+  pub record PerformsOnMirror (members : List Disk) (device : Option Disk) (after : List Disk) (old new : Streams R S) (result : Result (Unit {0}) CommandFault) : Type 0 where
+    pub opened : MirrorView
+    pub opens : IsOpenedFrom members opened
+    pub left : OpenedView
+    pub performs : Performs r s ask (record { mirror = opened; beside = device }) left old new result
+    pub devices : after ≡ with_beside ask left.mirror.disks left.beside
+
+  -- they are not opened so, and the device that was to join is as it was
+  pub record RefusesMembers (members : List Disk) (device : Option Disk) (after : List Disk) (old new : Streams R S) (result : Result (Unit {0}) CommandFault) : Type 0 where
+    pub left : List Disk
+    pub refused : RefusesMirror members left old new result
+    pub devices : after ≡ with_beside ask left device
+
+  abbrev pub OpensMembers : List Disk → Option Disk → List Disk → Streams R S → Streams R S → Result (Unit {0}) CommandFault → Type 0
+  OpensMembers members device after old new result =
+      PerformsOnMirror members device after old new result ⊎ RefusesMembers members device after old new result
+
+  -- the devices are those of the members and, where the command names an image that is to join, after them the one of that image
+  pub record OpensAll (before after : List Disk) (old new : Streams R S) (result : Result (Unit {0}) CommandFault) : Type 0 where
+    pub members : List Disk
+    pub device : Option Disk
+    pub are : before ≡ with_last members device
+    pub brings : is_some device ≡ is_some (device_of ask)
+    pub done : OpensMembers members device after old new result
+
+  -- a device may leave or join, and there is no memory for the list in which all of them come back then
+  pub record RefusesList (before after : List Disk) (old new : Streams R S) (result : Result (Unit {0}) CommandFault) : Type 0 where
+    pub moves : moves_device ask ≡ true
+    pub is : result ≡ Err NoMemory
+    pub devices : after ≡ before
+    pub unused : new ≡ old
+
+  abbrev pub OpensDevices : List Disk → List Disk → Streams R S → Streams R S → Result (Unit {0}) CommandFault → Type 0
+  OpensDevices before after old new result = OpensAll before after old new result ⊎ RefusesList before after old new result
 
   -- The devices are only looked at, and what is written is kept in memory over them. They are opened so as a mirror, and the
-  -- task is done with it.
-  pub record LooksAtMirror (task : ArrayTask) (devices : List Disk) (old new : Streams R S) (result : Result (Unit {0}) CommandFault) : Type 0 where
+  -- command is done with it.
+  pub record LooksAtMirror (devices : List Disk) (old new : Streams R S) (result : Result (Unit {0}) CommandFault) : Type 0 where
     pub seen : List Disk
-    pub opened : OpensDevices task (map overlaid devices) seen old new result
+    pub opened : OpensDevices (map overlaid devices) seen old new result
 
   -- there is no memory for the list of overlays
   pub record LooksAtNothing (old new : Streams R S) (result : Result (Unit {0}) CommandFault) : Type 0 where
     pub is : result ≡ Err NoMemory
     pub unused : new ≡ old
 
-  abbrev pub LooksAtDevices : ArrayTask → List Disk → Streams R S → Streams R S → Result (Unit {0}) CommandFault → Type 0
-  LooksAtDevices task devices old new result = LooksAtMirror task devices old new result ⊎ LooksAtNothing old new result
+  abbrev pub LooksAtDevices : List Disk → Streams R S → Streams R S → Result (Unit {0}) CommandFault → Type 0
+  LooksAtDevices devices old new result = LooksAtMirror devices old new result ⊎ LooksAtNothing old new result
+
+  -- whether the devices are only looked at
+  abbrev pub WorksBy : Bool → List Disk → List Disk → Streams R S → Streams R S → Result (Unit {0}) CommandFault → Type 0
+  WorksBy true before after old new result = (after ≡ before) × LooksAtDevices before old new result
+  WorksBy false before after old new result = OpensDevices before after old new result
+
+  abbrev pub WorksOn : List Disk → List Disk → Streams R S → Streams R S → Result (Unit {0}) CommandFault → Type 0
+  WorksOn before after old new result = WorksBy (is_readonly ask) before after old new result
+
+-- the image words, and after them the one of the image that is to join the array
+abbrev pub names_with : Ask → List Text → List Text
+names_with ask names = with_last names (device_of ask)
 
 -- What is done with devices, as contracts see them before and after, and with the output, or with both streams.
 abbrev pub Work : Type 0 → Type 1
 Work S = List Disk → List Disk → S → S → Result (Unit {0}) CommandFault → Type 0
 
--- what is done with devices that are only looked at
-abbrev pub Look : Type 0 → Type 1
-Look S = List Disk → S → S → Result (Unit {0}) CommandFault → Type 0
-
 module _ {D : Type 0} (g : Ghosts D) where
   abbrev pub disks : List D → List Disk
   disks = map (disk_of g)
 
-module _ {D S : Type 0} (g : Ghosts D) where
+-- whether the image under a name may be had
+abbrev pub may : {I D : Type 0} → ImagesGhosts I D → Access → I → Text → Bool
+may i access images name = allows access (i.changeable images name)
+
+module _ {I D S : Type 0} (i : ImagesGhosts I D) (g : Ghosts D) (Does : Work S) (access : Access) (words : List Word) (before after : I) (old new : S) (result : Result (Unit {0}) CommandFault) where
   -- The devices of all words are taken out of their images, worked on, and put back under their names. Where it is known
   -- which devices there are, they are those under the names, each of which may be had, and all other names keep theirs.
-  pub record WorksOnImages (Does : Work S) (known : Bool) (allowed : Text → Bool) (before after : Text → Option D) (words : List Word) (old new : S) (result : Result (Unit {0}) CommandFault) : Type 0 where
+  pub record WorksOnImages : Type 0 where
     pub taken : List D
     pub given : List D
     pub distinct : IsDistinct (names_of words) (length words)
-    pub were : known ≡ true → AreUnder before (names_of words) (length words) taken
-    pub there : known ≡ true → (k : ℕ) → k < length words → IsThere allowed before (names_of words) k
-    pub put : known ≡ true → ArePut before after (names_of words) (length words) given
+    pub were : i.known before ≡ true → AreUnder (i.device_at before) (names_of words) (length words) taken
+    pub there : i.known before ≡ true → (k : ℕ) → k < length words → IsThere (may i access before) (i.device_at before) (names_of words) k
+    pub put : i.known before ≡ true → ArePut (i.device_at before) (i.device_at after) (names_of words) (length words) given
     pub done : Does (disks g taken) (disks g given) old new result
 
   -- an image is refused, or there is no memory for the list of devices: nothing else is done
-  pub record RefusesWords (Unchanged : Type 0) (known : Bool) (allowed : Text → Bool) (before after : Text → Option D) (words : List Word) (old new : S) (result : Result (Unit {0}) CommandFault) : Type 0 where
+  pub record RefusesWords : Type 0 where
     pub fault : ImagesFault
     pub is : result ≡ Err (of_images fault)
-    pub refused : RefusesImages Unchanged known allowed before after words fault
+    pub refused : RefusesImages (after ≡ before) (i.known before) (may i access before) (i.device_at before) (i.device_at after) words fault
     pub unwritten : new ≡ old
 
-  -- `allowed` says which images may be had for what the command does
-  abbrev pub UsesImages : Work S → Type 0 → Bool → (Text → Bool) → (Text → Option D) → (Text → Option D) → List Word → S → S → Result (Unit {0}) CommandFault → Type 0
-  UsesImages Does Unchanged known allowed before after words old new result =
-      WorksOnImages Does known allowed before after words old new result ⊎ RefusesWords Unchanged known allowed before after words old new result
-
-  -- The devices of all words are taken out of their images, looked at, and put back under their names.
-  pub record LooksAtImages (Does : Look S) (known : Bool) (allowed : Text → Bool) (before : Text → Option D) (words : List Word) (old new : S) (result : Result (Unit {0}) CommandFault) : Type 0 where
-    pub devices : List D
-    pub distinct : IsDistinct (names_of words) (length words)
-    pub were : known ≡ true → AreUnder before (names_of words) (length words) devices
-    pub there : known ≡ true → (k : ℕ) → k < length words → IsThere allowed before (names_of words) k
-    pub done : Does (disks g devices) old new result
-
-  abbrev pub ViewsImages : Look S → Type 0 → Bool → (Text → Bool) → (Text → Option D) → (Text → Option D) → List Word → S → S → Result (Unit {0}) CommandFault → Type 0
-  ViewsImages Does Unchanged known allowed before after words old new result =
-      LooksAtImages Does known allowed before words old new result ⊎ RefusesWords Unchanged known allowed before after words old new result
+  abbrev pub UsesImages : Type 0
+  UsesImages = WorksOnImages ⊎ RefusesWords
 
 -- Where it is known which devices there are, each name has the device that it had, and no image was had so that it might have
 -- been changed.
-abbrev pub KeepsImages : {I D : Type 0} → (I → Bool) → (I → Text → Option D) → (I → Text → Bool) → I → I → Type 0
-KeepsImages known device_at asked before after = known before ≡ true → (name : Text) → (device_at after name ≡ device_at before name) × (asked after name ≡ asked before name)
+abbrev pub KeepsImages : {I D : Type 0} → ImagesGhosts I D → I → I → Type 0
+KeepsImages i before after =
+    i.known before ≡ true → (name : Text) → (i.device_at after name ≡ i.device_at before name) × (i.asked after name ≡ i.asked before name)

@@ -1,6 +1,6 @@
 -- What the commands that show one image give.
 use Rattle.md_device.specs.declared.device.Device.{Ghosts}
-use Rattle.std.specs.Prelude.{◌≡◌, ◌≢◌, ◌⊎◌, ℕ, ◌<◌, Bool, true, List, Option, Some, None, Result, Err, MatchResult}
+use Rattle.std.specs.Prelude.{◌≡◌, ◌≢◌, ◌⊎◌, ℕ, ◌<◌, Bool, true, false, List, Option, Some, None, Result, Err, MatchResult}
 use Rattle.md_super.specs.declared.superblock.Superblock.{Superblock as SuperblockValue}
 use Rattle.md_bitmap.specs.declared.header.BitmapHeader.{BitmapHeader}
 use Rattle.md_bitmap.specs.Marks.{Bitmap as BitmapValue}
@@ -11,37 +11,44 @@ use Rattle.md_examine.specs.Sink.{Puts}
 use Rattle.md_examine.specs.SuperblockReport.{examine_text}
 use Rattle.md_examine.specs.BitmapReport.{bitmap_report}
 use Rattle.md_examine.specs.BadblocksReport.{badblocks_report}
-use Rattle.md_words.specs.declared.report.Report.{Report}
-use Rattle.md_words.specs.declared.report.Report.TheVariants.{Superblock, Bitmap, BadBlocks}
+use Rattle.md_words.specs.Asks.{Ask, examines, examines_badblocks, examines_bitmap}
 use Rattle.md_images.specs.declared.image_fault.ImageFault.{ImageFault}
 use Rattle.md_advice.specs.declared.fault.CommandFault.{CommandFault}
 use Rattle.md_images.specs.declared.image_refusal.ImageRefusal.TheVariants.{Unopened}
 use Rattle.md_advice.specs.declared.fault.CommandFault.TheVariants.{BadImage, Member, NoBitmap, OutputFault}
 
+-- whether a command shows one image
+abbrev pub examines_image : Ask → Bool
+examines_image examines = true
+examines_image examines_bitmap = true
+examines_image examines_badblocks = true
+examines_image _ = false
+
 -- the text that a device of this content is shown by
-abbrev pub ShownBy : Report → List ℕ → Bool → List ℕ → Type 0
-ShownBy Superblock content honest text = (v : SuperblockValue) × ReadsSuper content honest v × (text ≡ examine_text v)
-ShownBy Bitmap content honest text = (info : MemberInfo) × (h : BitmapHeader) × (m : BitmapValue) × IsMember content honest info × (info.header ≡ Some h) × (info.marks ≡ Some m) × (text ≡ bitmap_report h m)
-ShownBy BadBlocks content honest text = (info : MemberInfo) × IsMember content honest info × (text ≡ badblocks_report info.bad)
+abbrev pub ShownBy : Ask → List ℕ → Bool → List ℕ → Type 0
+ShownBy examines content honest text = (v : SuperblockValue) × ReadsSuper content honest v × (text ≡ examine_text v)
+ShownBy examines_bitmap content honest text = (info : MemberInfo) × (h : BitmapHeader) × (m : BitmapValue) × IsMember content honest info × (info.header ≡ Some h) × (info.marks ≡ Some m) × (text ≡ bitmap_report h m)
+ShownBy examines_badblocks content honest text = (info : MemberInfo) × IsMember content honest info × (text ≡ badblocks_report info.bad)
+ShownBy _ content honest text = ⊥
 
 -- why it is not shown, where `Failed` says that a call on the device failed
-abbrev pub RefusedBy : Report → List ℕ → Bool → Type 0 → CommandFault → Type 0
-RefusedBy Superblock content honest Failed (Member f) = RefusesSuper content honest Failed f
-RefusedBy Bitmap content honest Failed (Member f) = RefusesMember content honest Failed f
-RefusedBy Bitmap content honest Failed NoBitmap = (info : MemberInfo) × IsMember content honest info × ((info.header ≡ None) ⊎ (info.marks ≡ None))
-RefusedBy BadBlocks content honest Failed (Member f) = RefusesMember content honest Failed f
+abbrev pub RefusedBy : Ask → List ℕ → Bool → Type 0 → CommandFault → Type 0
+RefusedBy examines content honest Failed (Member f) = RefusesSuper content honest Failed f
+RefusedBy examines_bitmap content honest Failed (Member f) = RefusesMember content honest Failed f
+RefusedBy examines_bitmap content honest Failed NoBitmap = (info : MemberInfo) × IsMember content honest info × ((info.header ≡ None) ⊎ (info.marks ≡ None))
+RefusedBy examines_badblocks content honest Failed (Member f) = RefusesMember content honest Failed f
 RefusedBy _ content honest Failed _ = ⊥
 
 -- a refusal, before which nothing is written, or an output that failed while a report was written
-abbrev pub RefusesOrFails : {S : Type 0} → Report → (S → Bool) → S → S → List ℕ → Bool → Type 0 → CommandFault → Type 0
-RefusesOrFails report failed old new content honest Failed OutputFault = (failed new ≡ true) × (text : List ℕ) × ShownBy report content honest text
-RefusesOrFails report failed old new content honest Failed fault = (new ≡ old) × RefusedBy report content honest Failed fault
+abbrev pub RefusesOrFails : {S : Type 0} → Ask → (S → Bool) → S → S → List ℕ → Bool → Type 0 → CommandFault → Type 0
+RefusesOrFails ask failed old new content honest Failed OutputFault = (failed new ≡ true) × (text : List ℕ) × ShownBy ask content honest text
+RefusesOrFails ask failed old new content honest Failed fault = (new ≡ old) × RefusedBy ask content honest Failed fault
 
 -- what a command gives on a device of this content
-abbrev pub Examines : {S : Type 0} → Report → (S → Option (List ℕ)) → (S → Bool) → S → S → List ℕ → Bool → Type 0 → Result (Unit {0}) CommandFault → Type 0
-Examines report contents failed old new content honest Failed result =
-    MatchResult result (λ _. (text : List ℕ) × ShownBy report content honest text × Puts contents failed old new text)
-    (RefusesOrFails report failed old new content honest Failed)
+abbrev pub Examines : {S : Type 0} → Ask → (S → Option (List ℕ)) → (S → Bool) → S → S → List ℕ → Bool → Type 0 → Result (Unit {0}) CommandFault → Type 0
+Examines ask contents failed old new content honest Failed result =
+    MatchResult result (λ _. (text : List ℕ) × ShownBy ask content honest text × Puts contents failed old new text)
+    (RefusesOrFails ask failed old new content honest Failed)
 
 -- every other name has the device that it had
 abbrev pub OthersStay : {D : Type 0} → (List ℕ → Option D) → (List ℕ → Option D) → List ℕ → Type 0
@@ -49,7 +56,7 @@ OthersStay old new name = (other : List ℕ) → other ≢ name → new other �
 
 -- the one image's device is taken out, read and put back. Where it is known which devices there are, it is the one under
 -- the name.
-pub record ExaminesDevice {D S : Type 0} (report : Report) (g : Ghosts D) (contents : S → Option (List ℕ)) (failed : S → Bool) (known : Bool) (before after : List ℕ → Option D) (name : List ℕ) (old new : S) (result : Result (Unit {0}) CommandFault) : Type 0 where
+pub record ExaminesDevice {D S : Type 0} (ask : Ask) (g : Ghosts D) (contents : S → Option (List ℕ)) (failed : S → Bool) (known : Bool) (before after : List ℕ → Option D) (name : List ℕ) (old new : S) (result : Result (Unit {0}) CommandFault) : Type 0 where
   pub taken : D
   pub given : D
   pub was : known ≡ true → before name ≡ Some taken
@@ -57,7 +64,7 @@ pub record ExaminesDevice {D S : Type 0} (report : Report) (g : Ghosts D) (conte
   pub others : known ≡ true → OthersStay before after name
   pub kept : g.content given ≡ g.content taken
   pub stays_honest : g.honest given ≡ g.honest taken
-  pub gives : Examines report contents failed old new (g.content taken) (g.honest taken) (g.failures taken < g.failures given) result
+  pub gives : Examines ask contents failed old new (g.content taken) (g.honest taken) (g.failures taken < g.failures given) result
 
 -- the image can't be opened
 pub record RefusesImage {D S : Type 0} (known : Bool) (before after : List ℕ → Option D) (name : List ℕ) (old new : S) (result : Result (Unit {0}) CommandFault) : Type 0 where
@@ -68,7 +75,7 @@ pub record RefusesImage {D S : Type 0} (known : Bool) (before after : List ℕ �
   pub others : known ≡ true → OthersStay before after name
   pub unwritten : new ≡ old
 
-abbrev pub ExaminesOne : {D S : Type 0} → Report → Ghosts D → (S → Option (List ℕ)) → (S → Bool) → Bool → (List ℕ → Option D) → (List ℕ → Option D) → List ℕ → S → S → Result (Unit {0}) CommandFault → Type 0
-ExaminesOne report g contents failed known before after name old new result =
-    ExaminesDevice report g contents failed known before after name old new result
+abbrev pub ExaminesOne : {D S : Type 0} → Ask → Ghosts D → (S → Option (List ℕ)) → (S → Bool) → Bool → (List ℕ → Option D) → (List ℕ → Option D) → List ℕ → S → S → Result (Unit {0}) CommandFault → Type 0
+ExaminesOne ask g contents failed known before after name old new result =
+    ExaminesDevice ask g contents failed known before after name old new result
     ⊎ RefusesImage known before after name old new result

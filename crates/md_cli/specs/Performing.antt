@@ -1,73 +1,107 @@
 -- What commands do with an opened array.
-use Rattle.std.specs.Prelude.{◌≡◌, Result, MatchResult}
+use Rattle.std.specs.Prelude.{◌≡◌, ℕ, Some, Result, MatchResult}
 use Rattle.md_commands.specs.declared.fault.DataFault.{DataFault}
 use Rattle.md_commands.specs.declared.source.Source.{Ghosts as SourceGhosts}
+use Rattle.md_commands.specs.Adding.{AddsDevice, KeepsDevice, RefusesToAdd}
 use Rattle.md_commands.specs.Checking.{ChecksMembers, RefusesToCheck}
 use Rattle.md_commands.specs.Failing.{RefusesToFail}
+use Rattle.md_commands.specs.ReAdding.{ReAddsDevice, RefusesToReAdd}
 use Rattle.md_commands.specs.Reading.{ReadsArray, RefusesToRead}
+use Rattle.md_commands.specs.Rebuilding.{RebuildsArray, RefusesToRebuild}
+use Rattle.md_commands.specs.Removing.{HandsBack, RefusesToRemove, RemovesMember}
 use Rattle.md_commands.specs.Resyncing.{RefusesToResync, ResyncsArray}
 use Rattle.md_commands.specs.Stopping.{RefusesToStop, StopsArray, StopsArrayAfter}
 use Rattle.md_commands.specs.Writing.{RefusesToWrite, WritesArray}
-use Rattle.md_images.specs.declared.access.Access.{Access}
-use Rattle.md_images.specs.declared.access.Access.TheVariants.{Change, ChangeOrLook}
 use Rattle.md_examine.specs.declared.sink.Sink.{Ghosts as SinkGhosts}
 use Rattle.md_report.specs.DetailReport.{detail_text}
 use Rattle.md_report.specs.SummaryReport.{summary_text}
 use Rattle.md_state.specs.FailingMembers.{FailsMember}
-use Rattle.md_state.specs.View.{MirrorView}
-use Rattle.md_words.specs.declared.array_task.ArrayTask.{ArrayTask}
-use Rattle.md_words.specs.declared.array_task.ArrayTask.TheVariants.{Summary, Detail, Plan, Read, Check, Write, Resync, Fail, Stop}
+use Rattle.md_state.specs.View.{Disk}
+use Rattle.md_words.specs.Asks.{Ask, assembles, details, plans, reads, checks, writes, resyncs, stops, fails, removes, adds, re_adds, rebuilds}
 use Rattle.md_advice.specs.declared.fault.CommandFault.{CommandFault}
 use Rattle.md_advice.specs.declared.fault.CommandFault.TheVariants.{Data}
+use Rattle.md_cli.specs.Opened.{OpenedView}
 use Rattle.md_cli.specs.Reports.{ShowsPlan, ShowsText}
-
--- the input and the output of a run
-pub record Streams (R S : Type 0) : Type 0 where
-  pub input : R
-  pub output : S
-
-abbrev pub streams : {R S : Type 0} → R → S → Streams R S
-streams input output = record { input = input; output = output }
-
--- how the images are opened: what writes to the array needs all of them to be changed
-abbrev pub access_of : ArrayTask → Access
-access_of Summary = ChangeOrLook
-access_of Detail = ChangeOrLook
-access_of (Plan k) = ChangeOrLook
-access_of (Read sector count) = ChangeOrLook
-access_of Check = ChangeOrLook
-access_of (Write sector) = Change
-access_of Resync = Change
-access_of (Fail k) = Change
-access_of Stop = Change
+use Rattle.md_cli.specs.Streams.{Streams}
 
 -- a fault of the commands that md_commands has
 abbrev pub OfData : (DataFault → Type 0) → CommandFault → Type 0
 OfData Refuses (Data fault) = Refuses fault
 OfData Refuses fault = ⊥
 
+module _ {S : Type 0} (s : SinkGhosts S) where
+  -- Member k leaves, and then the array is stopped and shown. Its device stands beside the array then.
+  pub record Removes (k : ℕ) (before after : OpenedView) (old new : S) (result : Result (Unit {0}) CommandFault) : Type 0 where
+    pub handed_back : HandsBack k before.mirror.disks after.mirror.disks after.beside
+    pub removes : MatchResult result
+        (λ _. StopsArrayAfter s (RemovesMember k before.mirror) after.mirror old new)
+        (OfData (RefusesToRemove s k before.mirror after.mirror old new))
+
+  -- The device beside the array joins it, and then the array is stopped and shown. If it does not join, it stands there again.
+  pub record Adds (before after : OpenedView) (old new : S) (result : Result (Unit {0}) CommandFault) : Type 0 where
+    pub device : Disk
+    pub is : before.beside ≡ Some device
+    pub kept : KeepsDevice before.mirror.disks after.mirror.disks after.beside
+    pub adds : MatchResult result
+        (λ _. StopsArrayAfter s (AddsDevice device before.mirror) after.mirror old new)
+        (OfData (RefusesToAdd s device after.beside before.mirror after.mirror old new))
+
+  -- it comes back, and gets what it lacks
+  pub record ReAdds (before after : OpenedView) (old new : S) (result : Result (Unit {0}) CommandFault) : Type 0 where
+    pub device : Disk
+    pub is : before.beside ≡ Some device
+    pub kept : KeepsDevice before.mirror.disks after.mirror.disks after.beside
+    pub re_adds : MatchResult result
+        (λ _. StopsArrayAfter s (ReAddsDevice device before.mirror) after.mirror old new)
+        (OfData (RefusesToReAdd s device after.beside before.mirror after.mirror old new))
+
 module _ {R S : Type 0} (r : SourceGhosts R) (s : SinkGhosts S) where
-  -- The mirror as it was opened and as it is left, and the streams before and after. A report leaves the mirror as it is. The
+  -- The array as it was opened and as it is left, and the streams before and after. A report leaves the array as it is. The
   -- input is read by `write` alone.
-  abbrev pub Performs : ArrayTask → MirrorView → MirrorView → Streams R S → Streams R S → Result (Unit {0}) CommandFault → Type 0
-  Performs Summary opened left old new result = (left ≡ opened) × (new.input ≡ old.input) × ShowsText s (summary_text opened.array) old.output new.output result
-  Performs Detail opened left old new result = (left ≡ opened) × (new.input ≡ old.input) × ShowsText s (detail_text opened.array) old.output new.output result
-  Performs (Plan k) opened left old new result = (left ≡ opened) × (new.input ≡ old.input) × ShowsPlan s opened.array k old.output new.output result
-  Performs (Read sector count) opened left old new result =
-      (new.input ≡ old.input)
-      × MatchResult result (λ _. ReadsArray s sector count opened left old.output new.output) (OfData (RefusesToRead s sector count opened left old.output new.output))
-  Performs Check opened left old new result =
-      (new.input ≡ old.input)
-      × MatchResult result (λ _. ChecksMembers s opened left old.output new.output) (OfData (RefusesToCheck s opened left old.output new.output))
-  Performs (Write sector) opened left old new result =
-      MatchResult result (λ _. WritesArray r s sector opened left old.input new.input old.output new.output)
-      (OfData (RefusesToWrite r s sector opened left old.input new.input old.output new.output))
-  Performs Resync opened left old new result =
-      (new.input ≡ old.input)
-      × MatchResult result (λ _. ResyncsArray s opened left old.output new.output) (OfData (RefusesToResync s opened left old.output new.output))
-  Performs (Fail k) opened left old new result =
-      (new.input ≡ old.input)
-      × MatchResult result (λ _. StopsArrayAfter s (FailsMember k opened) left old.output new.output) (OfData (RefusesToFail s k opened left old.output new.output))
-  Performs Stop opened left old new result =
-      (new.input ≡ old.input)
-      × MatchResult result (λ _. StopsArray s opened left old.output new.output) (OfData (RefusesToStop s opened left old.output new.output))
+  abbrev pub Performs : Ask → OpenedView → OpenedView → Streams R S → Streams R S → Result (Unit {0}) CommandFault → Type 0
+  Performs (assembles readonly) before after old new result =
+      (after ≡ before) × (new.input ≡ old.input) × ShowsText s (summary_text before.mirror.array) old.output new.output result
+  Performs (details readonly) before after old new result =
+      (after ≡ before) × (new.input ≡ old.input) × ShowsText s (detail_text before.mirror.array) old.output new.output result
+  Performs (plans k readonly) before after old new result =
+      (after ≡ before) × (new.input ≡ old.input) × ShowsPlan s before.mirror.array k old.output new.output result
+  Performs (reads sector count readonly) before after old new result =
+      (after.beside ≡ before.beside) × (new.input ≡ old.input)
+      × MatchResult result
+      (λ _. ReadsArray s sector count before.mirror after.mirror old.output new.output)
+      (OfData (RefusesToRead s sector count before.mirror after.mirror old.output new.output))
+  Performs (checks readonly) before after old new result =
+      (after.beside ≡ before.beside) × (new.input ≡ old.input)
+      × MatchResult result
+      (λ _. ChecksMembers s before.mirror after.mirror old.output new.output)
+      (OfData (RefusesToCheck s before.mirror after.mirror old.output new.output))
+  Performs (writes sector) before after old new result =
+      (after.beside ≡ before.beside)
+      × MatchResult result
+      (λ _. WritesArray r s sector before.mirror after.mirror old.input new.input old.output new.output)
+      (OfData (RefusesToWrite r s sector before.mirror after.mirror old.input new.input old.output new.output))
+  Performs resyncs before after old new result =
+      (after.beside ≡ before.beside) × (new.input ≡ old.input)
+      × MatchResult result
+      (λ _. ResyncsArray s before.mirror after.mirror old.output new.output)
+      (OfData (RefusesToResync s before.mirror after.mirror old.output new.output))
+  Performs stops before after old new result =
+      (after.beside ≡ before.beside) × (new.input ≡ old.input)
+      × MatchResult result
+      (λ _. StopsArray s before.mirror after.mirror old.output new.output)
+      (OfData (RefusesToStop s before.mirror after.mirror old.output new.output))
+  Performs (fails k) before after old new result =
+      (after.beside ≡ before.beside) × (new.input ≡ old.input)
+      × MatchResult result
+      (λ _. StopsArrayAfter s (FailsMember k before.mirror) after.mirror old.output new.output)
+      (OfData (RefusesToFail s k before.mirror after.mirror old.output new.output))
+  Performs (removes k) before after old new result = (new.input ≡ old.input) × Removes s k before after old.output new.output result
+  Performs (adds name) before after old new result = (new.input ≡ old.input) × Adds s before after old.output new.output result
+  Performs (re_adds name) before after old new result = (new.input ≡ old.input) × ReAdds s before after old.output new.output result
+  Performs (rebuilds k) before after old new result =
+      (after.beside ≡ before.beside) × (new.input ≡ old.input)
+      × MatchResult result
+      (λ _. RebuildsArray s k before.mirror after.mirror old.output new.output)
+      (OfData (RefusesToRebuild s k before.mirror after.mirror old.output new.output))
+  -- the others open no array
+  Performs _ before after old new result = ⊥

@@ -1,29 +1,21 @@
 -- What one run gives.
 use Rattle.md_device.specs.declared.device.Device.{Ghosts as DeviceGhosts}
-use Rattle.std.specs.Prelude.{◌≡◌, ◌≢◌, ◌⊎◌, ℕ, Bool, true, false, List, [], ◌∷◌, ◌++◌, length, Option, Some, None, Result, Ok, Err}
+use Rattle.std.specs.Prelude.{◌≡◌, ◌≢◌, ◌⊎◌, ℕ, true, false, List, [], ◌∷◌, length, Some, None, Result, Ok, Err}
 use Rattle.clap.specs.Words.{Text}
-use Rattle.md_images.specs.declared.access.Access.{Access}
-use Rattle.md_images.specs.declared.access.Access.TheVariants.{Look, Change}
+use Rattle.md_images.specs.declared.access.Access.TheVariants.{Change}
+use Rattle.md_images.specs.declared.images.Images.{Ghosts as ImagesGhosts}
 use Rattle.md_create.specs.declared.params.CreateParams.{CreateParams}
 use Rattle.md_advice.specs.declared.fault.CommandFault.{CommandFault}
 use Rattle.md_advice.specs.declared.fault.CommandFault.TheVariants as fault
 use Rattle.md_advice.specs.declared.option_fault.OptionFault.{OptionFault}
-use Rattle.md_words.specs.declared.report.Report.{Report}
-use Rattle.md_words.specs.declared.array_task.ArrayTask.{ArrayTask}
-use Rattle.md_words.specs.Asked.{Ask, Options, examines, creates, performs, removes, adds, re_adds, rebuilds}
+use Rattle.md_words.specs.Asks.{Ask, Options, access_of, creates, examines, examines_badblocks, examines_bitmap, is_readonly}
 use Rattle.md_commands.specs.declared.source.Source.{Ghosts as SourceGhosts}
 use Rattle.md_examine.specs.declared.sink.Sink.{Ghosts as SinkGhosts}
-use Rattle.md_cli.specs.Arrays.{KeepsImages, LooksAtDevices, OpensDevices, UsesImages, ViewsImages}
+use Rattle.md_cli.specs.Arrays.{KeepsImages, UsesImages, WorksOn, names_with}
+use Rattle.md_cli.specs.CreateOptions.{IsPlan, option_fault}
 use Rattle.md_cli.specs.Creating.{CreatesOn}
 use Rattle.md_cli.specs.Examining.{ExaminesOne}
-use Rattle.md_images.specs.Images.{allows}
-use Rattle.md_cli.specs.Performing.{Streams, access_of}
-use Rattle.md_cli.specs.Planning.{IsPlan, option_fault}
-use Rattle.md_cli.specs.Joining.{JoinsDevices}
-use Rattle.md_cli.specs.Rebuilding.{RebuildsDevices}
-use Rattle.md_cli.specs.Removing.{RemovesFromDevices}
-use Rattle.md_cli.specs.declared.joining.Joining.{Joining}
-use Rattle.md_cli.specs.declared.joining.Joining.TheVariants.{Added, ReAdded}
+use Rattle.md_cli.specs.Streams.{Streams}
 use Rattle.md_images.specs.Taking.{image_list}
 
 -- the status of a command: done, or refused
@@ -35,15 +27,12 @@ status_of (Err _) = 1
 abbrev pub IsIdle : {I X : Type 0} → I → I → X → X → Type 0
 IsIdle before after old new = (after ≡ before) × (new ≡ old)
 
--- whether the image under a name may be had
-abbrev pub may : {I : Type 0} → (I → Text → Bool) → Access → I → Text → Bool
-may changeable access images name = allows access (changeable images name)
-
-module _ {I D S : Type 0} (g : DeviceGhosts D) (s : SinkGhosts S) (known : I → Bool) (device_at : I → Text → Option D) (changeable : I → Text → Bool) where
+module _ {I D S : Type 0} (i : ImagesGhosts I D) (g : DeviceGhosts D) (s : SinkGhosts S) where
   -- a report on one image
-  pub record Examines (report : Report) (words : List Text) (before after : I) (old new : S) (result : Result (Unit {0}) CommandFault) : Type 0 where
+  pub record Examines (ask : Ask) (words : List Text) (before after : I) (old new : S) (result : Result (Unit {0}) CommandFault) : Type 0 where
     pub count : length words ≢ 1 → (result ≡ Err fault.BadCount) × IsIdle before after old new
-    pub one : (name : Text) → words ≡ name ∷ [] → ExaminesOne report g s.contents s.failed (known before) (device_at before) (device_at after) name old new result
+    pub one : (name : Text) → words ≡ name ∷ []
+        → ExaminesOne ask g s.contents s.failed (i.known before) (i.device_at before) (i.device_at after) name old new result
 
   -- an array is made: the options are refused, or they say what it is made from
   pub record RefusesOptions (o : Options) (words : List Text) (before after : I) (old new : S) (result : Result (Unit {0}) CommandFault) : Type 0 where
@@ -56,47 +45,29 @@ module _ {I D S : Type 0} (g : DeviceGhosts D) (s : SinkGhosts S) (known : I →
     pub sound : option_fault o (length words) ≡ None
     pub params : CreateParams
     pub planned : IsPlan o params
-    pub done : UsesImages g (CreatesOn s params words) (after ≡ before) (known before) (may changeable Change before) (device_at before) (device_at after) (image_list true words) old new result
+    pub done : UsesImages i g (CreatesOn s params words) Change (image_list true words) before after old new result
 
   abbrev pub MakesArray : Options → List Text → I → I → S → S → Result (Unit {0}) CommandFault → Type 0
-  MakesArray o words before after old new result = RefusesOptions o words before after old new result ⊎ Creates o words before after old new result
+  MakesArray o words before after old new result =
+      RefusesOptions o words before after old new result ⊎ Creates o words before after old new result
 
-  -- a member leaves an array
-  abbrev pub RemovesFromArray : ℕ → List Text → I → I → S → S → Result (Unit {0}) CommandFault → Type 0
-  RemovesFromArray k words before after old new result =
-      UsesImages g (RemovesFromDevices s k) (after ≡ before) (known before) (may changeable Change before) (device_at before) (device_at after) (image_list false words) old new result
+module _ {I D R S : Type 0} (i : ImagesGhosts I D) (g : DeviceGhosts D) (r : SourceGhosts R) (s : SinkGhosts S) where
+  -- A command with the array that the images make. Of one that may change none each of them stays as it is.
+  pub record OpensArray (ask : Ask) (words : List Text) (before after : I) (old new : Streams R S) (result : Result (Unit {0}) CommandFault) : Type 0 where
+    pub kept : is_readonly ask ≡ true → KeepsImages i before after
+    pub done : UsesImages i g (WorksOn r s ask) (access_of ask) (image_list false (names_with ask words)) before after old new result
 
-  -- the image under a name joins an array; among the images it counts after the others
-  abbrev pub JoinsArray : Joining → Text → List Text → I → I → S → S → Result (Unit {0}) CommandFault → Type 0
-  JoinsArray joining name words before after old new result =
-      UsesImages g (JoinsDevices s joining) (after ≡ before) (known before) (may changeable Change before) (device_at before) (device_at after) (image_list false (words ++ name ∷ [])) old new result
-
-  -- a member gets what it lacks
-  abbrev pub RebuildsInArray : ℕ → List Text → I → I → S → S → Result (Unit {0}) CommandFault → Type 0
-  RebuildsInArray k words before after old new result =
-      UsesImages g (RebuildsDevices s k) (after ≡ before) (known before) (may changeable Change before) (device_at before) (device_at after) (image_list false words) old new result
-
-module _ {I D R S : Type 0} (g : DeviceGhosts D) (r : SourceGhosts R) (s : SinkGhosts S) (known : I → Bool) (device_at : I → Text → Option D) (changeable asked : I → Text → Bool) where
-  -- a task with an array, whose images may only be looked at or not: if so, each of them stays as it is
-  abbrev pub PerformsOnArray : ArrayTask → Bool → List Text → I → I → Streams R S → Streams R S → Result (Unit {0}) CommandFault → Type 0
-  PerformsOnArray task true words before after old new result =
-      KeepsImages known device_at asked before after
-      × ViewsImages g (LooksAtDevices r s task) (after ≡ before) (known before) (may changeable Look before) (device_at before) (device_at after) (image_list false words) old new result
-  PerformsOnArray task false words before after old new result = UsesImages g (OpensDevices r s task) (after ≡ before) (known before) (may changeable (access_of task) before) (device_at before) (device_at after) (image_list false words) old new result
-
-  -- What each command does with the images that its words name. The input is read by a task alone.
+  -- What each command does with the images that its words name. The input is read by `write` alone.
   abbrev pub Does : Ask → List Text → I → I → Streams R S → Streams R S → Result (Unit {0}) CommandFault → Type 0
-  Does (examines report) words before after old new result = (new.input ≡ old.input) × Examines g s known device_at changeable report words before after old.output new.output result
-  Does (creates o) words before after old new result = (new.input ≡ old.input) × MakesArray g s known device_at changeable o words before after old.output new.output result
-  Does (performs task readonly) words before after old new result = PerformsOnArray task readonly words before after old new result
-  Does (removes k) words before after old new result =
-      (new.input ≡ old.input) × RemovesFromArray g s known device_at changeable k words before after old.output new.output result
-  Does (adds name) words before after old new result =
-      (new.input ≡ old.input) × JoinsArray g s known device_at changeable Added name words before after old.output new.output result
-  Does (re_adds name) words before after old new result =
-      (new.input ≡ old.input) × JoinsArray g s known device_at changeable ReAdded name words before after old.output new.output result
-  Does (rebuilds k) words before after old new result =
-      (new.input ≡ old.input) × RebuildsInArray g s known device_at changeable k words before after old.output new.output result
+  Does examines words before after old new result =
+      (new.input ≡ old.input) × Examines i g s examines words before after old.output new.output result
+  Does examines_bitmap words before after old new result =
+      (new.input ≡ old.input) × Examines i g s examines_bitmap words before after old.output new.output result
+  Does examines_badblocks words before after old new result =
+      (new.input ≡ old.input) × Examines i g s examines_badblocks words before after old.output new.output result
+  Does (creates o) words before after old new result =
+      (new.input ≡ old.input) × MakesArray i g s o words before after old.output new.output result
+  Does ask words before after old new result = OpensArray ask words before after old new result
 
   -- the command's own answer, whose status this is
   pub record DoesCommand (ask : Ask) (words : List Text) (before after : I) (old new : Streams R S) (status : ℕ) : Type 0 where

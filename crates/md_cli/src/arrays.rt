@@ -1,79 +1,97 @@
-// The commands that open a whole array.
-ghost use Rattle.std.specs.Prelude.{◌≡◌, IfOk, length, map, false};
-ghost use Rattle.md_state.specs.View.{disk_of};
-ghost use Rattle.md_cli.specs.Arrays.{OpensDevices, UsesImages};
-ghost use Rattle.md_cli.specs.Performing.{access_of, streams};
-ghost use Rattle.md_images.specs.Images.{allows};
+// The commands that open the array that images make.
+ghost use Rattle.std.specs.Prelude.{◌≡◌, ◌<◌, ◌++◌, ◌∷◌, [], IfOk, false, is_some, length, true};
 ghost use Rattle.md_images.specs.Taking.{image_list};
+ghost use Rattle.md_words.specs.Asks.{access_of, ask_of, device_of, is_readonly, opens_array};
+ghost use Rattle.md_cli.specs.Arrays.{KeepsImages, UsesImages, WorksOn, names_with, texts};
+ghost use Rattle.md_cli.specs.Streams.{streams_of};
 
+use crate::devices::with_devices;
 use crate::notices::Notices;
-use crate::performing::{access_of, perform};
+use crate::session::Session;
 use md_advice::CommandFault;
-use md_array::Mirror;
 use md_commands::{Source, Watch};
-use md_device::Device;
 use md_examine::Sink;
 use md_images::{Images, image_list, put_back, take_images};
-use md_words::ArrayTask;
-use std::alloc::Global;
+use md_words::Command;
+use std::alloc::{AllocError, Global};
+use std::sync::Wait;
 use std::thread::Threads;
 
-/// Opens devices as a mirror and does a task with it. They come back in their order. `notices` gets
-/// what the array tells as it is opened.
-pub(crate) fn perform_on_devices<
-    D: Device + Drop + Send,
-    R: Source,
-    S: Sink,
+/// Does a command with the array that images make, and puts them back; the image that is to join it counts after the
+/// others. `notices` gets what the array tells as it is opened.
+pub(crate) fn with_array<
+    I: Images,
+    T: Threads + Wait + Sync,
+    R: Source + Drop,
+    S: Sink + Drop,
     W: Watch + Sync,
-    T: Threads + Sync,
 >(
-    rt: &T,
-    alloc: Global,
-    task: ArrayTask,
-    devices: Vec<D>,
-    input: &mut R,
-    out: &mut S,
-    watch: &W,
+    session: &mut Session<'_, T, R, S, W>,
+    command: Command<'_>,
+    images: &mut I,
+    names: &[&str],
     notices: &mut Notices,
-) -> (Vec<D>, Result<(), CommandFault>)
-    ensures as_many { length result.0.items ≡ length devices.items }
-    ensures gives { OpensDevices R.Source S.Sink task (map (disk_of D.Device) devices.items) (map (disk_of D.Device) result.0.items) (streams input.old out.old) (streams input.new out.new) result.1 }
-    ensures flushed { IfOk result.1 (λ _. S.is_flushed out.new) }
+) -> Result<(), CommandFault>
+    requires opens { opens_array (ask_of command) ≡ true }
+    ensures gives { UsesImages I.Images I.Dev.Device (WorksOn R.Source S.Sink (ask_of command.entry))
+        (access_of (ask_of command.entry))
+        (image_list false (names_with (ask_of command.entry) (texts names.now)))
+        images.old images.new (streams_of session.old) (streams_of session.new) result }
+    ensures kept { is_readonly (ask_of command.entry) ≡ true → KeepsImages I.Images images.old images.new }
+    ensures flushed { IfOk result (λ _. S.is_flushed session.new.out) }
 {
-    match Mirror::open(alloc, devices) {
-        Ok(mut mirror) => {
-            notices.note(&mirror);
-            let done = perform(rt, alloc, task, &mut mirror, input, out, watch);
-            (mirror.into_devices(), done)
+    match command.device() {
+        None => with_images(session, command, images, names, notices),
+        Some(device) => {
+            let Ok(all) = with_name(session.alloc, names, device) else {
+                return Err(CommandFault::NoMemory);
+            };
+            with_images(session, command, images, all.as_slice(), notices)
         }
-        Err((devices, fault)) => (devices, Err(CommandFault::Open(fault))),
     }
 }
 
-/// Does a task with the array that images make, and puts them back. `notices` gets what the array tells as it
-/// is opened.
-pub(crate) fn perform_on_images<I: Images, R: Source, S: Sink, W: Watch + Sync, T: Threads + Sync>(
-    rt: &T,
+// The names and then one more.
+fn with_name<'a>(
     alloc: Global,
-    task: ArrayTask,
+    names: &[&'a str],
+    name: &'a str,
+) -> Result<Vec<&'a str>, AllocError>
+    ensures { IfOk result (λ all. texts all.items ≡ texts names.now ++ name.entry.now ∷ []) }
+{
+    let mut all = Vec::from_slice(alloc, names)?;
+    all.push(name)?;
+    Ok(all)
+}
+
+// The same, where the image that is to join stands last among the names.
+fn with_images<
+    I: Images,
+    T: Threads + Wait + Sync,
+    R: Source + Drop,
+    S: Sink + Drop,
+    W: Watch + Sync,
+>(
+    session: &mut Session<'_, T, R, S, W>,
+    command: Command<'_>,
     images: &mut I,
     names: &[&str],
-    input: &mut R,
-    out: &mut S,
-    watch: &W,
     notices: &mut Notices,
 ) -> Result<(), CommandFault>
-    ensures gives { UsesImages I.Dev.Device (OpensDevices R.Source S.Sink task) (images.new ≡ images.old) (I.known images.old) (λ n. allows (access_of task) (I.changeable images.old n)) (I.device_at images.old) (I.device_at images.new) (image_list false (map (λ s. s.now) names.now)) (streams input.old out.old) (streams input.new out.new) result }
-    ensures flushed { IfOk result (λ _. S.is_flushed out.new) }
+    requires opens { opens_array (ask_of command) ≡ true }
+    requires brings { is_some (device_of (ask_of command)) ≡ true → 0 < length names.now }
+    ensures gives { UsesImages I.Images I.Dev.Device (WorksOn R.Source S.Sink (ask_of command.entry))
+        (access_of (ask_of command.entry)) (image_list false (texts names.now))
+        images.old images.new (streams_of session.old) (streams_of session.new) result }
+    ensures kept { is_readonly (ask_of command.entry) ≡ true → KeepsImages I.Images images.old images.new }
+    ensures flushed { IfOk result (λ _. S.is_flushed session.new.out) }
 {
-    let Ok(list) = image_list(alloc, names, false) else {
+    let Ok(list) = image_list(session.alloc, names, false) else {
         return Err(CommandFault::NoMemory);
     };
     let words = list.as_slice();
-    let devices = take_images(alloc, access_of(task), images, words)?;
-    let (devices, result) = perform_on_devices(
-        rt, alloc, task, devices, input, out, watch, notices,
-    );
+    let devices = take_images(session.alloc, command.access(), images, words)?;
+    let (devices, result) = with_devices(session, command, devices, notices);
     put_back(images, words, devices);
     result
 }

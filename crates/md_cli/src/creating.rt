@@ -1,9 +1,7 @@
 // The command that makes an array.
-ghost use Rattle.std.specs.Prelude.{◌≡◌, ℕ, IfOk, length, map, true};
-ghost use Rattle.md_state.specs.View.{disk_of};
-ghost use Rattle.md_cli.specs.Arrays.{UsesImages};
+ghost use Rattle.std.specs.Prelude.{◌≡◌, IfOk, length, map, true};
+ghost use Rattle.md_cli.specs.Arrays.{UsesImages, disks, texts};
 ghost use Rattle.md_cli.specs.Creating.{CreatesOn};
-ghost use Rattle.md_images.specs.Images.{allows};
 ghost use Rattle.md_images.specs.Taking.{image_list, word_of};
 
 use crate::laying_out::lay_out_each;
@@ -26,10 +24,11 @@ fn create_on<D: Device + Drop, S: Sink>(
     mut devices: Vec<D>,
     out: &mut S,
 ) -> (Vec<D>, Result<(), CommandFault>)
-    requires words { map word_of words.now ≡ image_list true (map (λ s. s.now) names.now) }
+    requires words { map word_of words.now ≡ image_list true (texts names.now) }
     requires as_many { length devices.items ≡ length words.now }
     ensures as_many { length result.0.items ≡ length devices.items }
-    ensures gives { CreatesOn S.Sink params.now (map (λ s. s.now) names.now) (map (disk_of D.Device) devices.items) (map (disk_of D.Device) result.0.items) out.old out.new result.1 }
+    ensures gives { CreatesOn S.Sink params.now (texts names.now)
+        (disks D.Device devices.items) (disks D.Device result.0.items) out.old out.new result.1 }
     ensures flushed { IfOk result.1 (λ _. S.is_flushed out.new) }
 {
     let Ok(sizes) = sizes_of(alloc, names, devices.as_slice()) else {
@@ -57,7 +56,8 @@ pub(crate) fn create_images<I: Images, S: Sink>(
     names: &[&str],
     out: &mut S,
 ) -> Result<(), CommandFault>
-    ensures gives { UsesImages I.Dev.Device (CreatesOn S.Sink params.now (map (λ s. s.now) names.now)) (images.new ≡ images.old) (I.known images.old) (λ n. allows Access.Change (I.changeable images.old n)) (I.device_at images.old) (I.device_at images.new) (image_list true (map (λ s. s.now) names.now)) out.old out.new result }
+    ensures gives { UsesImages I.Images I.Dev.Device (CreatesOn S.Sink params.now (texts names.now))
+        Access.Change (image_list true (texts names.now)) images.old images.new out.old out.new result }
     ensures flushed { IfOk result (λ _. S.is_flushed out.new) }
 {
     let Ok(list) = image_list(alloc, names, true) else {

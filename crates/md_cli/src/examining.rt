@@ -1,7 +1,8 @@
 // The commands that show a report on one image.
-ghost use Rattle.std.specs.Prelude.{◌≡◌, ◌≢◌, ◌<◌, ℕ, Err, IfOk, List, [], ◌∷◌, length, map};
-ghost use Rattle.md_cli.specs.Examining.{Examines, ExaminesOne};
-ghost use Rattle.md_words.specs.declared.report.Report.TheVariants.{Superblock, Bitmap, BadBlocks};
+ghost use Rattle.std.specs.Prelude.{◌≡◌, ◌≢◌, ◌<◌, ℕ, Err, IfOk, List, [], ◌∷◌, length, true};
+ghost use Rattle.md_words.specs.Asks.{ask_of, examines, examines_badblocks, examines_bitmap};
+ghost use Rattle.md_cli.specs.Arrays.{texts};
+ghost use Rattle.md_cli.specs.Examining.{Examines, ExaminesOne, examines_image};
 
 use crate::output::pass_on;
 use md_advice::CommandFault;
@@ -9,7 +10,7 @@ use md_device::Device;
 use md_examine::{Sink, examine, examine_badblocks, examine_bitmap};
 use md_images::{Access, ImageRefusal, Images};
 use md_members::{read_member, read_super};
-use md_words::Report;
+use md_words::Command;
 use std::alloc::Global;
 
 // Shows the superblock.
@@ -20,7 +21,8 @@ fn show_superblock<D: Device, S: Sink>(
 ) -> Result<(), CommandFault>
     ensures kept { D.content device.new ≡ D.content device.old }
     ensures honest { D.honest device.new ≡ D.honest device.old }
-    ensures gives { Examines Superblock S.contents S.failed out.old out.new (D.content device.old) (D.honest device.old) (D.failures device.old < D.failures device.new) result }
+    ensures gives { Examines examines S.contents S.failed out.old out.new
+        (D.content device.old) (D.honest device.old) (D.failures device.old < D.failures device.new) result }
     ensures flushed { IfOk result (λ _. S.is_flushed out.new) }
 {
     match read_super(alloc, device) {
@@ -40,7 +42,8 @@ fn show_bitmap<D: Device, S: Sink>(
 ) -> Result<(), CommandFault>
     ensures kept { D.content device.new ≡ D.content device.old }
     ensures honest { D.honest device.new ≡ D.honest device.old }
-    ensures gives { Examines Bitmap S.contents S.failed out.old out.new (D.content device.old) (D.honest device.old) (D.failures device.old < D.failures device.new) result }
+    ensures gives { Examines examines_bitmap S.contents S.failed out.old out.new
+        (D.content device.old) (D.honest device.old) (D.failures device.old < D.failures device.new) result }
     ensures flushed { IfOk result (λ _. S.is_flushed out.new) }
 {
     let member = match read_member(alloc, device) {
@@ -67,7 +70,8 @@ fn show_badblocks<D: Device, S: Sink>(
 ) -> Result<(), CommandFault>
     ensures kept { D.content device.new ≡ D.content device.old }
     ensures honest { D.honest device.new ≡ D.honest device.old }
-    ensures gives { Examines BadBlocks S.contents S.failed out.old out.new (D.content device.old) (D.honest device.old) (D.failures device.old < D.failures device.new) result }
+    ensures gives { Examines examines_badblocks S.contents S.failed out.old out.new
+        (D.content device.old) (D.honest device.old) (D.failures device.old < D.failures device.new) result }
     ensures flushed { IfOk result (λ _. S.is_flushed out.new) }
 {
     let member = match read_member(alloc, device) {
@@ -82,32 +86,52 @@ fn show_badblocks<D: Device, S: Sink>(
 
 fn show<D: Device, S: Sink>(
     alloc: Global,
-    report: Report,
+    command: Command<'_>,
     device: &mut D,
     out: &mut S,
 ) -> Result<(), CommandFault>
+    requires one { examines_image (ask_of command) ≡ true }
     ensures kept { D.content device.new ≡ D.content device.old }
     ensures honest { D.honest device.new ≡ D.honest device.old }
-    ensures gives { Examines report S.contents S.failed out.old out.new (D.content device.old) (D.honest device.old) (D.failures device.old < D.failures device.new) result }
+    ensures gives { Examines (ask_of command.entry) S.contents S.failed out.old out.new
+        (D.content device.old) (D.honest device.old) (D.failures device.old < D.failures device.new) result }
     ensures flushed { IfOk result (λ _. S.is_flushed out.new) }
 {
-    match report {
-        Report::Superblock => show_superblock(alloc, device, out),
-        Report::Bitmap => show_bitmap(alloc, device, out),
-        Report::BadBlocks => show_badblocks(alloc, device, out),
+    match command {
+        Command::Examine => show_superblock(alloc, device, out),
+        Command::ExamineBitmap => show_bitmap(alloc, device, out),
+        Command::ExamineBadblocks => show_badblocks(alloc, device, out),
+        Command::Create(_)
+        | Command::Assemble { .. }
+        | Command::Detail { .. }
+        | Command::Plan { .. }
+        | Command::Read { .. }
+        | Command::Check { .. }
+        | Command::Write { .. }
+        | Command::Resync
+        | Command::Stop
+        | Command::Fail { .. }
+        | Command::Remove { .. }
+        | Command::Add { .. }
+        | Command::ReAdd { .. }
+        | Command::Rebuild { .. } => unreachable!(),
     }
 }
 
 /// Writes the report on the one image that is named, which is only looked at.
 pub(crate) fn examine_images<I: Images, S: Sink>(
     alloc: Global,
-    report: Report,
+    command: Command<'_>,
     images: &mut I,
     names: &[&str],
     out: &mut S,
 ) -> Result<(), CommandFault>
-    ensures count { length names.now ≢ 1 → (result ≡ Err CommandFault.BadCount) × (images.new ≡ images.old) × (out.new ≡ out.old) }
-    ensures one { (name : List ℕ) → map (λ s. s.now) names.now ≡ name ∷ [] → ExaminesOne report I.Dev.Device S.contents S.failed (I.known images.old) (I.device_at images.old) (I.device_at images.new) name out.old out.new result }
+    requires one { examines_image (ask_of command) ≡ true }
+    ensures count { length names.now ≢ 1 →
+        (result ≡ Err CommandFault.BadCount) × (images.new ≡ images.old) × (out.new ≡ out.old) }
+    ensures one { (name : List ℕ) → texts names.now ≡ name ∷ [] →
+        ExaminesOne (ask_of command.entry) I.Dev.Device S.contents S.failed (I.known images.old)
+        (I.device_at images.old) (I.device_at images.new) name out.old out.new result }
     ensures flushed { IfOk result (λ _. S.is_flushed out.new) }
 {
     if names.len() != 1 {
@@ -118,7 +142,7 @@ pub(crate) fn examine_images<I: Images, S: Sink>(
         Ok(device) => device,
         Err(fault) => return Err(CommandFault::BadImage(0, ImageRefusal::Unopened(fault))),
     };
-    let result = show(alloc, report, &mut device, out);
+    let result = show(alloc, command, &mut device, out);
     images.put(name, device);
     result
 }

@@ -2,22 +2,22 @@
 #![tactic(auto)]
 
 mod arrays;
+mod create_options;
 mod creating;
+mod devices;
 mod examining;
-mod joining;
 mod laying_out;
-mod looking;
 mod messages;
 mod notices;
+mod opened;
 mod output;
 mod performing;
-mod planning;
 mod rebuild_plan;
-mod rebuilding;
-mod removing;
 mod running;
+mod session;
 mod showing;
 mod sizing;
 
 pub use messages::Messages;
 pub use running::run;
+pub use session::Session;

@@ -1,66 +1,137 @@
 // What commands do with an opened array.
-ghost use Rattle.std.specs.Prelude.{◌≡◌, IfOk};
+ghost use Rattle.std.specs.Prelude.{◌≡◌, IfOk, is_some, true};
 ghost use Rattle.md_array.specs.Consistency.{IsConsistent};
-ghost use Rattle.md_cli.specs.Performing.{Performs, access_of, streams};
+ghost use Rattle.md_words.specs.Asks.{ask_of, device_of, opens_array};
+ghost use Rattle.md_cli.specs.Opened.{seen};
+ghost use Rattle.md_cli.specs.Performing.{Adds, Performs, ReAdds, Removes};
+ghost use Rattle.md_cli.specs.Streams.{streams_of};
 
+use crate::opened::Opened;
+use crate::session::Session;
 use crate::showing::{show_detail, show_plan, show_summary};
 use md_advice::CommandFault;
-use md_array::Mirror;
 use md_commands::{
-    Source, Watch, check_members, fail_member, read_array, resync_array, stop_array, write_array,
+    Source, Watch, add_device, check_members, fail_member, re_add_device, read_array,
+    rebuild_member, remove_member, resync_array, stop_array, write_array,
 };
 use md_device::Device;
 use md_examine::Sink;
-use md_images::Access;
-use md_words::ArrayTask;
+use md_words::Command;
 use std::alloc::Global;
+use std::sync::Wait;
 use std::thread::Threads;
 
-/// How the images of an array are opened for a task.
-pub(crate) fn access_of(task: ArrayTask) -> Access
-    ensures { result ≡ access_of task }
+/// Does a command with an opened array. The input is read by `Write` alone. `Check`, `Rebuild` and `ReAdd` alone start
+/// threads, and tell the session's `watch` of their reads.
+pub(crate) fn perform<
+    D: Device + Drop + Send,
+    T: Threads + Wait + Sync,
+    R: Source + Drop,
+    S: Sink + Drop,
+    W: Watch + Sync,
+>(
+    session: &mut Session<'_, T, R, S, W>,
+    command: Command<'_>,
+    opened: &mut Opened<D>,
+) -> Result<(), CommandFault>
+    requires sound { IsConsistent opened.old.mirror }
+    requires opens { opens_array (ask_of command) ≡ true }
+    requires brings { is_some opened.old.beside ≡ is_some (device_of (ask_of command)) }
+    ensures performs { Performs R.Source S.Sink (ask_of command.entry)
+        (seen D.Device opened.old) (seen D.Device opened.new)
+        (streams_of session.old) (streams_of session.new) result }
+    ensures flushed { IfOk result (λ _. S.is_flushed session.new.out) }
 {
-    match task {
-        ArrayTask::Summary
-        | ArrayTask::Detail
-        | ArrayTask::Plan(_)
-        | ArrayTask::Read { .. }
-        | ArrayTask::Check => Access::ChangeOrLook,
-        ArrayTask::Write { .. } | ArrayTask::Resync | ArrayTask::Fail(_) | ArrayTask::Stop =>
-            Access::Change,
+    let (rt, alloc, watch) = (session.rt, session.alloc, session.watch);
+    match command {
+        Command::Examine
+        | Command::ExamineBitmap
+        | Command::ExamineBadblocks
+        | Command::Create(_) => unreachable!(),
+        Command::Assemble { .. } => show_summary(&opened.mirror, &mut session.out),
+        Command::Detail { .. } => show_detail(&opened.mirror, &mut session.out),
+        Command::Plan { member, .. } => {
+            show_plan(alloc, member, &opened.mirror, &mut session.out)
+        }
+        Command::Read { sector, count, .. } => {
+            let out = &mut session.out;
+            Ok(read_array(alloc, &mut opened.mirror, sector, count, out)?)
+        }
+        Command::Check { .. } => {
+            Ok(check_members(rt, alloc, &mut opened.mirror, watch, &mut session.out)?)
+        }
+        Command::Write { sector } => {
+            let input = &mut session.input;
+            Ok(write_array(alloc, &mut opened.mirror, sector, input, &mut session.out)?)
+        }
+        Command::Resync => Ok(resync_array(alloc, &mut opened.mirror, &mut session.out)?),
+        Command::Stop => Ok(stop_array(&mut opened.mirror, &mut session.out)?),
+        Command::Fail { member } => {
+            Ok(fail_member(&mut opened.mirror, member, &mut session.out)?)
+        }
+        Command::Remove { member } => remove(opened, member, &mut session.out),
+        Command::Add { .. } => add(alloc, opened, &mut session.out),
+        Command::ReAdd { .. } => re_add(rt, alloc, opened, watch, &mut session.out),
+        Command::Rebuild { member } => {
+            let out = &mut session.out;
+            Ok(rebuild_member(rt, alloc, &mut opened.mirror, member, watch, out)?)
+        }
     }
 }
 
-/// Does a task with an opened array. The input is read by `Write` alone. `Check` alone starts threads, and
-/// tells `watch` of its reads.
-pub(crate) fn perform<
-    D: Device + Drop + Send,
-    R: Source,
-    S: Sink,
-    W: Watch + Sync,
-    T: Threads + Sync,
->(
-    rt: &T,
-    alloc: Global,
-    task: ArrayTask,
-    mirror: &mut Mirror<D>,
-    input: &mut R,
+// Removes the member with this index. Its device stands beside the array then, if it left.
+fn remove<D: Device + Drop, S: Sink>(
+    opened: &mut Opened<D>,
+    member: u32,
     out: &mut S,
-    watch: &W,
 ) -> Result<(), CommandFault>
-    requires sound { IsConsistent mirror.old }
-    ensures performs { Performs R.Source S.Sink task mirror.old mirror.new (streams input.old out.old) (streams input.new out.new) result }
+    requires sound { IsConsistent opened.old.mirror }
+    ensures removes { Removes S.Sink member
+        (seen D.Device opened.old) (seen D.Device opened.new) out.old out.new result }
     ensures flushed { IfOk result (λ _. S.is_flushed out.new) }
 {
-    match task {
-        ArrayTask::Summary => show_summary(mirror, out),
-        ArrayTask::Detail => show_detail(mirror, out),
-        ArrayTask::Plan(member) => show_plan(alloc, member, mirror, out),
-        ArrayTask::Read { sector, count } => Ok(read_array(alloc, mirror, sector, count, out)?),
-        ArrayTask::Check => Ok(check_members(rt, alloc, mirror, watch, out)?),
-        ArrayTask::Write { sector } => Ok(write_array(alloc, mirror, sector, input, out)?),
-        ArrayTask::Resync => Ok(resync_array(alloc, mirror, out)?),
-        ArrayTask::Fail(member) => Ok(fail_member(mirror, member, out)?),
-        ArrayTask::Stop => Ok(stop_array(mirror, out)?),
-    }
+    let (device, removed) = remove_member(&mut opened.mirror, member, out);
+    opened.beside = device;
+    Ok(removed?)
+}
+
+// Adds the device that stands beside the array. If it does not join, it stands there again.
+fn add<D: Device + Drop, S: Sink>(
+    alloc: Global,
+    opened: &mut Opened<D>,
+    out: &mut S,
+) -> Result<(), CommandFault>
+    requires sound { IsConsistent opened.old.mirror }
+    requires some { is_some opened.old.beside ≡ true }
+    ensures adds { Adds S.Sink (seen D.Device opened.old) (seen D.Device opened.new) out.old out.new result }
+    ensures flushed { IfOk result (λ _. S.is_flushed out.new) }
+{
+    let Some(device) = opened.beside.take() else {
+        unreachable!()
+    };
+    let (device, added) = add_device(alloc, &mut opened.mirror, device, out);
+    opened.beside = device;
+    Ok(added?)
+}
+
+// Takes the device back that stands beside the array, and rebuilds it. If it does not join, it stands there again.
+fn re_add<D: Device + Drop + Send, T: Threads + Wait + Sync, W: Watch + Sync, S: Sink>(
+    rt: &T,
+    alloc: Global,
+    opened: &mut Opened<D>,
+    watch: &W,
+    out: &mut S,
+) -> Result<(), CommandFault>
+    requires sound { IsConsistent opened.old.mirror }
+    requires some { is_some opened.old.beside ≡ true }
+    ensures re_adds { ReAdds S.Sink
+        (seen D.Device opened.old) (seen D.Device opened.new) out.old out.new result }
+    ensures flushed { IfOk result (λ _. S.is_flushed out.new) }
+{
+    let Some(device) = opened.beside.take() else {
+        unreachable!()
+    };
+    let (device, re_added) = re_add_device(rt, alloc, &mut opened.mirror, device, watch, out);
+    opened.beside = device;
+    Ok(re_added?)
 }

@@ -18,7 +18,8 @@ pub(crate) fn plan_rebuild<D: Device + Drop>(
     member: u32,
 ) -> Result<Planned, CommandFault>
     requires sound { IsConsistent mirror.now }
-    ensures { MatchResult result (IsRebuildPlan mirror.now.array member) (RefusesPlan mirror.now.array member) }
+    ensures { MatchResult result
+        (IsRebuildPlan mirror.now.array member) (RefusesPlan mirror.now.array member) }
 {
     let target = member as usize;
     if target >= mirror.members() {
@@ -37,7 +38,8 @@ fn plan_target<D: Device + Drop>(
 ) -> Result<Planned, RebuildFault>
     requires within { target < length mirror.now.array.members }
     requires sound { IsConsistent mirror.now }
-    ensures { MatchResult result (IsRebuildPlan mirror.now.array target) (RefusesTarget mirror.now.array target) }
+    ensures { MatchResult result
+        (IsRebuildPlan mirror.now.array target) (RefusesTarget mirror.now.array target) }
 {
     let missing = table(alloc, mirror, target)?;
     Ok(plan(alloc, &missing)?)

@@ -1,10 +1,9 @@
 // The reports on a whole array.
-ghost use Rattle.std.specs.Prelude.{◌≡◌, IfOk, length, map};
+ghost use Rattle.std.specs.Prelude.{◌≡◌, IfOk, length};
 ghost use Rattle.md_report.specs.DetailReport.{detail_text};
 ghost use Rattle.md_report.specs.SummaryReport.{summary_text};
-ghost use Rattle.md_state.specs.View.{disk_of};
 ghost use Rattle.md_array.specs.Consistency.{IsConsistent};
-ghost use Rattle.md_cli.specs.Arrays.{ShowsDevices};
+ghost use Rattle.md_cli.specs.Arrays.{ShowsDevices, disks};
 ghost use Rattle.md_cli.specs.Reports.{ShowsPlan, ShowsText};
 
 use crate::output::pass_on;
@@ -64,7 +63,8 @@ pub(crate) fn show_devices<D: Device + Drop, S: Sink>(
     out: &mut S,
 ) -> (Vec<D>, Result<(), CommandFault>)
     ensures as_many { length result.0.items ≡ length devices.items }
-    ensures gives { ShowsDevices S.Sink (map (disk_of D.Device) devices.items) (map (disk_of D.Device) result.0.items) out.old out.new result.1 }
+    ensures gives { ShowsDevices S.Sink (disks D.Device devices.items) (disks D.Device result.0.items)
+        out.old out.new result.1 }
     ensures flushed { IfOk result.1 (λ _. S.is_flushed out.new) }
 {
     match Mirror::open(alloc, devices) {

@@ -1,6 +1,6 @@
 // The sizes of the devices that an array is made of.
-ghost use Rattle.std.specs.Prelude.{◌≡◌, IfOk, drop, map};
-ghost use Rattle.md_state.specs.View.{disk_of};
+ghost use Rattle.std.specs.Prelude.{◌≡◌, IfOk, drop};
+ghost use Rattle.md_cli.specs.Arrays.{disks, texts};
 ghost use Rattle.md_cli.specs.Creating.{first_size, sizes_of};
 
 use md_device::Device;
@@ -9,7 +9,7 @@ use std::alloc::{AllocError, Global};
 
 // The size of the next device, in sectors.
 fn next_size<D: Device>(devices: &[D], next: usize) -> Option<u64>
-    ensures { result ≡ first_size (drop next (map (disk_of D.Device) devices.now)) }
+    ensures { result ≡ first_size (drop next (disks D.Device devices.now)) }
 {
     match devices.get(next) {
         Some(device) => Some(device.sectors()),
@@ -23,7 +23,7 @@ pub(crate) fn sizes_of<D: Device>(
     names: &[&str],
     devices: &[D],
 ) -> Result<Vec<Option<u64>>, AllocError>
-    ensures { IfOk result (λ sizes. sizes.items ≡ sizes_of (map (λ s. s.now) names.now) (map (disk_of D.Device) devices.now)) }
+    ensures { IfOk result (λ sizes. sizes.items ≡ sizes_of (texts names.now) (disks D.Device devices.now)) }
 {
     let mut sizes = Vec::new(alloc);
     let mut next = 0;

@@ -1,40 +1,12 @@
--- What the words ask for.
-use Rattle.std.specs.Prelude.{ℕ, ◌^◌, Bool, false, List, [], Option, Some, None, ◌&&◌, codes, length, nat_lt, option_map, unwrap_or, if◌then◌else◌}
+-- How a command comes from the words.
+use Rattle.std.specs.Prelude.{ℕ, ◌^◌, Bool, List, [], Option, Some, None, ◌&&◌, codes, length, nat_lt, option_map, unwrap_or, if◌then◌else◌}
 use Rattle.std.specs.List.{list_all}
 use Rattle.std.specs.Str.{bytes_eq}
 use Rattle.std.specs.Str.Parse.{digits_value, without_leading_plus}
 use Rattle.std.specs.Char.{digit_value}
 use Rattle.clap.specs.Words.{Row, Text, all_of, first_of, subcommand_of}
 use Rattle.md_words.specs.Words.{mdcli}
-use Rattle.md_words.specs.declared.options.CreateOptions.{CreateOptions}
-use Rattle.md_words.specs.declared.report.Report.{Report}
-use Rattle.md_words.specs.declared.array_task.ArrayTask.{ArrayTask}
-use Rattle.md_words.specs.declared.array_task.ArrayTask.TheVariants.{Summary, Detail, Plan, Read, Check, Write, Resync, Fail, Stop}
-use Rattle.md_words.specs.declared.report.Report.TheVariants.{Superblock, Bitmap, BadBlocks}
-use Rattle.md_words.specs.declared.request.Action.{Action}
-use Rattle.md_words.specs.declared.request.Action.TheVariants as action
-
--- the options of `create`
-pub record Options : Type 0 where
-  pub level : Text
-  pub raid_devices : ℕ
-  pub uuid : Text
-  pub name : Text
-  pub bitmap_chunk : ℕ
-  pub size : Option ℕ
-  pub time : ℕ
-  pub write_mostly : Option ℕ  -- the role of the member that is read only where no other can serve
-  pub assume_clean : Bool
-
--- what is to be done with the images
-pub data Ask : Type 0 where
-  examines : Report → Ask
-  creates : Options → Ask
-  performs : ArrayTask → Bool → Ask  -- whether no image may be changed
-  removes : ℕ → Ask  -- the member with this index leaves the array
-  adds : Text → Ask  -- the image under this name joins it
-  re_adds : Text → Ask  -- the image under this name, which left it, comes back and gets what it lacks
-  rebuilds : ℕ → Ask  -- the member with this index gets what it lacks
+use Rattle.md_words.specs.Asks.{Ask, Options, examines, examines_bitmap, examines_badblocks, creates, assembles, details, plans, reads, checks, writes, resyncs, stops, fails, removes, adds, re_adds, rebuilds}
 
 -- whether the text is a number: one decimal digit or more, and nothing else
 abbrev pub is_number : Text → Bool
@@ -67,51 +39,43 @@ options_in rows = record {
   assume_clean = bytes_eq (text_in (codes "assume-clean") rows) (codes "true");
 }
 
--- the report that a command on one image shows
-abbrev pub report_of : Text → Report
-report_of name = if bytes_eq name (codes "examine-bitmap") then Bitmap else if bytes_eq name (codes "examine-badblocks") then BadBlocks else Superblock
-
 -- whether the images may only be looked at
-abbrev pub is_readonly : List Row → Bool
-is_readonly rows = bytes_eq (text_in (codes "readonly") rows) (codes "true")
+abbrev pub readonly_in : List Row → Bool
+readonly_in rows = bytes_eq (text_in (codes "readonly") rows) (codes "true")
 
--- what the command of a name does with an array, where it may be asked to change no image
-abbrev pub task_of : Text → List Row → Option ArrayTask
-task_of name rows =
-    if bytes_eq name (codes "assemble") then Some Summary
-    else if bytes_eq name (codes "detail") then Some Detail
-    else if bytes_eq name (codes "plan") then Some (Plan (number_in 32 (codes "member") rows))
-    else if bytes_eq name (codes "read") then Some (Read (number_in 64 (codes "sector") rows) (number_in 64 (codes "count") rows))
-    else if bytes_eq name (codes "check") then Some Check
-    else None
+-- the member, the sector and the number of sectors that a command names
+abbrev pub member_in : List Row → ℕ
+member_in rows = number_in 32 (codes "member") rows
 
--- and where it may not be asked so
-abbrev pub change_of : Text → List Row → Option ArrayTask
-change_of name rows =
-    if bytes_eq name (codes "write") then Some (Write (number_in 64 (codes "sector") rows))
-    else if bytes_eq name (codes "resync") then Some Resync
-    else if bytes_eq name (codes "fail") then Some (Fail (number_in 32 (codes "member") rows))
-    else if bytes_eq name (codes "stop") then Some Stop
-    else None
+abbrev pub sector_in : List Row → ℕ
+sector_in rows = number_in 64 (codes "sector") rows
 
--- a command on an array, which may be asked to change no image or not, or on one image
-abbrev pub asks_by : Text → Bool → Option ArrayTask → Option ArrayTask → Ask
-asks_by name readonly (Some task) change = performs task readonly
-asks_by name readonly None (Some task) = performs task false
-asks_by name readonly None None = examines (report_of name)
+abbrev pub count_in : List Row → ℕ
+count_in rows = number_in 64 (codes "count") rows
 
 -- what the command of a name asks for
 abbrev pub asks_of : Text → List Row → Ask
 asks_of name rows =
-    if bytes_eq name (codes "create") then creates (options_in rows)
-    else if bytes_eq name (codes "remove") then removes (number_in 32 (codes "member") rows)
+    if bytes_eq name (codes "examine-bitmap") then examines_bitmap
+    else if bytes_eq name (codes "examine-badblocks") then examines_badblocks
+    else if bytes_eq name (codes "create") then creates (options_in rows)
+    else if bytes_eq name (codes "assemble") then assembles (readonly_in rows)
+    else if bytes_eq name (codes "detail") then details (readonly_in rows)
+    else if bytes_eq name (codes "plan") then plans (member_in rows) (readonly_in rows)
+    else if bytes_eq name (codes "read") then reads (sector_in rows) (count_in rows) (readonly_in rows)
+    else if bytes_eq name (codes "check") then checks (readonly_in rows)
+    else if bytes_eq name (codes "write") then writes (sector_in rows)
+    else if bytes_eq name (codes "resync") then resyncs
+    else if bytes_eq name (codes "stop") then stops
+    else if bytes_eq name (codes "fail") then fails (member_in rows)
+    else if bytes_eq name (codes "remove") then removes (member_in rows)
     else if bytes_eq name (codes "add") then adds (text_in (codes "device") rows)
     else if bytes_eq name (codes "re-add") then re_adds (text_in (codes "device") rows)
-    else if bytes_eq name (codes "rebuild") then rebuilds (number_in 32 (codes "member") rows)
-    else asks_by name (is_readonly rows) (task_of name rows) (change_of name rows)
+    else if bytes_eq name (codes "rebuild") then rebuilds (member_in rows)
+    else examines
 
 abbrev pub asks_in : Option (Text × List Row) → Ask
-asks_in None = examines Superblock
+asks_in None = examines
 asks_in (Some p) = asks_of p.0 p.1
 
 abbrev pub images_in : Option (Text × List Row) → List Text
@@ -125,26 +89,3 @@ asked words = asks_in (subcommand_of mdcli words)
 -- the image words
 unfoldable pub image_words : List Text → List Text
 image_words words = images_in (subcommand_of mdcli words)
-
--- the same of a request as it was parsed
-abbrev pub options_of : CreateOptions → Options
-options_of o = record {
-  level = o.level.now;
-  raid_devices = o.raid_devices;
-  uuid = o.uuid.now;
-  name = o.name.now;
-  bitmap_chunk = o.bitmap_chunk;
-  size = o.size;
-  time = o.time;
-  write_mostly = o.write_mostly;
-  assume_clean = o.assume_clean;
-}
-
-abbrev pub ask_of : Action → Ask
-ask_of (action.Examine report) = examines report
-ask_of (action.Create options) = creates (options_of options)
-ask_of (action.Perform task readonly) = performs task readonly
-ask_of (action.Remove k) = removes k
-ask_of (action.Add device) = adds device.now
-ask_of (action.ReAdd device) = re_adds device.now
-ask_of (action.Rebuild k) = rebuilds k

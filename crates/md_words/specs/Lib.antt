@@ -1,5 +1,7 @@
--- What the words ask for.
+-- How a command comes from the words.
 pub mod Asked
+-- What a command is, and what it may do with the images.
+pub mod Asks
 -- What clap is told of a command and its options.
 pub mod Commands
 -- The command line.

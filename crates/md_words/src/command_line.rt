@@ -88,7 +88,8 @@ fn with_options<'a>(
     options: &[OptionWords<'a>],
 ) -> Result<Command<'a>, AllocError>
     ensures app { IfOk result (λ c. app_of c ≡ fold with_option (app_of command.entry) options.now) }
-    ensures local { IfOk result (λ c. (fields_of command.entry).has_globals ≡ false → (fields_of c).has_globals ≡ false) }
+    ensures local { IfOk result (λ c. (fields_of command.entry).has_globals ≡ false
+        → (fields_of c).has_globals ≡ false) }
 {
     for option in options {
         command = command.arg(option_arg(alloc, option))?;

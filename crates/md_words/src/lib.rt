@@ -2,17 +2,15 @@
 //! words ask for.
 #![tactic(auto)]
 
-mod array_task;
+mod command;
 mod command_line;
 mod commands;
 mod help;
 mod options;
 mod parsing;
-mod report;
 mod request;
 
-pub use array_task::ArrayTask;
+pub use command::Command;
 pub use options::CreateOptions;
 pub use parsing::parse;
-pub use report::Report;
-pub use request::{Action, Request};
+pub use request::Request;

@@ -2,18 +2,19 @@
 ghost use Rattle.std.specs.Prelude.{◌≡◌, IfOk, [], codes, map, option_map, unwrap_or};
 ghost use Rattle.clap.specs.Words.{FailsBy, fault_of, first_of, found_of, matched_of, raw_values, rows_of, subcommand_of, subcommand_rows_of};
 ghost use Rattle.md_words.specs.Words.{mdcli};
-ghost use Rattle.md_words.specs.Asked.{ask_of, asked, asks_in, asks_of, change_of, image_words, images_in, is_readonly, number_in, number_of, options_in, options_of, task_of, text_in};
+ghost use Rattle.md_words.specs.Asked.{asked, asks_in, asks_of, image_words, images_in, member_in, number_in, number_of, options_in, readonly_in, text_in};
+ghost use Rattle.md_words.specs.Asks.{ask_of, options_of};
 
-use crate::array_task::ArrayTask;
+use crate::command::Command;
 use crate::command_line::command_line;
 use crate::options::CreateOptions;
-use crate::report::{Report, report_named};
-use crate::request::{Action, Request};
+use crate::request::Request;
 use clap::{ArgMatches, Error};
 use std::alloc::{AllocError, Global};
 
 fn matches<'a>(alloc: Global, words: &'a [&'a str]) -> Result<ArgMatches<'a>, Error>
-    ensures ok { IfOk result (λ m. subcommand_rows_of m ≡ subcommand_of mdcli (map (λ s. s.now) words.entry.now)) }
+    ensures ok { IfOk result
+        (λ m. subcommand_rows_of m ≡ subcommand_of mdcli (map (λ s. s.now) words.entry.now)) }
     ensures fails { FailsBy (fault_of mdcli (map (λ s. s.now) words.entry.now)) result }
 {
     command_line(alloc)?.try_get_matches_from(words)
@@ -43,14 +44,16 @@ fn text_of<'a>(found: &ArgMatches<'a>, name: &str) -> &'a str
 }
 
 fn size_of(found: &ArgMatches<'_>) -> Option<u64>
-    ensures { result ≡ option_map (number_of 64) (first_of (codes "size") (rows_of (found_of found.now))) }
+    ensures { result
+        ≡ option_map (number_of 64) (first_of (codes "size") (rows_of (found_of found.now))) }
 {
     let text = found.get_str("size")?;
     Some(u64_of(text))
 }
 
 fn write_mostly_of(found: &ArgMatches<'_>) -> Option<u32>
-    ensures { result ≡ option_map (number_of 32) (first_of (codes "write-mostly") (rows_of (found_of found.now))) }
+    ensures { result
+        ≡ option_map (number_of 32) (first_of (codes "write-mostly") (rows_of (found_of found.now))) }
 {
     let text = found.get_str("write-mostly")?;
     Some(u32_of(text))
@@ -73,7 +76,7 @@ fn create_options<'a>(found: &ArgMatches<'a>) -> CreateOptions<'a>
 }
 
 fn is_readonly(found: &ArgMatches<'_>) -> bool
-    ensures { result ≡ is_readonly (rows_of (found_of found.now)) }
+    ensures { result ≡ readonly_in (rows_of (found_of found.now)) }
 {
     text_of(found, "readonly") == "true"
 }
@@ -87,103 +90,101 @@ fn number_of<'a>(found: &ArgMatches<'a>, name: &str) -> u64
 
 // The index of the member that a command names, 0 where it names none.
 fn member_of(found: &ArgMatches<'_>) -> u32
-    ensures { result ≡ number_in 32 (codes "member") (rows_of (found_of found.now)) }
+    ensures { result ≡ member_in (rows_of (found_of found.now)) }
 {
     u32_of(text_of(found, "member"))
 }
 
-// What the command of a name does with an array, where it may be asked to change no image.
-fn task_of(name: &str, found: &ArgMatches<'_>) -> Option<ArrayTask>
-    ensures { result ≡ task_of name.now (rows_of (found_of found.now)) }
-{
-    if name == "assemble" {
-        return Some(ArrayTask::Summary);
-    }
-    if name == "detail" {
-        return Some(ArrayTask::Detail);
-    }
-    if name == "plan" {
-        return Some(ArrayTask::Plan(member_of(found)));
-    }
-    if name == "read" {
-        let sector = number_of(found, "sector");
-        let count = number_of(found, "count");
-        return Some(ArrayTask::Read { sector, count });
-    }
-    if name == "check" {
-        return Some(ArrayTask::Check);
-    }
-    None
-}
-
-// What the command of a name does with an array, where it may not be asked so.
-fn change_of(name: &str, found: &ArgMatches<'_>) -> Option<ArrayTask>
-    ensures { result ≡ change_of name.now (rows_of (found_of found.now)) }
-{
-    if name == "write" {
-        let sector = number_of(found, "sector");
-        return Some(ArrayTask::Write { sector });
-    }
-    if name == "resync" {
-        return Some(ArrayTask::Resync);
-    }
-    if name == "fail" {
-        return Some(ArrayTask::Fail(member_of(found)));
-    }
-    if name == "stop" {
-        return Some(ArrayTask::Stop);
-    }
-    None
-}
-
-// What the command of a name asks for.
-fn action_of<'a>(name: &str, found: &ArgMatches<'a>) -> Action<'a>
+// The command of a name, with the values of its options.
+fn command_of<'a>(name: &str, found: &ArgMatches<'a>) -> Command<'a>
     ensures { ask_of result ≡ asks_of name.now (rows_of (found_of found.now)) }
 {
-    if name == "create" {
-        return Action::Create(create_options(found));
+    if name == "examine-bitmap" {
+        Command::ExamineBitmap
+    } else if name == "examine-badblocks" {
+        Command::ExamineBadblocks
+    } else if name == "create" {
+        Command::Create(create_options(found))
+    } else if name == "assemble" {
+        Command::Assemble {
+            readonly: is_readonly(found),
+        }
+    } else if name == "detail" {
+        Command::Detail {
+            readonly: is_readonly(found),
+        }
+    } else if name == "plan" {
+        Command::Plan {
+            member: member_of(found),
+            readonly: is_readonly(found),
+        }
+    } else if name == "read" {
+        let sector = number_of(found, "sector");
+        let count = number_of(found, "count");
+        Command::Read {
+            sector,
+            count,
+            readonly: is_readonly(found),
+        }
+    } else if name == "check" {
+        Command::Check {
+            readonly: is_readonly(found),
+        }
+    } else if name == "write" {
+        Command::Write {
+            sector: number_of(found, "sector"),
+        }
+    } else if name == "resync" {
+        Command::Resync
+    } else if name == "stop" {
+        Command::Stop
+    } else if name == "fail" {
+        Command::Fail {
+            member: member_of(found),
+        }
+    } else if name == "remove" {
+        Command::Remove {
+            member: member_of(found),
+        }
+    } else if name == "add" {
+        Command::Add {
+            device: text_of(found, "device"),
+        }
+    } else if name == "re-add" {
+        Command::ReAdd {
+            device: text_of(found, "device"),
+        }
+    } else if name == "rebuild" {
+        Command::Rebuild {
+            member: member_of(found),
+        }
+    } else {
+        Command::Examine
     }
-    if name == "remove" {
-        return Action::Remove(member_of(found));
-    }
-    if name == "add" {
-        return Action::Add(text_of(found, "device"));
-    }
-    if name == "re-add" {
-        return Action::ReAdd(text_of(found, "device"));
-    }
-    if name == "rebuild" {
-        return Action::Rebuild(member_of(found));
-    }
-    if let Some(task) = task_of(name, found) {
-        return Action::Perform(task, is_readonly(found));
-    }
-    if let Some(task) = change_of(name, found) {
-        return Action::Perform(task, false);
-    }
-    Action::Examine(report_named(name))
 }
 
 fn requested<'a>(alloc: Global, matches: &ArgMatches<'a>) -> Result<Request<'a>, AllocError>
-    ensures asks { IfOk result (λ r. ask_of r.action ≡ asks_in (subcommand_rows_of matches.now)) }
-    ensures images { IfOk result (λ r. map (λ s. s.now) r.images.items ≡ images_in (subcommand_rows_of matches.now)) }
+    ensures asks { IfOk result (λ r. ask_of r.command ≡ asks_in (subcommand_rows_of matches.now)) }
+    ensures images { IfOk result
+        (λ r. map (λ s. s.now) r.images.items ≡ images_in (subcommand_rows_of matches.now)) }
 {
     let Some((name, found)) = matches.subcommand() else {
         return Ok(Request {
-            action: Action::Examine(Report::Superblock),
+            command: Command::Examine,
             images: Vec::new(alloc),
         });
     };
     let images = image_list(alloc, found)?;
     Ok(Request {
-        action: action_of(name, found),
+        command: command_of(name, found),
         images,
     })
 }
 
 // The images that a command's matches name.
 fn image_list<'a>(alloc: Global, found: &ArgMatches<'a>) -> Result<Vec<&'a str>, AllocError>
-    ensures { IfOk result (λ images. map (λ s. s.now) images.items ≡ unwrap_or (option_map raw_values (matched_of (found_of found.now) (codes "image"))) []) }
+    ensures { IfOk result (λ images. map (λ s. s.now) images.items
+        ≡ unwrap_or (option_map raw_values (matched_of (found_of found.now) (codes "image"))) []) }
 {
     let Some(images) = found.get_strs("image") else {
         return Ok(Vec::new(alloc));
@@ -194,7 +195,7 @@ fn image_list<'a>(alloc: Global, found: &ArgMatches<'a>) -> Result<Vec<&'a str>,
 /// What the words ask for, or why the words are not taken.
 #[tactic(auto, unfolding(crate::specs::Asked::image_words, crate::specs::Asked::asked))]
 pub fn parse<'a>(alloc: Global, words: &'a [&'a str]) -> Result<Request<'a>, Error>
-    ensures asks { IfOk result (λ r. ask_of r.action ≡ asked (map (λ s. s.now) words.entry.now)) }
+    ensures asks { IfOk result (λ r. ask_of r.command ≡ asked (map (λ s. s.now) words.entry.now)) }
     ensures images { IfOk result (λ r. map (λ s. s.now) r.images.items ≡ image_words (map (λ s. s.now) words.entry.now)) }
     ensures fails { FailsBy (fault_of mdcli (map (λ s. s.now) words.entry.now)) result }
 {

@@ -12,10 +12,10 @@ mod watched;
 use crate::cleared::Cleared;
 use crate::files::FileImages;
 use crate::progress::{Progress, WatchedTask};
-use md_cli::{Messages, run};
+use md_cli::{Messages, Session, run};
 use md_commands::Input;
 use md_examine::{Buffered, Output};
-use md_words::{Action, ArrayTask, parse};
+use md_words::{Command, parse};
 use std::alloc::{AllocError, Global};
 use std::fs::File;
 use std::io::{self, IsTerminal};
@@ -40,45 +40,48 @@ fn main(rt: HostRuntime) -> ExitCode {
         let _ = eprintln!(rt; "mdcli: NoMemory");
         return ExitCode::from(WORDS_NOT_TAKEN);
     };
+    let words = words.as_slice();
+    let parsed = parse(rt.alloc(), words);
+    let task = match &parsed {
+        Ok(request) => watched_task(request.command),
+        Err(_) => None,
+    };
     let err = rt.stderr();
     let (messages, task) = if err.is_terminal() {
-        (
-            Messages::WithAdvice,
-            watched_task(rt.alloc(), words.as_slice()),
-        )
+        (Messages::WithAdvice, task)
     } else {
         (Messages::Plain, None)
     };
     let progress = Progress::new(&rt, task);
-    let mut input = Input::new(rt.stdin());
     // Output that goes elsewhere leaves the line as it is.
     let is_beside = rt.stdout().is_terminal();
     let out = Cleared::new(io::writer(&rt), &progress, is_beside);
+    let mut session = Session {
+        rt: &rt,
+        alloc: rt.alloc(),
+        input: Input::new(rt.stdin()),
+        out: Buffered::new(rt.alloc(), Output::new(out)),
+        watch: &progress,
+    };
     let status = run(
-        &rt,
-        rt.alloc(),
-        words.as_slice(),
+        &mut session,
+        words,
+        parsed,
         &mut FileImages::new(&rt, &progress),
-        &mut input,
-        &mut Buffered::new(rt.alloc(), Output::new(out)),
         &mut Cleared::new(err, &progress, true),
-        &progress,
         messages,
     );
     progress.clear();
     ExitCode::from(status)
 }
 
-// The task that the words ask for, where its progress is shown.
-fn watched_task(alloc: Global, words: &[&str]) -> Option<WatchedTask> {
-    let request = parse(alloc, words).ok()?;
-    match request.action {
-        Action::Perform(ArrayTask::Read { count, .. }, _) => {
-            Some(WatchedTask::Read(count.saturating_mul(512)))
-        }
-        Action::Perform(ArrayTask::Resync, _) => Some(WatchedTask::Resync),
-        Action::Perform(ArrayTask::Check, _) => Some(WatchedTask::Check),
-        Action::Rebuild(_) | Action::ReAdd(_) => Some(WatchedTask::Rebuild),
+// The task of a command, where its progress is shown.
+fn watched_task(command: Command<'_>) -> Option<WatchedTask> {
+    match command {
+        Command::Read { count, .. } => Some(WatchedTask::Read(count.saturating_mul(512))),
+        Command::Resync => Some(WatchedTask::Resync),
+        Command::Check { .. } => Some(WatchedTask::Check),
+        Command::Rebuild { .. } | Command::ReAdd { .. } => Some(WatchedTask::Rebuild),
         _ => None,
     }
 }

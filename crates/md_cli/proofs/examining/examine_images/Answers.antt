@@ -1,6 +1,7 @@
 use Rattle.std.proofs.Common.{◌≡◌, ◌∙◌, List, [], ◌∷◌, ℕ, map, subst, inl}
 use Rattle.std.specs.Borrow.{Bor}
 use Rattle.std.specs.Prelude.{slice_index_or}
+use Rattle.md_words.specs.Asks.{ask_of}
 use Rattle.md_cli.specs.Examining.{ExaminesOne}
 use Rattle.md_cli.proofs.examining.examine_images.Goals as goal
 
@@ -15,7 +16,7 @@ pub returns-clause-one : goal.returns-clause-one
 returns-clause-one g c = λ name is.
     let at = g.I.Images.device_at in
     let known = g.I.Images.known c.args.images.now in
-    subst (λ (n : List ℕ). ExaminesOne c.args.report g.I.Dev.Device g.S.Sink.contents g.S.Sink.failed known (at c.args.images.now) (at c.put.new.self) n c.args.out.now c.show-result.new.out c.show-result.result) (only_name c.args.names.now name is)
+    subst (λ (n : List ℕ). ExaminesOne (ask_of c.args.command) g.I.Dev.Device g.S.Sink.contents g.S.Sink.failed known (at c.args.images.now) (at c.put.new.self) n c.args.out.now c.show-result.new.out c.show-result.result) (only_name c.args.names.now name is)
     (inl (record {
       taken = c.in-Ok.device;
       given = c.show-result.new.device;

@@ -1,14 +1,14 @@
 use Rattle.std.proofs.Common.{◌∙◌, ap, inl, inr, refl}
 use Rattle.std.proofs.lemmas.List.{length-map}
-use Rattle.md_words.specs.Asked.{options_of}
-use Rattle.md_cli.specs.Planning.{option_fault}
+use Rattle.md_words.specs.Asks.{options_of}
+use Rattle.md_cli.specs.CreateOptions.{option_fault}
 use Rattle.md_cli.proofs.running.create_array.Goals as goal
 
 pub returns-in-Ok-clause-gives : goal.returns-in-Ok-clause-gives
 returns-in-Ok-clause-gives g c = inr (record {
   sound = ap (option_fault (options_of c.args.options)) (length-map c.args.names.now (λ s. s.now)) ∙ c.in-Ok.ensures.sound;
   params = c.in-Ok.params;
-  planned = c.in-Ok.ensures.plan;
+  planned = c.in-Ok.ensures.params;
   done = c.create_images.ensures.gives;
 })
 

@@ -1,24 +1,29 @@
-use Rattle.std.proofs.Common.{◌≡◌, ap, ◌∙◌, inr, map, List, subst}
-use Rattle.std.specs.Borrow.{Bor}
-use Rattle.clap.specs.Words.{Text}
-use Rattle.md_words.specs.Asked.{Ask, asked, image_words}
-use Rattle.md_cli.specs.Performing.{streams}
+use Rattle.std.proofs.Common.{◌≡◌, ap, ◌∙◌, inr, IfOk, List, subst}
+use Rattle.clap.specs.Words.{FailsBy, Text, fault_of}
+use Rattle.md_words.specs.Words.{mdcli}
+use Rattle.md_words.specs.Asked.{asked, image_words}
+use Rattle.md_words.specs.Asks.{Ask, ask_of}
+use Rattle.md_cli.specs.Arrays.{texts}
 use Rattle.md_cli.specs.Running.{Does}
+use Rattle.md_cli.specs.Streams.{streams_of}
 use Rattle.md_cli.proofs.Flushed.{when_done}
 use Rattle.md_cli.proofs.running.run.Goals as goal
 
-abbrev texts : List (Bor Text) → List Text
-texts = map (λ s. s.now)
+pub returns-clause-refused : goal.returns-clause-refused
+returns-clause-refused g c = λ other. absurd (other (subst (λ parsed. FailsBy (fault_of mdcli (texts c.args.words.now)) parsed) c.in-Ok.is c.requires.fails))
 
 pub returns-clause-taken : goal.returns-clause-taken
 returns-clause-taken g c taken =
-    let names_are : texts c.as_slice-names.result.now ≡ image_words (texts c.args.words.now) = ap texts c.as_slice-names.ensures.value ∙ c.in-Ok.ensures.images in
+    let words = texts c.args.words.now in
+    let asks : ask_of c.in-Ok.request.command ≡ asked words = subst (λ parsed. IfOk parsed (λ r. ask_of r.command ≡ asked words)) c.in-Ok.is c.requires.asks in
+    let images : texts c.in-Ok.request.images.items ≡ image_words words = subst (λ parsed. IfOk parsed (λ r. texts r.images.items ≡ image_words words)) c.in-Ok.is c.requires.images in
+    let names_are : texts c.as_slice-names.result.now ≡ image_words words = ap texts c.as_slice-names.ensures.value ∙ images in
     let Doing : Ask → List Text → Type 0 =
-    λ ask names. Does g.I.Dev.Device g.R.Source g.S.Sink g.I.Images.known g.I.Images.device_at g.I.Images.changeable g.I.Images.asked ask names c.args.images.now c.act-outcome.new.images (streams c.args.input.now c.args.out.now) (streams c.act-outcome.new.input c.act-outcome.new.out) c.act-outcome.result in
+    λ ask names. Does g.I.Images g.I.Dev.Device g.R.Source g.S.Sink ask names c.args.images.now c.act-outcome.new.images (streams_of c.args.session.now) (streams_of c.act-outcome.new.session) c.act-outcome.result in
     inr (record {
       result = c.act-outcome.result;
       status_is = c.answer.ensures;
-      does = subst (λ names. Doing (asked (texts c.args.words.now)) names) names_are (subst (λ ask. Doing ask (texts c.as_slice-names.result.now)) c.in-Ok.ensures.asks c.act-outcome.ensures.gives);
+      does = subst (λ names. Doing (asked words) names) names_are (subst (λ ask. Doing ask (texts c.as_slice-names.result.now)) asks c.act-outcome.ensures.gives);
     })
 
 pub returns-clause-flushed : goal.returns-clause-flushed

@@ -7,7 +7,7 @@ pub returns-clause-asks : goal.returns-clause-asks
 returns-clause-asks c =
     let found = found_of c.in-Some.found.now in
     let is : subcommand_rows_of c.args.matches.now ≡ Some (c.in-Some.name.now, rows_of found) = subcommand_is c.args.matches.now c.in-Some.name.now (rows_of found) (sym c.in-Some.ensures.name) (sym c.in-Some.ensures.rows) in
-    c.action_of.ensures ∙ asks_read c.args.matches.now c.in-Some.name.now found is
+    c.command_of.ensures ∙ asks_read c.args.matches.now c.in-Some.name.now found is
 
 pub returns-clause-images : goal.returns-clause-images
 returns-clause-images c =

@@ -1,0 +1,17 @@
+use Rattle.std.proofs.Common.{◌≡◌, ◌∙◌, List, map, ap, subst, inl}
+use Rattle.md_state.specs.View.{Disk, disk_of}
+use Rattle.md_words.specs.Asks.{ask_of}
+use Rattle.md_cli.specs.Arrays.{OpensDevices, disks, overlaid}
+use Rattle.md_cli.specs.Streams.{streams_of}
+use Rattle.md_cli.proofs.Overlaid.{overlay_ghosts, shown_over}
+use Rattle.md_cli.proofs.devices.look_at_devices.Goals as goal
+
+pub returns-clause-gives : goal.returns-clause-gives
+returns-clause-gives g c =
+    let over : disks overlay_ghosts c.in-Ok.overlays.items ≡ map overlaid (disks g.D.Device c.args.devices.now) = ap (map (disk_of overlay_ghosts)) c.in-Ok.ensures ∙ shown_over g.D.Device c.args.devices.now in
+    let done = c.open_devices-overlays in
+    let seen = disks overlay_ghosts done.result.0.items in
+    inl (record {
+      seen = seen;
+      opened = subst (λ (all : List Disk). OpensDevices g.R.Source g.S.Sink (ask_of c.args.command) all seen (streams_of c.args.session.now) (streams_of done.new.session) done.result.1) over done.ensures.gives;
+    })

@@ -1,0 +1,158 @@
+// What commands do with the devices of images, as an array.
+ghost use Rattle.std.specs.Prelude.{◌≡◌, ◌+◌, ◌<◌, ◌≤◌, [], IfOk, is_some, length, option_map, true, vec_capacity};
+ghost use Rattle.md_state.specs.View.{disk_of};
+ghost use Rattle.md_words.specs.Asks.{ask_of, device_of, is_readonly, opens_array};
+ghost use Rattle.md_cli.specs.Arrays.{LooksAtDevices, OpensDevices, OpensMembers, WorksOn, disks};
+ghost use Rattle.md_cli.specs.Opened.{count, moves_device};
+ghost use Rattle.md_cli.specs.Streams.{streams_of};
+
+use crate::notices::Notices;
+use crate::opened::{Opened, all_back, room_for};
+use crate::performing::perform;
+use crate::session::Session;
+use md_advice::CommandFault;
+use md_array::Mirror;
+use md_commands::{Source, Watch};
+use md_device::Device;
+use md_examine::Sink;
+use md_images::{SharedRead, lay_over};
+use md_words::Command;
+use std::sync::Wait;
+use std::thread::Threads;
+
+/// Does a command with the array that devices make, of which the last is the one that is to join it. They come back in
+/// their order. `notices` gets what the array tells as it is opened.
+pub(crate) fn with_devices<
+    D: SharedRead + Drop + Send + Sync,
+    T: Threads + Wait + Sync,
+    R: Source + Drop,
+    S: Sink + Drop,
+    W: Watch + Sync,
+>(
+    session: &mut Session<'_, T, R, S, W>,
+    command: Command<'_>,
+    devices: Vec<D>,
+    notices: &mut Notices,
+) -> (Vec<D>, Result<(), CommandFault>)
+    requires opens { opens_array (ask_of command) ≡ true }
+    requires brings { is_some (device_of (ask_of command)) ≡ true → 0 < length devices.items }
+    ensures as_many { length result.0.items ≡ length devices.items }
+    ensures kept { is_readonly (ask_of command.entry) ≡ true → result.0.items ≡ devices.items }
+    ensures gives { WorksOn R.Source S.Sink (ask_of command.entry)
+        (disks D.Device devices.items) (disks D.Device result.0.items)
+        (streams_of session.old) (streams_of session.new) result.1 }
+    ensures flushed { IfOk result.1 (λ _. S.is_flushed session.new.out) }
+{
+    if command.is_readonly() {
+        let result = look_at_devices(session, command, &devices, notices);
+        return (devices, result);
+    }
+    open_devices(session, command, devices, notices)
+}
+
+// The same with devices that are only looked at: what is written to the array is kept in memory.
+fn look_at_devices<
+    D: SharedRead + Drop + Sync,
+    T: Threads + Wait + Sync,
+    R: Source + Drop,
+    S: Sink + Drop,
+    W: Watch + Sync,
+>(
+    session: &mut Session<'_, T, R, S, W>,
+    command: Command<'_>,
+    devices: &[D],
+    notices: &mut Notices,
+) -> Result<(), CommandFault>
+    requires opens { opens_array (ask_of command) ≡ true }
+    requires brings { is_some (device_of (ask_of command)) ≡ true → 0 < length devices.now }
+    ensures gives { LooksAtDevices R.Source S.Sink (ask_of command.entry) (disks D.Device devices.now)
+        (streams_of session.old) (streams_of session.new) result }
+    ensures flushed { IfOk result (λ _. S.is_flushed session.new.out) }
+{
+    let Ok(overlays) = lay_over(session.alloc, devices) else {
+        return Err(CommandFault::NoMemory);
+    };
+    let (overlays, result) = open_devices(session, command, overlays, notices);
+    drop(overlays);
+    // None were stored but in memory.
+    notices.forget_marks();
+    result
+}
+
+// Opens devices as an array, but for the one that is to join it, and does a command with it.
+fn open_devices<
+    D: Device + Drop + Send,
+    T: Threads + Wait + Sync,
+    R: Source + Drop,
+    S: Sink + Drop,
+    W: Watch + Sync,
+>(
+    session: &mut Session<'_, T, R, S, W>,
+    command: Command<'_>,
+    mut devices: Vec<D>,
+    notices: &mut Notices,
+) -> (Vec<D>, Result<(), CommandFault>)
+    requires opens { opens_array (ask_of command) ≡ true }
+    requires brings { is_some (device_of (ask_of command)) ≡ true → 0 < length devices.items }
+    ensures as_many { length result.0.items ≡ length devices.items }
+    ensures gives { OpensDevices R.Source S.Sink (ask_of command.entry)
+        (disks D.Device devices.items) (disks D.Device result.0.items)
+        (streams_of session.old) (streams_of session.new) result.1 }
+    ensures flushed { IfOk result.1 (λ _. S.is_flushed session.new.out) }
+{
+    let Ok(list) = room_for(session.alloc, command, devices.len()) else {
+        return (devices, Err(CommandFault::NoMemory));
+    };
+    match command.device() {
+        None => open_members(session, command, devices, None, list, notices),
+        Some(_) => {
+            let Some(device) = devices.pop() else {
+                unreachable!()
+            };
+            open_members(session, command, devices, Some(device), list, notices)
+        }
+    }
+}
+
+// Opens the devices of the members as an array, and does a command with it and with the device that is to join it. All of
+// them come back in the order of their images, in a list that is empty and has room for them.
+fn open_members<
+    D: Device + Drop + Send,
+    T: Threads + Wait + Sync,
+    R: Source + Drop,
+    S: Sink + Drop,
+    W: Watch + Sync,
+>(
+    session: &mut Session<'_, T, R, S, W>,
+    command: Command<'_>,
+    members: Vec<D>,
+    beside: Option<D>,
+    list: Vec<D>,
+    notices: &mut Notices,
+) -> (Vec<D>, Result<(), CommandFault>)
+    requires opens { opens_array (ask_of command) ≡ true }
+    requires brings { is_some beside ≡ is_some (device_of (ask_of command)) }
+    requires empty { list.items ≡ [] }
+    requires room { moves_device (ask_of command) ≡ true →
+        length members.items + count beside ≤ vec_capacity list }
+    ensures as_many { length result.0.items ≡ length members.items + count beside }
+    ensures gives { OpensMembers R.Source S.Sink (ask_of command.entry)
+        (disks D.Device members.items) (option_map (disk_of D.Device) beside)
+        (disks D.Device result.0.items)
+        (streams_of session.old) (streams_of session.new) result.1 }
+    ensures flushed { IfOk result.1 (λ _. S.is_flushed session.new.out) }
+{
+    match Mirror::open(session.alloc, members) {
+        Ok(mirror) => {
+            notices.note(&mirror);
+            let mut opened = Opened { mirror, beside };
+            let done = perform(session, command, &mut opened);
+            let members = opened.mirror.into_devices();
+            (all_back(command, list, members, opened.beside), done)
+        }
+        Err((members, fault)) => {
+            let devices = all_back(command, list, members, beside);
+            (devices, Err(CommandFault::Open(fault)))
+        }
+    }
+}

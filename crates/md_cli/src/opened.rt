@@ -1,0 +1,71 @@
+// An opened array, and a device beside it.
+ghost use Rattle.std.specs.Prelude.{◌≡◌, ◌<◌, ◌≤◌, [], IfErr, IfOk, is_some, length, true, vec_capacity};
+ghost use Rattle.md_words.specs.Asks.{ask_of, device_of, leaving_of};
+ghost use Rattle.md_cli.specs.Opened.{moves_device, place_of, with_beside};
+
+use md_array::Mirror;
+use md_device::Device;
+use md_words::Command;
+use std::alloc::{AllocError, Global};
+
+/// An array as a mirror, and a device that is none of its members': before a command one that is to join, and after it
+/// one that did not, or that of a member which left.
+#[derive(Drop)]
+pub(crate) struct Opened<D: Device + Drop> {
+    pub(crate) mirror: Mirror<D>,
+    pub(crate) beside: Option<D>,
+}
+
+/// A list that is empty. Where a device may come back from beside the array, it has room for so many.
+pub(crate) fn room_for<D>(
+    alloc: Global,
+    command: Command<'_>,
+    count: usize,
+) -> Result<Vec<D>, AllocError>
+    ensures empty { IfOk result (λ list. list.items ≡ []) }
+    ensures room { IfOk result
+        (λ list. moves_device (ask_of command.entry) ≡ true → count ≤ vec_capacity list) }
+    ensures memory { IfErr result (λ _. moves_device (ask_of command.entry) ≡ true) }
+{
+    if command.device().is_some() || command.leaving().is_some() {
+        return Vec::with_capacity(alloc, count);
+    }
+    Ok(Vec::new(alloc))
+}
+
+// The place among all devices of the one beside the array: that of the member that left, or the last.
+fn place_of(command: Command<'_>, last: usize) -> usize
+    ensures { result ≡ place_of (ask_of command.entry) last }
+{
+    match command.leaving() {
+        Some(member) => member as usize,
+        None => last,
+    }
+}
+
+/// All devices, those of the members and the one beside them, in the order of their images, in a list that is empty and
+/// has room for them.
+pub(crate) fn all_back<D: Drop>(
+    command: Command<'_>,
+    mut list: Vec<D>,
+    mut members: Vec<D>,
+    beside: Option<D>,
+) -> Vec<D>
+    requires empty { list.items ≡ [] }
+    requires room { is_some beside ≡ true → length members.items < vec_capacity list }
+    requires within { is_some beside ≡ true →
+        place_of (ask_of command) (length members.items) ≤ length members.items }
+    ensures { result.items ≡ with_beside (ask_of command.entry) members.items beside }
+{
+    let Some(device) = beside else {
+        return members;
+    };
+    let place = place_of(command, members.len());
+    if list.append(&mut members).is_err() {
+        unreachable!()
+    }
+    if list.insert(place, device).is_err() {
+        unreachable!()
+    }
+    list
+}

@@ -1,0 +1,13 @@
+// What a run has of the machine.
+use std::alloc::Global;
+
+/// What each command is given of the machine that it runs on: what starts threads, the memory, the input, the output,
+/// and who is told of a rebuild or a check.
+#[derive(Drop)]
+pub struct Session<'a, T, R: Drop, S: Drop, W> {
+    pub rt: &'a T,
+    pub alloc: Global,
+    pub input: R,
+    pub out: S,
+    pub watch: &'a W,
+}

@@ -1,0 +1,125 @@
+-- What a command is, and what it may do with the images.
+use Rattle.std.specs.Prelude.{ℕ, Bool, true, false, Option, Some, None, if◌then◌else◌}
+use Rattle.clap.specs.Words.{Text}
+use Rattle.md_images.specs.declared.access.Access.{Access}
+use Rattle.md_images.specs.declared.access.Access.TheVariants.{Change, ChangeOrLook, Look}
+use Rattle.md_words.specs.declared.options.CreateOptions.{CreateOptions}
+use Rattle.md_words.specs.declared.command.Command.{Command}
+use Rattle.md_words.specs.declared.command.Command.TheVariants as command
+
+-- the options of `create`
+pub record Options : Type 0 where
+  pub level : Text
+  pub raid_devices : ℕ
+  pub uuid : Text
+  pub name : Text
+  pub bitmap_chunk : ℕ
+  pub size : Option ℕ
+  pub time : ℕ
+  pub write_mostly : Option ℕ  -- the role of the member that is read only where no other can serve
+  pub assume_clean : Bool
+
+-- What is asked for. A `Bool` says whether no image may be changed.
+pub data Ask : Type 0 where
+  examines : Ask
+  examines_bitmap : Ask
+  examines_badblocks : Ask
+  creates : Options → Ask
+  assembles : Bool → Ask
+  details : Bool → Ask
+  plans : ℕ → Bool → Ask  -- the rebuild of the member with this index
+  reads : ℕ → ℕ → Bool → Ask  -- from a sector on, so many
+  checks : Bool → Ask
+  writes : ℕ → Ask  -- from a sector on
+  resyncs : Ask
+  stops : Ask
+  fails : ℕ → Ask  -- the member with this index
+  removes : ℕ → Ask  -- it leaves the array
+  adds : Text → Ask  -- the image under this name joins it
+  re_adds : Text → Ask  -- the image under this name, which left it, comes back and gets what it lacks
+  rebuilds : ℕ → Ask  -- the member with this index gets what it lacks
+
+-- how images are opened to show what they make: opening their array may store marks, unless none may be changed
+abbrev pub marking : Bool → Access
+marking readonly = if readonly then Look else ChangeOrLook
+
+-- how the images are opened: what writes to them needs all of them to be changed
+abbrev pub access_of : Ask → Access
+access_of examines = Look
+access_of examines_bitmap = Look
+access_of examines_badblocks = Look
+access_of (creates o) = Change
+access_of (assembles readonly) = marking readonly
+access_of (details readonly) = marking readonly
+access_of (plans k readonly) = marking readonly
+access_of (reads sector count readonly) = marking readonly
+access_of (checks readonly) = marking readonly
+access_of (writes sector) = Change
+access_of resyncs = Change
+access_of stops = Change
+access_of (fails k) = Change
+access_of (removes k) = Change
+access_of (adds name) = Change
+access_of (re_adds name) = Change
+access_of (rebuilds k) = Change
+
+-- whether no image may be changed, by a command that else might change some
+abbrev pub is_readonly : Ask → Bool
+is_readonly (assembles readonly) = readonly
+is_readonly (details readonly) = readonly
+is_readonly (plans k readonly) = readonly
+is_readonly (reads sector count readonly) = readonly
+is_readonly (checks readonly) = readonly
+is_readonly _ = false
+
+-- whether the images are opened as an array
+abbrev pub opens_array : Ask → Bool
+opens_array examines = false
+opens_array examines_bitmap = false
+opens_array examines_badblocks = false
+opens_array (creates o) = false
+opens_array _ = true
+
+-- the image that is to join it
+abbrev pub device_of : Ask → Option Text
+device_of (adds name) = Some name
+device_of (re_adds name) = Some name
+device_of _ = None
+
+-- the member that is to leave it
+abbrev pub leaving_of : Ask → Option ℕ
+leaving_of (removes k) = Some k
+leaving_of _ = None
+
+-- the same of a command as it was parsed
+abbrev pub options_of : CreateOptions → Options
+options_of o = record {
+  level = o.level.now;
+  raid_devices = o.raid_devices;
+  uuid = o.uuid.now;
+  name = o.name.now;
+  bitmap_chunk = o.bitmap_chunk;
+  size = o.size;
+  time = o.time;
+  write_mostly = o.write_mostly;
+  assume_clean = o.assume_clean;
+}
+
+abbrev pub ask_of : Command → Ask
+ask_of command.Examine = examines
+ask_of command.ExamineBitmap = examines_bitmap
+ask_of command.ExamineBadblocks = examines_badblocks
+ask_of (command.Create options) = creates (options_of options)
+ask_of (command.Assemble readonly) = assembles readonly
+ask_of (command.Detail readonly) = details readonly
+ask_of (command.Plan k readonly) = plans k readonly
+ask_of (command.Read sector count readonly) = reads sector count readonly
+ask_of (command.Check readonly) = checks readonly
+ask_of (command.Write sector) = writes sector
+ask_of command.Resync = resyncs
+ask_of command.Stop = stops
+ask_of (command.Fail k) = fails k
+ask_of (command.Remove k) = removes k
+ask_of (command.Add device) = adds device.now
+ask_of (command.ReAdd device) = re_adds device.now
+ask_of (command.Rebuild k) = rebuilds k

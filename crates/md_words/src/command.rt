@@ -1,0 +1,207 @@
+// A command, and what it may do with the images.
+ghost use Rattle.std.specs.Prelude.{◌≡◌, option_map};
+ghost use Rattle.md_words.specs.Asks.{access_of, ask_of, device_of, is_readonly, leaving_of, marking, opens_array};
+
+use crate::options::CreateOptions;
+use md_images::Access;
+
+/// A command, with the values of its options. `readonly` says that no image may be changed.
+#[derive(Clone, Copy, Debug)]
+pub enum Command<'a> {
+    /// Shows the superblock of the one image.
+    Examine,
+    /// Shows its bitmap.
+    ExamineBitmap,
+    /// Shows its bad blocks.
+    ExamineBadblocks,
+    /// Makes an array of the images, and shows it in one line.
+    Create(CreateOptions<'a>),
+    /// Shows the array that the images make in one line.
+    Assemble {
+        readonly: bool,
+    },
+    /// Shows it with each member's state.
+    Detail {
+        readonly: bool,
+    },
+    /// Shows the plan of a rebuild of the member with this index.
+    Plan {
+        member: u32,
+        readonly: bool,
+    },
+    /// Puts out so many sectors of it, from this one on.
+    Read {
+        sector: u64,
+        count: u64,
+        readonly: bool,
+    },
+    /// Counts the chunks in which its members in sync differ.
+    Check {
+        readonly: bool,
+    },
+    /// Writes the input to it, from this sector on, and stops it.
+    Write {
+        sector: u64,
+    },
+    /// Makes its members in sync agree, and stops it.
+    Resync,
+    /// Stops it: what is to be stored at the end is stored.
+    Stop,
+    /// Makes the member with this index faulty, and stops it.
+    Fail {
+        member: u32,
+    },
+    /// The member with this index leaves it. It is stopped then.
+    Remove {
+        member: u32,
+    },
+    /// The image under this name, which is none of those listed, joins it. It is stopped then.
+    Add {
+        device: &'a str,
+    },
+    /// The image under this name, which is none of those listed, left it. It comes back, and gets what it lacks; the
+    /// array is stopped then.
+    ReAdd {
+        device: &'a str,
+    },
+    /// The member with this index gets what it lacks. The array is stopped then.
+    Rebuild {
+        member: u32,
+    },
+}
+
+// How images are opened to show what they make: opening their array may store marks, unless none may be changed.
+fn marking(readonly: bool) -> Access
+    ensures { result ≡ marking readonly }
+{
+    if readonly {
+        Access::Look
+    } else {
+        Access::ChangeOrLook
+    }
+}
+
+impl<'a> Command<'a> {
+    /// How its images are opened: whether they may be changed.
+    pub fn access(self) -> Access
+        ensures { result ≡ access_of (ask_of self.entry) }
+    {
+        match self {
+            Command::Examine | Command::ExamineBitmap | Command::ExamineBadblocks => Access::Look,
+            Command::Assemble { readonly } => marking(readonly),
+            Command::Detail { readonly } => marking(readonly),
+            Command::Plan { readonly, .. } => marking(readonly),
+            Command::Read { readonly, .. } => marking(readonly),
+            Command::Check { readonly } => marking(readonly),
+            Command::Create(_)
+            | Command::Write { .. }
+            | Command::Resync
+            | Command::Stop
+            | Command::Fail { .. }
+            | Command::Remove { .. }
+            | Command::Add { .. }
+            | Command::ReAdd { .. }
+            | Command::Rebuild { .. } => Access::Change,
+        }
+    }
+
+    /// Whether it was asked to change no image, where it else might.
+    pub fn is_readonly(self) -> bool
+        ensures { result ≡ is_readonly (ask_of self.entry) }
+    {
+        match self {
+            Command::Assemble { readonly } => readonly,
+            Command::Detail { readonly } => readonly,
+            Command::Plan { readonly, .. } => readonly,
+            Command::Read { readonly, .. } => readonly,
+            Command::Check { readonly } => readonly,
+            Command::Examine
+            | Command::ExamineBitmap
+            | Command::ExamineBadblocks
+            | Command::Create(_)
+            | Command::Write { .. }
+            | Command::Resync
+            | Command::Stop
+            | Command::Fail { .. }
+            | Command::Remove { .. }
+            | Command::Add { .. }
+            | Command::ReAdd { .. }
+            | Command::Rebuild { .. } => false,
+        }
+    }
+
+    /// Whether it opens the array that the images make.
+    pub fn opens_array(self) -> bool
+        ensures { result ≡ opens_array (ask_of self.entry) }
+    {
+        match self {
+            Command::Examine
+            | Command::ExamineBitmap
+            | Command::ExamineBadblocks
+            | Command::Create(_) => false,
+            Command::Assemble { .. }
+            | Command::Detail { .. }
+            | Command::Plan { .. }
+            | Command::Read { .. }
+            | Command::Check { .. }
+            | Command::Write { .. }
+            | Command::Resync
+            | Command::Stop
+            | Command::Fail { .. }
+            | Command::Remove { .. }
+            | Command::Add { .. }
+            | Command::ReAdd { .. }
+            | Command::Rebuild { .. } => true,
+        }
+    }
+
+    /// The image that is to join the array.
+    pub fn device(self) -> Option<&'a str>
+        ensures { option_map (λ s. s.now) result ≡ device_of (ask_of self.entry) }
+    {
+        match self {
+            Command::Add { device } => Some(device),
+            Command::ReAdd { device } => Some(device),
+            Command::Examine
+            | Command::ExamineBitmap
+            | Command::ExamineBadblocks
+            | Command::Create(_)
+            | Command::Assemble { .. }
+            | Command::Detail { .. }
+            | Command::Plan { .. }
+            | Command::Read { .. }
+            | Command::Check { .. }
+            | Command::Write { .. }
+            | Command::Resync
+            | Command::Stop
+            | Command::Fail { .. }
+            | Command::Remove { .. }
+            | Command::Rebuild { .. } => None,
+        }
+    }
+
+    /// The index of the member that is to leave the array.
+    pub fn leaving(self) -> Option<u32>
+        ensures { result ≡ leaving_of (ask_of self.entry) }
+    {
+        match self {
+            Command::Remove { member } => Some(member),
+            Command::Examine
+            | Command::ExamineBitmap
+            | Command::ExamineBadblocks
+            | Command::Create(_)
+            | Command::Assemble { .. }
+            | Command::Detail { .. }
+            | Command::Plan { .. }
+            | Command::Read { .. }
+            | Command::Check { .. }
+            | Command::Write { .. }
+            | Command::Resync
+            | Command::Stop
+            | Command::Fail { .. }
+            | Command::Add { .. }
+            | Command::ReAdd { .. }
+            | Command::Rebuild { .. } => None,
+        }
+    }
+}
