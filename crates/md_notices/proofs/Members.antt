@@ -1,6 +1,6 @@
 -- What is read of the members one by one, and what it makes of all of them.
 use Rattle.std.proofs.Common.{◌≡◌, ℕ, zero, suc, ◌+◌, ◌<◌, ◌==◌, ◌≢◌, eq-eqb, Bool, true, false, ◌&&◌, ◌||◌, List, [], ◌∷◌, length, get_or, take, Some, refl, ap, sym, ◌∙◌, arith}
-use Rattle.std.specs.List.{list_all, list_any, slice_get}
+use Rattle.std.specs.List.{list_all, slice_get}
 use Rattle.std.specs.Option.{option_map}
 use Rattle.std.proofs.lemmas.Bool.{ne_eqb}
 use Rattle.std.proofs.lemmas.Option.{get_or_from_slice_get, same_Some}

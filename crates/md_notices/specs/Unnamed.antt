@@ -1,5 +1,5 @@
 -- Devices that the array has in its roles, and that are not among its members.
-use Rattle.std.specs.Prelude.{◌≡◌, ℕ, ◌<◌, ◌==◌, Bool, true, false, List, length}
+use Rattle.std.specs.Prelude.{◌≡◌, ℕ, ◌<◌, ◌==◌, Bool, false, List, length}
 use Rattle.std.specs.List.{list_any}
 use Rattle.md_assembly.specs.States.{role_in}
 use Rattle.md_kept_members.specs.View.{MemberView}

@@ -1,5 +1,5 @@
 -- Signatures that are told by magic numbers at fixed places.
-use Rattle.std.proofs.Common.{◌≡◌, ◌≢◌, ℕ, List, map, Bool, refl, sym, ◌∙◌, ap}
+use Rattle.std.proofs.Common.{◌≡◌, ◌≢◌, ℕ, List, map, refl, ◌∙◌, ap}
 use Rattle.std.specs.List.{list_any}
 use Rattle.md_signatures.specs.declared.magic.Magic.{Magic}
 use Rattle.md_signatures.specs.declared.signature.Signature.{Signature}

@@ -8,7 +8,7 @@ use Rattle.std.proofs.lemmas.Bool.Decides.{nat_tests}
 use Rattle.std.specs.Str.{bytes_eq}
 use Rattle.md_device.specs.Device.{held}
 use Rattle.md_device.specs.Splice.{part}
-use Rattle.md_signatures.specs.Magics.{Sign, has_sign, is_in_one_sector, sign}
+use Rattle.md_signatures.specs.Magics.{Sign, has_sign, is_in_one_sector}
 
 -- a part of a sector of the content
 pub part_of_sector : (content : List ℕ) (sector at n : ℕ) → at + n ≤ 512 → part (held content sector 512) at n ≡ part content (512 * sector + at) n

@@ -1,5 +1,5 @@
 -- Partition tables, by the tests that they have to pass.
-use Rattle.std.proofs.Common.{◌≡◌, ◌≤◌, ◌*◌, ℕ, List, [], ◌∷◌, length, Bool, true, false, not, ◌&&◌, refl, ◌∙◌, ap, arith}
+use Rattle.std.proofs.Common.{◌≡◌, ◌≤◌, ◌*◌, ℕ, List, [], length, Bool, true, false, not, ◌&&◌, refl, ◌∙◌, ap, arith}
 use Rattle.md_device.specs.Device.{held}
 use Rattle.md_signatures.specs.Partitions.{has_mark, is_partition_table}
 use Rattle.md_signatures.proofs.Signs.{part_past}

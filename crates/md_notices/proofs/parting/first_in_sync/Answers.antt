@@ -1,4 +1,4 @@
-use Rattle.std.proofs.Common.{◌≡◌, ◌<◌, ◌∙◌, ap, arith, length, sym}
+use Rattle.std.proofs.Common.{◌<◌, ◌∙◌, ap, arith, length, sym}
 use Rattle.md_assembly.specs.States.{is_in_sync}
 use Rattle.md_notices.proofs.Members.{has_state, there}
 use Rattle.md_notices.proofs.parting.first_in_sync.Goals as goal

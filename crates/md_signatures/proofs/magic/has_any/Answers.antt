@@ -1,4 +1,4 @@
-use Rattle.std.proofs.Common.{◌≡◌, ◌<◌, ◌≤◌, ◌∙◌, [], Bool, arith, length, ap, sym}
+use Rattle.std.proofs.Common.{◌<◌, ◌≤◌, ◌∙◌, [], arith, length, ap, sym}
 use Rattle.std.specs.List.{list_any}
 use Rattle.std.proofs.lemmas.List.{take_all}
 use Rattle.md_signatures.specs.declared.magic.Magic.{Magic}
