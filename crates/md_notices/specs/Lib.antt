@@ -1,0 +1,10 @@
+-- Members that were used without those that are in sync now.
+pub mod Parting
+-- Devices that are not among the members.
+pub mod Unnamed
+-- Devices that belong to an array.
+pub mod Belonging
+-- Members that drop out.
+pub mod Dropping
+-- The lines.
+pub mod Lines

@@ -1,0 +1,48 @@
+-- The lines that say what was noticed: forms of this project's own.
+use Rattle.std.specs.Prelude.{ℕ, List, [], ◌++◌, codes, decimal}
+use Rattle.uuid.specs.Text.{hyphenated_text, lower}
+use Rattle.md_super.specs.declared.superblock.Superblock.{Superblock}
+use Rattle.md_assembly.specs.declared.state.MemberState.{MemberState}
+use Rattle.md_assembly.specs.declared.state.MemberState.TheVariants.{InSync, Recovering, Stale, Spare, Faulty}
+use Rattle.md_assembly.specs.States.{state_of}
+
+unfoldable pub parted_text : List ℕ → List ℕ → List ℕ
+parted_text name other =
+    codes "mdcli: " ++ name ++ codes ": was used without " ++ other
+    ++ codes " since they parted: what was written to it alone is not in this array\n"
+
+unfoldable pub dropped_text : List ℕ → ℕ → ℕ → List ℕ
+dropped_text name in_sync raid_disks =
+    codes "mdcli: " ++ name ++ (codes ": a write failed; it is faulty now, and the array has " ++ decimal in_sync)
+    ++ (codes " of " ++ decimal raid_disks) ++ codes "\n"
+
+unfoldable pub unnamed_text : ℕ → ℕ → List ℕ
+unnamed_text number role = (codes "mdcli: device " ++ decimal number) ++ (codes " in role " ++ decimal role) ++ codes " is not among the images\n"
+
+unfoldable pub forgotten_text : List ℕ → List ℕ
+forgotten_text name = codes "mdcli: " ++ name ++ codes ": is in sync in this very array, and is not among the images\n"
+
+unfoldable pub held_text : List ℕ → List ℕ → List ℕ
+held_text name what = codes "mdcli: " ++ name ++ codes ": holds " ++ what ++ codes "\n"
+
+-- the role of a member, where it has one
+abbrev pub role_text : MemberState → List ℕ
+role_text (InSync role) = codes " in role " ++ decimal role
+role_text (Recovering role) = codes " in role " ++ decimal role
+role_text (Stale role) = codes " in role " ++ decimal role
+role_text Spare = []
+role_text Faulty = []
+
+-- what a member is called in the array that it tells of
+abbrev pub there_text : MemberState → List ℕ
+there_text (InSync role) = codes ", in sync there\n"
+there_text (Recovering role) = codes ", recovering there\n"
+there_text (Stale role) = codes ", stale there\n"
+there_text Spare = codes ", a spare there\n"
+there_text Faulty = codes ", faulty there\n"
+
+-- of which array the device is, and what it is there by its own superblock
+unfoldable pub standing_text : List ℕ → Superblock → List ℕ
+standing_text name own =
+    codes "mdcli: " ++ name ++ (codes ": is device " ++ decimal own.dev_number) ++ role_text (state_of own own)
+    ++ codes " of array " ++ hyphenated_text lower own.set_uuid ++ there_text (state_of own own)

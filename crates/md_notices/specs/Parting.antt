@@ -1,0 +1,49 @@
+-- Members that were used without those that are in sync now: two halves of a mirror that each went their way. When that is said is
+-- this project's own.
+use Rattle.std.specs.Prelude.{◌≡◌, ℕ, ◌<◌, ◌==◌, ◌&&◌, ◌||◌, not, nat_le, nat_lt, Bool, true, false, List, slice_get, Some}
+use Rattle.std.specs.List.{list_all, list_any}
+use Rattle.md_super.specs.declared.superblock.Superblock.{Superblock}
+use Rattle.md_assembly.specs.declared.state.MemberState.{MemberState}
+use Rattle.md_assembly.specs.declared.state.MemberState.TheVariants.{InSync, Recovering, Stale, Spare, Faulty}
+use Rattle.md_assembly.specs.States.{is_in_sync, role_in}
+use Rattle.md_kept_members.specs.View.{MemberView}
+
+-- a device has the role by the superblock
+abbrev pub has_role : Superblock → ℕ → Bool
+has_role v role = list_any (λ other. other == role) v.roles
+
+-- By the superblock the device with this number, which is in sync in this role, was not in use any more. It had failed: 0xfffe. Or
+-- it has no role, which the kernel writes of a device that is missing, and no other has its role: of one that came into the role
+-- later the superblock still has the device that had it before.
+abbrev pub was_without : Superblock → ℕ → ℕ → Bool
+was_without v number role = role_in v number == 0xfffe || nat_le v.raid_disks (role_in v number) && not (has_role v role)
+
+-- a member of this number and state is not in sync, or was not in use any more by the superblock
+abbrev pub is_left_by : Superblock → ℕ → MemberState → Bool
+is_left_by v number (InSync role) = was_without v number role
+is_left_by v number (Recovering role) = true
+is_left_by v number (Stale role) = true
+is_left_by v number Spare = true
+is_left_by v number Faulty = true
+
+-- the superblock has its own device in a role of the array
+abbrev pub is_active_by_own : Superblock → Bool
+is_active_by_own v = nat_lt (role_in v v.dev_number) v.raid_disks
+
+-- The member is not in sync. Its own superblock has it in a role, and by that superblock no member that is in sync was in use any
+-- more: what was written since then was written to it, and not to them.
+abbrev pub is_parted : List MemberView → MemberView → Bool
+is_parted members m =
+    not (is_in_sync m.state) && is_active_by_own m.superblock
+    && list_all (λ other. is_left_by m.superblock other.superblock.dev_number other.state) members
+
+-- none of the first n members is in sync
+abbrev pub NoneInSync : List MemberView → ℕ → Type 0
+NoneInSync members n = (i : ℕ) (m : MemberView) → i < n → slice_get members i ≡ Some m → is_in_sync m.state ≡ false
+
+-- member k is in sync, and none before it
+pub record IsFirstInSync (members : List MemberView) (k : ℕ) : Type 0 where
+  pub member : MemberView
+  pub listed : slice_get members k ≡ Some member
+  pub in_sync : is_in_sync member.state ≡ true
+  pub first : NoneInSync members k

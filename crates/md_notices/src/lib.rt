@@ -1,0 +1,18 @@
+//! What an array and its images are told by beside a report: which image was used without the others, which member
+//! dropped out, which device was not named, and what an image holds that is to be overwritten. No function takes
+//! memory, and none uses a device.
+#![tactic(auto)]
+
+mod belonging;
+mod dropping_out;
+mod lines;
+mod parting;
+mod standing_lines;
+mod unnamed;
+
+pub use belonging::{is_forgotten, standing};
+pub use dropping_out::dropped_out;
+pub use lines::{dropped_line, forgotten_line, held_line, parted_line, unnamed_line};
+pub use parting::{first_in_sync, is_parted};
+pub use standing_lines::standing_line;
+pub use unnamed::unnamed_in;

@@ -1,0 +1,76 @@
+// The lines that say what was noticed.
+ghost use Rattle.std.specs.Prelude.{◌≡◌};
+ghost use Rattle.md_examine.specs.Sink.{PutsOrFails};
+ghost use Rattle.md_notices.specs.Lines.{dropped_text, forgotten_text, held_text, parted_text, unnamed_text};
+
+use md_examine::{Sink, SinkFault, number_after};
+
+/// Says that an image was used without another one. It takes no memory, as no line does, and fails only where the
+/// sink has failed.
+pub fn parted_line<S: Sink>(out: &mut S, name: &str, other: &str) -> Result<(), SinkFault>
+    ensures { PutsOrFails S.contents S.failed out.old out.new (parted_text name.now other.now) result }
+{
+    out.put(b"mdcli: ")?;
+    out.put(name.as_bytes())?;
+    out.put(b": was used without ")?;
+    out.put(other.as_bytes())?;
+    out.put(b" since they parted: what was written to it alone is not in this array\n")?;
+    Ok(())
+}
+
+/// Says that a member dropped out, and how many of how many are in sync now.
+#[tactic(auto, unfolding(crate::specs::Lines::dropped_text), using(md_examine::proofs::Puts::puts_then))]
+pub fn dropped_line<S: Sink>(
+    out: &mut S,
+    name: &str,
+    in_sync: usize,
+    raid_disks: u32,
+) -> Result<(), SinkFault>
+    ensures { PutsOrFails S.contents S.failed out.old out.new (dropped_text name.now in_sync raid_disks) result }
+{
+    out.put(b"mdcli: ")?;
+    out.put(name.as_bytes())?;
+    number_after(
+        out,
+        b": a write failed; it is faulty now, and the array has ",
+        in_sync,
+    )?;
+    number_after(out, b" of ", raid_disks)?;
+    out.put(b"\n")?;
+    Ok(())
+}
+
+/// Says that a device of the array is not among the images.
+#[tactic(auto, unfolding(crate::specs::Lines::unnamed_text), using(md_examine::proofs::Puts::puts_then))]
+pub fn unnamed_line<S: Sink>(out: &mut S, number: u32, role: u16) -> Result<(), SinkFault>
+    ensures { PutsOrFails S.contents S.failed out.old out.new (unnamed_text number role) result }
+{
+    number_after(out, b"mdcli: device ", number)?;
+    number_after(out, b" in role ", role)?;
+    out.put(b" is not among the images\n")?;
+    Ok(())
+}
+
+/// Says that an image which is to be added is in sync in the array that it is added to.
+#[tactic(auto, unfolding(crate::specs::Lines::forgotten_text), using(md_examine::proofs::Puts::puts_then))]
+pub fn forgotten_line<S: Sink>(out: &mut S, name: &str) -> Result<(), SinkFault>
+    ensures { PutsOrFails S.contents S.failed out.old out.new (forgotten_text name.now) result }
+{
+    out.put(b"mdcli: ")?;
+    out.put(name.as_bytes())?;
+    out.put(b": is in sync in this very array, and is not among the images\n")?;
+    Ok(())
+}
+
+/// Says what an image holds, which is to be overwritten.
+#[tactic(auto, unfolding(crate::specs::Lines::held_text), using(md_examine::proofs::Puts::puts_then))]
+pub fn held_line<S: Sink>(out: &mut S, name: &str, what: &str) -> Result<(), SinkFault>
+    ensures { PutsOrFails S.contents S.failed out.old out.new (held_text name.now what.now) result }
+{
+    out.put(b"mdcli: ")?;
+    out.put(name.as_bytes())?;
+    out.put(b": holds ")?;
+    out.put(what.as_bytes())?;
+    out.put(b"\n")?;
+    Ok(())
+}

@@ -1,0 +1,81 @@
+// Members that were used without those that are in sync now.
+ghost use Rattle.std.specs.Prelude.{◌≡◌, ◌<◌, ◌==◌, MatchOption, length};
+ghost use Rattle.std.specs.List.{list_all, list_any};
+ghost use Rattle.md_kept_members.specs.View.{MemberView};
+ghost use Rattle.md_state.specs.Members.{IsMember};
+ghost use Rattle.md_notices.specs.Parting.{IsFirstInSync, NoneInSync, has_role, is_left_by, is_parted, was_without};
+
+use md_array::Mirror;
+use md_assembly::MemberState;
+use md_device::Device;
+use md_super::{FAULTY, Superblock};
+
+// Whether the superblock has a device in the role.
+fn has_role(v: &Superblock, role: u16) -> bool
+    ensures { result ≡ has_role v.now role }
+{
+    v.roles.as_slice().iter().any(|other| *other == role)
+}
+
+// Whether by the superblock the device with this number, which is in sync in this role, was not in use any more.
+fn was_without(v: &Superblock, number: u32, role: u16) -> bool
+    ensures { result ≡ was_without v.now number role }
+{
+    let other = v.role_of(number);
+    if other == FAULTY {
+        return true;
+    }
+    u32::from(other) >= v.raid_disks && !has_role(v, role)
+}
+
+// Whether a member is not in sync, or by the superblock was not in use any more.
+fn is_left_by(v: &Superblock, number: u32, state: MemberState) -> bool
+    ensures { result ≡ is_left_by v.now number state }
+{
+    match state {
+        MemberState::InSync(role) => was_without(v, number, role),
+        _ => true,
+    }
+}
+
+// Whether by the superblock no member in sync was in use any more.
+fn left_all<D: Device + Drop>(mirror: &Mirror<D>, v: &Superblock) -> bool
+    ensures { result ≡ list_all (λ m. is_left_by v.now m.superblock.dev_number m.state) mirror.now.array.members }
+{
+    for k in 0..mirror.members() {
+        if !is_left_by(v, mirror.own(k).dev_number, mirror.state(k)) {
+            return false;
+        }
+    }
+    true
+}
+
+/// Whether member k, which is not in sync, was used without all members that are: its own superblock has it in a role
+/// and has them as failed, or as devices that it does not know in roles that no device had. Ask it before any step,
+/// since a step may change its superblock. It takes no memory.
+pub fn is_parted<D: Device + Drop>(mirror: &Mirror<D>, k: usize) -> bool
+    requires { k < length mirror.now.array.members }
+    ensures { (m : MemberView) → IsMember mirror.now.array k m → result ≡ is_parted mirror.now.array.members m }
+{
+    let state = mirror.state(k);
+    if state.is_in_sync() {
+        return false;
+    }
+    let own = mirror.own(k);
+    if u32::from(own.role_of(own.dev_number)) >= own.raid_disks {
+        return false;
+    }
+    left_all(mirror, own)
+}
+
+/// The first member that is in sync, where there is one. It takes no memory.
+pub fn first_in_sync<D: Device + Drop>(mirror: &Mirror<D>) -> Option<usize>
+    ensures { MatchOption result (NoneInSync mirror.now.array.members (length mirror.now.array.members)) (IsFirstInSync mirror.now.array.members) }
+{
+    for k in 0..mirror.members() {
+        if mirror.state(k).is_in_sync() {
+            return Some(k);
+        }
+    }
+    None
+}

@@ -1,0 +1,54 @@
+-- What was found of the first signatures, and one more.
+use Rattle.std.proofs.Common.{◌≡◌, ℕ, ◌+◌, ◌<◌, Bool, true, false, cond, List, [], ◌∷◌, ◌++◌, length, get_or, take, sym, ap, ◌∙◌, arith, append-nil}
+use Rattle.std.specs.List.{All, filter}
+use Rattle.std.proofs.lemmas.List.Elements.{All-append, All-cons, All-nil, filter_more}
+use Rattle.md_device.specs.declared.device.Device.{Ghosts}
+use Rattle.md_signatures.specs.declared.signature.Signature.{Signature}
+use Rattle.md_signatures.specs.Bearing.{bears}
+use Rattle.md_signatures.specs.Finding.{signatures}
+use Rattle.md_signatures.specs.Reading.{OnlyRead, Tells}
+
+module _ {D : Type 0} {g : Ghosts D} where
+  -- the device bears what was found after reads of it
+  bears_same : {first mid : D} (s : Signature) → OnlyRead g first mid → bears (g.content first) s ≡ bears (g.content mid) s
+  bears_same s only = ap (λ (content : List ℕ). bears content s) (sym only.kept)
+
+  pub found_sound : {first mid last : D} (s : Signature) (answer : Bool) (found : List Signature) → OnlyRead g first mid → Tells g mid last (bears (g.content mid) s) answer → answer ≡ true
+      → (g.honest first ≡ true → All (λ x. bears (g.content first) x ≡ true) found) → g.honest first ≡ true → All (λ x. bears (g.content first) x ≡ true) (found ++ s ∷ [])
+  found_sound {first = first} s answer found only tells is sound h =
+      let P : Signature → Type 0 = λ x. bears (g.content first) x ≡ true in
+      All-append P found (s ∷ []) (sound h) (All-cons P s [] (bears_same s only ∙ tells.sound (only.honest ∙ h) is) (All-nil P))
+
+  -- what is answered where no call failed
+  answered : {first mid last : D} (s : Signature) (answer : Bool) → OnlyRead g first mid → OnlyRead g mid last → Tells g mid last (bears (g.content mid) s) answer → g.honest first ≡ true → g.failures last ≡ g.failures first → bears (g.content first) s ≡ answer
+  answered {first = first} {mid = mid} {last = last} s answer only more tells h same =
+      let a = only.counted in
+      let b = more.counted in
+      let still : g.failures last ≡ g.failures mid = omega (arith, a, b, same) in
+      bears_same s only ∙ sym (tells.whole (only.honest ∙ h) still)
+
+  so_far : {first mid last : D} → OnlyRead g first mid → OnlyRead g mid last → g.failures last ≡ g.failures first → g.failures mid ≡ g.failures first
+  so_far only more same = let a = only.counted in let b = more.counted in omega (arith, a, b, same)
+
+  pub found_one : {first mid last : D} (s : Signature) (answer : Bool) (found : List Signature) (i : ℕ) → i < length signatures → get_or signatures i s ≡ s → OnlyRead g first mid → OnlyRead g mid last → Tells g mid last (bears (g.content mid) s) answer → answer ≡ true
+      → (g.honest first ≡ true → g.failures mid ≡ g.failures first → found ≡ filter (bears (g.content first)) (take i signatures))
+      → g.honest first ≡ true → g.failures last ≡ g.failures first → found ++ s ∷ [] ≡ filter (bears (g.content first)) (take (i + 1) signatures)
+  found_one {first = first} s answer found i lt here only more tells is whole h same =
+      let p : Signature → Bool = bears (g.content first) in
+      let front : List Signature = filter p (take i signatures) in
+      ap (λ (xs : List Signature). xs ++ s ∷ []) (whole h (so_far only more same))
+      ∙ sym (filter_more p signatures i s lt
+      ∙ ap (λ (t : Signature). front ++ cond (p t) (t ∷ []) []) here
+      ∙ ap (λ (b : Bool). front ++ cond b (s ∷ []) []) (answered s answer only more tells h same ∙ is))
+
+  pub found_no_more : {first mid last : D} (s : Signature) (answer : Bool) (found : List Signature) (i : ℕ) → i < length signatures → get_or signatures i s ≡ s → OnlyRead g first mid → OnlyRead g mid last → Tells g mid last (bears (g.content mid) s) answer → answer ≡ false
+      → (g.honest first ≡ true → g.failures mid ≡ g.failures first → found ≡ filter (bears (g.content first)) (take i signatures))
+      → g.honest first ≡ true → g.failures last ≡ g.failures first → found ≡ filter (bears (g.content first)) (take (i + 1) signatures)
+  found_no_more {first = first} s answer found i lt here only more tells is whole h same =
+      let p : Signature → Bool = bears (g.content first) in
+      let front : List Signature = filter p (take i signatures) in
+      whole h (so_far only more same)
+      ∙ sym (filter_more p signatures i s lt
+      ∙ ap (λ (t : Signature). front ++ cond (p t) (t ∷ []) []) here
+      ∙ ap (λ (b : Bool). front ++ cond b (s ∷ []) []) (answered s answer only more tells h same ∙ is)
+      ∙ append-nil front)

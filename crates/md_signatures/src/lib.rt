@@ -1,0 +1,14 @@
+//! What a device holds now, as a few of its bytes tell: file systems, partition tables, volumes and md superblocks
+//! of versions other than 1.2, by their magic numbers. A device is only read.
+#![tactic(auto)]
+
+mod bearing;
+mod finding;
+mod magic;
+mod partitions;
+mod reading;
+mod signature;
+mod table;
+
+pub use finding::find_signatures;
+pub use signature::{SIGNATURES, Signature};
