@@ -78,6 +78,7 @@ FAILS = {
     "md_inflight::Inflight::push_back": ("part_tests", "requests::removed_in_any_order", "NoMemory"),
     "md_members::read_member": ("part_tests", "damaged::rows::answers", "no memory"),
     "md_plan::plan": ("part_tests", "plans::small_tables::plan_needs_a_move", "NoMemory"),
+    "md_signatures::find_signatures": ("notice_tests", "signatures::all_are_found_in_order", "AllocError"),
     "md_stop_device::Fuse::new": ("stop_tests", "fuses::metadata_stay", "AllocError"),
 }
 

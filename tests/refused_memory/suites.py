@@ -25,6 +25,7 @@ SUITES = {
     "step_tests": r"\w+::every_order::",
     "call_tests": r"everywhere::",
     "stop_tests": r"each_write::|lives::",
+    "notice_tests": None,
     "command_tests": None,
 }
 COUNTS_BLOCKS = ("part_tests",)
