@@ -16,7 +16,7 @@ ghost use Rattle.md_array.specs.Recording.{IsReadable};
 
 use crate::mirror::Mirror;
 use crate::recording::block_for;
-use crate::storing::bitmap_start;
+use crate::storing_needed_marks::bitmap_start;
 use md_bitmap::{BitmapHeader, Marks};
 use md_device::{Device, WriteFault};
 use md_faults::EnrolFault;

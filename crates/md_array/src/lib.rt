@@ -26,9 +26,9 @@ mod recording_target;
 mod removing;
 mod stored_marks;
 mod stored_sectors;
-mod storing;
 mod storing_log;
 mod storing_marks;
+mod storing_needed_marks;
 mod writing_member;
 
 pub use fault::OpenFault;

@@ -9,7 +9,7 @@ ghost use Rattle.md_array.specs.Refusals.{RefusesArray, RefusesOpen, assembly_re
 use crate::fault::OpenFault;
 use crate::mirror::Mirror;
 use crate::reading::read_members;
-use crate::storing::store_needed_marks;
+use crate::storing_needed_marks::store_needed_marks;
 use md_assembly::{AssembleFault, assemble};
 use md_device::Device;
 use md_state::Array;

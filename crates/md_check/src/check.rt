@@ -46,7 +46,7 @@ pub fn check_array<D: Device + Drop + Send, G: Gate + Sync, R: Threads + Sync>(
     }
     let mut marks = Marks::none(alloc, mirror.chunks().count())?;
     if has_two_in_sync(mirror) {
-        check_members(rt, alloc, mirror, gate, &mut marks)?;
+        mark_mismatches(rt, alloc, mirror, gate, &mut marks)?;
     }
     Ok(marks.count())
 }
@@ -69,7 +69,7 @@ fn has_two_in_sync<D: Device + Drop>(mirror: &Mirror<D>) -> bool
 }
 
 // Marks the chunks in which members in sync differ. The devices are lent, and given back.
-fn check_members<D: Device + Drop + Send, G: Gate + Sync, R: Threads + Sync>(
+fn mark_mismatches<D: Device + Drop + Send, G: Gate + Sync, R: Threads + Sync>(
     rt: &R,
     alloc: Global,
     mirror: &mut Mirror<D>,

@@ -10,13 +10,13 @@ mod comparing;
 mod fault;
 mod giving_up;
 pub mod laws;
+mod making_agree;
 mod marks;
 mod members;
-mod resyncing;
 mod source;
 pub mod steps;
 mod whole;
 
 pub use fault::ResyncFault;
-pub use resyncing::make_agree;
+pub use making_agree::make_agree;
 pub use whole::resync;

@@ -12,7 +12,9 @@ use md_device::Device;
 use md_metadata::{PartFault, clear_marks, store_all_marks};
 
 /// Stores the marks of memory on each member in sync, where other bits are stored. Takes no memory.
-pub(crate) fn store_marks<D: Device + Drop>(mirror: &mut Mirror<D>) -> Result<(), ResyncFault>
+pub(crate) fn store_memory_marks<D: Device + Drop>(
+    mirror: &mut Mirror<D>,
+) -> Result<(), ResyncFault>
     requires sound { IsConsistent mirror.old }
     requires idle { IsIdle mirror.old.array }
     ensures gives { MatchResult result (λ _. StoresMarks mirror.old mirror.new) (MarkingFails mirror.old mirror.new) }
@@ -38,5 +40,5 @@ pub(crate) fn clear_stored<D: Device + Drop>(mirror: &mut Mirror<D>) -> Result<(
         return Ok(());
     }
     clear_marks(mirror);
-    store_marks(mirror)
+    store_memory_marks(mirror)
 }

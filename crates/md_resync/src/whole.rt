@@ -9,8 +9,8 @@ ghost use Rattle.md_resync.specs.Resyncing.{IdleFails, RefusesResync, Resyncs};
 use crate::buffer::buffer_for;
 use crate::fault::ResyncFault;
 use crate::giving_up::give_up;
-use crate::marks::{clear_stored, store_marks};
-use crate::resyncing::make_agree;
+use crate::making_agree::make_agree;
+use crate::marks::{clear_stored, store_memory_marks};
 use md_array::Mirror;
 use md_device::Device;
 use std::alloc::Global;
@@ -70,7 +70,7 @@ fn resync_through<D: Device + Drop>(
     ensures gives { MatchResult result (λ _. Resyncs mirror.old mirror.new) (IdleFails mirror.old mirror.new) }
     ensures sound { IsConsistent mirror.new }
 {
-    if let Err(fault) = store_marks(mirror) {
+    if let Err(fault) = store_memory_marks(mirror) {
         return Err(fault);
     }
     if let Err(fault) = make_agree(mirror, buffer, held) {

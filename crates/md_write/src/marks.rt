@@ -59,7 +59,7 @@ fn store_member_marks<D: Device + Drop>(
 }
 
 /// Stores the marks of these chunks on each member in sync that lacks one of them.
-pub(crate) fn store_marks<D: Device + Drop>(
+pub(crate) fn store_marks_of_chunks<D: Device + Drop>(
     mirror: &mut Mirror<D>,
     first: u32,
     end: u32,

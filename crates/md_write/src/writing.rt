@@ -7,7 +7,7 @@ ghost use Rattle.md_write.specs.Progress.{AreChunksOf, HaltsOn, IsReadyToFinish,
 ghost use Rattle.md_write.specs.Writing.{RefusesWrite, Writes};
 
 use crate::data::write_to_members;
-use crate::marks::store_marks;
+use crate::marks::store_marks_of_chunks;
 use md_array::{BeginFault, Mirror, Pending};
 use md_device::Device;
 use md_metadata::{PartFault, store_other_records, store_records};
@@ -25,7 +25,7 @@ fn write_once<D: Device + Drop>(
     requires chunks { AreChunksOf mirror.old.array pending.old first end }
     ensures { MatchResult result (λ _. IsReadyToFinish pending.old pending.new mirror.old mirror.new) (WritingFails Part.Marks pending.old pending.new mirror.old mirror.new) }
 {
-    if let Err(fault) = store_marks(mirror, first, end) {
+    if let Err(fault) = store_marks_of_chunks(mirror, first, end) {
         return Err(fault);
     }
     if let Err(fault) = store_records(mirror) {

@@ -10,4 +10,4 @@ returns-then-degraded-clause-gives g c = cleared_nothing c.args.mirror.now c.req
 pub returns-clause-gives : goal.returns-clause-gives
 returns-clause-gives g c =
     let full : is_degraded c.args.mirror.now.array ≡ false = sym c.degraded.ensures.roles ∙ c.if-degraded.false in
-    cleared_or_stops c.args.mirror.now c.clear_marks.new.mirror c.store_marks.new.mirror c.requires.idle full c.clear_marks.ensures c.store_marks.result c.store_marks.ensures.gives
+    cleared_or_stops c.args.mirror.now c.clear_marks.new.mirror c.store_memory_marks.new.mirror c.requires.idle full c.clear_marks.ensures c.store_memory_marks.result c.store_memory_marks.ensures.gives

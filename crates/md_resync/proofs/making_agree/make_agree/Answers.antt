@@ -1,6 +1,6 @@
 use Rattle.std.proofs.Common.{◌≡◌, false, true}
 use Rattle.md_resync.proofs.Agreeing.{agrees_alone, agrees_copied}
-use Rattle.md_resync.proofs.resyncing.make_agree.Goals as goal
+use Rattle.md_resync.proofs.making_agree.make_agree.Goals as goal
 
 pub returns-then-not-has_two_in_sync : goal.returns-then-not-has_two_in_sync
 returns-then-not-has_two_in_sync g c =

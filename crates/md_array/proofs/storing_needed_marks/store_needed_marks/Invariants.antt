@@ -1,7 +1,7 @@
 use Rattle.std.proofs.Common.{◌≡◌, length, map}
 use Rattle.md_state.specs.View.{disk_of}
 use Rattle.md_array.proofs.Openings.MarksStored.{AreStoredTo}
-use Rattle.md_array.proofs.storing.store_needed_marks.Given as goal
+use Rattle.md_array.proofs.storing_needed_marks.store_needed_marks.Given as goal
 
 abbrev pub invariant-loop-k : goal.invariant-loop-k
 invariant-loop-k g l =

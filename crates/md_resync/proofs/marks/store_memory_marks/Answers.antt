@@ -1,7 +1,7 @@
 use Rattle.std.proofs.Common.{subst}
 use Rattle.md_metadata.specs.Storing.{IsMarking, StoringFails}
 use Rattle.md_resync.proofs.MarksStored.{halts_marks, loses_marks, stores_marks}
-use Rattle.md_resync.proofs.marks.store_marks.Goals as goal
+use Rattle.md_resync.proofs.marks.store_memory_marks.Goals as goal
 
 pub returns-in-Ok-clause-gives : goal.returns-in-Ok-clause-gives
 returns-in-Ok-clause-gives g c = stores_marks c.args.mirror.now c.store_all_marks.new.mirror c.requires.idle c.requires.sound c.in-Ok.ensures.gives

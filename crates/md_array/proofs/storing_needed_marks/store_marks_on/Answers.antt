@@ -4,7 +4,7 @@ use Rattle.md_state.specs.View.{disk_of}
 use Rattle.md_state.specs.Headers.{IsHeaderFor}
 use Rattle.md_array.specs.Storing.{FailsToStore, StoresMarks}
 use Rattle.md_array.proofs.Openings.StoredOn.{fails_to_store, stores}
-use Rattle.md_array.proofs.storing.store_marks_on.Goals as goal
+use Rattle.md_array.proofs.storing_needed_marks.store_marks_on.Goals as goal
 
 pub returns-clause-ok : goal.returns-clause-ok
 returns-clause-ok g c =

@@ -3,7 +3,7 @@ use Rattle.std.proofs.lemmas.Bool.{cases_lt}
 use Rattle.md_state.specs.Members.{IsInSync}
 use Rattle.md_state.proofs.Members.At.{told}
 use Rattle.md_resync.proofs.Bests.{member_at}
-use Rattle.md_resync.proofs.resyncing.in_sync_from.Goals as goal
+use Rattle.md_resync.proofs.making_agree.in_sync_from.Goals as goal
 
 pub loop-k-init : goal.loop-k-init
 loop-k-init g c = record { from = omega arith; none = λ j m from below is. absurd (omega arith) }

@@ -9,7 +9,7 @@ use Rattle.md_array.specs.Storing.{FailsToStore, IsMarkedBy, StopsAtMember}
 use Rattle.md_array.proofs.General.Answered.{err_gives, ok_gives}
 use Rattle.md_array.proofs.Openings.DevicesInTurn.{disk_at}
 use Rattle.md_array.proofs.Openings.MarksStored.{AreStoredTo, stored_all, stored_more, stored_none, stopped_at}
-use Rattle.md_array.proofs.storing.store_needed_marks.Goals as goal
+use Rattle.md_array.proofs.storing_needed_marks.store_needed_marks.Goals as goal
 
 -- the member at an index of the array
 member_at : (a b : ArrayView) (k n : ℕ) (m : MemberView) → a ≡ b → n ≡ length b.members → k < n → m ≡ get_or a.members k m → IsMember b k m

@@ -1,7 +1,7 @@
 use Rattle.std.proofs.Common.{arith}
 use Rattle.std.proofs.lemmas.Option.{slice_get_within}
 use Rattle.md_resync.proofs.Agreeing.{alone_if_none, alone_if_one, two_apart}
-use Rattle.md_resync.proofs.resyncing.has_two_in_sync.Goals as goal
+use Rattle.md_resync.proofs.making_agree.has_two_in_sync.Goals as goal
 
 pub returns-in_default-clause-one : goal.returns-in_default-clause-one
 returns-in_default-clause-one g c _ = alone_if_none c.args.mirror.now.array c.in_default.ensures

@@ -7,7 +7,7 @@ use Rattle.md_check.specs.Differences.{AreDifferent}
 use Rattle.md_check.specs.Readings.{MissesIn}
 use Rattle.md_check.specs.Seats.{IsSeated, SeatShows, on_device}
 use Rattle.md_check.proofs.SeatedMembers.{all_seated, come_back, fails_checking, honest_seats, mismatches, none_failed, rests_with, rooms, uses_in_sync}
-use Rattle.md_check.proofs.check.check_members.Goals as goal
+use Rattle.md_check.proofs.check.mark_mismatches.Goals as goal
 
 pub check_lent-answer-requires-clause-seated : goal.check_lent-answer-requires-clause-seated
 check_lent-answer-requires-clause-seated g c κs within =
