@@ -12,7 +12,7 @@ ghost use Rattle.md_array.specs.Fits.{FitsMember};
 ghost use Rattle.md_array.specs.Events.{StoreMarksHappens};
 
 use crate::mirror::Mirror;
-use crate::storing::bitmap_start;
+use crate::storing_needed_marks::bitmap_start;
 use md_device::{Device, WriteFault};
 use md_faults::StoreFault;
 use md_kept_members::Member;
