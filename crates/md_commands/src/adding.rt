@@ -29,7 +29,11 @@ pub fn add_device<D: Device + Drop, S: Sink>(
     out: &mut S,
 ) -> (Option<D>, Result<(), DataFault>)
     requires sound { IsConsistent mirror.old }
-    ensures gives { MatchResult result.1 (λ _. StopsArrayAfter S.Sink (AddsDevice (disk_of D.Device device) mirror.old) mirror.new out.old out.new) (RefusesToAdd S.Sink (disk_of D.Device device) (option_map (disk_of D.Device) result.0) mirror.old mirror.new out.old out.new) }
+    ensures gives { MatchResult result.1
+        (λ _. StopsArrayAfter S.Sink (AddsDevice (disk_of D.Device device) mirror.old) mirror.new out.old
+        out.new)
+        (RefusesToAdd S.Sink (disk_of D.Device device) (option_map (disk_of D.Device) result.0) mirror.old
+        mirror.new out.old out.new) }
     ensures device { KeepsDevice mirror.old.disks mirror.new.disks (option_map (disk_of D.Device) result.0) }
     ensures sound { IsConsistent mirror.new }
     ensures pending { (p : PendingView) → IsPending mirror.old.array p → IsPending mirror.new.array p }

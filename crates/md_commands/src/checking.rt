@@ -29,7 +29,9 @@ pub fn check_members<D: Device + Drop + Send, W: Watch + Sync, S: Sink, T: Threa
     out: &mut S,
 ) -> Result<(), DataFault>
     requires sound { IsConsistent mirror.old }
-    ensures gives { MatchResult result (λ _. ChecksMembers S.Sink mirror.old mirror.new out.old out.new) (RefusesToCheck S.Sink mirror.old mirror.new out.old out.new) }
+    ensures gives { MatchResult result
+        (λ _. ChecksMembers S.Sink mirror.old mirror.new out.old out.new)
+        (RefusesToCheck S.Sink mirror.old mirror.new out.old out.new) }
     ensures sound { IsConsistent mirror.new }
     ensures pending { (p : PendingView) → IsPending mirror.old.array p → IsPending mirror.new.array p }
 {

@@ -27,7 +27,9 @@ pub fn fail_member<D: Device + Drop, S: Sink>(
     out: &mut S,
 ) -> Result<(), DataFault>
     requires sound { IsConsistent mirror.old }
-    ensures gives { MatchResult result (λ _. StopsArrayAfter S.Sink (FailsMember member mirror.old) mirror.new out.old out.new) (RefusesToFail S.Sink member mirror.old mirror.new out.old out.new) }
+    ensures gives { MatchResult result
+        (λ _. StopsArrayAfter S.Sink (FailsMember member mirror.old) mirror.new out.old out.new)
+        (RefusesToFail S.Sink member mirror.old mirror.new out.old out.new) }
     ensures sound { IsConsistent mirror.new }
     ensures pending { (p : PendingView) → IsPending mirror.old.array p → IsPending mirror.new.array p }
 {
@@ -38,7 +40,9 @@ pub fn fail_member<D: Device + Drop, S: Sink>(
 // Fails the member with this index, in memory alone.
 fn fail_named<D: Device + Drop>(mirror: &mut Mirror<D>, member: u32) -> Result<(), DataFault>
     requires sound { IsConsistent mirror.old }
-    ensures gives { MatchResult result (λ _. FailsMember member mirror.old mirror.new) (RefusesFailing member mirror.old mirror.new) }
+    ensures gives { MatchResult result
+        (λ _. FailsMember member mirror.old mirror.new)
+        (RefusesFailing member mirror.old mirror.new) }
     ensures sound { IsConsistent mirror.new }
     ensures pending { (p : PendingView) → IsPending mirror.old.array p → IsPending mirror.new.array p }
 {

@@ -16,7 +16,9 @@ pub(crate) fn whole_input<I: Source>(
     input: &mut I,
     size: u64,
 ) -> Result<Vec<u8>, DataFault>
-    ensures { MatchResult result (λ bytes. IsInput I.Source size input.old input.new bytes.items) (RefusesInput I.Source size input.old input.new) }
+    ensures { MatchResult result
+        (λ bytes. IsInput I.Source size input.old input.new bytes.items)
+        (RefusesInput I.Source size input.old input.new) }
 {
     let bytes = read_input(alloc, input, size)?;
     check_length(bytes.len(), size)?;
@@ -25,7 +27,9 @@ pub(crate) fn whole_input<I: Source>(
 
 // Reads an input to its end, or to one byte more than an array of so many sectors has.
 fn read_input<I: Source>(alloc: Global, input: &mut I, size: u64) -> Result<Vec<u8>, DataFault>
-    ensures { MatchResult result (λ bytes. ReadsUpTo I.Source (512 * size + 1) input.old input.new bytes.items) (ReadingFails I.Source input.new) }
+    ensures { MatchResult result
+        (λ bytes. ReadsUpTo I.Source (512 * size + 1) input.old input.new bytes.items)
+        (ReadingFails I.Source input.new) }
 {
     let mut piece = buffer(alloc, PIECE_SECTORS)?;
     read_pieces(alloc, input, size, &mut piece)
@@ -39,7 +43,9 @@ fn read_pieces<I: Source>(
     piece: &mut [u8],
 ) -> Result<Vec<u8>, DataFault>
     requires some { 0 < length piece.old }
-    ensures { MatchResult result (λ bytes. ReadsUpTo I.Source (512 * size + 1) input.old input.new bytes.items) (ReadingFails I.Source input.new) }
+    ensures { MatchResult result
+        (λ bytes. ReadsUpTo I.Source (512 * size + 1) input.old input.new bytes.items)
+        (ReadingFails I.Source input.new) }
 {
     let mut bytes = Vec::new(alloc);
     loop {
@@ -67,7 +73,9 @@ fn append_piece<I: Source>(
     piece: &mut [u8],
     bytes: &mut Vec<u8>,
 ) -> Result<usize, DataFault>
-    ensures { MatchResult result (AppendsPiece I.Source (length piece.old) input.old input.new bytes.old.items bytes.new.items) (ReadingFails I.Source input.new) }
+    ensures { MatchResult result
+        (AppendsPiece I.Source (length piece.old) input.old input.new bytes.old.items bytes.new.items)
+        (ReadingFails I.Source input.new) }
 {
     let taken = input.take(piece)?;
     bytes.extend_from_slice(&piece[..taken])?;

@@ -11,7 +11,9 @@ pub(crate) fn named_member<D: Device + Drop>(
     mirror: &Mirror<D>,
     member: u32,
 ) -> Result<usize, DataFault>
-    ensures { MatchResult result (λ k. (k ≡ member) × (k < length mirror.now.array.members)) (λ fault. (fault ≡ BadMember) × (length mirror.now.array.members ≤ member)) }
+    ensures { MatchResult result
+        (λ k. (k ≡ member) × (k < length mirror.now.array.members))
+        (λ fault. (fault ≡ BadMember) × (length mirror.now.array.members ≤ member)) }
 {
     let k = member as usize;
     if k >= mirror.members() {

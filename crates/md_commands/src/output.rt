@@ -14,7 +14,9 @@ use md_report::{check_report, rebuilt_report, summary};
 
 /// Puts out these bytes, and passes on what the output holds back.
 pub(crate) fn put_out<S: Sink>(out: &mut S, bytes: &[u8]) -> Result<(), DataFault>
-    ensures { MatchResult result (λ _. PutsOut S.Sink out.old out.new bytes.now) (FailsOutput S.Sink out.new) }
+    ensures { MatchResult result
+        (λ _. PutsOut S.Sink out.old out.new bytes.now)
+        (FailsOutput S.Sink out.new) }
 {
     out.put(bytes)?;
     out.flush()?;
@@ -26,7 +28,9 @@ pub(crate) fn put_summary<D: Device + Drop, S: Sink>(
     mirror: &Mirror<D>,
     out: &mut S,
 ) -> Result<(), DataFault>
-    ensures { MatchResult result (λ _. PutsOut S.Sink out.old out.new (summary_text mirror.now.array)) (FailsOutput S.Sink out.new) }
+    ensures { MatchResult result
+        (λ _. PutsOut S.Sink out.old out.new (summary_text mirror.now.array))
+        (FailsOutput S.Sink out.new) }
 {
     summary(out, mirror)?;
     out.flush()?;
@@ -39,7 +43,11 @@ pub(crate) fn put_rebuilt<S: Sink>(
     member: u32,
     out: &mut S,
 ) -> Result<(), DataFault>
-    ensures { MatchResult result (λ _. PutsOut S.Sink out.old out.new (rebuilt_text member rebuilt.now.passes rebuilt.now.plans.items (length rebuilt.now.orphans.items))) (FailsOutput S.Sink out.new) }
+    ensures { MatchResult result
+        (λ _. PutsOut S.Sink out.old out.new
+        (rebuilt_text member rebuilt.now.passes rebuilt.now.plans.items
+        (length rebuilt.now.orphans.items)))
+        (FailsOutput S.Sink out.new) }
 {
     let plans = rebuilt.plans.as_slice();
     rebuilt_report(out, member, rebuilt.passes, plans, rebuilt.orphans.len())?;
@@ -49,7 +57,9 @@ pub(crate) fn put_rebuilt<S: Sink>(
 
 /// Puts out in how many chunks members in sync differ.
 pub(crate) fn put_checked<S: Sink>(mismatched: u32, out: &mut S) -> Result<(), DataFault>
-    ensures { MatchResult result (λ _. PutsOut S.Sink out.old out.new (check_text mismatched)) (FailsOutput S.Sink out.new) }
+    ensures { MatchResult result
+        (λ _. PutsOut S.Sink out.old out.new (check_text mismatched))
+        (FailsOutput S.Sink out.new) }
 {
     check_report(out, mismatched)?;
     out.flush()?;

@@ -30,7 +30,9 @@ pub(crate) fn put_sectors<D: Device + Drop, S: Sink>(
     requires may { MayReadAt mirror.old.array sector count }
     requires fits { sector + count < 2 ^ 64 }
     requires sound { IsConsistent mirror.old }
-    ensures gives { MatchResult result (λ _. PutsSectors S.Sink sector count mirror.old mirror.new out.old out.new) (RefusesSectors S.Sink sector count mirror.old mirror.new out.old out.new) }
+    ensures gives { MatchResult result
+        (λ _. PutsSectors S.Sink sector count mirror.old mirror.new out.old out.new)
+        (RefusesSectors S.Sink sector count mirror.old mirror.new out.old out.new) }
     ensures sound { IsConsistent mirror.new }
     ensures pending { (p : PendingView) → IsPending mirror.old.array p → IsPending mirror.new.array p }
 {
@@ -52,7 +54,9 @@ fn put_whole<D: Device + Drop, S: Sink>(
     requires few { length piece.old / 512 ≤ piece_sectors }
     requires may { MayReadAt mirror.old.array sector (length piece.old / 512) }
     requires sound { IsConsistent mirror.old }
-    ensures gives { MatchResult result (λ _. PutsSectors S.Sink sector (length piece.old / 512) mirror.old mirror.new out.old out.new) (RefusesSectors S.Sink sector (length piece.old / 512) mirror.old mirror.new out.old out.new) }
+    ensures gives { MatchResult result
+        (λ _. PutsSectors S.Sink sector (length piece.old / 512) mirror.old mirror.new out.old out.new)
+        (RefusesSectors S.Sink sector (length piece.old / 512) mirror.old mirror.new out.old out.new) }
     ensures sound { IsConsistent mirror.new }
     ensures pending { (p : PendingView) → IsPending mirror.old.array p → IsPending mirror.new.array p }
 {
@@ -73,7 +77,9 @@ fn put_pieces<D: Device + Drop, S: Sink>(
     requires may { MayReadAt mirror.old.array sector count }
     requires fits { sector + count < 2 ^ 64 }
     requires sound { IsConsistent mirror.old }
-    ensures gives { MatchResult result (λ _. PutsSectors S.Sink sector count mirror.old mirror.new out.old out.new) (RefusesSectors S.Sink sector count mirror.old mirror.new out.old out.new) }
+    ensures gives { MatchResult result
+        (λ _. PutsSectors S.Sink sector count mirror.old mirror.new out.old out.new)
+        (RefusesSectors S.Sink sector count mirror.old mirror.new out.old out.new) }
     ensures sound { IsConsistent mirror.new }
     ensures pending { (p : PendingView) → IsPending mirror.old.array p → IsPending mirror.new.array p }
 {
@@ -102,7 +108,9 @@ fn put_piece<D: Device + Drop, S: Sink>(
     requires whole { length piece.old % 512 ≡ 0 }
     requires may { MayReadAt mirror.old.array sector (length piece.old / 512) }
     requires sound { IsConsistent mirror.old }
-    ensures gives { MatchResult result (λ _. PutsPiece S.Sink sector piece.new mirror.old mirror.new out.old out.new) (RefusesPiece S.Sink sector piece.new mirror.old mirror.new out.old out.new) }
+    ensures gives { MatchResult result
+        (λ _. PutsPiece S.Sink sector piece.new mirror.old mirror.new out.old out.new)
+        (RefusesPiece S.Sink sector piece.new mirror.old mirror.new out.old out.new) }
     ensures sound { IsConsistent mirror.new }
     ensures pending { (p : PendingView) → IsPending mirror.old.array p → IsPending mirror.new.array p }
 {

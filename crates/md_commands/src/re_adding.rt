@@ -38,7 +38,11 @@ pub fn re_add_device<D: Device + Drop + Send, W: Watch + Sync, S: Sink, T: Threa
     out: &mut S,
 ) -> (Option<D>, Result<(), DataFault>)
     requires sound { IsConsistent mirror.old }
-    ensures gives { MatchResult result.1 (λ _. StopsArrayAfter S.Sink (ReAddsDevice (disk_of D.Device device) mirror.old) mirror.new out.old out.new) (RefusesToReAdd S.Sink (disk_of D.Device device) (option_map (disk_of D.Device) result.0) mirror.old mirror.new out.old out.new) }
+    ensures gives { MatchResult result.1
+        (λ _. StopsArrayAfter S.Sink (ReAddsDevice (disk_of D.Device device) mirror.old) mirror.new out.old
+        out.new)
+        (RefusesToReAdd S.Sink (disk_of D.Device device) (option_map (disk_of D.Device) result.0) mirror.old
+        mirror.new out.old out.new) }
     ensures device { KeepsDevice mirror.old.disks mirror.new.disks (option_map (disk_of D.Device) result.0) }
     ensures sound { IsConsistent mirror.new }
     ensures pending { (p : PendingView) → IsPending mirror.old.array p → IsPending mirror.new.array p }
@@ -66,7 +70,9 @@ fn rebuild_and_show<D: Device + Drop + Send, W: Watch + Sync, S: Sink, T: Thread
 ) -> Result<(), DataFault>
     requires member { k < length mirror.old.array.members }
     requires sound { IsConsistent mirror.old }
-    ensures gives { MatchResult result (λ _. StopsArrayAfter S.Sink (RebuildsMember k mirror.old) mirror.new out.old out.new) (RefusesRebuilding S.Sink k mirror.old mirror.new out.old out.new) }
+    ensures gives { MatchResult result
+        (λ _. StopsArrayAfter S.Sink (RebuildsMember k mirror.old) mirror.new out.old out.new)
+        (RefusesRebuilding S.Sink k mirror.old mirror.new out.old out.new) }
     ensures sound { IsConsistent mirror.new }
     ensures pending { (p : PendingView) → IsPending mirror.old.array p → IsPending mirror.new.array p }
 {

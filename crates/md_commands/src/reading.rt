@@ -34,7 +34,9 @@ pub fn read_array<D: Device + Drop, S: Sink>(
     out: &mut S,
 ) -> Result<(), DataFault>
     requires sound { IsConsistent mirror.old }
-    ensures gives { MatchResult result (λ _. ReadsArray S.Sink sector count mirror.old mirror.new out.old out.new) (RefusesToRead S.Sink sector count mirror.old mirror.new out.old out.new) }
+    ensures gives { MatchResult result
+        (λ _. ReadsArray S.Sink sector count mirror.old mirror.new out.old out.new)
+        (RefusesToRead S.Sink sector count mirror.old mirror.new out.old out.new) }
     ensures sound { IsConsistent mirror.new }
     ensures pending { (p : PendingView) → IsPending mirror.old.array p → IsPending mirror.new.array p }
 {
@@ -52,7 +54,9 @@ fn check_range<D: Device + Drop>(
     sector: u64,
     count: u64,
 ) -> Result<(), UnreadFault>
-    ensures may { MatchResult result (λ _. MayReadArray mirror.now.array sector count) (RefusesRange sector count mirror.now mirror.now) }
+    ensures may { MatchResult result
+        (λ _. MayReadArray mirror.now.array sector count)
+        (RefusesRange sector count mirror.now mirror.now) }
     ensures fits { IfOk result (λ _. sector + count < 2 ^ 64) }
 {
     if mirror.halted() {

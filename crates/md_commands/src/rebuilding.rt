@@ -38,7 +38,9 @@ pub fn rebuild_member<D: Device + Drop + Send, W: Watch + Sync, S: Sink, T: Thre
     out: &mut S,
 ) -> Result<(), DataFault>
     requires sound { IsConsistent mirror.old }
-    ensures gives { MatchResult result (λ _. RebuildsArray S.Sink member mirror.old mirror.new out.old out.new) (RefusesToRebuild S.Sink member mirror.old mirror.new out.old out.new) }
+    ensures gives { MatchResult result
+        (λ _. RebuildsArray S.Sink member mirror.old mirror.new out.old out.new)
+        (RefusesToRebuild S.Sink member mirror.old mirror.new out.old out.new) }
     ensures sound { IsConsistent mirror.new }
     ensures pending { (p : PendingView) → IsPending mirror.old.array p → IsPending mirror.new.array p }
 {
@@ -57,7 +59,9 @@ fn rebuild_and_stop<D: Device + Drop + Send, W: Watch + Sync, T: Threads + Wait 
 ) -> Result<Rebuilt, DataFault>
     requires member { k < length mirror.old.array.members }
     requires sound { IsConsistent mirror.old }
-    ensures gives { MatchResult result (λ rebuilt. StopsAfter (RebuildsReadied k rebuilt mirror.old) mirror.new) (RefusesReadied k mirror.old mirror.new) }
+    ensures gives { MatchResult result
+        (λ rebuilt. StopsAfter (RebuildsReadied k rebuilt mirror.old) mirror.new)
+        (RefusesReadied k mirror.old mirror.new) }
     ensures sound { IsConsistent mirror.new }
     ensures pending { (p : PendingView) → IsPending mirror.old.array p → IsPending mirror.new.array p }
 {
@@ -78,7 +82,9 @@ pub(crate) fn rebuild_watched<D: Device + Drop + Send, W: Watch + Sync, T: Threa
 ) -> Result<Rebuilt, RebuildFault>
     requires member { k < length mirror.old.array.members }
     requires sound { IsConsistent mirror.old }
-    ensures gives { MatchResult result (λ rebuilt. Rebuilds k rebuilt mirror.old mirror.new) (RefusesRebuild k mirror.old mirror.new) }
+    ensures gives { MatchResult result
+        (λ rebuilt. Rebuilds k rebuilt mirror.old mirror.new)
+        (RefusesRebuild k mirror.old mirror.new) }
     ensures sound { IsConsistent mirror.new }
     ensures pending { (p : PendingView) → IsPending mirror.old.array p → IsPending mirror.new.array p }
 {

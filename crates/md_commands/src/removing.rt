@@ -30,8 +30,11 @@ pub fn remove_member<D: Device + Drop, S: Sink>(
     out: &mut S,
 ) -> (Option<D>, Result<(), DataFault>)
     requires sound { IsConsistent mirror.old }
-    ensures gives { MatchResult result.1 (λ _. StopsArrayAfter S.Sink (RemovesMember member mirror.old) mirror.new out.old out.new) (RefusesToRemove S.Sink member mirror.old mirror.new out.old out.new) }
-    ensures device { HandsBack member mirror.old.disks mirror.new.disks (option_map (disk_of D.Device) result.0) }
+    ensures gives { MatchResult result.1
+        (λ _. StopsArrayAfter S.Sink (RemovesMember member mirror.old) mirror.new out.old out.new)
+        (RefusesToRemove S.Sink member mirror.old mirror.new out.old out.new) }
+    ensures device { HandsBack member mirror.old.disks mirror.new.disks
+        (option_map (disk_of D.Device) result.0) }
     ensures sound { IsConsistent mirror.new }
     ensures pending { (p : PendingView) → IsPending mirror.old.array p → IsPending mirror.new.array p }
 {
@@ -47,7 +50,9 @@ pub fn remove_member<D: Device + Drop, S: Sink>(
 // Removes the member with this index, and hands its device back.
 fn remove_named<D: Device + Drop>(mirror: &mut Mirror<D>, member: u32) -> Result<D, DataFault>
     requires sound { IsConsistent mirror.old }
-    ensures gives { MatchResult result (λ d. Removes member (disk_of D.Device d) mirror.old mirror.new) (RefusesRemoving member mirror.old mirror.new) }
+    ensures gives { MatchResult result
+        (λ d. Removes member (disk_of D.Device d) mirror.old mirror.new)
+        (RefusesRemoving member mirror.old mirror.new) }
     ensures sound { IsConsistent mirror.new }
     ensures pending { (p : PendingView) → IsPending mirror.old.array p → IsPending mirror.new.array p }
 {

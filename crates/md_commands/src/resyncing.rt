@@ -21,7 +21,9 @@ pub fn resync_array<D: Device + Drop, S: Sink>(
     out: &mut S,
 ) -> Result<(), DataFault>
     requires sound { IsConsistent mirror.old }
-    ensures gives { MatchResult result (λ _. ResyncsArray S.Sink mirror.old mirror.new out.old out.new) (RefusesToResync S.Sink mirror.old mirror.new out.old out.new) }
+    ensures gives { MatchResult result
+        (λ _. ResyncsArray S.Sink mirror.old mirror.new out.old out.new)
+        (RefusesToResync S.Sink mirror.old mirror.new out.old out.new) }
     ensures sound { IsConsistent mirror.new }
     ensures pending { (p : PendingView) → IsPending mirror.old.array p → IsPending mirror.new.array p }
 {
@@ -36,7 +38,9 @@ pub(crate) fn resync_if_needed<D: Device + Drop>(
     mirror: &mut Mirror<D>,
 ) -> Result<(), ResyncFault>
     requires sound { IsConsistent mirror.old }
-    ensures gives { MatchResult result (λ _. ResyncsIfNeeded mirror.old mirror.new) (RefusesNeededResync mirror.old mirror.new) }
+    ensures gives { MatchResult result
+        (λ _. ResyncsIfNeeded mirror.old mirror.new)
+        (RefusesNeededResync mirror.old mirror.new) }
     ensures sound { IsConsistent mirror.new }
     ensures pending { (p : PendingView) → IsPending mirror.old.array p → IsPending mirror.new.array p }
 {

@@ -18,7 +18,9 @@ pub fn stop_array<D: Device + Drop, S: Sink>(
     out: &mut S,
 ) -> Result<(), DataFault>
     requires sound { IsConsistent mirror.old }
-    ensures gives { MatchResult result (λ _. StopsArray S.Sink mirror.old mirror.new out.old out.new) (RefusesToStop S.Sink mirror.old mirror.new out.old out.new) }
+    ensures gives { MatchResult result
+        (λ _. StopsArray S.Sink mirror.old mirror.new out.old out.new)
+        (RefusesToStop S.Sink mirror.old mirror.new out.old out.new) }
     ensures sound { IsConsistent mirror.new }
     ensures pending { (p : PendingView) → IsPending mirror.old.array p → IsPending mirror.new.array p }
 {

@@ -38,7 +38,9 @@ pub fn write_array<D: Device + Drop, I: Source, S: Sink>(
     out: &mut S,
 ) -> Result<(), DataFault>
     requires sound { IsConsistent mirror.old }
-    ensures gives { MatchResult result (λ _. WritesArray I.Source S.Sink sector mirror.old mirror.new input.old input.new out.old out.new) (RefusesToWrite I.Source S.Sink sector mirror.old mirror.new input.old input.new out.old out.new) }
+    ensures gives { MatchResult result
+        (λ _. WritesArray I.Source S.Sink sector mirror.old mirror.new input.old input.new out.old out.new)
+        (RefusesToWrite I.Source S.Sink sector mirror.old mirror.new input.old input.new out.old out.new) }
     ensures sound { IsConsistent mirror.new }
     ensures pending { (p : PendingView) → IsPending mirror.old.array p → IsPending mirror.new.array p }
 {
@@ -59,7 +61,9 @@ fn write_and_stop<D: Device + Drop>(
 ) -> Result<(), DataFault>
     requires whole { length bytes.now % 512 ≡ 0 }
     requires sound { IsConsistent mirror.old }
-    ensures gives { MatchResult result (λ _. StopsAfter (WritesReadied sector bytes.now mirror.old) mirror.new) (RefusesBytes sector bytes.now mirror.old mirror.new) }
+    ensures gives { MatchResult result
+        (λ _. StopsAfter (WritesReadied sector bytes.now mirror.old) mirror.new)
+        (RefusesBytes sector bytes.now mirror.old mirror.new) }
     ensures sound { IsConsistent mirror.new }
     ensures pending { (p : PendingView) → IsPending mirror.old.array p → IsPending mirror.new.array p }
 {

@@ -196,7 +196,8 @@ fn image_list<'a>(alloc: Global, found: &ArgMatches<'a>) -> Result<Vec<&'a str>,
 #[tactic(auto, unfolding(crate::specs::Asked::image_words, crate::specs::Asked::asked))]
 pub fn parse<'a>(alloc: Global, words: &'a [&'a str]) -> Result<Request<'a>, Error>
     ensures asks { IfOk result (λ r. ask_of r.command ≡ asked (map (λ s. s.now) words.entry.now)) }
-    ensures images { IfOk result (λ r. map (λ s. s.now) r.images.items ≡ image_words (map (λ s. s.now) words.entry.now)) }
+    ensures images { IfOk result
+        (λ r. map (λ s. s.now) r.images.items ≡ image_words (map (λ s. s.now) words.entry.now)) }
     ensures fails { FailsBy (fault_of mdcli (map (λ s. s.now) words.entry.now)) result }
 {
     let matches = matches(alloc, words)?;
