@@ -1,0 +1,14 @@
+-- The members in sync of a resynced array agree, as after a resync.
+pub mod Agreement
+-- What stands on the devices after a write that failed, a stop within such a write might have left.
+pub mod ToldAfter
+-- A write that halted the mirror, and that was left done or not done.
+pub mod HaltedCalls
+-- A halted mirror over devices of which one has other bytes in a write's range.
+pub mod HaltedOver
+-- The members in sync that an opening finds of such devices were so before.
+pub mod AfterHalt
+-- A copy that halted the mirror, with any bytes in its range.
+pub mod TornCopies
+-- A sector of the bitmap of the only member in sync, with any bits.
+pub mod LoneMarks

@@ -1,0 +1,91 @@
+-- What a stop leaves within and after a write that halts a whole call, where that write was left done or not done: each kind of write in one place.
+use Rattle.std.specs.Prelude.{◌≡◌, ◌⊎◌, ℕ, ◌+◌, ◌%◌, ◌<◌, Bool, List, [], ◌∷◌, ◌++◌, Option, length, None}
+use Rattle.md_badblocks.specs.Runs.{IsCanonical}
+use Rattle.md_members.specs.Areas.{bitmap_sectors}
+use Rattle.md_model.specs.Events.{Event}
+use Rattle.md_state.specs.Requests.{AreInFlight, among}
+use Rattle.md_state.specs.View.{Disk, MirrorView}
+use Rattle.md_array.specs.InTurn.{AllLeftWhole, HaltsAt, Leads, Requests}
+use Rattle.md_array.specs.Listing.{HasNoShift}
+use Rattle.md_laws.specs.HaltedWrites.{IsDoneOrNot, IsLeftInSectors}
+use Rattle.md_laws.specs.Left.{IsLeft, contents_of}
+use Rattle.md_laws.specs.Runs.{MirrorRun, Moment}
+use Rattle.md_laws.specs.StoppedCalls.{AreWhole, AtMoments, IsStopOf, LeavesSuperWhole}
+use Rattle.md_laws.specs.StoppedCopies.{copies_at}
+use Rattle.md_laws.specs.StopsWithin.{MayAllBeLeft}
+use Rattle.md_metadata.specs.Stopping.{HaltsStop}
+use Rattle.md_resync.specs.Resyncing.{HaltsResync}
+use Rattle.md_write.specs.StoppedWrites.{begun_events}
+use Rattle.md_write.specs.Writing.{HaltsWrite}
+
+-- What a stop might have left since devices were the first of these, and until they were the second: within a call, or after it.
+abbrev pub IsLeftSince : (before after left : List Disk) → Type 0
+IsLeftSince before after left = MayAllBeLeft before after (contents_of left) ⊎ (contents_of left ≡ contents_of after)
+
+-- ---- what is asked
+-- Within a write that halted the mirror, and after it, by its kind. Of a superblock, that the old one, the new one or none was left; of a sector of a bitmap and
+-- of a log, that the write was left done or not done, of a log too that it was read without a shift, or stored since; of a copy, each sector as
+-- it was or as written. Of data that are written nothing is asked.
+abbrev pub IsLeftByHalt : (failing : Event) (old new : MirrorView) (requests : Requests) → HaltsAt old requests failing new → List Disk → Type 0
+IsLeftByHalt (Event.RecordFails k) old new requests h left = LeavesSuperWhole k old left
+IsLeftByHalt (Event.WriteMemberFails n k) old new requests h left = Unit {0}
+IsLeftByHalt (Event.StoreMarksFails k b) old new requests h left = (b < bitmap_sectors old.array.marks.chunks) × IsDoneOrNot k h.write old.disks (contents_of left)
+IsLeftByHalt (Event.StoreLogFails k) old new requests h left = IsCanonical h.member.bad × HasNoShift k old × IsDoneOrNot k h.write old.disks (contents_of left)
+IsLeftByHalt (Event.CopyFails k c) old new requests h left =
+    IsLeftInSectors k (h.copy.may.target.superblock.data_offset + h.sector) h.bytes old.disks (contents_of left)
+IsLeftByHalt e old new requests h left = ⊥
+
+-- ---- what is said
+-- The events that stand in place of that write: the step done; of a copy, some of its sectors.
+abbrev pub IsInstead : Event → List Event → Type 0
+IsInstead (Event.StoreMarksFails k b) es = es ≡ Event.StoreMarks k b ∷ []
+IsInstead (Event.StoreLogFails k) es = (listed : ℕ → Bool) × (es ≡ Event.StoreLog k listed ∷ [])
+IsInstead (Event.CopyFails k c) es = (from : ℕ) × (sectors : List ℕ) × (es ≡ copies_at from k sectors)
+IsInstead e es = ⊥
+
+-- These events lead on, and then such in place of the write: from there on a stop leaves that.
+pub record IsStopInstead (es : List Event) (failing : Event) (t : Moment) (left : List Disk) : Type 0 where
+  pub instead : List Event
+  pub is_instead : IsInstead failing instead
+  pub at : Moment
+  pub run : MirrorRun t (es ++ instead) at
+  pub is_left : IsLeft at left
+
+-- It is a stop of a run: of these events, or with such behind them. So the laws over lives speak of it.
+abbrev pub IsStopAtHalt : List Event → Event → Moment → List Disk → Type 0
+IsStopAtHalt es failing t left = IsStopOf es t left ⊎ IsStopInstead es failing t left
+
+-- Wherever a life has come to, a call did these events, and then a write failed that halted the mirror.
+abbrev pub StopsAtEachHalt : Type 0
+StopsAtEachHalt =
+    AtMoments (λ t.
+    ((es : List Event) (previous : Option Event) (mid : MirrorView) (between : Requests) (leads : Leads previous t.mirror t.requests es mid between)
+    → AllLeftWhole es previous t.mirror t.requests (λ m r. (m ≡ mid) × (r ≡ between)) leads
+    → (failing : Event) (new : MirrorView) (halts : HaltsAt mid between failing new) → AreWhole (es ++ failing ∷ []) t.requests
+    → (left : List Disk) → IsLeftSince mid.disks new.disks left → IsLeftByHalt failing mid new between halts left → IsStopAtHalt es failing t left))
+
+-- So it is of `write`,
+abbrev pub StopsAtHaltedWrite : Type 0
+StopsAtHaltedWrite =
+    AtMoments (λ t.
+    ((sector : ℕ) (bytes : List ℕ) (new : MirrorView) → length bytes % 512 ≡ 0 → (h : HaltsWrite sector bytes t.mirror new) (in_flight : AreInFlight t.mirror.array t.requests)
+    → AllLeftWhole (begun_events h) None t.mirror t.requests (λ m r. (m ≡ h.mid) × (r ≡ among h.last t.requests)) (h.happens None t.requests in_flight)
+    → (left : List Disk) → IsLeftSince h.mid.disks new.disks left
+    → IsLeftByHalt h.failing h.mid new (among h.last t.requests) (h.halts t.requests) left → IsStopAtHalt (begun_events h) h.failing t left))
+
+-- of `stop`,
+abbrev pub StopsAtHaltedStop : Type 0
+StopsAtHaltedStop =
+    AtMoments (λ t.
+    ((new : MirrorView) (h : HaltsStop t.mirror new) (in_flight : AreInFlight t.mirror.array t.requests)
+    → AllLeftWhole h.goes.events None t.mirror t.requests (λ m r. (m ≡ h.halts.mid) × (r ≡ t.requests)) (h.goes.leads None t.requests in_flight)
+    → (left : List Disk) → IsLeftSince h.halts.mid.disks new.disks left
+    → IsLeftByHalt h.halts.failing h.halts.mid new t.requests (h.halts.halts t.requests) left → IsStopAtHalt h.goes.events h.halts.failing t left))
+
+-- and of `resync`.
+abbrev pub StopsAtHaltedResync : Type 0
+StopsAtHaltedResync =
+    AtMoments (λ t.
+    ((new : MirrorView) (h : HaltsResync t.mirror new)
+    → (left : List Disk) → IsLeftSince h.mid.disks new.disks left
+    → IsLeftByHalt h.failing h.mid new t.requests (h.halts t.requests) left → IsStopAtHalt h.goes.events h.failing t left))

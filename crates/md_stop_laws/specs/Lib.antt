@@ -1,0 +1,6 @@
+-- When the members in sync of a mirror agree.
+pub mod Agreement
+-- What a stop leaves within a whole call that a write halted.
+pub mod HaltedCalls
+-- What the next opening finds where a stop left other bytes in a write that halted the mirror.
+pub mod TornWrites

@@ -1,0 +1,35 @@
+//! What holds of stops and of resyncs in the life of a mirror. The functions do nothing: their contracts are the theorems.
+
+ghost use Rattle.md_laws.specs.Lives.{AtEachMoment};
+ghost use Rattle.md_stop_laws.specs.Agreement.{AgreesAtRest, ResyncsAgree};
+ghost use Rattle.md_stop_laws.specs.HaltedCalls.{StopsAtEachHalt, StopsAtHaltedResync, StopsAtHaltedStop, StopsAtHaltedWrite};
+ghost use Rattle.md_stop_laws.specs.TornWrites.{ContentAfterCopy, ContentAfterLoneMarks, StartsAfterCopy, StartsAfterLoneMarks};
+
+/// The members in sync agree: at each moment of each life at which the array is resynced, in each sector that no request
+/// in flight touches and that the device of neither lists; and so after a resync that is done, wherever a life has come to,
+/// in each sector of the array that neither lists.
+pub fn members_agree()
+    ensures at_rest { AtEachMoment AgreesAtRest }
+    ensures resynced { ResyncsAgree }
+{}
+
+/// A whole call that a write halted, where a stop left that write done or not done, and of a copy each sector as it was or as
+/// written: what was left, a stop of a run leaves. That is a run of what the call did before that write, or of that and the
+/// same step done. It is so of every list of steps, and of `write`, `stop` and `resync`.
+pub fn halted_calls()
+    ensures steps { StopsAtEachHalt }
+    ensures write { StopsAtHaltedWrite }
+    ensures stop { StopsAtHaltedStop }
+    ensures resync { StopsAtHaltedResync }
+{}
+
+/// A write that halted the mirror may leave any bytes in its range. The next opening, of devices that a stop within that
+/// write left, begins another life all the same: its members in sync were so before, and the stored marks cover what they
+/// differ in. So it is of a copy, whose chunk is marked on each member in sync; and of marks, where no other member was in
+/// sync. The content stays, but where a copy may have settled it, or where it was not at rest.
+pub fn torn_writes()
+    ensures copy { StartsAfterCopy }
+    ensures copy_content { ContentAfterCopy }
+    ensures lone_marks { StartsAfterLoneMarks }
+    ensures lone_content { ContentAfterLoneMarks }
+{}
