@@ -1,5 +1,6 @@
 pub mod Answered
 pub mod Begun
+pub mod BegunAs
 pub mod Beside
 pub mod Carried
 pub mod CheckpointDone
@@ -8,6 +9,7 @@ pub mod Covered
 pub mod EnrolSets
 pub mod FailedRows
 pub mod Filled
+pub mod Halting
 pub mod HeldAlong
 pub mod HeldChunks
 pub mod HeldFilled

@@ -26,6 +26,7 @@ use Rattle.md_copy.specs.Rebuilding.{Rebuilds, RebuildsReadied}
 use Rattle.md_copy.specs.Rebuilt.{HaltsFrom, HasRebuilt, IsRebuilt, IsRebuiltInSync, ListsGrow, failed_of}
 use Rattle.md_copy.specs.Sources.{missing_chunks}
 use Rattle.md_copy.specs.Storing.{Settles}
+use Rattle.md_copy.proofs.BegunAs.{permits_both, same_missing, serves_both, serves_most}
 use Rattle.md_copy.proofs.ListsKept.{own_stored_so, stored_so}
 use Rattle.md_copy.proofs.PassesTold.{HoldsSoFar, begins_holding}
 use Rattle.md_copy.proofs.Readied.{ready_of}
@@ -42,21 +43,6 @@ pub record IsLast (enrolled last new : MirrorView) : Type 0 where
 pub last_of : (enrolled new : MirrorView) → Settles enrolled new → (last : MirrorView) × IsLast enrolled last new
 last_of enrolled new (inl all) = (new, record { goes = all.goes; ends = inl refl })
 last_of enrolled new (inr halts) = (halts.mid, record { goes = halts.goes; ends = inr (record { failing = halts.failing; of = halts.of; halts = halts.halts }) })
-
-filter_same : (p q : ℕ → Bool) (xs : List ℕ) → ((c : ℕ) → Contains xs c → p c ≡ q c) → filter p xs ≡ filter q xs
-filter_same p q [] same = refl
-filter_same p q (x ∷ xs) same =
-    by (filter_same p q xs (λ c there. same c (let (k, low, at) = there in (suc k, omega (arith, low), at)))) (q x) (same x (zero, omega arith, refl)) refl
-  where
-    by : filter p xs ≡ filter q xs → (b : Bool) → p x ≡ q x → q x ≡ b → filter p (x ∷ xs) ≡ filter q (x ∷ xs)
-    by rest true is one = rw (is, one) (ap (λ ys. x ∷ ys) rest)
-    by rest false is one = rw (is, one) rest
-
-in_range_low : (n c : ℕ) → Contains (range_with_len 0 n) c → c < n
-in_range_low n c (k, below, is) =
-    let many = length-range_with_len 0 n in
-    let here = get_or-range_with_len 0 n k c (omega (arith, below, many)) in
-    omega (arith, below, many, is, here)
 
 module _ (target : ℕ) (told : Rebuilt) (old new : MirrorView) (h : Rebuilds target told old new) where
   abbrev v : MirrorView
@@ -88,73 +74,7 @@ module _ (target : ℕ) (told : Rebuilt) (old new : MirrorView) (h : Rebuilds ta
 
   -- what it lacked then is what it lacked
   missing_is : missing_chunks v.array m ≡ missing_chunks old.array l
-  missing_is =
-      ap (λ (q : Chunks). filter (is_missing v.array m) (range_with_len 0 (div_ceil q.size q.sectors))) starts.chunks
-      ∙ filter_same (is_missing v.array m) (is_missing old.array l) (range_with_len 0 (div_ceil old.array.chunks.size old.array.chunks.sectors))
-      (λ c there. starts.missing l m rebuilt.at at_m c (let low = in_range_low (div_ceil old.array.chunks.size old.array.chunks.sectors) c there in let many = h.begins.sound.chunks.count in omega (arith, low, many)))
-
-  -- a member lists none of a chunk's sectors in one of the two where it lists none in the other
-  free_before : (c j : ℕ) (n : MemberView) (at : IsMember v.array j n) → IsUnlisted v.array c n → IsUnlisted old.array c (starts.before j n at).0
-  free_before c j n at free i inside bad =
-      let b = starts.before j n at in
-      free i (subst (λ (q : Chunks). InChunk q.sectors q.size c i) (sym starts.chunks) inside)
-      (subst (λ runs. IsBad runs (n.superblock.data_offset + i)) (sym b.2.bad) (subst (λ o. IsBad b.0.bad (o + i)) (sym b.2.offset) bad))
-
-  free_then : (c j : ℕ) (l : MemberView) (at : IsMember old.array j l) → IsUnlisted old.array c l → IsUnlisted v.array c (starts.then j l at).0
-  free_then c j l at free i inside bad =
-      let b = starts.then j l at in
-      free i (subst (λ (q : Chunks). InChunk q.sectors q.size c i) starts.chunks inside)
-      (subst (λ runs. IsBad runs (l.superblock.data_offset + i)) b.2.bad (subst (λ o. IsBad b.0.bad (o + i)) b.2.offset bad))
-
-  plain_before : (c : ℕ) → IsServedPlainly v.array c → IsServedPlainly old.array c
-  plain_before c (role, small, k, n, at, in_sync, free, plain) =
-      let b = starts.before k n at in
-      (role, small, k, b.0, b.1, sym (b.2.roles role) ∙ in_sync, free_before c k n at free, ap (λ f. not (bit_and f 1 == 0)) (sym b.2.flags) ∙ plain)
-
-  plain_then : (c : ℕ) → IsServedPlainly old.array c → IsServedPlainly v.array c
-  plain_then c (role, small, k, l, at, in_sync, free, plain) =
-      let b = starts.then k l at in
-      (role, small, k, b.0, b.1, b.2.roles role ∙ in_sync, free_then c k l at free, ap (λ f. not (bit_and f 1 == 0)) b.2.flags ∙ plain)
-
-  serves_both : (c role : ℕ) → ServesAs v.array c role ↔ ServesAs old.array c role
-  serves_both c role = (
-    λ (small, low, (k, n, at, in_sync, free)).
-        (let b = starts.before k n at in
-        (small, subst (λ (q : Chunks). c < div_ceil q.size q.sectors) starts.chunks low, (k, b.0, b.1, sym (b.2.roles role) ∙ in_sync, free_before c k n at free))),
-    λ (small, low, (k, l, at, in_sync, free)).
-        (let b = starts.then k l at in
-        (small, subst (λ (q : Chunks). c < div_ceil q.size q.sectors) (sym starts.chunks) low, (k, b.0, b.1, b.2.roles role ∙ in_sync, free_then c k l at free))),
-  )
-
-  permits_both : (c role : ℕ) → MayServe v.array c role ↔ MayServe old.array c role
-  permits_both c role = (
-    λ (small, low, (k, n, at, in_sync, free, either)).
-        (let b = starts.before k n at in (
-          small,
-          subst (λ (q : Chunks). c < div_ceil q.size q.sectors) starts.chunks low,
-          (
-            k,
-            b.0,
-            b.1,
-            sym (b.2.roles role) ∙ in_sync,
-            free_before c k n at free,
-            elim either [ inl plain ↦ inl (ap (λ f. not (bit_and f 1 == 0)) (sym b.2.flags) ∙ plain) | inr none ↦ inr (λ p. none (plain_then c p)) ],
-          ),
-        )),
-    λ (small, low, (k, l, at, in_sync, free, either)).
-        (let b = starts.then k l at in (
-          small,
-          subst (λ (q : Chunks). c < div_ceil q.size q.sectors) (sym starts.chunks) low,
-          (
-            k,
-            b.0,
-            b.1,
-            b.2.roles role ∙ in_sync,
-            free_then c k l at free,
-            elim either [ inl plain ↦ inl (ap (λ f. not (bit_and f 1 == 0)) b.2.flags ∙ plain) | inr none ↦ inr (λ p. none (plain_before c p)) ],
-          ),
-        )),
-  )
+  missing_is = same_missing target old v starts h.begins.sound l m rebuilt.at at_m
 
   of_failed : (k : ℕ) (n z : MemberView) → IsAs n z → (sector : ℕ) → IsOfFailed v.array.chunks (failed_of r.passes) z sector ↔ IsOfFailed old.array.chunks (failed_of r.passes) n sector
   of_failed k n z like sector = (
@@ -191,8 +111,7 @@ module _ (target : ℕ) (told : Rebuilt) (old new : MirrorView) (h : Rebuilds ta
 
   few : length r.passes ≤ most_failures old.array + 1
   few =
-      let most = copies_add.most old.array in
-      (all_so target m h.none v new told r at_m so h.begins.is_none.bits last.0 last.1.goes).few (most_failures old.array) (most.0, most.1, λ c role serves. most.2 c role ((serves_both c role).0 serves))
+      (all_so target m h.none v new told r at_m so h.begins.is_none.bits last.0 last.1.goes).few (most_failures old.array) (serves_most target old v starts)
 
   -- once it is in sync
   pub rebuilt_member : IsRebuiltInSync target r.copied r.orphans v r.by.enrolled
@@ -219,8 +138,8 @@ module _ (target : ℕ) (told : Rebuilt) (old new : MirrorView) (h : Rebuilds ta
     orphans_are = r.tells.orphans_are ∙ r.by.fills.chunks_are ∙ ap (filter (λ c. not (is_set r.copied.bytes c))) missing_is;
     passes_are = record {
       first = v.array;
-      served = serves_both;
-      permitted = permits_both;
+      served = serves_both target old v starts;
+      permitted = permits_both target old v starts;
       end = r.by.fills.copies.now.array;
       are = subst (λ xs. ArrayPasses r.passes v.array xs r.by.fills.copies.now.array) missing_is (passes_so target m h.none v new told r at_m so h.begins.is_none.bits last.0 last.1.goes);
       few = few;

@@ -1,5 +1,5 @@
 -- What the steps of a rebuild leave as it was, until the target comes into sync.
-use Rattle.std.proofs.Common.{◌≡◌, ◌≢◌, ◌∙◌, ◌⊎◌, ◌↔◌, ℕ, ◌+◌, ◌*◌, ◌<◌, ◌≤◌, true, List, length, count_by, get_or, slice_get, Some, refl, sym, ap, subst, arith, inl, inr}
+use Rattle.std.proofs.Common.{◌≡◌, ◌≢◌, ◌∙◌, ◌⊎◌, ◌↔◌, ℕ, ◌+◌, ◌*◌, ◌<◌, ◌≤◌, true, false, List, ◌++◌, length, count_by, get_or, slice_get, Some, refl, sym, ap, subst, arith, inl, inr}
 use Rattle.std.proofs.lemmas.Bool.{cases_eq}
 use Rattle.std.proofs.lemmas.Option.{same_Some, slice_get-get_or, slice_get_within}
 use Rattle.md_assembly.specs.declared.state.MemberState.TheVariants.{Faulty}
@@ -25,7 +25,10 @@ use Rattle.md_array.specs.Enrolling.{KeepsData}
 use Rattle.md_array.specs.Lending.{IsBesideChunk, IsBesideMissing}
 use Rattle.md_array.specs.Recording.{super_write}
 use Rattle.md_copy.specs.Filling.{CountsFailed}
-use Rattle.md_copy.specs.Rebuilt.{HaltsFrom, HasEnded, IsBesideLacking, KeepStates, ListsGrow, OthersKeepData, StandStored}
+use Rattle.md_copy.specs.declared.fault.RebuildFault.{RebuildFault}
+use Rattle.md_copy.specs.declared.fault.RebuildFault.TheVariants.{MetadataFault}
+use Rattle.md_copy.specs.Rebuilt.{KeepStates, ListsGrow, OthersKeepData, failed_of}
+use Rattle.md_copy.specs.Refused.{Ending, EndsSo, HasEnded, HasMade, IsBesideLacking}
 use Rattle.md_copy.proofs.StartedAs.{StartsAs}
 use Rattle.md_copy.proofs.StoringKeeps.{HasPlace, HavePlaces, KeepsAll, beside_super_of, device_before, device_then, member_then, places_of}
 
@@ -291,13 +294,13 @@ rest_stored target old new keeps sound state = record {
 }
 
 -- One device was used, beside its member's data. In memory all is as it was.
-pub rest_alone : (target k : ℕ) (old new : MirrorView) → new.array ≡ old.array → length new.disks ≡ length old.disks → ((j : ℕ) → j ≢ k → slice_get new.disks j ≡ slice_get old.disks j)
+pub rest_alone : (target k : ℕ) (old new : MirrorView) → new.array.members ≡ old.array.members → length new.disks ≡ length old.disks → ((j : ℕ) → j ≢ k → slice_get new.disks j ≡ slice_get old.disks j)
     → ((d e : Disk) → slice_get old.disks k ≡ Some d → slice_get new.disks k ≡ Some e → (d.failures ≤ e.failures) × (e.honest ≡ d.honest))
     → ((d e : Disk) (m : MemberView) → slice_get old.disks k ≡ Some d → slice_get new.disks k ≡ Some e → IsMember old.array k m → KeepsData m d e) → KeepsRest target old new
 rest_alone target k old new same as_many others counted keeps =
     let none = preserves_none target old in
     record {
-      then = λ j m at. (m, ap (λ (a : ArrayView). slice_get a.members j) same ∙ at);
+      then = λ j m at. (m, ap (λ (xs : List MemberView). slice_get xs j) same ∙ at);
       disk_then = λ j d at. (let low = slice_get_within old.disks j d at in (get_or new.disks j d, slice_get-get_or new.disks j d (omega (arith, low, as_many))));
       offset = λ j m n at there. none.offset j m n at (before j n there);
       size = λ j m n at there. none.size j m n at (before j n there);
@@ -319,30 +322,30 @@ rest_alone target k old new same as_many others counted keeps =
     }
   where
     before : (j : ℕ) (n : MemberView) → IsMember new.array j n → IsMember old.array j n
-    before j n there = sym (ap (λ (a : ArrayView). slice_get a.members j) same) ∙ there
+    before j n there = sym (ap (λ (xs : List MemberView). slice_get xs j) same) ∙ there
 
 -- a superblock was to be written
-pub rest_super : (target k : ℕ) (b : ArrayView) (own : MemberView) (old new : MirrorView) → HavePlaces old → IsTried k (super_write b own) old.disks new.disks → new.array ≡ old.array → length (super_write b own).bytes ≡ 4096
+pub rest_super : (target k : ℕ) (b : ArrayView) (own : MemberView) (old new : MirrorView) → HavePlaces old → IsTried k (super_write b own) old.disks new.disks → new.array.members ≡ old.array.members → length (super_write b own).bytes ≡ 4096
     → KeepsRest target old new
 rest_super target k b own old new places tried same long =
     rest_alone target k old new same tried.as_many tried.others (λ d e at_d at_e. ((tried.stays d e at_d at_e).counted, (tried.stays d e at_d at_e).honest))
     (λ d e m at_d at_e at_m. beside_super_of m d e (places.each k m d at_m at_d) (subst (λ n. SameOutside (512 * 8) n d.content e.content) long (tried.outside d e at_d at_e)))
 
 -- ---- the lists, what the devices counted, and the states
-pub record GrowsSo (target : ℕ) (failed : List Slot) (old new : MirrorView) : Type 0 where
-  pub lists : ListsGrow target failed old.array new.array
+pub record GrowsSo (target : ℕ) (listed failed : List Slot) (old new : MirrorView) : Type 0 where
+  pub lists : ListsGrow target listed old.array new.array
   pub counted : CountsFailed failed old new
   pub states : (k : ℕ) (m n : MemberView) → k ≢ target → IsMember old.array k m → IsMember new.array k n → n.state ≡ m.state
   pub rises : (k : ℕ) (d e : Disk) → slice_get old.disks k ≡ Some d → slice_get new.disks k ≡ Some e → d.failures ≤ e.failures
   pub honest : (k : ℕ) (d e : Disk) → slice_get old.disks k ≡ Some d → slice_get new.disks k ≡ Some e → e.honest ≡ d.honest
 
 -- and then no list grows, as devices count no fewer failures
-module _ (target : ℕ) (failed : List Slot) (old mid new : MirrorView) (then : (k : ℕ) (m : MemberView) → IsMember old.array k m → (n : MemberView) × IsMember mid.array k n)
-    (disk_then : (k : ℕ) (d : Disk) → slice_get old.disks k ≡ Some d → (e : Disk) × (slice_get mid.disks k ≡ Some e)) (g : GrowsSo target failed old mid) where
-  lists_rest : ((k : ℕ) (m n : MemberView) → IsMember mid.array k m → IsMember new.array k n → n.bad ≡ m.bad) → ListsGrow target failed old.array new.array
+module _ (target : ℕ) (listed failed : List Slot) (old mid new : MirrorView) (then : (k : ℕ) (m : MemberView) → IsMember old.array k m → (n : MemberView) × IsMember mid.array k n)
+    (disk_then : (k : ℕ) (d : Disk) → slice_get old.disks k ≡ Some d → (e : Disk) × (slice_get mid.disks k ≡ Some e)) (g : GrowsSo target listed failed old mid) where
+  lists_rest : ((k : ℕ) (m n : MemberView) → IsMember mid.array k m → IsMember new.array k n → n.bad ≡ m.bad) → ListsGrow target listed old.array new.array
   lists_rest bad k m o other at there sector =
       let n = then k m at in
-      subst (λ (runs : List Run). IsBad runs sector ↔ (IsBad m.bad sector ⊎ IsOfFailed old.array.chunks failed m sector)) (sym (bad k n.0 o n.1 there)) (g.lists k m n.0 other at n.1 sector)
+      subst (λ (runs : List Run). IsBad runs sector ↔ (IsBad m.bad sector ⊎ IsOfFailed old.array.chunks listed m sector)) (sym (bad k n.0 o n.1 there)) (g.lists k m n.0 other at n.1 sector)
 
   counted_rest : ((k : ℕ) (d e : Disk) → slice_get mid.disks k ≡ Some d → slice_get new.disks k ≡ Some e → d.failures ≤ e.failures) → CountsFailed failed old new
   counted_rest counted k role m at in_role d f at_d at_f honest =
@@ -354,7 +357,7 @@ module _ (target : ℕ) (failed : List Slot) (old mid new : MirrorView) (then : 
   -- and no state changes
   pub grows_rest : ((k : ℕ) (m n : MemberView) → IsMember mid.array k m → IsMember new.array k n → n.bad ≡ m.bad)
       → ((k : ℕ) (m n : MemberView) → IsMember mid.array k m → IsMember new.array k n → n.state ≡ m.state)
-      → ((k : ℕ) (d e : Disk) → slice_get mid.disks k ≡ Some d → slice_get new.disks k ≡ Some e → (d.failures ≤ e.failures) × (e.honest ≡ d.honest)) → GrowsSo target failed old new
+      → ((k : ℕ) (d e : Disk) → slice_get mid.disks k ≡ Some d → slice_get new.disks k ≡ Some e → (d.failures ≤ e.failures) × (e.honest ≡ d.honest)) → GrowsSo target listed failed old new
   grows_rest bad states counted = record {
     lists = lists_rest bad;
     counted = counted_rest (λ k d e at_d at_e. (counted k d e at_d at_e).0);
@@ -388,38 +391,83 @@ module _ (target : ℕ) (failed : List Slot) (old mid new : MirrorView) (then : 
       ]
 
 -- ---- all of it
-pub has_ended : (target : ℕ) (failed : List Slot) (old mid last new : MirrorView) (member : MemberView) → IsMember old.array target member → Preserves target old mid → GrowsSo target failed old mid → KeepsRest target mid last
-    → (last ≡ new) ⊎ HaltsFrom last new → StandStored target failed old.array last → HasEnded target old new
-has_ended target failed old mid last new member at x grows y ends stood =
-    let between = x.then target member at in
-    let now = y.then target between.0 between.1 in
-    let own = target_on member between.0 now.0 (x.own member between.0 at between.1) (y.own between.0 now.0 between.1 now.1) in
-    record {
-      last = last;
-      ends = ends;
-      member = member;
-      at = at;
-      now = now.0;
-      there = now.1;
-      state = own.state;
-      offset = own.offset;
-      list = own.list;
-      beside = λ d f at_d at_f i n h.
-          (let e = x.disk_then target d at_d in
-          let offset = x.offset target member between.0 at between.1 in
-          let size = x.size target member between.0 at between.1 in
-          let from = h.from in
-          let to = h.to in
-          y.keeps target e.0 f between.0 e.1 at_f between.1 i n (omega (arith, offset, from)) (omega (arith, offset, size, to)) ∙ x.beside d e.0 member at_d e.1 at i n h);
-      others = λ j d f m other at_d at_f at_m i n from to.
-          (let e = x.disk_then j d at_d in
-          let o = x.then j m at_m in
-          let offset = x.offset j m o.0 at_m o.1 in
-          let size = x.size j m o.0 at_m o.1 in
-          y.keeps j e.0 f o.0 e.1 at_f o.1 i n (omega (arith, offset, from)) (omega (arith, offset, size, to)) ∙ x.others j d e.0 m other at_d e.1 at_m i n from to);
-      failed = failed;
-      lists = lists_rest target failed old mid last x.then x.disk_then grows y.bad;
-      counted = counted_rest target failed old mid last x.then x.disk_then grows y.counted;
-      states = states_rest target failed old mid last x.then x.disk_then grows y;
-      stored = stood;
-    }
+-- The last step: nothing; or a write to another member failed that halted the mirror, so that its data are not spoken of here.
+pub record Lasts (target : ℕ) (fault : RebuildFault) (last new : MirrorView) : Type 0 where
+  pub members : new.array.members ≡ last.array.members
+  pub disk_then : (k : ℕ) (d : Disk) → slice_get last.disks k ≡ Some d → (e : Disk) × (slice_get new.disks k ≡ Some e)
+  pub counted : (k : ℕ) (d e : Disk) → slice_get last.disks k ≡ Some d → slice_get new.disks k ≡ Some e → (d.failures ≤ e.failures) × (e.honest ≡ d.honest)
+  pub own : slice_get new.disks target ≡ slice_get last.disks target
+  pub keeps : (k : ℕ) → k ≢ target → (fault ≡ MetadataFault k → new.array.halted ≡ false) → slice_get new.disks k ≡ slice_get last.disks k
+
+pub lasts_none : (target : ℕ) (fault : RebuildFault) (v : MirrorView) → Lasts target fault v v
+lasts_none target fault v = record {
+  members = refl;
+  disk_then = λ k d at. (d, at);
+  counted = λ k d e at_d at_e. (let same = same_Some e d (sym at_e ∙ at_d) in (let is = ap (λ (z : Disk). z.failures) same in omega (arith, is), ap (λ (z : Disk). z.honest) same));
+  own = refl;
+  keeps = λ k other runs. refl;
+}
+
+module _ (target : ℕ) (fault : RebuildFault) (s : Ending) (old mid last new : MirrorView) (at : IsMember old.array target s.member) (x : Preserves target old mid)
+    (grows : GrowsSo target (failed_of s.listed ++ s.noted) (failed_of (s.listed ++ s.last)) old mid) (y : KeepsRest target mid last) (z : Lasts target fault last new) where
+  was_last : (k : ℕ) (n : MemberView) → IsMember new.array k n → IsMember last.array k n
+  was_last k n there = sym (ap (λ (xs : List MemberView). slice_get xs k) z.members) ∙ there
+
+  disk_last : (k : ℕ) (d : Disk) → slice_get old.disks k ≡ Some d → (e : Disk) × (slice_get last.disks k ≡ Some e)
+  disk_last k d at_d = (let e = x.disk_then k d at_d in y.disk_then k e.0 e.1)
+
+  kept_last : (k : ℕ) (d e : Disk) (m : MemberView) → k ≢ target → slice_get old.disks k ≡ Some d → slice_get last.disks k ≡ Some e → IsMember old.array k m → KeepsData m d e
+  kept_last k d f m other at_d at_f at_m i n from to =
+      let e = x.disk_then k d at_d in
+      let o = x.then k m at_m in
+      let offset = x.offset k m o.0 at_m o.1 in
+      let size = x.size k m o.0 at_m o.1 in
+      y.keeps k e.0 f o.0 e.1 at_f o.1 i n (omega (arith, offset, from)) (omega (arith, offset, size, to)) ∙ x.others k d e.0 m other at_d e.1 at_m i n from to
+
+  states_last : KeepStates target (failed_of (s.listed ++ s.last)) old last
+  states_last = states_rest target (failed_of s.listed ++ s.noted) (failed_of (s.listed ++ s.last)) old mid last x.then x.disk_then grows y
+
+  pub has_ended : HasMade s old.array → ((now : MemberView) → IsMember new.array target now → EndsSo target fault s now old new) → HasEnded target fault old new
+  has_ended made so =
+      let between = x.then target s.member at in
+      let now = y.then target between.0 between.1 in
+      let own = target_on s.member between.0 now.0 (x.own s.member between.0 at between.1) (y.own between.0 now.0 between.1 now.1) in
+      let there = ap (λ (xs : List MemberView). slice_get xs target) z.members ∙ now.1 in
+      record {
+        ending = s;
+        at = at;
+        now = now.0;
+        there = there;
+        state = own.state;
+        offset = own.offset;
+        list = own.list;
+        beside = λ d f at_d at_f i n h.
+            (let e = x.disk_then target d at_d in
+            let offset = x.offset target s.member between.0 at between.1 in
+            let size = x.size target s.member between.0 at between.1 in
+            let from = h.from in
+            let to = h.to in
+            y.keeps target e.0 f between.0 e.1 (sym z.own ∙ at_f) between.1 i n (omega (arith, offset, from)) (omega (arith, offset, size, to)) ∙ x.beside d e.0 s.member at_d e.1 at i n h);
+        others = λ j d f m other runs at_d at_f at_m. kept_last j d f m other at_d (sym (z.keeps j other runs) ∙ at_f) at_m;
+        made = made;
+        lists = λ k m n other at_m at_n. lists_rest target (failed_of s.listed ++ s.noted) (failed_of (s.listed ++ s.last)) old mid last x.then x.disk_then grows y.bad k m n other at_m (was_last k n at_n);
+        counted = λ k role m at_m in_role d f at_d at_f honest.
+            (let e = disk_last k d at_d in
+            let first = counted_rest target (failed_of s.listed ++ s.noted) (failed_of (s.listed ++ s.last)) old mid last x.then x.disk_then grows y.counted k role m at_m in_role d e.0 at_d e.1 honest in
+            let second = (z.counted k e.0 f e.1 at_f).0 in
+            omega (arith, first, second));
+        states = λ k m n other at_m at_n. elim (states_last k m n other at_m (was_last k n at_n)) [
+          | inl same ↦ inl same
+          | inr lost ↦
+              inr (
+                lost.0,
+                λ d f at_d at_f honest.
+                    (let e = disk_last k d at_d in
+                    let second = (z.counted k e.0 f e.1 at_f).0 in
+                    let less = lost.1 d e.0 at_d e.1 honest in
+                    let once = less.0 in
+                    (omega (arith, once, second), λ role in_role. (let more = less.1 role in_role in omega (arith, more, second)))),
+              )
+        ];
+        so = so now.0 there;
+      }

@@ -1,45 +1,65 @@
 -- What a rebuild that is refused leaves as it was.
-use Rattle.std.proofs.Common.{◌≡◌, ◌≢◌, ◌∙◌, ◌⊎◌, ℕ, ◌+◌, ◌<◌, ◌≤◌, true, false, None, List, [], ◌∷◌, ◌++◌, append-nil, length, count_by, slice_get, Some, refl, sym, ap, subst, arith, inl, inr}
+use Rattle.std.proofs.Common.{◌≡◌, ◌≢◌, ◌∙◌, ◌⊎◌, ℕ, suc, zero, ◌+◌, ◌<◌, ◌≤◌, true, false, List, [], ◌∷◌, ◌++◌, append-nil, append_assoc, All, length, length-append, slice_get, Some, refl, sym, ap, subst, arith, inl, inr}
 use Rattle.std.proofs.lemmas.Bool.{both_ways, cases_eq}
-use Rattle.std.proofs.lemmas.Option.{same_Some}
-use Rattle.md_assembly.specs.States.{is_in_sync, is_recovering}
+use Rattle.std.proofs.lemmas.Option.{same_Some, slice_get_within}
+use Rattle.md_assembly.proofs.Indices.{got_within}
+use Rattle.md_assembly.specs.declared.state.MemberState.{MemberState}
+use Rattle.md_assembly.specs.declared.state.MemberState.TheVariants.{InSync, Recovering, Stale, Spare, Faulty}
+use Rattle.md_assembly.specs.States.{is_in_sync, is_in_sync_as, is_recovering}
 use Rattle.md_badblocks.specs.Runs.{IsBad}
 use Rattle.md_bitmap.specs.Marks.{Bitmap}
+use Rattle.md_bitmap.specs.declared.chunks.Chunks.{Chunks}
 use Rattle.md_cert.specs.declared.slots.Slot.{Slot}
-use Rattle.md_cert.specs.Plans.{SlotsRise}
+use Rattle.md_collect.specs.Reading.{Fails}
 use Rattle.md_device.specs.Splice.{part}
+use Rattle.md_kept_members.specs.Enrolling.{IsListWith}
+use Rattle.md_kept_members.specs.TakingBack.{admitted_member}
 use Rattle.md_kept_members.specs.View.{MemberView}
-use Rattle.md_pass.specs.Readings.{is_of}
-use Rattle.md_passes.specs.Listed.{IsArrayPass, IsOfFailed}
-use Rattle.md_passes.specs.Passes.{PassView, failed_chunks, slots_of}
-use Rattle.md_state.specs.Members.{IsMember}
+use Rattle.md_passes.proofs.ArrayPasses.{passes_go_on}
+use Rattle.md_passes.proofs.Listing.{lists_add}
+use Rattle.md_passes.specs.Listed.{IsArrayPass, IsOfFailed, ListsFailed, MayServe, ServesAs, most_failures}
+use Rattle.md_passes.specs.Passes.{PassView, ServesAtMost, failed_chunks, slots_of}
+use Rattle.md_state.specs.DiskWrites.{AtDevice}
+use Rattle.md_state.specs.Members.{IsInSync, IsMember}
 use Rattle.md_state.specs.Missing.{is_missing}
-use Rattle.md_state.specs.View.{ArrayView, Disk, MirrorView}
+use Rattle.md_state.specs.View.{ArrayView, Disk, MirrorView, of_disks}
 use Rattle.md_array.specs.Consistency.{IsConsistent}
+use Rattle.md_array.specs.Enrolling.{KeepsData}
 use Rattle.md_array.specs.Lending.{IsBesideMissing}
 use Rattle.md_copy.specs.declared.fault.RebuildFault.{RebuildFault}
 use Rattle.md_copy.specs.declared.fault.RebuildFault.TheVariants.{Halted, NotSpare, Dirty, InFlight, LogFull, NoMemory, TargetFault, MetadataFault, EventsFull}
 use Rattle.md_copy.specs.Filling.{IsFilling}
 use Rattle.md_copy.specs.Leaving.{Leaves}
-use Rattle.md_copy.specs.Listing.{HaltsAtList, HasFailed, ListsAll, NotesLists, StopsAtList}
-use Rattle.md_copy.specs.Passing.{AreListedPasses, CopiesAll, EndsBetween, FailsListing, ListsPass, RecordsPass}
-use Rattle.md_copy.specs.Rebuilding.{Begins, LacksMemory, LacksRoom, LosesSource, LosesTarget, RefusesAtOnce, RefusesRebuild}
-use Rattle.md_copy.specs.Rebuilt.{HasEnded, ListsStand, failed_of}
+use Rattle.md_copy.specs.Listing.{HasFailed, ListsAll, NotesLists, StopsAtList}
+use Rattle.md_copy.specs.Passing.{AreListedPasses, CopiesAll, EndsBetween, FailsListing, RecordsPass}
+use Rattle.md_copy.specs.Rebuilding.{Begins, LacksMemory, LacksRoom, LosesTarget, RefusesAtOnce, RefusesRebuild}
+use Rattle.md_copy.specs.Rebuilt.{failed_of}
+use Rattle.md_copy.specs.Refused.{AreListed, Ending, EndsSo, HasEnded, HasHalted, HasMade, IsAdmitted, IsAsBefore, IsLost, KeepsDataBut, LacksRoomFor, ListsStand, NotesSome}
 use Rattle.md_copy.specs.Sources.{missing_chunks}
-use Rattle.md_copy.proofs.HeldRecorded.{out_of_sync}
+use Rattle.md_copy.proofs.BegunAs.{permits_both, same_missing, serves_both, serves_most}
+use Rattle.md_copy.proofs.Halting.{data_but}
+use Rattle.md_copy.proofs.HeldRecorded.{other_is, out_of_sync}
 use Rattle.md_copy.proofs.ListsKept.{lists_all, lists_chain, of_state}
 use Rattle.md_copy.proofs.ListsOn.{AtInSync, IsRecordedOn, list_on}
-use Rattle.md_copy.proofs.PassRecorded.{recorded_ready}
-use Rattle.md_copy.proofs.PassesKeep.{PassesKeep, all_keep, chain_keeps, count_append, disk_then, keeps_none, keeps_on, pass_keeps}
-use Rattle.md_copy.proofs.PassesTold.{HoldsSoFar, begins_holding, chain_holds, listed_holds}
-use Rattle.md_copy.proofs.Readied.{ready_of}
-use Rattle.md_copy.proofs.ReadyStill.{list_halted, ready_noted}
+use Rattle.md_copy.proofs.PassRecorded.{recorded_lists, recorded_ready}
+use Rattle.md_copy.proofs.PassesKeep.{PassesKeep, all_keep, chain_keeps, disk_then, failed_last, keeps_none, keeps_on, pass_keeps}
+use Rattle.md_copy.proofs.PassesTold.{HoldsSoFar, begins_holding, chain_holds, filled_ready, listed_holds}
+use Rattle.md_copy.proofs.Readied.{admitted_is, after_so, ready_of}
+use Rattle.md_copy.proofs.ReadyStill.{ready_noted}
 use Rattle.md_copy.proofs.RebuildLeads.{same_beside}
-use Rattle.md_copy.proofs.Refused.{GrowsSo, KeepsRest, Preserves, grows_rest, has_ended, preserves_none, preserves_on, preserves_same, rest_none, rest_on, target_same}
-use Rattle.md_copy.proofs.RefusedSteps.{StopsSo, grows_from, grows_none, preserves_admitted, preserves_begun, preserves_recorded, rest_left, rest_list, rest_stores, rest_unadmitted, rest_unenrolled, rest_unrecordable, rest_unrecorded, starts_after, states_admitted, states_begun, stops_so}
-use Rattle.md_copy.proofs.Stands.{rise_first, stand_filled, stand_left, stand_listing, stand_none, stand_noted, stand_recorded, stand_unenrolled, stand_unrecorded, within_exact}
+use Rattle.md_copy.proofs.Refused.{GrowsSo, KeepsRest, Lasts, Preserves, grows_rest, has_ended, lasts_none, preserves_none, preserves_on, preserves_same, rest_none, rest_on, target_same}
+use Rattle.md_copy.proofs.RefusedSteps.{HaltsBy, StaysStill, StopsSo, checkpointed_many, grows_as, grows_from, grows_none, halted_left, halts_list, preserves_admitted, preserves_begun, preserves_recorded, rest_left, rest_list, rest_stores, rest_unadmitted, rest_unenrolled, rest_unrecordable, rest_unrecorded, starts_after, states_admitted, states_begun, still_same, still_stored, still_unadmitted, still_unrecorded, stops_so, was_spare}
+use Rattle.md_copy.proofs.Stands.{stand_filled, stand_left, stand_listing, stand_none, stand_noted, stand_recorded, stand_unenrolled, stand_unrecorded, within_exact}
 use Rattle.md_copy.proofs.StartedAs.{StartsAs}
 use Rattle.md_copy.proofs.StartsReadied.{starts_of}
+
+-- a member in sync in a role is in sync
+role_in_sync : (s : MemberState) (role : ℕ) → is_in_sync_as role s ≡ true → is_in_sync s ≡ true
+role_in_sync (InSync r) role is = refl
+role_in_sync (Recovering r) role is = absurd cc
+role_in_sync (Stale r) role is = absurd cc
+role_in_sync Spare role is = absurd cc
+role_in_sync Faulty role is = absurd cc
 
 -- ---- one pass
 pub preserves_filled : (target : ℕ) (v : MirrorView) (copied : Bitmap) (chunks : List ℕ) → HoldsSoFar target v copied chunks → (p : PassView) → IsArrayPass v.array chunks p → (m : MemberView) → IsMember v.array target m
@@ -144,31 +164,95 @@ chain_preserves target (p ∷ ps) chunks left before after v w h so =
     preserves_on target v h.1 w (listed_preserves target chunks p before h.0 v h.2.recorded h.2.records so p.failed h.1 h.2.lists)
     (chain_preserves target ps (failed_chunks p) left h.0 after h.1 w h.3 (listed_holds target chunks p before h.0 v h.1 h.2 so))
 
+-- ---- the passes
+pub chain_listed : (target : ℕ) (passes : List PassView) (chunks left : List ℕ) (before after : Bitmap) (v w : MirrorView) → AreListedPasses target passes chunks left before after v w → HoldsSoFar target v before chunks
+    → AreListed passes v.array chunks w.array left
+chain_listed target [] chunks left before after v w h so = (ap (λ (u : MirrorView). u.array) h.2, h.0)
+chain_listed target (p ∷ ps) chunks left before after v w h so =
+    let one = h.2 in
+    let between = recorded_lists target chunks p before h.0 v one.recorded one.records so.ready so.held so.lacking in (
+      one.records.makes.is,
+      one.some,
+      (
+        h.1.array,
+        lists_add.more [] p.failed v.array one.recorded.array h.1.array between one.lists.lists,
+        chain_listed target ps (failed_chunks p) left h.0 after h.1 w h.3 (listed_holds target chunks p before h.0 v h.1 one so),
+      ),
+    )
+
+-- each of them takes a chunk from what is served
+listed_few : (passes : List PassView) (chunks left : List ℕ) (a b : ArrayView) (n : ℕ) → AreListed passes a chunks b left → ServesAtMost ServesAs MayServe ListsFailed a n → length passes ≤ n
+listed_few [] chunks left a b n are served = omega arith
+listed_few (p ∷ ps) chunks left a b n are served =
+    let less = (passes_go_on.step [] a a are.2.0 chunks chunks p (passes_go_on.begin a chunks) are.0 are.1 are.2.1).fewer n served in
+    let most = listed_few ps (failed_chunks p) left are.2.0 b less.0 are.2.2 less.2 in
+    let fewer = less.1 in
+    omega (arith, most, fewer)
+
+-- a pass that was broken off: of what failed in it nothing is said
+abbrev bare : PassView → PassView
+bare p = record p { failed = [] }
+
+bare_is : (a : ArrayView) (chunks : List ℕ) (p : PassView) → IsArrayPass a chunks p → IsArrayPass a chunks (bare p)
+bare_is a chunks p is = record {
+  rows = is.rows;
+  chunks_are = is.chunks_are;
+  sources = is.sources;
+  certified = is.certified;
+  least = is.least;
+  orphans = is.orphans;
+  failed = λ k d low. absurd (omega (arith, low));
+  failed_rise = λ i j d lt within. absurd (omega (arith, within));
+}
+
+failed_append : (ps qs : List PassView) → failed_of (ps ++ qs) ≡ failed_of ps ++ failed_of qs
+failed_append [] qs = refl
+failed_append (p ∷ ps) qs = ap (λ xs. p.failed ++ xs) (failed_append ps qs) ∙ sym (append_assoc p.failed (failed_of ps) (failed_of qs))
+
+-- no pass was planned
+abbrev none_made : MemberView → Ending
+none_made m = record { member = m; listed = []; last = []; noted = [] }
+
+made_none : (old : ArrayView) (m : MemberView) → HasMade (none_made m) old
+made_none old m = record {
+  first = old;
+  served = λ c role. (λ is. is, λ is. is);
+  permitted = λ c role. (λ is. is, λ is. is);
+  end = old;
+  left = missing_chunks old m;
+  are = (refl, refl);
+  planned = λ k d low. absurd (omega (arith, low));
+  one = omega arith;
+  few = omega arith;
+}
+
 -- ---- once passes may be made
-rise_none : SlotsRise []
-rise_none i j d lt within = absurd (omega (arith, within))
-
--- Up to this mirror data were kept, and lists grew by these slots alone. Those of passes whose lists were stored stand on the devices.
-pub record EndsAt (target : ℕ) (old v : MirrorView) : Type 0 where
+-- Up to this mirror data were kept, and lists grew by slots that failed alone. Those of passes whose lists were stored stand on the devices.
+pub record EndsAt (target : ℕ) (s : Ending) (old v : MirrorView) : Type 0 where
+  pub at : IsMember old.array target s.member
   pub pre : Preserves target old v
-  pub failed : List Slot
-  pub grows : GrowsSo target failed old v
-  pub sound : v.array.halted ≡ false → IsConsistent v
-  pub stored : List Slot
-  pub noted : List Slot
-  pub slots : failed ≡ stored ++ noted
-  pub of_one : SlotsRise noted
-  pub stand : ListsStand target stored old.array v
+  pub made : HasMade s old.array
+  pub grows : GrowsSo target (failed_of s.listed ++ s.noted) (failed_of (s.listed ++ s.last)) old v
+  pub sound : IsConsistent v
+  pub running : v.array.halted ≡ false
+  pub recovers : (n : MemberView) → IsMember v.array target n → is_recovering n.state ≡ true
+  pub stand : ListsStand target (failed_of s.listed) old.array v
 
-fewer_first : (f taken rest p : List Slot) → p ≡ taken ++ rest → (role : ℕ) → count_by (is_of role) ((f ++ []) ++ taken) ≤ count_by (is_of role) ((f ++ p) ++ [])
-fewer_first f taken rest p is role =
-    let q = is_of role in
-    let a = count_append q (f ++ []) taken in
-    let b = count_append q f [] in
-    let c = count_append q (f ++ p) [] in
-    let d = count_append q f p in
-    let e = ap (count_by q) is ∙ count_append q taken rest in
-    omega (arith, a, b, c, d, e)
+-- a write to the target's device failed after that
+fails_after : (target : ℕ) (listed failed : List Slot) (old mid new : MirrorView) → Preserves target old mid → GrowsSo target listed failed old mid
+    → AtDevice target mid.disks new.disks (λ d e. d.honest ≡ true → d.failures < e.failures) → AtDevice target old.disks new.disks (Fails of_disks)
+fails_after target listed failed old mid new pre g fails d f at_d at_f honest =
+    let e = pre.disk_then target d at_d in
+    let first = g.rises target d e.0 at_d e.1 in
+    let less = fails e.0 f e.1 at_f (g.honest target d e.0 at_d e.1 ∙ honest) in
+    omega (arith, first, less)
+
+fails_rest : (target : ℕ) (old mid new : MirrorView) → KeepsRest target old mid → AtDevice target mid.disks new.disks (λ d e. d.honest ≡ true → d.failures < e.failures) → AtDevice target old.disks new.disks (Fails of_disks)
+fails_rest target old mid new rest fails d f at_d at_f honest =
+    let e = rest.disk_then target d at_d in
+    let first = rest.counted target d e.0 at_d e.1 in
+    let less = fails e.0 f e.1 at_f (rest.honest target d e.0 at_d e.1 ∙ honest) in
+    omega (arith, first, less)
 
 module _ (target : ℕ) (old ready : MirrorView) (none : Bitmap) (b : Begins target old ready none) where
   starts : StartsAs target old ready
@@ -183,26 +267,56 @@ module _ (target : ℕ) (old ready : MirrorView) (none : Bitmap) (b : Begins tar
   so : HoldsSoFar target ready none chunks
   so = begins_holding target b.now none ready (ready_of target old ready none b) b.there b.is_none.chunks b.is_none.bits
 
+  -- these passes were made, and at most one more was planned
+  abbrev ended : List PassView → List PassView → List Slot → Ending
+  ended listed last noted = record { member = b.member; listed = listed; last = last; noted = noted }
+
+  made_so : (listed last : List PassView) (noted : List Slot) (left : List ℕ) (mid : Bitmap) (now : MirrorView) → AreListedPasses target listed chunks left none mid ready now → All (IsArrayPass now.array left) last → length last ≤ 1
+      → HasMade (ended listed last noted) old.array
+  made_so listed last noted left mid now passed planned one =
+      let are = chain_listed target listed chunks left none mid ready now passed so in
+      let most = listed_few listed chunks left ready.array now.array (most_failures old.array) are (serves_most target old ready starts) in
+      let many = length-append listed last in
+      record {
+        first = ready.array;
+        served = serves_both target old ready starts;
+        permitted = permits_both target old ready starts;
+        end = now.array;
+        left = left;
+        are = subst (λ xs. AreListed listed ready.array xs now.array left) (same_missing target old ready starts b.sound b.member b.now b.at b.there) are;
+        planned = planned;
+        one = one;
+        few = omega (arith, most, many, one);
+      }
+
+  one_planned : (a : ArrayView) (left : List ℕ) (p : PassView) → IsArrayPass a left p → All (IsArrayPass a left) (p ∷ [])
+  one_planned a left p is zero d low = is
+  one_planned a left p is (suc k) d low = absurd (omega (arith, low))
+
   -- all passes are made
-  ends_copied : (passes : List PassView) (copied : Bitmap) (filled : MirrorView) → CopiesAll target b.now passes none copied ready filled → EndsAt target old filled
+  ends_copied : (passes : List PassView) (copied : Bitmap) (filled : MirrorView) (h : CopiesAll target b.now passes none copied ready filled) → EndsAt target (ended h.listed (h.last ∷ []) []) old filled
   ends_copied passes copied filled h =
       let then = chain_holds target h.listed chunks h.left none h.mid ready h.now h.passed so in
-      let grown = grows_from target old ready starts (states_begun target old ready none b) (failed_of passes) (failed_of passes) none copied filled (all_keep target b.now passes none copied ready filled h) (λ role. omega arith) in
+      let fs = failed_of passes in
+      let is : fs ≡ failed_of h.listed = ap failed_of h.passes_are ∙ failed_last h.listed h.last h.done in
+      let grown = grows_from target old ready starts (states_begun target old ready none b) fs fs none copied filled (all_keep target b.now passes none copied ready filled h) in
+      let may = filled_ready target b.now passes none copied ready filled h so in
+      let stand : ListsStand target fs old.array filled =
+      λ k m n e other at has at_n in_sync at_e honest.
+      (let own = of_state fs m.state n.state (sym (grown.states k m n other at at_n)) has in
+      within_exact (λ sector. IsBad m.bad sector ⊎ IsOfFailed old.array.chunks fs m sector) n e.content
+      (list_on n e (lists_all target k other b.now passes none copied ready filled h n at_n own n e at_n at_e in_sync honest))
+      (λ sector. (grown.lists k m n other at at_n sector).1)) in
       record {
+        at = b.at;
         pre = preserves_on target old ready filled begun
             (preserves_on target ready h.now filled (chain_preserves target h.listed chunks h.left none h.mid ready h.now h.passed so) (pass_preserves target h.left h.last h.mid copied h.now filled h.records then));
-        failed = failed_of passes;
-        grows = grown;
-        sound = λ running. h.records.sound;
-        stored = failed_of passes;
-        noted = [];
-        slots = sym (append-nil (failed_of passes));
-        of_one = rise_none;
-        stand = λ k m n e other at has at_n in_sync at_e honest.
-            (let own = of_state (failed_of passes) m.state n.state (sym (grown.states k m n other at at_n)) has in
-            within_exact (λ sector. IsBad m.bad sector ⊎ IsOfFailed old.array.chunks (failed_of passes) m sector) n e.content
-            (list_on n e (lists_all target k other b.now passes none copied ready filled h n at_n own n e at_n at_e in_sync honest))
-            (λ sector. (grown.lists k m n other at at_n sector).1));
+        made = made_so h.listed (h.last ∷ []) [] h.left h.mid h.now h.passed (one_planned h.now.array h.left h.last h.records.makes.is) (omega arith);
+        grows = grows_as target fs (failed_of h.listed ++ []) fs (failed_of (h.listed ++ h.last ∷ [])) old filled (append-nil (failed_of h.listed) ∙ sym is) (ap failed_of (sym h.passes_are)) grown;
+        sound = h.records.sound;
+        running = may.goes.idle.running;
+        recovers = may.recovering;
+        stand = subst (λ xs. ListsStand target xs old.array filled) is stand;
       }
 
   -- some are
@@ -219,8 +333,8 @@ module _ (target : ℕ) (old ready : MirrorView) (none : Bitmap) (b : Begins tar
     kept : PassesKeep target fs fs none e.copied ready e.now
     kept = chain_keeps target e.passes chunks e.left none e.copied ready e.now e.passed
 
-    grown : GrowsSo target fs old e.now
-    grown = grows_from target old ready starts (states_begun target old ready none b) fs fs none e.copied e.now kept (λ role. omega arith)
+    grown : GrowsSo target fs fs old e.now
+    grown = grows_from target old ready starts (states_begun target old ready none b) fs fs none e.copied e.now kept
 
     stand_now : ListsStand target fs old.array e.now
     stand_now k m n d other at has at_n in_sync at_d honest =
@@ -230,166 +344,433 @@ module _ (target : ℕ) (old ready : MirrorView) (none : Bitmap) (b : Begins tar
         (list_on n d (lists_chain target k other e.passes [] chunks e.left none e.copied ready e.now e.passed none_yet n at_n own n d at_n at_d in_sync honest))
         (λ sector. (grown.lists k m n other at at_n sector).1)
 
-    ends_now : EndsAt target old e.now
+    ends_now : EndsAt target (ended e.passes [] []) old e.now
     ends_now = record {
+      at = b.at;
       pre = there;
-      failed = fs;
-      grows = grown;
-      sound = λ running. so_far.ready.sound;
-      stored = fs;
-      noted = [];
-      slots = sym (append-nil fs);
-      of_one = rise_none;
+      made = made_so e.passes [] [] e.left e.copied e.now e.passed (λ k d low. absurd (omega (arith, low))) (omega arith);
+      grows = grows_as target fs (fs ++ []) fs (failed_of (e.passes ++ [])) old e.now (append-nil fs) (ap failed_of (append-nil e.passes)) grown;
+      sound = so_far.ready.sound;
+      running = so_far.ready.goes.idle.running;
+      recovers = so_far.ready.recovering;
       stand = stand_now;
     }
 
     -- one more was begun
-    ends_filled : (p : PassView) → IsArrayPass e.now.array e.left p → (m : MemberView) → IsMember e.now.array target m → (w : MirrorView) → IsFilling target m (slots_of p) e.now w → IsConsistent w → EndsAt target old w
+    ends_filled : (p : PassView) → IsArrayPass e.now.array e.left p → (m : MemberView) → IsMember e.now.array target m → (w : MirrorView) → IsFilling target m (slots_of p) e.now w → IsConsistent w
+        → EndsAt target (ended e.passes (bare p ∷ []) []) old w
     ends_filled p is m at w f sound = record {
+      at = b.at;
       pre = preserves_on target old e.now w there (preserves_filled target e.now e.copied e.left so_far p is m at w f);
-      failed = fs;
-      grows = grows_rest target fs old e.now w there.then there.disk_then grown
+      made = made_so e.passes (bare p ∷ []) [] e.left e.copied e.now e.passed (one_planned e.now.array e.left (bare p) (bare_is e.now.array e.left p is)) (omega arith);
+      grows = grows_as target fs (fs ++ []) fs (failed_of (e.passes ++ bare p ∷ [])) old w (append-nil fs) (failed_append e.passes (bare p ∷ []) ∙ append-nil fs)
+          (grows_rest target fs fs old e.now w there.then there.disk_then grown
           (λ k x y at_x at_y. ap (λ (z : MemberView). z.bad) (same_Some y x (sym at_y ∙ ap (λ (a : ArrayView). slice_get a.members k) f.array ∙ at_x)))
           (λ k x y at_x at_y. ap (λ (z : MemberView). z.state) (same_Some y x (sym at_y ∙ ap (λ (a : ArrayView). slice_get a.members k) f.array ∙ at_x)))
-          (filled_counted target m (slots_of p) e.now w f);
-      sound = λ running. sound;
-      stored = fs;
-      noted = [];
-      slots = sym (append-nil fs);
-      of_one = rise_none;
+          (filled_counted target m (slots_of p) e.now w f));
+      sound = sound;
+      running = ap (λ (a : ArrayView). a.halted) f.array ∙ so_far.ready.goes.idle.running;
+      recovers = λ n at_n. so_far.ready.recovering n (ap (λ (a : ArrayView). slice_get a.members target) (sym f.array) ∙ at_n);
       stand = stand_filled target fs old.array m (slots_of p) e.now w f stand_now;
     }
 
     -- it is recorded, and what failed in it is listed in memory, or the first of it
     ends_noted : (after : Bitmap) (p : PassView) (x : MirrorView) → RecordsPass target e.left p e.copied after e.now x → (taken rest : List Slot) → p.failed ≡ taken ++ rest → (z : MirrorView) → NotesLists taken x z
-        → EndsAt target old z
+        → EndsAt target (ended e.passes (p ∷ []) taken) old z
     ends_noted after p x records taken rest is z notes =
         let pass = pass_preserves target e.left p e.copied after e.now x records so_far in
         let listing = preserves_noted target e.left p e.copied after e.now x records so_far taken z notes in
         let first = keeps_on target fs [] fs p.failed none e.copied after ready e.now x kept (pass_keeps target e.left p e.copied after e.now x records) in
         let all = keeps_on target (fs ++ []) taken (fs ++ p.failed) [] none after after ready x z first (noted_keeps target e.left p e.copied after e.now x records so_far taken z notes) in
+        let may = ready_noted target taken x z notes (recorded_ready target e.left p e.copied after e.now x records so_far.ready so_far.held so_far.lacking) in
         record {
+          at = b.at;
           pre = preserves_on target old e.now z there (preserves_on target e.now x z pass listing);
-          failed = (fs ++ []) ++ taken;
-          grows = grows_from target old ready starts (states_begun target old ready none b) ((fs ++ []) ++ taken) ((fs ++ p.failed) ++ []) none after z all (fewer_first fs taken rest p.failed is);
-          sound = λ running. notes.goes.sound;
-          stored = fs;
-          noted = taken;
-          slots = ap (λ (xs : List Slot). xs ++ taken) (append-nil fs);
-          of_one = rise_first taken rest (subst SlotsRise is records.makes.is.failed_rise);
+          made = made_so e.passes (p ∷ []) taken e.left e.copied e.now e.passed (one_planned e.now.array e.left p records.makes.is) (omega arith);
+          grows = grows_as target ((fs ++ []) ++ taken) (fs ++ taken) ((fs ++ p.failed) ++ []) (failed_of (e.passes ++ p ∷ [])) old z (ap (λ xs. xs ++ taken) (sym (append-nil fs)))
+              (failed_append e.passes (p ∷ []) ∙ ap (λ xs. fs ++ xs) (append-nil p.failed) ∙ sym (append-nil (fs ++ p.failed)))
+              (grows_from target old ready starts (states_begun target old ready none b) ((fs ++ []) ++ taken) ((fs ++ p.failed) ++ []) none after z all);
+          sound = notes.goes.sound;
+          running = may.goes.idle.running;
+          recovers = may.recovering;
           stand = stand_noted target fs old.array taken x z notes
               (stand_recorded target fs old.array after records.filled x records.makes.sound records.checkpoints
               (stand_filled target fs old.array records.makes.member (slots_of p) e.now records.filled records.makes.copies.filling stand_now));
         }
 
-    -- a list could not be stored
-    noted_recovers : (after : Bitmap) (p : PassView) (x : MirrorView) → RecordsPass target e.left p e.copied after e.now x → (z : MirrorView) → NotesLists p.failed x z → (m : MemberView) → IsMember z.array target m → is_recovering m.state ≡ true
-    noted_recovers after p x records z notes =
-        (ready_noted target p.failed x z notes (recorded_ready target e.left p e.copied after e.now x records so_far.ready so_far.held so_far.lacking)).recovering
-
   -- ---- why it ended
-  lacks_memory : (after : Bitmap) (stopped : MirrorView) → LacksMemory target b.now none after ready stopped → EndsAt target old stopped
-  lacks_memory after stopped (inl e) = subst (EndsAt target old) (sym e.why.1) (ends_now (λ left copied now. (after ≡ copied) × (stopped ≡ now)) e)
-  lacks_memory after stopped (inr (inl e)) = ends_filled _ e e.why.pass e.why.is e.why.member e.why.at stopped e.why.breaks.filling e.why.sound
+  lacks_memory : (after : Bitmap) (stopped : MirrorView) → LacksMemory target b.now none after ready stopped
+      → (s : Ending) × EndsAt target s old stopped × ((s.noted ≡ []) ⊎ NotesSome s (λ next. Unit {0}))
+  lacks_memory after stopped (inl e) =
+      (ended e.passes [] [], subst (EndsAt target (ended e.passes [] []) old) (sym e.why.1) (ends_now (λ left copied now. (after ≡ copied) × (stopped ≡ now)) e), inl refl)
+  lacks_memory after stopped (inr (inl e)) =
+      (ended e.passes (bare e.why.pass ∷ []) [], ends_filled _ e e.why.pass e.why.is e.why.member e.why.at stopped e.why.breaks.filling e.why.sound, inl refl)
   lacks_memory after stopped (inr (inr (inl e))) =
-      (let f = e.why in ends_noted _ e after f.pass f.recorded f.records f.fails.taken (f.fails.next ∷ f.fails.rest) f.fails.slots stopped f.fails.notes)
-  lacks_memory after stopped (inr (inr (inr e))) = ends_copied e.passes e.copied stopped e.copies
+      let f = e.why in (
+        ended e.passes (f.pass ∷ []) f.fails.taken,
+        ends_noted _ e after f.pass f.recorded f.records f.fails.taken (f.fails.next ∷ f.fails.rest) f.fails.slots stopped f.fails.notes,
+        inr (record { pass = f.pass; last = refl; next = f.fails.next; rest = f.fails.rest; slots = f.fails.slots; why = tt }),
+      )
+  lacks_memory after stopped (inr (inr (inr e))) = (ended e.copies.listed (e.copies.last ∷ []) [], ends_copied e.passes e.copied stopped e.copies, inl refl)
 
-  lacks_room : (k : ℕ) (after : Bitmap) (stopped : MirrorView) → LacksRoom k target b.now none after ready stopped → EndsAt target old stopped
+  -- why there is no room in a log
+  abbrev NoRoom : ℕ → ArrayView → Ending → Type 0
+  NoRoom k a s = ((k ≡ target) × (s.noted ≡ []) × (failed_of s.last ≡ [])) ⊎ NotesSome s (LacksRoomFor k a)
+
+  lacks_room : (k : ℕ) (after : Bitmap) (stopped : MirrorView) → LacksRoom k target b.now none after ready stopped → (s : Ending) × EndsAt target s old stopped × NoRoom k stopped.array s
   lacks_room k after stopped (inl e) =
-      (let f = e.why in ends_noted _ e after f.pass f.recorded f.records f.fails.taken (f.fails.next ∷ f.fails.rest) f.fails.slots stopped f.fails.notes)
-  lacks_room k after stopped (inr (is, e)) = subst (EndsAt target old) (sym e.why.unchanged) (ends_copied e.passes e.copied e.filled e.fills.copies)
-
-  -- ---- as it is told
-  pub ended_left : (stopped new : MirrorView) (z : EndsAt target old stopped) → KeepsRest target stopped new → (new.array.halted ≡ false → ListsStand target z.stored old.array new) → HasEnded target old new
-  ended_left stopped new z rest stand =
-      has_ended target z.failed old stopped new new b.member b.at z.pre z.grows rest (inl refl) (record { stored = z.stored; noted = z.noted; slots = z.slots; of_one = z.of_one; stand = stand })
-
-  -- how far it is rebuilt is recorded, where the mirror runs
-  pub ended_leaving : (copied : Bitmap) (stopped new : MirrorView) → EndsAt target old stopped → Leaves target copied stopped new → HasEnded target old new
-  ended_leaving copied stopped new z leaves =
-      ended_left stopped new z (rest_left target copied stopped new z.sound leaves) (stand_left target z.stored old.array copied stopped new z.sound leaves (λ running. z.stand))
-
-  stays_halted : (k : ℕ) (v w : MirrorView) → HaltsAtList k v w → w.array.halted ≡ false → ⊥
-  stays_halted k v w at running =
-      (let s = at.halts.halts in both_ways w.array.halted running (list_halted s.mid w (λ n. None) s.failing s.of (s.halts (λ n. None))))
-
-  ended_source : (k : ℕ) (stopped : MirrorView) → LosesSource k target b.now none ready stopped
-      → (noted : MirrorView) × (z : EndsAt target old noted) × KeepsRest target noted stopped × (stopped.array.halted ≡ false → IsConsistent stopped)
-      × (stopped.array.halted ≡ false → ListsStand target z.stored old.array stopped)
-  ended_source k stopped e =
-      let f = e.why.1 in
-      let notes = f.fails.1 in
-      let stops : StopsAtList f.pass.failed k f.fails.0 stopped = f.fails.2 in
-      let z = ends_noted _ e e.why.0 f.pass f.recorded f.records f.pass.failed [] (sym (append-nil f.pass.failed)) f.fails.0 notes in (
-        f.fails.0,
-        z,
-        rest_list target k f.pass.failed f.fails.0 stopped (noted_recovers _ e e.why.0 f.pass f.recorded f.records f.fails.0 notes) stops,
-        λ running. elim stops.ends [
-          | inl lost ↦ lost.loses.goes.sound
-          | inr at ↦ absurd (stays_halted k f.fails.0 stopped at running)
-        ],
-        λ running. elim stops.ends [
-          | inl lost ↦
-              stand_listing target z.stored old.array f.pass.failed k f.fails.0 stopped stops lost.loses.goes.array.as_many z.stand
-              (λ n at in_sync. both_ways (is_in_sync n.state) (ap (λ (x : MemberView). is_in_sync x.state) (same_Some n lost.faulty.member (sym at ∙ lost.faulty.at)) ∙ ap is_in_sync lost.faulty.faulty) in_sync)
-          | inr at ↦ absurd (stays_halted k f.fails.0 stopped at running)
-        ],
+      let f = e.why in
+      let source = f.fails.why.0 in
+      let full = f.fails.why.1 in (
+        ended e.passes (f.pass ∷ []) f.fails.taken,
+        ends_noted _ e after f.pass f.recorded f.records f.fails.taken (f.fails.next ∷ f.fails.rest) f.fails.slots stopped f.fails.notes,
+        inr (record {
+          pass = f.pass;
+          last = refl;
+          next = f.fails.next;
+          rest = f.fails.rest;
+          slots = f.fails.slots;
+          why = record { full = full; own = ap (λ (z : MemberView). is_in_sync_as f.fails.next.source z.state) (same_Some full.member source.member (sym full.at ∙ source.at)) ∙ source.in_sync };
+        }),
+      )
+  lacks_room k after stopped (inr (is, e)) =
+      let c = e.fills.copies in (
+        ended c.listed (c.last ∷ []) [],
+        subst (EndsAt target (ended c.listed (c.last ∷ []) []) old) (sym e.why.unchanged) (ends_copied e.passes e.copied e.filled c),
+        inl (is, refl, ap (λ xs. xs ++ []) c.done),
       )
 
-  ended_target : (new : MirrorView) → LosesTarget target b.now none ready new → HasEnded target old new
+  -- ---- as it is told
+  -- how far it is rebuilt is recorded, where the mirror runs
+  running_left : (copied : Bitmap) (stopped new : MirrorView) → stopped.array.halted ≡ false → Leaves target copied stopped new → new.array.halted ≡ false
+  running_left copied stopped new runs (inl same) = absurd (both_ways stopped.array.halted runs same.0)
+  running_left copied stopped new runs (inr (inl r)) = ap (λ (a : ArrayView). a.halted) r.array ∙ runs
+  running_left copied stopped new runs (inr (inr f)) = ap (λ (a : ArrayView). a.halted) f.array ∙ runs
+
+  recovers_left : (stopped new : MirrorView) → ((n : MemberView) → IsMember stopped.array target n → is_recovering n.state ≡ true) → KeepsRest target stopped new
+      → ((n : MemberView) → IsMember new.array target n → (m : MemberView) × IsMember stopped.array target m) → (n : MemberView) → IsMember new.array target n → is_recovering n.state ≡ true
+  recovers_left stopped new recovers rest before n at = (let m = before n at in elim (rest.own m.0 n m.1 at).state [ inl same ↦ ap is_recovering same ∙ recovers m.0 m.1 | inr now ↦ now.1 ])
+
+  -- and the members beside the target, and the chunks
+  left_still : (copied : Bitmap) (stopped new : MirrorView) → (stopped.array.halted ≡ false → IsConsistent stopped) → Leaves target copied stopped new
+      → ((j : ℕ) → j ≢ target → slice_get new.array.members j ≡ slice_get stopped.array.members j) × (new.array.chunks ≡ stopped.array.chunks) × (length new.array.members ≡ length stopped.array.members)
+  left_still copied stopped new sound (inl same) =
+      let is = ap (λ (v : MirrorView). v.array) same.1 in
+      (λ j other. ap (λ (a : ArrayView). slice_get a.members j) is, ap (λ (a : ArrayView). a.chunks) is, ap (λ (a : ArrayView). length a.members) is)
+  left_still copied stopped new sound (inr (inl r)) =
+      (other_is target copied stopped new (sound r.may.idle.running) r, ap (λ (a : ArrayView). a.chunks) r.array, checkpointed_many target copied stopped new r)
+  left_still copied stopped new sound (inr (inr f)) =
+      (λ j other. ap (λ (a : ArrayView). slice_get a.members j) f.array, ap (λ (a : ArrayView). a.chunks) f.array, ap (λ (a : ArrayView). length a.members) f.array)
+
+  target_before : (copied : Bitmap) (stopped new : MirrorView) → (stopped.array.halted ≡ false → IsConsistent stopped) → Leaves target copied stopped new
+      → (n : MemberView) → IsMember new.array target n → (m : MemberView) × IsMember stopped.array target m
+  target_before copied stopped new sound leaves n at =
+      (let low = slice_get_within new.array.members target n at in let many = (left_still copied stopped new sound leaves).2 in got_within stopped.array.members target (omega (arith, low, many)))
+
+  module _ (fault : RebuildFault) (s : Ending) (copied : Bitmap) (stopped new : MirrorView) (z : EndsAt target s old stopped) (leaves : Leaves target copied stopped new) where
+    rest_then : KeepsRest target stopped new
+    rest_then = rest_left target copied stopped new (λ running. z.sound) leaves
+
+    runs_then : new.array.halted ≡ false
+    runs_then = running_left copied stopped new z.running leaves
+
+    recovers_then : (n : MemberView) → IsMember new.array target n → is_recovering n.state ≡ true
+    recovers_then = recovers_left stopped new z.recovers rest_then (target_before copied stopped new (λ running. z.sound) leaves)
+
+    stand_then : ListsStand target (failed_of s.listed) old.array new
+    stand_then = stand_left target (failed_of s.listed) old.array copied stopped new (λ running. z.sound) leaves (λ running. z.stand) runs_then
+
+    ended_leaving : ((now : MemberView) → IsMember new.array target now → EndsSo target fault s now old new) → HasEnded target fault old new
+    ended_leaving = has_ended target fault s old stopped new new z.at z.pre z.grows rest_then (lasts_none target fault new) z.made
+
+    -- the member whose log has no room
+    room_then : (k : ℕ) → NoRoom k stopped.array s → NoRoom k new.array s
+    room_then k (inl own) = inl own
+    room_then k (inr some) =
+        let full = some.why.full in
+        let other : k ≢ target =
+        λ same. both_ways (is_in_sync full.member.state) (out_of_sync full.member.state (z.recovers full.member (ap (slice_get stopped.array.members) (sym same) ∙ full.at)))
+        (role_in_sync full.member.state some.next.source some.why.own) in
+        let still = left_still copied stopped new (λ running. z.sound) leaves in
+        inr (record {
+          pass = some.pass;
+          last = some.last;
+          next = some.next;
+          rest = some.rest;
+          slots = some.slots;
+          why = record {
+            full = record {
+              running = runs_then;
+              member = full.member;
+              at = still.0 k other ∙ full.at;
+              list = full.list;
+              list_is = subst (λ (q : Chunks). IsListWith q some.next.chunk full.member full.list) (sym still.1) full.list_is;
+              full = full.full;
+            };
+            own = some.why.own;
+          };
+        })
+
+  -- a list could not be stored
+  module _ (k : ℕ) (copied : Bitmap) (stopped new : MirrorView) (e : EndsBetween target b.now none ready (λ left copied now. (after : Bitmap) × FailsListing target (MetadataFault k) left copied after now stopped))
+      (leaves : Leaves target copied stopped new) where
+    abbrev f : FailsListing target (MetadataFault k) e.left e.copied e.why.0 e.now stopped
+    f = e.why.1
+
+    abbrev noted : MirrorView
+    noted = f.fails.0
+
+    abbrev stops : StopsAtList f.pass.failed k noted stopped
+    stops = f.fails.2
+
+    abbrev s : Ending
+    s = ended e.passes (f.pass ∷ []) f.pass.failed
+
+    z_noted : EndsAt target s old noted
+    z_noted = ends_noted _ e e.why.0 f.pass f.recorded f.records f.pass.failed [] (sym (append-nil f.pass.failed)) noted f.fails.1
+
+    other_lost : k ≢ target
+    other_lost same =
+        both_ways (is_in_sync stops.member.state) (out_of_sync stops.member.state (z_noted.recovers stops.member (ap (slice_get noted.array.members) (sym same) ∙ stops.was.member))) stops.was.in_sync
+
+    -- the mirror runs, and the member is faulty; or it is halted
+    sound_lost : stopped.array.halted ≡ false → IsConsistent stopped
+    sound_lost running = elim stops.ends [
+      | inl lost ↦ lost.loses.goes.sound
+      | inr at ↦ absurd (both_ways stopped.array.halted running (halts_list k noted stopped at))
+    ]
+
+    rest_lost : KeepsRest target noted new
+    rest_lost = rest_on target noted stopped new (rest_list target k f.pass.failed noted stopped z_noted.recovers stops) (rest_left target copied stopped new sound_lost leaves)
+
+    stand_lost : new.array.halted ≡ false → ListsStand target (failed_of e.passes) old.array new
+    stand_lost =
+        stand_left target (failed_of e.passes) old.array copied stopped new sound_lost leaves (λ running. elim stops.ends [
+          | inl lost ↦
+              stand_listing target (failed_of e.passes) old.array f.pass.failed k noted stopped stops lost.loses.goes.array.as_many z_noted.stand
+              (λ n at in_sync. both_ways (is_in_sync n.state) (ap (λ (x : MemberView). is_in_sync x.state) (same_Some n lost.faulty.member (sym at ∙ lost.faulty.at)) ∙ ap is_in_sync lost.faulty.faulty) in_sync)
+          | inr at ↦ absurd (both_ways stopped.array.halted running (halts_list k noted stopped at))
+        ])
+
+    data_lost : (m : MemberView) → IsMember old.array k m → AtDevice k old.disks new.disks (KeepsData m)
+    data_lost m at_m d g at_d at_g i n from to =
+        let pre = z_noted.pre in
+        let d1 = pre.disk_then k d at_d in
+        let o = pre.then k m at_m in
+        let offset = pre.offset k m o.0 at_m o.1 in
+        let size = pre.size k m o.0 at_m o.1 in
+        rest_lost.keeps k d1.0 g o.0 d1.1 at_g o.1 i n (omega (arith, offset, from)) (omega (arith, offset, size, to)) ∙ pre.others k d d1.0 m other_lost at_d d1.1 at_m i n from to
+
+    lost_so : IsLost k new.array ⊎ HasHalted k old new
+    lost_so = elim stops.ends [
+      | inl lost ↦
+          let runs = lost.loses.halted ∙ z_noted.running in
+          inl (record {
+            running = running_left copied stopped new runs leaves;
+            member = lost.faulty.member;
+            at = (left_still copied stopped new sound_lost leaves).0 k other_lost ∙ lost.faulty.at;
+            faulty = lost.faulty.faulty;
+          })
+      | inr at ↦
+          let same : new ≡ stopped = halted_left target copied stopped new (halts_list k noted stopped at) leaves in
+          inr (record {
+            halted = ap (λ (v : MirrorView). v.array.halted) same ∙ halts_list k noted stopped at;
+            member = at.member;
+            in_sync = subst (λ (v : MirrorView). IsInSync v.array k at.member) (sym same) at.in_sync;
+            alone = subst (λ (v : MirrorView). (j : ℕ) (n : MemberView) → IsInSync v.array j n → j ≡ k) (sym same) at.alone;
+            kept = λ m at_m d g at_d at_g. inl (data_lost m at_m d g at_d at_g);
+          })
+    ]
+
+    ended_source : HasEnded target (MetadataFault k) old new
+    ended_source =
+        has_ended target (MetadataFault k) s old noted new new b.at z_noted.pre z_noted.grows rest_lost (lasts_none target (MetadataFault k) new) z_noted.made
+        (λ now there. record {
+          other = other_lost;
+          lost = lost_so;
+          when = inr (
+            recovers_left noted new z_noted.recovers rest_lost (λ n at. within_noted n at) now there,
+            record { pass = f.pass; last = refl; slots = refl },
+            λ m at_m. of_state f.pass.failed stops.member.state m.state (z_noted.grows.states k m stops.member other_lost at_m stops.was.member) stops.source,
+          );
+          stand = stand_lost;
+        })
+      where
+        within_noted : (n : MemberView) → IsMember new.array target n → (m : MemberView) × IsMember noted.array target m
+        within_noted n at = (let m = z_noted.pre.then target b.member b.at in (m.0, m.1))
+
+  ended_target : (new : MirrorView) → LosesTarget target b.now none ready new → HasEnded target TargetFault old new
   ended_target new (inl e) =
       let f = e.why.1 in
       let z = ends_filled _ e f.pass f.is f.member f.at new f.breaks.filling f.sound in
-      ended_left new new z (rest_none target new) (λ running. z.stand)
+      has_ended target TargetFault (ended e.passes (bare f.pass ∷ []) []) old new new new b.at z.pre z.grows (rest_none target new) (lasts_none target TargetFault new) z.made
+      (λ now at_now. record {
+        running = z.running;
+        failed = fails_after target (failed_of e.passes) (failed_of e.passes) old e.now new (there _ e) (grown _ e) f.breaks.failed;
+        target_is = inr (z.recovers now at_now);
+        noted = refl;
+        stand = z.stand;
+      })
   ended_target new (inr (inl e)) =
       let f = e.why in
       let z = ends_filled _ e f.pass f.makes.is f.makes.member f.makes.at f.filled f.makes.copies.filling f.makes.sound in
-      ended_left f.filled new z (rest_unrecordable target f.after f.filled new f.makes.sound f.fails) (λ running. stand_unrecorded target z.stored old.array f.after f.filled new f.fails z.stand)
+      has_ended target TargetFault (ended e.passes (bare f.pass ∷ []) []) old f.filled new new b.at z.pre z.grows (rest_unrecordable target f.after f.filled new f.makes.sound f.fails) (lasts_none target TargetFault new) z.made
+      (λ now at_now. record {
+        running = ap (λ (a : ArrayView). a.halted) f.fails.array ∙ z.running;
+        failed = fails_after target (failed_of e.passes ++ []) (failed_of (e.passes ++ bare f.pass ∷ [])) old f.filled new z.pre z.grows f.fails.disks.failed;
+        target_is = inr (z.recovers now (ap (λ (a : ArrayView). slice_get a.members target) (sym f.fails.array) ∙ at_now));
+        noted = refl;
+        stand = stand_unrecorded target (failed_of e.passes) old.array f.after f.filled new f.fails z.stand;
+      })
   ended_target new (inr (inr e)) =
-      let z = ends_copied e.passes e.copied e.filled e.fills.copies in
-      ended_left e.filled new z (rest_unenrolled target e.kept e.orphans e.filled new e.why) (λ running. stand_unenrolled target z.stored old.array e.kept e.orphans e.filled new e.why z.stand)
+      let c = e.fills.copies in
+      let z = ends_copied e.passes e.copied e.filled c in
+      has_ended target TargetFault (ended c.listed (c.last ∷ []) []) old e.filled new new b.at z.pre z.grows (rest_unenrolled target e.kept e.orphans e.filled new e.why) (lasts_none target TargetFault new) z.made
+      (λ now at_now. record {
+        running = ap (λ (a : ArrayView). a.halted) e.why.array ∙ z.running;
+        failed = fails_after target (failed_of c.listed ++ []) (failed_of (c.listed ++ c.last ∷ [])) old e.filled new z.pre z.grows (λ d g at_d at_g. (e.why.disks.change d g at_d at_g).0.failed);
+        target_is = inr (z.recovers now (ap (λ (a : ArrayView). slice_get a.members target) (sym e.why.array) ∙ at_now));
+        noted = refl;
+        stand = stand_unenrolled target (failed_of c.listed) old.array e.kept e.orphans e.filled new e.why z.stand;
+      })
 
 -- ---- all of it
 module _ (target : ℕ) where
-  ended_at_once : (fault : RebuildFault) (old new : MirrorView) → RefusesAtOnce target fault old new → HasEnded target old new
-  ended_at_once fault old new h = has_ended target [] old old old new h.member h.at (preserves_none target old) (grows_none target old) (rest_none target old) (inl (sym h.unchanged)) (stand_none target old.array old)
+  ended_at_once : (fault : RebuildFault) (old new : MirrorView) → (h : RefusesAtOnce target fault old new) → ((now : MemberView) → EndsSo target fault (none_made h.member) now old new) → HasEnded target fault old new
+  ended_at_once fault old new h so =
+      has_ended target fault (none_made h.member) old old old new h.at (preserves_none target old) (grows_none target old) (rest_none target old)
+      (subst (λ (v : MirrorView). Lasts target fault old v) (sym h.unchanged) (lasts_none target fault old)) (made_none old.array h.member) (λ now there. so now)
 
   -- nothing was copied
-  ended_rest : (old new : MirrorView) (m : MemberView) → IsMember old.array target m → KeepsRest target old new → HasEnded target old new
-  ended_rest old new m at rest = has_ended target [] old old new new m at (preserves_none target old) (grows_none target old) rest (inl refl) (stand_none target old.array new)
+  ended_rest : (fault : RebuildFault) (old new : MirrorView) (m : MemberView) → IsMember old.array target m → KeepsRest target old new → ((now : MemberView) → IsMember new.array target now → EndsSo target fault (none_made m) now old new)
+      → HasEnded target fault old new
+  ended_rest fault old new m at rest =
+      has_ended target fault (none_made m) old old new new at (preserves_none target old) (grows_none target old) rest (lasts_none target fault new) (made_none old.array m)
 
-  pub refused_ended : (old new : MirrorView) → IsConsistent old → (fault : RebuildFault) → RefusesRebuild target old new fault → HasEnded target old new
-  refused_ended old new sound Halted h = ended_at_once Halted old new h
-  refused_ended old new sound NotSpare h = ended_at_once NotSpare old new h
-  refused_ended old new sound Dirty h = ended_at_once Dirty old new h
-  refused_ended old new sound (InFlight number) h = ended_at_once (InFlight number) old new h
-  refused_ended old new sound EventsFull h = ended_at_once EventsFull old new h
+  -- the target stays what it was
+  as_before : (old new : MirrorView) (m now : MemberView) → IsMember old.array target m → IsMember new.array target now → StaysStill target old new → IsAsBefore (none_made m) now
+  as_before old new m now at there still = (let is = still m now at there in record { listed = refl; last = refl; state = is.0; offset = is.1 })
+
+  -- a member failed before a pass
+  module _ (old a new : MirrorView) (k : ℕ) (m : MemberView) (at : IsMember old.array target m) (pre : Preserves target old a) (grows : GrowsSo target [] [] old a) (st : StopsSo target k a new) (other : k ≢ target)
+      (when : (now : MemberView) → IsMember st.last.array target now → IsAsBefore (none_made m) now ⊎ IsAdmitted (none_made m) now) where
+    data_stopped : (n : MemberView) → IsMember old.array k n → (h : HaltsBy k st.last new) → AtDevice k old.disks new.disks (KeepsDataBut n h.member)
+    data_stopped n at_n h d g at_d at_g =
+        let e = pre.disk_then k d at_d in
+        let o = pre.then k n at_n in
+        let x = st.rest.disk_then k e.0 e.1 in
+        let y = st.rest.then k o.0 o.1 in
+        let offset = pre.offset k n o.0 at_n o.1 in
+        let size = pre.size k n o.0 at_n o.1 in
+        let offset_y = st.rest.offset k o.0 y.0 o.1 y.1 in
+        let size_y = st.rest.size k o.0 y.0 o.1 y.1 in
+        let same : y.0 ≡ h.member = same_Some y.0 h.member (sym y.1 ∙ ap (λ (xs : List MemberView). slice_get xs k) (sym h.on.members) ∙ h.in_sync.member) in
+        subst (λ (z : MemberView). KeepsDataBut n z d g) same
+        (data_but n y.0 d x.0 g (offset_y ∙ offset) (size_y ∙ size)
+        (λ i l from to.
+        st.rest.keeps k e.0 x.0 o.0 e.1 x.1 o.1 i l (omega (arith, offset, from)) (omega (arith, offset, size, to)) ∙ pre.others k d e.0 n other at_d e.1 at_n i l from to)
+        (h.on.keeps y.0 y.1 x.0 g x.1 at_g))
+
+    ended_before : HasEnded target (MetadataFault k) old new
+    ended_before =
+        has_ended target (MetadataFault k) (none_made m) old a st.last new at pre grows st.rest st.lasts (made_none old.array m)
+        (λ now there. record {
+          other = other;
+          lost = elim st.lost [
+            | inl lost ↦ inl lost
+            | inr h ↦ inr (record { halted = h.on.halted; member = h.member; in_sync = h.in_sync; alone = h.alone; kept = λ n at_n. data_stopped n at_n h })
+          ];
+          when = inl (when now (sym (ap (λ (xs : List MemberView). slice_get xs target) st.lasts.members) ∙ there), refl);
+          stand = λ running. stand_none target old.array new;
+        })
+
+  pub refused_ended : (old new : MirrorView) → IsConsistent old → (fault : RebuildFault) → RefusesRebuild target old new fault → HasEnded target fault old new
+  refused_ended old new sound Halted h = ended_at_once Halted old new h (λ now. record { unchanged = h.unchanged; halted_is = h.cannot })
+  refused_ended old new sound NotSpare h = ended_at_once NotSpare old new h (λ now. record { unchanged = h.unchanged; halted_is = h.cannot.running })
+  refused_ended old new sound Dirty h = ended_at_once Dirty old new h (λ now. record { unchanged = h.unchanged; halted_is = h.cannot.has_target.running })
+  refused_ended old new sound (InFlight number) h = ended_at_once (InFlight number) old new h (λ now. record { unchanged = h.unchanged; halted_is = h.cannot.settled.has_target.running })
+  refused_ended old new sound EventsFull h = ended_at_once EventsFull old new h (λ now. record { unchanged = h.unchanged; halted_is = h.cannot.settled.has_target.running })
   refused_ended old new sound (MetadataFault k) (inl h) =
-      (let s = stops_so target k old new h.why in has_ended target [] old old s.last new h.member h.at (preserves_none target old) (grows_none target old) s.rest s.ends (stand_none target old.array s.last))
+      (let st = stops_so target k old new h.may.settled.has_target.running h.why in
+      ended_before old old new k h.member h.at (preserves_none target old) (grows_none target old) st h.why.other (λ now there. inl (as_before old st.last h.member now h.at there st.still)))
   refused_ended old new sound (MetadataFault k) (inr (inl h)) =
       let a = h.why.admitted in
-      let s = stops_so target k a new h.why.stops in
+      let after = h.why.after in
+      let runs = (after_so target old a after h.member (was_spare target old a sound h.member h.at h.may after) h.may).idle.running in
+      let st = stops_so target k a new runs h.why.stops in
       let marks = a.array.marks in
-      has_ended target [] old a s.last new h.member h.at (preserves_admitted target old a sound h.member h.at h.may h.why.after)
-      (grows_from target old a (starts_after target old a sound h.member h.at h.may h.why.after) (states_admitted target old a h.why.after) [] [] marks marks a (keeps_none target marks a) (λ role. omega arith)) s.rest s.ends (stand_none target old.array s.last)
+      ended_before old a new k h.member h.at (preserves_admitted target old a sound h.member h.at h.may after)
+      (grows_from target old a (starts_after target old a sound h.member h.at h.may after) (states_admitted target old a after) [] [] marks marks a (keeps_none target marks a)) st h.why.stops.other
+      (λ now there.
+      let then = admitted_is target old a after in
+      let is = st.still (admitted_member after.admits.role after.admits.may.member) now then there in
+      inr (record {
+        listed = refl;
+        last = refl;
+        spare = was_spare target old a sound h.member h.at h.may after;
+        recovering = ap is_recovering is.0;
+        offset = is.1;
+      }))
   refused_ended old new sound (MetadataFault k) (inr (inr h)) =
-      let e = h.why.1 in
-      let s = ended_source target old e.ready e.none e.begins k h.stopped e.why in
-      ended_left target old e.ready e.none e.begins s.0 new s.1 (rest_on target s.0 h.stopped new s.2 (rest_left target h.copied h.stopped new s.3 h.leaves))
-      (stand_left target s.1.stored old.array h.copied h.stopped new s.3 h.leaves s.4)
-  refused_ended old new sound TargetFault (inl h) = ended_rest old new h.member h.at (rest_unrecorded target old new h.why)
-  refused_ended old new sound TargetFault (inr (inl h)) = ended_rest old new h.member h.at (rest_unadmitted target old new h.why)
+      (let e = h.why.1 in ended_source target old e.ready e.none e.begins k h.copied h.stopped new e.why h.leaves)
+  refused_ended old new sound TargetFault (inl h) =
+      let f = h.why in
+      let runs = f.stores.ready.halted ∙ h.may.settled.has_target.running in
+      ended_rest TargetFault old new h.member h.at (rest_unrecorded target old new f)
+      (λ now there. record {
+        running = ap (λ (a : ArrayView). a.halted) f.fails.array ∙ runs;
+        failed = fails_rest target old f.mid new (rest_stores target old f.mid f.stores) f.fails.disks.failed;
+        target_is = inl (as_before old new h.member now h.at there (still_unrecorded target old new f));
+        noted = refl;
+        stand = stand_none target old.array new;
+      })
+  refused_ended old new sound TargetFault (inr (inl h)) =
+      let f = h.why in
+      let runs = f.first.stores.ready.halted ∙ h.may.settled.has_target.running in
+      ended_rest TargetFault old new h.member h.at (rest_unadmitted target old new f)
+      (λ now there. record {
+        running = ap (λ (a : ArrayView). a.halted) f.fails.array ∙ runs;
+        failed = fails_rest target old f.stored new (rest_stores target old f.stored f.first.stores) f.fails.disks.failed;
+        target_is = inl (as_before old new h.member now h.at there (still_unadmitted target old new f));
+        noted = refl;
+        stand = stand_none target old.array new;
+      })
   refused_ended old new sound TargetFault (inr (inr e)) = ended_target target old e.ready e.none e.begins new e.why
   refused_ended old new sound NoMemory (inl h) = elim h.why [
-    | inl same ↦ has_ended target [] old old old new h.member h.at (preserves_none target old) (grows_none target old) (rest_none target old) (inl (sym same)) (stand_none target old.array old)
-    | inr lacks ↦ ended_rest old new h.member h.at (rest_stores target old new lacks.first.stores)
+    | inl same ↦
+        ended_rest NoMemory old new h.member h.at (subst (KeepsRest target old) (sym same) (rest_none target old))
+        (λ now there. record {
+          running = ap (λ (v : MirrorView). v.array.halted) same ∙ h.may.settled.has_target.running;
+          target_is = inl (as_before old new h.member now h.at there (still_same target old new (ap (λ (v : MirrorView). v.array) same)));
+          noted = inl refl;
+          stand = stand_none target old.array new;
+        })
+    | inr lacks ↦
+        ended_rest NoMemory old new h.member h.at (rest_stores target old new lacks.first.stores)
+        (λ now there. record {
+          running = lacks.first.stores.ready.halted ∙ h.may.settled.has_target.running;
+          target_is = inl (as_before old new h.member now h.at there (still_stored target old new lacks.first.stores));
+          noted = inl refl;
+          stand = stand_none target old.array new;
+        })
   ]
   refused_ended old new sound NoMemory (inr h) =
       let e = h.why in
       let z = lacks_memory target old e.ready e.none e.begins h.copied h.stopped e.why in
-      ended_leaving target old e.ready e.none e.begins h.copied h.stopped new z h.leaves
+      ended_leaving target old e.ready e.none e.begins NoMemory z.0 h.copied h.stopped new z.1 h.leaves
+      (λ now there. record {
+        running = runs_then target old e.ready e.none e.begins NoMemory z.0 h.copied h.stopped new z.1 h.leaves;
+        target_is = inr (recovers_then target old e.ready e.none e.begins NoMemory z.0 h.copied h.stopped new z.1 h.leaves now there);
+        noted = z.2;
+        stand = stand_then target old e.ready e.none e.begins NoMemory z.0 h.copied h.stopped new z.1 h.leaves;
+      })
   refused_ended old new sound (LogFull k) h =
       let e = h.why in
       let z = lacks_room target old e.ready e.none e.begins k h.copied h.stopped e.why in
-      ended_leaving target old e.ready e.none e.begins h.copied h.stopped new z h.leaves
+      ended_leaving target old e.ready e.none e.begins (LogFull k) z.0 h.copied h.stopped new z.1 h.leaves
+      (λ now there. record {
+        running = runs_then target old e.ready e.none e.begins (LogFull k) z.0 h.copied h.stopped new z.1 h.leaves;
+        recovering = recovers_then target old e.ready e.none e.begins (LogFull k) z.0 h.copied h.stopped new z.1 h.leaves now there;
+        noted = room_then target old e.ready e.none e.begins (LogFull k) z.0 h.copied h.stopped new z.1 h.leaves k z.2;
+        stand = stand_then target old e.ready e.none e.begins (LogFull k) z.0 h.copied h.stopped new z.1 h.leaves;
+      })

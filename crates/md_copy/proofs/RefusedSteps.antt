@@ -19,7 +19,7 @@ use Rattle.md_passes.specs.Listed.{IsOfFailed}
 use Rattle.md_model.specs.Events.{Event}
 use Rattle.md_state.specs.Admitting.{admitted}
 use Rattle.md_state.specs.DiskWrites.{IsTried}
-use Rattle.md_state.specs.Members.{IsMember}
+use Rattle.md_state.specs.Members.{IsInSync, IsMember}
 use Rattle.md_state.specs.Missing.{is_missing}
 use Rattle.md_state.specs.View.{ArrayView, Disk, MirrorView}
 use Rattle.md_array.specs.Checkpoints.{Checkpoints, FailsToCheckpoint}
@@ -31,20 +31,40 @@ use Rattle.md_super.specs.declared.superblock.Superblock.{Superblock}
 use Rattle.md_metadata.specs.Storing.{IsStoring, StaysReady, Stores}
 use Rattle.md_copy.specs.Beginning.{MayRebuild}
 use Rattle.md_copy.specs.Leaving.{Leaves}
-use Rattle.md_copy.specs.Listing.{IsStoringList, StopsAtList}
+use Rattle.md_copy.specs.Listing.{HaltsAtList, IsStoringList, StopsAtList}
 use Rattle.md_copy.specs.Readying.{AdmitsAfter, FailsAdmission}
 use Rattle.md_copy.specs.Rebuilding.{Begins}
-use Rattle.md_copy.specs.Rebuilt.{HaltsFrom}
+use Rattle.md_copy.specs.declared.fault.RebuildFault.TheVariants.{MetadataFault}
+use Rattle.md_copy.specs.Refused.{IsLost}
 use Rattle.md_copy.specs.Storing.{FailsOnTarget, StopsAt}
+use Rattle.md_copy.proofs.Halting.{HaltsOn, halts_on, lasts_halted}
 use Rattle.md_copy.proofs.HeldRecorded.{chunks_is, data_kept, lacked, marks_is, other_is, out_of_sync, target_same as checkpointed_is}
 use Rattle.md_copy.proofs.PassesKeep.{PassesKeep}
 use Rattle.md_copy.proofs.Readied.{after_so, ready_of, recovering_admitted, spare_is, spare_twice, stored_so}
-use Rattle.md_copy.proofs.ReadyStill.{storing_states}
-use Rattle.md_copy.proofs.Refused.{GrowsSo, IsSameOrLost, KeepsRest, Preserves, StaysTarget, preserves_rest, preserves_started, rest_alone, rest_none, rest_on, rest_stored, rest_super, target_same}
+use Rattle.md_copy.proofs.ReadyStill.{list_halted, storing_states}
+use Rattle.md_copy.proofs.Refused.{GrowsSo, IsSameOrLost, KeepsRest, Lasts, Preserves, StaysTarget, lasts_none, preserves_rest, preserves_started, rest_alone, rest_none, rest_on, rest_stored, rest_super, target_same}
 use Rattle.md_copy.proofs.StartedAs.{IsAs, StartsAs, starts_on}
 use Rattle.md_copy.proofs.StartsReadied.{starts_admitted, starts_of, starts_stored}
 use Rattle.md_copy.proofs.StatesKept.{WasSo, so_admitted, so_readied, so_stored}
 use Rattle.md_copy.proofs.StoringKeeps.{places_of, storing_keeps}
+
+-- the target's state and its offset are what they were
+abbrev pub StaysStill : ℕ → MirrorView → MirrorView → Type 0
+StaysStill target old new =
+    (m n : MemberView) → IsMember old.array target m → IsMember new.array target n → (n.state ≡ m.state) × (n.superblock.recovery_offset ≡ m.superblock.recovery_offset)
+
+pub still_same : (target : ℕ) (old new : MirrorView) → new.array ≡ old.array → StaysStill target old new
+still_same target old new same m n at there =
+    let is = same_Some n m (sym there ∙ ap (λ (a : ArrayView). slice_get a.members target) same ∙ at) in
+    (ap (λ (z : MemberView). z.state) is, ap (λ (z : MemberView). z.superblock.recovery_offset) is)
+
+still_on : (target : ℕ) (old mid new : MirrorView) → ((m : MemberView) → IsMember old.array target m → (n : MemberView) × IsMember mid.array target n) → StaysStill target old mid → StaysStill target mid new
+    → StaysStill target old new
+still_on target old mid new then x y m o at there =
+    let n = then m at in
+    let first = x m n.0 at n.1 in
+    let second = y n.0 o n.1 there in
+    (second.0 ∙ first.0, second.1 ∙ first.1)
 
 -- ---- what is due is stored
 module _ (target : ℕ) (old new : MirrorView) (s : Stores IsStoring old new) where
@@ -58,39 +78,71 @@ module _ (target : ℕ) (old new : MirrorView) (s : Stores IsStoring old new) wh
       let is = as_was target m n at there in
       target_same m n (ap (λ (z : MemberView). z.state) is) (ap (λ (z : MemberView). z.superblock.recovery_offset) is) (ap (λ (z : MemberView). z.bad) is)
 
+  pub still_stored : StaysStill target old new
+  still_stored m n at there = (let is = as_was target m n at there in (ap (λ (z : MemberView). z.state) is, ap (λ (z : MemberView). z.superblock.recovery_offset) is))
+
   pub rest_stores : KeepsRest target old new
   rest_stores = rest_stored target old new (storing_keeps old new s.goes) s.goes.sound (λ m n at there. ap (λ (z : MemberView). z.state) (as_was target m n at there))
 
 -- ---- and it is not all stored
+-- The mirror was halted by a write that failed on member k.
+pub record HaltsBy (k : ℕ) (last new : MirrorView) : Type 0 where
+  pub on : HaltsOn k last new
+  pub member : MemberView
+  pub in_sync : IsInSync new.array k member
+  pub alone : (j : ℕ) (n : MemberView) → IsInSync new.array j n → j ≡ k
+
 -- up to the end, or to right before a write that halted the mirror
-pub record StopsSo (target : ℕ) (old new : MirrorView) : Type 0 where
+pub record StopsSo (target k : ℕ) (old new : MirrorView) : Type 0 where
   pub last : MirrorView
   pub rest : KeepsRest target old last
-  pub ends : (last ≡ new) ⊎ HaltsFrom last new
+  pub still : StaysStill target old last
+  pub lasts : Lasts target (MetadataFault k) last new
+  pub lost : IsLost k new.array ⊎ HaltsBy k last new
 
-pub stops_so : (target k : ℕ) (old new : MirrorView) → StopsAt target k old new → StopsSo target old new
-stops_so target k old new h = elim h.ends [
+pub stops_so : (target k : ℕ) (old new : MirrorView) → old.array.halted ≡ false → StopsAt target k old new → StopsSo target k old new
+stops_so target k old new running h = elim h.ends [
   | inl lost ↦
       let goes = lost.loses.goes in
+      let state : (m n : MemberView) → IsMember old.array target m → IsMember new.array target n → n.state ≡ m.state =
+      λ m n at there. (let x = storing_states target k old new h.other lost n there in x.2 ∙ ap (λ (z : MemberView). z.state) (same_Some x.0 m (sym x.1 ∙ at))) in
       record {
         last = new;
-        rest = rest_stored target old new (storing_keeps old new goes) goes.sound
-            (λ m n at there. (let x = storing_states target k old new h.other lost n there in x.2 ∙ ap (λ (z : MemberView). z.state) (same_Some x.0 m (sym x.1 ∙ at))));
-        ends = inl refl;
+        rest = rest_stored target old new (storing_keeps old new goes) goes.sound state;
+        still = λ m n at there. (state m n at there, ap (λ (v : Superblock). v.recovery_offset) ((storing_keeps old new goes).each target m n at there).superblock);
+        lasts = lasts_none target (MetadataFault k) new;
+        lost = inl (record { running = lost.loses.halted ∙ running; member = lost.faulty.member; at = lost.faulty.at; faulty = lost.faulty.faulty });
       }
-  | inr at ↦ record { last = at.mid; rest = rest_stores target old at.mid at.stores; ends = inr (record { failing = at.failing; of = at.of; halts = at.halts }) }
+  | inr at ↦
+      let on = halts_on k at.mid new at.stores.goes.sound at.failing at.of at.named (at.halts (λ n. None)) in
+      record {
+        last = at.mid;
+        rest = rest_stores target old at.mid at.stores;
+        still = still_stored target old at.mid at.stores;
+        lasts = lasts_halted target k at.mid new h.other on;
+        lost = inr (record { on = on; member = at.member; in_sync = at.in_sync; alone = at.alone });
+      }
 ]
 
 pub rest_unrecorded : (target : ℕ) (old new : MirrorView) → FailsOnTarget target old new → KeepsRest target old new
 rest_unrecorded target old new h =
     rest_on target old h.mid new (rest_stores target old h.mid h.stores)
-    (rest_super target target h.mid.array h.fails.member h.mid new (places_of h.mid h.stores.goes.sound) h.fails.disks.tried h.fails.array h.fails.may.readable.size)
+    (rest_super target target h.mid.array h.fails.member h.mid new (places_of h.mid h.stores.goes.sound) h.fails.disks.tried (ap (λ (a : ArrayView). a.members) h.fails.array) h.fails.may.readable.size)
+
+pub still_unrecorded : (target : ℕ) (old new : MirrorView) → FailsOnTarget target old new → StaysStill target old new
+still_unrecorded target old new h =
+    still_on target old h.mid new (λ m at. (rest_stores target old h.mid h.stores).then target m at) (still_stored target old h.mid h.stores) (still_same target h.mid new h.fails.array)
 
 pub rest_unadmitted : (target : ℕ) (old new : MirrorView) → FailsAdmission target old new → KeepsRest target old new
 rest_unadmitted target old new h =
     let f = h.fails in
     rest_on target old h.stored new (rest_stores target old h.stored h.first.stores)
-    (rest_super target target (admitted h.stored.array target f.may.member f.role) (admitted_member f.role f.may.member) h.stored new (places_of h.stored h.first.stores.goes.sound) f.disks.tried f.array f.readable.size)
+    (rest_super target target (admitted h.stored.array target f.may.member f.role) (admitted_member f.role f.may.member) h.stored new (places_of h.stored h.first.stores.goes.sound) f.disks.tried
+    (ap (λ (a : ArrayView). a.members) f.array) f.readable.size)
+
+pub still_unadmitted : (target : ℕ) (old new : MirrorView) → FailsAdmission target old new → StaysStill target old new
+still_unadmitted target old new h =
+    still_on target old h.stored new (λ m at. (rest_stores target old h.stored h.first.stores).then target m at) (still_stored target old h.stored h.first.stores) (still_same target h.stored new h.fails.array)
 
 -- ---- a rebuild begins
 spare_apart : (m : MemberView) → is_spare m.state ≡ true → is_recovering m.state ≡ true → ⊥
@@ -119,7 +171,7 @@ preserves_begun target old v none b = preserves_started target old v starts own
 
 -- the target is admitted, and what that made due is not stored yet
 module _ (target : ℕ) (old admitted : MirrorView) (sound : IsConsistent old) (member : MemberView) (at : IsMember old.array target member) (may : MayRebuild old.array member) (h : AdmitsAfter target old admitted) where
-  was_spare : is_spare member.state ≡ true
+  pub was_spare : is_spare member.state ≡ true
   was_spare =
       let s = target_stored target old h.stored h.first.stores member h.admits.may.member at h.admits.may.at in
       elim s.state [ inl same ↦ sym (ap is_spare same) ∙ h.spare | inr now ↦ now.0 ]
@@ -160,7 +212,7 @@ states_admitted target old admitted h k m n other at there =
     let a = so_admitted target h.stored admitted h.admits k other n there in
     a.2 ∙ was_same old h.stored k m a.0 at (so_stored old h.stored h.first k a.0 a.1)
 
-pub grows_none : (target : ℕ) (v : MirrorView) → GrowsSo target [] v v
+pub grows_none : (target : ℕ) (v : MirrorView) → GrowsSo target [] [] v v
 grows_none target v = record {
   lists = λ k m n other at there sector. (
     λ bad. inl (subst (λ (runs : List Run). IsBad runs sector) (ap (λ (z : MemberView). z.bad) (same_Some n m (sym there ∙ at))) bad),
@@ -191,9 +243,8 @@ module _ (target : ℕ) (old v : MirrorView) (starts : StartsAs target old v) (s
   )
 
   -- after passes that listed these slots, of those that failed in them
-  pub grows_from : (listed failed : List Slot) (before after : Bitmap) (w : MirrorView) → PassesKeep target listed failed before after v w
-      → ((role : ℕ) → count_by (is_of role) listed ≤ count_by (is_of role) failed) → GrowsSo target listed old w
-  grows_from listed failed before after w p fewer = record {
+  pub grows_from : (listed failed : List Slot) (before after : Bitmap) (w : MirrorView) → PassesKeep target listed failed before after v w → GrowsSo target listed failed old w
+  grows_from listed failed before after w p = record {
     lists = λ k m o other at there sector.
         (let z = starts.then k m at in
         let n = p.lists.after k z.0 z.1 in
@@ -207,8 +258,7 @@ module _ (target : ℕ) (old v : MirrorView) (starts : StartsAs target old v) (s
         let e = starts.disk_then k d at_d in
         let first = starts.counted k d e.0 at_d e.1 in
         let second = p.fails k role z.0 z.1 (z.2.roles role ∙ in_role) e.0 f e.1 at_f (starts.honest k d e.0 at_d e.1 ∙ honest) in
-        let few = fewer role in
-        omega (arith, first, second, few));
+        omega (arith, first, second));
     states = λ k m o other at there.
         (let z = starts.then k m at in
         let n = p.lists.after k z.0 z.1 in
@@ -220,6 +270,10 @@ module _ (target : ℕ) (old v : MirrorView) (starts : StartsAs target old v) (s
         omega (arith, first, second));
     honest = λ k d f at_d at_f. (let e = starts.disk_then k d at_d in p.honest k e.0 f e.1 at_f ∙ starts.honest k d e.0 at_d e.1);
   }
+
+-- the same slots, in other words
+pub grows_as : (target : ℕ) (a b c d : List Slot) (old w : MirrorView) → b ≡ a → d ≡ c → GrowsSo target a c old w → GrowsSo target b d old w
+grows_as target a b c d old w listed failed g = subst (λ xs. GrowsSo target xs d old w) (sym listed) (subst (λ xs. GrowsSo target a xs old w) (sym failed) g)
 
 -- ---- how far the target is rebuilt is recorded
 module _ (target : ℕ) (copied : Bitmap) (v w : MirrorView) (sound : IsConsistent v) (r : Checkpoints target copied v w) where
@@ -290,9 +344,18 @@ module _ (target : ℕ) (copied : Bitmap) (v w : MirrorView) (sound : IsConsiste
       preserves_rest target v w rest_recorded (chunks_is target copied v w sound r) (marks_is target copied v w sound r)
       (λ l n at there c low is. ap (λ (z : MemberView). is_missing v.array z c) (same_Some l m (sym at ∙ r.may.at)) ∙ lacked target copied v w sound r n there c is)
 
+pub checkpointed_many : (target : ℕ) (copied : Bitmap) (v w : MirrorView) → Checkpoints target copied v w → length w.array.members ≡ length v.array.members
+checkpointed_many target copied v w r =
+    ap (λ (a : ArrayView). length a.members) r.array ∙ length-set v.array.members target (record (with_offset r.offset r.may.member) { due = false })
+
 -- ---- once it has stopped
+pub halted_left : (target : ℕ) (copied : Bitmap) (v w : MirrorView) → v.array.halted ≡ true → Leaves target copied v w → w ≡ v
+halted_left target copied v w halted (inl same) = same.1
+halted_left target copied v w halted (inr (inl r)) = absurd (both_ways v.array.halted r.may.idle.running halted)
+halted_left target copied v w halted (inr (inr f)) = absurd (both_ways v.array.halted f.running halted)
+
 pub rest_unrecordable : (target : ℕ) (copied : Bitmap) (v w : MirrorView) → IsConsistent v → FailsToCheckpoint target copied v w → KeepsRest target v w
-rest_unrecordable target copied v w sound f = rest_super target target v.array (with_offset f.offset f.member) v w (places_of v sound) f.disks.tried f.array f.readable.size
+rest_unrecordable target copied v w sound f = rest_super target target v.array (with_offset f.offset f.member) v w (places_of v sound) f.disks.tried (ap (λ (a : ArrayView). a.members) f.array) f.readable.size
 
 pub rest_left : (target : ℕ) (copied : Bitmap) (v w : MirrorView) → (v.array.halted ≡ false → IsConsistent v) → Leaves target copied v w → KeepsRest target v w
 rest_left target copied v w sound (inl same) = subst (KeepsRest target v) (sym same.1) (rest_none target v)
@@ -302,7 +365,7 @@ rest_left target copied v w sound (inr (inr f)) = rest_unrecordable target copie
 -- the target does not come into sync
 pub rest_unenrolled : (target : ℕ) (kept orphans : Bitmap) (v w : MirrorView) → FailsToEnrol target kept orphans v w → KeepsRest target v w
 rest_unenrolled target kept orphans v w f =
-    rest_alone target target v w f.array f.disks.as_many f.disks.others (λ d e at_d at_e. (let kept = (f.disks.change d e at_d at_e).0.kept in (kept.counted, kept.honest_kept)))
+    rest_alone target target v w (ap (λ (a : ArrayView). a.members) f.array) f.disks.as_many f.disks.others (λ d e at_d at_e. (let kept = (f.disks.change d e at_d at_e).0.kept in (kept.counted, kept.honest_kept)))
     (λ d e m at_d at_e at_m i n from to.
     (let was = same_Some f.comes.member m (sym f.comes.at ∙ at_m) in
     let offset = ap (λ (s : Superblock). s.data_offset) f.comes.comes.superblock ∙ ap (λ (z : MemberView). z.superblock.data_offset) was in
@@ -310,6 +373,9 @@ rest_unenrolled target kept orphans v w f =
     (f.disks.change d e at_d at_e).1 i n (omega (arith, offset, from)) (omega (arith, offset, size, to))))
 
 -- ---- a list is not stored
+pub halts_list : (k : ℕ) (v w : MirrorView) → HaltsAtList k v w → w.array.halted ≡ true
+halts_list k v w at = (let s = at.halts.halts in list_halted s.mid w (λ n. None) s.failing s.of (s.halts (λ n. None)))
+
 halted_members : (mid new : MirrorView) (e : Event) → IsStoringList e → HaltsAt mid (λ n. None) e new → new.array.members ≡ mid.array.members
 halted_members mid new (Event.RecordFails j) of h = ap (λ (a : ArrayView). a.members) h.halts.array.array
 halted_members mid new (Event.StoreMarksFails j b) of h = ap (λ (a : ArrayView). a.members) h.halts.array.array

@@ -21,28 +21,13 @@ use Rattle.md_array.specs.Worlds.{is_listed}
 use Rattle.md_copy.specs.Filling.{IsFilling}
 use Rattle.md_copy.specs.Leaving.{Leaves}
 use Rattle.md_copy.specs.Listing.{HasFailed, HasListOn, NotesLists, StopsAtList}
-use Rattle.md_copy.specs.Rebuilt.{HasListWithin, ListsStand, StandStored}
+use Rattle.md_copy.specs.Refused.{HasListWithin, ListsStand}
 use Rattle.md_copy.proofs.HeldRecorded.{other_is}
 use Rattle.md_copy.proofs.PassesKeep.{disk_then}
 
 -- ---- nothing was listed
-pub stand_none : (target : ℕ) (old : ArrayView) (v : MirrorView) → StandStored target [] old v
-stand_none target old v = record {
-  stored = [];
-  noted = [];
-  slots = refl;
-  of_one = λ i j d lt within. absurd (omega (arith, within));
-  stand = λ running k m n e other at has. (let low = has.2 in absurd (omega (arith, low)));
-}
-
--- the first slots of a pass rise as its slots do
-pub rise_first : (xs ys : List Slot) → SlotsRise (xs ++ ys) → SlotsRise xs
-rise_first xs ys rise i j d lt within =
-    let many = length-append xs ys in
-    let less = rise i j d lt (omega (arith, within, many)) in
-    let first = ap (λ (s : Slot). s.chunk) (get_or_append_left xs ys d i (omega (arith, lt, within))) in
-    let second = ap (λ (s : Slot). s.chunk) (get_or_append_left xs ys d j within) in
-    omega (arith, less, first, second)
+pub stand_none : (target : ℕ) (old : ArrayView) (v : MirrorView) → ListsStand target [] old v
+stand_none target old v k m n e other at has = (let low = has.2 in absurd (omega (arith, low)))
 
 -- a list that stands there exactly
 pub within_exact : (Known : ℕ → Type 0) (n : MemberView) (content : List ℕ) → HasListOn n.bad content → ((sector : ℕ) → Known sector → IsBad n.bad sector) → HasListWithin Known n.bad content

@@ -30,5 +30,7 @@ pub mod Enrolled
 pub mod Rebuilding
 -- What a rebuild makes of its target, in plain terms, whatever the steps were (this project's own).
 pub mod Rebuilt
+-- What stands after a rebuild that is refused, fault by fault, in plain terms (this project's own).
+pub mod Refused
 -- A rebuild as a list of events of the array's model (this project's own).
 pub mod RebuildEvents

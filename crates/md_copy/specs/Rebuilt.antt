@@ -135,27 +135,6 @@ ListsStored target failed old last =
 abbrev pub OwnListStored : MemberView → Disk → Type 0
 OwnListStored m d = is_in_sync m.state ≡ true → d.honest ≡ true → HasListOn m.bad d.content
 
--- An opening reads a superblock there. The log that this names lists these sectors, and none that is not in the list.
-pub record HasListWithin (Known : ℕ → Type 0) (list : List Run) (content : List ℕ) : Type 0 where
-  pub super : Superblock
-  pub read : IsSuperOn content super
-  pub known : (sector : ℕ) → Known sector → is_listed super content sector ≡ true
-  pub only : (sector : ℕ) → is_listed super content sector ≡ true → IsBad list sector
-
--- So it is, where the rebuild is refused, of each other member of which one of these slots failed: its list before, and the chunks of these slots.
-abbrev pub ListsStand : ℕ → List Slot → ArrayView → MirrorView → Type 0
-ListsStand target stored old last =
-    (k : ℕ) (m n : MemberView) (e : Disk) → k ≢ target → IsMember old k m → HasFailed stored m → IsMember last.array k n → is_in_sync n.state ≡ true
-    → slice_get last.disks k ≡ Some e → e.honest ≡ true → HasListWithin (λ sector. IsBad m.bad sector ⊎ IsOfFailed old.chunks stored m sector) n.bad e.content
-
--- Of the slots by which lists grew these stand on the devices, those of passes whose lists were stored. The others are of one more pass.
-pub record StandStored (target : ℕ) (failed : List Slot) (old : ArrayView) (last : MirrorView) : Type 0 where
-  pub stored : List Slot
-  pub noted : List Slot
-  pub slots : failed ≡ stored ++ noted
-  pub of_one : SlotsRise noted
-  pub stand : last.array.halted ≡ false → ListsStand target stored old last
-
 -- ---- the whole call
 -- The write of a mark or of a superblock failed on a member that can't be made faulty, and the mirror is halted.
 pub record HaltsFrom (last new : MirrorView) : Type 0 where
@@ -180,33 +159,3 @@ pub record HasRebuilt (target : ℕ) (told : Rebuilt) (old new : MirrorView) : T
   pub states : KeepStates target (failed_of passes) old last
   pub stored : ListsStored target (failed_of passes) old.array last
   pub own_stored : (e : Disk) → slice_get last.disks target ≡ Some e → OwnListStored rebuilt.now e
-
--- ---- a call that is refused
--- these bytes lie in the member's data area, beside the chunks that it lacks
-pub record IsBesideLacking (a : ArrayView) (m : MemberView) (at n : ℕ) : Type 0 where
-  pub from : 512 * m.superblock.data_offset ≤ at
-  pub to : at + n ≤ 512 * (m.superblock.data_offset + m.superblock.data_size)
-  pub beside : IsBesideMissing a m at n
-
--- At the end of the call, or where a write that failed halted the mirror before a pass, right before that write: the target is what it was, or it
--- was a spare and is recovering. How far it is rebuilt is no less than before, its list is as before, and so are its data beside what it lacked. The
--- data of all other members are as before, their lists grew by slots that failed alone, which the devices have counted, and their states are as
--- before where no write to them failed. What was listed of passes whose lists were stored stands on the devices.
-pub record HasEnded (target : ℕ) (old new : MirrorView) : Type 0 where
-  pub last : MirrorView
-  pub ends : (last ≡ new) ⊎ HaltsFrom last new
-  pub member : MemberView
-  pub at : IsMember old.array target member
-  pub now : MemberView
-  pub there : IsMember last.array target now
-  pub state : (now.state ≡ member.state) ⊎ ((is_spare member.state ≡ true) × (is_recovering now.state ≡ true))
-  pub offset : is_recovering member.state ≡ true → member.superblock.recovery_offset ≤ now.superblock.recovery_offset
-  pub list : now.bad ≡ member.bad
-  pub beside : (d e : Disk) → slice_get old.disks target ≡ Some d → slice_get last.disks target ≡ Some e
-      → (at n : ℕ) → IsBesideLacking old.array member at n → part e.content at n ≡ part d.content at n
-  pub others : OthersKeepData target old last
-  pub failed : List Slot
-  pub lists : ListsGrow target failed old.array last.array
-  pub counted : CountsFailed failed old last
-  pub states : KeepStates target failed old last
-  pub stored : StandStored target failed old.array last

@@ -7,7 +7,8 @@ ghost use Rattle.md_copy.specs.Leaving.{MayLeave};
 ghost use Rattle.md_copy.specs.Preparing.{IsSetOf};
 ghost use Rattle.md_copy.specs.Ready.{IsReady};
 ghost use Rattle.md_copy.specs.Rebuilding.{RebuildsReadied, Rebuilds, RefusesRebuild, StopsReadied};
-ghost use Rattle.md_copy.specs.Rebuilt.{HasEnded, HasRebuilt};
+ghost use Rattle.md_copy.specs.Rebuilt.{HasRebuilt};
+ghost use Rattle.md_copy.specs.Refused.{HasEnded};
 
 use crate::checking::check_rebuild;
 use crate::enrol_filled::enrol_copied;
@@ -42,7 +43,7 @@ pub fn rebuild<D: Device + Drop + Send, G: Gate + Sync, R: Threads + Wait + Sync
     requires sound { IsConsistent mirror.old }
     ensures gives { MatchResult result (λ told. Rebuilds target told mirror.old mirror.new) (RefusesRebuild target mirror.old mirror.new) }
     ensures rebuilt { IfOk result (λ told. HasRebuilt target told mirror.old mirror.new) }
-    ensures refused { IfErr result (λ _. HasEnded target mirror.old mirror.new) }
+    ensures refused { IfErr result (λ fault. HasEnded target fault mirror.old mirror.new) }
     ensures sound { IsConsistent mirror.new }
 {
     rebuild_by_steps(rt, alloc, mirror, target, gate)

@@ -1,0 +1,225 @@
+-- What stands after a rebuild that is refused, fault by fault, in plain terms, whatever the steps were (this project's own).
+use Rattle.std.specs.Prelude.{◌≡◌, ◌≢◌, ◌⊎◌, ◌↔◌, ℕ, ◌+◌, ◌*◌, ◌<◌, ◌≤◌, Bool, true, false, List, [], ◌∷◌, ◌++◌, length, slice_get, All, Some}
+use Rattle.md_assembly.specs.declared.state.MemberState.TheVariants.{Faulty}
+use Rattle.md_assembly.specs.States.{is_in_sync, is_in_sync_as, is_recovering, is_spare}
+use Rattle.md_badblocks.specs.declared.run.Run.{Run}
+use Rattle.md_badblocks.specs.Runs.{IsBad}
+use Rattle.md_cert.specs.declared.slots.Slot.{Slot}
+use Rattle.md_collect.specs.Reading.{Fails}
+use Rattle.md_device.specs.Splice.{part}
+use Rattle.md_kept_members.specs.View.{MemberView}
+use Rattle.md_members.specs.Reading.{BitmapStartsAt}
+use Rattle.md_super.specs.declared.superblock.Superblock.{Superblock}
+use Rattle.md_state.specs.DiskWrites.{AtDevice}
+use Rattle.md_state.specs.Members.{IsInSync, IsMember}
+use Rattle.md_state.specs.NotingBad.{HasFullLogFor}
+use Rattle.md_state.specs.View.{ArrayView, Disk, MirrorView, of_disks}
+use Rattle.md_array.specs.Enrolling.{KeepsData}
+use Rattle.md_array.specs.Lending.{IsBesideMissing}
+use Rattle.md_array.specs.ReadAsKept.{IsSuperOn}
+use Rattle.md_array.specs.Worlds.{is_listed}
+use Rattle.md_passes.specs.Listed.{IsArrayPass, IsOfFailed, ListsFailed, MayServe, ServesAs, most_failures}
+use Rattle.md_passes.specs.Passes.{PassView, failed_chunks}
+use Rattle.md_copy.specs.declared.fault.RebuildFault.{RebuildFault}
+use Rattle.md_copy.specs.declared.fault.RebuildFault.TheVariants.{Halted, NotSpare, Dirty, InFlight, LogFull, NoMemory, TargetFault, MetadataFault, EventsFull}
+use Rattle.md_copy.specs.Filling.{CountsFailed}
+use Rattle.md_copy.specs.Listing.{HasFailed}
+use Rattle.md_copy.specs.Rebuilt.{KeepStates, ListsGrow, failed_of}
+use Rattle.md_copy.specs.Sources.{missing_chunks}
+
+-- ---- the passes that were made
+-- Passes one after another, each over the chunks that failed in the one before: of each some slots failed, and their chunks were listed. From an array
+-- and the chunks of its table to those of the next.
+abbrev pub AreListed : List PassView → ArrayView → List ℕ → ArrayView → List ℕ → Type 0
+AreListed [] a chunks b left = (b ≡ a) × (left ≡ chunks)
+AreListed (p ∷ ps) a chunks b left =
+    IsArrayPass a chunks p × (p.failed ≢ []) × ((c : ArrayView) × ListsFailed p.failed a c × AreListed ps c (failed_chunks p) b left)
+
+-- The passes of a call that was refused: those of which all that failed was listed and stored, and then at most one that was planned. Of its slots that
+-- failed these are listed in memory alone.
+pub record Ending : Type 0 where
+  pub member : MemberView  -- the target, as it was
+  pub listed : List PassView
+  pub last : List PassView
+  pub noted : List Slot
+
+-- The first is planned by where a chunk may be read before the call, the others by where it may be once what failed before is listed, and each is
+-- least. There are no more of them than chunks to read, counted for each member in sync, and one.
+pub record HasMade (s : Ending) (old : ArrayView) : Type 0 where
+  pub first : ArrayView
+  pub served : (c role : ℕ) → ServesAs first c role ↔ ServesAs old c role
+  pub permitted : (c role : ℕ) → MayServe first c role ↔ MayServe old c role
+  pub end : ArrayView
+  pub left : List ℕ
+  pub are : AreListed s.listed first (missing_chunks old s.member) end left
+  pub planned : All (IsArrayPass end left) s.last
+  pub one : length s.last ≤ 1
+  pub few : length (s.listed ++ s.last) ≤ most_failures old + 1
+
+-- ---- the target
+-- these bytes lie in the member's data area, beside the chunks that it lacks
+pub record IsBesideLacking (a : ArrayView) (m : MemberView) (at n : ℕ) : Type 0 where
+  pub from : 512 * m.superblock.data_offset ≤ at
+  pub to : at + n ≤ 512 * (m.superblock.data_offset + m.superblock.data_size)
+  pub beside : IsBesideMissing a m at n
+
+-- No pass was planned, and it is what it was.
+pub record IsAsBefore (s : Ending) (now : MemberView) : Type 0 where
+  pub listed : s.listed ≡ []
+  pub last : s.last ≡ []
+  pub state : now.state ≡ s.member.state
+  pub offset : now.superblock.recovery_offset ≡ s.member.superblock.recovery_offset
+
+-- No pass was planned. It was a spare, and is recovering from the start.
+pub record IsAdmitted (s : Ending) (now : MemberView) : Type 0 where
+  pub listed : s.listed ≡ []
+  pub last : s.last ≡ []
+  pub spare : is_spare s.member.state ≡ true
+  pub recovering : is_recovering now.state ≡ true
+  pub offset : now.superblock.recovery_offset ≡ 0
+
+-- ---- the lists
+-- An opening reads a superblock there. The log that this names lists these sectors, and none that is not in the list.
+pub record HasListWithin (Known : ℕ → Type 0) (list : List Run) (content : List ℕ) : Type 0 where
+  pub super : Superblock
+  pub read : IsSuperOn content super
+  pub known : (sector : ℕ) → Known sector → is_listed super content sector ≡ true
+  pub only : (sector : ℕ) → is_listed super content sector ≡ true → IsBad list sector
+
+-- So it is of each other member in sync of which one of these slots failed: its list before, and the chunks of these slots.
+abbrev pub ListsStand : ℕ → List Slot → ArrayView → MirrorView → Type 0
+ListsStand target stored old new =
+    (k : ℕ) (m n : MemberView) (e : Disk) → k ≢ target → IsMember old k m → HasFailed stored m → IsMember new.array k n → is_in_sync n.state ≡ true
+    → slice_get new.disks k ≡ Some e → e.honest ≡ true → HasListWithin (λ sector. IsBad m.bad sector ⊎ IsOfFailed old.chunks stored m sector) n.bad e.content
+
+-- Of the slots of the last pass that failed the first are listed in memory alone, and this one is not, for this reason.
+pub record NotesSome (s : Ending) (Why : Slot → Type 0) : Type 0 where
+  pub pass : PassView
+  pub last : s.last ≡ pass ∷ []
+  pub next : Slot
+  pub rest : List Slot
+  pub slots : pass.failed ≡ s.noted ++ next ∷ rest
+  pub why : Why next
+
+-- The log of member k, of which this slot is, has no room for the chunk, as its list stands.
+pub record LacksRoomFor (k : ℕ) (a : ArrayView) (slot : Slot) : Type 0 where
+  pub full : HasFullLogFor k slot.chunk a
+  pub own : is_in_sync_as slot.source full.member.state ≡ true
+
+-- All of them are.
+pub record NotesAll (s : Ending) : Type 0 where
+  pub pass : PassView
+  pub last : s.last ≡ pass ∷ []
+  pub slots : pass.failed ≡ s.noted
+
+-- ---- the member that failed
+-- it is faulty, and the mirror runs
+pub record IsLost (k : ℕ) (a : ArrayView) : Type 0 where
+  pub running : a.halted ≡ false
+  pub member : MemberView
+  pub at : IsMember a k member
+  pub faulty : member.state ≡ Faulty
+
+-- a sector that lies where the member's bitmap starts, or after that
+pub record IsFromMarks (m : MemberView) (sector : ℕ) : Type 0 where
+  pub start : ℕ
+  pub starts : BitmapStartsAt m.superblock start
+  pub from : start ≤ sector
+
+-- data stay beside a sector
+abbrev pub KeepsDataBeside : ℕ → MemberView → Disk → Disk → Type 0
+KeepsDataBeside sector m d e =
+    (at n : ℕ) → 512 * m.superblock.data_offset ≤ at → at + n ≤ 512 * (m.superblock.data_offset + m.superblock.data_size)
+    → (at + n ≤ 512 * sector) ⊎ (512 * (sector + 1) ≤ at) → part e.content at n ≡ part d.content at n
+
+-- Data stay, or the write of a sector of marks failed, and they stay beside that. (Of a write of marks that halts a mirror it is not said that its
+-- sector is one of the bitmap.)
+abbrev pub KeepsDataBut : MemberView → MemberView → Disk → Disk → Type 0
+KeepsDataBut m n d e = KeepsData m d e ⊎ ((sector : ℕ) × IsFromMarks n sector × KeepsDataBeside sector m d e)
+
+-- it is in sync still, no other member is, and the mirror is halted
+pub record HasHalted (k : ℕ) (old new : MirrorView) : Type 0 where
+  pub halted : new.array.halted ≡ true
+  pub member : MemberView
+  pub in_sync : IsInSync new.array k member
+  pub alone : (j : ℕ) (n : MemberView) → IsInSync new.array j n → j ≡ k
+  pub kept : (m : MemberView) → IsMember old.array k m → AtDevice k old.disks new.disks (KeepsDataBut m member)
+
+-- ---- by the fault
+-- Nothing was done.
+pub record IsUntouched (halted : Bool) (old new : MirrorView) : Type 0 where
+  pub unchanged : new ≡ old
+  pub halted_is : old.array.halted ≡ halted
+
+-- The mirror runs, and the target's device has failed. Before a pass the target is what it was, and from there on it is recovering. All that is listed
+-- in memory beyond what was before stands on the devices.
+pub record EndsWithTarget (target : ℕ) (s : Ending) (now : MemberView) (old new : MirrorView) : Type 0 where
+  pub running : new.array.halted ≡ false
+  pub failed : AtDevice target old.disks new.disks (Fails of_disks)
+  pub target_is : IsAsBefore s now ⊎ (is_recovering now.state ≡ true)
+  pub noted : s.noted ≡ []
+  pub stand : ListsStand target (failed_of s.listed) old.array new
+
+-- The mirror runs. So it is of the target. Memory was refused while slots that failed were listed; or all that is listed stands on the devices.
+pub record EndsWithoutMemory (target : ℕ) (s : Ending) (now : MemberView) (old new : MirrorView) : Type 0 where
+  pub running : new.array.halted ≡ false
+  pub target_is : IsAsBefore s now ⊎ (is_recovering now.state ≡ true)
+  pub noted : (s.noted ≡ []) ⊎ NotesSome s (λ next. Unit {0})
+  pub stand : ListsStand target (failed_of s.listed) old.array new
+
+-- The mirror runs, and the target is recovering. A slot failed of member k, whose log has no room for the chunk; or k is the target, all passes are
+-- made, and all that is listed stands on the devices.
+pub record EndsWithoutRoom (target k : ℕ) (s : Ending) (now : MemberView) (old new : MirrorView) : Type 0 where
+  pub running : new.array.halted ≡ false
+  pub recovering : is_recovering now.state ≡ true
+  pub noted : ((k ≡ target) × (s.noted ≡ []) × (failed_of s.last ≡ []))
+      ⊎ NotesSome s (LacksRoomFor k new.array)
+  pub stand : ListsStand target (failed_of s.listed) old.array new
+
+-- Member k, another one, is faulty, or has halted the mirror. It was to store marks or a superblock before a pass: then the target is what it was, or
+-- was admitted. Or it was to store its list after one: then the target is recovering, and all that failed in this pass is listed in memory.
+pub record EndsWithMember (target k : ℕ) (s : Ending) (now : MemberView) (old new : MirrorView) : Type 0 where
+  pub other : k ≢ target
+  pub lost : IsLost k new.array ⊎ HasHalted k old new
+  pub when : ((IsAsBefore s now ⊎ IsAdmitted s now) × (s.noted ≡ []))
+      ⊎ ((is_recovering now.state ≡ true) × NotesAll s × ((m : MemberView) → IsMember old.array k m → HasFailed s.noted m))
+  pub stand : new.array.halted ≡ false → ListsStand target (failed_of s.listed) old.array new
+
+abbrev pub EndsSo : ℕ → RebuildFault → Ending → MemberView → MirrorView → MirrorView → Type 0
+EndsSo target Halted s now old new = IsUntouched true old new
+EndsSo target NotSpare s now old new = IsUntouched false old new
+EndsSo target Dirty s now old new = IsUntouched false old new
+EndsSo target (InFlight number) s now old new = IsUntouched false old new
+EndsSo target EventsFull s now old new = IsUntouched false old new
+EndsSo target TargetFault s now old new = EndsWithTarget target s now old new
+EndsSo target NoMemory s now old new = EndsWithoutMemory target s now old new
+EndsSo target (LogFull k) s now old new = EndsWithoutRoom target k s now old new
+EndsSo target (MetadataFault k) s now old new = EndsWithMember target k s now old new
+
+-- ---- the whole call
+-- the data of all other members are as before; of one that has halted the mirror it is said apart
+abbrev pub OthersKeep : ℕ → RebuildFault → MirrorView → MirrorView → Type 0
+OthersKeep target fault old new =
+    (j : ℕ) (d e : Disk) (m : MemberView) → j ≢ target → (fault ≡ MetadataFault j → new.array.halted ≡ false)
+    → slice_get old.disks j ≡ Some d → slice_get new.disks j ≡ Some e → IsMember old.array j m → KeepsData m d e
+
+-- Whatever the fault is: the target is in the state in which it was, or it was a spare and is recovering. How far it is rebuilt is no less than before,
+-- its list is as before, and so are its data beside what it lacked. The data of all other members are as before, their lists grew by slots that
+-- failed alone, which the devices have counted, and their states are as before where no write to them failed. A mirror that was halted on the way is
+-- spoken of as it is.
+pub record HasEnded (target : ℕ) (fault : RebuildFault) (old new : MirrorView) : Type 0 where
+  pub ending : Ending
+  pub at : IsMember old.array target ending.member
+  pub now : MemberView
+  pub there : IsMember new.array target now
+  pub state : (now.state ≡ ending.member.state) ⊎ ((is_spare ending.member.state ≡ true) × (is_recovering now.state ≡ true))
+  pub offset : is_recovering ending.member.state ≡ true → ending.member.superblock.recovery_offset ≤ now.superblock.recovery_offset
+  pub list : now.bad ≡ ending.member.bad
+  pub beside : (d e : Disk) → slice_get old.disks target ≡ Some d → slice_get new.disks target ≡ Some e
+      → (at n : ℕ) → IsBesideLacking old.array ending.member at n → part e.content at n ≡ part d.content at n
+  pub others : OthersKeep target fault old new
+  pub made : HasMade ending old.array
+  pub lists : ListsGrow target (failed_of ending.listed ++ ending.noted) old.array new.array
+  pub counted : CountsFailed (failed_of (ending.listed ++ ending.last)) old new
+  pub states : KeepStates target (failed_of (ending.listed ++ ending.last)) old new
+  pub so : EndsSo target fault ending now old new
