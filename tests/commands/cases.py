@@ -229,6 +229,9 @@ DIFFER = "mismatched chunks: 1\n"
 STORED = "mdcli: a: its bitmap did not tell of the array, so all chunks are marked in it now\n"
 # What a check says of the only member in sync.
 UNCOMPARED = "mdcli: %s: no other member is in sync, so nothing was compared\n"
+# Of a device of the array that no image is, and of a member that was used alone.
+UNNAMED = "mdcli: device %d in role %d is not among the images\n"
+PARTED = "mdcli: %s: was used without %s since they parted: what was written to it alone is not in this array\n"
 
 PLAN = (
     "rounds 4, chunks 8, orphans 0\n   chunk source    round\n",
@@ -404,24 +407,24 @@ CASES = [
         "a bitmap that is out of date",
         {"a": OUT_OF_DATE},
         [
-            Step("assemble --readonly a", MARKED),
-            Step("check --readonly a", AGREE, told=UNCOMPARED % "a"),
-            Step("assemble a", MARKED, told=STORED, changes="a"),
-            Step("assemble a", MARKED),
+            Step("assemble --readonly a", MARKED, told=UNNAMED % (1, 1)),
+            Step("check --readonly a", AGREE, told=UNNAMED % (1, 1) + UNCOMPARED % "a"),
+            Step("assemble a", MARKED, told=STORED + UNNAMED % (1, 1), changes="a"),
+            Step("assemble a", MARKED, told=UNNAMED % (1, 1)),
         ],
     ),
     (
         "a bitmap that is out of date is marked by a check too",
         {"a": OUT_OF_DATE},
         [
-            Step("check a", AGREE, told=STORED + UNCOMPARED % "a", changes="a"),
-            Step("check a", AGREE, told=UNCOMPARED % "a"),
+            Step("check a", AGREE, told=STORED + UNNAMED % (1, 1) + UNCOMPARED % "a", changes="a"),
+            Step("check a", AGREE, told=UNNAMED % (1, 1) + UNCOMPARED % "a"),
         ],
     ),
     (
         "a bitmap that is out of date is marked by an addition too",
         {"a": OUT_OF_DATE, "b": ZEROS},
-        [Step("add --device b a", "in sync 1 of 2, events 11, marked 8\n", told=STORED, changes="a b")],
+        [Step("add --device b a", "in sync 1 of 2, events 11, marked 8\n", told=STORED + UNNAMED % (1, 1), changes="a b")],
     ),
     (
         "a bitmap that is out of date is marked by each command that changes who is a member",
@@ -509,7 +512,7 @@ CASES = [
             Step("check a b", DIFFER),
             Made("b", "b", lambda image: members.with_bad_blocks(image, [(2048 + 8, 1), (2048 + 43, 1)])),
             Step("check a b", AGREE),
-            Step("check b", AGREE, told=UNCOMPARED % "b"),
+            Step("check b", AGREE, told=UNNAMED % (0, 0) + UNCOMPARED % "b"),
         ],
     ),
     (
@@ -619,7 +622,7 @@ CASES = [
             Step("re-add --device b a", "in sync 2 of 2, events 8, marked 0\n", changes="a b"),
             Holds("b", "a", as_role(1, 1)),
             Step("check a b", AGREE),
-            Step("read --sector 16 --count 1 b", DATA[SECTOR:].decode()),
+            Step("read --sector 16 --count 1 b", DATA[SECTOR:].decode(), told=UNNAMED % (0, 0)),
             Step("detail b a", DETAIL_AFTER_RE_ADD),
         ],
     ),
@@ -632,6 +635,23 @@ CASES = [
             Step("remove --member 1 a b", "in sync 1 of 2, events 2, marked 0\n"),
             Step("re-add --device b a", "in sync 2 of 2, events 4, marked 0\n", changes="a b"),
             Holds("b", "a", as_role(1, 1)),
+        ],
+    ),
+    (
+        "two halves of a mirror that were used apart",
+        {"a": ZEROS, "b": ZEROS, "c": ZEROS},
+        [
+            create("raid1", 2, 4, "--assume-clean a b", output=CLEAN, changes="a b"),
+            Step("assemble b", "in sync 1 of 2, events 1, marked 0\n", told=UNNAMED % (0, 0)),
+            # Each of them is written alone: the rise of the events makes the absent one a failed one.
+            Step("write --sector 8 a", "in sync 1 of 2, events 3, marked 1\n", told=UNNAMED % (1, 1), changes="a", given=DATA[:SECTOR]),
+            Step("write --sector 40 b", "in sync 1 of 2, events 3, marked 1\n", told=UNNAMED % (0, 0), changes="b", given=DATA[SECTOR:]),
+            Step("assemble a b", "in sync 1 of 2, events 3, marked 1\n", told=PARTED % ("b", "a")),
+            Step("detail --readonly b a", ("", "     1      0      - faulty\n"), told=PARTED % ("a", "b")),
+            # It shows sectors of the first, and says nothing of the other.
+            Step("read --sector 8 --count 1 a b", DATA[:SECTOR].decode()),
+            Step("remove --member 1 a b", "in sync 1 of 2, events 3, marked 1\n"),
+            Step("assemble a", "in sync 1 of 2, events 3, marked 1\n"),
         ],
     ),
     (
@@ -663,9 +683,9 @@ CASES = [
             Step("check a b c", AGREE),
             Made("c", "c", lambda image: members.with_data(image, 63, DATA[:SECTOR])),
             Step("check a b c", DIFFER),
-            Step("check a b", AGREE),
+            Step("check a b", AGREE, told=UNNAMED % (3, 2)),
             Made("c", "a", as_role(2, 3)),
-            Step("read --sector 8 --count 1 c", DATA[:SECTOR].decode()),
+            Step("read --sector 8 --count 1 c", DATA[:SECTOR].decode(), told=UNNAMED % (0, 0) + UNNAMED % (1, 1)),
             Step("stop a b c", "in sync 3 of 3, events 6, marked 0\n"),
             Step("rebuild --member 2 a b c", fault="NotSpare"),
         ],

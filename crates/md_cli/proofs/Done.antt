@@ -8,9 +8,9 @@ use Rattle.md_images.specs.declared.images.Images.{Ghosts as ImagesGhosts}
 use Rattle.md_words.specs.Asks.{Ask, opens_array, examines, examines_bitmap, examines_badblocks, creates, assembles, details, plans, reads, checks, writes, resyncs, stops, fails, removes, adds, re_adds, rebuilds}
 use Rattle.md_advice.specs.declared.fault.CommandFault.{CommandFault}
 use Rattle.md_cli.specs.Running.{Does, OpensArray}
-use Rattle.md_cli.specs.Streams.{Streams}
+use Rattle.md_cli.specs.Streams.{Told}
 
-module _ {I D R S : Type 0} (i : ImagesGhosts I D) (g : DeviceGhosts D) (r : SourceGhosts R) (s : SinkGhosts S) (words : List Text) (before after : I) (old new : Streams R S) (result : Result (Unit {0}) CommandFault) where
+module _ {I D R S : Type 0} (i : ImagesGhosts I D) (g : DeviceGhosts D) (r : SourceGhosts R) (s : SinkGhosts S) (words : List Text) (before after : I) (old new : Told R S) (result : Result (Unit {0}) CommandFault) where
   pub does_by : (ask : Ask) → opens_array ask ≡ true → OpensArray i g r s ask words before after old new result → Does i g r s ask words before after old new result
   does_by examines e h = absurd (true≢false (sym e))
   does_by examines_bitmap e h = absurd (true≢false (sym e))

@@ -19,10 +19,12 @@ use Rattle.md_words.specs.Asks.{Ask, device_of, is_readonly}
 use Rattle.md_advice.specs.Faults.{of_images}
 use Rattle.md_advice.specs.declared.fault.CommandFault.{CommandFault}
 use Rattle.md_advice.specs.declared.fault.CommandFault.TheVariants.{NoMemory, Open}
+use Rattle.md_cli.specs.declared.notices.Notices.{Notices}
+use Rattle.md_cli.specs.Noticed.{Notes, without_stored}
 use Rattle.md_cli.specs.Opened.{OpenedView, moves_device, with_beside, with_last}
 use Rattle.md_cli.specs.Performing.{Performs}
 use Rattle.md_cli.specs.Reports.{ShowsText}
-use Rattle.md_cli.specs.Streams.{Streams}
+use Rattle.md_cli.specs.Streams.{Told}
 
 -- a device that is only looked at, and over which what is written is kept in memory: no call on it has failed yet, and no
 -- stop leaves any of what is written
@@ -55,25 +57,26 @@ texts = map (λ s. s.now)
 module _ {R S : Type 0} (r : SourceGhosts R) (s : SinkGhosts S) (ask : Ask) where
   -- The devices of the members are opened as a mirror, and the command is done with it. All devices come back in the order of
   -- their images, as it left them: those of the members, and the one beside them.
-  pub record PerformsOnMirror (members : List Disk) (device : Option Disk) (after : List Disk) (old new : Streams R S) (result : Result (Unit {0}) CommandFault) : Type 0 where
+  pub record PerformsOnMirror (members : List Disk) (device : Option Disk) (after : List Disk) (old new : Told R S) (result : Result (Unit {0}) CommandFault) : Type 0 where
     pub opened : MirrorView
     pub opens : IsOpenedFrom members opened
     pub left : OpenedView
-    pub performs : Performs r s ask (record { mirror = opened; beside = device }) left old new result
+    pub performs : Performs r s ask (record { mirror = opened; beside = device }) left old.streams new.streams result
+    pub noted : Notes ask opened.array left new.notices
     pub devices : after ≡ with_beside ask left.mirror.disks left.beside
 
   -- they are not opened so, and the device that was to join is as it was
-  pub record RefusesMembers (members : List Disk) (device : Option Disk) (after : List Disk) (old new : Streams R S) (result : Result (Unit {0}) CommandFault) : Type 0 where
+  pub record RefusesMembers (members : List Disk) (device : Option Disk) (after : List Disk) (old new : Told R S) (result : Result (Unit {0}) CommandFault) : Type 0 where
     pub left : List Disk
     pub refused : RefusesMirror members left old new result
     pub devices : after ≡ with_beside ask left device
 
-  abbrev pub OpensMembers : List Disk → Option Disk → List Disk → Streams R S → Streams R S → Result (Unit {0}) CommandFault → Type 0
+  abbrev pub OpensMembers : List Disk → Option Disk → List Disk → Told R S → Told R S → Result (Unit {0}) CommandFault → Type 0
   OpensMembers members device after old new result =
       PerformsOnMirror members device after old new result ⊎ RefusesMembers members device after old new result
 
   -- the devices are those of the members and, where the command names an image that is to join, after them the one of that image
-  pub record OpensAll (before after : List Disk) (old new : Streams R S) (result : Result (Unit {0}) CommandFault) : Type 0 where
+  pub record OpensAll (before after : List Disk) (old new : Told R S) (result : Result (Unit {0}) CommandFault) : Type 0 where
     pub members : List Disk
     pub device : Option Disk
     pub are : before ≡ with_last members device
@@ -81,35 +84,37 @@ module _ {R S : Type 0} (r : SourceGhosts R) (s : SinkGhosts S) (ask : Ask) wher
     pub done : OpensMembers members device after old new result
 
   -- a device may leave or join, and there is no memory for the list in which all of them come back then
-  pub record RefusesList (before after : List Disk) (old new : Streams R S) (result : Result (Unit {0}) CommandFault) : Type 0 where
+  pub record RefusesList (before after : List Disk) (old new : Told R S) (result : Result (Unit {0}) CommandFault) : Type 0 where
     pub moves : moves_device ask ≡ true
     pub is : result ≡ Err NoMemory
     pub devices : after ≡ before
     pub unused : new ≡ old
 
-  abbrev pub OpensDevices : List Disk → List Disk → Streams R S → Streams R S → Result (Unit {0}) CommandFault → Type 0
+  abbrev pub OpensDevices : List Disk → List Disk → Told R S → Told R S → Result (Unit {0}) CommandFault → Type 0
   OpensDevices before after old new result = OpensAll before after old new result ⊎ RefusesList before after old new result
 
   -- The devices are only looked at, and what is written is kept in memory over them. They are opened so as a mirror, and the
-  -- command is done with it.
-  pub record LooksAtMirror (devices : List Disk) (old new : Streams R S) (result : Result (Unit {0}) CommandFault) : Type 0 where
+  -- command is done with it. Of what is noticed it is forgotten what was stored, and which writes failed.
+  pub record LooksAtMirror (devices : List Disk) (old new : Told R S) (result : Result (Unit {0}) CommandFault) : Type 0 where
     pub seen : List Disk
-    pub opened : OpensDevices (map overlaid devices) seen old new result
+    pub noted : Notices
+    pub opened : OpensDevices (map overlaid devices) seen old (record new { notices = noted }) result
+    pub forgotten : new.notices ≡ without_stored noted
 
   -- there is no memory for the list of overlays
-  pub record LooksAtNothing (old new : Streams R S) (result : Result (Unit {0}) CommandFault) : Type 0 where
+  pub record LooksAtNothing (old new : Told R S) (result : Result (Unit {0}) CommandFault) : Type 0 where
     pub is : result ≡ Err NoMemory
     pub unused : new ≡ old
 
-  abbrev pub LooksAtDevices : List Disk → Streams R S → Streams R S → Result (Unit {0}) CommandFault → Type 0
+  abbrev pub LooksAtDevices : List Disk → Told R S → Told R S → Result (Unit {0}) CommandFault → Type 0
   LooksAtDevices devices old new result = LooksAtMirror devices old new result ⊎ LooksAtNothing old new result
 
   -- whether the devices are only looked at
-  abbrev pub WorksBy : Bool → List Disk → List Disk → Streams R S → Streams R S → Result (Unit {0}) CommandFault → Type 0
+  abbrev pub WorksBy : Bool → List Disk → List Disk → Told R S → Told R S → Result (Unit {0}) CommandFault → Type 0
   WorksBy true before after old new result = (after ≡ before) × LooksAtDevices before old new result
   WorksBy false before after old new result = OpensDevices before after old new result
 
-  abbrev pub WorksOn : List Disk → List Disk → Streams R S → Streams R S → Result (Unit {0}) CommandFault → Type 0
+  abbrev pub WorksOn : List Disk → List Disk → Told R S → Told R S → Result (Unit {0}) CommandFault → Type 0
   WorksOn before after old new result = WorksBy (is_readonly ask) before after old new result
 
 -- the image words, and after them the one of the image that is to join the array

@@ -6,6 +6,8 @@ pub mod CreateOptions
 pub mod Creating
 -- What the commands that show one image give.
 pub mod Examining
+-- What is noticed of an array beside what a command gives.
+pub mod Noticed
 -- An opened array, and a device beside it.
 pub mod Opened
 -- What commands do with an opened array.

@@ -15,7 +15,9 @@ use Rattle.md_cli.specs.Arrays.{KeepsImages, UsesImages, WorksOn, names_with}
 use Rattle.md_cli.specs.CreateOptions.{IsPlan, option_fault}
 use Rattle.md_cli.specs.Creating.{CreatesOn}
 use Rattle.md_cli.specs.Examining.{ExaminesOne}
-use Rattle.md_cli.specs.Streams.{Streams}
+use Rattle.md_cli.specs.declared.notices.Notices.{Notices}
+use Rattle.md_cli.specs.Noticed.{nothing}
+use Rattle.md_cli.specs.Streams.{Streams, Told}
 use Rattle.md_images.specs.Taking.{image_list}
 
 -- the status of a command: done, or refused
@@ -53,24 +55,25 @@ module _ {I D S : Type 0} (i : ImagesGhosts I D) (g : DeviceGhosts D) (s : SinkG
 
 module _ {I D R S : Type 0} (i : ImagesGhosts I D) (g : DeviceGhosts D) (r : SourceGhosts R) (s : SinkGhosts S) where
   -- A command with the array that the images make. Of one that may change none each of them stays as it is.
-  pub record OpensArray (ask : Ask) (words : List Text) (before after : I) (old new : Streams R S) (result : Result (Unit {0}) CommandFault) : Type 0 where
+  pub record OpensArray (ask : Ask) (words : List Text) (before after : I) (old new : Told R S) (result : Result (Unit {0}) CommandFault) : Type 0 where
     pub kept : is_readonly ask ≡ true → KeepsImages i before after
     pub done : UsesImages i g (WorksOn r s ask) (access_of ask) (image_list false (names_with ask words)) before after old new result
 
   -- What each command does with the images that its words name. The input is read by `write` alone.
-  abbrev pub Does : Ask → List Text → I → I → Streams R S → Streams R S → Result (Unit {0}) CommandFault → Type 0
+  abbrev pub Does : Ask → List Text → I → I → Told R S → Told R S → Result (Unit {0}) CommandFault → Type 0
   Does examines words before after old new result =
-      (new.input ≡ old.input) × Examines i g s examines words before after old.output new.output result
+      (new.streams.input ≡ old.streams.input) × Examines i g s examines words before after old.streams.output new.streams.output result
   Does examines_bitmap words before after old new result =
-      (new.input ≡ old.input) × Examines i g s examines_bitmap words before after old.output new.output result
+      (new.streams.input ≡ old.streams.input) × Examines i g s examines_bitmap words before after old.streams.output new.streams.output result
   Does examines_badblocks words before after old new result =
-      (new.input ≡ old.input) × Examines i g s examines_badblocks words before after old.output new.output result
+      (new.streams.input ≡ old.streams.input) × Examines i g s examines_badblocks words before after old.streams.output new.streams.output result
   Does (creates o) words before after old new result =
-      (new.input ≡ old.input) × MakesArray i g s o words before after old.output new.output result
+      (new.streams.input ≡ old.streams.input) × MakesArray i g s o words before after old.streams.output new.streams.output result
   Does ask words before after old new result = OpensArray ask words before after old new result
 
-  -- the command's own answer, whose status this is
+  -- the command's own answer, whose status this is, and what it noticed, which is told beside it
   pub record DoesCommand (ask : Ask) (words : List Text) (before after : I) (old new : Streams R S) (status : ℕ) : Type 0 where
     pub result : Result (Unit {0}) CommandFault
     pub status_is : status ≡ status_of result
-    pub does : Does ask words before after old new result
+    pub noticed : Notices
+    pub does : Does ask words before after (record { streams = old; notices = nothing }) (record { streams = new; notices = noticed }) result

@@ -3,7 +3,7 @@ ghost use Rattle.std.specs.Prelude.{◌≡◌, ◌<◌, ◌++◌, ◌∷◌, [],
 ghost use Rattle.md_images.specs.Taking.{image_list};
 ghost use Rattle.md_words.specs.Asks.{access_of, ask_of, device_of, is_readonly, opens_array};
 ghost use Rattle.md_cli.specs.Arrays.{KeepsImages, UsesImages, WorksOn, names_with, texts};
-ghost use Rattle.md_cli.specs.Streams.{streams_of};
+ghost use Rattle.md_cli.specs.Streams.{told_of};
 
 use crate::devices::with_devices;
 use crate::notices::Notices;
@@ -36,7 +36,7 @@ pub(crate) fn with_array<
     ensures gives { UsesImages I.Images I.Dev.Device (WorksOn R.Source S.Sink (ask_of command.entry))
         (access_of (ask_of command.entry))
         (image_list false (names_with (ask_of command.entry) (texts names.now)))
-        images.old images.new (streams_of session.old) (streams_of session.new) result }
+        images.old images.new (told_of session.old notices.old) (told_of session.new notices.new) result }
     ensures kept { is_readonly (ask_of command.entry) ≡ true → KeepsImages I.Images images.old images.new }
     ensures flushed { IfOk result (λ _. S.is_flushed session.new.out) }
 {
@@ -82,7 +82,7 @@ fn with_images<
     requires brings { is_some (device_of (ask_of command)) ≡ true → 0 < length names.now }
     ensures gives { UsesImages I.Images I.Dev.Device (WorksOn R.Source S.Sink (ask_of command.entry))
         (access_of (ask_of command.entry)) (image_list false (texts names.now))
-        images.old images.new (streams_of session.old) (streams_of session.new) result }
+        images.old images.new (told_of session.old notices.old) (told_of session.new notices.new) result }
     ensures kept { is_readonly (ask_of command.entry) ≡ true → KeepsImages I.Images images.old images.new }
     ensures flushed { IfOk result (λ _. S.is_flushed session.new.out) }
 {

@@ -4,7 +4,7 @@ ghost use Rattle.md_state.specs.View.{disk_of};
 ghost use Rattle.md_words.specs.Asks.{ask_of, device_of, is_readonly, opens_array};
 ghost use Rattle.md_cli.specs.Arrays.{LooksAtDevices, OpensDevices, OpensMembers, WorksOn, disks};
 ghost use Rattle.md_cli.specs.Opened.{count, moves_device};
-ghost use Rattle.md_cli.specs.Streams.{streams_of};
+ghost use Rattle.md_cli.specs.Streams.{told_of};
 
 use crate::notices::Notices;
 use crate::opened::{Opened, all_back, room_for};
@@ -40,7 +40,7 @@ pub(crate) fn with_devices<
     ensures kept { is_readonly (ask_of command.entry) ≡ true → result.0.items ≡ devices.items }
     ensures gives { WorksOn R.Source S.Sink (ask_of command.entry)
         (disks D.Device devices.items) (disks D.Device result.0.items)
-        (streams_of session.old) (streams_of session.new) result.1 }
+        (told_of session.old notices.old) (told_of session.new notices.new) result.1 }
     ensures flushed { IfOk result.1 (λ _. S.is_flushed session.new.out) }
 {
     if command.is_readonly() {
@@ -66,7 +66,7 @@ fn look_at_devices<
     requires opens { opens_array (ask_of command) ≡ true }
     requires brings { is_some (device_of (ask_of command)) ≡ true → 0 < length devices.now }
     ensures gives { LooksAtDevices R.Source S.Sink (ask_of command.entry) (disks D.Device devices.now)
-        (streams_of session.old) (streams_of session.new) result }
+        (told_of session.old notices.old) (told_of session.new notices.new) result }
     ensures flushed { IfOk result (λ _. S.is_flushed session.new.out) }
 {
     let Ok(overlays) = lay_over(session.alloc, devices) else {
@@ -74,8 +74,8 @@ fn look_at_devices<
     };
     let (overlays, result) = open_devices(session, command, overlays, notices);
     drop(overlays);
-    // None were stored but in memory.
-    notices.forget_marks();
+    // Nothing was stored but in memory.
+    notices.forget_stored();
     result
 }
 
@@ -97,7 +97,7 @@ fn open_devices<
     ensures as_many { length result.0.items ≡ length devices.items }
     ensures gives { OpensDevices R.Source S.Sink (ask_of command.entry)
         (disks D.Device devices.items) (disks D.Device result.0.items)
-        (streams_of session.old) (streams_of session.new) result.1 }
+        (told_of session.old notices.old) (told_of session.new notices.new) result.1 }
     ensures flushed { IfOk result.1 (λ _. S.is_flushed session.new.out) }
 {
     let Ok(list) = room_for(session.alloc, command, devices.len()) else {
@@ -139,14 +139,15 @@ fn open_members<
     ensures gives { OpensMembers R.Source S.Sink (ask_of command.entry)
         (disks D.Device members.items) (option_map (disk_of D.Device) beside)
         (disks D.Device result.0.items)
-        (streams_of session.old) (streams_of session.new) result.1 }
+        (told_of session.old notices.old) (told_of session.new notices.new) result.1 }
     ensures flushed { IfOk result.1 (λ _. S.is_flushed session.new.out) }
 {
     match Mirror::open(session.alloc, members) {
         Ok(mirror) => {
-            notices.note(&mirror);
+            notices.note(command, &mirror);
             let mut opened = Opened { mirror, beside };
             let done = perform(session, command, &mut opened);
+            notices.note_dropped(command, &opened);
             let members = opened.mirror.into_devices();
             (all_back(command, list, members, opened.beside), done)
         }

@@ -6,7 +6,7 @@ ghost use Rattle.md_words.specs.Asks.{ask_of, options_of};
 ghost use Rattle.md_words.specs.Words.{mdcli};
 ghost use Rattle.md_cli.specs.Arrays.{texts};
 ghost use Rattle.md_cli.specs.Running.{Does, DoesCommand, IsIdle, MakesArray, status_of};
-ghost use Rattle.md_cli.specs.Streams.{streams_of};
+ghost use Rattle.md_cli.specs.Streams.{streams_of, told_of};
 
 use crate::arrays::with_array;
 use crate::create_options::params_of;
@@ -33,8 +33,8 @@ use std::thread::Threads;
 /// clause can tell whether memory was there.
 ///
 /// The session's input is read by `write` alone. A refusal's line goes to `err`, as `mdcli: BadImage 0`, and with advice
-/// further lines; so do, of a command that is done, a line for each image on which marks were stored, and one for a
-/// check that compared nothing; and the parser's text. No clause speaks of what is written to `err`, nor of whether that can be written.
+/// further lines; so do, of a command that is done, a line for each image on which marks were stored, what was noticed of
+/// the array (`specs/Noticed.antt`), and one for a check that compared nothing; and the parser's text. No clause speaks of what is written to `err`, nor of whether that can be written.
 ///
 /// The session's watch is told of a rebuild, by `rebuild` and `re-add`, and of a check, whose workers its `rt` starts.
 pub fn run<
@@ -87,7 +87,7 @@ fn act<I: Images, T: Threads + Wait + Sync, R: Source + Drop, S: Sink + Drop, W:
     notices: &mut Notices,
 ) -> Result<(), CommandFault>
     ensures gives { Does I.Images I.Dev.Device R.Source S.Sink (ask_of command.entry) (texts names.now)
-        images.old images.new (streams_of session.old) (streams_of session.new) result }
+        images.old images.new (told_of session.old notices.old) (told_of session.new notices.new) result }
     ensures flushed { IfOk result (λ _. S.is_flushed session.new.out) }
 {
     if command.opens_array() {
@@ -138,8 +138,8 @@ fn create_array<I: Images, S: Sink>(
 }
 
 // The status of a command that was done or refused. A refusal is said on `err`, and alone where no advice is
-// asked for; else, or where there is none, so are the images on which marks were stored. A check that is done
-// also tells where it compared nothing.
+// asked for; else, or where there is none, so are the images on which marks were stored, and what was noticed of the
+// array. A check that is done also tells where it compared nothing.
 fn answer<'a, E: Write>(
     outcome: Result<(), CommandFault>,
     command: Command<'a>,
@@ -158,6 +158,7 @@ fn answer<'a, E: Write>(
     }
     if outcome.is_ok() || messages == Messages::WithAdvice {
         notices.tell_marks(names, err);
+        notices.tell(names, err);
     }
     if outcome.is_ok() && matches!(command, Command::Check { .. }) {
         notices.tell_uncompared(names, err);

@@ -1,12 +1,14 @@
 -- What is read of the members one by one, and what it makes of all of them.
 use Rattle.std.proofs.Common.{◌≡◌, ℕ, zero, suc, ◌+◌, ◌<◌, ◌==◌, ◌≢◌, eq-eqb, Bool, true, false, ◌&&◌, ◌||◌, List, [], ◌∷◌, length, get_or, take, Some, refl, ap, sym, ◌∙◌, arith}
-use Rattle.std.specs.List.{list_all, slice_get}
+use Rattle.std.specs.List.{count_by, list_all, slice_get}
 use Rattle.std.specs.Option.{option_map}
 use Rattle.std.proofs.lemmas.Bool.{ne_eqb}
 use Rattle.std.proofs.lemmas.Option.{get_or_from_slice_get, same_Some}
+use Rattle.std.proofs.lemmas.List.Sums.{count_by_more_yes, count_by_more_no}
 use Rattle.std.proofs.lemmas.List.Folds.{list_all_more, list_all_at, list_any_more, list_any_at}
 use Rattle.md_super.specs.declared.superblock.Superblock.{Superblock}
 use Rattle.md_assembly.specs.declared.state.MemberState.{MemberState}
+use Rattle.md_assembly.specs.States.{is_in_sync}
 use Rattle.md_kept_members.specs.View.{MemberView}
 use Rattle.md_notices.specs.Parting.{is_left_by}
 use Rattle.md_notices.specs.Unnamed.{is_named}
@@ -74,3 +76,20 @@ pub left_not : (by : Superblock) (ms : List MemberView) (k : ℕ) (v : Superbloc
 left_not by ms k v state answer lt own its e not =
     let has = has_own ms k v lt own in
     list_all_at (λ m. is_left_by by m.superblock.dev_number m.state) ms k has.member lt (left_there by ms k v state answer has its e ∙ not)
+
+-- how many of the first k members are in sync
+abbrev pub in_sync_first : List MemberView → ℕ → ℕ
+in_sync_first ms k = count_by (λ m. is_in_sync m.state) (take k ms)
+
+state_there : (ms : List MemberView) (k : ℕ) (m : MemberView) (state : MemberState) → slice_get ms k ≡ Some m → option_map (λ (m : MemberView). m.state) (slice_get ms k) ≡ Some state → (get_or ms k m).state ≡ state
+state_there ms k m state at e = ap (λ (x : MemberView). x.state) (get_or_from_slice_get ms k m m at) ∙ has_state ms k m state at e
+
+pub one_more : (ms : List MemberView) (k : ℕ) (state : MemberState) → k < length ms → option_map (λ (m : MemberView). m.state) (slice_get ms k) ≡ Some state → is_in_sync state ≡ true → in_sync_first ms (k + 1) ≡ in_sync_first ms k + 1
+one_more ms k state lt e is =
+    let found = there ms k lt in
+    count_by_more_yes (λ m. is_in_sync m.state) ms k found.0 lt (ap is_in_sync (state_there ms k found.0 state found.1 e) ∙ is)
+
+pub no_more : (ms : List MemberView) (k : ℕ) (state : MemberState) → k < length ms → option_map (λ (m : MemberView). m.state) (slice_get ms k) ≡ Some state → is_in_sync state ≡ false → in_sync_first ms (k + 1) ≡ in_sync_first ms k
+no_more ms k state lt e is =
+    let found = there ms k lt in
+    count_by_more_no (λ m. is_in_sync m.state) ms k found.0 lt (ap is_in_sync (state_there ms k found.0 state found.1 e) ∙ is)

@@ -8,3 +8,5 @@ pub mod Belonging
 pub mod Dropping
 -- The lines.
 pub mod Lines
+-- What is noticed of all members and roles of an array.
+pub mod Noticing

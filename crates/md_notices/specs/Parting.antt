@@ -7,6 +7,7 @@ use Rattle.md_assembly.specs.declared.state.MemberState.{MemberState}
 use Rattle.md_assembly.specs.declared.state.MemberState.TheVariants.{InSync, Recovering, Stale, Spare, Faulty}
 use Rattle.md_assembly.specs.States.{is_in_sync, role_in}
 use Rattle.md_kept_members.specs.View.{MemberView}
+use Rattle.md_state.specs.View.{ArrayView}
 
 -- a device has the role by the superblock
 abbrev pub has_role : Superblock → ℕ → Bool
@@ -30,12 +31,19 @@ is_left_by v number Faulty = true
 abbrev pub is_active_by_own : Superblock → Bool
 is_active_by_own v = nat_lt (role_in v v.dev_number) v.raid_disks
 
--- The member is not in sync. Its own superblock has it in a role, and by that superblock no member that is in sync was in use any
--- more: what was written since then was written to it, and not to them.
+-- By this superblock its own device is in a role, and no member that is in sync was in use any more: what was written since then was
+-- written to it, and not to them.
+abbrev pub is_apart : List MemberView → Superblock → Bool
+is_apart members v = is_active_by_own v && list_all (λ other. is_left_by v other.superblock.dev_number other.state) members
+
+-- the member is not in sync, and was used without those that are
 abbrev pub is_parted : List MemberView → MemberView → Bool
-is_parted members m =
-    not (is_in_sync m.state) && is_active_by_own m.superblock
-    && list_all (λ other. is_left_by m.superblock other.superblock.dev_number other.state) members
+is_parted members m = not (is_in_sync m.state) && is_apart members m.superblock
+
+-- a device that is no member is of the array, and was used without the members that are in sync
+pub record WasApart (a : ArrayView) (own : Superblock) : Type 0 where
+  pub set : own.set_uuid ≡ a.shared.set_uuid
+  pub apart : is_apart a.members own ≡ true
 
 -- none of the first n members is in sync
 abbrev pub NoneInSync : List MemberView → ℕ → Type 0

@@ -1,9 +1,9 @@
 // Members that were used without those that are in sync now.
-ghost use Rattle.std.specs.Prelude.{◌≡◌, ◌<◌, ◌==◌, MatchOption, length};
+ghost use Rattle.std.specs.Prelude.{◌≡◌, ◌<◌, ◌==◌, ◌↔◌, IsTrue, MatchOption, length};
 ghost use Rattle.std.specs.List.{list_all, list_any};
 ghost use Rattle.md_kept_members.specs.View.{MemberView};
 ghost use Rattle.md_state.specs.Members.{IsMember};
-ghost use Rattle.md_notices.specs.Parting.{IsFirstInSync, NoneInSync, has_role, is_left_by, is_parted, was_without};
+ghost use Rattle.md_notices.specs.Parting.{IsFirstInSync, NoneInSync, WasApart, has_role, is_apart, is_left_by, is_parted, was_without};
 
 use md_array::Mirror;
 use md_assembly::MemberState;
@@ -50,6 +50,16 @@ fn left_all<D: Device + Drop>(mirror: &Mirror<D>, v: &Superblock) -> bool
     true
 }
 
+// Whether the superblock has its own device in a role, and by it no member in sync was in use any more.
+fn is_apart<D: Device + Drop>(mirror: &Mirror<D>, v: &Superblock) -> bool
+    ensures { result ≡ is_apart mirror.now.array.members v.now }
+{
+    if u32::from(v.role_of(v.dev_number)) >= v.raid_disks {
+        return false;
+    }
+    left_all(mirror, v)
+}
+
 /// Whether member k, which is not in sync, was used without all members that are: its own superblock has it in a role
 /// and has them as failed, or as devices that it does not know in roles that no device had. Ask it before any step,
 /// since a step may change its superblock. It takes no memory.
@@ -61,11 +71,15 @@ pub fn is_parted<D: Device + Drop>(mirror: &Mirror<D>, k: usize) -> bool
     if state.is_in_sync() {
         return false;
     }
-    let own = mirror.own(k);
-    if u32::from(own.role_of(own.dev_number)) >= own.raid_disks {
-        return false;
-    }
-    left_all(mirror, own)
+    is_apart(mirror, mirror.own(k))
+}
+
+/// Whether a device with this superblock, which is to come back to the array, was used without all members that are in
+/// sync, as `is_parted` says it of a member. It takes no memory.
+pub fn was_apart<D: Device + Drop>(mirror: &Mirror<D>, own: &Superblock) -> bool
+    ensures { IsTrue result ↔ WasApart mirror.now.array own.now }
+{
+    own.set_uuid == mirror.shared().set_uuid && is_apart(mirror, own)
 }
 
 /// The first member that is in sync, where there is one. It takes no memory.

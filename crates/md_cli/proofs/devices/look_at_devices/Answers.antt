@@ -2,7 +2,7 @@ use Rattle.std.proofs.Common.{◌≡◌, ◌∙◌, List, map, ap, subst, inl}
 use Rattle.md_state.specs.View.{Disk, disk_of}
 use Rattle.md_words.specs.Asks.{ask_of}
 use Rattle.md_cli.specs.Arrays.{OpensDevices, disks, overlaid}
-use Rattle.md_cli.specs.Streams.{streams_of}
+use Rattle.md_cli.specs.Streams.{told_of}
 use Rattle.md_cli.proofs.Overlaid.{overlay_ghosts, shown_over}
 use Rattle.md_cli.proofs.devices.look_at_devices.Goals as goal
 
@@ -13,5 +13,7 @@ returns-clause-gives g c =
     let seen = disks overlay_ghosts done.result.0.items in
     inl (record {
       seen = seen;
-      opened = subst (λ (all : List Disk). OpensDevices g.R.Source g.S.Sink (ask_of c.args.command) all seen (streams_of c.args.session.now) (streams_of done.new.session) done.result.1) over done.ensures.gives;
+      noted = done.new.notices;
+      forgotten = c.forget_stored.ensures;
+      opened = subst (λ (all : List Disk). OpensDevices g.R.Source g.S.Sink (ask_of c.args.command) all seen (told_of c.args.session.now c.args.notices.now) (told_of done.new.session done.new.notices) done.result.1) over done.ensures.gives;
     })

@@ -47,6 +47,7 @@ returns-in-Ok-clause-gives g c =
       opens = c.in-Ok.ensures.gives;
       left = seen d new;
       performs = c.perform-done.ensures.performs;
+      noted = record { first = c.note.new.self; opening = c.note.ensures; dropped = c.note_dropped.ensures };
       devices = shown_back d ask c.args.members.items c.into_devices-members.result.items c.args.beside new.beside c.in-Ok.mirror.disks new.mirror.disks many c.into_devices-members.ensures back c.all_back.result.items c.all_back.ensures;
     })
 

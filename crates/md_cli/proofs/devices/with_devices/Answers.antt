@@ -1,7 +1,7 @@
 use Rattle.std.proofs.Common.{◌≡◌, ◌∙◌, Bool, refl, rules, subst, sym}
 use Rattle.md_words.specs.Asks.{ask_of}
 use Rattle.md_cli.specs.Arrays.{LooksAtDevices, WorksBy, disks}
-use Rattle.md_cli.specs.Streams.{streams_of}
+use Rattle.md_cli.specs.Streams.{told_of}
 use Rattle.md_cli.proofs.devices.with_devices.Goals as goal
 
 pub returns-then-is_readonly-clause-gives : goal.returns-then-is_readonly-clause-gives
@@ -10,5 +10,5 @@ returns-then-is_readonly-clause-gives g c =
     let call = c.look_at_devices-result in
     let all = disks g.D.Device c.args.devices.items in
     let same : c.deref.result.now ≡ c.args.devices.items = search rules in
-    let looks = subst (λ items. LooksAtDevices g.R.Source g.S.Sink ask (disks g.D.Device items) (streams_of c.args.session.now) (streams_of call.new.session) call.result) same call.ensures.gives in
-    subst (λ (b : Bool). WorksBy g.R.Source g.S.Sink ask b all all (streams_of c.args.session.now) (streams_of call.new.session) call.result) (sym c.if-is_readonly.true ∙ c.is_readonly.ensures) (refl, looks)
+    let looks = subst (λ items. LooksAtDevices g.R.Source g.S.Sink ask (disks g.D.Device items) (told_of c.args.session.now c.args.notices.now) (told_of call.new.session call.new.notices) call.result) same call.ensures.gives in
+    subst (λ (b : Bool). WorksBy g.R.Source g.S.Sink ask b all all (told_of c.args.session.now c.args.notices.now) (told_of call.new.session call.new.notices) call.result) (sym c.if-is_readonly.true ∙ c.is_readonly.ensures) (refl, looks)

@@ -3,9 +3,11 @@ use Rattle.clap.specs.Words.{FailsBy, Text, fault_of}
 use Rattle.md_words.specs.Words.{mdcli}
 use Rattle.md_words.specs.Asked.{asked, image_words}
 use Rattle.md_words.specs.Asks.{Ask, ask_of}
+use Rattle.md_cli.specs.declared.notices.Notices.{Notices}
 use Rattle.md_cli.specs.Arrays.{texts}
 use Rattle.md_cli.specs.Running.{Does}
-use Rattle.md_cli.specs.Streams.{streams_of}
+use Rattle.md_cli.specs.Noticed.{nothing}
+use Rattle.md_cli.specs.Streams.{streams_of, told_of}
 use Rattle.md_cli.proofs.Flushed.{when_done}
 use Rattle.md_cli.proofs.running.run.Goals as goal
 
@@ -18,12 +20,14 @@ returns-clause-taken g c taken =
     let asks : ask_of c.in-Ok.request.command ≡ asked words = subst (λ parsed. IfOk parsed (λ r. ask_of r.command ≡ asked words)) c.in-Ok.is c.requires.asks in
     let images : texts c.in-Ok.request.images.items ≡ image_words words = subst (λ parsed. IfOk parsed (λ r. texts r.images.items ≡ image_words words)) c.in-Ok.is c.requires.images in
     let names_are : texts c.as_slice-names.result.now ≡ image_words words = ap texts c.as_slice-names.ensures.value ∙ images in
-    let Doing : Ask → List Text → Type 0 =
-    λ ask names. Does g.I.Images g.I.Dev.Device g.R.Source g.S.Sink ask names c.args.images.now c.act-outcome.new.images (streams_of c.args.session.now) (streams_of c.act-outcome.new.session) c.act-outcome.result in
+    let Doing : Notices → Ask → List Text → Type 0 =
+    λ noticed ask names. Does g.I.Images g.I.Dev.Device g.R.Source g.S.Sink ask names c.args.images.now c.act-outcome.new.images (told_of c.args.session.now noticed) (told_of c.act-outcome.new.session c.act-outcome.new.notices) c.act-outcome.result in
+    let none : c.none-notices.result ≡ nothing = c.none-notices.ensures in
     inr (record {
       result = c.act-outcome.result;
       status_is = c.answer.ensures;
-      does = subst (λ names. Doing (asked words) names) names_are (subst (λ ask. Doing ask (texts c.as_slice-names.result.now)) asks c.act-outcome.ensures.gives);
+      noticed = c.act-outcome.new.notices;
+      does = subst (λ names. Doing nothing (asked words) names) names_are (subst (λ ask. Doing nothing ask (texts c.as_slice-names.result.now)) asks (subst (λ noticed. Doing noticed (ask_of c.in-Ok.request.command) (texts c.as_slice-names.result.now)) none c.act-outcome.ensures.gives));
     })
 
 pub returns-clause-flushed : goal.returns-clause-flushed
