@@ -90,8 +90,8 @@ module _ (target : ℕ) (m : MemberView) (none : Bitmap) (ready : MirrorView) wh
       sound = all.ready.sound;
     }
 
-    pub enrol_stops : (after : Bitmap) (new : MirrorView) (fault : RebuildFault) → FailsCopied target copied filled new fault → StopsReadied target m none after ready new fault
-    enrol_stops after new NoMemory h = inr (inr (inr (record { passes = all.passes; copied = copied; copies = subst (CopiesAll target m all.passes none copied ready) (sym h) all.copies })))
+    pub enrol_stops : (after : Bitmap) (new : MirrorView) (fault : RebuildFault) → FailsCopied target copied after filled new fault → StopsReadied target m none after ready new fault
+    enrol_stops after new NoMemory h = inr (inr (inr (record { passes = all.passes; copied = copied; copies = subst (CopiesAll target m all.passes none copied ready) (sym h.0) all.copies; left = h.1 })))
     enrol_stops after new (LogFull k) h =
         inr (h.0, record { passes = all.passes; copied = copied; kept = h.1.kept; orphans = h.1.orphans; chunks = h.1.chunks; filled = filled; fills = fills_by h.1.kept h.1.orphans h.1.chunks h.1.has; why = h.1.why })
     enrol_stops after new TargetFault h =

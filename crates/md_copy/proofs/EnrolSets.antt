@@ -124,9 +124,10 @@ module _ (target : ℕ) (v : MirrorView) (ready : IsReady target v) (within : ta
       plans_are = plans_is;
     }
 
-    pub fails_copied : (w : MirrorView) (fault : RebuildFault) → RefusesFilled target kept_set orphans v w fault → FailsCopied target copied v w fault
-    fails_copied w (LogFull k) h = (h.0, record { kept = kept_set; orphans = orphans; chunks = chunks; has = has_sets; why = h.1 })
-    fails_copied w NoMemory h = h
+    pub fails_copied : (w : MirrorView) (fault : RebuildFault) → RefusesFilled target kept_set orphans v w fault → FailsCopied target copied kept_set v w fault
+    fails_copied w (LogFull k) h =
+        (h.0, record { kept = kept_set; orphans = orphans; chunks = chunks; has = has_sets; why = record { unchanged = h.1.unchanged; full = h.1.full; left = λ c low set. set } })
+    fails_copied w NoMemory h = (h, λ c low set. (and_parts (is_missing a m c) (is_set copied.bytes c) (sym (kept_are c (subst (λ n. c < n) kept_chunks low)) ∙ set)).1)
     fails_copied w TargetFault h = record { kept = kept_set; orphans = orphans; chunks = chunks; has = has_sets; why = h }
     fails_copied w Halted h = absurd h
     fails_copied w NotSpare h = absurd h

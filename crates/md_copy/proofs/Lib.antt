@@ -40,6 +40,7 @@ pub mod ReadyStill
 pub mod RebuildLeads
 pub mod RebuiltByCall
 pub mod RebuiltMember
+pub mod RebuiltTo
 pub mod Refused
 pub mod RefusedLeads
 pub mod RefusedPasses

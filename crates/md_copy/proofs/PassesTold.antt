@@ -66,7 +66,7 @@ chain_holds target (p ∷ ps) chunks left before after v w h so =
     chain_holds target ps (failed_chunks p) left h.0 after h.1 w h.3 (listed_holds target chunks p before h.0 v h.1 h.2 so)
 
 -- ---- which chunks were copied
-chain_copied : (target : ℕ) (done passes : List PassView) (chunks left : List ℕ) (before after : Bitmap) (v w : MirrorView) → AreListedPasses target passes chunks left before after v w → AreCopiedBy done before
+pub chain_copied : (target : ℕ) (done passes : List PassView) (chunks left : List ℕ) (before after : Bitmap) (v w : MirrorView) → AreListedPasses target passes chunks left before after v w → AreCopiedBy done before
     → AreCopiedBy (done ++ passes) after
 chain_copied target done [] chunks left before after v w h by = subst (λ ps. AreCopiedBy ps after) (sym (append-nil done)) (subst (AreCopiedBy done) (sym h.1) by)
 chain_copied target done (p ∷ ps) chunks left before after v w h by =

@@ -1,13 +1,14 @@
 -- What a rebuild that is refused leaves as it was.
-use Rattle.std.proofs.Common.{◌≡◌, ◌≢◌, ◌∙◌, ◌⊎◌, ℕ, suc, zero, ◌+◌, ◌<◌, ◌≤◌, true, false, List, [], ◌∷◌, ◌++◌, append-nil, append_assoc, All, length, length-append, slice_get, Some, refl, sym, ap, subst, arith, inl, inr}
-use Rattle.std.proofs.lemmas.Bool.{both_ways, cases_eq}
+use Rattle.std.proofs.Common.{◌≡◌, ◌≢◌, ◌∙◌, ◌⊎◌, ℕ, suc, zero, ◌+◌, ◌==◌, ◌<◌, ◌≤◌, ◌&&◌, Bool, true, false, List, [], ◌∷◌, ◌++◌, append-nil, append_assoc, All, cond, length, length-append, slice_get, Some, refl, sym, ap, subst, arith, inl, inr}
+use Rattle.std.proofs.lemmas.Bool.{both_ways, cases_Bool, cases_eq, eqb-true}
+use Rattle.std.proofs.lemmas.List.Folds.{Any-from_list_any}
 use Rattle.std.proofs.lemmas.Option.{same_Some, slice_get_within}
 use Rattle.md_assembly.proofs.Indices.{got_within}
 use Rattle.md_assembly.specs.declared.state.MemberState.{MemberState}
 use Rattle.md_assembly.specs.declared.state.MemberState.TheVariants.{InSync, Recovering, Stale, Spare, Faulty}
-use Rattle.md_assembly.specs.States.{is_in_sync, is_in_sync_as, is_recovering}
+use Rattle.md_assembly.specs.States.{is_in_sync, is_in_sync_as, is_recovering, is_spare}
 use Rattle.md_badblocks.specs.Runs.{IsBad}
-use Rattle.md_bitmap.specs.Marks.{Bitmap}
+use Rattle.md_bitmap.specs.Marks.{Bitmap, is_set}
 use Rattle.md_bitmap.specs.declared.chunks.Chunks.{Chunks}
 use Rattle.md_cert.specs.declared.slots.Slot.{Slot}
 use Rattle.md_collect.specs.Reading.{Fails}
@@ -15,13 +16,16 @@ use Rattle.md_device.specs.Splice.{part}
 use Rattle.md_kept_members.specs.Enrolling.{IsListWith}
 use Rattle.md_kept_members.specs.TakingBack.{admitted_member}
 use Rattle.md_kept_members.specs.View.{MemberView}
-use Rattle.md_passes.proofs.ArrayPasses.{passes_go_on}
+use Rattle.md_model.specs.Rebuilding.{lacks}
+use Rattle.md_pass.specs.Beside.{has_chunk}
+use Rattle.md_pass.specs.Copied.{AreJoined}
+use Rattle.md_passes.proofs.ArrayPasses.{copies_add, passes_go_on}
 use Rattle.md_passes.proofs.Listing.{lists_add}
-use Rattle.md_passes.specs.Listed.{IsArrayPass, IsOfFailed, ListsFailed, MayServe, ServesAs, most_failures}
+use Rattle.md_passes.specs.Listed.{AreCopiedBy, IsArrayPass, IsOfFailed, ListsFailed, MayServe, ServesAs, most_failures}
 use Rattle.md_passes.specs.Passes.{PassView, ServesAtMost, failed_chunks, slots_of}
 use Rattle.md_state.specs.DiskWrites.{AtDevice}
 use Rattle.md_state.specs.Members.{IsInSync, IsMember}
-use Rattle.md_state.specs.Missing.{is_missing}
+use Rattle.md_state.specs.Missing.{has_passed, is_missing}
 use Rattle.md_state.specs.View.{ArrayView, Disk, MirrorView, of_disks}
 use Rattle.md_array.specs.Consistency.{IsConsistent}
 use Rattle.md_array.specs.Enrolling.{KeepsData}
@@ -29,12 +33,13 @@ use Rattle.md_array.specs.Lending.{IsBesideMissing}
 use Rattle.md_copy.specs.declared.fault.RebuildFault.{RebuildFault}
 use Rattle.md_copy.specs.declared.fault.RebuildFault.TheVariants.{Halted, NotSpare, Dirty, InFlight, LogFull, NoMemory, TargetFault, MetadataFault, EventsFull}
 use Rattle.md_copy.specs.Filling.{IsFilling}
-use Rattle.md_copy.specs.Leaving.{Leaves}
+use Rattle.md_copy.specs.Leaving.{HasNone, Leaves}
 use Rattle.md_copy.specs.Listing.{HasFailed, ListsAll, NotesLists, StopsAtList}
-use Rattle.md_copy.specs.Passing.{AreListedPasses, CopiesAll, EndsBetween, FailsListing, RecordsPass}
+use Rattle.md_copy.specs.Preparing.{IsWithin}
+use Rattle.md_copy.specs.Passing.{AreListedPasses, BreaksOff, CopiesAll, EndsBetween, FailsListing, RecordsPass}
 use Rattle.md_copy.specs.Rebuilding.{Begins, LacksMemory, LacksRoom, LosesTarget, RefusesAtOnce, RefusesRebuild}
 use Rattle.md_copy.specs.Rebuilt.{failed_of}
-use Rattle.md_copy.specs.Refused.{AreListed, Ending, EndsSo, HasEnded, HasHalted, HasMade, IsAdmitted, IsAsBefore, IsLost, KeepsDataBut, LacksRoomFor, ListsStand, NotesSome}
+use Rattle.md_copy.specs.Refused.{AreListed, Ending, EndsSo, HasCopied, HasEnded, HasHalted, HasMade, IsAdmitted, IsAsBefore, IsLost, IsRebuiltSoFar, IsRebuiltTo, KeepsDataBut, LacksRoomFor, ListsStand, NotesSome, offset_of}
 use Rattle.md_copy.specs.Sources.{missing_chunks}
 use Rattle.md_copy.proofs.BegunAs.{permits_both, same_missing, serves_both, serves_most}
 use Rattle.md_copy.proofs.Halting.{data_but}
@@ -43,12 +48,13 @@ use Rattle.md_copy.proofs.ListsKept.{lists_all, lists_chain, of_state}
 use Rattle.md_copy.proofs.ListsOn.{AtInSync, IsRecordedOn, list_on}
 use Rattle.md_copy.proofs.PassRecorded.{recorded_lists, recorded_ready}
 use Rattle.md_copy.proofs.PassesKeep.{PassesKeep, all_keep, chain_keeps, disk_then, failed_last, keeps_none, keeps_on, pass_keeps}
-use Rattle.md_copy.proofs.PassesTold.{HoldsSoFar, begins_holding, chain_holds, filled_ready, listed_holds}
-use Rattle.md_copy.proofs.Readied.{admitted_is, after_so, ready_of}
+use Rattle.md_copy.proofs.PassesTold.{HoldsSoFar, all_copied, begins_holding, chain_copied, chain_holds, filled_ready, listed_holds}
+use Rattle.md_copy.proofs.Readied.{admitted_is, after_so, ready_of, spare_is}
 use Rattle.md_copy.proofs.ReadyStill.{ready_noted}
 use Rattle.md_copy.proofs.RebuildLeads.{same_beside}
-use Rattle.md_copy.proofs.Refused.{GrowsSo, KeepsRest, Lasts, Preserves, grows_rest, has_ended, lasts_none, preserves_none, preserves_on, preserves_same, rest_none, rest_on, target_same}
-use Rattle.md_copy.proofs.RefusedSteps.{HaltsBy, StaysStill, StopsSo, checkpointed_many, grows_as, grows_from, grows_none, halted_left, halts_list, preserves_admitted, preserves_begun, preserves_recorded, rest_left, rest_list, rest_stores, rest_unadmitted, rest_unenrolled, rest_unrecordable, rest_unrecorded, starts_after, states_admitted, states_begun, still_same, still_stored, still_unadmitted, still_unrecorded, stops_so, was_spare}
+use Rattle.md_copy.proofs.RebuiltTo.{RebuiltTo, begins_to, grown_to, kept_to, same_to}
+use Rattle.md_copy.proofs.Refused.{GrowsSo, KeepsRest, Lasts, Preserves, grows_rest, has_ended, lasts_none, preserves_none, preserves_on, preserves_rest, preserves_same, rest_none, rest_on, target_same}
+use Rattle.md_copy.proofs.RefusedSteps.{HaltsBy, StaysStill, StopsSo, checkpointed_many, grows_as, grows_from, grows_none, halted_left, halts_list, list_chunks, list_marks, list_missing, preserves_admitted, preserves_begun, preserves_recorded, rest_left, rest_list, rest_stores, rest_unadmitted, rest_unenrolled, rest_unrecordable, rest_unrecorded, starts_after, states_admitted, states_begun, still_same, still_stored, still_unadmitted, still_unrecorded, stops_so, was_spare}
 use Rattle.md_copy.proofs.Stands.{stand_filled, stand_left, stand_listing, stand_none, stand_noted, stand_recorded, stand_unenrolled, stand_unrecorded, within_exact}
 use Rattle.md_copy.proofs.StartedAs.{StartsAs}
 use Rattle.md_copy.proofs.StartsReadied.{starts_of}
@@ -164,6 +170,78 @@ chain_preserves target (p ∷ ps) chunks left before after v w h so =
     preserves_on target v h.1 w (listed_preserves target chunks p before h.0 v h.2.recorded h.2.records so p.failed h.1 h.2.lists)
     (chain_preserves target ps (failed_chunks p) left h.0 after h.1 w h.3 (listed_holds target chunks p before h.0 v h.1 h.2 so))
 
+-- ---- how far the target is rebuilt
+module _ (target : ℕ) (old : MirrorView) (sound : IsConsistent old) (m : MemberView) (at : IsMember old.array target m) where
+  abbrev To : MirrorView → Bitmap → Type 0
+  To = RebuiltTo target old.array m
+
+  array_to : (v w : MirrorView) (copied : Bitmap) → w.array ≡ v.array → To v copied → To w copied
+  array_to v w copied same = same_to target old.array m v w copied (λ n there. (n, ap (λ (a : ArrayView). slice_get a.members target) (sym same) ∙ there, refl))
+
+  noted_to : (v w : MirrorView) (copied : Bitmap) (failed : List Slot) → ((n : MemberView) → IsMember v.array target n → is_recovering n.state ≡ true) → NotesLists failed v w → To v copied → To w copied
+  noted_to v w copied failed recovering notes =
+      same_to target old.array m v w copied (λ n there.
+      let l = notes.lists.before target n there in
+      let same = (notes.members target l.0 n l.1 there).out (out_of_sync l.0.state (recovering l.0 l.1)) in
+      (l.0, l.1, ap (λ (y : MemberView). y.superblock.recovery_offset) same))
+
+  listed_to : (v w : MirrorView) (copied : Bitmap) (failed : List Slot) → ((n : MemberView) → IsMember v.array target n → is_recovering n.state ≡ true) → ListsAll failed v w → To v copied → To w copied
+  listed_to v w copied failed recovering lists =
+      same_to target old.array m v w copied (λ n there.
+      let l = lists.lists.before target n there in
+      let same = lists.out target l.0 n l.1 there (out_of_sync l.0.state (recovering l.0 l.1)) in
+      (l.0, l.1, ap (λ (y : MemberView). y.superblock.recovery_offset) same))
+
+  pass_to : (chunks : List ℕ) (p : PassView) (before after : Bitmap) (v x : MirrorView) (h : RecordsPass target chunks p before after v x) → HoldsSoFar target v before chunks → Preserves target old v → To v before → To x after
+  pass_to chunks p before after v x h so pre to =
+      let f = h.makes.copies.filling in
+      let filled = preserves_on target old v h.filled pre (preserves_filled target v before chunks so p h.makes.is h.makes.member h.makes.at h.filled f) in
+      grown_to target old sound m at h.filled x h.makes.sound filled before after h.checkpoints (array_to v h.filled before f.array to) (so.held.chunks ∙ ap (λ (b : Bitmap). b.chunks) pre.marks)
+      (λ c low set. h.makes.copies.joined.kept c set)
+
+  chain_to : (passes : List PassView) (chunks left : List ℕ) (before after : Bitmap) (v w : MirrorView) → AreListedPasses target passes chunks left before after v w → HoldsSoFar target v before chunks → Preserves target old v
+      → To v before → To w after
+  chain_to [] chunks left before after v w h so pre to = subst (λ (b : Bitmap). To w b) (sym h.1) (subst (λ (u : MirrorView). To u before) (sym h.2) to)
+  chain_to (p ∷ ps) chunks left before after v w h so pre to =
+      let one = h.2 in
+      let x = one.recorded in
+      let may = recorded_ready target chunks p before h.0 v x one.records so.ready so.held so.lacking in
+      chain_to ps (failed_chunks p) left h.0 after h.1 w h.3 (listed_holds target chunks p before h.0 v h.1 one so)
+      (preserves_on target old v h.1 pre (listed_preserves target chunks p before h.0 v x one.records so p.failed h.1 one.lists))
+      (listed_to x h.1 h.0 p.failed may.recovering one.lists (pass_to chunks p before h.0 v x one.records so pre to))
+
+offset_is_own : (m : MemberView) → is_recovering m.state ≡ true → offset_of m ≡ m.superblock.recovery_offset
+offset_is_own m is = ap (λ b. cond b m.superblock.recovery_offset 0) is
+
+offset_is_none : (m : MemberView) → is_recovering m.state ≡ false → offset_of m ≡ 0
+offset_is_none m is = ap (λ b. cond b m.superblock.recovery_offset 0) is
+
+spare_lacks : (s : MemberState) (marked passed : Bool) → is_spare s ≡ true → lacks (is_in_sync s) (is_recovering s) marked passed ≡ true
+spare_lacks (InSync r) marked passed is = absurd cc
+spare_lacks (Recovering r) marked passed is = absurd cc
+spare_lacks (Stale r) marked passed is = absurd cc
+spare_lacks Spare marked passed is = refl
+spare_lacks Faulty marked passed is = absurd cc
+
+-- where a rebuild begins, nothing is done of a spare, and of a recovering target what was
+begun_to : (target : ℕ) (old v : MirrorView) (none : Bitmap) (b : Begins target old v none) → RebuiltTo target old.array b.member v none
+begun_to target old v none b n there = subst (λ o. IsRebuiltTo old.array b.member none o) (sym offset_is) (begins_to target old b.sound b.member b.at none b.is_none.bits lacks)
+  where
+    offset_is : n.superblock.recovery_offset ≡ offset_of b.member
+    offset_is = elim b.first [
+      | inl stored ↦ (still_stored target old v stored.1.stores b.member n b.at there).1 ∙ sym (offset_is_own b.member stored.0)
+      | inr admitted ↦
+          let x = admitted.1 in
+          let is = admitted_is target old x.admitted x.after in
+          (still_stored target x.admitted v x.then.stores (admitted_member x.after.admits.role x.after.admits.may.member) n is there).1 ∙ sym (offset_is_none b.member (ap is_recovering (spare_is b.member.state admitted.0)))
+    ]
+
+    lacks : (c : ℕ) → is_recovering b.member.state ≡ false → is_missing old.array b.member c ≡ true
+    lacks c none_is = elim b.first [
+      | inl stored ↦ absurd (both_ways (is_recovering b.member.state) none_is stored.0)
+      | inr admitted ↦ spare_lacks b.member.state (is_set old.array.marks.bytes c) (has_passed old.array b.member c) admitted.0
+    ]
+
 -- ---- the passes
 pub chain_listed : (target : ℕ) (passes : List PassView) (chunks left : List ℕ) (before after : Bitmap) (v w : MirrorView) → AreListedPasses target passes chunks left before after v w → HoldsSoFar target v before chunks
     → AreListed passes v.array chunks w.array left
@@ -210,10 +288,10 @@ failed_append [] qs = refl
 failed_append (p ∷ ps) qs = ap (λ xs. p.failed ++ xs) (failed_append ps qs) ∙ sym (append_assoc p.failed (failed_of ps) (failed_of qs))
 
 -- no pass was planned
-abbrev none_made : MemberView → Ending
-none_made m = record { member = m; listed = []; last = []; noted = [] }
+abbrev none_made : ArrayView → MemberView → Ending
+none_made a m = record { member = m; listed = []; last = []; noted = []; copied = a.marks }
 
-made_none : (old : ArrayView) (m : MemberView) → HasMade (none_made m) old
+made_none : (old : ArrayView) (m : MemberView) → HasMade (none_made old m) old
 made_none old m = record {
   first = old;
   served = λ c role. (λ is. is, λ is. is);
@@ -226,6 +304,24 @@ made_none old m = record {
   few = omega arith;
 }
 
+-- ---- with another set
+abbrev with_copied : Bitmap → Ending → Ending
+with_copied copied s = record s { copied = copied }
+
+made_with : (copied : Bitmap) (s : Ending) (old : ArrayView) → HasMade s old → HasMade (with_copied copied s) old
+made_with copied s old h = record { first = h.first; served = h.served; permitted = h.permitted; end = h.end; left = h.left; are = h.are; planned = h.planned; one = h.one; few = h.few }
+
+some_with : (copied : Bitmap) (s : Ending) (Why : Slot → Type 0) → NotesSome s Why → NotesSome (with_copied copied s) Why
+some_with copied s Why h = record { pass = h.pass; last = h.last; next = h.next; rest = h.rest; slots = h.slots; why = h.why }
+
+has_same : (s : Ending) → HasCopied s → HasCopied (with_copied s.copied s)
+has_same s h = record { listed = h.listed; only = h.only }
+
+both_true : (a b : Bool) → (a && b) ≡ true → b ≡ true
+both_true true true is = refl
+both_true true false is = absurd cc
+both_true false b is = absurd cc
+
 -- ---- once passes may be made
 -- Up to this mirror data were kept, and lists grew by slots that failed alone. Those of passes whose lists were stored stand on the devices.
 pub record EndsAt (target : ℕ) (s : Ending) (old v : MirrorView) : Type 0 where
@@ -237,6 +333,7 @@ pub record EndsAt (target : ℕ) (s : Ending) (old v : MirrorView) : Type 0 wher
   pub running : v.array.halted ≡ false
   pub recovers : (n : MemberView) → IsMember v.array target n → is_recovering n.state ≡ true
   pub stand : ListsStand target (failed_of s.listed) old.array v
+  pub to : RebuiltTo target old.array s.member v s.copied
 
 -- a write to the target's device failed after that
 fails_after : (target : ℕ) (listed failed : List Slot) (old mid new : MirrorView) → Preserves target old mid → GrowsSo target listed failed old mid
@@ -268,12 +365,15 @@ module _ (target : ℕ) (old ready : MirrorView) (none : Bitmap) (b : Begins tar
   so = begins_holding target b.now none ready (ready_of target old ready none b) b.there b.is_none.chunks b.is_none.bits
 
   -- these passes were made, and at most one more was planned
-  abbrev ended : List PassView → List PassView → List Slot → Ending
-  ended listed last noted = record { member = b.member; listed = listed; last = last; noted = noted }
+  abbrev ended : List PassView → List PassView → List Slot → Bitmap → Ending
+  ended listed last noted copied = record { member = b.member; listed = listed; last = last; noted = noted; copied = copied }
 
-  made_so : (listed last : List PassView) (noted : List Slot) (left : List ℕ) (mid : Bitmap) (now : MirrorView) → AreListedPasses target listed chunks left none mid ready now → All (IsArrayPass now.array left) last → length last ≤ 1
-      → HasMade (ended listed last noted) old.array
-  made_so listed last noted left mid now passed planned one =
+  start_to : RebuiltTo target old.array b.member ready none
+  start_to = begun_to target old ready none b
+
+  made_so : (listed last : List PassView) (noted : List Slot) (copied : Bitmap) (left : List ℕ) (mid : Bitmap) (now : MirrorView) → AreListedPasses target listed chunks left none mid ready now → All (IsArrayPass now.array left) last → length last ≤ 1
+      → HasMade (ended listed last noted copied) old.array
+  made_so listed last noted copied left mid now passed planned one =
       let are = chain_listed target listed chunks left none mid ready now passed so in
       let most = listed_few listed chunks left ready.array now.array (most_failures old.array) are (serves_most target old ready starts) in
       let many = length-append listed last in
@@ -294,7 +394,7 @@ module _ (target : ℕ) (old ready : MirrorView) (none : Bitmap) (b : Begins tar
   one_planned a left p is (suc k) d low = absurd (omega (arith, low))
 
   -- all passes are made
-  ends_copied : (passes : List PassView) (copied : Bitmap) (filled : MirrorView) (h : CopiesAll target b.now passes none copied ready filled) → EndsAt target (ended h.listed (h.last ∷ []) []) old filled
+  ends_copied : (passes : List PassView) (copied : Bitmap) (filled : MirrorView) (h : CopiesAll target b.now passes none copied ready filled) → EndsAt target (ended h.listed (h.last ∷ []) [] copied) old filled
   ends_copied passes copied filled h =
       let then = chain_holds target h.listed chunks h.left none h.mid ready h.now h.passed so in
       let fs = failed_of passes in
@@ -311,13 +411,19 @@ module _ (target : ℕ) (old ready : MirrorView) (none : Bitmap) (b : Begins tar
         at = b.at;
         pre = preserves_on target old ready filled begun
             (preserves_on target ready h.now filled (chain_preserves target h.listed chunks h.left none h.mid ready h.now h.passed so) (pass_preserves target h.left h.last h.mid copied h.now filled h.records then));
-        made = made_so h.listed (h.last ∷ []) [] h.left h.mid h.now h.passed (one_planned h.now.array h.left h.last h.records.makes.is) (omega arith);
+        made = made_so h.listed (h.last ∷ []) [] copied h.left h.mid h.now h.passed (one_planned h.now.array h.left h.last h.records.makes.is) (omega arith);
         grows = grows_as target fs (failed_of h.listed ++ []) fs (failed_of (h.listed ++ h.last ∷ [])) old filled (append-nil (failed_of h.listed) ∙ sym is) (ap failed_of (sym h.passes_are)) grown;
         sound = h.records.sound;
         running = may.goes.idle.running;
         recovers = may.recovering;
         stand = subst (λ xs. ListsStand target xs old.array filled) is stand;
+        to = pass_to target old b.sound b.member b.at h.left h.last h.mid copied h.now filled h.records then
+            (preserves_on target old ready h.now begun (chain_preserves target h.listed chunks h.left none h.mid ready h.now h.passed so))
+            (chain_to target old b.sound b.member b.at h.listed chunks h.left none h.mid ready h.now h.passed so begun start_to);
       }
+
+  by_all : (passes : List PassView) (copied : Bitmap) (filled : MirrorView) (h : CopiesAll target b.now passes none copied ready filled) → AreCopiedBy (h.listed ++ h.last ∷ []) copied
+  by_all passes copied filled h = subst (λ ps. AreCopiedBy ps copied) h.passes_are (all_copied target b.now passes none copied ready filled h b.is_none.bits)
 
   -- some are
   module _ (Why : List ℕ → Bitmap → MirrorView → Type 0) (e : EndsBetween target b.now none ready Why) where
@@ -344,25 +450,32 @@ module _ (target : ℕ) (old ready : MirrorView) (none : Bitmap) (b : Begins tar
         (list_on n d (lists_chain target k other e.passes [] chunks e.left none e.copied ready e.now e.passed none_yet n at_n own n d at_n at_d in_sync honest))
         (λ sector. (grown.lists k m n other at at_n sector).1)
 
-    ends_now : EndsAt target (ended e.passes [] []) old e.now
+    to_now : RebuiltTo target old.array b.member e.now e.copied
+    to_now = chain_to target old b.sound b.member b.at e.passes chunks e.left none e.copied ready e.now e.passed so begun start_to
+
+    by_now : AreCopiedBy e.passes e.copied
+    by_now = chain_copied target [] e.passes chunks e.left none e.copied ready e.now e.passed (copies_add.none none b.is_none.bits)
+
+    ends_now : EndsAt target (ended e.passes [] [] e.copied) old e.now
     ends_now = record {
       at = b.at;
       pre = there;
-      made = made_so e.passes [] [] e.left e.copied e.now e.passed (λ k d low. absurd (omega (arith, low))) (omega arith);
+      made = made_so e.passes [] [] e.copied e.left e.copied e.now e.passed (λ k d low. absurd (omega (arith, low))) (omega arith);
       grows = grows_as target fs (fs ++ []) fs (failed_of (e.passes ++ [])) old e.now (append-nil fs) (ap failed_of (append-nil e.passes)) grown;
       sound = so_far.ready.sound;
       running = so_far.ready.goes.idle.running;
       recovers = so_far.ready.recovering;
       stand = stand_now;
+      to = to_now;
     }
 
     -- one more was begun
     ends_filled : (p : PassView) → IsArrayPass e.now.array e.left p → (m : MemberView) → IsMember e.now.array target m → (w : MirrorView) → IsFilling target m (slots_of p) e.now w → IsConsistent w
-        → EndsAt target (ended e.passes (bare p ∷ []) []) old w
+        → EndsAt target (ended e.passes (bare p ∷ []) [] e.copied) old w
     ends_filled p is m at w f sound = record {
       at = b.at;
       pre = preserves_on target old e.now w there (preserves_filled target e.now e.copied e.left so_far p is m at w f);
-      made = made_so e.passes (bare p ∷ []) [] e.left e.copied e.now e.passed (one_planned e.now.array e.left (bare p) (bare_is e.now.array e.left p is)) (omega arith);
+      made = made_so e.passes (bare p ∷ []) [] e.copied e.left e.copied e.now e.passed (one_planned e.now.array e.left (bare p) (bare_is e.now.array e.left p is)) (omega arith);
       grows = grows_as target fs (fs ++ []) fs (failed_of (e.passes ++ bare p ∷ [])) old w (append-nil fs) (failed_append e.passes (bare p ∷ []) ∙ append-nil fs)
           (grows_rest target fs fs old e.now w there.then there.disk_then grown
           (λ k x y at_x at_y. ap (λ (z : MemberView). z.bad) (same_Some y x (sym at_y ∙ ap (λ (a : ArrayView). slice_get a.members k) f.array ∙ at_x)))
@@ -372,21 +485,23 @@ module _ (target : ℕ) (old ready : MirrorView) (none : Bitmap) (b : Begins tar
       running = ap (λ (a : ArrayView). a.halted) f.array ∙ so_far.ready.goes.idle.running;
       recovers = λ n at_n. so_far.ready.recovering n (ap (λ (a : ArrayView). slice_get a.members target) (sym f.array) ∙ at_n);
       stand = stand_filled target fs old.array m (slots_of p) e.now w f stand_now;
+      to = array_to target old b.sound b.member b.at e.now w e.copied f.array to_now;
     }
 
     -- it is recorded, and what failed in it is listed in memory, or the first of it
     ends_noted : (after : Bitmap) (p : PassView) (x : MirrorView) → RecordsPass target e.left p e.copied after e.now x → (taken rest : List Slot) → p.failed ≡ taken ++ rest → (z : MirrorView) → NotesLists taken x z
-        → EndsAt target (ended e.passes (p ∷ []) taken) old z
+        → EndsAt target (ended e.passes (p ∷ []) taken after) old z
     ends_noted after p x records taken rest is z notes =
         let pass = pass_preserves target e.left p e.copied after e.now x records so_far in
         let listing = preserves_noted target e.left p e.copied after e.now x records so_far taken z notes in
         let first = keeps_on target fs [] fs p.failed none e.copied after ready e.now x kept (pass_keeps target e.left p e.copied after e.now x records) in
         let all = keeps_on target (fs ++ []) taken (fs ++ p.failed) [] none after after ready x z first (noted_keeps target e.left p e.copied after e.now x records so_far taken z notes) in
-        let may = ready_noted target taken x z notes (recorded_ready target e.left p e.copied after e.now x records so_far.ready so_far.held so_far.lacking) in
+        let may_x = recorded_ready target e.left p e.copied after e.now x records so_far.ready so_far.held so_far.lacking in
+        let may = ready_noted target taken x z notes may_x in
         record {
           at = b.at;
           pre = preserves_on target old e.now z there (preserves_on target e.now x z pass listing);
-          made = made_so e.passes (p ∷ []) taken e.left e.copied e.now e.passed (one_planned e.now.array e.left p records.makes.is) (omega arith);
+          made = made_so e.passes (p ∷ []) taken after e.left e.copied e.now e.passed (one_planned e.now.array e.left p records.makes.is) (omega arith);
           grows = grows_as target ((fs ++ []) ++ taken) (fs ++ taken) ((fs ++ p.failed) ++ []) (failed_of (e.passes ++ p ∷ [])) old z (ap (λ xs. xs ++ taken) (sym (append-nil fs)))
               (failed_append e.passes (p ∷ []) ∙ ap (λ xs. fs ++ xs) (append-nil p.failed) ∙ sym (append-nil (fs ++ p.failed)))
               (grows_from target old ready starts (states_begun target old ready none b) ((fs ++ []) ++ taken) ((fs ++ p.failed) ++ []) none after z all);
@@ -396,49 +511,130 @@ module _ (target : ℕ) (old ready : MirrorView) (none : Bitmap) (b : Begins tar
           stand = stand_noted target fs old.array taken x z notes
               (stand_recorded target fs old.array after records.filled x records.makes.sound records.checkpoints
               (stand_filled target fs old.array records.makes.member (slots_of p) e.now records.filled records.makes.copies.filling stand_now));
+          to = noted_to target old b.sound b.member b.at x z after taken may_x.recovering notes
+              (pass_to target old b.sound b.member b.at e.left p e.copied after e.now x records so_far there to_now);
         }
 
+    -- what was copied then
+    by_more : (after : Bitmap) (p : PassView) (x : MirrorView) → RecordsPass target e.left p e.copied after e.now x → AreCopiedBy (e.passes ++ p ∷ []) after
+    by_more after p x records = copies_add.more e.passes p e.copied after by_now records.makes.copies.joined records.makes.failed records.makes.uncopied
+
+    has_more : (last : List PassView) (noted : List Slot) (p : PassView) (after : Bitmap) → last ≡ p ∷ [] → AreJoined (slots_of p) e.copied after → HasCopied (ended e.passes last noted after)
+    has_more last noted p after is joined = subst (λ ps. HasCopied (ended e.passes ps noted after)) (sym is) (record {
+      listed = λ c copies. joined.kept c ((by_now c).1 copies);
+      only = λ c set. elim (cases_Bool (has_chunk (slots_of p) c)) [
+        | inr none ↦ inl ((by_now c).0 (sym (joined.planned c none) ∙ set))
+        | inl planned ↦
+            let hit = Any-from_list_any (λ (slot : Slot). slot.chunk == c) (slots_of p) planned in
+            inr (zero, p, omega arith, refl, (hit.0, hit.1, hit.2, hit.3, eqb-true hit.1.chunk c hit.4))
+      ];
+    })
+
+    has_now : (last : List PassView) (noted : List Slot) → HasCopied (ended e.passes last noted e.copied)
+    has_now last noted = record { listed = λ c copies. (by_now c).1 copies; only = λ c set. inl ((by_now c).0 set) }
+
   -- ---- why it ended
-  lacks_memory : (after : Bitmap) (stopped : MirrorView) → LacksMemory target b.now none after ready stopped
-      → (s : Ending) × EndsAt target s old stopped × ((s.noted ≡ []) ⊎ NotesSome s (λ next. Unit {0}))
+  -- of what was copied this is left to be recorded: more than was recorded, or no more
+  abbrev IsLeft : Ending → Bitmap → MirrorView → Type 0
+  IsLeft s after stopped =
+      (IsWithin s.copied after × HasCopied (with_copied after s) × (s.copied.chunks ≡ old.array.marks.chunks))
+      ⊎ (after.chunks ≡ stopped.array.marks.chunks → IsWithin after s.copied)
+
+  -- memory was refused
+  record LacksSo (after : Bitmap) (stopped : MirrorView) : Type 0 where
+    s : Ending
+    ends : EndsAt target s old stopped
+    noted : (s.noted ≡ []) ⊎ NotesSome s (λ next. Unit {0})
+    has : HasCopied s
+    left : IsLeft s after stopped
+
+  -- all passes, as passes that were listed and one more
+  between_all : (passes : List PassView) (copied : Bitmap) (filled : MirrorView) → CopiesAll target b.now passes none copied ready filled → EndsBetween target b.now none ready (λ left mid now. Unit {0})
+  between_all passes copied filled h = record { passes = h.listed; left = h.left; copied = h.mid; now = h.now; passed = h.passed; why = tt }
+
+  lacks_memory : (after : Bitmap) (stopped : MirrorView) → LacksMemory target b.now none after ready stopped → LacksSo after stopped
+  unfolding between_all
   lacks_memory after stopped (inl e) =
-      (ended e.passes [] [], subst (EndsAt target (ended e.passes [] []) old) (sym e.why.1) (ends_now (λ left copied now. (after ≡ copied) × (stopped ≡ now)) e), inl refl)
+      let Why : List ℕ → Bitmap → MirrorView → Type 0 = λ left copied now. (after ≡ copied) × (stopped ≡ now) in
+      record {
+        s = ended e.passes [] [] e.copied;
+        ends = subst (EndsAt target (ended e.passes [] [] e.copied) old) (sym e.why.1) (ends_now Why e);
+        noted = inl refl;
+        has = has_now Why e [] [];
+        left = inr (λ many c low set. subst (λ (b : Bitmap). is_set b.bytes c ≡ true) e.why.0 set);
+      }
   lacks_memory after stopped (inr (inl e)) =
-      (ended e.passes (bare e.why.pass ∷ []) [], ends_filled _ e e.why.pass e.why.is e.why.member e.why.at stopped e.why.breaks.filling e.why.sound, inl refl)
+      let Why : List ℕ → Bitmap → MirrorView → Type 0 = λ left copied now. BreaksOff target NoMemory left copied after now stopped in
+      let p = bare e.why.pass in
+      record {
+        s = ended e.passes (p ∷ []) [] e.copied;
+        ends = ends_filled Why e e.why.pass e.why.is e.why.member e.why.at stopped e.why.breaks.filling e.why.sound;
+        noted = inl refl;
+        has = has_now Why e (p ∷ []) [];
+        left = inl (λ c low set. e.why.breaks.joined.kept c set, has_more Why e (p ∷ []) [] p after refl e.why.breaks.joined, (so_far Why e).held.chunks ∙ ap (λ (b : Bitmap). b.chunks) (there Why e).marks);
+      }
   lacks_memory after stopped (inr (inr (inl e))) =
-      let f = e.why in (
-        ended e.passes (f.pass ∷ []) f.fails.taken,
-        ends_noted _ e after f.pass f.recorded f.records f.fails.taken (f.fails.next ∷ f.fails.rest) f.fails.slots stopped f.fails.notes,
-        inr (record { pass = f.pass; last = refl; next = f.fails.next; rest = f.fails.rest; slots = f.fails.slots; why = tt }),
-      )
-  lacks_memory after stopped (inr (inr (inr e))) = (ended e.copies.listed (e.copies.last ∷ []) [], ends_copied e.passes e.copied stopped e.copies, inl refl)
+      let Why : List ℕ → Bitmap → MirrorView → Type 0 = λ left copied now. FailsListing target NoMemory left copied after now stopped in
+      let f = e.why in
+      record {
+        s = ended e.passes (f.pass ∷ []) f.fails.taken after;
+        ends = ends_noted Why e after f.pass f.recorded f.records f.fails.taken (f.fails.next ∷ f.fails.rest) f.fails.slots stopped f.fails.notes;
+        noted = inr (record { pass = f.pass; last = refl; next = f.fails.next; rest = f.fails.rest; slots = f.fails.slots; why = tt });
+        has = has_more Why e (f.pass ∷ []) f.fails.taken f.pass after refl f.records.makes.copies.joined;
+        left = inr (λ many c low set. set);
+      }
+  lacks_memory after stopped (inr (inr (inr e))) =
+      let c = e.copies in
+      record {
+        s = ended c.listed (c.last ∷ []) [] e.copied;
+        ends = ends_copied e.passes e.copied stopped c;
+        noted = inl refl;
+        has = has_more (λ left mid now. Unit {0}) (between_all e.passes e.copied stopped c) (c.last ∷ []) [] c.last e.copied refl c.records.makes.copies.joined;
+        left = inr (λ many. e.left);
+      }
 
   -- why there is no room in a log
   abbrev NoRoom : ℕ → ArrayView → Ending → Type 0
   NoRoom k a s = ((k ≡ target) × (s.noted ≡ []) × (failed_of s.last ≡ [])) ⊎ NotesSome s (LacksRoomFor k a)
 
-  lacks_room : (k : ℕ) (after : Bitmap) (stopped : MirrorView) → LacksRoom k target b.now none after ready stopped → (s : Ending) × EndsAt target s old stopped × NoRoom k stopped.array s
+  record FullSo (k : ℕ) (after : Bitmap) (stopped : MirrorView) : Type 0 where
+    s : Ending
+    ends : EndsAt target s old stopped
+    noted : NoRoom k stopped.array s
+    by : AreCopiedBy (s.listed ++ s.last) s.copied
+    left : after.chunks ≡ stopped.array.marks.chunks → IsWithin after s.copied
+
+  lacks_room : (k : ℕ) (after : Bitmap) (stopped : MirrorView) → LacksRoom k target b.now none after ready stopped → FullSo k after stopped
   lacks_room k after stopped (inl e) =
+      let Why : List ℕ → Bitmap → MirrorView → Type 0 = λ left copied now. FailsListing target (LogFull k) left copied after now stopped in
       let f = e.why in
       let source = f.fails.why.0 in
-      let full = f.fails.why.1 in (
-        ended e.passes (f.pass ∷ []) f.fails.taken,
-        ends_noted _ e after f.pass f.recorded f.records f.fails.taken (f.fails.next ∷ f.fails.rest) f.fails.slots stopped f.fails.notes,
-        inr (record {
+      let full = f.fails.why.1 in
+      record {
+        s = ended e.passes (f.pass ∷ []) f.fails.taken after;
+        ends = ends_noted Why e after f.pass f.recorded f.records f.fails.taken (f.fails.next ∷ f.fails.rest) f.fails.slots stopped f.fails.notes;
+        noted = inr (record {
           pass = f.pass;
           last = refl;
           next = f.fails.next;
           rest = f.fails.rest;
           slots = f.fails.slots;
           why = record { full = full; own = ap (λ (z : MemberView). is_in_sync_as f.fails.next.source z.state) (same_Some full.member source.member (sym full.at ∙ source.at)) ∙ source.in_sync };
-        }),
-      )
+        });
+        by = by_more Why e after f.pass f.recorded f.records;
+        left = λ many c low set. set;
+      }
   lacks_room k after stopped (inr (is, e)) =
-      let c = e.fills.copies in (
-        ended c.listed (c.last ∷ []) [],
-        subst (EndsAt target (ended c.listed (c.last ∷ []) []) old) (sym e.why.unchanged) (ends_copied e.passes e.copied e.filled c),
-        inl (is, refl, ap (λ xs. xs ++ []) c.done),
-      )
+      let c = e.fills.copies in
+      record {
+        s = ended c.listed (c.last ∷ []) [] e.copied;
+        ends = subst (EndsAt target (ended c.listed (c.last ∷ []) [] e.copied) old) (sym e.why.unchanged) (ends_copied e.passes e.copied e.filled c);
+        noted = inl (is, refl, ap (λ xs. xs ++ []) c.done);
+        by = by_all e.passes e.copied e.filled c;
+        left = λ many i low set.
+            (let same = many ∙ ap (λ (v : MirrorView). v.array.marks.chunks) e.why.unchanged in
+            both_true (is_missing e.filled.array e.fills.has.may.member i) (is_set e.copied.bytes i) (sym (e.fills.has.sets.kept_are i (subst (λ n. i < n) same low)) ∙ e.why.left i low set));
+      }
 
   -- ---- as it is told
   -- how far it is rebuilt is recorded, where the mirror runs
@@ -480,8 +676,32 @@ module _ (target : ℕ) (old ready : MirrorView) (none : Bitmap) (b : Begins tar
     stand_then : ListsStand target (failed_of s.listed) old.array new
     stand_then = stand_left target (failed_of s.listed) old.array copied stopped new (λ running. z.sound) leaves (λ running. z.stand) runs_then
 
-    ended_leaving : ((now : MemberView) → IsMember new.array target now → EndsSo target fault s now old new) → HasEnded target fault old new
-    ended_leaving = has_ended target fault s old stopped new new z.at z.pre z.grows rest_then (lasts_none target fault new) z.made
+    ended_leaving : (c : Bitmap) → ((now : MemberView) → IsMember new.array target now → EndsSo target fault (with_copied c s) now old new) → HasEnded target fault old new
+    ended_leaving c = has_ended target fault (with_copied c s) old stopped new new z.at z.pre z.grows rest_then (lasts_none target fault new) (made_with c s old.array z.made)
+
+    -- how far it is rebuilt: as far as it was, or by what was copied since
+    left_to : (stopped.array.marks.chunks ≡ copied.chunks → IsWithin copied s.copied) → RebuiltTo target old.array s.member new s.copied
+    left_to within = by leaves
+      where
+        by : Leaves target copied stopped new → RebuiltTo target old.array s.member new s.copied
+        by (inl same) = subst (λ (v : MirrorView). RebuiltTo target old.array s.member v s.copied) (sym same.1) z.to
+        by (inr (inl r)) = kept_to target old b.sound s.member z.at stopped new z.sound z.pre s.copied copied r z.to (within (sym r.may.copied_chunks))
+        by (inr (inr f)) = array_to target old b.sound s.member z.at stopped new s.copied f.array z.to
+
+    more_to : IsWithin s.copied copied → s.copied.chunks ≡ old.array.marks.chunks → HasCopied s → HasCopied (with_copied copied s) → (c : Bitmap) × RebuiltTo target old.array s.member new c × HasCopied (with_copied c s)
+    more_to within chunks has more = by leaves
+      where
+        by : Leaves target copied stopped new → (c : Bitmap) × RebuiltTo target old.array s.member new c × HasCopied (with_copied c s)
+        by (inl same) = (s.copied, subst (λ (v : MirrorView). RebuiltTo target old.array s.member v s.copied) (sym same.1) z.to, has_same s has)
+        by (inr (inl r)) = (copied, grown_to target old b.sound s.member z.at stopped new z.sound z.pre s.copied copied r z.to chunks within, more)
+        by (inr (inr f)) = (s.copied, array_to target old b.sound s.member z.at stopped new s.copied f.array z.to, has_same s has)
+
+    memory_to : HasCopied s → IsLeft s copied stopped → (c : Bitmap) × RebuiltTo target old.array s.member new c × HasCopied (with_copied c s)
+    memory_to has (inl more) = more_to more.0 more.2 has more.1
+    memory_to has (inr less) = (s.copied, left_to (λ many. less (sym many)), has_same s has)
+
+    so_far_then : (c : Bitmap) → RebuiltTo target old.array s.member new c → (now : MemberView) → IsMember new.array target now → IsRebuiltSoFar old.array (with_copied c s) now
+    so_far_then c to now there = record { recovering = recovers_then now there; to = to now there }
 
     -- the member whose log has no room
     room_then : (k : ℕ) → NoRoom k stopped.array s → NoRoom k new.array s
@@ -513,7 +733,7 @@ module _ (target : ℕ) (old ready : MirrorView) (none : Bitmap) (b : Begins tar
 
   -- a list could not be stored
   module _ (k : ℕ) (copied : Bitmap) (stopped new : MirrorView) (e : EndsBetween target b.now none ready (λ left copied now. (after : Bitmap) × FailsListing target (MetadataFault k) left copied after now stopped))
-      (leaves : Leaves target copied stopped new) where
+      (leaves : Leaves target copied stopped new) (nothing : HasNone copied) where
     abbrev f : FailsListing target (MetadataFault k) e.left e.copied e.why.0 e.now stopped
     f = e.why.1
 
@@ -524,7 +744,7 @@ module _ (target : ℕ) (old ready : MirrorView) (none : Bitmap) (b : Begins tar
     stops = f.fails.2
 
     abbrev s : Ending
-    s = ended e.passes (f.pass ∷ []) f.pass.failed
+    s = ended e.passes (f.pass ∷ []) f.pass.failed e.why.0
 
     z_noted : EndsAt target s old noted
     z_noted = ends_noted _ e e.why.0 f.pass f.recorded f.records f.pass.failed [] (sym (append-nil f.pass.failed)) noted f.fails.1
@@ -582,17 +802,48 @@ module _ (target : ℕ) (old ready : MirrorView) (none : Bitmap) (b : Begins tar
           })
     ]
 
+    to_lost : RebuiltTo target old.array b.member new e.why.0
+    to_lost = by leaves
+      where
+        then : KeepsRest target noted stopped
+        then = rest_list target k f.pass.failed noted stopped z_noted.recovers stops
+
+        before_stopped : (n : MemberView) → IsMember stopped.array target n → (m : MemberView) × IsMember noted.array target m
+        before_stopped n at_n = (let m = z_noted.pre.then target b.member b.at in (m.0, m.1))
+
+        to_stopped : RebuiltTo target old.array b.member stopped e.why.0
+        to_stopped =
+            same_to target old.array b.member noted stopped e.why.0 (λ n at_n.
+            let m = before_stopped n at_n in
+            let is = (stops.members target m.0 n m.1 at_n).0.out (out_of_sync m.0.state (z_noted.recovers m.0 m.1)) in
+            (m.0, m.1, ap (λ (x : MemberView). x.superblock.recovery_offset) is)) z_noted.to
+
+        pre_stopped : Preserves target old stopped
+        pre_stopped =
+            preserves_on target old noted stopped z_noted.pre (preserves_rest target noted stopped then (list_chunks target k f.pass.failed noted stopped stops) (list_marks target k f.pass.failed noted stopped stops)
+            (λ m n at_m at_n c low is.
+            let same = (stops.members target m n at_m at_n).0.out (out_of_sync m.state (z_noted.recovers m at_m)) in
+            sym (list_missing target k f.pass.failed noted stopped stops n c ∙ ap (λ (x : MemberView). is_missing noted.array x c) same) ∙ is))
+
+        by : Leaves target copied stopped new → RebuiltTo target old.array b.member new e.why.0
+        by (inl same) = subst (λ (v : MirrorView). RebuiltTo target old.array b.member v e.why.0) (sym same.1) to_stopped
+        by (inr (inl r)) =
+            kept_to target old b.sound b.member b.at stopped new (sound_lost r.may.idle.running) pre_stopped e.why.0 copied r to_stopped
+            (λ c low set. absurd (both_ways (is_set copied.bytes c) (nothing c low) set))
+        by (inr (inr g)) = array_to target old b.sound b.member b.at stopped new e.why.0 g.array to_stopped
+
     ended_source : HasEnded target (MetadataFault k) old new
     ended_source =
         has_ended target (MetadataFault k) s old noted new new b.at z_noted.pre z_noted.grows rest_lost (lasts_none target (MetadataFault k) new) z_noted.made
         (λ now there. record {
           other = other_lost;
           lost = lost_so;
-          when = inr (
-            recovers_left noted new z_noted.recovers rest_lost (λ n at. within_noted n at) now there,
-            record { pass = f.pass; last = refl; slots = refl },
-            λ m at_m. of_state f.pass.failed stops.member.state m.state (z_noted.grows.states k m stops.member other_lost at_m stops.was.member) stops.source,
-          );
+          when = inr (record {
+            rebuilt = record { recovering = recovers_left noted new z_noted.recovers rest_lost (λ n at. within_noted n at) now there; to = to_lost now there };
+            copied = by_more _ e e.why.0 f.pass f.recorded f.records;
+            noted = record { pass = f.pass; last = refl; slots = refl };
+            source = λ m at_m. of_state f.pass.failed stops.member.state m.state (z_noted.grows.states k m stops.member other_lost at_m stops.was.member) stops.source;
+          });
           stand = stand_lost;
         })
       where
@@ -603,57 +854,61 @@ module _ (target : ℕ) (old ready : MirrorView) (none : Bitmap) (b : Begins tar
   ended_target new (inl e) =
       let f = e.why.1 in
       let z = ends_filled _ e f.pass f.is f.member f.at new f.breaks.filling f.sound in
-      has_ended target TargetFault (ended e.passes (bare f.pass ∷ []) []) old new new new b.at z.pre z.grows (rest_none target new) (lasts_none target TargetFault new) z.made
+      has_ended target TargetFault (ended e.passes (bare f.pass ∷ []) [] e.copied) old new new new b.at z.pre z.grows (rest_none target new) (lasts_none target TargetFault new) z.made
       (λ now at_now. record {
         running = z.running;
         failed = fails_after target (failed_of e.passes) (failed_of e.passes) old e.now new (there _ e) (grown _ e) f.breaks.failed;
-        target_is = inr (z.recovers now at_now);
+        target_is = inr (record { recovering = z.recovers now at_now; to = z.to now at_now }, inl (by_now _ e));
         noted = refl;
         stand = z.stand;
       })
   ended_target new (inr (inl e)) =
       let f = e.why in
       let z = ends_filled _ e f.pass f.makes.is f.makes.member f.makes.at f.filled f.makes.copies.filling f.makes.sound in
-      has_ended target TargetFault (ended e.passes (bare f.pass ∷ []) []) old f.filled new new b.at z.pre z.grows (rest_unrecordable target f.after f.filled new f.makes.sound f.fails) (lasts_none target TargetFault new) z.made
+      has_ended target TargetFault (ended e.passes (bare f.pass ∷ []) [] e.copied) old f.filled new new b.at z.pre z.grows (rest_unrecordable target f.after f.filled new f.makes.sound f.fails) (lasts_none target TargetFault new) z.made
       (λ now at_now. record {
         running = ap (λ (a : ArrayView). a.halted) f.fails.array ∙ z.running;
         failed = fails_after target (failed_of e.passes ++ []) (failed_of (e.passes ++ bare f.pass ∷ [])) old f.filled new z.pre z.grows f.fails.disks.failed;
-        target_is = inr (z.recovers now (ap (λ (a : ArrayView). slice_get a.members target) (sym f.fails.array) ∙ at_now));
+        target_is =
+            (let was = ap (λ (a : ArrayView). slice_get a.members target) (sym f.fails.array) ∙ at_now in
+            inr (record { recovering = z.recovers now was; to = z.to now was }, inl (by_now _ e)));
         noted = refl;
         stand = stand_unrecorded target (failed_of e.passes) old.array f.after f.filled new f.fails z.stand;
       })
   ended_target new (inr (inr e)) =
       let c = e.fills.copies in
       let z = ends_copied e.passes e.copied e.filled c in
-      has_ended target TargetFault (ended c.listed (c.last ∷ []) []) old e.filled new new b.at z.pre z.grows (rest_unenrolled target e.kept e.orphans e.filled new e.why) (lasts_none target TargetFault new) z.made
+      has_ended target TargetFault (ended c.listed (c.last ∷ []) [] e.copied) old e.filled new new b.at z.pre z.grows (rest_unenrolled target e.kept e.orphans e.filled new e.why) (lasts_none target TargetFault new) z.made
       (λ now at_now. record {
         running = ap (λ (a : ArrayView). a.halted) e.why.array ∙ z.running;
         failed = fails_after target (failed_of c.listed ++ []) (failed_of (c.listed ++ c.last ∷ [])) old e.filled new z.pre z.grows (λ d g at_d at_g. (e.why.disks.change d g at_d at_g).0.failed);
-        target_is = inr (z.recovers now (ap (λ (a : ArrayView). slice_get a.members target) (sym e.why.array) ∙ at_now));
+        target_is =
+            (let was = ap (λ (a : ArrayView). slice_get a.members target) (sym e.why.array) ∙ at_now in
+            inr (record { recovering = z.recovers now was; to = z.to now was }, inr (by_all e.passes e.copied e.filled c, ap (λ xs. xs ++ []) c.done)));
         noted = refl;
         stand = stand_unenrolled target (failed_of c.listed) old.array e.kept e.orphans e.filled new e.why z.stand;
       })
 
 -- ---- all of it
 module _ (target : ℕ) where
-  ended_at_once : (fault : RebuildFault) (old new : MirrorView) → (h : RefusesAtOnce target fault old new) → ((now : MemberView) → EndsSo target fault (none_made h.member) now old new) → HasEnded target fault old new
+  ended_at_once : (fault : RebuildFault) (old new : MirrorView) → (h : RefusesAtOnce target fault old new) → ((now : MemberView) → EndsSo target fault (none_made old.array h.member) now old new) → HasEnded target fault old new
   ended_at_once fault old new h so =
-      has_ended target fault (none_made h.member) old old old new h.at (preserves_none target old) (grows_none target old) (rest_none target old)
+      has_ended target fault (none_made old.array h.member) old old old new h.at (preserves_none target old) (grows_none target old) (rest_none target old)
       (subst (λ (v : MirrorView). Lasts target fault old v) (sym h.unchanged) (lasts_none target fault old)) (made_none old.array h.member) (λ now there. so now)
 
   -- nothing was copied
-  ended_rest : (fault : RebuildFault) (old new : MirrorView) (m : MemberView) → IsMember old.array target m → KeepsRest target old new → ((now : MemberView) → IsMember new.array target now → EndsSo target fault (none_made m) now old new)
+  ended_rest : (fault : RebuildFault) (old new : MirrorView) (m : MemberView) → IsMember old.array target m → KeepsRest target old new → ((now : MemberView) → IsMember new.array target now → EndsSo target fault (none_made old.array m) now old new)
       → HasEnded target fault old new
   ended_rest fault old new m at rest =
-      has_ended target fault (none_made m) old old new new at (preserves_none target old) (grows_none target old) rest (lasts_none target fault new) (made_none old.array m)
+      has_ended target fault (none_made old.array m) old old new new at (preserves_none target old) (grows_none target old) rest (lasts_none target fault new) (made_none old.array m)
 
   -- the target stays what it was
-  as_before : (old new : MirrorView) (m now : MemberView) → IsMember old.array target m → IsMember new.array target now → StaysStill target old new → IsAsBefore (none_made m) now
+  as_before : (old new : MirrorView) (m now : MemberView) → IsMember old.array target m → IsMember new.array target now → StaysStill target old new → IsAsBefore (none_made old.array m) now
   as_before old new m now at there still = (let is = still m now at there in record { listed = refl; last = refl; state = is.0; offset = is.1 })
 
   -- a member failed before a pass
   module _ (old a new : MirrorView) (k : ℕ) (m : MemberView) (at : IsMember old.array target m) (pre : Preserves target old a) (grows : GrowsSo target [] [] old a) (st : StopsSo target k a new) (other : k ≢ target)
-      (when : (now : MemberView) → IsMember st.last.array target now → IsAsBefore (none_made m) now ⊎ IsAdmitted (none_made m) now) where
+      (when : (now : MemberView) → IsMember st.last.array target now → IsAsBefore (none_made old.array m) now ⊎ IsAdmitted (none_made old.array m) now) where
     data_stopped : (n : MemberView) → IsMember old.array k n → (h : HaltsBy k st.last new) → AtDevice k old.disks new.disks (KeepsDataBut n h.member)
     data_stopped n at_n h d g at_d at_g =
         let e = pre.disk_then k d at_d in
@@ -673,7 +928,7 @@ module _ (target : ℕ) where
 
     ended_before : HasEnded target (MetadataFault k) old new
     ended_before =
-        has_ended target (MetadataFault k) (none_made m) old a st.last new at pre grows st.rest st.lasts (made_none old.array m)
+        has_ended target (MetadataFault k) (none_made old.array m) old a st.last new at pre grows st.rest st.lasts (made_none old.array m)
         (λ now there. record {
           other = other;
           lost = elim st.lost [
@@ -712,7 +967,7 @@ module _ (target : ℕ) where
         offset = is.1;
       }))
   refused_ended old new sound (MetadataFault k) (inr (inr h)) =
-      (let e = h.why.1 in ended_source target old e.ready e.none e.begins k h.copied h.stopped new e.why h.leaves)
+      (let e = h.why.1 in ended_source target old e.ready e.none e.begins k h.copied h.stopped new e.why h.leaves h.why.0)
   refused_ended old new sound TargetFault (inl h) =
       let f = h.why in
       let runs = f.stores.ready.halted ∙ h.may.settled.has_target.running in
@@ -756,21 +1011,24 @@ module _ (target : ℕ) where
   ]
   refused_ended old new sound NoMemory (inr h) =
       let e = h.why in
-      let z = lacks_memory target old e.ready e.none e.begins h.copied h.stopped e.why in
-      ended_leaving target old e.ready e.none e.begins NoMemory z.0 h.copied h.stopped new z.1 h.leaves
+      let x = lacks_memory target old e.ready e.none e.begins h.copied h.stopped e.why in
+      let c = memory_to target old e.ready e.none e.begins NoMemory x.s h.copied h.stopped new x.ends h.leaves x.has x.left in
+      ended_leaving target old e.ready e.none e.begins NoMemory x.s h.copied h.stopped new x.ends h.leaves c.0
       (λ now there. record {
-        running = runs_then target old e.ready e.none e.begins NoMemory z.0 h.copied h.stopped new z.1 h.leaves;
-        target_is = inr (recovers_then target old e.ready e.none e.begins NoMemory z.0 h.copied h.stopped new z.1 h.leaves now there);
-        noted = z.2;
-        stand = stand_then target old e.ready e.none e.begins NoMemory z.0 h.copied h.stopped new z.1 h.leaves;
+        running = runs_then target old e.ready e.none e.begins NoMemory x.s h.copied h.stopped new x.ends h.leaves;
+        target_is = inr (so_far_then target old e.ready e.none e.begins NoMemory x.s h.copied h.stopped new x.ends h.leaves c.0 c.1 now there, c.2);
+        noted = elim x.noted [ inl none ↦ inl none | inr some ↦ inr (some_with c.0 x.s (λ next. Unit {0}) some) ];
+        stand = stand_then target old e.ready e.none e.begins NoMemory x.s h.copied h.stopped new x.ends h.leaves;
       })
   refused_ended old new sound (LogFull k) h =
       let e = h.why in
-      let z = lacks_room target old e.ready e.none e.begins k h.copied h.stopped e.why in
-      ended_leaving target old e.ready e.none e.begins (LogFull k) z.0 h.copied h.stopped new z.1 h.leaves
+      let x = lacks_room target old e.ready e.none e.begins k h.copied h.stopped e.why in
+      let to = left_to target old e.ready e.none e.begins (LogFull k) x.s h.copied h.stopped new x.ends h.leaves (λ many. x.left (sym many)) in
+      ended_leaving target old e.ready e.none e.begins (LogFull k) x.s h.copied h.stopped new x.ends h.leaves x.s.copied
       (λ now there. record {
-        running = runs_then target old e.ready e.none e.begins (LogFull k) z.0 h.copied h.stopped new z.1 h.leaves;
-        recovering = recovers_then target old e.ready e.none e.begins (LogFull k) z.0 h.copied h.stopped new z.1 h.leaves now there;
-        noted = room_then target old e.ready e.none e.begins (LogFull k) z.0 h.copied h.stopped new z.1 h.leaves k z.2;
-        stand = stand_then target old e.ready e.none e.begins (LogFull k) z.0 h.copied h.stopped new z.1 h.leaves;
+        running = runs_then target old e.ready e.none e.begins (LogFull k) x.s h.copied h.stopped new x.ends h.leaves;
+        rebuilt = so_far_then target old e.ready e.none e.begins (LogFull k) x.s h.copied h.stopped new x.ends h.leaves x.s.copied to now there;
+        copied = x.by;
+        noted = elim (room_then target old e.ready e.none e.begins (LogFull k) x.s h.copied h.stopped new x.ends h.leaves k x.noted) [ inl own ↦ inl own | inr some ↦ inr (some_with x.s.copied x.s (LacksRoomFor k new.array) some) ];
+        stand = stand_then target old e.ready e.none e.begins (LogFull k) x.s h.copied h.stopped new x.ends h.leaves;
       })

@@ -1,5 +1,5 @@
 -- What a rebuild leaves as it was before a pass, and once it has stopped.
-use Rattle.std.proofs.Common.{◌≡◌, ◌≢◌, ◌∙◌, ◌⊎◌, ◌↔◌, ℕ, ◌+◌, ◌<◌, ◌≤◌, max, true, false, List, [], length, length-set, count_by, get_or, slice_get, Some, None, refl, sym, ap, subst, arith, inl, inr}
+use Rattle.std.proofs.Common.{◌≡◌, ◌≢◌, ◌∙◌, ◌⊎◌, ◌↔◌, ℕ, ◌+◌, ◌*◌, ◌<◌, ◌≤◌, ◌||◌, leb, max, true, false, List, [], length, length-set, count_by, get_or, slice_get, Some, None, refl, sym, ap, subst, arith, inl, inr}
 use Rattle.std.proofs.lemmas.Bool.{both_ways, cases_eq}
 use Rattle.std.proofs.lemmas.Option.{same_Some, slice_get-get_or, slice_get_within}
 use Rattle.std.proofs.Math.Nat.{le-max_left}
@@ -7,7 +7,7 @@ use Rattle.md_assembly.proofs.Indices.{got_within}
 use Rattle.md_assembly.specs.States.{is_in_sync, is_in_sync_as, is_recovering, is_spare}
 use Rattle.md_badblocks.specs.declared.run.Run.{Run}
 use Rattle.md_badblocks.specs.Runs.{IsBad}
-use Rattle.md_bitmap.specs.Marks.{Bitmap}
+use Rattle.md_bitmap.specs.Marks.{Bitmap, is_set}
 use Rattle.md_bitmap.specs.declared.chunks.Chunks.{Chunks}
 use Rattle.md_cert.specs.declared.slots.Slot.{Slot}
 use Rattle.md_device.specs.Splice.{part}
@@ -17,6 +17,7 @@ use Rattle.md_kept_members.specs.View.{MemberView}
 use Rattle.md_pass.specs.Readings.{is_of}
 use Rattle.md_passes.specs.Listed.{IsOfFailed}
 use Rattle.md_model.specs.Events.{Event}
+use Rattle.md_model.specs.Rebuilding.{lacks}
 use Rattle.md_state.specs.Admitting.{admitted}
 use Rattle.md_state.specs.DiskWrites.{IsTried}
 use Rattle.md_state.specs.Members.{IsInSync, IsMember}
@@ -376,14 +377,37 @@ rest_unenrolled target kept orphans v w f =
 pub halts_list : (k : ℕ) (v w : MirrorView) → HaltsAtList k v w → w.array.halted ≡ true
 halts_list k v w at = (let s = at.halts.halts in list_halted s.mid w (λ n. None) s.failing s.of (s.halts (λ n. None)))
 
-halted_members : (mid new : MirrorView) (e : Event) → IsStoringList e → HaltsAt mid (λ n. None) e new → new.array.members ≡ mid.array.members
-halted_members mid new (Event.RecordFails j) of h = ap (λ (a : ArrayView). a.members) h.halts.array.array
-halted_members mid new (Event.StoreMarksFails j b) of h = ap (λ (a : ArrayView). a.members) h.halts.array.array
-halted_members mid new (Event.StoreLogFails j) of h = ap (λ (a : ArrayView). a.members) h.halts.array.array
-halted_members mid new (Event.Record j) of h = absurd h
-halted_members mid new (Event.StoreMarks j b) of h = absurd h
-halted_members mid new (Event.StoreLog j listed) of h = absurd h
-halted_members mid new e of h = absurd of
+halted_array : (mid new : MirrorView) (e : Event) → IsStoringList e → HaltsAt mid (λ n. None) e new → new.array ≡ record mid.array { halted = true }
+halted_array mid new (Event.RecordFails j) of h = h.halts.array.array
+halted_array mid new (Event.StoreMarksFails j b) of h = h.halts.array.array
+halted_array mid new (Event.StoreLogFails j) of h = h.halts.array.array
+halted_array mid new (Event.Record j) of h = absurd h
+halted_array mid new (Event.StoreMarks j b) of h = absurd h
+halted_array mid new (Event.StoreLog j listed) of h = absurd h
+halted_array mid new e of h = absurd of
+
+-- whether it is stored or not, what the mirror keeps of chunks and marks is as before
+list_same : (k : ℕ) (failed : List Slot) (v w : MirrorView) → StopsAtList failed k v w → (w.array.chunks ≡ v.array.chunks) × (w.array.marks ≡ v.array.marks)
+list_same k failed v w h = elim h.ends [
+  | inl lost ↦ (lost.loses.goes.array.chunks, lost.loses.goes.array.marks)
+  | inr at ↦
+      let s = at.halts.halts in
+      let is = halted_array s.mid w s.failing s.of (s.halts (λ n. None)) in
+      (ap (λ (a : ArrayView). a.chunks) is ∙ s.goes.array.chunks, ap (λ (a : ArrayView). a.marks) is ∙ s.goes.array.marks)
+]
+
+pub list_chunks : (target k : ℕ) (failed : List Slot) (v w : MirrorView) → StopsAtList failed k v w → w.array.chunks ≡ v.array.chunks
+list_chunks target k failed v w h = (list_same k failed v w h).0
+
+pub list_marks : (target k : ℕ) (failed : List Slot) (v w : MirrorView) → StopsAtList failed k v w → w.array.marks ≡ v.array.marks
+list_marks target k failed v w h = (list_same k failed v w h).1
+
+-- and so is what a member lacks
+pub list_missing : (target k : ℕ) (failed : List Slot) (v w : MirrorView) → StopsAtList failed k v w → (n : MemberView) (c : ℕ) → is_missing w.array n c ≡ is_missing v.array n c
+list_missing target k failed v w h n c =
+    let same = list_same k failed v w h in
+    ap (λ (q : Chunks). lacks (is_in_sync n.state) (is_recovering n.state) (is_set w.array.marks.bytes c) (leb q.size n.superblock.recovery_offset || leb ((c + 1) * q.sectors) n.superblock.recovery_offset)) same.0
+    ∙ ap (λ (b : Bitmap). lacks (is_in_sync n.state) (is_recovering n.state) (is_set b.bytes c) (leb v.array.chunks.size n.superblock.recovery_offset || leb ((c + 1) * v.array.chunks.sectors) n.superblock.recovery_offset)) same.1
 
 pub rest_list : (target k : ℕ) (failed : List Slot) (v w : MirrorView) → ((m : MemberView) → IsMember v.array target m → is_recovering m.state ≡ true) → StopsAtList failed k v w → KeepsRest target v w
 rest_list target k failed v w recovers h = record {
@@ -407,5 +431,5 @@ rest_list target k failed v w recovers h = record {
     many : length w.array.members ≡ length v.array.members
     many = elim h.ends [
       | inl lost ↦ lost.loses.goes.array.as_many
-      | inr at ↦ (let s = at.halts.halts in ap length (halted_members s.mid w s.failing s.of (s.halts (λ n. None))) ∙ s.goes.array.as_many)
+      | inr at ↦ (let s = at.halts.halts in ap (λ (a : ArrayView). length a.members) (halted_array s.mid w s.failing s.of (s.halts (λ n. None))) ∙ s.goes.array.as_many)
     ]

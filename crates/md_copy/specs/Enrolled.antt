@@ -10,12 +10,18 @@ use Rattle.md_array.specs.Enrolling.{Enrols, FailsToEnrol, MayEnrol}
 use Rattle.md_copy.specs.declared.fault.RebuildFault.{RebuildFault}
 use Rattle.md_copy.specs.declared.fault.RebuildFault.TheVariants.{LogFull, NoMemory, TargetFault}
 use Rattle.md_copy.specs.declared.rebuilt.Rebuilt.{Rebuilt}
-use Rattle.md_copy.specs.Preparing.{IsSetOf, is_in, uncopied_chunks}
+use Rattle.md_copy.specs.Preparing.{IsSetOf, IsWithin, is_in, uncopied_chunks}
 
 -- its list needs more room than its log has, and nothing was written for it
 pub record HasNoRoom (target : ℕ) (copied orphans : Bitmap) (old new : MirrorView) : Type 0 where
   pub unchanged : new ≡ old
   pub full : HasFullLog target copied orphans old.array
+
+-- So it is, and of what was copied these chunks are left to be recorded.
+pub record LacksOwnRoom (target : ℕ) (copied orphans after : Bitmap) (old new : MirrorView) : Type 0 where
+  pub unchanged : new ≡ old
+  pub full : HasFullLog target copied orphans old.array
+  pub left : IsWithin after copied
 
 -- why it does not
 abbrev pub RefusesFilled : ℕ → Bitmap → Bitmap → MirrorView → MirrorView → RebuildFault → Type 0
@@ -53,8 +59,9 @@ pub record EndsWithSets (target : ℕ) (copied : Bitmap) (old : MirrorView) (Why
   pub has : HasSets target copied kept orphans chunks old
   pub why : Why kept orphans
 
-abbrev pub FailsCopied : ℕ → Bitmap → MirrorView → MirrorView → RebuildFault → Type 0
-FailsCopied target copied old new (LogFull k) = (k ≡ target) × EndsWithSets target copied old (λ kept orphans. HasNoRoom target kept orphans old new)
-FailsCopied target copied old new NoMemory = new ≡ old
-FailsCopied target copied old new TargetFault = EndsWithSets target copied old (λ kept orphans. FailsToEnrol target kept orphans old new)
-FailsCopied target copied old new fault = ⊥
+-- of the chunks that were copied these are left
+abbrev pub FailsCopied : ℕ → Bitmap → Bitmap → MirrorView → MirrorView → RebuildFault → Type 0
+FailsCopied target copied after old new (LogFull k) = (k ≡ target) × EndsWithSets target copied old (λ kept orphans. LacksOwnRoom target kept orphans after old new)
+FailsCopied target copied after old new NoMemory = (new ≡ old) × IsWithin after copied
+FailsCopied target copied after old new TargetFault = EndsWithSets target copied old (λ kept orphans. FailsToEnrol target kept orphans old new)
+FailsCopied target copied after old new fault = ⊥

@@ -1,5 +1,5 @@
 -- Sets of chunks, and what is told of a rebuild.
-use Rattle.std.specs.Prelude.{◌≡◌, ℕ, ◌==◌, Bool, not, List, length, map, filter}
+use Rattle.std.specs.Prelude.{◌≡◌, ℕ, ◌==◌, ◌<◌, Bool, true, not, List, length, map, filter}
 use Rattle.std.specs.List.{list_any}
 use Rattle.md_bitmap.specs.Marks.{Bitmap, is_set}
 use Rattle.md_kept_members.specs.View.{MemberView}
@@ -13,6 +13,10 @@ use Rattle.md_copy.specs.Sources.{missing_chunks}
 -- a list has the chunk
 abbrev pub is_in : List ℕ → ℕ → Bool
 is_in chunks c = list_any (λ chunk. chunk == c) chunks
+
+-- each chunk of the one set is in the other
+abbrev pub IsWithin : Bitmap → Bitmap → Type 0
+IsWithin set other = (c : ℕ) → c < set.chunks → is_set set.bytes c ≡ true → is_set other.bytes c ≡ true
 
 -- as many chunks as the array has, of which exactly these are in the set
 pub record IsSetOf (a : ArrayView) (has : ℕ → Bool) (set : Bitmap) : Type 0 where

@@ -12,10 +12,10 @@ use Rattle.md_copy.specs.declared.fault.RebuildFault.{RebuildFault}
 use Rattle.md_copy.specs.declared.fault.RebuildFault.TheVariants.{Halted, NotSpare, Dirty, InFlight, LogFull, NoMemory, TargetFault, MetadataFault, EventsFull}
 use Rattle.md_copy.specs.declared.rebuilt.Rebuilt.{Rebuilt}
 use Rattle.md_copy.specs.Beginning.{CannotRebuild, MayRebuild}
-use Rattle.md_copy.specs.Enrolled.{HasNoRoom, HasSets}
+use Rattle.md_copy.specs.Enrolled.{HasSets, LacksOwnRoom}
 use Rattle.md_copy.specs.Leaving.{HasNone, LeavesAfter}
 use Rattle.md_copy.specs.Passing.{BreaksOff, CopiesAll, EndsBetween, FailsListing, FailsRecording}
-use Rattle.md_copy.specs.Preparing.{IsSetOf, Tells, uncopied_chunks}
+use Rattle.md_copy.specs.Preparing.{IsSetOf, IsWithin, Tells, uncopied_chunks}
 use Rattle.md_copy.specs.Readying.{FailsAdmission, LacksAdmission, Readies, StopsAdmitted}
 use Rattle.md_copy.specs.Storing.{FailsOnTarget, Settles, StopsAt}
 
@@ -57,7 +57,7 @@ pub record RebuildsReadied (target : ℕ) (m : MemberView) (none : Bitmap) (read
   pub tells : Tells passes chunks told
   pub by : EnrolsBy target m passes none copied kept orphans chunks ready new
 
--- The target has all that could be copied, and it does not come into sync. Which chunks are recorded again then is free, as the last pass is recorded.
+-- The target has all that could be copied, and it does not come into sync.
 pub record EndsFilled (target : ℕ) (m : MemberView) (none : Bitmap) (ready : MirrorView) (Why : Bitmap → Bitmap → MirrorView → Type 0) : Type 0 where
   pub passes : List PassView
   pub copied : Bitmap
@@ -68,11 +68,12 @@ pub record EndsFilled (target : ℕ) (m : MemberView) (none : Bitmap) (ready : M
   pub fills : FillsBy target m passes none copied kept orphans chunks ready filled
   pub why : Why kept orphans filled
 
--- All was copied, and no more was done. Which chunks are recorded again then is free, as the last pass is recorded.
-pub record EndsCopied (target : ℕ) (m : MemberView) (none : Bitmap) (ready stopped : MirrorView) : Type 0 where
+-- All was copied, and no more was done. Of what was copied these chunks are left to be recorded again, as the last pass is recorded.
+pub record EndsCopied (target : ℕ) (m : MemberView) (none after : Bitmap) (ready stopped : MirrorView) : Type 0 where
   pub passes : List PassView
   pub copied : Bitmap
   pub copies : CopiesAll target m passes none copied ready stopped
+  pub left : IsWithin after copied
 
 -- Memory was refused, with these chunks copied: before a pass, within one, while failed chunks are listed, or as the target was to come into sync.
 abbrev pub LacksMemory : ℕ → MemberView → Bitmap → Bitmap → MirrorView → MirrorView → Type 0
@@ -80,13 +81,13 @@ LacksMemory target m none after ready stopped =
     EndsBetween target m none ready (λ left copied now. (after ≡ copied) × (stopped ≡ now))
     ⊎ (EndsBetween target m none ready (λ left copied now. BreaksOff target NoMemory left copied after now stopped)
     ⊎ (EndsBetween target m none ready (λ left copied now. FailsListing target NoMemory left copied after now stopped)
-    ⊎ EndsCopied target m none ready stopped))
+    ⊎ EndsCopied target m none after ready stopped))
 
 -- A log has no room, with these chunks copied: that of a member that could not be read, or the target's.
 abbrev pub LacksRoom : ℕ → ℕ → MemberView → Bitmap → Bitmap → MirrorView → MirrorView → Type 0
 LacksRoom k target m none after ready stopped =
     EndsBetween target m none ready (λ left copied now. FailsListing target (LogFull k) left copied after now stopped)
-    ⊎ ((k ≡ target) × EndsFilled target m none ready (λ kept orphans filled. HasNoRoom target kept orphans filled stopped))
+    ⊎ ((k ≡ target) × EndsFilled target m none ready (λ kept orphans filled. LacksOwnRoom target kept orphans after filled stopped))
 
 -- A list could not be stored on member k, which was a source.
 abbrev pub LosesSource : ℕ → ℕ → MemberView → Bitmap → MirrorView → MirrorView → Type 0

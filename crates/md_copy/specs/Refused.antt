@@ -1,15 +1,18 @@
 -- What stands after a rebuild that is refused, fault by fault, in plain terms, whatever the steps were (this project's own).
-use Rattle.std.specs.Prelude.{◌≡◌, ◌≢◌, ◌⊎◌, ◌↔◌, ℕ, ◌+◌, ◌*◌, ◌<◌, ◌≤◌, Bool, true, false, List, [], ◌∷◌, ◌++◌, length, slice_get, All, Some}
+use Rattle.std.specs.Prelude.{◌≡◌, ◌≢◌, ◌⊎◌, ◌↔◌, ℕ, ◌+◌, ◌*◌, ◌<◌, ◌≤◌, Bool, true, false, List, [], ◌∷◌, ◌++◌, cond, length, max, slice_get, All, Some}
+use Rattle.std.specs.List.{Any}
 use Rattle.md_assembly.specs.declared.state.MemberState.TheVariants.{Faulty}
 use Rattle.md_assembly.specs.States.{is_in_sync, is_in_sync_as, is_recovering, is_spare}
 use Rattle.md_badblocks.specs.declared.run.Run.{Run}
 use Rattle.md_badblocks.specs.Runs.{IsBad}
+use Rattle.md_bitmap.specs.Marks.{Bitmap, is_set}
 use Rattle.md_cert.specs.declared.slots.Slot.{Slot}
 use Rattle.md_collect.specs.Reading.{Fails}
 use Rattle.md_device.specs.Splice.{part}
 use Rattle.md_kept_members.specs.View.{MemberView}
 use Rattle.md_members.specs.Reading.{BitmapStartsAt}
 use Rattle.md_super.specs.declared.superblock.Superblock.{Superblock}
+use Rattle.md_state.specs.Checkpoints.{Stops}
 use Rattle.md_state.specs.DiskWrites.{AtDevice}
 use Rattle.md_state.specs.Members.{IsInSync, IsMember}
 use Rattle.md_state.specs.NotingBad.{HasFullLogFor}
@@ -18,8 +21,8 @@ use Rattle.md_array.specs.Enrolling.{KeepsData}
 use Rattle.md_array.specs.Lending.{IsBesideMissing}
 use Rattle.md_array.specs.ReadAsKept.{IsSuperOn}
 use Rattle.md_array.specs.Worlds.{is_listed}
-use Rattle.md_passes.specs.Listed.{IsArrayPass, IsOfFailed, ListsFailed, MayServe, ServesAs, most_failures}
-use Rattle.md_passes.specs.Passes.{PassView, failed_chunks}
+use Rattle.md_passes.specs.Listed.{AreCopiedBy, IsArrayPass, IsOfFailed, ListsFailed, MayServe, ServesAs, most_failures}
+use Rattle.md_passes.specs.Passes.{IsCopiedIn, PassView, failed_chunks, slots_of}
 use Rattle.md_copy.specs.declared.fault.RebuildFault.{RebuildFault}
 use Rattle.md_copy.specs.declared.fault.RebuildFault.TheVariants.{Halted, NotSpare, Dirty, InFlight, LogFull, NoMemory, TargetFault, MetadataFault, EventsFull}
 use Rattle.md_copy.specs.Filling.{CountsFailed}
@@ -36,12 +39,13 @@ AreListed (p ∷ ps) a chunks b left =
     IsArrayPass a chunks p × (p.failed ≢ []) × ((c : ArrayView) × ListsFailed p.failed a c × AreListed ps c (failed_chunks p) b left)
 
 -- The passes of a call that was refused: those of which all that failed was listed and stored, and then at most one that was planned. Of its slots that
--- failed these are listed in memory alone.
+-- failed these are listed in memory alone. These chunks were copied when it was recorded for the last time how far the target is rebuilt.
 pub record Ending : Type 0 where
   pub member : MemberView  -- the target, as it was
   pub listed : List PassView
   pub last : List PassView
   pub noted : List Slot
+  pub copied : Bitmap
 
 -- The first is planned by where a chunk may be read before the call, the others by where it may be once what failed before is listed, and each is
 -- least. There are no more of them than chunks to read, counted for each member in sync, and one.
@@ -77,6 +81,27 @@ pub record IsAdmitted (s : Ending) (now : MemberView) : Type 0 where
   pub spare : is_spare s.member.state ≡ true
   pub recovering : is_recovering now.state ≡ true
   pub offset : now.superblock.recovery_offset ≡ 0
+
+-- how far a member was rebuilt: one that is not recovering, not at all
+abbrev pub offset_of : MemberView → ℕ
+offset_of m = cond (is_recovering m.state) m.superblock.recovery_offset 0
+
+-- How far it is rebuilt, of which these chunks were copied: as far as it was, or up to the first chunk that it lacked and that was not copied, or of
+-- which it lists a sector, or to the end, whichever is the furthest.
+pub record IsRebuiltTo (a : ArrayView) (m : MemberView) (copied : Bitmap) (offset : ℕ) : Type 0 where
+  pub from : offset_of m ≤ offset
+  pub below : (c : ℕ) → c < a.marks.chunks → Stops a m copied c → offset ≤ max (offset_of m) (c * a.chunks.sectors)
+  pub upto : (a.chunks.size ≤ offset) ⊎ ((c : ℕ) × (c < a.marks.chunks) × Stops a m copied c × (c * a.chunks.sectors ≤ offset))
+
+-- Passes might be made. It is recovering, and rebuilt so far.
+pub record IsRebuiltSoFar (a : ArrayView) (s : Ending) (now : MemberView) : Type 0 where
+  pub recovering : is_recovering now.state ≡ true
+  pub to : IsRebuiltTo a s.member s.copied now.superblock.recovery_offset
+
+-- what the passes copied that were listed, and some of what the last one was to copy, which may have been broken off
+pub record HasCopied (s : Ending) : Type 0 where
+  pub listed : (c : ℕ) → IsCopiedIn s.listed c → is_set s.copied.bytes c ≡ true
+  pub only : (c : ℕ) → is_set s.copied.bytes c ≡ true → IsCopiedIn s.listed c ⊎ Any (λ p. Any (λ slot. slot.chunk ≡ c) (slots_of p)) s.last
 
 -- ---- the lists
 -- An opening reads a superblock there. The log that this names lists these sectors, and none that is not in the list.
@@ -151,38 +176,49 @@ pub record IsUntouched (halted : Bool) (old new : MirrorView) : Type 0 where
   pub unchanged : new ≡ old
   pub halted_is : old.array.halted ≡ halted
 
--- The mirror runs, and the target's device has failed. Before a pass the target is what it was, and from there on it is recovering. All that is listed
--- in memory beyond what was before stands on the devices.
+-- The mirror runs, and the target's device has failed. Before a pass the target is what it was. From there on it is recovering, rebuilt as far as the
+-- passes had copied that were recorded: all, if they were all made, and else those that were listed. All that is listed in memory beyond what was before
+-- stands on the devices.
 pub record EndsWithTarget (target : ℕ) (s : Ending) (now : MemberView) (old new : MirrorView) : Type 0 where
   pub running : new.array.halted ≡ false
   pub failed : AtDevice target old.disks new.disks (Fails of_disks)
-  pub target_is : IsAsBefore s now ⊎ (is_recovering now.state ≡ true)
+  pub target_is : IsAsBefore s now ⊎ (IsRebuiltSoFar old.array s now × (AreCopiedBy s.listed s.copied ⊎ (AreCopiedBy (s.listed ++ s.last) s.copied × (failed_of s.last ≡ []))))
   pub noted : s.noted ≡ []
   pub stand : ListsStand target (failed_of s.listed) old.array new
 
--- The mirror runs. So it is of the target. Memory was refused while slots that failed were listed; or all that is listed stands on the devices.
+-- The mirror runs. So it is of the target, which may be rebuilt further, by what the last pass had copied. Memory was refused while slots that failed
+-- were listed; or all that is listed stands on the devices.
 pub record EndsWithoutMemory (target : ℕ) (s : Ending) (now : MemberView) (old new : MirrorView) : Type 0 where
   pub running : new.array.halted ≡ false
-  pub target_is : IsAsBefore s now ⊎ (is_recovering now.state ≡ true)
+  pub target_is : IsAsBefore s now ⊎ (IsRebuiltSoFar old.array s now × HasCopied s)
   pub noted : (s.noted ≡ []) ⊎ NotesSome s (λ next. Unit {0})
   pub stand : ListsStand target (failed_of s.listed) old.array new
 
--- The mirror runs, and the target is recovering. A slot failed of member k, whose log has no room for the chunk; or k is the target, all passes are
+-- The mirror runs, and the target is recovering, rebuilt as far as the passes have copied, the last among them. A slot failed of member k, whose log has no room for the chunk; or k is the target, all passes are
 -- made, and all that is listed stands on the devices.
 pub record EndsWithoutRoom (target k : ℕ) (s : Ending) (now : MemberView) (old new : MirrorView) : Type 0 where
   pub running : new.array.halted ≡ false
-  pub recovering : is_recovering now.state ≡ true
+  pub rebuilt : IsRebuiltSoFar old.array s now
+  pub copied : AreCopiedBy (s.listed ++ s.last) s.copied
   pub noted : ((k ≡ target) × (s.noted ≡ []) × (failed_of s.last ≡ []))
       ⊎ NotesSome s (LacksRoomFor k new.array)
   pub stand : ListsStand target (failed_of s.listed) old.array new
 
+-- Its list was to be stored, as slots of it failed.
+pub record LosesSource (k : ℕ) (s : Ending) (now : MemberView) (old : MirrorView) : Type 0 where
+  pub rebuilt : IsRebuiltSoFar old.array s now
+  pub copied : AreCopiedBy (s.listed ++ s.last) s.copied
+  pub noted : NotesAll s
+  pub source : (m : MemberView) → IsMember old.array k m → HasFailed s.noted m
+
 -- Member k, another one, is faulty, or has halted the mirror. It was to store marks or a superblock before a pass: then the target is what it was, or
--- was admitted. Or it was to store its list after one: then the target is recovering, and all that failed in this pass is listed in memory.
+-- was admitted. Or it was to store its list after one: then the target is recovering, rebuilt as far as the passes have copied, the last among them, and
+-- all that failed in this one is listed in memory.
 pub record EndsWithMember (target k : ℕ) (s : Ending) (now : MemberView) (old new : MirrorView) : Type 0 where
   pub other : k ≢ target
   pub lost : IsLost k new.array ⊎ HasHalted k old new
   pub when : ((IsAsBefore s now ⊎ IsAdmitted s now) × (s.noted ≡ []))
-      ⊎ ((is_recovering now.state ≡ true) × NotesAll s × ((m : MemberView) → IsMember old.array k m → HasFailed s.noted m))
+      ⊎ LosesSource k s now old
   pub stand : new.array.halted ≡ false → ListsStand target (failed_of s.listed) old.array new
 
 abbrev pub EndsSo : ℕ → RebuildFault → Ending → MemberView → MirrorView → MirrorView → Type 0

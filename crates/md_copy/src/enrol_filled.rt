@@ -33,7 +33,7 @@ pub(crate) fn enrol_copied<D: Device + Drop>(
     requires held { AreHeld mirror.old target copied.old }
     requires few { length plans.items < 2 ^ 32 }
     ensures gives { MatchResult result (EnrolsCopied target plans.items copied.old mirror.old mirror.new)
-        (FailsCopied target copied.old mirror.old mirror.new) }
+        (FailsCopied target copied.old copied.new mirror.old mirror.new) }
     ensures leaves { IfErr result (MayLeave target copied.new mirror.new) }
     ensures sound { IsConsistent mirror.new }
 {
