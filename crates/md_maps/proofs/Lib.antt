@@ -1,0 +1,4 @@
+pub mod Words
+pub mod Numerals
+pub mod Faults
+pub mod Lines

@@ -1,0 +1,45 @@
+// A whole map.
+ghost use Rattle.std.specs.Prelude.{◌≡◌, ◌≤◌, ◌^◌, position, IfOk, IfErr};
+ghost use Rattle.md_maps.specs.Lines.{is_line_feed};
+ghost use Rattle.md_maps.specs.Map.{IsReadAs, IsRefused};
+
+use crate::fault::{LineFault, MapFault};
+use crate::line::read_line;
+use crate::reading::Reading;
+use md_badblocks::BadSet;
+use std::alloc::Global;
+
+/// Reads ddrescue's map of an image of `size` bytes: the sectors of which the image lacks a byte. The map is that of the whole
+/// image and of no more.
+pub fn read_map(alloc: Global, text: &[u8], size: u64) -> Result<BadSet, MapFault>
+    requires { size ≤ 2 ^ 63 }
+    ensures ok { IfOk result (λ missing. IsReadAs size text.now missing) }
+    ensures err { IfErr result (λ fault. IsRefused size text.now fault) }
+{
+    let mut reading = Reading {
+        end: None,
+        missing: Ok(BadSet::new(alloc)),
+    };
+    let mut rest = text;
+    let mut number = 1;
+    while let Some(len) = line_len(rest) {
+        match read_line(&rest[..len], reading.end, size) {
+            Ok(line) => reading = reading.after(line),
+            Err(fault) => return Err(MapFault::Line { number, fault }),
+        }
+        rest = &rest[len + 1..];
+        number += 1;
+    }
+    if !rest.is_empty() {
+        let fault = LineFault::Cut;
+        return Err(MapFault::Line { number, fault });
+    }
+    reading.finish(size)
+}
+
+/// How many bytes come before the first line feed, if there is one.
+fn line_len(text: &[u8]) -> Option<usize>
+    ensures { result ≡ position is_line_feed text.now }
+{
+    text.iter().position(|b| *b == b'\n')
+}

@@ -1,0 +1,2 @@
+-- A device of which some sectors are not given.
+pub mod Masked

@@ -1,0 +1,34 @@
+// A number that contracts alone see.
+ghost use Rattle.std.specs.Prelude.{◌≡◌, ◌+◌, ℕ};
+
+use std::marker::Model;
+
+/// A count for contracts. It takes no memory, and counting does nothing when the program runs, so that
+/// it has no greatest number.
+#[derive(Drop)]
+pub(crate) struct Count {
+    ghost number: { ℕ },
+}
+
+impl Model for Count {
+    ghost use Rattle.std.specs.Borrow.{ftrue};
+
+    ghost also_owns = { λ _. ftrue };
+}
+
+// It owns nothing.
+unsafe impl Send for Count {}
+
+impl Count {
+    pub(crate) fn zero() -> Count
+        ensures { result.number ≡ 0 }
+    {
+        Count {}
+    }
+
+    pub(crate) fn next(&self) -> Count
+        ensures { result.number ≡ self.now.number + 1 }
+    {
+        Count {}
+    }
+}
