@@ -7,7 +7,7 @@ use Rattle.md_kept_members.specs.View.{MemberView}
 use Rattle.md_passes.specs.Passes.{PassView, failed_chunks, slots_of}
 use Rattle.md_faults.specs.declared.re_add_fault.ReAddFault.{ReAddFault}
 use Rattle.md_faults.specs.declared.re_add_fault.ReAddFault.TheVariants as re_add
-use Rattle.md_metadata.specs.Going.{GoesOn, HaltsAfter, only_others}
+use Rattle.md_metadata.specs.Going.{GoesOn, only_others}
 use Rattle.md_metadata.specs.Storing.{IsStoring}
 use Rattle.md_resync.specs.declared.fault.ResyncFault.{ResyncFault}
 use Rattle.md_state.specs.View.{Disk, MirrorView}
@@ -22,7 +22,7 @@ use Rattle.md_copy.specs.Passing.{AreListedPasses, BreaksOff, CopiesAll, EndsBet
 use Rattle.md_copy.specs.Readying.{AdmitsAfter, AdmitsFirst, StopsAdmitted}
 use Rattle.md_copy.specs.Rebuilding.{Begins, EndsFilled, EndsReadied, FillsBy, LacksMemory, LacksRoom, LosesSource, LosesTarget, Rebuilds, RefusesRebuild}
 use Rattle.md_copy.specs.Sources.{missing_chunks}
-use Rattle.md_copy.specs.Storing.{Settles, StopsAt}
+use Rattle.md_copy.specs.Storing.{HaltsSettling, Settles, StopsAt}
 use Rattle.md_examine.specs.declared.sink.Sink.{Ghosts}
 use Rattle.md_commands.specs.declared.fault.DataFault.{DataFault}
 use Rattle.md_commands.specs.declared.fault.DataFault.TheVariants.{BadMember, OutputFault, Rebuild, Resync, Stop}
@@ -39,7 +39,7 @@ storing_keeps = record { removes = λ k of. of; adds = λ d left of. of; re_adds
 gone_on : (old new : MirrorView) → GoesOn only_others only_others IsStoring old new → AsMany old new
 gone_on old new goes = led IsStoring storing_keeps goes.events None old new nothing nothing goes.steps (goes.leads None nothing (none_in_flight old.array))
 
-halted_after : (old new : MirrorView) → HaltsAfter only_others only_others IsStoring old new → AsMany old new
+halted_after : (old new : MirrorView) → HaltsSettling old new → AsMany old new
 halted_after old new h = halts h.failing h.mid new nothing (h.halts nothing) ∙ gone_on old h.mid h.goes
 
 settled : (old new : MirrorView) → Settles old new → AsMany old new

@@ -1,5 +1,5 @@
 -- A rebuild is a list of events of the array's model, one part after another.
-use Rattle.std.proofs.Common.{◌≡◌, ◌∙◌, ◌⊎◌, ℕ, ◌==◌, true, Option, List, [], ◌∷◌, ◌++◌, get_or, refl, sym, ap, subst, arith, inl, inr}
+use Rattle.std.proofs.Common.{◌≡◌, ◌∙◌, ◌⊎◌, ℕ, ◌==◌, true, false, Option, List, [], ◌∷◌, ◌++◌, get_or, refl, sym, ap, subst, arith, inl, inr}
 use Rattle.std.proofs.lemmas.Bool.{eqb-true}
 use Rattle.std.proofs.lemmas.List.Elements.{All-contains, Contains-get_or}
 use Rattle.std.proofs.lemmas.List.Folds.{Any-from_list_any}
@@ -37,6 +37,7 @@ use Rattle.md_array.proofs.Rebuilding.FilledEvent.{fill_happens}
 use Rattle.md_array.proofs.Rebuilding.InBetween.{recovers_rebuilt}
 use Rattle.md_array.proofs.Steps.Turns.{all_on, all_such, turn_on, turn_then}
 use Rattle.md_metadata.specs.Going.{GoesOn, LeadsBy, only_others}
+use Rattle.md_metadata.proofs.Going.{recording_stores}
 use Rattle.md_metadata.specs.Storing.{IsStoring}
 use Rattle.md_copy.specs.declared.rebuilt.Rebuilt.{Rebuilt}
 use Rattle.md_copy.specs.Filling.{IsFilling}
@@ -476,6 +477,6 @@ module _ (target : ℕ) (told : Rebuilt) (old new : MirrorView) (h : Rebuilds ta
     };
   }
     where
-      ends_in : (x : MirrorView) → (x ≡ new) ⊎ HaltsFrom x new → (x ≡ new) ⊎ HaltsIn Of x new
-      ends_in x (inl same) = inl same
-      ends_in x (inr halts) = inr (record { failing = halts.failing; of = storing_of target halts.failing halts.of; halts = halts.halts })
+      ends_in : (x : MirrorView) → ((x ≡ new) × (new.array.halted ≡ false)) ⊎ HaltsFrom x new → (x ≡ new) ⊎ HaltsIn Of x new
+      ends_in x (inl same) = inl same.0
+      ends_in x (inr halts) = inr (record { failing = halts.failing; of = storing_of target halts.failing (recording_stores halts.failing halts.of); halts = halts.halts })

@@ -1,5 +1,5 @@
 -- What a rebuild makes of the target from before the call to after it.
-use Rattle.std.proofs.Common.{◌≡◌, ◌∙◌, ◌⊎◌, ◌↔◌, ℕ, suc, zero, ◌+◌, ◌==◌, ◌<◌, ◌≤◌, Bool, true, false, not, bit_and, List, [], ◌∷◌, Contains, length, filter, refl, sym, ap, subst, arith, inl, inr}
+use Rattle.std.proofs.Common.{◌≡◌, ◌≢◌, ◌∙◌, ◌⊎◌, ◌↔◌, ℕ, None, slice_get, suc, zero, ◌+◌, ◌==◌, ◌<◌, ◌≤◌, Bool, true, false, not, bit_and, List, [], ◌∷◌, Contains, length, filter, refl, sym, ap, subst, arith, inl, inr}
 use Rattle.std.specs.Int.{div_ceil}
 use Rattle.std.specs.List.{range_with_len}
 use Rattle.std.proofs.lemmas.List.FromFn.{get_or-range_with_len, length-range_with_len}
@@ -11,19 +11,21 @@ use Rattle.md_bitmap.specs.Chunks.{InChunk}
 use Rattle.md_bitmap.specs.Marks.{is_set}
 use Rattle.md_kept_members.specs.Enrolling.{IsOfChunk}
 use Rattle.md_kept_members.specs.View.{MemberView}
+use Rattle.md_model.specs.Events.{Event}
 use Rattle.md_metadata.specs.Going.{GoesOn, only_others}
-use Rattle.md_metadata.specs.Storing.{IsStoring}
-use Rattle.md_metadata.proofs.Going.{goes_nowhere}
+use Rattle.md_metadata.specs.Storing.{IsFailureOf, IsRecording, IsStoring}
 use Rattle.md_passes.proofs.ArrayPasses.{copies_add}
 use Rattle.md_passes.specs.Listed.{ArrayPasses, IsOfFailed, MayServe, ServesAs, most_failures}
 use Rattle.md_state.specs.Members.{IsMember, IsServedPlainly, IsUnlisted}
 use Rattle.md_state.specs.Missing.{is_missing}
-use Rattle.md_state.specs.View.{MirrorView}
+use Rattle.md_state.specs.View.{ArrayView, MirrorView}
+use Rattle.md_array.specs.Consistency.{IsConsistent}
+use Rattle.md_array.specs.InTurn.{HaltsAt}
 use Rattle.md_copy.specs.declared.rebuilt.Rebuilt.{Rebuilt}
 use Rattle.md_copy.specs.Filling.{CountsFailed}
 use Rattle.md_copy.specs.Preparing.{is_in}
 use Rattle.md_copy.specs.Rebuilding.{Rebuilds, RebuildsReadied}
-use Rattle.md_copy.specs.Rebuilt.{HaltsFrom, HasRebuilt, IsRebuilt, IsRebuiltInSync, ListsGrow, failed_of}
+use Rattle.md_copy.specs.Rebuilt.{HaltsFrom, HaltsTo, HasRebuilt, IsRebuilt, IsRebuiltInSync, ListsGrow, RunsOrHalts, failed_of}
 use Rattle.md_copy.specs.Sources.{missing_chunks}
 use Rattle.md_copy.specs.Storing.{Settles}
 use Rattle.md_copy.proofs.BegunAs.{permits_both, same_missing, serves_both, serves_most}
@@ -34,15 +36,42 @@ use Rattle.md_copy.proofs.RebuiltMember.{all_so, copied_so, counted_so, in_sync_
 use Rattle.md_copy.proofs.StartedAs.{IsAs, StartsAs, rebuilt_from}
 use Rattle.md_copy.proofs.StartsReadied.{starts_of}
 use Rattle.md_copy.proofs.StatesKept.{so_readied, state_so}
+use Rattle.md_copy.proofs.StoringKeeps.{KeepsAll, keeps_none, settles_keep}
 
 -- ---- the end of the call, or what came right before a write that halted the mirror
 pub record IsLast (enrolled last new : MirrorView) : Type 0 where
   pub goes : GoesOn only_others only_others IsStoring enrolled last
-  pub ends : (last ≡ new) ⊎ HaltsFrom last new
+  pub ends : ((last ≡ new) × (new.array.halted ≡ false)) ⊎ HaltsFrom last new
 
 pub last_of : (enrolled new : MirrorView) → Settles enrolled new → (last : MirrorView) × IsLast enrolled last new
-last_of enrolled new (inl all) = (new, record { goes = all.goes; ends = inl refl })
+last_of enrolled new (inl all) = (new, record { goes = all.goes; ends = inl (refl, all.running) })
 last_of enrolled new (inr halts) = (halts.mid, record { goes = halts.goes; ends = inr (record { failing = halts.failing; of = halts.of; halts = halts.halts }) })
+
+abbrev runs_or_halts : {last new : MirrorView} → ((last ≡ new) × (new.array.halted ≡ false)) ⊎ HaltsFrom last new → RunsOrHalts new
+runs_or_halts (inl runs) = inl runs.1
+runs_or_halts {last} (inr halts) = inr (last, halts)
+
+-- a device to which that write was not, is as it was right before it
+pub record IsStill (k : ℕ) (last new : MirrorView) : Type 0 where
+  pub member : (n : MemberView) → IsMember new.array k n → IsMember last.array k n
+  pub device : slice_get new.disks k ≡ slice_get last.disks k
+
+halts_still : (k : ℕ) (last new : MirrorView) (e : Event) → IsRecording e → HaltsAt last (λ n. None) e new → (IsFailureOf k e → ⊥) → IsStill k last new
+halts_still k last new (Event.RecordFails j) of h apart = record {
+  member = λ n at. sym (ap (λ (a : ArrayView). slice_get a.members k) h.halts.array.array) ∙ at;
+  device = h.halts.disks.tried.others k (λ same. apart (sym same));
+}
+halts_still k last new (Event.StoreMarksFails j b) of h apart = record {
+  member = λ n at. sym (ap (λ (a : ArrayView). slice_get a.members k) h.halts.array.array) ∙ at;
+  device = h.halts.disks.tried.others k (λ same. apart (sym same));
+}
+halts_still k last new (Event.Record j) of h apart = absurd h
+halts_still k last new (Event.StoreMarks j b) of h apart = absurd h
+halts_still k last new e of h apart = absurd of
+
+still_so : (k : ℕ) (last new : MirrorView) (ends : ((last ≡ new) × (new.array.halted ≡ false)) ⊎ HaltsFrom last new) → (HaltsTo (runs_or_halts ends) k → ⊥) → IsStill k last new
+still_so k last new (inl same) apart = subst (λ (v : MirrorView). IsStill k last v) same.0 (record { member = λ n at. at; device = refl })
+still_so k last new (inr halts) apart = halts_still k last new halts.failing halts.of (halts.halts (λ n. None)) apart
 
 module _ (target : ℕ) (told : Rebuilt) (old new : MirrorView) (h : Rebuilds target told old new) where
   abbrev v : MirrorView
@@ -63,8 +92,12 @@ module _ (target : ℕ) (told : Rebuilt) (old new : MirrorView) (h : Rebuilds ta
   pub last : (y : MirrorView) × IsLast r.by.enrolled y new
   last = last_of r.by.enrolled new r.by.settles
 
-  pub rebuilt : IsRebuilt target r.copied r.orphans old last.0
-  rebuilt = rebuilt_from target old v starts r.copied r.orphans last.0 (rebuilt_so target m h.none v new told r h.begins.there so h.begins.is_none.bits last.0 last.1.goes)
+  -- what stays to the end of the call
+  settled : KeepsAll r.by.enrolled new × IsConsistent new
+  settled = settles_keep r.by.enrolled new r.by.settles
+
+  pub rebuilt : IsRebuilt target r.copied r.orphans old new
+  rebuilt = rebuilt_from target old v starts r.copied r.orphans new (rebuilt_so target m h.none v new told r h.begins.there so h.begins.is_none.bits new settled.0 settled.1)
 
   at_m : IsMember v.array target m
   at_m = h.begins.there
@@ -92,36 +125,36 @@ module _ (target : ℕ) (told : Rebuilt) (old new : MirrorView) (h : Rebuilds ta
     },
   )
 
-  lists : ListsGrow target (failed_of r.passes) old.array last.0.array
+  lists : ListsGrow target (failed_of r.passes) old.array new.array
   lists k n w other at_n at_w sector =
       let z = starts.then k n at_n in
-      let grown = lists_so target m h.none v new told r at_m so h.begins.is_none.bits last.0 last.1.goes k z.0 w other z.1 at_w sector in
+      let grown = lists_so target m h.none v new told r at_m so h.begins.is_none.bits new settled.0 settled.1 k z.0 w other z.1 at_w sector in
       let failed = of_failed k n z.0 z.2 sector in (
         λ bad. elim (grown.0 bad) [ inl was ↦ inl (subst (λ runs. IsBad runs sector) z.2.bad was) | inr of ↦ inr (failed.0 of) ],
         λ either. grown.1 (elim either [ inl was ↦ inl (subst (λ runs. IsBad runs sector) (sym z.2.bad) was) | inr of ↦ inr (failed.1 of) ]),
       )
 
-  counted : CountsFailed (failed_of r.passes) old last.0
+  counted : CountsFailed (failed_of r.passes) old new
   counted k role n at_n in_role d e at_d at_e honest =
       let z = starts.then k n at_n in
       let w = starts.disk_then k d at_d in
       let first = starts.counted k d w.0 at_d w.1 in
-      let more = counted_so target m h.none v new told r at_m so h.begins.is_none.bits last.0 last.1.goes k role z.0 z.1 (z.2.roles role ∙ in_role) w.0 e w.1 at_e (starts.honest k d w.0 at_d w.1 ∙ honest) in
+      let more = counted_so target m h.none v new told r at_m so h.begins.is_none.bits new settled.0 settled.1 k role z.0 z.1 (z.2.roles role ∙ in_role) w.0 e w.1 at_e (starts.honest k d w.0 at_d w.1 ∙ honest) in
       omega (arith, first, more)
 
   few : length r.passes ≤ most_failures old.array + 1
   few =
-      (all_so target m h.none v new told r at_m so h.begins.is_none.bits last.0 last.1.goes).few (most_failures old.array) (serves_most target old v starts)
+      (all_so target m h.none v new told r at_m so h.begins.is_none.bits new settled.0 settled.1).few (most_failures old.array) (serves_most target old v starts)
 
   -- once it is in sync
   pub rebuilt_member : IsRebuiltInSync target r.copied r.orphans v r.by.enrolled
   rebuilt_member =
-      let goes = goes_nowhere only_others IsStoring r.by.enrolled r.by.sound in
-      let is = rebuilt_so target m h.none v new told r at_m so h.begins.is_none.bits r.by.enrolled goes in
+      let none = keeps_none r.by.enrolled in
+      let is = rebuilt_so target m h.none v new told r at_m so h.begins.is_none.bits r.by.enrolled none r.by.sound in
       record {
         rebuilt = is;
-        in_sync = ap (λ (n : MemberView). is_in_sync n.state) (same_Some is.now r.by.enrols.member (sym is.there ∙ now_there target m h.none v new told r at_m so h.begins.is_none.bits r.by.enrolled goes))
-            ∙ in_sync_now target m h.none v new told r at_m so h.begins.is_none.bits r.by.enrolled goes;
+        in_sync = ap (λ (n : MemberView). is_in_sync n.state) (same_Some is.now r.by.enrols.member (sym is.there ∙ now_there target m h.none v new told r at_m so h.begins.is_none.bits r.by.enrolled none r.by.sound))
+            ∙ in_sync_now target m h.none v new told r at_m so h.begins.is_none.bits r.by.enrolled none r.by.sound;
       }
 
   pub has_rebuilt : HasRebuilt target told old new
@@ -130,10 +163,9 @@ module _ (target : ℕ) (told : Rebuilt) (old new : MirrorView) (h : Rebuilds ta
     tells = record { passes_are = r.tells.passes_are; plans = r.tells.plans; orphans_are = refl };
     copied = r.copied;
     orphans = r.orphans;
-    copied_told = copied_so target m h.none v new told r at_m so h.begins.is_none.bits last.0 last.1.goes;
+    copied_told = copied_so target m h.none v new told r at_m so h.begins.is_none.bits new settled.0 settled.1;
     orphans_told = λ c. r.by.fills.has.sets.orphans_are.bits c ∙ ap (λ xs. is_in xs c) (sym r.tells.orphans_are);
-    last = last.0;
-    ends = last.1.ends;
+    ends = runs_or_halts last.1.ends;
     rebuilt = rebuilt;
     orphans_are = r.tells.orphans_are ∙ r.by.fills.chunks_are ∙ ap (filter (λ c. not (is_set r.copied.bytes c))) missing_is;
     passes_are = record {
@@ -141,7 +173,7 @@ module _ (target : ℕ) (told : Rebuilt) (old new : MirrorView) (h : Rebuilds ta
       served = serves_both target old v starts;
       permitted = permits_both target old v starts;
       end = r.by.fills.copies.now.array;
-      are = subst (λ xs. ArrayPasses r.passes v.array xs r.by.fills.copies.now.array) missing_is (passes_so target m h.none v new told r at_m so h.begins.is_none.bits last.0 last.1.goes);
+      are = subst (λ xs. ArrayPasses r.passes v.array xs r.by.fills.copies.now.array) missing_is (passes_so target m h.none v new told r at_m so h.begins.is_none.bits new settled.0 settled.1);
       few = few;
       lists = lists;
       counted = counted;
@@ -150,7 +182,7 @@ module _ (target : ℕ) (told : Rebuilt) (old new : MirrorView) (h : Rebuilds ta
         (let o = starts.then k n at_n in
         let w = so_readied target h.begins.member old v h.begins.first k other o.0 o.1 in
         let was : o.0.state ≡ n.state = w.2 ∙ ap (λ (x : MemberView). x.state) (same_Some w.0 n (sym w.1 ∙ at_n)) in
-        elim (state_so target m h.none v new told r last.0 last.1.goes k other o.0 z o.1 at_z) [
+        elim (state_so target m h.none v new told r new settled.0 k other o.0 z o.1 at_z) [
           | inl same ↦ inl (same ∙ was)
           | inr failed ↦
               inr (
@@ -163,9 +195,12 @@ module _ (target : ℕ) (told : Rebuilt) (old new : MirrorView) (h : Rebuilds ta
                     (omega (arith, first, once), λ role in_role. (let more = less.1 role (o.2.roles role ∙ in_role) in omega (arith, first, more)))),
               )
         ]);
-    stored = λ k n z e other at_n has at_z in_sync at_e honest.
+    stored = λ k n z e other apart at_n has at_z in_sync at_e honest.
         (let o = starts.then k n at_n in
+        let still = still_so k last.0 new last.1.ends apart in
         stored_so target m h.none v new told r last.0 last.1.goes k o.0 z e other o.1
-        (has.0, has.1, has.2, has.3, o.2.roles has.1.source ∙ has.4) at_z in_sync at_e honest);
-    own_stored = λ e at_e in_sync honest. own_stored_so target m h.none v new told r last.0 last.1.goes rebuilt.now e rebuilt.there at_e in_sync honest;
+        (has.0, has.1, has.2, has.3, o.2.roles has.1.source ∙ has.4) (still.member z at_z) in_sync (sym still.device ∙ at_e) honest);
+    own_stored = λ apart e at_e in_sync honest.
+        (let still = still_so target last.0 new last.1.ends apart in
+        own_stored_so target m h.none v new told r last.0 last.1.goes rebuilt.now e (still.member rebuilt.now rebuilt.there) (sym still.device ∙ at_e) in_sync honest);
   }

@@ -31,6 +31,7 @@ use Rattle.md_state.specs.DiskWrites.{AtDevice}
 use Rattle.md_state.specs.Members.{IsInSync, IsMember}
 use Rattle.md_state.specs.Missing.{is_missing}
 use Rattle.md_state.specs.View.{ArrayView, Disk, MirrorView, of_disks}
+use Rattle.md_array.specs.Consistency.{IsConsistent}
 use Rattle.md_array.specs.Enrolling.{HasContent, KeepsData}
 use Rattle.md_array.specs.Worlds.{AreHonest, is_listed}
 use Rattle.md_array.proofs.General.Indices.{at_set_same, got_in_map, got_other}
@@ -51,7 +52,7 @@ use Rattle.md_copy.proofs.PassesTold.{HoldsSoFar, all_copied, array_passes, fill
 use Rattle.md_copy.proofs.PlanChunks.{all_lacking, count}
 use Rattle.md_copy.proofs.Sectors.{same_sector}
 use Rattle.md_copy.proofs.Served.{in_sync_as}
-use Rattle.md_copy.proofs.StoringKeeps.{KeepsAll, device_before, device_then, member_then, places_of, storing_keeps}
+use Rattle.md_copy.proofs.StoringKeeps.{KeepsAll, device_before, device_then, member_then, places_of}
 
 -- a member in sync has a role, in which it is
 pub role_of_sync : (s : MemberState) → is_in_sync s ≡ true → (role : ℕ) × (is_in_sync_as role s ≡ true) × (takes_role role s ≡ true)
@@ -81,7 +82,7 @@ list_alike chunks m n copied kept_set orphans list offset bad same is = record {
 }
 
 module _ (target : ℕ) (m : MemberView) (none : Bitmap) (v new : MirrorView) (told : Rebuilt) (h : RebuildsReadied target m none v new told) (at : IsMember v.array target m) (so : HoldsSoFar target v none (missing_chunks v.array m))
-    (clear : (c : ℕ) → is_set none.bytes c ≡ false) (y : MirrorView) (goes : GoesOn only_others only_others IsStoring h.by.enrolled y) where
+    (clear : (c : ℕ) → is_set none.bytes c ≡ false) (y : MirrorView) (stored : KeepsAll h.by.enrolled y) (sound_y : IsConsistent y) where
   abbrev a : ArrayView
   a = v.array
 
@@ -188,9 +189,6 @@ module _ (target : ℕ) (m : MemberView) (none : Bitmap) (v new : MirrorView) (t
 
   serves_now : (c r : ℕ) → ServesAs f.array c r → ServesAs h.by.fills.copies.now.array c r
   serves_now c r serves = fewer [] h.by.fills.copies.now.array f.array c r lists_last serves
-
-  stored : KeepsAll x y
-  stored = storing_keeps x y goes
 
   is_other : (k : ℕ) (n : MemberView) → IsInSync a k n → k ≢ target
   is_other k n on here =
@@ -342,7 +340,7 @@ module _ (target : ℕ) (m : MemberView) (none : Bitmap) (v new : MirrorView) (t
       let o = device_before x y stored target e at_e in
       let offset = area_x.0 in
       let size = area_x.1 in
-      stored.area (places_of y goes.sound) target o.0 e nx o.1 at_e now_there i n (omega (arith, offset, from)) (omega (arith, offset, size, to))
+      stored.area (places_of y sound_y) target o.0 e nx o.1 at_e now_there i n (omega (arith, offset, from)) (omega (arith, offset, size, to))
       ∙ (h.by.enrols.disks.change d o.0 at_d o.1).1 i n (omega (arith, offset, from)) (omega (arith, offset, size, to))
 
   other_after : (k : ℕ) (d e : Disk) (n : MemberView) → k ≢ target → slice_get v.disks k ≡ Some d → slice_get y.disks k ≡ Some e → IsMember a k n → KeepsData n d e
@@ -353,7 +351,7 @@ module _ (target : ℕ) (m : MemberView) (none : Bitmap) (v new : MirrorView) (t
       let nf = keeps.lists.after k n at_n in
       let offset = nf.2.offset in
       let size = keeps.sizes k n nf.0 at_n nf.1 in
-      stored.area (places_of y goes.sound) k o.0 e (made_due nf.0) o.1 at_e (other_x k nf.0 other nf.1) i l (omega (arith, offset, from)) (omega (arith, offset, size, to))
+      stored.area (places_of y sound_y) k o.0 e (made_due nf.0) o.1 at_e (other_x k nf.0 other nf.1) i l (omega (arith, offset, from)) (omega (arith, offset, size, to))
       ∙ ap (λ (w : Disk). part w.content i l) same
       ∙ keeps.others k d z.0 n other at_d z.1 at_n i l from to
 

@@ -21,7 +21,7 @@ use Rattle.md_copy.specs.Rebuilding.{RebuildsReadied}
 use Rattle.md_copy.specs.Rebuilt.{FailsWrite, failed_of}
 use Rattle.md_copy.specs.Storing.{StoresFirst}
 use Rattle.md_copy.proofs.PassesKeep.{all_keep, disk_then}
-use Rattle.md_copy.proofs.StoringKeeps.{device_then, storing_keeps}
+use Rattle.md_copy.proofs.StoringKeeps.{KeepsAll, device_then}
 
 -- ---- until passes may be made
 -- it was in this state before
@@ -48,7 +48,7 @@ so_readied target m old ready (inr h) k other n at =
 
 -- ---- from then on
 module _ (target : ℕ) (m : MemberView) (none : Bitmap) (v new : MirrorView) (told : Rebuilt) (h : RebuildsReadied target m none v new told) (y : MirrorView)
-    (goes : GoesOn only_others only_others IsStoring h.by.enrolled y) (k : ℕ) (other : k ≢ target) (n z : MemberView) (at_n : IsMember v.array k n) (at_z : IsMember y.array k z) where
+    (stored : KeepsAll h.by.enrolled y) (k : ℕ) (other : k ≢ target) (n z : MemberView) (at_n : IsMember v.array k n) (at_z : IsMember y.array k z) where
   abbrev f : MirrorView
   f = h.by.filled
 
@@ -61,7 +61,6 @@ module _ (target : ℕ) (m : MemberView) (none : Bitmap) (v new : MirrorView) (t
       let nf = keeps.lists.after k n at_n in
       let at_u : IsMember u.array k (made_due nf.0) =
       ap (λ (b : ArrayView). slice_get b.members k) h.by.enrols.array ∙ got_other (map made_due f.array.members) target k h.by.enrols.member other ∙ got_in_map made_due f.array.members k nf.0 nf.1 in
-      let stored = storing_keeps u y goes in
       let low = slice_get_within u.array.members k (made_due nf.0) at_u in
       let many = h.by.sound.fits.as_many in
       let d = got_within u.disks k (omega (arith, low, many)) in

@@ -22,13 +22,14 @@ use Rattle.md_state.specs.StoringMarks.{IsMarkWrite}
 use Rattle.md_state.specs.View.{ArrayView, Disk, MirrorView}
 use Rattle.md_array.specs.Consistency.{IsConsistent}
 use Rattle.md_array.specs.Enrolling.{KeepsData}
-use Rattle.md_array.specs.InTurn.{AllOf, Did, IsInOrder, IsSectorDue, Leads, Requests}
+use Rattle.md_array.specs.InTurn.{AllOf, Did, HaltsAt, IsInOrder, IsSectorDue, Leads, Requests}
 use Rattle.md_array.specs.Recording.{super_write}
 use Rattle.md_array.proofs.General.Indices.{at_map}
 use Rattle.md_array.proofs.General.Replaced.{of_set}
 use Rattle.md_array.proofs.Worlds.Outside.{LiesIn, apart_either_way, apart_from_part, stays}
 use Rattle.md_metadata.specs.Going.{GoesOn, only_others}
-use Rattle.md_metadata.specs.Storing.{IsStoring}
+use Rattle.md_metadata.specs.Storing.{IsRecording, IsStoring}
+use Rattle.md_copy.specs.Storing.{Settles}
 
 -- ---- where the parts of a member are
 -- a member's parts lie on its device, and it has a bitmap
@@ -222,6 +223,20 @@ keeps_write k w m old new tried at beside members chunks marks each state = reco
   state = state;
 }
 
+-- in memory all is as it was, but that the mirror is halted
+halted_write : (k : ℕ) (w : Write) (m : MemberView) (old new : MirrorView) → IsTried k w old.disks new.disks → IsMember old.array k m
+    → ((d e : Disk) → HasPlace m d → m.stored.chunks ≡ old.array.marks.chunks → SameOutside (512 * w.sector) (length w.bytes) d.content e.content → KeepsData m d e)
+    → new.array ≡ record old.array { halted = true } → KeepsAll old new
+halted_write k w m old new tried at beside same =
+    keeps_write k w m old new tried at beside (ap (λ (b : ArrayView). length b.members) same) (ap (λ (b : ArrayView). b.chunks) same) (ap (λ (b : ArrayView). b.marks) same)
+    (λ j x y at_x at_y.
+    let is = still j x y at_x at_y in
+    record { superblock = ap (λ (z : MemberView). z.superblock) is; bad = ap (λ (z : MemberView). z.bad) is; stored_chunks = ap (λ (z : MemberView). z.stored.chunks) is })
+    (λ j x y d e at_x at_y at_d at_e. inl (ap (λ (z : MemberView). z.state) (still j x y at_x at_y)))
+  where
+    still : (j : ℕ) (x y : MemberView) → IsMember old.array j x → IsMember new.array j y → y ≡ x
+    still j x y at_x at_y = same_Some y x (sym at_y ∙ ap (λ (b : ArrayView). slice_get b.members j) same ∙ at_x)
+
 pub beside_super_of : (m : MemberView) (d e : Disk) → HasPlace m d → SameOutside (512 * 8) 4096 d.content e.content → KeepsData m d e
 beside_super_of m d e place same i l from to =
     stays super_area 8 refl d.content e.content same (data_area m.superblock) m.superblock.data_offset refl (apart_either_way super_area (data_area m.superblock) place.placed.data_apart) i l from to
@@ -384,3 +399,20 @@ keeps_events (e ∷ es) previous old new before after all leads =
 
 pub storing_keeps : (old new : MirrorView) → GoesOn only_others only_others IsStoring old new → KeepsAll old new
 storing_keeps old new goes = keeps_events goes.events None old new (λ n. None) (λ n. None) goes.steps (goes.leads None (λ n. None) (λ n p e. absurd (none-some p e)))
+
+-- ---- a write that failed and halted the mirror
+-- of a superblock, or of the first sector of a bitmap
+halts_keep : (mid new : MirrorView) (e : Event) → IsRecording e → HaltsAt mid (λ n. None) e new → KeepsAll mid new
+halts_keep mid new (Event.RecordFails k) of h =
+    halted_write k (super_write mid.array h.member) h.member mid new h.halts.disks.tried h.may.at
+    (λ d e place count outside. beside_super mid.array h.member d e place h.may.readable.size outside) h.halts.array.array
+halts_keep mid new (Event.StoreMarksFails k b) of h =
+    halted_write k h.write h.member mid new h.halts.disks.tried h.may.in_sync.member
+    (λ d e place count outside. beside_marks mid.array h.member b h.write d e place h.may.write (omega (arith, of)) outside) h.halts.array.array
+halts_keep mid new (Event.Record k) of h = absurd h
+halts_keep mid new (Event.StoreMarks k b) of h = absurd h
+halts_keep mid new e of h = absurd of
+
+pub settles_keep : (old new : MirrorView) → Settles old new → KeepsAll old new × IsConsistent new
+settles_keep old new (inl all) = (storing_keeps old new all.goes, all.goes.sound)
+settles_keep old new (inr h) = (keeps_then old h.mid new (storing_keeps old h.mid h.goes) (halts_keep h.mid new h.failing h.of (h.halts (λ n. None))), h.sound)

@@ -1,5 +1,6 @@
 -- What a rebuild makes of its target, in plain terms, whatever the steps were (this project's own).
 use Rattle.std.specs.Prelude.{◌≡◌, ◌≢◌, ◌⊎◌, ◌↔◌, ℕ, ◌+◌, ◌*◌, ◌<◌, ◌≤◌, true, false, List, [], ◌∷◌, ◌++◌, length, count_by, slice_get, Some}
+use Rattle.std.proofs.Common.{inl, inr}
 use Rattle.md_assembly.specs.declared.state.MemberState.TheVariants.{Faulty}
 use Rattle.md_assembly.specs.States.{is_in_sync, is_in_sync_as, is_recovering, is_spare}
 use Rattle.md_badblocks.specs.declared.run.Run.{Run}
@@ -23,7 +24,7 @@ use Rattle.md_array.specs.Lending.{IsBesideChunk, IsBesideMissing}
 use Rattle.md_array.specs.ReadAsKept.{IsSuperOn}
 use Rattle.md_array.specs.Worlds.{AreHonest, is_listed}
 use Rattle.md_array.specs.InTurn.{HaltsAt, Requests}
-use Rattle.md_metadata.specs.Storing.{IsStoring}
+use Rattle.md_metadata.specs.Storing.{IsFailureOf, IsRecording}
 use Rattle.md_model.specs.Events.{Event}
 use Rattle.md_pass.specs.Readings.{is_of}
 use Rattle.md_passes.specs.Listed.{ArrayPasses, IsOfFailed, MayServe, ServesAs, most_failures}
@@ -125,25 +126,35 @@ KeepStates target failed old last =
     → (n.state ≡ m.state) ⊎ ((n.state ≡ Faulty) × AtDevice k old.disks last.disks (FailsWrite failed m))
 
 -- ---- what stands on the devices
--- The list of each other member of which a slot failed stands there, as it is in sync still: a write to it that failed would have made it faulty.
-abbrev pub ListsStored : ℕ → List Slot → ArrayView → MirrorView → Type 0
-ListsStored target failed old last =
-    (k : ℕ) (m n : MemberView) (e : Disk) → k ≢ target → IsMember old k m → HasFailed failed m
-    → IsMember last.array k n → is_in_sync n.state ≡ true → slice_get last.disks k ≡ Some e → e.honest ≡ true → HasListOn n.bad e.content
+-- The list of each other member of which a slot failed stands there, as it is in sync still: a write to it that failed would have made it faulty, or is
+-- one of these, that halt a mirror.
+abbrev pub ListsStored : ℕ → (ℕ → Type 0) → List Slot → ArrayView → MirrorView → Type 0
+ListsStored target Halts failed old new =
+    (k : ℕ) (m n : MemberView) (e : Disk) → k ≢ target → (Halts k → ⊥) → IsMember old k m → HasFailed failed m
+    → IsMember new.array k n → is_in_sync n.state ≡ true → slice_get new.disks k ≡ Some e → e.honest ≡ true → HasListOn n.bad e.content
 
 -- and of this member
 abbrev pub OwnListStored : MemberView → Disk → Type 0
 OwnListStored m d = is_in_sync m.state ≡ true → d.honest ≡ true → HasListOn m.bad d.content
 
 -- ---- the whole call
--- The write of a mark or of a superblock failed on a member that can't be made faulty, and the mirror is halted.
+-- The write of a superblock, or of the first sector of a bitmap, failed on a member that can't be made faulty, and the mirror is halted.
 pub record HaltsFrom (last new : MirrorView) : Type 0 where
   pub failing : Event
-  pub of : IsStoring failing
+  pub of : IsRecording failing
   pub halts : (others : Requests) → HaltsAt last others failing new
 
--- It is rebuilt at the end of the call, or where a write that failed halted the mirror after it came into sync, right before that write.
--- This is told of its passes, and of the orphans. The lists that grew stand on the devices then, and its own.
+-- the mirror runs; or it was halted, right after another one
+abbrev pub RunsOrHalts : MirrorView → Type 0
+RunsOrHalts new = (new.array.halted ≡ false) ⊎ ((last : MirrorView) × HaltsFrom last new)
+
+-- the write that has halted it was to this member
+abbrev pub HaltsTo : {new : MirrorView} → RunsOrHalts new → ℕ → Type 0
+HaltsTo (inl runs) k = ⊥
+HaltsTo (inr halts) k = IsFailureOf k halts.1.failing
+
+-- It is rebuilt at the end of the call, also where a write that failed has halted the mirror after it came into sync. This is told of its passes, and
+-- of the orphans. The lists that grew stand on the devices, and its own, but for that to which this write was.
 pub record HasRebuilt (target : ℕ) (told : Rebuilt) (old new : MirrorView) : Type 0 where
   pub passes : List PassView
   pub tells : Tells passes told.orphans.items told
@@ -151,11 +162,10 @@ pub record HasRebuilt (target : ℕ) (told : Rebuilt) (old new : MirrorView) : T
   pub orphans : Bitmap
   pub copied_told : (c : ℕ) → (is_set copied.bytes c ≡ true) ↔ IsCopiedIn passes c
   pub orphans_told : (c : ℕ) → is_set orphans.bytes c ≡ is_in told.orphans.items c
-  pub last : MirrorView
-  pub ends : (last ≡ new) ⊎ HaltsFrom last new
-  pub rebuilt : IsRebuilt target copied orphans old last
+  pub ends : RunsOrHalts new
+  pub rebuilt : IsRebuilt target copied orphans old new
   pub orphans_are : told.orphans.items ≡ uncopied_chunks old.array rebuilt.member copied
-  pub passes_are : AreItsPasses target passes (missing_chunks old.array rebuilt.member) old last
-  pub states : KeepStates target (failed_of passes) old last
-  pub stored : ListsStored target (failed_of passes) old.array last
-  pub own_stored : (e : Disk) → slice_get last.disks target ≡ Some e → OwnListStored rebuilt.now e
+  pub passes_are : AreItsPasses target passes (missing_chunks old.array rebuilt.member) old new
+  pub states : KeepStates target (failed_of passes) old new
+  pub stored : ListsStored target (HaltsTo ends) (failed_of passes) old.array new
+  pub own_stored : (HaltsTo ends target → ⊥) → (e : Disk) → slice_get new.disks target ≡ Some e → OwnListStored rebuilt.now e

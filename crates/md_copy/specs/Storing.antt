@@ -7,7 +7,7 @@ use Rattle.md_state.specs.View.{MirrorView}
 use Rattle.md_array.specs.Consistency.{IsConsistent}
 use Rattle.md_array.specs.InTurn.{HaltsAt, Requests}
 use Rattle.md_array.specs.RecordingTarget.{LeavesUnrecorded}
-use Rattle.md_metadata.specs.Going.{GoesOn, HaltsAfter, only_others}
+use Rattle.md_metadata.specs.Going.{GoesOn, only_others}
 use Rattle.md_metadata.specs.Storing.{AllRecorded, HasAllMarks, IsFailureOf, IsMarking, IsRecording, IsStoring, LosesStoring, Stores}
 use Rattle.md_copy.specs.declared.fault.RebuildFault.{RebuildFault}
 use Rattle.md_copy.specs.declared.fault.RebuildFault.TheVariants.{MetadataFault, TargetFault}
@@ -62,6 +62,15 @@ pub record SettlesAll (old new : MirrorView) : Type 0 where
   pub recorded : AllRecorded new.array
   pub running : new.array.halted ≡ false
 
--- or a write failed that halted the mirror
+-- Or after some of it the write of a superblock, or of the first sector of a bitmap, failed on a member that can't be made faulty, and the mirror is
+-- halted.
+pub record HaltsSettling (old new : MirrorView) : Type 0 where
+  pub mid : MirrorView
+  pub goes : GoesOn only_others only_others IsStoring old mid
+  pub failing : Event
+  pub of : IsRecording failing
+  pub halts : (others : Requests) → HaltsAt mid others failing new
+  pub sound : IsConsistent new
+
 abbrev pub Settles : MirrorView → MirrorView → Type 0
-Settles old new = SettlesAll old new ⊎ HaltsAfter only_others only_others IsStoring old new
+Settles old new = SettlesAll old new ⊎ HaltsSettling old new

@@ -10,3 +10,4 @@ pub mod SpoiledRebuilds
 pub mod RebuildRun
 pub mod HeldBefore
 pub mod RefusedRebuilds
+pub mod LastOffsets

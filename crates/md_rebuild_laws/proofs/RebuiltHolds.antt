@@ -149,13 +149,13 @@ module _ (before : List Disk) (m : MirrorView) (a : Content) (start : IsStart be
   has_it : HasContent last.mirror.disks last.mirror.array b
   has_it = held_at_begin last (life_held_at before m a start holds es rest final last b life) target h.begins
 
-  pub copies_there : (r : HasRebuilt target told last.mirror new) × ((e : Disk) → slice_get r.last.disks target ≡ Some e → (c s : ℕ) → c < last.mirror.array.marks.chunks → is_set r.copied.bytes c ≡ true
+  pub copies_there : (r : HasRebuilt target told last.mirror new) × ((e : Disk) → slice_get new.disks target ≡ Some e → (c s : ℕ) → c < last.mirror.array.marks.chunks → is_set r.copied.bytes c ≡ true
       → InChunk last.mirror.array.chunks.sectors last.mirror.array.chunks.size c s → part e.content (512 * (r.rebuilt.member.superblock.data_offset + s)) 512 ≡ b s)
-  copies_there = (r, copies target r.copied r.orphans last.mirror r.last sound_there honest_there r.rebuilt b has_it)
+  copies_there = (r, copies target r.copied r.orphans last.mirror new sound_there honest_there r.rebuilt b has_it)
 
-  pub holds_there : (r : HasRebuilt target told last.mirror new) × (HeldWhatItHad target b last.mirror → (e : Disk) → slice_get r.last.disks target ≡ Some e
+  pub holds_there : (r : HasRebuilt target told last.mirror new) × (HeldWhatItHad target b last.mirror → (e : Disk) → slice_get new.disks target ≡ Some e
       → (s : ℕ) → s < last.mirror.array.chunks.size → (IsBad r.rebuilt.now.bad (r.rebuilt.member.superblock.data_offset + s) → ⊥) → part e.content (512 * (r.rebuilt.member.superblock.data_offset + s)) 512 ≡ b s)
-  holds_there = (r, holds_all target r.copied r.orphans last.mirror r.last sound_there honest_there r.rebuilt b has_it)
+  holds_there = (r, holds_all target r.copied r.orphans last.mirror new sound_there honest_there r.rebuilt b has_it)
 
 pub copies_content : CopiesContent
 copies_content before m a start holds es rest final last b life target told new h = copies_there before m a start holds es rest final last b life target told new h

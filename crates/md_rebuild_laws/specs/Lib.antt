@@ -6,5 +6,7 @@ pub mod StoppedRebuilds
 pub mod RebuildRuns
 -- A rebuild that ends with a fault.
 pub mod RefusedRebuilds
+-- Within a pass of a rebuild a stop finds the offset that was stored last.
+pub mod LastOffsets
 -- An `enrol` by itself of which a write of the bitmap or of the log failed.
 pub mod UnfinishedEnrols

@@ -35,7 +35,7 @@ OfRebuildsInLives Of =
 -- In each sector of the chunks that were copied the new member holds it.
 abbrev pub CopiesContent : Type 0
 CopiesContent = OfRebuildsInLives (λ target content told old new r.
-    ((e : Disk) → slice_get r.last.disks target ≡ Some e → (c s : ℕ) → c < old.array.marks.chunks → is_set r.copied.bytes c ≡ true
+    ((e : Disk) → slice_get new.disks target ≡ Some e → (c s : ℕ) → c < old.array.marks.chunks → is_set r.copied.bytes c ≡ true
     → InChunk old.array.chunks.sectors old.array.chunks.size c s → part e.content (512 * (r.rebuilt.member.superblock.data_offset + s)) 512 ≡ content s))
 
 -- In chunks that it did not lack the member held it, on each sector that it did not list.
@@ -82,7 +82,7 @@ HeldInLives =
 -- A member that did holds it on each sector of the array that it does not list afterwards.
 abbrev pub RebuildsContent : Type 0
 RebuildsContent = OfRebuildsInLives (λ target content told old new r.
-    (HeldWhatItHad target content old → (e : Disk) → slice_get r.last.disks target ≡ Some e
+    (HeldWhatItHad target content old → (e : Disk) → slice_get new.disks target ≡ Some e
     → (s : ℕ) → s < old.array.chunks.size → (IsBad r.rebuilt.now.bad (r.rebuilt.member.superblock.data_offset + s) → ⊥)
     → part e.content (512 * (r.rebuilt.member.superblock.data_offset + s)) 512 ≡ content s))
 
@@ -94,6 +94,6 @@ RebuildsResumed =
     → (es : List Event) (rest : List (List Event)) (final : MirrorView) (last : Moment) (b : Content) (life : MirrorLifeWith m a es rest final last b)
     → MirrorLifeJoins m a es rest final last b life
     → (target : ℕ) (told : Rebuilt) (new : MirrorView) → Rebuilds target told last.mirror new
-    → (r : HasRebuilt target told last.mirror new) × ((e : Disk) → slice_get r.last.disks target ≡ Some e
+    → (r : HasRebuilt target told last.mirror new) × ((e : Disk) → slice_get new.disks target ≡ Some e
     → (s : ℕ) → s < last.mirror.array.chunks.size → (IsBad r.rebuilt.now.bad (r.rebuilt.member.superblock.data_offset + s) → ⊥)
     → part e.content (512 * (r.rebuilt.member.superblock.data_offset + s)) 512 ≡ b s)

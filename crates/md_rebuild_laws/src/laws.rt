@@ -3,6 +3,7 @@
 ghost use Rattle.md_rebuild_laws.specs.RebuildRuns.{RebuildIsARun, RebuildRunsOn};
 ghost use Rattle.md_rebuild_laws.specs.RebuiltInLife.{CopiesContent, HeldInLives, NewHadNothing, RebuildsContent, RebuildsResumed, RecoveringHeldIt, TakenBackHeldIt};
 ghost use Rattle.md_rebuild_laws.specs.RefusedRebuilds.{LostIsARun, RefusedIsARun, StopsLeaving, StopsLeavingAnyhow, StopsLeavingLost, StopsLeavingLostAnyhow, StopsUnleft, StopsUnleftLost};
+ghost use Rattle.md_rebuild_laws.specs.LastOffsets.{OffsetStands, OpeningsFind, StopsCopyingFind, StopsListingFind, StopsStoringFind, StopsUnlistedFind};
 ghost use Rattle.md_rebuild_laws.specs.UnfinishedEnrols.{StopsUnfinishedEnrol, UnfinishedEnrolsPrepare};
 ghost use Rattle.md_rebuild_laws.specs.StoppedRebuilds.{StopsAdmitting, StopsAdmittingAnyhow, StopsAnyhow, StopsAtCheckpoint, StopsAtCheckpointAnyhow, StopsAtFailedCheckpoint, StopsEnrolled, StopsEnrolling, StopsEnrollingAnyhow, StopsFilling, StopsInRebuild, StopsListing, StopsPassUnrecorded, StopsRecording, StopsRecordingAnyhow, StopsSettling, StopsStoring, StopsTelling, StopsUnadmitted, StopsUnadmittedAnyhow, StopsUnenrolled, StopsUnenrolledAnyhow, StopsUnrecorded};
 
@@ -82,6 +83,19 @@ pub fn refused_rebuilds()
     // Whatever stands in place of the target's superblock.
     ensures leaving_anyhow { StopsLeavingAnyhow }
     ensures leaving_lost_anyhow { StopsLeavingLostAnyhow }
+{}
+
+/// Within a pass a stop finds the offset that was stored last: from the admission or the pass before on, until that of
+/// this pass is stored, a superblock is read on the target's device that says just the offset that memory has. Of a
+/// target that was recovering before the call, and is not due, it is asked that it did so before. And an opening keeps
+/// the offset that is read, or 0 where the superblock is from before marks were last cleared.
+pub fn last_offsets()
+    ensures stands { OffsetStands }
+    ensures copying { StopsCopyingFind }
+    ensures storing { StopsStoringFind }
+    ensures listing { StopsListingFind }
+    ensures unlisted { StopsUnlistedFind }
+    ensures opened { OpeningsFind }
 {}
 
 /// An `enrol` by itself of which a write of the bitmap or of the log failed is the event `Prepare`, whatever that write

@@ -1,8 +1,7 @@
 use Rattle.std.proofs.Common.{◌∙◌, inl, inr, subst}
-use Rattle.md_metadata.specs.declared.fault.PartFault.TheVariants.{Halted}
 use Rattle.md_metadata.specs.Going.{only_others}
 use Rattle.md_metadata.specs.Storing.{IsRecording, IsStoring, StoringFails}
-use Rattle.md_metadata.proofs.Going.{goes_as, goes_nowhere, goes_on, halts_on, recording_stores, stops_as}
+use Rattle.md_metadata.proofs.Going.{goes_as, goes_nowhere, goes_on, recording_stores}
 use Rattle.md_copy.proofs.settling.settle.Goals as goal
 
 pub loop-init : goal.loop-init
@@ -26,7 +25,15 @@ returns-in-Err-Halted-clause-settles g c =
     let mid = c.loop.mirror in
     let new = c.store_due.new.mirror in
     let r = subst (StoringFails IsRecording mid new) c.in-Err-Halted.field-0-is c.in-Err-Halted.ensures in
-    inr (halts_on only_others only_others only_others IsStoring old mid new c.loop.invariant.goes (stops_as IsRecording IsStoring recording_stores mid new Halted r).halts)
+    let h = r.halts in
+    inr (record {
+      mid = h.mid;
+      goes = goes_on only_others only_others only_others IsStoring old mid h.mid c.loop.invariant.goes (goes_as IsRecording IsStoring recording_stores only_others only_others mid h.mid h.goes);
+      failing = h.failing;
+      of = h.of;
+      halts = h.halts;
+      sound = h.sound;
+    })
 
 pub loop-preserved : goal.loop-preserved
 loop-preserved g c =

@@ -1,0 +1,97 @@
+-- Within a pass of a rebuild a stop finds the offset that was stored last: it stands on the target's device as it is kept in memory.
+use Rattle.std.specs.Prelude.{◌≡◌, ◌⊎◌, ℕ, ◌<◌, true, false, List, slice_get, Some}
+use Rattle.md_assembly.specs.States.{is_recovering}
+use Rattle.md_bitmap.specs.Marks.{Bitmap}
+use Rattle.md_cert.specs.declared.slots.Slot.{Slot}
+use Rattle.md_kept_members.specs.View.{MemberView}
+use Rattle.md_passes.specs.Listed.{IsArrayPass}
+use Rattle.md_passes.specs.Passes.{PassView, slots_of}
+use Rattle.md_super.specs.declared.superblock.Superblock.{Superblock}
+use Rattle.md_state.specs.Members.{IsMember}
+use Rattle.md_state.specs.View.{ArrayView, Disk, MirrorView}
+use Rattle.md_array.specs.Checkpoints.{Checkpoints}
+use Rattle.md_array.specs.Opening.{IsArrayOf}
+use Rattle.md_array.specs.ReadAsKept.{IsSuperOn}
+use Rattle.md_array.specs.Worlds.{AreHonest}
+use Rattle.md_laws.specs.Left.{contents_of}
+use Rattle.md_laws.specs.StopsWithin.{MayAllBeLeft}
+use Rattle.md_copy.specs.Filling.{IsFilling}
+use Rattle.md_copy.specs.Listing.{ListsAll, NotesLists, StopsAtList}
+use Rattle.md_copy.specs.Passing.{AreListedPasses, MakesPass, RecordsPass}
+use Rattle.md_copy.specs.Rebuilding.{Begins}
+use Rattle.md_copy.specs.Sources.{missing_chunks}
+use Rattle.md_rebuild_laws.specs.StoppedRebuilds.{IsSuperWhole}
+
+-- ---- what stands there
+-- A superblock is read there, and it says this offset.
+pub record SaysOffset (content : List ℕ) (offset : ℕ) : Type 0 where
+  pub super : Superblock
+  pub read : IsSuperOn content super
+  pub each : (v : Superblock) → IsSuperOn content v → v.recovery_offset ≡ offset
+
+-- so it is of the target's device, if this is honest, with the offset that is kept
+abbrev pub HasOffset : ℕ → MirrorView → Type 0
+HasOffset target v =
+    (m : MemberView) (d : Disk) → IsMember v.array target m → slice_get v.disks target ≡ Some d → d.honest ≡ true → SaysOffset d.content m.superblock.recovery_offset
+
+-- So it is of one that is recovering before a rebuild, unless its superblock is due.
+abbrev pub HasOffsetBefore : ℕ → MirrorView → Type 0
+HasOffsetBefore target v =
+    (m : MemberView) (d : Disk) → IsMember v.array target m → is_recovering m.state ≡ true → m.due ≡ false → slice_get v.disks target ≡ Some d → d.honest ≡ true
+    → SaysOffset d.content m.superblock.recovery_offset
+
+-- A rebuild has begun, and made these passes, or none: these chunks are left, and those are copied.
+pub record HasCome (target : ℕ) (left : List ℕ) (copied : Bitmap) (old now : MirrorView) : Type 0 where
+  pub ready : MirrorView
+  pub none : Bitmap
+  pub begins : Begins target old ready none
+  pub passes : List PassView
+  pub passed : AreListedPasses target passes (missing_chunks ready.array begins.now) left none copied ready now
+  pub had : HasOffsetBefore target old
+
+-- Whatever a stop leaves on the way, it says the offset that was kept as this began.
+abbrev pub FindsOffset : ℕ → MirrorView → MirrorView → Type 0
+FindsOffset target v w =
+    (left : List Disk) → MayAllBeLeft v.disks w.disks (contents_of left) → (m : MemberView) (d e : Disk) → IsMember v.array target m
+    → slice_get v.disks target ≡ Some d → slice_get w.disks target ≡ Some e → d.honest ≡ true → (stop : Disk) → slice_get left target ≡ Some stop
+    → SaysOffset stop.content m.superblock.recovery_offset
+
+-- ---- the laws
+-- Where a pass begins it stands there: as the admission stored it, or the pass before, or as it stood there before the call.
+abbrev pub OffsetStands : Type 0
+OffsetStands = (target : ℕ) (chunks : List ℕ) (copied : Bitmap) (old now : MirrorView) → HasCome target chunks copied old now → HasOffset target now
+
+-- A stop finds it while the target gets its chunks, whatever comes of it;
+abbrev pub StopsCopyingFind : Type 0
+StopsCopyingFind =
+    (target : ℕ) (chunks : List ℕ) (copied : Bitmap) (old now new : MirrorView) → HasCome target chunks copied old now
+    → (p : PassView) → IsArrayPass now.array chunks p → (m : MemberView) → IsMember now.array target m → IsFilling target m (slots_of p) now new → FindsOffset target now new
+
+-- and where it is stored how far the pass came, this offset or the next one, if the stop left the superblock as it was or as written.
+abbrev pub StopsStoringFind : Type 0
+StopsStoringFind =
+    (target : ℕ) (chunks : List ℕ) (copied after : Bitmap) (old now filled new : MirrorView) → HasCome target chunks copied old now
+    → (p : PassView) → MakesPass target chunks p copied after now filled → Checkpoints target after filled new
+    → (left : List Disk) → IsSuperWhole target filled new left
+    → (m n : MemberView) (d e stop : Disk) → IsMember filled.array target m → IsMember new.array target n → slice_get filled.disks target ≡ Some d → slice_get new.disks target ≡ Some e
+    → d.honest ≡ true → slice_get left target ≡ Some stop → SaysOffset stop.content m.superblock.recovery_offset ⊎ SaysOffset stop.content n.superblock.recovery_offset
+
+-- From then on it finds the next one: while the lists of sources are stored,
+abbrev pub StopsListingFind : Type 0
+StopsListingFind =
+    (target : ℕ) (chunks : List ℕ) (copied after : Bitmap) (old now recorded new : MirrorView) → HasCome target chunks copied old now
+    → (p : PassView) → RecordsPass target chunks p copied after now recorded → ListsAll p.failed recorded new → FindsOffset target recorded new
+
+-- also where that fails.
+abbrev pub StopsUnlistedFind : Type 0
+StopsUnlistedFind =
+    (target k : ℕ) (chunks : List ℕ) (copied after : Bitmap) (old now recorded noted new : MirrorView) → HasCome target chunks copied old now
+    → (p : PassView) → RecordsPass target chunks p copied after now recorded → NotesLists p.failed recorded noted → StopsAtList p.failed k noted new → FindsOffset target noted new
+
+-- And an opening finds it: of a member that is recovering then it keeps the offset that is read, or 0 if its superblock is from before marks were last
+-- cleared.
+abbrev pub OpeningsFind : Type 0
+OpeningsFind =
+    (before : List Disk) (a : ArrayView) → IsArrayOf before a → AreHonest before → (k offset : ℕ) (d : Disk) (m : MemberView) → slice_get before k ≡ Some d → IsMember a k m
+    → is_recovering m.state ≡ true → SaysOffset d.content offset
+    → (m.superblock.recovery_offset ≡ offset) ⊎ ((m.superblock.recovery_offset ≡ 0) × ((v : Superblock) × IsSuperOn d.content v × (v.events < a.events_cleared)))
