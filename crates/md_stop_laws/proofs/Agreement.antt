@@ -13,19 +13,23 @@ use Rattle.md_state.specs.CopyingData.{Lists}
 use Rattle.md_state.specs.View.{ArrayView, Disk, MirrorView, geometry_of}
 use Rattle.md_array.specs.InTurn.{AllOf}
 use Rattle.md_array.specs.NotingResynced.{IsServed, sector_of}
-use Rattle.md_array.specs.Worlds.{super_of, world_of}
+use Rattle.md_array.specs.Worlds.{AreHonest, super_of, world_of}
 use Rattle.md_array.proofs.Steps.OneMember.{stored_there}
 use Rattle.md_array.proofs.Worlds.InSync.{in_sync_there}
 use Rattle.md_array.proofs.Worlds.SectorCopied.{none_there, unlisted_there}
+use Rattle.md_array.specs.Opening.{IsOpenedFrom}
+use Rattle.md_laws.specs.Fresh.{AreFresh}
+use Rattle.md_laws.proofs.Openings.Fresh.{starts_fresh}
+use Rattle.md_laws.proofs.Runs.Rests.{at_rest}
 use Rattle.md_laws.specs.Lives.{AtEachMoment, MirrorLife}
 use Rattle.md_laws.specs.ReadInTurn.{IsNoFailedRecord}
-use Rattle.md_laws.specs.Runs.{IsStart, MirrorRun, Moment, history_of}
+use Rattle.md_laws.specs.Runs.{IsStart, MirrorRun, Moment, history_of, opened_as}
 use Rattle.md_laws.proofs.Runs.Moments.{IsSoundAt, life_keeps, run_keeps, sound_when_opened}
 use Rattle.md_laws.proofs.Runs.MirrorLives.{keeps_geometry, life_kept}
 use Rattle.md_laws.proofs.Runs.MirrorRuns.{model_run, starts}
 use Rattle.md_laws.proofs.Runs.ReadTurns.{reading_call_is_run}
 use Rattle.md_resync.specs.Resyncing.{IsOfResync, Resyncs}
-use Rattle.md_stop_laws.specs.Agreement.{AgreesAtRest, IsUnlistedOn, LeavesAgreed, ResyncsAgree}
+use Rattle.md_stop_laws.specs.Agreement.{IsAgreed, AgreesAtRest, IsUnlistedOn, LeavesAgreed, ResyncsAgree}
 
 pub agrees_at_rest : AtEachMoment AgreesAtRest
 agrees_at_rest before m start es rest final last life resynced j k s on_j on_k quiet =
@@ -118,3 +122,8 @@ module _ (before : List Disk) (m : MirrorView) (start : IsStart before m) (es : 
 
 pub resyncs_agree : ResyncsAgree
 resyncs_agree before m start es rest final t life new r = leaves_agreed before m start es rest final t life new r
+
+-- ---- a resync right after an opening of a new array
+pub agreed_when_fresh : (before : List Disk) (m new : MirrorView) → AreHonest before → AreFresh before → IsOpenedFrom before m → Resyncs m new → IsAgreed new
+agreed_when_fresh before m new honest fresh opened r =
+    (resyncs_agree before m (starts_fresh before m honest opened fresh) [] [] m (opened_as m) (refl, at_rest (opened_as m)) new r).agree_on_devices

@@ -12,3 +12,5 @@ pub mod AfterHalt
 pub mod TornCopies
 -- A sector of the bitmap of the only member in sync, with any bits.
 pub mod LoneMarks
+-- What a stop leaves within `add` and `re_add`, before they are done.
+pub mod JoiningStops

@@ -29,6 +29,10 @@ AllAgreeOnDevices v s =
     (j k : ℕ) (m n : MemberView) (d e : Disk) → IsServed v j m d → IsServed v k n e
     → IsUnlistedOn m d s → IsUnlistedOn n e s → sector_of m d s ≡ sector_of n e s
 
+-- so in each sector of the array
+abbrev pub IsAgreed : MirrorView → Type 0
+IsAgreed v = (s : ℕ) → s < v.array.chunks.size → AllAgreeOnDevices v s
+
 -- A resync that is done is a run from this moment on. Then the members in sync agree in each sector of the array that neither lists: on its
 -- device, and so in memory too, where no less is listed.
 pub record LeavesAgreed (t : Moment) (new : MirrorView) : Type 0 where
@@ -36,7 +40,7 @@ pub record LeavesAgreed (t : Moment) (new : MirrorView) : Type 0 where
   pub last : Moment
   pub run : MirrorRun t events last
   pub there : last.mirror ≡ new
-  pub agree_on_devices : (s : ℕ) → s < new.array.chunks.size → AllAgreeOnDevices new s
+  pub agree_on_devices : IsAgreed new
   pub agree : (s : ℕ) → s < new.array.chunks.size → AllAgreeAt new s
 
 -- So does each, wherever a life has come to.

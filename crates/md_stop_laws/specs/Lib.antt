@@ -4,3 +4,5 @@ pub mod Agreement
 pub mod HaltedCalls
 -- What the next opening finds where a stop left other bytes in a write that halted the mirror.
 pub mod TornWrites
+-- What a stop leaves within `add` and `re_add`, before they are done.
+pub mod JoiningStops

@@ -3,6 +3,7 @@
 ghost use Rattle.md_laws.specs.Lives.{AtEachMoment};
 ghost use Rattle.md_stop_laws.specs.Agreement.{AgreesAtRest, ResyncsAgree};
 ghost use Rattle.md_stop_laws.specs.HaltedCalls.{StopsAtEachHalt, StopsAtHaltedResync, StopsAtHaltedStop, StopsAtHaltedWrite};
+ghost use Rattle.md_stop_laws.specs.JoiningStops.{NoneIsOpened, StopsInAdd, StopsInFailedAdd, StopsInFailedReAdd, StopsInReAdd, StopsInRefusedAdd, StopsInRefusedReAdd};
 ghost use Rattle.md_stop_laws.specs.TornWrites.{ContentAfterCopy, ContentAfterLoneMarks, StartsAfterCopy, StartsAfterLoneMarks};
 
 /// The members in sync agree: at each moment of each life at which the array is resynced, in each sector that no request
@@ -32,4 +33,18 @@ pub fn torn_writes()
     ensures copy_content { ContentAfterCopy }
     ensures lone_marks { StartsAfterLoneMarks }
     ensures lone_content { ContentAfterLoneMarks }
+{}
+
+/// A stop within an `add` or a `re_add`, before it is done, is one at the moment before: of the mirror's devices, which are as
+/// they were, whatever comes of the call. Where it answers `Ok`, the device that was coming has a superblock that reads as when
+/// it was given, so that an opening reads there what it would have read; or, within `add`, none, and then no mirror is
+/// opened with it. Superblocks of at most 128 roles are meant, which end within their first sectors.
+pub fn joining_stops()
+    ensures add { StopsInAdd }
+    ensures failed_add { StopsInFailedAdd }
+    ensures refused_add { StopsInRefusedAdd }
+    ensures re_add { StopsInReAdd }
+    ensures failed_re_add { StopsInFailedReAdd }
+    ensures refused_re_add { StopsInRefusedReAdd }
+    ensures unread { NoneIsOpened }
 {}

@@ -1,4 +1,7 @@
 //! What looks back on stops and on resyncs, beyond the laws of `md_laws`: members in sync that agree, and writes that halted a mirror.
 #![tactic(auto)]
 
+mod fresh_array;
 pub mod laws;
+
+pub use fresh_array::fresh_agreement;

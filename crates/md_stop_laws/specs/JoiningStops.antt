@@ -1,0 +1,92 @@
+-- What a stop leaves within `add` and `re_add`, before they are done: of the mirror's devices it is a stop at that moment, and of the device that
+-- was coming it is said what an opening reads.
+use Rattle.std.specs.Prelude.{◌≡◌, ◌≢◌, ◌⊎◌, ℕ, true, List, [], ◌∷◌, ◌++◌, slice_get, Some, None}
+use Rattle.md_model.specs.Events.{Event}
+use Rattle.md_super.specs.Encoding.{super_bytes}
+use Rattle.md_faults.specs.declared.add_fault.AddFault.{AddFault}
+use Rattle.md_faults.specs.declared.add_fault.AddFault.TheVariants.{WriteFault}
+use Rattle.md_faults.specs.declared.re_add_fault.ReAddFault.{ReAddFault}
+use Rattle.md_faults.specs.declared.re_add_fault.ReAddFault.TheVariants as re_add_fault
+use Rattle.md_kept_members.specs.TakingBack.{own_role}
+use Rattle.md_state.specs.Joining.{joined_shared}
+use Rattle.md_state.specs.View.{Disk, MirrorView}
+use Rattle.md_array.specs.Adding.{Adds, FailsToAdd, RefusesAdd, add_event}
+use Rattle.md_array.specs.Opening.{IsOpenedFrom}
+use Rattle.md_array.specs.ReAdding.{FailsToReAdd, ReAdds, RefusesReAdd, re_add_event}
+use Rattle.md_array.specs.Recording.{write_of}
+use Rattle.md_array.specs.Worlds.{AreHonest, block_on, super_in}
+use Rattle.md_laws.specs.Left.{IsLeft, contents_of}
+use Rattle.md_laws.specs.Runs.{MirrorRun, Moment}
+use Rattle.md_laws.specs.StoppedCalls.{AtMoments}
+use Rattle.md_laws.specs.StopsReadAs.{EndsInFirstSector, ReadsAs}
+use Rattle.md_laws.specs.StopsWithin.{IsLeftFailing, MayAllBeLeft}
+use Rattle.md_writes.specs.Writes.{IsAnyIn}
+
+-- The device joined: by this event, and from there on a stop leaves that.
+pub record IsStopJoined (e : Event) (t : Moment) (left : List Disk) : Type 0 where
+  pub at : Moment
+  pub run : MirrorRun t (e ∷ []) at
+  pub is_left : IsLeft at left
+
+-- It did not: the mirror's devices were left as they were, as a stop at this moment leaves them, and this stands on the one behind them.
+pub record IsLeftBeside (t : Moment) (left : List Disk) (Stands : List ℕ → Type 0) : Type 0 where
+  pub beside : List ℕ
+  pub are : contents_of left ≡ contents_of t.mirror.disks ++ beside ∷ []
+  pub is_left : IsLeft t t.mirror.disks
+  pub stands : Stands beside
+
+-- its superblock reads as when the device was given, or none can be read
+abbrev pub IsGivenOrNone : Disk → List ℕ → Type 0
+IsGivenOrNone device c = ReadsAs (block_on c) (block_on device.content) ⊎ (super_in (block_on c) ≡ None)
+
+-- Within an `add` that answers `Ok`, where the superblocks end within their first sectors: what stands on the device, if anything, and what is
+-- written.
+abbrev pub StopsInAdd : Type 0
+StopsInAdd =
+    AtMoments (λ t.
+    ((k : ℕ) (device : Disk) (new : MirrorView) → device.honest ≡ true → (r : Adds k device t.mirror new)
+    → EndsInFirstSector (block_on device.content) → EndsInFirstSector (super_bytes r.comes.laid.superblock)
+    → (left : List Disk) → MayAllBeLeft (t.mirror.disks ++ device ∷ []) new.disks (contents_of left)
+    → IsStopJoined (add_event k device t.mirror new r) t left ⊎ IsLeftBeside t left (IsGivenOrNone device)))
+
+-- Within a `re_add` that does, likewise: there it reads as when it was given.
+abbrev pub StopsInReAdd : Type 0
+StopsInReAdd =
+    AtMoments (λ t.
+    ((k : ℕ) (device : Disk) (new : MirrorView) → device.honest ≡ true → (r : ReAdds k device t.mirror new)
+    → EndsInFirstSector (block_on device.content) → EndsInFirstSector (block_on r.recorded.now.content)
+    → (left : List Disk) → MayAllBeLeft (t.mirror.disks ++ device ∷ []) new.disks (contents_of left)
+    → IsStopJoined (re_add_event k device t.mirror new r) t left ⊎ IsLeftBeside t left (λ c. ReadsAs (block_on c) (block_on device.content))))
+
+-- ---- where it is not done
+-- Where a write of `add` fails, the writes before it are done on that device, or cut short, or any bytes stand in its range.
+abbrev pub StopsInFailedAdd : Type 0
+StopsInFailedAdd =
+    (t : Moment) (device given : Disk) (new : MirrorView) → device.honest ≡ true → (f : FailsToAdd device given t.mirror new)
+    → (left : List Disk) → MayAllBeLeft (t.mirror.disks ++ device ∷ []) (new.disks ++ given ∷ []) (contents_of left)
+    → IsLeftBeside t left (IsLeftFailing f.fails.writes.done f.fails.writes.tried device.content)
+
+-- Where the one of `re_add` fails, any bytes stand in place of its superblock.
+abbrev pub StopsInFailedReAdd : Type 0
+StopsInFailedReAdd =
+    (t : Moment) (device given : Disk) (new : MirrorView) → device.honest ≡ true → (f : FailsToReAdd device given t.mirror new)
+    → (left : List Disk) → MayAllBeLeft (t.mirror.disks ++ device ∷ []) (new.disks ++ given ∷ []) (contents_of left)
+    → IsLeftBeside t left (IsAnyIn (write_of (joined_shared t.mirror.array f.fails.member.superblock.dev_number (own_role f.info.superblock)) f.fails.member) device.content)
+
+-- Where they are refused for another reason, that device too is as it was.
+abbrev pub StopsInRefusedAdd : Type 0
+StopsInRefusedAdd =
+    (t : Moment) (device given : Disk) (new : MirrorView) (fault : AddFault) → fault ≢ WriteFault → RefusesAdd device given t.mirror new fault
+    → (left : List Disk) → MayAllBeLeft (t.mirror.disks ++ device ∷ []) (new.disks ++ given ∷ []) (contents_of left) → IsLeftBeside t left (λ c. c ≡ device.content)
+
+abbrev pub StopsInRefusedReAdd : Type 0
+StopsInRefusedReAdd =
+    (t : Moment) (device given : Disk) (new : MirrorView) (fault : ReAddFault) → fault ≢ re_add_fault.WriteFault → device.honest ≡ true → RefusesReAdd device given t.mirror new fault
+    → (left : List Disk) → MayAllBeLeft (t.mirror.disks ++ device ∷ []) (new.disks ++ given ∷ []) (contents_of left) → IsLeftBeside t left (λ c. c ≡ device.content)
+
+-- ---- the next opening
+-- No mirror is opened from devices of which one has no superblock: so the next opening is without it.
+abbrev pub NoneIsOpened : Type 0
+NoneIsOpened =
+    (before : List Disk) (m : MirrorView) → AreHonest before → IsOpenedFrom before m
+    → (j : ℕ) (d : Disk) → slice_get before j ≡ Some d → super_in (block_on d.content) ≡ None → ⊥
