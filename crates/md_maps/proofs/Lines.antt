@@ -1,5 +1,5 @@
 -- Lemmas on a text that is read line by line.
-use Rattle.std.proofs.Common.{◌≡◌, ◌≢◌, ℕ, suc, ◌+◌, ◌-◌, ◌*◌, ◌/◌, ◌^◌, ◌<◌, ◌≤◌, ◌⊎◌, ◌↔◌, ⊎_elim, inl, inr, Bool, true, false, cond, List, [], ◌∷◌, ◌++◌, append_assoc, length, map, max, take, drop, sum_by, Option, Some, None, position, unwrap_or, Result, Ok, Err, IfOk, IfErr, IsOkAnd, refl, ap, sym, subst, ◌∙◌, arith, length-append, length-drop}
+use Rattle.std.proofs.Common.{◌≡◌, ◌≢◌, ℕ, ◌+◌, ◌-◌, ◌*◌, ◌/◌, ◌^◌, ◌<◌, ◌≤◌, ◌⊎◌, ◌↔◌, ⊎_elim, inl, inr, Bool, true, cond, List, [], ◌∷◌, ◌++◌, append_assoc, length, map, max, take, drop, Option, Some, None, position, unwrap_or, Result, Ok, Err, IfOk, IfErr, IsOkAnd, refl, ap, sym, subst, ◌∙◌, arith, length-append, length-drop}
 use Rattle.std.specs.List.{slice_split, filter, position_or_len}
 use Rattle.std.specs.Option.{option_map}
 use Rattle.std.proofs.lemmas.List.{map-append, append-nil}
@@ -13,7 +13,7 @@ use Rattle.md_badblocks.specs.declared.run.Run.{Run}
 use Rattle.md_badblocks.specs.Runs.{IsBad}
 use Rattle.md_maps.specs.Lines.{is_line_feed, lines_of, fields_of}
 use Rattle.md_maps.specs.Rows.{IsStatusRow, IsBlockRow, IsLine, EndsBy, fault_of}
-use Rattle.md_maps.specs.Map.{is_row, rows_of, AreBlocks, IsSaid, end_of, IsMap, HasByte, IsLostIn, IsMissing, IsReadAs, IsFaultOf, IsFirstFault, IsFaultless, IsRefused}
+use Rattle.md_maps.specs.Map.{is_row, rows_of, AreBlocks, IsSaid, end_of, IsMap, HasByte, IsLostIn, IsMissing, IsReadAs, IsFirstFault, IsRefused}
 use Rattle.md_maps.specs.Reading.{IsReadTo, IsUnfinished}
 use Rattle.md_maps.specs.declared.line.Block.{Block}
 use Rattle.md_maps.specs.declared.line.Line.{Line as LineValue}

@@ -1,5 +1,5 @@
 -- Lemmas on the words of a line.
-use Rattle.std.proofs.Common.{◌≡◌, ◌≢◌, ℕ, suc, zero, ◌+◌, ◌-◌, ◌<◌, ◌≤◌, ◌==◌, Bool, true, false, cond, not, List, [], ◌∷◌, length, take, drop, get_or, Option, Some, None, position, unwrap_or, refl, ap, sym, subst, ◌∙◌, arith, rules, inl, inr, ⊎_elim, length-drop}
+use Rattle.std.proofs.Common.{◌≡◌, ◌≢◌, ℕ, suc, zero, ◌+◌, ◌-◌, ◌<◌, ◌≤◌, ◌==◌, Bool, true, false, cond, not, List, [], ◌∷◌, length, take, drop, get_or, Some, None, position, unwrap_or, refl, ap, sym, ◌∙◌, arith, rules, ⊎_elim, length-drop}
 use Rattle.std.specs.List.{slice_split, filter, take_while, position_or_len, before_first, after_first}
 use Rattle.std.proofs.lemmas.List.{take_all, drop_all, get_or-drop, get_or-take, length-take}
 use Rattle.std.proofs.lemmas.Bool.{cases_lt, false≢true, ne_eqb, eqb-true, cond-true, cond-false, false_from_ne_true}
@@ -7,7 +7,6 @@ use Rattle.std.proofs.lemmas.Bool.Decides.{nat_tests}
 use Rattle.std.proofs.lemmas.List.Sums.{fails_before_first, passes_at_first, take_while-cons, prefix_len-le-length}
 use Rattle.std.proofs.lemmas.List.Quantifiers.{position-Some}
 use Rattle.std.proofs.lemmas.List.Splits.{slice_split-cons_yes, slice_split_first, slice_split_none}
-use Rattle.std.proofs.lemmas.Grind.{common_steps}
 use Rattle.std.proofs.Math.Seq.{drop-cons}
 use Rattle.md_maps.specs.Lines.{is_space, is_word, is_no_comment, fields_of}
 

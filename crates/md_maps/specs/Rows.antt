@@ -5,7 +5,7 @@ use Rattle.md_maps.specs.declared.line.Block.{Block}
 use Rattle.md_maps.specs.declared.line.Line.{Line}
 use Rattle.md_maps.specs.declared.line.Line.TheVariants.{Blank, Status as StatusLine, Data}
 use Rattle.md_maps.specs.declared.fault.LineFault.{LineFault}
-use Rattle.md_maps.specs.declared.fault.LineFault.TheVariants.{Cut, Fields, Number, Status, Overlap, Gap, PastEnd}
+use Rattle.md_maps.specs.declared.fault.LineFault.TheVariants.{Fields, Number, Status, Overlap, Gap, PastEnd}
 
 -- the statuses of blocks that are not rescued: ? * / -
 abbrev pub is_failed_status : ℕ → Bool

@@ -1,7 +1,11 @@
-//! Tests of what is noticed of images: what a device holds by its magic numbers.
+//! Tests of what is noticed of images: what a device holds by its magic numbers, and which sectors a copy lacks.
 #![tactic(auto)]
 
 #[cfg(test)]
 mod checks;
+#[cfg(test)]
+mod maps;
+#[cfg(test)]
+mod masked_devices;
 #[cfg(test)]
 mod signatures;

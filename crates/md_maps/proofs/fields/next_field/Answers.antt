@@ -1,4 +1,4 @@
-use Rattle.std.proofs.Common.{ℕ, arith}
+use Rattle.std.proofs.Common.{arith}
 use Rattle.md_maps.proofs.Words.{no_field, comment_at, field_at, rest_whole}
 use Rattle.md_maps.proofs.fields.next_field.Goals as goal
 

@@ -1,7 +1,7 @@
-use Rattle.std.proofs.Common.{◌≡◌, ◌≢◌, ℕ, ◌-◌, List, [], ◌∷◌, eqb, length, take, ap, sym, ◌∙◌, arith, refl}
+use Rattle.std.proofs.Common.{◌≡◌, ◌≢◌, ℕ, List, [], ◌∷◌, eqb, length, take, ap, sym, ◌∙◌, arith, refl}
 use Rattle.std.proofs.lemmas.Bool.{false≢true, eqb-true}
 use Rattle.md_maps.proofs.Words.{rest_whole}
-use Rattle.md_maps.proofs.Lines.{read_start, read_step, fault_at, cut_at, finished, unfinished, ends_by}
+use Rattle.md_maps.proofs.Lines.{read_start, read_step, fault_at, cut_at, finished, unfinished}
 use Rattle.md_maps.proofs.map.read_map.Goals as goal
 
 empty_is : (xs : List ℕ) → length xs ≡ 0 → xs ≡ []

@@ -1,4 +1,4 @@
-use Rattle.std.proofs.Common.{◌≡◌, ◌∙◌, sym, Bool, true, false, Option, Some, Result, Ok, Err, MatchResult, subst}
+use Rattle.std.proofs.Common.{◌≡◌, ◌∙◌, sym, false, Some, Result, Ok, Err, MatchResult, subst}
 use Rattle.std.specs.Result.{is_ok, result_ok}
 use Rattle.std.proofs.lemmas.Bool.{false≢true, eqb-true}
 use Rattle.md_maps.proofs.Numerals.{by_parse, refuses_plus, refuses_binary}
