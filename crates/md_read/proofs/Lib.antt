@@ -1,6 +1,9 @@
 pub mod AllListed
 pub mod InRoles
+pub mod PartsInTurn
+pub mod PartsRead
 pub mod ReadAnswers
 pub mod RunsInTurn
 pub mod RunsRead
 pub mod SectorsGiven
+pub mod SourceRoles

@@ -27,8 +27,8 @@ pub(crate) enum Answer {
     Perhaps,
 }
 
-// The member in sync in a role.
-fn member_in<D: Device + Drop>(mirror: &Mirror<D>, role: u32) -> Option<usize>
+/// The member in sync in a role.
+pub(crate) fn member_in<D: Device + Drop>(mirror: &Mirror<D>, role: u32) -> Option<usize>
     ensures { MatchOption result (HasRole mirror.now.array role → ⊥) (IsInRole mirror.now.array role) }
 {
     for k in 0..mirror.members() {
@@ -47,8 +47,13 @@ fn is_asked<D: Device + Drop>(mirror: &Mirror<D>, mostly: bool, k: usize) -> boo
     is_write_mostly(mirror.own(k)) == mostly
 }
 
-// Whether member k lists one of these sectors of the array. No list has sectors from 2^54 on.
-fn lists_some<D: Device + Drop>(mirror: &Mirror<D>, k: usize, sector: u64, sectors: u64) -> bool
+/// Whether member k lists one of these sectors of the array. No list has sectors from 2^54 on.
+pub(crate) fn lists_some<D: Device + Drop>(
+    mirror: &Mirror<D>,
+    k: usize,
+    sector: u64,
+    sectors: u64,
+) -> bool
     requires within { k < length mirror.now.array.members }
     ensures { (m : MemberView) → IsMember mirror.now.array k m → (result ≡ true) ↔ ((s : ℕ) × Lists m s × (sector ≤ s) × (s < sector + sectors)) }
 {
@@ -62,8 +67,13 @@ fn lists_some<D: Device + Drop>(mirror: &Mirror<D>, k: usize, sector: u64, secto
     bad.meets(first, sectors)
 }
 
-// Whether member k lists each of these sectors of the array.
-fn lists_all<D: Device + Drop>(mirror: &Mirror<D>, k: usize, sector: u64, sectors: u64) -> bool
+/// Whether member k lists each of these sectors of the array.
+pub(crate) fn lists_all<D: Device + Drop>(
+    mirror: &Mirror<D>,
+    k: usize,
+    sector: u64,
+    sectors: u64,
+) -> bool
     requires within { k < length mirror.now.array.members }
     requires some { 0 < sectors }
     ensures { (m : MemberView) → IsMember mirror.now.array k m → (result ≡ true) ↔ ((s : ℕ) → sector ≤ s → s < sector + sectors → Lists m s) }

@@ -85,9 +85,13 @@ fn read_group<D: Device + Drop>(
     Answer::Nothing
 }
 
-// Reads the first of these sectors, and as many of those after it as the same read gives: all, half of them,
-// or fewer. The answer is how many, `None` where no member in sync gave the first.
-fn read_front<D: Device + Drop>(mirror: &mut Mirror<D>, sector: u64, buf: &mut [u8]) -> Option<u64>
+/// Reads the first of these sectors, and as many of those after it as the same read gives: all, half of them,
+/// or fewer. The answer is how many, `None` where no member in sync gave the first.
+pub(crate) fn read_front<D: Device + Drop>(
+    mirror: &mut Mirror<D>,
+    sector: u64,
+    buf: &mut [u8],
+) -> Option<u64>
     requires some { 512 ≤ length buf.old }
     requires whole { length buf.old % 512 ≡ 0 }
     requires inside { sector + length buf.old / 512 ≤ mirror.old.array.chunks.size }
