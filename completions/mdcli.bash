@@ -5,7 +5,7 @@ _mdcli_commands() {
   printf '%s\n' examine examine-bitmap examine-badblocks create assemble detail plan read write check resync stop fail remove add re-add rebuild help
 }
 
-# The options of a command, beside --help. A value follows one that ends in =.
+# The options of a command, beside --help and --verbose. A value follows one that ends in =.
 _mdcli_options() {
   case $1 in
     create) printf '%s\n' --level= --raid-devices= --uuid= --name= --bitmap-chunk= --size= --time= --write-mostly= --assume-clean ;;
@@ -80,7 +80,7 @@ _mdcli() {
       while IFS= read -r option; do
         option=${option%=}
         if [[ $given != *" $option "* ]]; then _mdcli_offer "$current" <<<"$option"; fi
-      done < <(_mdcli_options "$command" && printf '%s\n' --help)
+      done < <(_mdcli_options "$command" && printf '%s\n' --verbose --help)
       return
     fi
   fi

@@ -70,6 +70,17 @@ def loop_device(path, *options):
         subprocess.run(["losetup", "--detach", device], stdin=subprocess.DEVNULL)
 
 
+@contextlib.contextmanager
+def holder_of(device, sectors):
+    """Device mapper holds a device."""
+    holder = "mdcli-test-%d" % os.getpid()
+    tool("dmsetup", "create", holder, "--table", "0 %d linear %s 0" % (sectors, device))
+    try:
+        yield
+    finally:
+        tool("dmsetup", "remove", "--retry", holder)
+
+
 def create(images):
     count = str(len(images))
     return ["create", "--level", "raid1", "--raid-devices", count, "--uuid", SET] + [str(image) for image in images]
@@ -188,6 +199,51 @@ class Disks:
             finally:
                 tool("umount", folder)
 
+    def stacked(self, name):
+        """A file below a loop device, and that below another one, which is mounted, or which device mapper holds."""
+        backing = self.image("backing of a stack.img", bytes(8192 * SECTOR))
+        with loop_device(backing) as below, loop_device(below) as device:
+            tool("mkfs.ext4", "-q", device)
+            folder = self.scratch / "mounted stack"
+            folder.mkdir()
+            tool("mount", "-o", "ro", device, folder)
+            try:
+                self.refused_in_use(name + ": its file", backing)
+                self.not_added(name + ": its file", backing)
+                self.refused_by_node(name + ": another node of the device between", below)
+            finally:
+                tool("umount", folder)
+            self.attempt(name + ", swapped on", lambda name: self.swapped_on_above(name, device, backing))
+            self.attempt(name + ", held", lambda name: self.held_above(name, device, backing))
+            self.judge(name + ", no more", self.run(create([backing]))[0], 0)
+
+    def refused_by_node(self, name, device):
+        node = self.scratch / "node of a stack"
+        os.mknod(str(node), 0o600 | stat.S_IFBLK, os.stat(device).st_rdev)
+        self.refused_in_use(name, node)
+        node.unlink()
+
+    def not_added(self, name, image):
+        """What is in use is not added to an array, and the array stays as it is."""
+        two = [self.image("added to %d.img" % number) for number in range(2)]
+        self.run(create(two) + ["--assume-clean"])
+        before = [(path, Path(path).read_bytes()) for path in [*two, image]]
+        words = ["add", "--device", str(image)] + [str(path) for path in two]
+        self.judge(name + ", added", self.run(words), (1, "", "mdcli: BadImage 2\n"), before)
+
+    def swapped_on_above(self, name, device, backing):
+        tool("mkswap", device)
+        tool("swapon", device)
+        try:
+            self.refused_in_use(name, backing)
+        finally:
+            tool("swapoff", device)
+
+    def held_above(self, name, device, backing):
+        with holder_of(device, 4096):
+            self.refused_in_use(name, backing)
+            self.not_added(name, backing)
+
     def swapped_on(self, name):
         backing = self.image("swap backing.img", bytes(8192 * SECTOR))
         with loop_device(backing) as device:
@@ -200,13 +256,8 @@ class Disks:
 
     def held(self, name):
         backing = self.image("held backing.img")
-        with loop_device(backing) as device:
-            holder = "mdcli-test-%d" % os.getpid()
-            tool("dmsetup", "create", holder, "--table", "0 4096 linear %s 0" % device)
-            try:
-                self.used_and_file_below(name, device, backing)
-            finally:
-                tool("dmsetup", "remove", "--retry", holder)
+        with loop_device(backing) as device, holder_of(device, 4096):
+            self.used_and_file_below(name, device, backing)
 
     def partitioned(self, name):
         """Of two partitions the first is mounted: neither it nor the disk is changed, and the second may be."""
@@ -276,6 +327,7 @@ class Disks:
         self.attempt("create, a read-only block device", self.read_only_device)
         self.attempt("a mounted disk", self.mounted)
         self.attempt("a disk below a mounted one", self.mounted_above)
+        self.attempt("a file below two loop devices", self.stacked)
         self.attempt("a disk that is swapped on", self.swapped_on)
         self.attempt("a disk that device mapper holds", self.held)
         self.attempt("a disk with a mounted partition", self.partitioned)

@@ -72,7 +72,7 @@ class Zsh:
         if shutil.which("zsh"):
             lines = run(["zsh", "-f", "-c", self.script, "zsh", str(self.file), command])
         else:
-            lines = self.branch(command).replace("{-h,--help}", "\n--help").split("\n")
+            lines = re.sub(r"\{-\w,(--\w+)\}", r"\n\1", self.branch(command)).split("\n")
         return set(re.findall(r"(?m)^\W*(--[a-z-]+)", "\n".join(self.without_groups(line) for line in lines)))
 
     @staticmethod

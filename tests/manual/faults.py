@@ -11,6 +11,9 @@ TABLES = support.TOP / "docs" / "FAULTS.md"
 CRATES = support.TOP / "crates"
 
 ADVICE = CRATES / "md_advice" / "src" / "advice.rt"
+LIMITS = CRATES / "md_advice" / "src" / "geometry_advice.rt"
+
+TEXT = re.compile(r'const (\w+): &str =\s*"((?:[^"\\]|\\.)*)"')
 
 ENUM = re.compile(r"pub enum (\w+(?:Fault|Refusal)) \{\n(.*?)\n\}", re.S)
 VARIANT = re.compile(r'#\[error\("([^"]*)"\)\]\s*(\w+)(?:\(([^)]*)\))?')
@@ -58,11 +61,22 @@ def declared():
 
 def constants():
     """The texts of what to do that have a name."""
-    return dict(re.findall(r'const (\w+): &str =\s*"((?:[^"\\]|\\.)*)"', ADVICE.read_text()))
+    return dict(TEXT.findall(ADVICE.read_text()) + TEXT.findall(LIMITS.read_text()))
 
 
-# Of these faults it depends on the image which text is said: this one comes second.
-SECOND = {"LogFull #": "LEAVE_SOURCE_OUT"}
+# Of these faults it depends on the image or the command which text is said: this one comes second.
+SECOND = {"LogFull #": "LEAVE_SOURCE_OUT", "NoMemory": "WRITE_IN_PARTS"}
+
+
+def limits():
+    """What the program says to do where no array can be made, by the limit that is not kept."""
+    return [text for _, text in TEXT.findall(LIMITS.read_text())]
+
+
+def limits_tabled():
+    """The same as the table of limits has it."""
+    below = TABLES.read_text().split("| Limit | What to do |\n|---|---|\n")[1]
+    return [line.strip("|").split("|")[-1].strip() for line in below.split("\n\n")[0].splitlines()]
 
 
 def advice():

@@ -10,8 +10,8 @@ SECONDS = 20
 # In a list of options: the short name where there is one, the long name, the value's, what it says, and the default.
 OPTION = re.compile(r"^ +(?:-\w, |    )--([a-z-]+)(?: <([^>]+)>)?(?: {2,}(.*?)(?: \[default: .*\])?)?$")
 COMMAND = re.compile(r"^  ([a-z-]+)(?: {2,}(.*))?$")
-# Options of every command.
-COMMON = {"help", "version"}
+# Options of every command, or of the program.
+COMMON = {"help", "verbose", "version"}
 
 
 class Option:
@@ -26,10 +26,15 @@ class Option:
 
 
 class Command:
-    def __init__(self, name, options, says):
+    def __init__(self, name, options, common, says):
         self.name = name
         self.options = options
+        self.common = common
         self.says = says
+
+    def verbose(self):
+        """What help says of the option that every command has."""
+        return next(option.says for option in self.common if option.name == "verbose")
 
     def takes_one_image(self):
         """Of the words for images the parser takes any number; the commands on one image have this name."""
@@ -66,12 +71,9 @@ def command(name, says):
     lines = help_of([name])
     usage = next(line for line in lines if line.startswith("Usage: "))
     found = [OPTION.match(line) for line in section(lines, "Options:")]
-    options = [
-        Option(one.group(1), one.group(2), ("--%s <" % one.group(1)) in usage, one.group(3))
-        for one in found
-        if one and one.group(1) not in COMMON
-    ]
-    return Command(name, options, says)
+    options = [Option(one.group(1), one.group(2), ("--%s <" % one.group(1)) in usage, one.group(3)) for one in found if one]
+    own = [option for option in options if option.name not in COMMON]
+    return Command(name, own, [option for option in options if option.name in COMMON], says)
 
 
 def version():

@@ -1,5 +1,6 @@
 // What to do about a fault. The texts are those of docs/FAULTS.md, which a test compares with them.
 use crate::fault::CommandFault;
+use crate::geometry_advice::SMALLEST_IMAGE;
 use crate::option_fault::OptionFault;
 use md_array::{AddFault, BeginFault, FailFault, OpenFault, ReAddFault, RemoveFault};
 use md_assembly::AssembleFault;
@@ -26,9 +27,7 @@ pub(crate) fn advice(fault: &CommandFault) -> &'static str {
         CommandFault::Options(fault) => option_advice(*fault),
         CommandFault::Member(fault) => member_advice(*fault),
         CommandFault::NoBitmap => "there is nothing to show",
-        CommandFault::Create(CreateFault::BadGeometry) => {
-            "a chunk is a power of two, an array has at most 1,048,576 of them, each image holds 1 MiB more than the array, one of 1 to 32 members is there, and so is the `--write-mostly` one: choose another `--size`, `--bitmap-chunk` or `--write-mostly`, or other images"
-        }
+        CommandFault::Create(CreateFault::BadGeometry) => SMALLEST_IMAGE,
         CommandFault::Open(OpenFault::Member(_, fault)) => member_advice(*fault),
         CommandFault::Open(OpenFault::Assemble(fault)) => array_advice(*fault),
         CommandFault::MetadataFault(_) | CommandFault::Open(OpenFault::MetadataFault(_)) => {
@@ -44,6 +43,10 @@ pub(crate) fn advice(fault: &CommandFault) -> &'static str {
 }
 
 const MORE_MEMORY: &str = "try again with more memory";
+
+/// Where `write` has no room for its input.
+pub(crate) const WRITE_IN_PARTS: &str =
+    "try again with more memory, or write in parts, each from a `--sector` of its own on: all of the input is held in memory";
 
 const ANOTHER_OUTPUT: &str =
     "give it an output that takes the whole report, and drop what came so far";
@@ -248,7 +251,7 @@ fn member_advice(fault: MemberFault) -> &'static str {
         }
         MemberFault::Super(fault) => superblock_advice(fault),
         MemberFault::Region => {
-            "the copy was cut, or the superblock is damaged: copy it again, or use another member; an image has to hold Data Offset and Avail Dev Size together, which `examine` shows in sectors of 512 bytes, and `truncate` lengthens a copy, with zeros for what is lost"
+            "the copy was cut, or the superblock is damaged: copy it again, or use another member; an image has to hold Data Offset and Avail Dev Size together, which `examine` shows in sectors of 512 bytes, and `truncate` lengthens a copy, with zeros for what is lost, which count as data then"
         }
         MemberFault::Bitmap(_) => {
             "it is damaged, or of another version: leave that image out; `examine` still shows the superblock"

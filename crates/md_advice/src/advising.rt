@@ -1,11 +1,13 @@
 // The line for people after a fault.
-use crate::advice::{LEAVE_SOURCE_OUT, advice};
+use crate::advice::{LEAVE_SOURCE_OUT, WRITE_IN_PARTS, advice};
 use crate::fault::CommandFault;
-use md_array::{AddFault, OpenFault, ReAddFault};
+use crate::geometry_advice::geometry_advice;
+use md_array::{AddFault, BeginFault, OpenFault, ReAddFault};
 use md_assembly::AssembleFault;
 use md_check::CheckFault;
 use md_commands::DataFault;
 use md_copy::RebuildFault;
+use md_create::CreateFault;
 use md_images::{ImageFault, ImageRefusal, is_missing};
 use md_metadata::StopFault;
 use md_resync::ResyncFault;
@@ -31,6 +33,7 @@ fn culprit_of(fault: &CommandFault) -> Option<Culprit> {
         CommandFault::MetadataFault(word) => Some(Culprit::Word(*word)),
         CommandFault::Member(_) | CommandFault::NoBitmap => Some(Culprit::Word(0)),
         CommandFault::Open(fault) => culprit_of_opening(*fault),
+        CommandFault::Rebuild(RebuildFault::NotSpare) => Some(Culprit::Named),
         CommandFault::Data(fault) => culprit_of_data(*fault),
         _ => None,
     }
@@ -86,10 +89,11 @@ fn culprit_of_rebuild(fault: RebuildFault) -> Option<Culprit> {
     }
 }
 
-// The image of the member that a command fails, removes or rebuilds, or of the device that it adds or takes
+// The image of the member that a command fails, removes, rebuilds or plans to, or of the device that it adds or takes
 // back.
 fn named_by<'a>(command: Command<'a>, names: &[&'a str]) -> Option<&'a str> {
     match command {
+        Command::Plan { member, .. } => names.get(member as usize).copied(),
         Command::Fail { member } => names.get(member as usize).copied(),
         Command::Remove { member } => names.get(member as usize).copied(),
         Command::Rebuild { member } => names.get(member as usize).copied(),
@@ -135,13 +139,28 @@ fn target_of(command: Command<'_>, names: &[&str]) -> Option<usize> {
     }
 }
 
-// What to do. Of a log that is full it depends on whether it is the target's.
+// What to do. Of a log that is full it depends on whether it is the target's, of an array that can't be made on the options,
+// and for the want of memory on whether an input is held there.
 fn what_to_do(fault: &CommandFault, names: &[&str], command: Command<'_>) -> &'static str {
     match fault {
         CommandFault::Data(DataFault::Rebuild(RebuildFault::LogFull(device)))
             if target_of(command, names) != Some(*device) => { LEAVE_SOURCE_OUT }
+        CommandFault::Create(CreateFault::BadGeometry) => match command {
+            Command::Create(options) => geometry_advice(&options, names),
+            _ => advice(fault),
+        },
+        CommandFault::Data(fault) if is_unheld_input(*fault, command) => WRITE_IN_PARTS,
         _ => advice(fault),
     }
+}
+
+// Whether `write` had no memory for its input, or while it wrote it.
+fn is_unheld_input(fault: DataFault, command: Command<'_>) -> bool {
+    matches!(command, Command::Write { .. })
+        && matches!(
+            fault,
+            DataFault::NoMemory | DataFault::Write(BeginFault::NoMemory)
+        )
 }
 
 /// Writes the image that a fault is about, and what to do, in one line.

@@ -4,6 +4,7 @@
 mod advice;
 mod advising;
 mod fault;
+mod geometry_advice;
 mod loss_notice;
 mod option_fault;
 

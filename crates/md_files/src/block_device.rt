@@ -66,12 +66,14 @@ impl BlockDevice {
         )
     }
 
-    /// Whether it is a loop device, and the file with this metadata is its backing file. The system names that by a
-    /// path, which is another file's where it was opened in another root, or deleted since.
-    fn is_backed_by<R: Files + AllocGlobal>(self, rt: &R, file: &Metadata) -> io::Result<bool> {
-        if self.major != LOOP_MAJOR {
-            return Ok(false);
-        }
+    /// Whether it is a loop device whose backing file is one of these devices, or the file with this metadata. The system
+    /// names that by a path, which is another file's where it was opened in another root, or deleted since.
+    fn stands_over<R: Files + AllocGlobal>(
+        self,
+        rt: &R,
+        file: &Metadata,
+        devices: &[BlockDevice],
+    ) -> io::Result<bool> {
         let path = self.path(rt, "loop/backing_file")?;
         let line = read(rt, path.as_str())?;
         let name = line
@@ -80,8 +82,13 @@ impl BlockDevice {
         let Some(name) = name else {
             return Ok(false);
         };
-        let named = told(fs::metadata(rt, name))?;
-        Ok(named.is_some_and(|named| named.dev() == file.dev() && named.ino() == file.ino()))
+        let Some(backing) = told(fs::metadata(rt, name))? else {
+            return Ok(false);
+        };
+        Ok(match BlockDevice::of_node(&backing) {
+            Some(device) => devices.contains(&device),
+            None => backing.dev() == file.dev() && backing.ino() == file.ino(),
+        })
     }
 
     fn path<R: AllocGlobal>(self, rt: &R, name: &str) -> io::Result<String> {
@@ -121,22 +128,46 @@ impl BlockDevice {
     }
 }
 
-/// Whether a loop device that the system uses has the file with this metadata as its backing file.
+/// Whether a loop device that the system uses stands over the file with this metadata, or over a loop device that does.
 pub(crate) fn backs_device_in_use<R: Files + AllocGlobal>(
     rt: &R,
     file: &Metadata,
 ) -> io::Result<bool> {
-    // It lists the devices that have a size, so no loop device without a backing file.
-    let devices = read(rt, "/proc/partitions")?;
-    for line in devices.split(|byte| *byte == b'\n') {
-        if let Some(device) = device_in_line(line)
-            && device.is_backed_by(rt, file)?
-            && device.is_in_use(rt)?
-        {
-            return Ok(true);
+    let loops = loop_devices(rt)?;
+    let mut stack = match BlockDevice::of_node(file) {
+        Some(device) => device.with_partitions_or_disk(rt)?,
+        None => Vec::new(rt.alloc()),
+    };
+    // No more of them stand over one another than there are.
+    for _ in &loops {
+        let known = stack.len();
+        for device in &loops {
+            if !stack.contains(device) && device.stands_over(rt, file, stack.as_slice())? {
+                if device.is_in_use(rt)? {
+                    return Ok(true);
+                }
+                stack.append(&mut device.with_partitions_or_disk(rt)?)?;
+            }
+        }
+        if stack.len() == known {
+            break;
         }
     }
     Ok(false)
+}
+
+// The loop devices that have a size, so a backing file.
+fn loop_devices<R: Files + AllocGlobal>(rt: &R) -> io::Result<Vec<BlockDevice>> {
+    let mut loops = Vec::new(rt.alloc());
+    let devices = read(rt, "/proc/partitions")?;
+    for line in devices.split(|byte| *byte == b'\n') {
+        if let Some(device) = device_in_line(line)
+            && device.major == LOOP_MAJOR
+        {
+            loops.push(device)?;
+        }
+    }
+    Ok(loops)
 }
 
 // The device of a line of the system's list of devices: its numbers come first.

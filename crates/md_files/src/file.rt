@@ -55,10 +55,10 @@ impl FileDevice {
     /// file have a lock each, and so have two nodes where there is no /sys. Where the file system
     /// can't lock it answers `Io`: without the lock nothing would stop two writers.
     ///
-    /// A block device that the system uses is not opened to be changed, nor is the backing file of a loop
-    /// device that it uses, as far as /proc and /sys tell: what they don't tell, as where they are absent,
-    /// counts as not in use. They tell of the mounts of this process's own mount namespace, and of a backing
-    /// file by the path at which it was opened.
+    /// A block device that the system uses is not opened to be changed, nor is what lies below a loop device
+    /// that it uses, its backing file or that of a loop device between, as far as /proc and /sys tell: what they
+    /// don't tell, as where they are absent, counts as not in use. They tell of the mounts of this process's own
+    /// mount namespace, and of a backing file by the path at which it was opened.
     ///
     /// It doesn't wait for the other end of a pipe: what kind of file a path names is asked before
     /// it is opened, and again of what was opened.

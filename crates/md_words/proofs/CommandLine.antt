@@ -12,7 +12,7 @@ use Rattle.clap.specs.declared.builder.range.ValueRange.{ValueRange}
 use Rattle.std.specs.Borrow.{Bor}
 use Rattle.clap.specs.declared.builder.texts.Texts.TheVariants.{One}
 use Rattle.md_words.specs.Words.{mdcli}
-use Rattle.md_words.specs.Asked.{asks_in, asks_of, images_in}
+use Rattle.md_words.specs.Asked.{asks_in, asks_of, images_in, verbose_in, verbose_of}
 
 pub some_is : {X : Type 0} (o : Option X) (x : X) → IsSomeAnd o (λ r. r ≡ x) → o ≡ Some x
 some_is None x h = absurd h
@@ -74,6 +74,10 @@ images_read m name f is =
 -- what a subcommand's name and matches ask for
 pub asks_read : (m : ArgMatches) (name : Text) (f : Found) → subcommand_rows_of m ≡ Some (name, rows_of f) → asks_of name (rows_of f) ≡ asks_in (subcommand_rows_of m)
 asks_read m name f is = sym (ap asks_in is)
+
+-- whether a subcommand's matches ask that more is said
+pub verbose_read : (m : ArgMatches) (name : Text) (f : Found) → subcommand_rows_of m ≡ Some (name, rows_of f) → verbose_of (rows_of f) ≡ verbose_in (subcommand_rows_of m)
+verbose_read m name f is = sym (ap verbose_in is)
 
 -- a command gets no global argument with one that is local
 pub no_globals : (old arg new : Bool) → new ≡ (old || arg) → old ≡ false → arg ≡ false → new ≡ false

@@ -1,5 +1,5 @@
 -- How a command comes from the words.
-use Rattle.std.specs.Prelude.{ℕ, ◌^◌, Bool, List, [], Option, Some, None, ◌&&◌, codes, length, nat_lt, option_map, unwrap_or, if◌then◌else◌}
+use Rattle.std.specs.Prelude.{ℕ, ◌^◌, Bool, false, List, [], Option, Some, None, ◌&&◌, codes, length, nat_lt, option_map, unwrap_or, if◌then◌else◌}
 use Rattle.std.specs.List.{list_all}
 use Rattle.std.specs.Str.{bytes_eq}
 use Rattle.std.specs.Str.Parse.{digits_value, without_leading_plus}
@@ -82,6 +82,14 @@ abbrev pub images_in : Option (Text × List Row) → List Text
 images_in None = []
 images_in (Some p) = unwrap_or (all_of (codes "image") p.1) []
 
+-- whether more is to be said of a refusal
+abbrev pub verbose_of : List Row → Bool
+verbose_of rows = bytes_eq (text_in (codes "verbose") rows) (codes "true")
+
+abbrev pub verbose_in : Option (Text × List Row) → Bool
+verbose_in None = false
+verbose_in (Some p) = verbose_of p.1
+
 -- what the words ask for
 unfoldable pub asked : List Text → Ask
 asked words = asks_in (subcommand_of mdcli words)
@@ -89,3 +97,7 @@ asked words = asks_in (subcommand_of mdcli words)
 -- the image words
 unfoldable pub image_words : List Text → List Text
 image_words words = images_in (subcommand_of mdcli words)
+
+-- whether the words ask that more is said of a refusal
+unfoldable pub is_verbose : List Text → Bool
+is_verbose words = verbose_in (subcommand_of mdcli words)

@@ -23,19 +23,27 @@ u64_rule name = record (value_rule name) { parser = Some (Unsigned 0 18446744073
 abbrev pub flag_rule : Text → Rule
 flag_rule name = record (new_rule name) { long = Some name; action = Some SetTrue }
 
+-- of every command: more is said of a refusal
+abbrev pub verbose_rule : Rule
+verbose_rule = record (flag_rule (codes "verbose")) { short = Some 118 }  -- the letter v
+
 abbrev pub required : Rule → Rule
 required r = record r { required = true }
 
 abbrev pub by_default : Text → Rule → Rule
 by_default value r = record r { defaults = value ∷ [] }
 
+-- what every command has after its own options
+abbrev pub completed : App → App
+completed a = with_rule (with_rule a verbose_rule) image_rule
+
 -- a command with images alone: one that shows an image, and some that change an array
 abbrev pub bare_app : Text → App
-bare_app name = with_rule (new_app name) image_rule
+bare_app name = completed (new_app name)
 
 -- one that shows an array, the plan of a rebuild, or sectors, or compares the members, and that may be asked to change no image
 abbrev pub with_images : App → App
-with_images a = with_rule (with_rule a (flag_rule (codes "readonly"))) image_rule
+with_images a = completed (with_rule a (flag_rule (codes "readonly")))
 
 abbrev pub array_app : Text → App
 array_app name = with_images (new_app name)
@@ -49,7 +57,7 @@ plan_app = with_images (with_member (new_app (codes "plan")))
 
 -- a command that changes the state of one member
 abbrev pub member_app : Text → App
-member_app name = with_rule (with_member (new_app name)) image_rule
+member_app name = completed (with_member (new_app name))
 
 -- an option that is the image of a device which is to join the array
 abbrev pub with_device : App → App
@@ -57,7 +65,7 @@ with_device a = with_rule a (required (value_rule (codes "device")))
 
 -- a command by which a device joins an array
 abbrev pub device_app : Text → App
-device_app name = with_rule (with_device (new_app name)) image_rule
+device_app name = completed (with_device (new_app name))
 
 -- an option that is a sector of the array
 abbrev pub with_sector : App → App
@@ -67,7 +75,7 @@ abbrev pub read_app : App
 read_app = with_images (with_rule (with_sector (new_app (codes "read"))) (required (u64_rule (codes "count"))))
 
 abbrev pub write_app : App
-write_app = with_rule (with_sector (new_app (codes "write"))) image_rule
+write_app = completed (with_sector (new_app (codes "write")))
 
 -- `create`: what it must be given, and what it may
 abbrev pub with_required : App → App
@@ -89,7 +97,7 @@ with_optional a =
     (flag_rule (codes "assume-clean"))
 
 abbrev pub create_app : App
-create_app = with_rule (with_optional (with_required (new_app (codes "create")))) image_rule
+create_app = completed (with_optional (with_required (new_app (codes "create"))))
 
 -- the program itself has a version, and asks for a command
 abbrev pub with_version : App → App

@@ -4,7 +4,7 @@ ghost use Rattle.std.specs.List.{fold};
 ghost use Rattle.clap.specs.Words.{app_of, rule_of};
 ghost use Rattle.clap.specs.declared.builder.command.Command.TheViews.{out-Command as fields_of};
 ghost use Rattle.md_words.specs.Commands.{app_in, rule_in, with_command, with_option};
-ghost use Rattle.md_words.specs.Words.{flag_rule, image_rule, mdcli, u32_rule, u64_rule, value_rule, with_array_commands, with_data_commands, with_examine_commands, with_member_commands, with_rebuild_commands};
+ghost use Rattle.md_words.specs.Words.{flag_rule, image_rule, mdcli, u32_rule, u64_rule, value_rule, verbose_rule, with_array_commands, with_data_commands, with_examine_commands, with_member_commands, with_rebuild_commands};
 
 use crate::commands::{
     ARRAY_COMMANDS, CommandWords, DATA_COMMANDS, EXAMINE_COMMANDS, Kind, MEMBER_COMMANDS,
@@ -63,6 +63,15 @@ fn flag_arg<'a>(alloc: Global, name: &'a str, help: &'a str) -> Arg<'a>
         .help(help)
 }
 
+// Asked of every command.
+fn verbose_arg<'a>(alloc: Global) -> Arg<'a>
+    ensures rule { rule_of result ≡ verbose_rule }
+    ensures local { result.global ≡ false }
+{
+    let help = "Says more of a refusal: the image that it is about, and what to do";
+    flag_arg(alloc, "verbose", help).short('v')
+}
+
 // What clap is told of an option.
 fn option_arg<'a>(alloc: Global, option: &OptionWords<'a>) -> Arg<'a>
     ensures rule { rule_of result ≡ rule_in option.now }
@@ -97,7 +106,7 @@ fn with_options<'a>(
     Ok(command)
 }
 
-// A command with its options and its images.
+// A command with its options, those of every command, and its images.
 fn command_of<'a>(alloc: Global, words: &CommandWords<'a>) -> Result<Command<'a>, AllocError>
     ensures app { IfOk result (λ c. app_of c ≡ app_in words.now) }
     ensures local { IfOk result (λ c. (fields_of c).has_globals ≡ false) }
@@ -106,6 +115,7 @@ fn command_of<'a>(alloc: Global, words: &CommandWords<'a>) -> Result<Command<'a>
         .about(words.about)
         .after_help(words.after_help);
     let command = with_options(alloc, command, words.options)?;
+    let command = command.arg(verbose_arg(alloc))?;
     command.arg(image_arg(alloc))
 }
 

@@ -2,7 +2,7 @@
 ghost use Rattle.std.specs.Prelude.{◌≡◌, IfOk, [], codes, map, option_map, unwrap_or};
 ghost use Rattle.clap.specs.Words.{FailsBy, fault_of, first_of, found_of, matched_of, raw_values, rows_of, subcommand_of, subcommand_rows_of};
 ghost use Rattle.md_words.specs.Words.{mdcli};
-ghost use Rattle.md_words.specs.Asked.{asked, asks_in, asks_of, image_words, images_in, member_in, number_in, number_of, options_in, readonly_in, text_in};
+ghost use Rattle.md_words.specs.Asked.{asked, asks_in, asks_of, image_words, images_in, is_verbose, member_in, number_in, number_of, options_in, readonly_in, text_in, verbose_in, verbose_of};
 ghost use Rattle.md_words.specs.Asks.{ask_of, options_of};
 
 use crate::command::Command;
@@ -163,21 +163,30 @@ fn command_of<'a>(name: &str, found: &ArgMatches<'a>) -> Command<'a>
     }
 }
 
+fn is_verbose(found: &ArgMatches<'_>) -> bool
+    ensures { result ≡ verbose_of (rows_of (found_of found.now)) }
+{
+    text_of(found, "verbose") == "true"
+}
+
 fn requested<'a>(alloc: Global, matches: &ArgMatches<'a>) -> Result<Request<'a>, AllocError>
     ensures asks { IfOk result (λ r. ask_of r.command ≡ asks_in (subcommand_rows_of matches.now)) }
     ensures images { IfOk result
         (λ r. map (λ s. s.now) r.images.items ≡ images_in (subcommand_rows_of matches.now)) }
+    ensures verbose { IfOk result (λ r. r.verbose ≡ verbose_in (subcommand_rows_of matches.now)) }
 {
     let Some((name, found)) = matches.subcommand() else {
         return Ok(Request {
             command: Command::Examine,
             images: Vec::new(alloc),
+            verbose: false,
         });
     };
     let images = image_list(alloc, found)?;
     Ok(Request {
         command: command_of(name, found),
         images,
+        verbose: is_verbose(found),
     })
 }
 
@@ -193,11 +202,12 @@ fn image_list<'a>(alloc: Global, found: &ArgMatches<'a>) -> Result<Vec<&'a str>,
 }
 
 /// What the words ask for, or why the words are not taken.
-#[tactic(auto, unfolding(crate::specs::Asked::image_words, crate::specs::Asked::asked))]
+#[tactic(auto, unfolding(crate::specs::Asked::image_words, crate::specs::Asked::asked, crate::specs::Asked::is_verbose))]
 pub fn parse<'a>(alloc: Global, words: &'a [&'a str]) -> Result<Request<'a>, Error>
     ensures asks { IfOk result (λ r. ask_of r.command ≡ asked (map (λ s. s.now) words.entry.now)) }
     ensures images { IfOk result
         (λ r. map (λ s. s.now) r.images.items ≡ image_words (map (λ s. s.now) words.entry.now)) }
+    ensures verbose { IfOk result (λ r. r.verbose ≡ is_verbose (map (λ s. s.now) words.entry.now)) }
     ensures fails { FailsBy (fault_of mdcli (map (λ s. s.now) words.entry.now)) result }
 {
     let matches = matches(alloc, words)?;

@@ -42,15 +42,17 @@ fn main(rt: HostRuntime) -> ExitCode {
     };
     let words = words.as_slice();
     let parsed = parse(rt.alloc(), words);
-    let task = match &parsed {
-        Ok(request) => watched_task(request.command),
-        Err(_) => None,
+    let (task, is_verbose) = match &parsed {
+        Ok(request) => (watched_task(request.command), request.verbose),
+        Err(_) => (None, false),
     };
     let err = rt.stderr();
-    let (messages, task) = if err.is_terminal() {
-        (Messages::WithAdvice, task)
+    let is_terminal = err.is_terminal();
+    let task = if is_terminal { task } else { None };
+    let messages = if is_terminal || is_verbose {
+        Messages::WithAdvice
     } else {
-        (Messages::Plain, None)
+        Messages::Plain
     };
     let progress = Progress::new(&rt, task);
     // Output that goes elsewhere leaves the line as it is.
