@@ -44,15 +44,18 @@ use Rattle.md_examine.specs.declared.sink.Sink.{Ghosts as SinkGhosts}
 use Rattle.md_commands.specs.declared.fault.DataFault.{DataFault}
 use Rattle.md_commands.specs.declared.fault.DataFault.TheVariants.{BadLength, BadMember, Check, Fail, InputFault, NoMemory, OutOfRange, OutputFault, Read, Remove, Resync, Stop, Write}
 use Rattle.md_commands.specs.declared.source.Source.{Ghosts as SourceGhosts}
+use Rattle.md_commands.specs.declared.way.Way.{Way}
+use Rattle.md_commands.specs.declared.way.Way.TheVariants.{Resynced}
 use Rattle.md_commands.specs.Adding.{KeepsDevice}
 use Rattle.md_commands.specs.Checking.{ChecksMembers, RefusesToCheck}
 use Rattle.md_commands.specs.Failing.{RefusesToFail}
 use Rattle.md_commands.specs.Pieces.{ReadsPieces, ReadsSectors, ReadsSome, ReadsUpTo, RefusesSectors}
-use Rattle.md_commands.specs.Reading.{FailsReadied, ReadsArray, RefusesToRead}
+use Rattle.md_commands.specs.Reading.{FailsReadied, FailsReadonly, ReadsArray, ReadsReadonly, RefusesReadonly, RefusesToRead}
 use Rattle.md_commands.specs.Removing.{HandsBack, RefusesRemoving}
 use Rattle.md_commands.specs.Resyncing.{RefusesNeededResync, RefusesToResync, ResyncsIfNeeded, needs_resync}
 use Rattle.md_commands.specs.Stopping.{FailsToStop, FailsToStopArray, RefusesToStop, StopsAfter, StopsArray, StopsArrayAfter}
 use Rattle.md_commands.specs.Writing.{RefusesToWrite, WritesReadied}
+use Rattle.md_commands.proofs.Ways.{ends_rest, reads_rests}
 
 -- as many devices after as before
 abbrev pub AsMany : MirrorView → MirrorView → Type 0
@@ -241,25 +244,26 @@ stopped_after Through old new through s = stopped s.mid new s.stops ∙ through 
 pub fails_after : (Through : MirrorView → Type 0) (old new : MirrorView) (fault : StopFault) → ((mid : MirrorView) → Through mid → AsMany old mid) → FailsToStop Through new fault → AsMany old new
 fails_after Through old new fault through s = not_stopped fault s.mid new s.refused ∙ through s.mid s.through
 
-pieces_read : (sector : ℕ) (pieces : List (List ℕ)) (old new : MirrorView) → ReadsPieces sector pieces old new → AsMany old new
-pieces_read sector [] old new h = same old new h
-pieces_read sector (piece ∷ pieces) old new h = pieces_read (sector + length piece / 512) pieces h.0 new h.2 ∙ h.1.reads.rests.disks.same.as_many
+pieces_read : (way : Way) (sector : ℕ) (pieces : List (List ℕ)) (old new : MirrorView) → ReadsPieces way sector pieces old new → AsMany old new
+pieces_read way sector [] old new h = same old new h
+pieces_read way sector (piece ∷ pieces) old new h =
+    pieces_read way (sector + length piece / 512) pieces h.0 new h.2 ∙ (reads_rests way sector piece old h.0 h.1.reads).disks.same.as_many
 
-sectors_read : (sector : ℕ) (bytes : List ℕ) (old new : MirrorView) → ReadsSectors sector bytes old new → AsMany old new
-sectors_read sector bytes old new h = pieces_read sector h.pieces old new h.each
+sectors_read : (way : Way) (sector : ℕ) (bytes : List ℕ) (old new : MirrorView) → ReadsSectors way sector bytes old new → AsMany old new
+sectors_read way sector bytes old new h = pieces_read way sector h.pieces old new h.each
 
-read_up_to : (sector count s : ℕ) (bytes : List ℕ) (old new : MirrorView) → ReadsUpTo sector count s bytes old new → AsMany old new
-read_up_to sector count s bytes old new h = h.unread.1.rests.disks.same.as_many ∙ sectors_read sector h.done old h.mid h.reads
+read_up_to : (way : Way) (sector count s : ℕ) (reason : DataFault) (bytes : List ℕ) (old new : MirrorView) → ReadsUpTo way sector count s reason bytes old new → AsMany old new
+read_up_to way sector count s reason bytes old new h =
+    (ends_rest way _ s h.piece h.mid new reason h.ends).disks.same.as_many ∙ sectors_read way sector h.done old h.mid h.reads
 
-some_read : (sector count : ℕ) (old new : MirrorView) → ReadsSome sector count old new → AsMany old new
-some_read sector count old new h = ⊎_elim (λ r. sectors_read sector r.0 old new r.2) (λ r. read_up_to sector count r.0 r.1 old new r.2) h
+some_read : (way : Way) (sector count : ℕ) (old new : MirrorView) → ReadsSome way sector count old new → AsMany old new
+some_read way sector count old new h = ⊎_elim (λ r. sectors_read way sector r.0 old new r.2) (λ r. read_up_to way sector count r.0 r.1 r.2 old new r.3) h
 
-sectors_refused : {S : Type 0} (s : SinkGhosts S) (sector count : ℕ) (old new : MirrorView) (before after : S) (fault : DataFault)
-    → RefusesSectors s sector count old new before after fault → AsMany old new
-sectors_refused s sector count old new before after NoMemory h = same old new h.0
-sectors_refused s sector count old new before after (Read (unread.Unreadable x)) h = read_up_to sector count x h.bytes old new h.reads
-sectors_refused s sector count old new before after OutputFault h = some_read sector count old new h.0
-sectors_refused s sector count old new before after fault h = absurd h
+sectors_refused : {S : Type 0} (s : SinkGhosts S) (way : Way) (sector count : ℕ) (old new : MirrorView) (before after : S) (fault : DataFault)
+    → RefusesSectors s way sector count old new before after fault → AsMany old new
+sectors_refused s way sector count old new before after NoMemory h = same old new h.0
+sectors_refused s way sector count old new before after OutputFault h = some_read way sector count old new h.0
+sectors_refused s way sector count old new before after reason h = read_up_to way sector count h.0 reason h.1.bytes old new h.1.reads
 
 not_checked : (fault : CheckFault) (old new : MirrorView) → RefusesCheck old new fault → AsMany old new
 not_checked check.Halted old new h = refused old new _ h
@@ -284,10 +288,10 @@ module _ {S : Type 0} (s : SinkGhosts S) (old new : MirrorView) (before after : 
 
   module _ (sector count : ℕ) where
     pub done_read : ReadsArray s sector count old new before after → AsMany old new
-    done_read h = sectors_read sector h.puts.bytes h.ready new h.puts.reads ∙ readied old h.ready h.readied.readied
+    done_read h = sectors_read Resynced sector h.puts.bytes h.ready new h.puts.reads ∙ readied old h.ready h.readied.readied
 
     fails_readied : (fault : DataFault) → FailsReadied s sector count old new before after fault → AsMany old new
-    fails_readied fault h = sectors_refused s sector count h.ready new before after fault h.refused ∙ readied old h.ready h.readied.readied
+    fails_readied fault h = sectors_refused s Resynced sector count h.ready new before after fault h.refused ∙ readied old h.ready h.readied.readied
 
     pub reads_as_many : (fault : DataFault) → RefusesToRead s sector count old new before after fault → AsMany old new
     reads_as_many (Read unread.Halted) h = refused old new _ h.0
@@ -298,6 +302,22 @@ module _ {S : Type 0} (s : SinkGhosts S) (old new : MirrorView) (before after : 
     reads_as_many NoMemory h = fails_readied NoMemory h
     reads_as_many OutputFault h = fails_readied OutputFault h
     reads_as_many fault h = absurd h
+
+    pub done_readonly : ReadsReadonly s sector count old new before after → AsMany old new
+    done_readonly h = sectors_read h.way sector h.puts.bytes old new h.puts.reads
+
+    fails_readonly : (fault : DataFault) → FailsReadonly s sector count old new before after fault → AsMany old new
+    fails_readonly fault h = sectors_refused s h.way sector count old new before after fault h.refused
+
+    pub reads_readonly_as_many : (fault : DataFault) → RefusesReadonly s sector count old new before after fault → AsMany old new
+    reads_readonly_as_many (Read unread.Halted) h = refused old new _ h.0
+    reads_readonly_as_many (Read unread.OutOfRange) h = refused old new _ h.0
+    reads_readonly_as_many (Read unread.NotResynced) h = refused old new _ h.0
+    reads_readonly_as_many (Read (unread.Unreadable x)) h = fails_readonly (Read (unread.Unreadable x)) h
+    reads_readonly_as_many (Resync (resync.ReadFault k c)) h = fails_readonly (Resync (resync.ReadFault k c)) h
+    reads_readonly_as_many NoMemory h = fails_readonly NoMemory h
+    reads_readonly_as_many OutputFault h = fails_readonly OutputFault h
+    reads_readonly_as_many fault h = absurd h
 
   pub done_check : ChecksMembers s old new before after → AsMany old new
   done_check h = h.checks.rests.disks.same.as_many

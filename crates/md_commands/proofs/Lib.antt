@@ -1,3 +1,4 @@
+pub mod AsResynced
 pub mod Checked
 pub mod DeviceCounts
 pub mod PiecesPut
@@ -7,5 +8,7 @@ pub mod RebuildCounts
 pub mod RebuildPending
 pub mod Rebuilt
 pub mod Resynced
+pub mod ResyncedData
 pub mod StoppedAfter
+pub mod Ways
 pub mod Written

@@ -5,38 +5,43 @@ use Rattle.md_array.specs.Consistency.{IsConsistent}
 use Rattle.md_examine.specs.declared.sink.Sink.{Ghosts}
 use Rattle.md_examine.specs.Sink.{Flushes, Puts}
 use Rattle.md_examine.proofs.Puts.{puts_nothing, puts_then}
-use Rattle.md_read.specs.declared.fault.UnreadFault.{UnreadFault}
-use Rattle.md_read.specs.declared.fault.UnreadFault.TheVariants.{Halted, NotResynced, OutOfRange, Unreadable}
-use Rattle.md_read.specs.Reading.{MayReadAt, Reads, RefusesRead}
 use Rattle.md_state.specs.View.{MirrorView}
 use Rattle.md_commands.specs.declared.fault.DataFault.{DataFault}
-use Rattle.md_commands.specs.declared.fault.DataFault.TheVariants.{OutputFault, Read}
+use Rattle.md_commands.specs.declared.fault.DataFault.TheVariants.{OutputFault}
+use Rattle.md_commands.specs.declared.way.Way.{Way}
 use Rattle.md_commands.specs.Output.{FailsOutput, PutsOut}
-use Rattle.md_commands.specs.Pieces.{PutsPiece, PutsSectors, ReadsSectors, ReadsUpTo, RefusesPiece, RefusesSectors, piece_sectors}
+use Rattle.md_commands.specs.Pieces.{PutsFront, PutsPiece, PutsPieceUpTo, PutsSectors, ReadsSectors, ReadsUpTo, RefusesPiece, RefusesSectors, piece_sectors}
+use Rattle.md_commands.specs.Ways.{EndsBy, ReadsBy}
 use Rattle.md_commands.proofs.PiecesRead.{nothing_read, one_read, read_up_to, sectors_read}
+use Rattle.md_commands.proofs.Ways.{by_reason}
 
--- ---- a read that may be done
-pub ends_unreadable : (P : UnreadFault → Type 0) (old new : MirrorView) (sector : ℕ) (piece : List ℕ) → MayReadAt old.array sector (length piece / 512) → (fault : UnreadFault)
-    → RefusesRead sector piece old new fault → ((s : ℕ) → RefusesRead sector piece old new (Unreadable s) → P (Unreadable s)) → P fault
-ends_unreadable P old new sector piece may Halted h unread = let halted = h.reason in let running = may.running in absurd cc
-ends_unreadable P old new sector piece may OutOfRange h unread = absurd (h.reason.out may.range)
-ends_unreadable P old new sector piece may NotResynced h unread = let not_yet = h.reason.not_yet in let resynced = may.resynced in absurd cc
-ends_unreadable P old new sector piece may (Unreadable s) h unread = unread s h
-
-module _ {S : Type 0} (o : Ghosts S) (sector : ℕ) where
+module _ {S : Type 0} (o : Ghosts S) (way : Way) (sector : ℕ) where
   -- so many sectors were read and put out
   pub record PutsSoFar (sectors : ℕ) (old new : MirrorView) (before after : S) : Type 0 where
     pub bytes : List ℕ
     pub many : length bytes ≡ 512 * sectors
-    pub reads : ReadsSectors sector bytes old new
+    pub reads : ReadsSectors way sector bytes old new
     pub puts : Puts o.contents o.failed before after bytes
 
   pub puts_first : (v : MirrorView) (out : S) → PutsSoFar 0 v v out out
-  puts_first v out = record { bytes = []; many = refl; reads = nothing_read sector v; puts = puts_nothing o.contents o.failed out }
+  puts_first v out = record { bytes = []; many = refl; reads = nothing_read way sector v; puts = puts_nothing o.contents o.failed out }
+
+  -- a sector of the range was not read
+  pub ends_early : (count s : ℕ) (old new : MirrorView) (before after : S) (at : ℕ) (piece : List ℕ) (mid : MirrorView) (reason : DataFault) → EndsBy way at s piece mid new reason
+      → PutsFront o way sector count s reason old new before after → RefusesSectors o way sector count old new before after reason
+  ends_early count s old new before after at piece mid reason ends =
+      by_reason (λ f. PutsFront o way sector count s f old new before after → RefusesSectors o way sector count old new before after f) (λ t h. (s, h)) (λ k c h. (s, h))
+      way at s piece mid new reason ends
+
+  pub piece_ends : (at s : ℕ) (piece : List ℕ) (old new : MirrorView) (before after : S) (reason : DataFault) (ends : EndsBy way at s piece old new reason)
+      → PutsOut o before after (take (512 * (s - at)) piece) → RefusesPiece o way at piece old new before after reason
+  piece_ends at s piece old new before after reason ends shown =
+      by_reason (λ f. PutsPieceUpTo o way at s f piece old new before after → RefusesPiece o way at piece old new before after f) (λ t h. (s, h)) (λ k c h. (s, h))
+      way at s piece old new reason ends (record { ends = ends; shown = shown })
 
   module _ (old new : MirrorView) (before after : S) where
     -- the end of the range
-    pub puts_all : (count : ℕ) (last : S) → PutsSoFar count old new before last → Flushes o.contents o.failed o.is_flushed last after → PutsSectors o sector count old new before after
+    pub puts_all : (count : ℕ) (last : S) → PutsSoFar count old new before last → Flushes o.contents o.failed o.is_flushed last after → PutsSectors o way sector count old new before after
     puts_all count last so_far flushes = record {
       bytes = so_far.bytes;
       many = so_far.many;
@@ -47,7 +52,7 @@ module _ {S : Type 0} (o : Ghosts S) (sector : ℕ) where
       };
     }
 
-    pub not_flushed : (count : ℕ) (last : S) → PutsSoFar count old new before last → o.failed after ≡ true → RefusesSectors o sector count old new before after OutputFault
+    pub not_flushed : (count : ℕ) (last : S) → PutsSoFar count old new before last → o.failed after ≡ true → RefusesSectors o way sector count old new before after OutputFault
     not_flushed count last so_far failed = let many = so_far.many in (inl (so_far.bytes, omega arith, so_far.reads), failed)
 
   -- ---- one piece more
@@ -62,11 +67,11 @@ module _ {S : Type 0} (o : Ghosts S) (sector : ℕ) where
     whole : length b % 512 ≡ 0
     whole = let many = so_far.many in omega arith
 
-    more : Reads (sector + done) piece mid new → ReadsSectors sector (b ++ piece) old new
-    more reads = sectors_read old mid new sound sector b piece so_far.reads whole
-        (record { whole = omega arith; few = omega arith; reads = subst (λ (s : ℕ). Reads s piece mid new) here reads })
+    more : ReadsBy way (sector + done) piece mid new → ReadsSectors way sector (b ++ piece) old new
+    more reads = sectors_read way old mid new sound sector b piece so_far.reads whole
+        (record { whole = omega arith; few = omega arith; reads = subst (λ (s : ℕ). ReadsBy way s piece mid new) here reads })
 
-    pub puts_more : PutsPiece o (sector + done) piece mid new between after → PutsSoFar (done + sectors) old new before after
+    pub puts_more : PutsPiece o way (sector + done) piece mid new between after → PutsSoFar (done + sectors) old new before after
     puts_more puts = record {
       bytes = b ++ piece;
       many = let many = so_far.many in length-append b piece ∙ omega arith;
@@ -78,53 +83,50 @@ module _ {S : Type 0} (o : Ghosts S) (sector : ℕ) where
       fits : length b + length piece ≤ 512 * count
       fits = let many = so_far.many in omega arith
 
-      up_to : (s : ℕ) → RefusesRead (sector + done) piece mid new (Unreadable s) → ReadsUpTo sector count s (b ++ take (512 * (s - (sector + length b / 512))) piece) old new
-      up_to s unread = read_up_to old mid new sound sector still count s b piece so_far.reads whole (subst (λ (x : ℕ). RefusesRead x piece mid new (Unreadable s)) here unread) fits
+      up_to : (s : ℕ) (reason : DataFault) → EndsBy way (sector + done) s piece mid new reason
+          → ReadsUpTo way sector count s reason (b ++ take (512 * (s - (sector + length b / 512))) piece) old new
+      up_to s reason ends = read_up_to way old mid new sound sector still count s reason b piece so_far.reads whole (subst (λ (x : ℕ). EndsBy way x s piece mid new reason) here ends) fits
 
-      pub refuses_more : (fault : DataFault) → RefusesPiece o (sector + done) piece mid new between after fault → RefusesSectors o sector count old new before after fault
-      refuses_more (Read (Unreadable s)) h = record {
+      front_put : (s : ℕ) (reason : DataFault) → PutsPieceUpTo o way (sector + done) s reason piece mid new between after → RefusesSectors o way sector count old new before after reason
+      front_put s reason h = ends_early count s old new before after (sector + done) piece mid reason h.ends (record {
         bytes = b ++ take (512 * (s - (sector + length b / 512))) piece;
-        reads = up_to s h.unread;
+        reads = up_to s reason h.ends;
         short = λ few. absurd (omega arith);
         long = λ longer. record {
           puts = puts_then o.contents o.failed so_far.puts (subst (λ (x : ℕ). Puts o.contents o.failed between after (take (512 * (s - x)) piece)) here h.shown.puts);
           flushed = h.shown.flushed;
         };
-      }
+      })
+
+      pub refuses_more : (fault : DataFault) → RefusesPiece o way (sector + done) piece mid new between after fault → RefusesSectors o way sector count old new before after fault
       refuses_more OutputFault h = (
         ⊎_elim
-            (λ (reads : Reads (sector + done) piece mid new). inl (b ++ piece, let long = length-append b piece in let all = fits in omega arith, more reads))
-            (λ unread. inr (unread.0, b ++ take (512 * (unread.0 - (sector + length b / 512))) piece, up_to unread.0 unread.1))
+            (λ (reads : ReadsBy way (sector + done) piece mid new). inl (b ++ piece, let long = length-append b piece in let all = fits in omega arith, more reads))
+            (λ ends. inr (ends.0, ends.1, b ++ take (512 * (ends.0 - (sector + length b / 512))) piece, up_to ends.0 ends.1 ends.2))
             h.0,
         h.1,
       )
-      refuses_more fault h = absurd h
+      refuses_more reason h = front_put h.0 reason h.1
 
   -- ---- a range of one piece
   module _ (old new : MirrorView) (sound : IsConsistent old) (before : S) (piece : List ℕ) (whole : length piece % 512 ≡ 0) (few : length piece / 512 ≤ piece_sectors) where
-    one : Reads sector piece old new → ReadsSectors sector piece old new
-    one reads = one_read sector piece old new (record { whole = whole; few = omega arith; reads = reads })
+    one : ReadsBy way sector piece old new → ReadsSectors way sector piece old new
+    one reads = one_read way sector piece old new (record { whole = whole; few = omega arith; reads = reads })
 
-    pub put_or_not : Reads sector piece old new → (after : S) (result : Result (Unit {0}) DataFault) → MatchResult result (λ _. PutsOut o before after piece) (FailsOutput o after)
-        → MatchResult result (λ _. PutsSectors o sector (length piece / 512) old new before after) (RefusesSectors o sector (length piece / 512) old new before after)
+    pub put_or_not : ReadsBy way sector piece old new → (after : S) (result : Result (Unit {0}) DataFault) → MatchResult result (λ _. PutsOut o before after piece) (FailsOutput o after)
+        → MatchResult result (λ _. PutsSectors o way sector (length piece / 512) old new before after) (RefusesSectors o way sector (length piece / 512) old new before after)
     put_or_not reads after (Ok x) shown = record { bytes = piece; many = omega arith; reads = one reads; shown = shown }
     put_or_not reads after (Err fault) fails =
-        subst (λ (f : DataFault). RefusesSectors o sector (length piece / 512) old new before after f) (sym fails.is) (inl (piece, omega arith, one reads), fails.failed)
+        subst (λ (f : DataFault). RefusesSectors o way sector (length piece / 512) old new before after f) (sym fails.is) (inl (piece, omega arith, one reads), fails.failed)
 
-    pub one_unread : (fault : UnreadFault) → MayReadAt old.array sector (length piece / 512) → RefusesRead sector piece old new fault
-        → RefusesSectors o sector (length piece / 512) old new before before (Read fault)
-    one_unread fault may refused =
-        ends_unreadable (λ (f : UnreadFault). RefusesSectors o sector (length piece / 512) old new before before (Read f)) old new sector piece may fault refused
-        (λ s unread. record {
-          bytes = take (512 * (s - sector)) piece;
-          reads = up_to_one s unread;
-          short = λ few. refl;
-          long = λ longer. absurd (omega arith);
-        })
-      where
-        up_to_one : (s : ℕ) → RefusesRead sector piece old new (Unreadable s) → ReadsUpTo sector (length piece / 512) s (take (512 * (s - sector)) piece) old new
-        up_to_one s unread =
-            let here : sector + 0 / 512 ≡ sector = omega arith in
-            let none : sector ≡ sector + 0 / 512 = omega arith in
-            subst (λ (x : ℕ). ReadsUpTo sector (length piece / 512) s (take (512 * (s - x)) piece) old new) here
-            (read_up_to old old new sound sector sound (length piece / 512) s [] piece (nothing_read sector old) refl (subst (λ (x : ℕ). RefusesRead x piece old new (Unreadable s)) none unread) (omega arith))
+    pub one_unread : (s : ℕ) (reason : DataFault) → EndsBy way sector s piece old new reason → RefusesSectors o way sector (length piece / 512) old new before before reason
+    one_unread s reason ends = ends_early (length piece / 512) s old new before before sector piece old reason ends (record {
+      bytes = take (512 * (s - sector)) piece;
+      reads =
+          let here : sector + 0 / 512 ≡ sector = omega arith in
+          let none : sector ≡ sector + 0 / 512 = omega arith in
+          subst (λ (x : ℕ). ReadsUpTo way sector (length piece / 512) s reason (take (512 * (s - x)) piece) old new) here
+          (read_up_to way old old new sound sector sound (length piece / 512) s reason [] piece (nothing_read way sector old) refl (subst (λ (x : ℕ). EndsBy way x s piece old new reason) none ends) (omega arith));
+      short = λ few. refl;
+      long = λ longer. absurd (omega arith);
+    })

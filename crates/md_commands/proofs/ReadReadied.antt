@@ -3,7 +3,6 @@ use Rattle.std.proofs.Common.{◌≡◌, ◌∙◌, ◌&&◌, ℕ, Bool, true, f
 use Rattle.std.specs.Prelude.{MatchResult, Result, Ok, Err}
 use Rattle.md_examine.specs.declared.sink.Sink.{Ghosts}
 use Rattle.md_read.specs.declared.fault.UnreadFault.TheVariants.{Unreadable}
-use Rattle.md_read.specs.Reading.{MayReadAt}
 use Rattle.md_state.specs.Members.{is_degraded}
 use Rattle.md_state.specs.Trying.{Refuses}
 use Rattle.md_state.specs.View.{ArrayView, MirrorView}
@@ -12,6 +11,8 @@ use Rattle.md_commands.specs.declared.fault.DataFault.TheVariants.{NoMemory, Out
 use Rattle.md_commands.specs.Pieces.{PutsSectors, RefusesSectors}
 use Rattle.md_commands.specs.Reading.{IsReadied, MayReadArray, MustBeResynced, ReadsArray, RefusesToRead}
 use Rattle.md_commands.specs.Resyncing.{ResyncsIfNeeded, needs_resync}
+use Rattle.md_commands.specs.declared.way.Way.TheVariants.{Resynced}
+use Rattle.md_commands.specs.Ways.{MayReadBy}
 
 module _ (old ready : MirrorView) (readied : ResyncsIfNeeded old ready) where
   halted_at : (needs : Bool) → needs_resync old.array ≡ needs → ready.array.halted ≡ old.array.halted
@@ -41,28 +42,30 @@ module _ (old ready : MirrorView) (readied : ResyncsIfNeeded old ready) where
             }
 
   module _ (sector count : ℕ) (may : MayReadArray old.array sector count) (resynced : ready.array.resynced ≡ true) where
-    pub may_read : MayReadAt ready.array sector count
+    pub may_read : MayReadBy Resynced ready.array sector count
     may_read =
         let size = size_at (needs_resync old.array) refl in
         let inside = may.range.inside in
         record {
-          running = halted_at (needs_resync old.array) refl ∙ may.running;
-          range = record { some = may.range.some; inside = rw size inside };
-          resynced = resynced;
+          may = record {
+            running = halted_at (needs_resync old.array) refl ∙ may.running;
+            range = record { some = may.range.some; inside = rw size inside };
+          };
+          is_for = resynced;
         }
 
     module _ {S : Type 0} (o : Ghosts S) (new : MirrorView) (before after : S) where
       is_readied : IsReadied sector count old ready
       is_readied = record { may = may; readied = readied; resynced = resynced }
 
-      refuses_readied : (fault : DataFault) → RefusesSectors o sector count ready new before after fault → RefusesToRead o sector count old new before after fault
+      refuses_readied : (fault : DataFault) → RefusesSectors o Resynced sector count ready new before after fault → RefusesToRead o sector count old new before after fault
       refuses_readied NoMemory h = record { ready = ready; readied = is_readied; refused = h }
       refuses_readied (Read (Unreadable s)) h = record { ready = ready; readied = is_readied; refused = h }
       refuses_readied OutputFault h = record { ready = ready; readied = is_readied; refused = h }
-      refuses_readied fault h = absurd h
+      refuses_readied fault h = absurd h.1.reads.ends
 
       pub read_or_not : (result : Result (Unit {0}) DataFault)
-          → MatchResult result (λ _. PutsSectors o sector count ready new before after) (RefusesSectors o sector count ready new before after)
+          → MatchResult result (λ _. PutsSectors o Resynced sector count ready new before after) (RefusesSectors o Resynced sector count ready new before after)
           → MatchResult result (λ _. ReadsArray o sector count old new before after) (RefusesToRead o sector count old new before after)
       read_or_not (Ok x) puts = record { ready = ready; readied = is_readied; puts = puts }
       read_or_not (Err fault) h = refuses_readied fault h

@@ -1,5 +1,7 @@
 -- The command that adds a device.
 pub mod Adding
+-- What is read of an array that is not resynced is what a read gives after a resync.
+pub mod AsResynced
 -- The command that compares the members in sync.
 pub mod Checking
 -- The command that fails a member.
@@ -26,5 +28,7 @@ pub mod Resyncing
 pub mod Source
 -- The command that stops an array.
 pub mod Stopping
+-- How sectors of an array are read.
+pub mod Ways
 -- The command that writes to an array.
 pub mod Writing

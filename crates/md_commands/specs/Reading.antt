@@ -1,6 +1,7 @@
 -- The command that reads an array.
 use Rattle.std.specs.Prelude.{◌≡◌, ℕ, true, false}
 use Rattle.md_examine.specs.declared.sink.Sink.{Ghosts}
+use Rattle.md_resync.specs.declared.fault.ResyncFault.TheVariants.{ReadFault}
 use Rattle.md_read.specs.declared.fault.UnreadFault.{UnreadFault}
 use Rattle.md_read.specs.declared.fault.UnreadFault.TheVariants.{Halted, NotResynced, OutOfRange, Unreadable}
 use Rattle.md_state.specs.Beginning.{IsInRange, IsOutOfRange}
@@ -10,7 +11,9 @@ use Rattle.md_state.specs.View.{ArrayView, MirrorView}
 use Rattle.md_commands.specs.declared.fault.DataFault.{DataFault}
 use Rattle.md_commands.specs.declared.fault.DataFault.TheVariants.{NoMemory, OutputFault, Read, Resync}
 use Rattle.md_commands.specs.Pieces.{PutsSectors, RefusesSectors}
-use Rattle.md_commands.specs.Resyncing.{RefusesNeededResync, ResyncsIfNeeded}
+use Rattle.md_commands.specs.Resyncing.{RefusesNeededResync, ResyncsIfNeeded, needs_resync}
+use Rattle.md_commands.specs.declared.way.Way.{Way}
+use Rattle.md_commands.specs.declared.way.Way.TheVariants.{Resynced, Unresynced}
 
 -- the mirror runs, and the array has these sectors
 pub record MayReadArray (a : ArrayView) (sector count : ℕ) : Type 0 where
@@ -34,17 +37,22 @@ pub record MustBeResynced (a : ArrayView) (sector count : ℕ) : Type 0 where
   pub not_yet : a.resynced ≡ false
   pub complete : is_degraded a ≡ false
 
+-- A resynced array is read as it is. A degraded one that is not is read as it would be after a resync; another one is not read.
+abbrev pub IsWayFor : ArrayView → Way → Type 0
+IsWayFor a Resynced = a.resynced ≡ true
+IsWayFor a Unresynced = needs_resync a ≡ true
+
 module _ {S : Type 0} (o : Ghosts S) (sector count : ℕ) (old new : MirrorView) (before after : S) where
   pub record ReadsArray : Type 0 where
     pub ready : MirrorView
     pub readied : IsReadied sector count old ready
-    pub puts : PutsSectors o sector count ready new before after
+    pub puts : PutsSectors o Resynced sector count ready new before after
 
   -- it is ready, and not all sectors are read or put out
   pub record FailsReadied (fault : DataFault) : Type 0 where
     pub ready : MirrorView
     pub readied : IsReadied sector count old ready
-    pub refused : RefusesSectors o sector count ready new before after fault
+    pub refused : RefusesSectors o Resynced sector count ready new before after fault
 
   abbrev pub RefusesToRead : DataFault → Type 0
   RefusesToRead (Read Halted) = RefusesRange sector count old new Halted × (after ≡ before)
@@ -55,3 +63,27 @@ module _ {S : Type 0} (o : Ghosts S) (sector count : ℕ) (old new : MirrorView)
   RefusesToRead (Read (Unreadable s)) = FailsReadied (Read (Unreadable s))
   RefusesToRead OutputFault = FailsReadied OutputFault
   RefusesToRead fault = ⊥
+
+  -- ---- nothing is written
+  pub record ReadsReadonly : Type 0 where
+    pub may : MayReadArray old.array sector count
+    pub way : Way
+    pub chosen : IsWayFor old.array way
+    pub puts : PutsSectors o way sector count old new before after
+
+  -- not all sectors are read or put out
+  pub record FailsReadonly (fault : DataFault) : Type 0 where
+    pub may : MayReadArray old.array sector count
+    pub way : Way
+    pub chosen : IsWayFor old.array way
+    pub refused : RefusesSectors o way sector count old new before after fault
+
+  abbrev pub RefusesReadonly : DataFault → Type 0
+  RefusesReadonly (Read Halted) = RefusesRange sector count old new Halted × (after ≡ before)
+  RefusesReadonly (Read OutOfRange) = RefusesRange sector count old new OutOfRange × (after ≡ before)
+  RefusesReadonly (Read NotResynced) = Refuses old new (MustBeResynced old.array sector count) × (after ≡ before)
+  RefusesReadonly NoMemory = FailsReadonly NoMemory
+  RefusesReadonly (Read (Unreadable s)) = FailsReadonly (Read (Unreadable s))
+  RefusesReadonly (Resync (ReadFault k chunk)) = FailsReadonly (Resync (ReadFault k chunk))
+  RefusesReadonly OutputFault = FailsReadonly OutputFault
+  RefusesReadonly fault = ⊥

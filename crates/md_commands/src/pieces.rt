@@ -3,70 +3,75 @@ ghost use Rattle.std.specs.Prelude.{◌≡◌, ◌+◌, ◌*◌, ◌/◌, ◌%�
 ghost use Rattle.md_requests.specs.Pending.{PendingView};
 ghost use Rattle.md_state.specs.Requests.{IsPending};
 ghost use Rattle.md_array.specs.Consistency.{IsConsistent};
-ghost use Rattle.md_read.specs.Reading.{MayReadAt};
 ghost use Rattle.md_commands.specs.Pieces.{PutsPiece, PutsSectors, RefusesPiece, RefusesSectors, piece_sectors};
+ghost use Rattle.md_commands.specs.Ways.{MayReadBy};
 
 use crate::buffer::buffer;
 use crate::fault::DataFault;
 use crate::output::put_out;
+use crate::way::{Unread, Way, read_by};
 use md_array::Mirror;
 use md_device::Device;
 use md_examine::Sink;
-use md_read::{UnreadFault, read};
 use std::alloc::Global;
 
 // 1 MiB.
 const PIECE_SECTORS: u64 = 2048;
 
-/// Puts out `count` sectors of an array, from this one on, through one buffer. What fits into it is put out
-/// whole or not at all.
+/// Puts out `count` sectors of an array, from this one on, read in this way, through one buffer. What fits into it is put
+/// out whole or not at all.
 pub(crate) fn put_sectors<D: Device + Drop, S: Sink>(
     alloc: Global,
     mirror: &mut Mirror<D>,
+    way: Way,
     sector: u64,
     count: u64,
     out: &mut S,
 ) -> Result<(), DataFault>
-    requires may { MayReadAt mirror.old.array sector count }
+    requires may { MayReadBy way mirror.old.array sector count }
     requires fits { sector + count < 2 ^ 64 }
     requires sound { IsConsistent mirror.old }
     ensures gives { MatchResult result
-        (λ _. PutsSectors S.Sink sector count mirror.old mirror.new out.old out.new)
-        (RefusesSectors S.Sink sector count mirror.old mirror.new out.old out.new) }
+        (λ _. PutsSectors S.Sink way sector count mirror.old mirror.new out.old out.new)
+        (RefusesSectors S.Sink way sector count mirror.old mirror.new out.old out.new) }
     ensures sound { IsConsistent mirror.new }
     ensures pending { (p : PendingView) → IsPending mirror.old.array p → IsPending mirror.new.array p }
 {
     let mut piece = buffer(alloc, count.min(PIECE_SECTORS))?;
     if count <= PIECE_SECTORS {
-        return put_whole(mirror, sector, &mut piece, out);
+        return put_whole(mirror, way, sector, &mut piece, out);
     }
-    put_pieces(mirror, sector, count, &mut piece, out)
+    put_pieces(mirror, way, sector, count, &mut piece, out)
 }
 
 // Puts out as many sectors as the buffer has, once all are read.
 fn put_whole<D: Device + Drop, S: Sink>(
     mirror: &mut Mirror<D>,
+    way: Way,
     sector: u64,
     piece: &mut [u8],
     out: &mut S,
 ) -> Result<(), DataFault>
     requires whole { length piece.old % 512 ≡ 0 }
     requires few { length piece.old / 512 ≤ piece_sectors }
-    requires may { MayReadAt mirror.old.array sector (length piece.old / 512) }
+    requires may { MayReadBy way mirror.old.array sector (length piece.old / 512) }
     requires sound { IsConsistent mirror.old }
     ensures gives { MatchResult result
-        (λ _. PutsSectors S.Sink sector (length piece.old / 512) mirror.old mirror.new out.old out.new)
-        (RefusesSectors S.Sink sector (length piece.old / 512) mirror.old mirror.new out.old out.new) }
+        (λ _. PutsSectors S.Sink way sector (length piece.old / 512) mirror.old mirror.new out.old out.new)
+        (RefusesSectors S.Sink way sector (length piece.old / 512) mirror.old mirror.new out.old out.new) }
     ensures sound { IsConsistent mirror.new }
     ensures pending { (p : PendingView) → IsPending mirror.old.array p → IsPending mirror.new.array p }
 {
-    read(mirror, sector, piece)?;
-    put_out(out, piece)
+    match read_by(mirror, way, sector, piece) {
+        Ok(()) => put_out(out, piece),
+        Err(unread) => Err(unread.fault),
+    }
 }
 
 // Puts out more sectors than the buffer has, each piece once it is read.
 fn put_pieces<D: Device + Drop, S: Sink>(
     mirror: &mut Mirror<D>,
+    way: Way,
     sector: u64,
     count: u64,
     buffer: &mut [u8],
@@ -74,12 +79,12 @@ fn put_pieces<D: Device + Drop, S: Sink>(
 ) -> Result<(), DataFault>
     requires room { length buffer.old ≡ 512 * piece_sectors }
     requires more { piece_sectors < count }
-    requires may { MayReadAt mirror.old.array sector count }
+    requires may { MayReadBy way mirror.old.array sector count }
     requires fits { sector + count < 2 ^ 64 }
     requires sound { IsConsistent mirror.old }
     ensures gives { MatchResult result
-        (λ _. PutsSectors S.Sink sector count mirror.old mirror.new out.old out.new)
-        (RefusesSectors S.Sink sector count mirror.old mirror.new out.old out.new) }
+        (λ _. PutsSectors S.Sink way sector count mirror.old mirror.new out.old out.new)
+        (RefusesSectors S.Sink way sector count mirror.old mirror.new out.old out.new) }
     ensures sound { IsConsistent mirror.new }
     ensures pending { (p : PendingView) → IsPending mirror.old.array p → IsPending mirror.new.array p }
 {
@@ -88,6 +93,7 @@ fn put_pieces<D: Device + Drop, S: Sink>(
         let sectors = PIECE_SECTORS.min(count - done);
         put_piece(
             mirror,
+            way,
             sector + done,
             &mut buffer[..512 * sectors as usize],
             out,
@@ -98,31 +104,31 @@ fn put_pieces<D: Device + Drop, S: Sink>(
     Ok(())
 }
 
-// Reads a piece and puts it out. Where a sector of it is unreadable, those before it are put out.
+// Reads a piece and puts it out. Where a sector of it is not read, those before it are put out.
 fn put_piece<D: Device + Drop, S: Sink>(
     mirror: &mut Mirror<D>,
+    way: Way,
     sector: u64,
     piece: &mut [u8],
     out: &mut S,
 ) -> Result<(), DataFault>
     requires whole { length piece.old % 512 ≡ 0 }
-    requires may { MayReadAt mirror.old.array sector (length piece.old / 512) }
+    requires may { MayReadBy way mirror.old.array sector (length piece.old / 512) }
     requires sound { IsConsistent mirror.old }
     ensures gives { MatchResult result
-        (λ _. PutsPiece S.Sink sector piece.new mirror.old mirror.new out.old out.new)
-        (RefusesPiece S.Sink sector piece.new mirror.old mirror.new out.old out.new) }
+        (λ _. PutsPiece S.Sink way sector piece.new mirror.old mirror.new out.old out.new)
+        (RefusesPiece S.Sink way sector piece.new mirror.old mirror.new out.old out.new) }
     ensures sound { IsConsistent mirror.new }
     ensures pending { (p : PendingView) → IsPending mirror.old.array p → IsPending mirror.new.array p }
 {
-    match read(mirror, sector, piece) {
+    match read_by(mirror, way, sector, piece) {
         Ok(()) => {
             out.put(piece)?;
             Ok(())
         }
-        Err(UnreadFault::Unreadable(s)) => {
+        Err(Unread { sector: s, fault }) => {
             put_out(out, &piece[..512 * (s - sector) as usize])?;
-            Err(DataFault::Read(UnreadFault::Unreadable(s)))
+            Err(fault)
         }
-        Err(fault) => Err(DataFault::Read(fault)),
     }
 }

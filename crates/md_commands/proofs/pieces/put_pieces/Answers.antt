@@ -1,10 +1,12 @@
 use Rattle.std.proofs.Common.{rules, Err, ◌≡◌, ◌∙◌, ◌+◌, ◌*◌, ◌-◌, ◌/◌, ◌<◌, ◌≤◌, ℕ, List, length, drop, take, min, refl, sym, subst, arith, length-append, length-drop}
 use Rattle.std.proofs.lemmas.List.{length-take-le}
-use Rattle.md_read.specs.Reading.{MayReadAt}
 use Rattle.md_state.specs.View.{ArrayView}
 use Rattle.md_commands.specs.declared.fault.DataFault.TheVariants.{OutputFault}
+use Rattle.md_commands.specs.declared.way.Way.{Way}
 use Rattle.md_commands.specs.Pieces.{piece_sectors}
+use Rattle.md_commands.specs.Ways.{MayReadBy}
 use Rattle.md_commands.proofs.PiecesPut.{PutsSoFar, not_flushed, puts_all, puts_first, puts_more, refuses_more}
+use Rattle.md_commands.proofs.Ways.{reads_rests}
 use Rattle.md_commands.proofs.pieces.put_pieces.Goals as goal
 
 -- the sectors of a piece
@@ -12,15 +14,19 @@ piece_of : (buffer : List ℕ) (done count sectors : ℕ) → done < count → l
     → (0 < sectors) × (sectors ≤ piece_sectors) × (done + sectors ≤ count) × (length (take (512 * sectors) buffer) ≡ 512 * sectors)
 piece_of buffer done count sectors before room is = (omega arith, omega arith, omega arith, length-take-le (512 * sectors) buffer (omega arith))
 
-may_read_piece : (old mid : ArrayView) → mid ≡ old → (sector count done sectors : ℕ) → MayReadAt old sector count → 0 < sectors → done + sectors ≤ count → MayReadAt mid (sector + done) sectors
-may_read_piece old mid same sector count done sectors may some within =
-    let inside = may.range.inside in
-    let here : MayReadAt old (sector + done) sectors = record { running = may.running; range = record { some = some; inside = omega arith }; resynced = may.resynced } in
-    subst (λ (a : ArrayView). MayReadAt a (sector + done) sectors) (sym same) here
+may_read_piece : (way : Way) (old mid : ArrayView) → mid ≡ old → (sector count done sectors : ℕ) → MayReadBy way old sector count → 0 < sectors → done + sectors ≤ count
+    → MayReadBy way mid (sector + done) sectors
+may_read_piece way old mid same sector count done sectors by some within =
+    let inside = by.may.range.inside in
+    let here : MayReadBy way old (sector + done) sectors = record {
+      may = record { running = by.may.running; range = record { some = some; inside = omega arith } };
+      is_for = by.is_for;
+    } in
+    subst (λ (a : ArrayView). MayReadBy way a (sector + done) sectors) (sym same) here
 
 pub loop-done-init : goal.loop-done-init
 loop-done-init g c = record {
-  so_far = puts_first g.S.Sink c.args.sector c.args.mirror.now c.args.out.now;
+  so_far = puts_first g.S.Sink c.args.way c.args.sector c.args.mirror.now c.args.out.now;
   sound = c.requires.sound;
   array = refl;
   long = refl;
@@ -47,8 +53,8 @@ put_piece-requires-clause-may g c =
     let is = piece_of c.loop-done.buffer c.loop-done.done c.args.count sectors c.loop-done-test.true (c.loop-done.invariant.long ∙ c.requires.room) c.min-sectors.ensures in
     let long = is.3 in
     let many : sectors ≡ length (take (512 * sectors) c.loop-done.buffer) / 512 = omega arith in
-    subst (λ (n : ℕ). MayReadAt mid.array (c.args.sector + c.loop-done.done) n) many
-    (may_read_piece old.array mid.array c.loop-done.invariant.array c.args.sector c.args.count c.loop-done.done sectors c.requires.may is.0 is.2)
+    subst (λ (n : ℕ). MayReadBy c.args.way mid.array (c.args.sector + c.loop-done.done) n) many
+    (may_read_piece c.args.way old.array mid.array c.loop-done.invariant.array c.args.sector c.args.count c.loop-done.done sectors c.requires.may is.0 is.2)
 
 pub loop-done-preserved : goal.loop-done-preserved
 loop-done-preserved g c =
@@ -68,9 +74,9 @@ loop-done-preserved g c =
     let same = so_far.long in
     let fits = is.1 in
     record {
-      so_far = puts_more g.S.Sink c.args.sector old mid new c.requires.sound c.args.out.now c.loop-done.out c.put_piece.new.out c.loop-done.done sectors is.1 piece long so_far.so_far puts;
+      so_far = puts_more g.S.Sink c.args.way c.args.sector old mid new c.requires.sound c.args.out.now c.loop-done.out c.put_piece.new.out c.loop-done.done sectors is.1 piece long so_far.so_far puts;
       sound = c.in_ok-put_piece.ensures.sound;
-      array = puts.reads.rests.array ∙ so_far.array;
+      array = (reads_rests c.args.way (c.args.sector + c.loop-done.done) piece mid new puts.reads).array ∙ so_far.array;
       long = length-append piece (drop (512 * sectors) buffer) ∙ (omega arith);
       few = omega arith;
     }
@@ -87,7 +93,7 @@ returns-in_err-put_piece-clause-gives g c =
     let fault = c.in_err-put_piece.field-0.0 in
     let passed : c.from_residual.result ≡ Err fault = search rules in
     rw passed
-    (refuses_more g.S.Sink c.args.sector old mid new c.requires.sound c.args.out.now c.loop-done.out c.put_piece.new.out c.loop-done.done sectors is.1 c.put_piece.new.piece long so_far.so_far so_far.sound
+    (refuses_more g.S.Sink c.args.way c.args.sector old mid new c.requires.sound c.args.out.now c.loop-done.out c.put_piece.new.out c.loop-done.done sectors is.1 c.put_piece.new.piece long so_far.so_far so_far.sound
     c.args.count is.2 c.requires.more fault c.in_err-put_piece.ensures.gives)
 
 pub returns-in_err-flush-clause-gives : goal.returns-in_err-flush-clause-gives
@@ -98,8 +104,8 @@ returns-in_err-flush-clause-gives g c =
     let all : c.loop-done.done ≡ c.args.count = omega arith in
     let fails : c.from_residual-in_err-flush.result ≡ Err OutputFault = search rules in
     rw fails
-    (not_flushed g.S.Sink c.args.sector c.args.mirror.now c.loop-done.mirror c.args.out.now c.flush.new.self c.args.count c.loop-done.out
-    (subst (λ (n : ℕ). PutsSoFar g.S.Sink c.args.sector n c.args.mirror.now c.loop-done.mirror c.args.out.now c.loop-done.out) all so_far.so_far)
+    (not_flushed g.S.Sink c.args.way c.args.sector c.args.mirror.now c.loop-done.mirror c.args.out.now c.flush.new.self c.args.count c.loop-done.out
+    (subst (λ (n : ℕ). PutsSoFar g.S.Sink c.args.way c.args.sector n c.args.mirror.now c.loop-done.mirror c.args.out.now c.loop-done.out) all so_far.so_far)
     c.in_err-flush.ensures)
 
 pub returns-clause-gives : goal.returns-clause-gives
@@ -108,6 +114,6 @@ returns-clause-gives g c =
     let past = c.loop-done-test.false in
     let few = so_far.few in
     let all : c.loop-done.done ≡ c.args.count = omega arith in
-    puts_all g.S.Sink c.args.sector c.args.mirror.now c.loop-done.mirror c.args.out.now c.flush.new.self c.args.count c.loop-done.out
-    (subst (λ (n : ℕ). PutsSoFar g.S.Sink c.args.sector n c.args.mirror.now c.loop-done.mirror c.args.out.now c.loop-done.out) all so_far.so_far)
+    puts_all g.S.Sink c.args.way c.args.sector c.args.mirror.now c.loop-done.mirror c.args.out.now c.flush.new.self c.args.count c.loop-done.out
+    (subst (λ (n : ℕ). PutsSoFar g.S.Sink c.args.way c.args.sector n c.args.mirror.now c.loop-done.mirror c.args.out.now c.loop-done.out) all so_far.so_far)
     c.in_ok-flush.ensures

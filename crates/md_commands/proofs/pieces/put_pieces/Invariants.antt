@@ -8,7 +8,7 @@ decreases-loop-done g l = l.count - l.done
 
 abbrev pub invariant-loop-done : goal.invariant-loop-done
 invariant-loop-done g l = record {
-  so_far : PutsSoFar g.S.Sink l.sector l.done l.fn.mirror l.mirror l.fn.out l.out;
+  so_far : PutsSoFar g.S.Sink l.way l.sector l.done l.fn.mirror l.mirror l.fn.out l.out;
   sound : IsConsistent l.mirror;
   array : l.mirror.array ≡ l.fn.mirror.array;
   long : length l.buffer ≡ length l.fn.buffer;

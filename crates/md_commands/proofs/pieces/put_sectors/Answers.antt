@@ -13,5 +13,5 @@ returns-then-count-le-PIECE_SECTORS-clause-gives g c =
     let least = c.min.ensures in
     let few = c.if-count-le-PIECE_SECTORS.true in
     let many : length c.deref_mut.result.now / 512 ≡ c.args.count = omega arith in
-    subst (λ (n : ℕ). MatchResult c.put_whole.result (λ _. PutsSectors g.S.Sink c.args.sector n old new before after) (RefusesSectors g.S.Sink c.args.sector n old new before after)) many
+    subst (λ (n : ℕ). MatchResult c.put_whole.result (λ _. PutsSectors g.S.Sink c.args.way c.args.sector n old new before after) (RefusesSectors g.S.Sink c.args.way c.args.sector n old new before after)) many
     c.put_whole.ensures.gives

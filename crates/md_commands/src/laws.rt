@@ -1,0 +1,11 @@
+//! What holds of reads and resyncs together. The function does nothing: its contract is the theorem.
+ghost use Rattle.md_commands.specs.AsResynced.{ReadsAsResynced, ResyncsLeaveSources};
+
+/// What `read_unresynced` gives is what a resync and then a `read` give, where devices do what they answer: in each
+/// sector of a marked chunk, whatever the members hold there, and in each other in which the members in sync agree. For a
+/// resync leaves in each marked sector what its source held, on each member in sync that does not list it, and in no other sector
+/// anything else than was there.
+pub fn read_as_resynced()
+    ensures sources { ResyncsLeaveSources }
+    ensures reads { ReadsAsResynced }
+{}
