@@ -14,3 +14,5 @@ pub mod TornCopies
 pub mod LoneMarks
 -- What a stop leaves within `add` and `re_add`, before they are done.
 pub mod JoiningStops
+-- A member that has no role leaves, and counts as one that an opening left out.
+pub mod Departed

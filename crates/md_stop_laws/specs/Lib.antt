@@ -6,3 +6,5 @@ pub mod HaltedCalls
 pub mod TornWrites
 -- What a stop leaves within `add` and `re_add`, before they are done.
 pub mod JoiningStops
+-- Devices that left by `remove`, at an opening after a later stop.
+pub mod Departed

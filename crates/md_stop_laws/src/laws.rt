@@ -2,6 +2,7 @@
 
 ghost use Rattle.md_laws.specs.Lives.{AtEachMoment};
 ghost use Rattle.md_stop_laws.specs.Agreement.{AgreesAtRest, ResyncsAgree};
+ghost use Rattle.md_stop_laws.specs.Departed.{CallsDepartedOut, FindsCalledOut, FindsInSyncSince};
 ghost use Rattle.md_stop_laws.specs.HaltedCalls.{StopsAtEachHalt, StopsAtHaltedResync, StopsAtHaltedStop, StopsAtHaltedWrite};
 ghost use Rattle.md_stop_laws.specs.JoiningStops.{NoneIsOpened, StopsInAdd, StopsInFailedAdd, StopsInFailedReAdd, StopsInReAdd, StopsInRefusedAdd, StopsInRefusedReAdd};
 ghost use Rattle.md_stop_laws.specs.TornWrites.{ContentAfterCopy, ContentAfterLoneMarks, StartsAfterCopy, StartsAfterLoneMarks};
@@ -47,4 +48,13 @@ pub fn joining_stops()
     ensures failed_re_add { StopsInFailedReAdd }
     ensures refused_re_add { StopsInRefusedReAdd }
     ensures unread { NoneIsOpened }
+{}
+
+/// A member that failed, or a spare, leaves by `remove`. To an opening after a later stop that is as new as the array was
+/// right after that, its device is one that the opening before left out: it is not found in sync, and each member that is
+/// was so at the stop. So it is until its number is given out again.
+pub fn departed_devices()
+    ensures finds_out { FindsCalledOut }
+    ensures called_out { CallsDepartedOut }
+    ensures finds_in_sync { FindsInSyncSince }
 {}
