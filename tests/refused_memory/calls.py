@@ -77,6 +77,7 @@ FAILS = {
     "md_images::MemImages::add_protected": ("command_tests", "faults_in_memory::images_that_fail", "AllocError"),
     "md_inflight::Inflight::push_back": ("part_tests", "requests::removed_in_any_order", "NoMemory"),
     "md_maps::read_map": ("notice_tests", "maps::maps_are_read", "NoMemory"),
+    "md_maps::write_map": ("notice_tests", "maps::a_map_is_written", "AllocError"),
     "md_members::read_member": ("part_tests", "damaged::rows::answers", "no memory"),
     "md_plan::plan": ("part_tests", "plans::small_tables::plan_needs_a_move", "NoMemory"),
     "md_signatures::find_signatures": ("notice_tests", "signatures::all_are_found_in_order", "AllocError"),

@@ -2,3 +2,4 @@ pub mod Words
 pub mod Numerals
 pub mod Faults
 pub mod Lines
+pub mod Written

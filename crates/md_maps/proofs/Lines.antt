@@ -59,7 +59,7 @@ rows-some lines line a more some =
     test : is_row (a ∷ more) ≡ true → rows_of lines ++ filter is_row ((a ∷ more) ∷ []) ≡ rows_of lines ++ (a ∷ more) ∷ []
     test h = ap (λ (b : Bool). rows_of lines ++ cond b ((a ∷ more) ∷ []) []) h
 
-end-cons : (x : Block) (xs : List Block) → end_of (x ∷ xs) ≡ x.len + end_of xs
+pub end-cons : (x : Block) (xs : List Block) → end_of (x ∷ xs) ≡ x.len + end_of xs
 end-cons x xs = let e = sum_by-append (λ (y : Block). y.len) (x ∷ []) xs in omega (arith, e)
 
 blocks-push : (size from : ℕ) (rows : List (List (List ℕ))) (blocks : List Block) (row : List (List ℕ)) (b : Block) → AreBlocks size from rows blocks

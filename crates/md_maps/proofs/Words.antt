@@ -26,7 +26,7 @@ not_true false h = refl
 
 -- ---- white space before the first word
 
-words-space : (x : ℕ) (xs : List ℕ) → is_space x ≡ true → words (x ∷ xs) ≡ words xs
+pub words-space : (x : ℕ) (xs : List ℕ) → is_space x ≡ true → words (x ∷ xs) ≡ words xs
 words-space x xs space = ap (filter is_word) (slice_split-cons_yes is_space x xs space)
 
 words-drop : (n : ℕ) (xs : List ℕ) → n ≤ length xs → ((k : ℕ) → k < n → is_space (get_or xs k 0) ≡ true) → words (drop n xs) ≡ words xs
@@ -79,11 +79,11 @@ pub position_none : (p : ℕ → Bool) (xs : List ℕ) → position p xs ≡ Non
 position_none p xs none =
     ⊎_elim (λ within. absurd (grind (arith, nat_tests))) (λ past. past) (cases_lt (position_or_len p xs) (length xs))
 
-fields_from_words : (xs ys : List ℕ) → words xs ≡ words ys → fields_of xs ≡ fields_of ys
+pub fields_from_words : (xs ys : List ℕ) → words xs ≡ words ys → fields_of xs ≡ fields_of ys
 unfolding fields_of
 fields_from_words xs ys same = ap (take_while is_no_comment) same
 
-fields-first : (xs : List ℕ) (word rest : List ℕ) → words xs ≡ word ∷ words rest → fields_of xs ≡ cond (is_no_comment word) (word ∷ fields_of rest) []
+pub fields-first : (xs : List ℕ) (word rest : List ℕ) → words xs ≡ word ∷ words rest → fields_of xs ≡ cond (is_no_comment word) (word ∷ fields_of rest) []
 unfolding fields_of
 fields-first xs word rest first = ap (take_while is_no_comment) first ∙ take_while-cons is_no_comment word (words rest)
 

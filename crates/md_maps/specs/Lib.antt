@@ -8,3 +8,5 @@ pub mod Rows
 pub mod Map
 -- What was read of a map, line by line.
 pub mod Reading
+-- The map that is written for an image of which these sectors are lacking.
+pub mod Writing

@@ -7,7 +7,9 @@ mod line;
 mod map;
 mod numbers;
 mod reading;
+mod writing;
 
 pub use fault::{LineFault, MapFault};
 pub use line::Block;
 pub use map::read_map;
+pub use writing::write_map;

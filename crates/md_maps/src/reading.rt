@@ -12,7 +12,7 @@ use md_badblocks::BadSet;
 use std::alloc::AllocError;
 
 /// The bytes of a sector.
-const SECTOR: u64 = 512;
+pub(crate) const SECTOR: u64 = 512;
 
 /// What the lines so far say.
 #[derive(Drop)]

@@ -1,8 +1,11 @@
 // Maps of ddrescue: two that it wrote, the forms that its manual allows, and each fault once.
+ghost use Rattle.std.specs.Prelude.{ℕ, ◌*◌, ◌<◌, IfOk};
+ghost use Rattle.md_badblocks.specs.Runs.{IsBad};
+
 use crate::checks::same_at;
-use md_badblocks::Run;
-use md_maps::{LineFault, MapFault, read_map};
-use std::alloc::Global;
+use md_badblocks::{BadSet, Run};
+use md_maps::{LineFault, MapFault, read_map, write_map};
+use std::alloc::{AllocError, Global};
 use std::process::Abort;
 use std::test::Fail;
 
@@ -95,6 +98,33 @@ fn maps_are_read(rt: HostRuntime) -> Result<(), Fail> {
     for row in &TAKEN {
         check_taken(&rt, rt.alloc(), row)?;
     }
+    Ok(())
+}
+
+// The lines of the blocks are those that ddrescue writes for the same image.
+const BLOCKS: &str = "0x00000000  0x00002600  +
+0x00002600  0x00000400  -
+0x00002A00  0x00009C00  +
+0x0000C600  0x00000200  -
+0x0000C800  0x00003800  +
+";
+
+fn two_places(alloc: Global) -> Result<BadSet, AllocError>
+    ensures { IfOk result (λ missing. (sector : ℕ) → IsBad missing sector → 512 * sector < 65536) }
+{
+    let mut missing = BadSet::new(alloc);
+    missing.add(19, 2)?;
+    missing.add(99, 1)?;
+    Ok(missing)
+}
+
+#[test]
+fn a_map_is_written(rt: HostRuntime) -> Result<(), Fail> {
+    let missing = two_places(rt.alloc())?;
+    let text = write_map(rt.alloc(), 65536, &missing)?;
+    drop(missing);
+    same_at(&rt, &text.as_str(), text.as_str().ends_with(BLOCKS), true);
+    drop(text);
     Ok(())
 }
 

@@ -1,0 +1,47 @@
+-- The map that is written for an image of which these sectors are lacking.
+use Rattle.std.specs.Prelude.{ℕ, ◌+◌, ◌-◌, ◌*◌, ◌^◌, Bool, true, false, List, [], ◌∷◌, ◌++◌, min, nat_lt, codes, if◌then◌else◌}
+use Rattle.std.specs.List.{flat_map}
+use Rattle.std.specs.Fmt.{digits, padded_integral, format_spec}
+use Rattle.md_badblocks.specs.declared.run.Run.{Run}
+use Rattle.md_maps.specs.declared.line.Block.{Block}
+
+abbrev pub block : ℕ → ℕ → Bool → Block
+block start len rescued = record { start = start; len = len; rescued = rescued }
+
+-- the bytes from one place up to another, which are rescued
+abbrev pub rescued_between : ℕ → ℕ → List Block
+rescued_between from to = if nat_lt from to then block from (to - from) true ∷ [] else []
+
+-- the blocks from `from` on: the bytes of the runs are not rescued, and all between are
+abbrev pub blocks_from : ℕ → ℕ → List Run → List Block
+blocks_from size from [] = rescued_between from size
+blocks_from size from (run ∷ runs) = let start = 512 * run.start in let end = min (512 * (run.start + run.len)) size in
+    rescued_between from start ++ (block start (end - start) false ∷ blocks_from size end runs)
+
+-- a number in hexadecimal, with zeros up to eight digits
+unfoldable pub hexadecimal : ℕ → List ℕ
+hexadecimal n = 48 ∷ 120 ∷ padded_integral (format_spec 32 0 4 8 (2 ^ 64 - 1)) false [] (digits 16 true n)
+
+abbrev pub status_text : Bool → List ℕ
+status_text true = codes "+"
+status_text false = codes "-"
+
+-- the line of a block, without its line feed
+unfoldable pub block_line : Block → List ℕ
+block_line b = hexadecimal b.start ++ (codes "  " ++ (hexadecimal b.len ++ (codes "  " ++ status_text b.rescued)))
+
+abbrev pub ended : List ℕ → List ℕ
+ended line = line ++ 10 ∷ []
+
+-- what stands before the blocks; the status is that of a copy that is finished
+abbrev pub head_lines : List (List ℕ)
+head_lines =
+    codes "# Mapfile. Created by mdcli"
+    ∷ codes "# current_pos  current_status  current_pass"
+    ∷ codes "0x00000000     +               1"
+    ∷ codes "#      pos        size  status"
+    ∷ []
+
+-- the text of the map of `size` bytes
+unfoldable pub map_text : ℕ → List Run → List ℕ
+map_text size runs = flat_map ended head_lines ++ flat_map (λ b. ended (block_line b)) (blocks_from size 0 runs)
