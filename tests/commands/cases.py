@@ -231,6 +231,10 @@ STORED = "mdcli: a: its bitmap did not tell of the array, so all chunks are mark
 UNCOMPARED = "mdcli: %s: no other member is in sync, so nothing was compared\n"
 # Of a device of the array that no image is, and of a member that was used alone.
 UNNAMED = "mdcli: device %d in role %d is not among the images\n"
+# Of what an image that is added holds.
+STANDING = "mdcli: %s: is device %d%s of array " + SET + ", %s there\n"
+FORGOTTEN = "mdcli: %s: is in sync in this very array, and is not among the images\n"
+EXT = "mdcli: %s: holds an ext2, ext3 or ext4 file system\n"
 PARTED = "mdcli: %s: was used without %s since they parted: what was written to it alone is not in this array\n"
 
 PLAN = (
@@ -434,7 +438,7 @@ CASES = [
             Step("add --device c a b", "in sync 2 of 3, events 2, marked 0\n", changes="a b c"),
             outdated("a"),
             Step("remove --member 2 a b c", "in sync 2 of 3, events 3, marked 8\n", told=STORED, changes="a b"),
-            Step("add --device c a b", "in sync 2 of 3, events 4, marked 8\n", changes="a b c"),
+            Step("add --device c a b", "in sync 2 of 3, events 4, marked 8\n", told=STANDING % ("c", 3, "", "a spare"), changes="a b c"),
             outdated("a"),
             Step("rebuild --member 2 a b c", REBUILT, told=STORED, changes="a b c"),
             Step("fail --member 2 a b c", "in sync 2 of 3, events 7, marked 0\n", changes="a b"),
@@ -588,7 +592,7 @@ CASES = [
             Step("detail a b c", DETAIL_WITH_A_SPARE),
             Step("plan --member 2 a b c", PLAN),
             Step("remove --member 2 a b c", "in sync 2 of 3, events 3, marked 0\n", changes="a b"),
-            Step("add --device c b a", "in sync 2 of 3, events 4, marked 0\n", changes="a b c"),
+            Step("add --device c b a", "in sync 2 of 3, events 4, marked 0\n", told=STANDING % ("c", 3, "", "a spare"), changes="a b c"),
             Holds("c", "b", added(4)),
             Step("assemble c a b", "in sync 2 of 3, events 4, marked 0\n"),
         ],
@@ -601,7 +605,7 @@ CASES = [
             Step("write --sector 8 a b", WRITTEN, changes="a b", given=DATA[:SECTOR]),
             Step("fail --member 1 a b", FAILED, changes="a"),
             Step("remove --member 1 a b", FAILED),
-            Step("add --device b a", "in sync 1 of 2, events 5, marked 0\n", changes="a b"),
+            Step("add --device b a", "in sync 1 of 2, events 5, marked 0\n", told=STANDING % ("b", 1, " in role 1", "in sync"), changes="a b"),
             Holds("b", "a", lambda first: members.with_data(added(2)(first), 8, DATA[:SECTOR])),
             Step("detail a b", DETAIL_OF_ONE),
             Step("read --sector 8 --count 1 a b", DATA[:SECTOR].decode()),
@@ -807,6 +811,16 @@ CASES = [
         ],
     ),
     ("add, the event count can't rise", {"a": SPENT, "b": ZEROS}, [Step("add --device b a", fault="EventsFull")]),
+    (
+        "what an added image holds is told, and of a refused addition the fault alone",
+        {"a": ZEROS, "b": ZEROS, "c": changed(ZEROS, (1080, "H", 0xEF53)), "d": changed(SHORT, (1080, "H", 0xEF53))},
+        [
+            create("raid1", 2, 4, "--assume-clean a b", output=CLEAN, changes="a b"),
+            Step("add --device d a b", fault="TooSmall"),
+            Step("add --device c a b", "in sync 2 of 2, events 2, marked 0\n", told=EXT % "c", changes="a b c"),
+            Step("add --device b a c", "in sync 1 of 2, events 3, marked 0\n", told=FORGOTTEN % "b" + UNNAMED % (1, 1), changes="a b c"),
+        ],
+    ),
     ("the plan of a third member", TWO, WITH_A_SPARE + [Step("plan --member 2 a b c", PLAN)]),
     (
         "no plan",

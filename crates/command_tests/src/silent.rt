@@ -1,4 +1,5 @@
 // A rebuild or a check that nobody watches.
+use md_cli::Asker;
 use md_commands::{Gate, Watch};
 
 /// Is told of a rebuild or a check, and says nothing of it.
@@ -8,6 +9,12 @@ impl Gate for Silent {
     fn before_read(&self, _source: u8, _chunk: u32) {}
 
     fn after_read(&self, _source: u8, _chunk: u32) {}
+}
+
+impl Asker for Silent {
+    fn goes_on(&self, _lines: &[u8]) -> bool {
+        true
+    }
 }
 
 impl Watch for Silent {

@@ -35,6 +35,9 @@ pub(crate) fn advice(fault: &CommandFault) -> &'static str {
         }
         CommandFault::Rebuild(fault) => rebuild_advice(*fault),
         CommandFault::Data(fault) => data_advice(*fault),
+        CommandFault::Declined => {
+            "nothing was overwritten: name another image, or answer `yes`, which `--run` does"
+        }
         CommandFault::OutputFault => ANOTHER_OUTPUT,
         CommandFault::Create(CreateFault::NoMemory)
         | CommandFault::Open(OpenFault::NoMemory)

@@ -47,6 +47,9 @@ pub enum CommandFault {
     /// rebuilt, or none is added or taken back.
     #[error("{0}")]
     Data(DataFault),
+    /// It was asked whether to go on, and the answer was not yes.
+    #[error("Declined")]
+    Declined,
     /// The report can't be written.
     #[error("OutputFault")]
     OutputFault,

@@ -1,6 +1,6 @@
 -- No command wins or loses a device: all come back from an opened array, and from beside it.
 use Rattle.md_device.specs.declared.device.Device.{Ghosts}
-use Rattle.std.proofs.Common.{◌≡◌, ◌∙◌, ◌+◌, ◌<◌, ◌≤◌, ℕ, true, false, List, ◌∷◌, ◌++◌, drop, take, length, map, Option, None, Some, option_map, Result, Ok, Err, ap, ap₂, refl, sym, subst, arith, true≢false}
+use Rattle.std.proofs.Common.{◌≡◌, ◌∙◌, ◌+◌, ◌<◌, ◌≤◌, ℕ, true, false, List, ◌∷◌, ◌++◌, drop, take, length, map, Option, None, Some, option_map, Result, Ok, Err, inl, inr, ap, ap₂, refl, sym, subst, arith, true≢false}
 use Rattle.std.specs.List.{insert}
 use Rattle.std.proofs.lemmas.List.{drop-map, length-map, map-append, take-map}
 use Rattle.std.proofs.lemmas.List.Edits.{length-insert}
@@ -25,6 +25,8 @@ use Rattle.md_state.specs.View.{Disk, disk_of}
 use Rattle.md_words.specs.Asks.{Ask, device_of, leaving_of, examines, examines_bitmap, examines_badblocks, creates, assembles, details, plans, reads, checks, writes, resyncs, stops, fails, removes, adds, re_adds, rebuilds}
 use Rattle.md_advice.specs.declared.fault.CommandFault.{CommandFault}
 use Rattle.md_advice.specs.declared.fault.CommandFault.TheVariants as fault
+use Rattle.md_cli.specs.declared.notices.Notices.{Notices}
+use Rattle.md_cli.specs.Asking.{Answers}
 use Rattle.md_cli.specs.Opened.{OpenedView, count, moves_device, place_of, with_beside}
 use Rattle.md_cli.specs.Performing.{OfData, Performs}
 use Rattle.md_cli.specs.Streams.{Streams}
@@ -40,6 +42,7 @@ of_data P (fault.Create d) h f = absurd h
 of_data P (fault.MetadataFault index) h f = absurd h
 of_data P (fault.Open d) h f = absurd h
 of_data P (fault.Rebuild d) h f = absurd h
+of_data P fault.Declined h f = absurd h
 of_data P fault.OutputFault h f = absurd h
 of_data P fault.NoMemory h f = absurd h
 
@@ -154,6 +157,13 @@ refused_back ask before after was brings same = record {
   within = λ there. rw (joins_last ask (sym brings ∙ there)) (le_refl _);
   moves = λ there. rw (sym brings ∙ there) refl;
 }
+
+-- also where it was declined
+pub all_answered : {R S : Type 0} (r : SourceGhosts R) (s : SinkGhosts S) (n : Notices) (before after : OpenedView) (old new : Streams R S) (ask : Ask) (result : Result (Unit {0}) CommandFault) → is_some before.beside ≡ is_some (device_of ask)
+    → Answers r s ask n before after old new result → AllBack ask before.mirror.disks after.mirror.disks before.beside after.beside
+all_answered r s n before after old new ask result brings (inl h) = all_kept r s before after old new ask result brings h
+all_answered r s n before after old new ask result brings (inr d) =
+    subst (λ (o : OpenedView). AllBack ask before.mirror.disks o.mirror.disks before.beside o.beside) (sym d.same) (refused_back ask before.mirror.disks before.mirror.disks before.beside brings refl)
 
 counted : {X Y : Type 0} (f : X → Y) (o : Option X) → count (option_map f o) ≡ count o
 counted f None = refl

@@ -20,9 +20,10 @@ use Rattle.md_advice.specs.Faults.{of_images}
 use Rattle.md_advice.specs.declared.fault.CommandFault.{CommandFault}
 use Rattle.md_advice.specs.declared.fault.CommandFault.TheVariants.{NoMemory, Open}
 use Rattle.md_cli.specs.declared.notices.Notices.{Notices}
-use Rattle.md_cli.specs.Noticed.{Notes, without_stored}
+use Rattle.md_cli.specs.Asking.{Answers}
+use Rattle.md_cli.specs.Holding.{LooksAt}
+use Rattle.md_cli.specs.Noticed.{NotesOpening, with_dropped, without_stored}
 use Rattle.md_cli.specs.Opened.{OpenedView, moves_device, with_beside, with_last}
-use Rattle.md_cli.specs.Performing.{Performs}
 use Rattle.md_cli.specs.Reports.{ShowsText}
 use Rattle.md_cli.specs.Streams.{Told}
 
@@ -55,14 +56,17 @@ abbrev pub texts : List (Bor Text) → List Text
 texts = map (λ s. s.now)
 
 module _ {R S : Type 0} (r : SourceGhosts R) (s : SinkGhosts S) (ask : Ask) where
-  -- The devices of the members are opened as a mirror, and the command is done with it. All devices come back in the order of
-  -- their images, as it left them: those of the members, and the one beside them.
+  -- The devices of the members are opened as a mirror, and the command is done with it, unless it is asked first and declined. All
+  -- devices come back in the order of their images, as it left them: those of the members, and the one beside them. What is noticed
+  -- is that of the mirror as it was opened, and as it is left.
   pub record PerformsOnMirror (members : List Disk) (device : Option Disk) (after : List Disk) (old new : Told R S) (result : Result (Unit {0}) CommandFault) : Type 0 where
     pub opened : MirrorView
     pub opens : IsOpenedFrom members opened
+    pub first : Notices
+    pub noted : NotesOpening ask opened.array old.notices first
     pub left : OpenedView
-    pub performs : Performs r s ask (record { mirror = opened; beside = device }) left old.streams new.streams result
-    pub noted : Notes ask opened.array left new.notices
+    pub performs : Answers r s ask first (record { mirror = opened; beside = device }) left old.streams new.streams result
+    pub dropped : new.notices ≡ with_dropped ask left first
     pub devices : after ≡ with_beside ask left.mirror.disks left.beside
 
   -- they are not opened so, and the device that was to join is as it was
@@ -75,13 +79,17 @@ module _ {R S : Type 0} (r : SourceGhosts R) (s : SinkGhosts S) (ask : Ask) wher
   OpensMembers members device after old new result =
       PerformsOnMirror members device after old new result ⊎ RefusesMembers members device after old new result
 
-  -- the devices are those of the members and, where the command names an image that is to join, after them the one of that image
+  -- The devices are those of the members and, where the command names an image that is to join, after them the one of that image,
+  -- which is looked at first.
   pub record OpensAll (before after : List Disk) (old new : Told R S) (result : Result (Unit {0}) CommandFault) : Type 0 where
     pub members : List Disk
     pub device : Option Disk
+    pub seen : Option Disk
+    pub noted : Notices
     pub are : before ≡ with_last members device
     pub brings : is_some device ≡ is_some (device_of ask)
-    pub done : OpensMembers members device after old new result
+    pub looks : LooksAt device seen old.notices noted
+    pub done : OpensMembers members seen after (record old { notices = noted }) new result
 
   -- a device may leave or join, and there is no memory for the list in which all of them come back then
   pub record RefusesList (before after : List Disk) (old new : Told R S) (result : Result (Unit {0}) CommandFault) : Type 0 where

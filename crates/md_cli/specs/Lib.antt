@@ -1,11 +1,15 @@
 -- What the commands that open a whole array give.
 pub mod Arrays
+-- What a command gives that may be asked first.
+pub mod Asking
 -- What `create` makes of its options.
 pub mod CreateOptions
 -- What `create` does with the devices of the images.
 pub mod Creating
 -- What the commands that show one image give.
 pub mod Examining
+-- What a device holds that is to join an array.
+pub mod Holding
 -- What is noticed of an array beside what a command gives.
 pub mod Noticed
 -- An opened array, and a device beside it.

@@ -1,5 +1,5 @@
 -- What is noticed of an array beside what a command gives: which of its images, and which devices that were not named, get a line.
-use Rattle.std.specs.Prelude.{◌≡◌, ℕ, Bool, true, false, List, Option, Some, None, MatchOption, is_some, length, replicate, if◌then◌else◌}
+use Rattle.std.specs.Prelude.{◌≡◌, ◌↔◌, ℕ, IsTrue, Bool, true, false, List, Option, Some, None, MatchOption, is_some, length, replicate, slice_get, unwrap_or, if◌then◌else◌}
 use Rattle.md_state.specs.View.{ArrayView}
 use Rattle.md_kept_members.specs.View.{MemberView}
 use Rattle.md_notices.specs.declared.noticing.Asked.{Asked}
@@ -7,6 +7,8 @@ use Rattle.md_notices.specs.Noticing.{AreUnnamed, all_dropped, all_parted, all_s
 use Rattle.md_notices.specs.Parting.{IsFirstInSync, NoneInSync}
 use Rattle.md_words.specs.Asks.{Ask, leaving_of, examines, examines_bitmap, examines_badblocks, creates, assembles, details, plans, reads, checks, writes, resyncs, stops, fails, removes, adds, re_adds, rebuilds}
 use Rattle.md_cli.specs.declared.notices.Notices.{Notices}
+use Rattle.md_cli.specs.declared.held.Held.TheVariants.{Nothing}
+use Rattle.md_cli.specs.Holding.{IsOwn, is_known}
 use Rattle.md_cli.specs.Opened.{OpenedView}
 
 -- nothing is noticed
@@ -21,6 +23,8 @@ nothing = record {
   dropped = replicate 64 false;
   in_sync = 0;
   raid_disks = 0;
+  held = Nothing;
+  own = false;
 }
 
 -- the commands that say which members were used without those in sync: they show the array, or rebuild
@@ -35,12 +39,14 @@ tells_parted _ = false
 abbrev pub parted_members : Ask → List MemberView → List Bool
 parted_members ask members = if tells_parted ask then all_parted members else replicate 64 false
 
--- as the array was opened
-pub record NotesOpening (ask : Ask) (a : ArrayView) (n : Notices) : Type 0 where
+-- as the array was opened, where what the device holds that is to join it was noted before
+pub record NotesOpening (ask : Ask) (a : ArrayView) (old n : Notices) : Type 0 where
   pub parted : n.parted ≡ parted_members ask a.members
   pub source : MatchOption n.source (NoneInSync a.members (length a.members)) (IsFirstInSync a.members)
   pub unnamed : AreUnnamed a n.unnamed
   pub states : n.states ≡ all_states a.members
+  pub held : n.held ≡ old.held
+  pub own : IsTrue n.own ↔ IsOwn ask a n.held
 
 -- the member that the command itself makes faulty
 abbrev pub failing_of : Ask → Option ℕ
@@ -59,12 +65,14 @@ with_dropped ask o n = record n {
   raid_disks = o.mirror.array.shared.raid_disks;
 }
 
--- what is noticed of an array that was opened so, and left so
-pub record Notes (ask : Ask) (opened : ArrayView) (left : OpenedView) (n : Notices) : Type 0 where
-  pub first : Notices
-  pub opening : NotesOpening ask opened first
-  pub dropped : n ≡ with_dropped ask left first
-
 -- without what was done in memory alone
 abbrev pub without_stored : Notices → Notices
 without_stored n = record n { marked = replicate 64 false; dropped = replicate 64 false }
+
+-- A command is asked of before it is done: it would overwrite what a device holds that is to join, or what was written to a member or
+-- to a device that comes back, and not to the others.
+abbrev pub asks_first : Ask → Notices → Bool
+asks_first (adds name) n = is_known n.held
+asks_first (re_adds name) n = n.own
+asks_first (rebuilds k) n = unwrap_or (slice_get n.parted k) false
+asks_first _ n = false

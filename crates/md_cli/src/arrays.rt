@@ -5,6 +5,7 @@ ghost use Rattle.md_words.specs.Asks.{access_of, ask_of, device_of, is_readonly,
 ghost use Rattle.md_cli.specs.Arrays.{KeepsImages, UsesImages, WorksOn, names_with, texts};
 ghost use Rattle.md_cli.specs.Streams.{told_of};
 
+use crate::asker::Asker;
 use crate::devices::with_devices;
 use crate::notices::Notices;
 use crate::session::Session;
@@ -18,13 +19,13 @@ use std::sync::Wait;
 use std::thread::Threads;
 
 /// Does a command with the array that images make, and puts them back; the image that is to join it counts after the
-/// others. `notices` gets what the array tells as it is opened.
+/// others. `notices` gets what is noticed of the array.
 pub(crate) fn with_array<
     I: Images,
     T: Threads + Wait + Sync,
     R: Source + Drop,
     S: Sink + Drop,
-    W: Watch + Sync,
+    W: Watch + Asker + Sync,
 >(
     session: &mut Session<'_, T, R, S, W>,
     command: Command<'_>,
@@ -70,7 +71,7 @@ fn with_images<
     T: Threads + Wait + Sync,
     R: Source + Drop,
     S: Sink + Drop,
-    W: Watch + Sync,
+    W: Watch + Asker + Sync,
 >(
     session: &mut Session<'_, T, R, S, W>,
     command: Command<'_>,
@@ -91,7 +92,7 @@ fn with_images<
     };
     let words = list.as_slice();
     let devices = take_images(session.alloc, command.access(), images, words)?;
-    let (devices, result) = with_devices(session, command, devices, notices);
+    let (devices, result) = with_devices(session, command, devices, notices, names);
     put_back(images, words, devices);
     result
 }

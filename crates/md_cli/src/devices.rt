@@ -6,9 +6,10 @@ ghost use Rattle.md_cli.specs.Arrays.{LooksAtDevices, OpensDevices, OpensMembers
 ghost use Rattle.md_cli.specs.Opened.{count, moves_device};
 ghost use Rattle.md_cli.specs.Streams.{told_of};
 
+use crate::asker::Asker;
+use crate::asking::perform_asked;
 use crate::notices::Notices;
 use crate::opened::{Opened, all_back, room_for};
-use crate::performing::perform;
 use crate::session::Session;
 use md_advice::CommandFault;
 use md_array::Mirror;
@@ -21,18 +22,19 @@ use std::sync::Wait;
 use std::thread::Threads;
 
 /// Does a command with the array that devices make, of which the last is the one that is to join it. They come back in
-/// their order. `notices` gets what the array tells as it is opened.
+/// their order. `notices` gets what is noticed of the array. The names are those of the devices' images.
 pub(crate) fn with_devices<
     D: SharedRead + Drop + Send + Sync,
     T: Threads + Wait + Sync,
     R: Source + Drop,
     S: Sink + Drop,
-    W: Watch + Sync,
+    W: Watch + Asker + Sync,
 >(
     session: &mut Session<'_, T, R, S, W>,
     command: Command<'_>,
     devices: Vec<D>,
     notices: &mut Notices,
+    names: &[&str],
 ) -> (Vec<D>, Result<(), CommandFault>)
     requires opens { opens_array (ask_of command) ≡ true }
     requires brings { is_some (device_of (ask_of command)) ≡ true → 0 < length devices.items }
@@ -44,10 +46,10 @@ pub(crate) fn with_devices<
     ensures flushed { IfOk result.1 (λ _. S.is_flushed session.new.out) }
 {
     if command.is_readonly() {
-        let result = look_at_devices(session, command, &devices, notices);
+        let result = look_at_devices(session, command, &devices, notices, names);
         return (devices, result);
     }
-    open_devices(session, command, devices, notices)
+    open_devices(session, command, devices, notices, names)
 }
 
 // The same with devices that are only looked at: what is written to the array is kept in memory.
@@ -56,12 +58,13 @@ fn look_at_devices<
     T: Threads + Wait + Sync,
     R: Source + Drop,
     S: Sink + Drop,
-    W: Watch + Sync,
+    W: Watch + Asker + Sync,
 >(
     session: &mut Session<'_, T, R, S, W>,
     command: Command<'_>,
     devices: &[D],
     notices: &mut Notices,
+    names: &[&str],
 ) -> Result<(), CommandFault>
     requires opens { opens_array (ask_of command) ≡ true }
     requires brings { is_some (device_of (ask_of command)) ≡ true → 0 < length devices.now }
@@ -72,7 +75,7 @@ fn look_at_devices<
     let Ok(overlays) = lay_over(session.alloc, devices) else {
         return Err(CommandFault::NoMemory);
     };
-    let (overlays, result) = open_devices(session, command, overlays, notices);
+    let (overlays, result) = open_devices(session, command, overlays, notices, names);
     drop(overlays);
     // Nothing was stored but in memory.
     notices.forget_stored();
@@ -85,12 +88,13 @@ fn open_devices<
     T: Threads + Wait + Sync,
     R: Source + Drop,
     S: Sink + Drop,
-    W: Watch + Sync,
+    W: Watch + Asker + Sync,
 >(
     session: &mut Session<'_, T, R, S, W>,
     command: Command<'_>,
     mut devices: Vec<D>,
     notices: &mut Notices,
+    names: &[&str],
 ) -> (Vec<D>, Result<(), CommandFault>)
     requires opens { opens_array (ask_of command) ≡ true }
     requires brings { is_some (device_of (ask_of command)) ≡ true → 0 < length devices.items }
@@ -104,12 +108,21 @@ fn open_devices<
         return (devices, Err(CommandFault::NoMemory));
     };
     match command.device() {
-        None => open_members(session, command, devices, None, list, notices),
+        None => open_members(session, command, devices, None, list, notices, names),
         Some(_) => {
-            let Some(device) = devices.pop() else {
+            let Some(mut device) = devices.pop() else {
                 unreachable!()
             };
-            open_members(session, command, devices, Some(device), list, notices)
+            notices.look(session.alloc, &mut device);
+            open_members(
+                session,
+                command,
+                devices,
+                Some(device),
+                list,
+                notices,
+                names,
+            )
         }
     }
 }
@@ -121,7 +134,7 @@ fn open_members<
     T: Threads + Wait + Sync,
     R: Source + Drop,
     S: Sink + Drop,
-    W: Watch + Sync,
+    W: Watch + Asker + Sync,
 >(
     session: &mut Session<'_, T, R, S, W>,
     command: Command<'_>,
@@ -129,6 +142,7 @@ fn open_members<
     beside: Option<D>,
     list: Vec<D>,
     notices: &mut Notices,
+    names: &[&str],
 ) -> (Vec<D>, Result<(), CommandFault>)
     requires opens { opens_array (ask_of command) ≡ true }
     requires brings { is_some beside ≡ is_some (device_of (ask_of command)) }
@@ -146,7 +160,7 @@ fn open_members<
         Ok(mirror) => {
             notices.note(command, &mirror);
             let mut opened = Opened { mirror, beside };
-            let done = perform(session, command, &mut opened);
+            let done = perform_asked(session, command, &mut opened, notices, names);
             notices.note_dropped(command, &opened);
             let members = opened.mirror.into_devices();
             (all_back(command, list, members, opened.beside), done)

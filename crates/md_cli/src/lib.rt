@@ -2,10 +2,13 @@
 #![tactic(auto)]
 
 mod arrays;
+mod asker;
+mod asking;
 mod create_options;
 mod creating;
 mod devices;
 mod examining;
+mod held;
 mod laying_out;
 mod messages;
 mod notices;
@@ -18,6 +21,7 @@ mod session;
 mod showing;
 mod sizing;
 
+pub use asker::Asker;
 pub use messages::Messages;
 pub use running::run;
 pub use session::Session;

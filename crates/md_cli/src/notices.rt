@@ -1,19 +1,25 @@
 // What is said beside a report, where a command is done.
-ghost use Rattle.std.specs.Prelude.{◌≡◌, if◌then◌else◌, true};
+ghost use Rattle.std.specs.Prelude.{◌≡◌, ◌↔◌, IsTrue};
 ghost use Rattle.md_words.specs.Asks.{ask_of};
-ghost use Rattle.md_cli.specs.Noticed.{NotesOpening, asked_of, failing_of, nothing, tells_parted, with_dropped, without_stored};
+ghost use Rattle.md_state.specs.View.{disk_of};
+ghost use Rattle.md_cli.specs.Holding.{IsOwn, Looks};
+ghost use Rattle.md_cli.specs.Noticed.{NotesOpening, asked_of, asks_first, failing_of, nothing, parted_members, tells_parted, with_dropped, without_stored};
 ghost use Rattle.md_cli.specs.Opened.{seen};
 
+use crate::held::{Held, held_on};
+use crate::messages::Messages;
 use crate::opened::Opened;
 use md_array::Mirror;
 use md_assembly::MemberState;
 use md_device::Device;
 use md_examine::{Output, Sink, SinkFault};
 use md_notices::{
-    Asked, MAX_MEMBERS, MAX_ROLES, dropped_line, first_in_sync, in_sync_count, members_dropped,
-    members_parted, parted_line, roles_unnamed, states_of, unnamed_line,
+    Asked, MAX_MEMBERS, MAX_ROLES, dropped_line, first_in_sync, forgotten_line, held_line,
+    in_sync_count, is_forgotten, members_dropped, members_parted, parted_line, roles_unnamed,
+    standing_line, states_of, unnamed_line, was_apart,
 };
 use md_words::Command;
+use std::alloc::Global;
 use std::io::Write;
 
 /// What is noticed of an array as it is opened, and as a command leaves it, by the places of the images among its
@@ -32,6 +38,8 @@ pub(crate) struct Notices {
     dropped: [bool; MAX_MEMBERS],
     in_sync: usize,
     raid_disks: u32,
+    held: Held,
+    own: bool,
 }
 
 impl Notices {
@@ -49,20 +57,26 @@ impl Notices {
             dropped: [false; MAX_MEMBERS],
             in_sync: 0,
             raid_disks: 0,
+            held: Held::Nothing,
+            own: false,
         }
+    }
+
+    /// Notes what the device holds that is to join. It is only read.
+    pub(crate) fn look<D: Device>(&mut self, alloc: Global, device: &mut D)
+        ensures { Looks (disk_of D.Device device.old) (disk_of D.Device device.new) self.old self.new }
+    {
+        self.held = held_on(alloc, device);
     }
 
     /// Notes what the opening of this mirror tells.
     pub(crate) fn note<D: Device + Drop>(&mut self, command: Command<'_>, mirror: &Mirror<D>)
-        ensures { NotesOpening (ask_of command.entry) mirror.now.array self.new }
+        ensures { NotesOpening (ask_of command.entry) mirror.now.array self.old self.new }
     {
+        self.own = is_own(command, mirror, &self.held);
         self.marked = members_marked(mirror);
         self.alone = alone_in_sync(mirror);
-        self.parted = if tells_parted(command) {
-            members_parted(mirror)
-        } else {
-            [false; MAX_MEMBERS]
-        };
+        self.parted = parted_members(command, mirror);
         self.source = first_in_sync(mirror);
         self.unnamed = roles_unnamed(mirror);
         self.states = states_of(mirror);
@@ -103,14 +117,92 @@ impl Notices {
         }
     }
 
-    /// Says on `err` what was noticed of the array, in a line for each image and for each device that was not named.
-    pub(crate) fn tell<E: Write>(&self, names: &[&str], err: &mut E) {
-        let mut out = Output::new(err);
-        let _ = self.put_lines(names, &mut out);
+    /// Whether a command is asked first, since it would overwrite what perhaps should stay.
+    pub(crate) fn asks_first(&self, command: Command<'_>) -> bool
+        ensures { result ≡ asks_first (ask_of command.entry) self.now }
+    {
+        match command {
+            Command::Add { .. } => self.held.is_known(),
+            Command::ReAdd { .. } => self.own,
+            Command::Rebuild { member } => self
+                .parted
+                .get(member as usize)
+                .copied()
+                .unwrap_or(false),
+            Command::Examine
+            | Command::ExamineBitmap
+            | Command::ExamineBadblocks
+            | Command::Create(_)
+            | Command::Assemble { .. }
+            | Command::Detail { .. }
+            | Command::Plan { .. }
+            | Command::Read { .. }
+            | Command::Check { .. }
+            | Command::Write { .. }
+            | Command::Resync
+            | Command::Stop
+            | Command::Fail { .. }
+            | Command::Remove { .. } => false,
+        }
     }
 
-    fn put_lines<S: Sink>(&self, names: &[&str], out: &mut S) -> Result<(), SinkFault> {
-        self.put_parted(names, out)?;
+    /// Says on `err` what was noticed of the array, in a line for each image and for each device that was not named.
+    /// At a terminal some of it was said before the command was done.
+    pub(crate) fn tell<'a, E: Write>(
+        &self,
+        command: Command<'a>,
+        names: &[&'a str],
+        messages: Messages,
+        err: &mut E,
+    ) {
+        let mut out = Output::new(err);
+        if messages == Messages::Plain {
+            let _ = self.put_first(command, names, &mut out);
+        }
+        let _ = self.put_lines(command, names, &mut out);
+    }
+
+    /// What is said before a command is done, where there is a terminal: what it is asked of.
+    pub(crate) fn put_first<'a, S: Sink>(
+        &self,
+        command: Command<'a>,
+        names: &[&'a str],
+        out: &mut S,
+    ) -> Result<(), SinkFault> {
+        let Some(name) = target_of(command, names) else {
+            return Ok(());
+        };
+        if !self.asks_first(command) {
+            return Ok(());
+        }
+        match &self.held {
+            Held::Member(own) if matches!(command, Command::Add { .. }) => {
+                if self.own {
+                    forgotten_line(out, name)
+                } else {
+                    standing_line(out, name, own)
+                }
+            }
+            Held::Signed(signature) => held_line(out, name, signature.text()),
+            _ => self.put_parted(name, names, out),
+        }
+    }
+
+    fn put_lines<'a, S: Sink>(
+        &self,
+        command: Command<'a>,
+        names: &[&'a str],
+        out: &mut S,
+    ) -> Result<(), SinkFault> {
+        let first = match command {
+            Command::Rebuild { member } => Some(member as usize),
+            _ => None,
+        };
+        for (k, (parted, name)) in self.parted.iter().zip(names).enumerate() {
+            if *parted && Some(k) != first {
+                self.put_parted(name, names, out)?;
+            }
+        }
         for (role, unnamed) in self.unnamed.iter().enumerate() {
             if let Some(number) = unnamed {
                 unnamed_line(out, *number, role as u16)?;
@@ -125,16 +217,16 @@ impl Notices {
     }
 
     // One member in sync is named for all of them.
-    fn put_parted<S: Sink>(&self, names: &[&str], out: &mut S) -> Result<(), SinkFault> {
-        let Some(source) = self.source.and_then(|k| names.get(k)) else {
-            return Ok(());
-        };
-        for (parted, name) in self.parted.iter().zip(names) {
-            if *parted {
-                parted_line(out, name, source)?;
-            }
+    fn put_parted<S: Sink>(
+        &self,
+        name: &str,
+        names: &[&str],
+        out: &mut S,
+    ) -> Result<(), SinkFault> {
+        match self.source.and_then(|k| names.get(k)) {
+            Some(source) => parted_line(out, name, source),
+            None => Ok(()),
         }
-        Ok(())
     }
 
     /// Says on `err`, of a check that is done, that it compared nothing, where one member was in sync alone.
@@ -170,6 +262,53 @@ fn tells_parted(command: Command<'_>) -> bool
         | Command::Fail { .. }
         | Command::Remove { .. }
         | Command::Add { .. } => false,
+    }
+}
+
+// The image that a command overwrites, as far as it is asked of it.
+fn target_of<'a>(command: Command<'a>, names: &[&'a str]) -> Option<&'a str> {
+    match command {
+        Command::Rebuild { member } => names.get(member as usize).copied(),
+        _ => command.device(),
+    }
+}
+
+// Of each place whether its member was used without those in sync, where the command says that.
+fn parted_members<D: Device + Drop>(command: Command<'_>, mirror: &Mirror<D>) -> [bool; MAX_MEMBERS]
+    ensures { result ≡ parted_members (ask_of command.entry) mirror.now.array.members }
+{
+    if !tells_parted(command) {
+        return [false; MAX_MEMBERS];
+    }
+    members_parted(mirror)
+}
+
+// Whether the device that is to join is one of the array: in sync there, where it is to be added, and used without the
+// members in sync, where it is to come back.
+fn is_own<D: Device + Drop>(command: Command<'_>, mirror: &Mirror<D>, held: &Held) -> bool
+    ensures { IsTrue result ↔ IsOwn (ask_of command.entry) mirror.now.array held.now }
+{
+    let Held::Member(own) = held else {
+        return false;
+    };
+    match command {
+        Command::Add { .. } => is_forgotten(mirror.shared(), own),
+        Command::ReAdd { .. } => was_apart(mirror, own),
+        Command::Examine
+        | Command::ExamineBitmap
+        | Command::ExamineBadblocks
+        | Command::Create(_)
+        | Command::Assemble { .. }
+        | Command::Detail { .. }
+        | Command::Plan { .. }
+        | Command::Read { .. }
+        | Command::Check { .. }
+        | Command::Write { .. }
+        | Command::Resync
+        | Command::Stop
+        | Command::Fail { .. }
+        | Command::Remove { .. }
+        | Command::Rebuild { .. } => false,
     }
 }
 

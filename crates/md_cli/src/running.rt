@@ -9,6 +9,7 @@ ghost use Rattle.md_cli.specs.Running.{Does, DoesCommand, IsIdle, MakesArray, st
 ghost use Rattle.md_cli.specs.Streams.{streams_of, told_of};
 
 use crate::arrays::with_array;
+use crate::asker::Asker;
 use crate::create_options::params_of;
 use crate::creating::create_images;
 use crate::examining::examine_images;
@@ -36,14 +37,15 @@ use std::thread::Threads;
 /// further lines; so do, of a command that is done, a line for each image on which marks were stored, what was noticed of
 /// the array (`specs/Noticed.antt`), and one for a check that compared nothing; and the parser's text. No clause speaks of what is written to `err`, nor of whether that can be written.
 ///
-/// The session's watch is told of a rebuild, by `rebuild` and `re-add`, and of a check, whose workers its `rt` starts.
+/// The session's watch is told of a rebuild, by `rebuild` and `re-add`, and of a check, whose workers its `rt` starts. It is
+/// asked before a command overwrites what perhaps should stay; where the answer is not yes the command is refused.
 pub fn run<
     'a,
     I: Images,
     T: Threads + Wait + Sync,
     R: Source + Drop,
     S: Sink + Drop,
-    W: Watch + Sync,
+    W: Watch + Asker + Sync,
     E: Write,
 >(
     session: &mut Session<'_, T, R, S, W>,
@@ -79,7 +81,13 @@ pub fn run<
 }
 
 // Does a command on the images that are named. `notices` gets what their array tells as it is opened.
-fn act<I: Images, T: Threads + Wait + Sync, R: Source + Drop, S: Sink + Drop, W: Watch + Sync>(
+fn act<
+    I: Images,
+    T: Threads + Wait + Sync,
+    R: Source + Drop,
+    S: Sink + Drop,
+    W: Watch + Asker + Sync,
+>(
     session: &mut Session<'_, T, R, S, W>,
     command: Command<'_>,
     images: &mut I,
@@ -158,7 +166,7 @@ fn answer<'a, E: Write>(
     }
     if outcome.is_ok() || messages == Messages::WithAdvice {
         notices.tell_marks(names, err);
-        notices.tell(names, err);
+        notices.tell(command, names, messages, err);
     }
     if outcome.is_ok() && matches!(command, Command::Check { .. }) {
         notices.tell_uncompared(names, err);

@@ -7,11 +7,13 @@ mod copying;
 mod files;
 mod pace;
 mod progress;
+mod questions;
 mod watched;
 
 use crate::cleared::Cleared;
 use crate::files::FileImages;
 use crate::progress::{Progress, WatchedTask};
+use crate::questions::Questions;
 use md_cli::{Messages, Session, run};
 use md_commands::Input;
 use md_examine::{Buffered, Output};
@@ -54,7 +56,9 @@ fn main(rt: HostRuntime) -> ExitCode {
     } else {
         Messages::Plain
     };
-    let progress = Progress::new(&rt, task);
+    let asks = err.is_terminal() && rt.stdin().is_terminal();
+    let questions = Questions::new(messages, asks);
+    let progress = Progress::new(&rt, task, questions);
     // Output that goes elsewhere leaves the line as it is.
     let is_beside = rt.stdout().is_terminal();
     let out = Cleared::new(io::writer(&rt), &progress, is_beside);

@@ -1,6 +1,8 @@
 // What a command that takes long shows of its progress.
 use crate::comparing::Comparing;
 use crate::copying::Copying;
+use crate::questions::Questions;
+use md_cli::Asker;
 use md_commands::{Gate, Watch};
 use std::alloc::AllocError;
 use std::io::Write;
@@ -23,6 +25,7 @@ pub struct Progress<'a> {
     rt: &'a HostRuntime,
     // Nothing is drawn where there is none.
     task: Option<WatchedTask>,
+    questions: Questions,
     began: Option<Instant>,
     read: AtomicU64,
     written: AtomicU64,
@@ -46,10 +49,15 @@ pub enum WatchedTask {
 }
 
 impl<'a> Progress<'a> {
-    pub fn new(rt: &'a HostRuntime, task: Option<WatchedTask>) -> Progress<'a> {
+    pub fn new(
+        rt: &'a HostRuntime,
+        task: Option<WatchedTask>,
+        questions: Questions,
+    ) -> Progress<'a> {
         Progress {
             rt,
             task,
+            questions,
             began: Instant::now(rt).ok(),
             read: AtomicU64::new(0),
             written: AtomicU64::new(0),
@@ -173,6 +181,13 @@ impl<'a> Gate for Progress<'a> {
     fn after_read(&self, _source: u8, _chunk: u32) {
         self.copying.count();
         self.draw_if_due();
+    }
+}
+
+impl<'a> Asker for Progress<'a> {
+    fn goes_on(&self, lines: &[u8]) -> bool {
+        self.clear();
+        self.questions.goes_on(self.rt, lines)
     }
 }
 
