@@ -56,7 +56,7 @@ fn main(rt: HostRuntime) -> ExitCode {
     } else {
         Messages::Plain
     };
-    let asks = err.is_terminal() && rt.stdin().is_terminal();
+    let asks = is_terminal && rt.stdin().is_terminal();
     let questions = Questions::new(messages, asks);
     let progress = Progress::new(&rt, task, questions);
     // Output that goes elsewhere leaves the line as it is.
