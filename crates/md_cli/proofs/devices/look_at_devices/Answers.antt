@@ -13,5 +13,7 @@ returns-clause-gives g c =
     let seen = disks overlay_ghosts done.result.0.items in
     inl (record {
       seen = seen;
+      answer = done.result.1;
+      told = c.told_of_overlays.ensures.told;
       opened = subst (λ (all : List Disk). OpensDevices g.R.Source g.S.Sink (ask_of c.args.command) all seen (streams_of c.args.session.now) (streams_of done.new.session) done.result.1) over done.ensures.gives;
     })
