@@ -503,6 +503,21 @@ CASES = [
         ],
     ),
     (
+        "a degraded array that is not resynced",
+        TWO,
+        [
+            create("raid1", 3, 4, "a b missing", output="in sync 2 of 3, events 1, marked 8\n", changes="a b"),
+            Made("a", "a", lambda image: members.with_data(image, 8, DATA)),
+            # The data of the lowest role, though nothing is copied, whichever image comes first.
+            Step("read --readonly --sector 8 --count 2 a b", DATA.decode()),
+            Step("read --readonly --sector 8 --count 2 b a", DATA.decode()),
+            Step("read --readonly --sector 63 --count 2 a b", fault="OutOfRange"),
+            Step("check --readonly a b", DIFFER),
+            Step("read --sector 8 --count 2 a b", DATA.decode(), changes="b"),
+            Step("check --readonly a b", AGREE),
+        ],
+    ),
+    (
         "members are compared",
         TWO,
         [

@@ -90,6 +90,7 @@ ANSWERS = {
     "md_commands::check_members": "check",
     "md_commands::fail_member": "fail",
     "md_commands::read_array": "read",
+    "md_commands::read_array_readonly": "read --readonly",
     "md_commands::re_add_device": "re-add",
     "md_commands::rebuild_member": "rebuild",
     "md_commands::remove_member": "remove",

@@ -50,6 +50,9 @@ def against_refusal(step, answer, before, after):
     """The reasons against a run that did not end as with all memory."""
     status, output, errors = answer
     reasons = [] if status in (1, 2) and not output and errors else ["the answer is %r" % (answer,)]
+    # What is written over images that are only looked at finds no memory, and fails for no other reason.
+    if status == 1 and "--readonly" in step.words and errors != "mdcli: NoMemory\n":
+        reasons.append("the answer is %r" % (answer,))
     if before.keys() != after.keys() or any(before[name] != after[name] for name in before if name not in step.changes):
         reasons.append("an image is changed")
     return reasons
@@ -74,19 +77,24 @@ def play(folder, step, before, settings):
     return "NoMemory" in program.answer[2], reasons
 
 
+def command_of(step):
+    """A command, and whether it may change no image."""
+    return " ".join(step.words[:2]) if step.words[1:2] == ["--readonly"] else step.words[0]
+
+
 def sweep_step(case, step, folder, library):
     """What comes of a step: a name, the reasons against it, the command, and whether it answered that it found no memory."""
     before = cases.read_images(folder)
     calls, answers_so = 0, False
     for number, ended in sweep(library, lambda settings: play(folder, step, before, settings)):
         if number > MOST:
-            return case, ["the calls come to no end"], step.words[0], answers_so
+            return case, ["the calls come to no end"], command_of(step), answers_so
         said, reasons = ended
         calls, answers_so = number, answers_so or said
         if reasons:
-            return "%s: %s, where call %d is refused" % (case, step.words[0], number), reasons, step.words[0], answers_so
+            return "%s: %s, where call %d is refused" % (case, command_of(step), number), reasons, command_of(step), answers_so
     reasons = [] if calls else ["no call is refused"]
-    return "%s: %s: %d calls" % (case, step.words[0], calls), reasons, step.words[0], answers_so
+    return "%s: %s: %d calls" % (case, command_of(step), calls), reasons, command_of(step), answers_so
 
 
 def sweep_case(place, library):

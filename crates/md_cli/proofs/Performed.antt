@@ -7,14 +7,14 @@ use Rattle.std.proofs.lemmas.List.Edits.{length-insert}
 use Rattle.std.specs.Prelude.{is_some}
 use Rattle.std.proofs.Math.Nat.{le_refl}
 use Rattle.std.proofs.lemmas.Option.{slice_get_within}
-use Rattle.md_commands.proofs.DeviceCounts.{AsMany, checks_as_many, done_check, done_fail, done_read, done_resync, done_write, fails_as_many, reads_as_many, resyncs_as_many, stops_as_many, writes_as_many, stopped}
+use Rattle.md_commands.proofs.DeviceCounts.{AsMany, checks_as_many, done_check, done_fail, done_read, done_readonly, done_resync, done_write, fails_as_many, reads_as_many, reads_readonly_as_many, resyncs_as_many, stops_as_many, writes_as_many, stopped}
 use Rattle.md_commands.proofs.RebuildCounts.{done_rebuild, rebuilds_as_many}
 use Rattle.md_commands.specs.declared.fault.DataFault.{DataFault}
 use Rattle.md_commands.specs.declared.source.Source.{Ghosts as SourceGhosts}
 use Rattle.md_commands.specs.Adding.{KeepsDevice}
 use Rattle.md_commands.specs.Checking.{RefusesToCheck}
 use Rattle.md_commands.specs.Failing.{RefusesToFail}
-use Rattle.md_commands.specs.Reading.{RefusesToRead}
+use Rattle.md_commands.specs.Reading.{RefusesReadonly, RefusesToRead}
 use Rattle.md_commands.specs.Rebuilding.{RefusesToRebuild}
 use Rattle.md_commands.specs.Removing.{HandsBack}
 use Rattle.md_commands.specs.Resyncing.{RefusesToResync}
@@ -91,10 +91,14 @@ module _ {R S : Type 0} (r : SourceGhosts R) (s : SinkGhosts S) (before after : 
   all_kept (assembles readonly) result brings h = kept _ before after brings (ap (λ (o : OpenedView). o.beside) h.0) (ap (λ (o : OpenedView). length o.mirror.disks) h.0)
   all_kept (details readonly) result brings h = kept _ before after brings (ap (λ (o : OpenedView). o.beside) h.0) (ap (λ (o : OpenedView). length o.mirror.disks) h.0)
   all_kept (plans k readonly) result brings h = kept _ before after brings (ap (λ (o : OpenedView). o.beside) h.0) (ap (λ (o : OpenedView). length o.mirror.disks) h.0)
-  all_kept (reads sector count readonly) (Ok v) brings h =
+  all_kept (reads sector count false) (Ok v) brings h =
       kept _ before after brings h.0 (done_read s before.mirror after.mirror old.output new.output sector count h.2)
-  all_kept (reads sector count readonly) (Err f) brings h =
+  all_kept (reads sector count false) (Err f) brings h =
       kept _ before after brings h.0 (of_data (RefusesToRead s sector count before.mirror after.mirror old.output new.output) f h.2 (reads_as_many s before.mirror after.mirror old.output new.output sector count))
+  all_kept (reads sector count true) (Ok v) brings h =
+      kept _ before after brings h.0 (done_readonly s before.mirror after.mirror old.output new.output sector count h.2)
+  all_kept (reads sector count true) (Err f) brings h =
+      kept _ before after brings h.0 (of_data (RefusesReadonly s sector count before.mirror after.mirror old.output new.output) f h.2 (reads_readonly_as_many s before.mirror after.mirror old.output new.output sector count))
   all_kept (checks readonly) (Ok v) brings h = kept _ before after brings h.0 (done_check s before.mirror after.mirror old.output new.output h.2)
   all_kept (checks readonly) (Err f) brings h =
       kept _ before after brings h.0 (of_data (RefusesToCheck s before.mirror after.mirror old.output new.output) f h.2 (checks_as_many s before.mirror after.mirror old.output new.output))

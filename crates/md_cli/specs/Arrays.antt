@@ -7,6 +7,7 @@ use Rattle.md_state.specs.View.{Disk, MirrorView, disk_of}
 use Rattle.md_array.specs.Opening.{IsOpenedFrom}
 use Rattle.md_array.specs.Refusals.{RefusesOpen}
 use Rattle.md_array.specs.declared.fault.OpenFault.{OpenFault}
+use Rattle.md_array.specs.declared.fault.OpenFault.TheVariants.{MetadataFault}
 use Rattle.md_commands.specs.declared.source.Source.{Ghosts as SourceGhosts}
 use Rattle.md_examine.specs.declared.sink.Sink.{Ghosts as SinkGhosts}
 use Rattle.md_report.specs.SummaryReport.{summary_text}
@@ -50,6 +51,11 @@ module _ {S : Type 0} (s : SinkGhosts S) where
 
   abbrev pub ShowsDevices : List Disk → List Disk → S → S → Result (Unit {0}) CommandFault → Type 0
   ShowsDevices before after old new result = ShowsMirror before after old new result ⊎ RefusesMirror before after old new result
+
+-- An overlay refuses a write for want of memory alone: then that is the fault.
+abbrev pub told_of_overlays : Result (Unit {0}) CommandFault → Result (Unit {0}) CommandFault
+told_of_overlays (Err (Open (MetadataFault k))) = Err NoMemory
+told_of_overlays result = result
 
 -- the texts of words
 abbrev pub texts : List (Bor Text) → List Text
@@ -106,8 +112,10 @@ module _ {R S : Type 0} (r : SourceGhosts R) (s : SinkGhosts S) (ask : Ask) wher
   pub record LooksAtMirror (devices : List Disk) (old new : Told R S) (result : Result (Unit {0}) CommandFault) : Type 0 where
     pub seen : List Disk
     pub noted : Notices
-    pub opened : OpensDevices (map overlaid devices) seen old (record new { notices = noted }) result
+    pub answer : Result (Unit {0}) CommandFault
+    pub opened : OpensDevices (map overlaid devices) seen old (record new { notices = noted }) answer
     pub forgotten : new.notices ≡ without_stored noted
+    pub told : result ≡ told_of_overlays answer
 
   -- there is no memory for the list of overlays
   pub record LooksAtNothing (old new : Told R S) (result : Result (Unit {0}) CommandFault) : Type 0 where

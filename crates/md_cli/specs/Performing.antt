@@ -1,12 +1,12 @@
 -- What commands do with an opened array.
-use Rattle.std.specs.Prelude.{◌≡◌, ℕ, Some, Result, MatchResult}
+use Rattle.std.specs.Prelude.{◌≡◌, ℕ, Bool, true, false, Some, Result, MatchResult}
 use Rattle.md_commands.specs.declared.fault.DataFault.{DataFault}
 use Rattle.md_commands.specs.declared.source.Source.{Ghosts as SourceGhosts}
 use Rattle.md_commands.specs.Adding.{AddsDevice, KeepsDevice, RefusesToAdd}
 use Rattle.md_commands.specs.Checking.{ChecksMembers, RefusesToCheck}
 use Rattle.md_commands.specs.Failing.{RefusesToFail}
 use Rattle.md_commands.specs.ReAdding.{ReAddsDevice, RefusesToReAdd}
-use Rattle.md_commands.specs.Reading.{ReadsArray, RefusesToRead}
+use Rattle.md_commands.specs.Reading.{ReadsArray, ReadsReadonly, RefusesReadonly, RefusesToRead}
 use Rattle.md_commands.specs.Rebuilding.{RebuildsArray, RefusesToRebuild}
 use Rattle.md_commands.specs.Removing.{HandsBack, RefusesToRemove, RemovesMember}
 use Rattle.md_commands.specs.Resyncing.{RefusesToResync, ResyncsArray}
@@ -30,6 +30,17 @@ OfData Refuses (Data fault) = Refuses fault
 OfData Refuses fault = ⊥
 
 module _ {S : Type 0} (s : SinkGhosts S) where
+  -- Sectors of the array are put out: after a resync where one is needed or, where no image may be changed, as they would be after it.
+  abbrev pub ShowsSectors : ℕ → ℕ → Bool → OpenedView → OpenedView → S → S → Result (Unit {0}) CommandFault → Type 0
+  ShowsSectors sector count false before after old new result =
+      MatchResult result
+      (λ _. ReadsArray s sector count before.mirror after.mirror old new)
+      (OfData (RefusesToRead s sector count before.mirror after.mirror old new))
+  ShowsSectors sector count true before after old new result =
+      MatchResult result
+      (λ _. ReadsReadonly s sector count before.mirror after.mirror old new)
+      (OfData (RefusesReadonly s sector count before.mirror after.mirror old new))
+
   -- Member k leaves, and then the array is stopped and shown. Its device stands beside the array then.
   pub record Removes (k : ℕ) (before after : OpenedView) (old new : S) (result : Result (Unit {0}) CommandFault) : Type 0 where
     pub handed_back : HandsBack k before.mirror.disks after.mirror.disks after.beside
@@ -66,10 +77,7 @@ module _ {R S : Type 0} (r : SourceGhosts R) (s : SinkGhosts S) where
   Performs (plans k readonly) before after old new result =
       (after ≡ before) × (new.input ≡ old.input) × ShowsPlan s before.mirror.array k old.output new.output result
   Performs (reads sector count readonly) before after old new result =
-      (after.beside ≡ before.beside) × (new.input ≡ old.input)
-      × MatchResult result
-      (λ _. ReadsArray s sector count before.mirror after.mirror old.output new.output)
-      (OfData (RefusesToRead s sector count before.mirror after.mirror old.output new.output))
+      (after.beside ≡ before.beside) × (new.input ≡ old.input) × ShowsSectors s sector count readonly before after old.output new.output result
   Performs (checks readonly) before after old new result =
       (after.beside ≡ before.beside) × (new.input ≡ old.input)
       × MatchResult result

@@ -2,7 +2,7 @@
 ghost use Rattle.std.specs.Prelude.{◌≡◌, ◌+◌, ◌<◌, ◌≤◌, [], IfOk, is_some, length, option_map, true, vec_capacity};
 ghost use Rattle.md_state.specs.View.{disk_of};
 ghost use Rattle.md_words.specs.Asks.{ask_of, device_of, is_readonly, opens_array};
-ghost use Rattle.md_cli.specs.Arrays.{LooksAtDevices, OpensDevices, OpensMembers, WorksOn, disks};
+ghost use Rattle.md_cli.specs.Arrays.{LooksAtDevices, OpensDevices, OpensMembers, WorksOn, disks, told_of_overlays};
 ghost use Rattle.md_cli.specs.Opened.{count, moves_device};
 ghost use Rattle.md_cli.specs.Streams.{told_of};
 
@@ -12,7 +12,7 @@ use crate::notices::Notices;
 use crate::opened::{Opened, all_back, room_for};
 use crate::session::Session;
 use md_advice::CommandFault;
-use md_array::Mirror;
+use md_array::{Mirror, OpenFault};
 use md_commands::{Source, Watch};
 use md_device::Device;
 use md_examine::Sink;
@@ -79,7 +79,19 @@ fn look_at_devices<
     drop(overlays);
     // Nothing was stored but in memory.
     notices.forget_stored();
-    result
+    told_of_overlays(result)
+}
+
+// What an answer says of overlays, which refuse a write for want of memory alone.
+fn told_of_overlays(answer: Result<(), CommandFault>) -> Result<(), CommandFault>
+    ensures told { result ≡ told_of_overlays answer }
+    ensures done { IfOk result (λ _. answer ≡ result) }
+{
+    match answer {
+        Ok(()) => Ok(()),
+        Err(CommandFault::Open(OpenFault::MetadataFault(_))) => Err(CommandFault::NoMemory),
+        Err(fault) => Err(fault),
+    }
 }
 
 // Opens devices as an array, but for the one that is to join it, and does a command with it.

@@ -3,7 +3,7 @@ ghost use Rattle.std.specs.Prelude.{◌≡◌, IfOk, is_some, true};
 ghost use Rattle.md_array.specs.Consistency.{IsConsistent};
 ghost use Rattle.md_words.specs.Asks.{ask_of, device_of, opens_array};
 ghost use Rattle.md_cli.specs.Opened.{seen};
-ghost use Rattle.md_cli.specs.Performing.{Adds, Performs, ReAdds, Removes};
+ghost use Rattle.md_cli.specs.Performing.{Adds, Performs, ReAdds, Removes, ShowsSectors};
 ghost use Rattle.md_cli.specs.Streams.{streams_of};
 
 use crate::opened::Opened;
@@ -12,7 +12,7 @@ use crate::showing::{show_detail, show_plan, show_summary};
 use md_advice::CommandFault;
 use md_commands::{
     Source, Watch, add_device, check_members, fail_member, re_add_device, read_array,
-    rebuild_member, remove_member, resync_array, stop_array, write_array,
+    read_array_readonly, rebuild_member, remove_member, resync_array, stop_array, write_array,
 };
 use md_device::Device;
 use md_examine::Sink;
@@ -53,10 +53,11 @@ pub(crate) fn perform<
         Command::Plan { member, .. } => {
             show_plan(alloc, member, &opened.mirror, &mut session.out)
         }
-        Command::Read { sector, count, .. } => {
-            let out = &mut session.out;
-            Ok(read_array(alloc, &mut opened.mirror, sector, count, out)?)
-        }
+        Command::Read {
+            sector,
+            count,
+            readonly,
+        } => { read(alloc, opened, sector, count, readonly, &mut session.out) }
         Command::Check { .. } => {
             Ok(check_members(rt, alloc, &mut opened.mirror, watch, &mut session.out)?)
         }
@@ -77,6 +78,28 @@ pub(crate) fn perform<
             Ok(rebuild_member(rt, alloc, &mut opened.mirror, member, watch, out)?)
         }
     }
+}
+
+// Puts out sectors of the array. Where no image may be changed nothing is written, over the images neither.
+fn read<D: Device + Drop, S: Sink>(
+    alloc: Global,
+    opened: &mut Opened<D>,
+    sector: u64,
+    count: u64,
+    readonly: bool,
+    out: &mut S,
+) -> Result<(), CommandFault>
+    requires sound { IsConsistent opened.old.mirror }
+    ensures kept { (seen D.Device opened.new).beside ≡ (seen D.Device opened.old).beside }
+    ensures shows { ShowsSectors S.Sink sector count readonly
+        (seen D.Device opened.old) (seen D.Device opened.new) out.old out.new result }
+    ensures flushed { IfOk result (λ _. S.is_flushed out.new) }
+{
+    let mirror = &mut opened.mirror;
+    if readonly {
+        return Ok(read_array_readonly(alloc, mirror, sector, count, out)?);
+    }
+    Ok(read_array(alloc, mirror, sector, count, out)?)
 }
 
 // Removes the member with this index. Its device stands beside the array then, if it left.

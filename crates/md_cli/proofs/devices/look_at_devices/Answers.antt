@@ -15,5 +15,7 @@ returns-clause-gives g c =
       seen = seen;
       noted = done.new.notices;
       forgotten = c.forget_stored.ensures;
+      answer = done.result.1;
+      told = c.told_of_overlays.ensures.told;
       opened = subst (λ (all : List Disk). OpensDevices g.R.Source g.S.Sink (ask_of c.args.command) all seen (told_of c.args.session.now c.args.notices.now) (told_of done.new.session done.new.notices) done.result.1) over done.ensures.gives;
     })
