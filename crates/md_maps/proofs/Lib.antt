@@ -3,3 +3,4 @@ pub mod Numerals
 pub mod Faults
 pub mod Lines
 pub mod Written
+pub mod Exact

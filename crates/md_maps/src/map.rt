@@ -1,7 +1,9 @@
 // A whole map.
-ghost use Rattle.std.specs.Prelude.{◌≡◌, ◌≤◌, ◌^◌, position, IfOk, IfErr};
+ghost use Rattle.std.specs.Prelude.{◌≡◌, ◌≤◌, ◌^◌, List, position, IfOk, IfErr};
 ghost use Rattle.md_maps.specs.Lines.{is_line_feed};
-ghost use Rattle.md_maps.specs.Map.{IsReadAs, IsRefused};
+ghost use Rattle.md_maps.specs.Map.{IsMap, IsReadAs, IsRefused};
+ghost use Rattle.md_maps.specs.declared.line.Block.{Block};
+ghost use Rattle.md_maps.specs.declared.fault.MapFault.TheVariants.{NoMemory};
 
 use crate::fault::{LineFault, MapFault};
 use crate::line::read_line;
@@ -15,6 +17,9 @@ pub fn read_map(alloc: Global, text: &[u8], size: u64) -> Result<BadSet, MapFaul
     requires { size ≤ 2 ^ 63 }
     ensures ok { IfOk result (λ missing. IsReadAs size text.now missing) }
     ensures err { IfErr result (λ fault. IsRefused size text.now fault) }
+
+    // No map is refused but for want of memory.
+    ensures exact { IfErr result (λ fault. (blocks : List Block) → IsMap size text.now blocks → fault ≡ NoMemory) }
 {
     let mut reading = Reading {
         end: None,

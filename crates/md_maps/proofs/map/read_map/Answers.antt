@@ -2,6 +2,10 @@ use Rattle.std.proofs.Common.{◌≡◌, ◌≢◌, ℕ, List, [], ◌∷◌, eq
 use Rattle.std.proofs.lemmas.Bool.{false≢true, eqb-true}
 use Rattle.md_maps.proofs.Words.{rest_whole}
 use Rattle.md_maps.proofs.Lines.{read_start, read_step, fault_at, cut_at, finished, unfinished}
+use Rattle.std.proofs.lemmas.Result.{MatchResult-weaker}
+use Rattle.md_maps.proofs.Exact.{only_memory}
+use Rattle.md_maps.specs.declared.fault.LineFault.TheVariants.{Cut}
+use Rattle.md_maps.specs.declared.fault.MapFault.TheVariants.{Line}
 use Rattle.md_maps.proofs.map.read_map.Goals as goal
 
 empty_is : (xs : List ℕ) → length xs ≡ 0 → xs ≡ []
@@ -38,3 +42,13 @@ pub returns-clause-err : goal.returns-clause-err
 returns-clause-err c =
     let all : c.loop-len.rest.now ≡ [] = empty_is c.loop-len.rest.now (eqb-true (length c.loop-len.rest.now) 0 (sym c.is_empty.ensures ∙ c.if-not-is_empty.false)) in
     unfinished c.args.size c.args.text.now c.loop-len.rest.now c.loop-len.number c.loop-len.reading.end c.loop-len.reading.missing c.loop-len.invariant (sym c.line_len.ensures ∙ c.in_default.is) all c.finish.result c.finish.ensures.err
+
+pub returns-in-Err-clause-exact : goal.returns-in-Err-clause-exact
+returns-in-Err-clause-exact c = λ blocks is. only_memory c.args.size c.args.text.now blocks is (Line c.loop-len.number c.in-Err.fault) (returns-in-Err-clause-err c)
+
+pub returns-then-not-is_empty-clause-exact : goal.returns-then-not-is_empty-clause-exact
+returns-then-not-is_empty-clause-exact c = λ blocks is. only_memory c.args.size c.args.text.now blocks is (Line c.loop-len.number Cut) (returns-then-not-is_empty-clause-err c)
+
+pub returns-clause-exact : goal.returns-clause-exact
+returns-clause-exact c =
+    MatchResult-weaker c.finish.result (returns-clause-err c) (λ x h. h) (λ fault refused blocks is. only_memory c.args.size c.args.text.now blocks is fault refused)
