@@ -10,8 +10,12 @@ pub mod HaltedOver
 pub mod AfterHalt
 -- A copy that halted the mirror, with any bytes in its range.
 pub mod TornCopies
+-- A member that is alone in sync, of whose device other bytes were left than an opening read there.
+pub mod LoneMember
 -- A sector of the bitmap of the only member in sync, with any bits.
 pub mod LoneMarks
+-- A log of it, with any bytes.
+pub mod LoneLog
 -- What a stop leaves within `add` and `re_add`, before they are done.
 pub mod JoiningStops
 -- A member that has no role leaves, and counts as one that an opening left out.

@@ -1,33 +1,27 @@
 -- A sector of the bitmap of the only member in sync, with any bits: it is found alone in sync, and holds what it held.
-use Rattle.std.proofs.Common.{◌≡◌, ◌∙◌, ◌⊎◌, ℕ, ◌+◌, ◌*◌, ◌<◌, Bool, true, false, List, length, map, slice_get, Some, sym, ap, subst, arith, inl, inr}
+use Rattle.std.proofs.Common.{◌≡◌, ◌∙◌, ℕ, ◌+◌, ◌*◌, ◌<◌, List, length, map, slice_get, Some, sym, ap, subst, arith, inl, inr}
 use Rattle.std.proofs.lemmas.Option.{slice_get_within}
 use Rattle.md_bitmap.proofs.Padded.{length-padded}
 use Rattle.md_device.specs.Splice.{SameOutside}
 use Rattle.md_kept_members.specs.View.{MemberView}
 use Rattle.md_members.specs.Areas.{bitmap_sectors}
-use Rattle.md_model.specs.Assembly.{IsFound}
-use Rattle.md_model.specs.Content.{Content, Holds, HoldsAtRest}
-use Rattle.md_model.specs.Devices.{Covered, Stored}
+use Rattle.md_model.specs.Content.{HoldsAtRest}
+use Rattle.md_model.specs.Devices.{Stored}
 use Rattle.md_model.specs.Openings.{IsWithinLimits}
-use Rattle.md_model.specs.Sectors.{Geometry, chunk_of}
-use Rattle.md_model.specs.Stops as stops
-use Rattle.md_model.specs.Worlds as worlds
-use Rattle.md_model.specs.Worlds.{IsQuiet, World}
+use Rattle.md_model.specs.Sectors.{Geometry}
 use Rattle.md_model.proofs.Puts.{by_same}
 use Rattle.md_model.proofs.Steps.Keeps.{IsKept}
 use Rattle.md_writes.specs.Writes.{Write}
 use Rattle.md_state.specs.DiskWrites.{IsTried}
 use Rattle.md_state.specs.Members.{IsMember}
-use Rattle.md_state.specs.View.{ArrayView, Disk, MirrorView, geometry_of}
+use Rattle.md_state.specs.View.{ArrayView, Disk, geometry_of}
 use Rattle.md_array.specs.ReadAsKept.{HasWidth}
-use Rattle.md_array.specs.Worlds.{from_super, none_in_flight, stored_on, super_of, world_of}
+use Rattle.md_array.specs.Worlds.{from_super, stored_on, super_of, world_of}
 use Rattle.md_array.proofs.Steps.OneMember.{stored_there}
-use Rattle.md_array.proofs.Worlds.InSync.{in_sync_is}
 use Rattle.md_array.proofs.Worlds.Outside.{starts_at}
 use Rattle.md_array.proofs.Worlds.PartsApart.{HasParts, block_beside_marks, log_beside_marks, marks_alone, parts_of}
 use Rattle.md_array.proofs.Worlds.ReadAsKept.{stays}
 use Rattle.md_laws.specs.Left.{contents_of}
-use Rattle.md_laws.specs.Lives.{AreFoundAgain}
 use Rattle.md_laws.specs.Runs.{Moment, history_of}
 use Rattle.md_laws.proofs.Runs.MirrorContents.{life_held_at}
 use Rattle.md_laws.proofs.Runs.MirrorLives.{keeps_geometry, life_kept}
@@ -36,9 +30,9 @@ use Rattle.md_laws.proofs.Runs.Moments.{IsSoundAt, life_keeps, sound_when_opened
 use Rattle.md_laws.proofs.Stops.AsFailed.{failed_as_tried}
 use Rattle.md_laws.proofs.Stops.LeftContents.{got_like, read_in}
 use Rattle.md_assembly.proofs.Indices.{got_within}
-use Rattle.md_stop_laws.specs.TornWrites.{BeginsAfter, ContentAfterLoneMarks, IsLeftByLoneMarks, IsOpenedAfter, StartsAfterLoneMarks, halted_over}
-use Rattle.md_stop_laws.proofs.AfterHalt as after
+use Rattle.md_stop_laws.specs.TornWrites.{ContentAfterLoneMarks, IsLeftByLoneMarks, StartsAfterLoneMarks, halted_over}
 use Rattle.md_stop_laws.proofs.HaltedOver.{sound_over}
+use Rattle.md_stop_laws.proofs.LoneMember as lone
 
 -- ---- what it left
 module _ (t : Moment) (at : IsSoundAt t) (left : List Disk) (l : IsLeftByLoneMarks t left) where
@@ -131,76 +125,18 @@ module _ (t : Moment) (at : IsSoundAt t) (left : List Disk) (l : IsLeftByLoneMar
   pub supers : (j : ℕ) → (torn j).super ≡ (stored j).super
   supers = of_each (λ (x : Stored). x.super) (ap (λ (x : Stored). x.super) alone)
 
-  lists : (j s : ℕ) → (torn j).listed s ≡ (stored j).listed s
+  pub lists : (j s : ℕ) → (torn j).listed s ≡ (stored j).listed s
   lists j s = of_each (λ (x : Stored). x.listed s) (ap (λ (x : Stored). x.listed s) alone) j
 
-  contents : (j s : ℕ) → (torn j).content s ≡ (stored j).content s
+  pub contents : (j s : ℕ) → (torn j).content s ≡ (stored j).content s
   contents j s = of_each (λ (x : Stored). x.content s) (ap (λ (x : Stored). x.content s) alone) j
-
-  -- ---- an opening of them
-  module _ (opened : MirrorView) (small : IsWithinLimits g) (kept : IsKept g (super_of opened.array.shared) (history_of t)) (next : MirrorView) (again : IsOpenedAfter opened t left next) where
-    abbrev of_torn : IsOpenedAfter opened t disks next
-    of_torn = after.over_same t left disks same_contents opened next again
-
-    abbrev devices : AreFoundAgain (halted_over t disks) of_torn.found
-    devices = of_torn.devices
-
-    abbrev made : ℕ → Stored
-    made = after.made t disks sound_torn opened small kept supers next of_torn
-
-    abbrev now : World
-    now = (history_of t).now
-
-    abbrev Found : ℕ → Type 0
-    Found = IsFound g made (super_of next.array.shared)
-
-    in_then : (i : ℕ) → Found i → worlds.IsInSync now i
-    in_then = after.was_so t disks sound_torn opened small kept supers next of_torn
-
-    -- there is no other one
-    it : (i : ℕ) → Found i → i ≡ k
-    it i f = let x = in_sync_is t.mirror.disks a t.requests i (in_then i f) in l.alone i x.0 x.1
-
-    covered : Covered g made Found
-    covered i j n s below f_i f_j f_n off _ _ = ap (λ (x : ℕ). (made x).content s) (it j f_j ∙ sym (it n f_n))
-
-    pub begins_after : BeginsAfter opened t left next again
-    begins_after = record {
-      start = after.start t disks sound_torn opened small kept supers next of_torn covered;
-      among = after.among t disks sound_torn opened small kept supers next of_torn;
-    }
-
-    -- ---- the content
-    module _ (b : Content) (held : HoldsAtRest g b now) where
-      content : Content
-      content = after.held t disks sound_torn opened small kept supers next of_torn covered b
-
-      halves : (i p : ℕ) → devices.at i ≡ Some p → stops.IsHalfOpened g (torn i) (made i)
-      halves = after.half t disks sound_torn opened small kept supers next of_torn
-
-      at_rest : (s : ℕ) → s < g.size → IsQuiet now s → (a.resynced ≡ true) ⊎ (now.marks (chunk_of g s) ≡ false) → content s ≡ b s
-      unfolding content
-      at_rest s below quiet when =
-          after.stays t disks sound_torn opened small kept supers next of_torn covered b s
-          (λ n p in_n is unlisted.
-          let f = after.found_there t disks sound_torn opened small kept supers next of_torn n p is in_n in
-          let half = halves p n (devices.found n p is) in
-          let free = sym (ap (λ (x : ℕ → Bool). x s) half.listed ∙ lists p s)
-          ∙ sym (after.listed_at t disks sound_torn opened small kept supers next of_torn n p s below in_n is) ∙ unlisted in
-          ap (λ (x : ℕ → List ℕ). x s) half.content ∙ contents p s ∙ held p s below (in_then p f) free quiet when)
-          below
-
-      pub content_after : (c : Content) × Holds (geometry_of next.array) c (world_of next none_in_flight)
-          × ((s : ℕ) → s < g.size → IsQuiet now s → (a.resynced ≡ true) ⊎ (now.marks (chunk_of g s) ≡ false) → c s ≡ b s)
-      unfolding content
-      content_after = (content, after.holds t disks sound_torn opened small kept supers next of_torn covered b, at_rest)
 
 -- ---- at a moment of a life
 pub starts_after_lone_marks : StartsAfterLoneMarks
 starts_after_lone_marks before m start es rest final t life left l next again =
     let at = life_keeps m es rest final t (sound_when_opened before m start.honest start.opened) life in
     let here = keeps_geometry before m start es rest final t life in
-    begins_after t at left l final
+    lone.begins_after t l.on l.alone left (disks t at left l) (same_contents t at left l) (sound_torn t at left l) (supers t at left l) (contents t at left l) final
     (subst IsWithinLimits (sym here) (starts before m start).small)
     (subst (λ x. IsKept x (super_of final.array.shared) (history_of t)) (sym here) (life_kept before m start es rest final t life))
     next again
@@ -208,8 +144,10 @@ starts_after_lone_marks before m start es rest final t life left l next again =
 pub content_after_lone_marks : ContentAfterLoneMarks
 content_after_lone_marks before m a start holds es rest final t b life left l next again =
     let x = life_held_at before m a start holds es rest final t b life in
-    content_after t x.sound left l final
+    let c = lone.content_after t l.on l.alone left (disks t x.sound left l) (same_contents t x.sound left l) (sound_torn t x.sound left l) (supers t x.sound left l) (contents t x.sound left l) final
     (subst IsWithinLimits (sym x.geometry) (starts before m start).small)
     (subst (λ g. IsKept g (super_of final.array.shared) (history_of t)) (sym x.geometry) x.held.kept)
     next again b
     (subst (λ g. HoldsAtRest g b (history_of t).now) (sym x.geometry) x.held.holds.at_rest)
+    (λ _. Unit {0}) (λ p s _ _ off. sym (lists t x.sound left l p s) ∙ off) in
+    (c.0, c.1, λ s low. c.2 s low tt)

@@ -7,11 +7,13 @@ use Rattle.md_model.specs.Content.{Content, BecomesAtOpening, Holds}
 use Rattle.md_model.specs.Events.{Event}
 use Rattle.md_model.specs.Sectors.{chunk_of}
 use Rattle.md_model.specs.Stops.{IsFit}
+use Rattle.md_model.specs.Worlds as worlds
 use Rattle.md_model.specs.Worlds.{IsQuiet}
 use Rattle.md_state.specs.CopyingData.{HaltsCopying}
 use Rattle.md_state.specs.Members.{IsInSync, IsMember}
 use Rattle.md_state.specs.StoringMarks.{HaltsStoringMarks}
 use Rattle.md_state.specs.View.{Disk, MirrorView, geometry_of}
+use Rattle.md_array.specs.Listing.{HaltsStoringLog}
 use Rattle.md_array.specs.Opening.{IsOpenedFrom}
 use Rattle.md_array.specs.ReadAsKept.{HasWidth}
 use Rattle.md_array.specs.Worlds.{none_in_flight, super_of, world_of}
@@ -99,3 +101,25 @@ ContentAfterLoneMarks =
     ((c : Content) × Holds (geometry_of next.array) c (world_of next none_in_flight)
     × ((s : ℕ) → s < t.mirror.array.chunks.size → IsQuiet (world_of t.mirror t.requests) s
     → (t.mirror.array.resynced ≡ true) ⊎ ((world_of t.mirror t.requests).marks (chunk_of (geometry_of t.mirror.array) s) ≡ false) → c s ≡ b s)))
+
+-- ---- a log, of a member that is alone in sync
+-- Its log was stored, no other member was in sync, and the write halted the mirror. The stop may have left any entries there.
+pub record IsLeftByLoneLog (t : Moment) (left : List Disk) : Type 0 where
+  pub on : ℕ
+  pub new : MirrorView
+  pub call : HaltsStoringLog on t.mirror new
+  pub alone : (j : ℕ) (m : MemberView) → IsInSync t.mirror.array j m → j ≡ on
+  pub since : IsLeftSince t.mirror.disks new.disks left
+
+abbrev pub StartsAfterLoneLog : Type 0
+StartsAfterLoneLog = OfOpenings IsLeftByLoneLog BeginsAfter
+
+-- The content stays likewise in each sector that the member did not list: of one that it did, and that the log which is read then lacks, nothing
+-- is said.
+abbrev pub ContentAfterLoneLog : Type 0
+ContentAfterLoneLog =
+    OfOpeningsWith IsLeftByLoneLog (λ t b next.
+    ((c : Content) × Holds (geometry_of next.array) c (world_of next none_in_flight)
+    × ((s : ℕ) → s < t.mirror.array.chunks.size → IsQuiet (world_of t.mirror t.requests) s
+    → (t.mirror.array.resynced ≡ true) ⊎ ((world_of t.mirror t.requests).marks (chunk_of (geometry_of t.mirror.array) s) ≡ false)
+    → ((k : ℕ) → worlds.IsInSync (world_of t.mirror t.requests) k → ((world_of t.mirror t.requests).stored k).listed s ≡ false) → c s ≡ b s)))

@@ -5,7 +5,7 @@ ghost use Rattle.md_stop_laws.specs.Agreement.{AgreesAtRest, ResyncsAgree};
 ghost use Rattle.md_stop_laws.specs.Departed.{CallsDepartedOut, FindsCalledOut, FindsInSyncSince};
 ghost use Rattle.md_stop_laws.specs.HaltedCalls.{StopsAtEachHalt, StopsAtHaltedResync, StopsAtHaltedStop, StopsAtHaltedWrite};
 ghost use Rattle.md_stop_laws.specs.JoiningStops.{NoneIsOpened, StopsInAdd, StopsInFailedAdd, StopsInFailedReAdd, StopsInReAdd, StopsInRefusedAdd, StopsInRefusedReAdd};
-ghost use Rattle.md_stop_laws.specs.TornWrites.{ContentAfterCopy, ContentAfterLoneMarks, StartsAfterCopy, StartsAfterLoneMarks};
+ghost use Rattle.md_stop_laws.specs.TornWrites.{ContentAfterCopy, ContentAfterLoneLog, ContentAfterLoneMarks, StartsAfterCopy, StartsAfterLoneLog, StartsAfterLoneMarks};
 
 /// The members in sync agree: at each moment of each life at which the array is resynced, in each sector that no request
 /// in flight touches and that the device of neither lists; and so after a resync that is done, wherever a life has come to,
@@ -27,13 +27,15 @@ pub fn halted_calls()
 
 /// A write that halted the mirror may leave any bytes in its range. The next opening, of devices that a stop within that
 /// write left, begins another life all the same: its members in sync were so before, and the stored marks cover what they
-/// differ in. So it is of a copy, whose chunk is marked on each member in sync; and of marks, where no other member was in
-/// sync. The content stays, but where a copy may have settled it, or where it was not at rest.
+/// differ in. So it is of a copy, whose chunk is marked on each member in sync; and of marks and of a log, where no other
+/// member was in sync. The content stays, but where a copy may have settled it, where it was not at rest, or where a log listed.
 pub fn torn_writes()
     ensures copy { StartsAfterCopy }
     ensures copy_content { ContentAfterCopy }
     ensures lone_marks { StartsAfterLoneMarks }
     ensures lone_content { ContentAfterLoneMarks }
+    ensures lone_log { StartsAfterLoneLog }
+    ensures lone_log_content { ContentAfterLoneLog }
 {}
 
 /// A stop within an `add` or a `re_add`, before it is done, is one at the moment before: of the mirror's devices, which are as
