@@ -1,5 +1,5 @@
 -- The offset that is kept of a rebuild's target stands on its device.
-use Rattle.std.proofs.Common.{◌≡◌, ◌≢◌, ◌∙◌, ◌⊎◌, ℕ, ◌+◌, ◌*◌, ◌-◌, ◌<◌, ◌≤◌, ◌&&◌, true, false, cond, min, nat_lt, List, [], ◌∷◌, drop, length, map, set, slice_get, Option, Some, None, refl, sym, ap, subst, arith, inl, inr}
+use Rattle.std.proofs.Common.{◌≡◌, ◌≢◌, ◌∙◌, ◌⊎◌, ℕ, ◌+◌, ◌*◌, ◌<◌, ◌&&◌, true, false, cond, nat_lt, List, [], ◌∷◌, slice_get, Option, Some, None, refl, sym, ap, subst, arith, inl, inr}
 use Rattle.std.proofs.lemmas.Bool.{both_ways, cases_Bool, cases_eq}
 use Rattle.std.proofs.lemmas.Option.{none-some, same_Some, slice_get_within}
 use Rattle.md_device.proofs.Splices.{part-spliced}
@@ -15,16 +15,14 @@ use Rattle.md_kept_members.specs.View.{MemberView}
 use Rattle.md_members.specs.Areas.{data_area, super_area}
 use Rattle.md_model.specs.Events.{Event}
 use Rattle.md_model.proofs.Cases.{is_below}
-use Rattle.md_passes.specs.Listed.{IsArrayPass}
-use Rattle.md_passes.specs.Passes.{PassView, failed_chunks, slots_of}
+use Rattle.md_passes.specs.Passes.{PassView, failed_chunks}
 use Rattle.md_super.specs.declared.superblock.Superblock.{Superblock}
-use Rattle.md_super.specs.Encoding.{super_bytes}
 use Rattle.md_super.specs.Faults.{NoFault}
 use Rattle.md_super.specs.Format.{IsSuper}
 use Rattle.md_super.specs.Merge.{merged}
 use Rattle.md_state.specs.DiskWrites.{IsWritten}
-use Rattle.md_state.specs.Members.{IsInSync, IsMember}
-use Rattle.md_state.specs.View.{ArrayView, Disk, MirrorView, of_disks}
+use Rattle.md_state.specs.Members.{IsMember}
+use Rattle.md_state.specs.View.{ArrayView, Disk, MirrorView}
 use Rattle.md_array.specs.Checkpoints.{Checkpoints}
 use Rattle.md_array.specs.Consistency.{IsConsistent}
 use Rattle.md_array.specs.Events.{IsSameBesideMissing}
@@ -42,11 +40,9 @@ use Rattle.md_laws.specs.Left.{contents_of}
 use Rattle.md_laws.specs.StopsWithin.{MayAllBeLeft, MayBeLeft}
 use Rattle.md_laws.proofs.Openings.Reopened.{super_on}
 use Rattle.md_laws.proofs.Stops.AtSteps.{new_has, none_new}
-use Rattle.md_metadata.specs.Going.{GoesOn, only_others}
 use Rattle.md_metadata.specs.Storing.{IsNoFailure, IsStoring, Stores}
-use Rattle.md_copy.specs.Filling.{IsFilling}
-use Rattle.md_copy.specs.Listing.{ListsAll, NotesLists, StopsAtList, WritesMetadata}
-use Rattle.md_copy.specs.Passing.{AreListedPasses, MakesPass, RecordsPass}
+use Rattle.md_copy.specs.Listing.{ListsAll, WritesMetadata}
+use Rattle.md_copy.specs.Passing.{AreListedPasses}
 use Rattle.md_copy.specs.Rebuilding.{Begins}
 use Rattle.md_copy.specs.Sources.{missing_chunks}
 use Rattle.md_copy.specs.Storing.{StoresFirst}

@@ -1,5 +1,5 @@
 -- A rebuild in the life of a mirror is a run, along which the content stays.
-use Rattle.std.proofs.Common.{◌≡◌, ℕ, Bool, List, [], ◌∷◌, ◌++◌, None, inl, inr, refl, sym, ap, subst}
+use Rattle.std.proofs.Common.{◌≡◌, ℕ, List, [], ◌∷◌, ◌++◌, None, inl, inr, refl, sym, subst}
 use Rattle.md_bitmap.specs.Marks.{Bitmap}
 use Rattle.md_model.specs.Content.{Becomes, Content, Holds}
 use Rattle.md_model.specs.Events.{Event}
